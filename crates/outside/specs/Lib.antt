@@ -1,0 +1,9 @@
+pub mod Counts
+pub mod Files
+pub mod FileMap
+pub mod Reads
+pub mod ReadLog
+pub mod Sink
+pub mod Whole
+pub mod Memory
+pub mod formers

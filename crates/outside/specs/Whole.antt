@@ -1,0 +1,16 @@
+-- What reading a whole file answers.
+use Rattle.std.specs.Prelude.{◌≡◌, ◌≤◌, ◌<◌, ℕ, List, length, Option}
+use Rattle.outside.specs.Files.{Files, OfFile}
+use Rattle.outside.specs.Reads.{Entry, LogsThrough}
+
+-- where files are told, these are the bytes of the one of this name, and are within the limit
+abbrev pub IsWhole : Option Files → List ℕ → ℕ → List ℕ → Type 0
+IsWhole held name limit bytes = OfFile held name (λ file. (bytes ≡ file) × (length file ≤ limit))
+
+-- where files are told, the one of this name passes the limit
+abbrev pub IsTooLong : Option Files → List ℕ → ℕ → Type 0
+IsTooLong held name limit = OfFile held name (λ file. limit < length file)
+
+-- the told log grew by reads of this file, back to back from its start to some offset within the limit
+abbrev pub LogsFront : List ℕ → ℕ → Option (List Entry) → Option (List Entry) → Type 0
+LogsFront file limit old new = (to : ℕ) × (to ≤ limit) × LogsThrough file 0 to old new

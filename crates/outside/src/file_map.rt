@@ -1,0 +1,129 @@
+// Files in memory, by name.
+ghost use Rattle.std.specs.Prelude.{◌≡◌, ◌≤◌, OnOk, OnErr, IfOk, option_map, length, map as list_map};
+ghost use Rattle.std.specs.FinMap as map;
+ghost use Rattle.std.specs.FinMap.{find, put};
+ghost use Rattle.outside.specs.Files.{name_order, files_of};
+ghost use Rattle.outside.specs.FileMap.{PutsAt, StopsAt};
+
+use crate::{Bytes, Name, NoMemory, Seq};
+use std::alloc::Global;
+use std::cmp::Ordering;
+use std::marker::Model;
+
+/// Files by name, in the order of their names.
+#[derive(Drop)]
+pub struct FileMap {
+    files: Vec<(Name, Bytes)>,
+}
+
+impl Model for FileMap {
+    ghost use Rattle.std.specs.Prelude.{◌≡◌, true};
+    ghost use Rattle.std.specs.FinMap as map;
+    ghost use Rattle.std.specs.FinMap.{is_sorted};
+    ghost use Rattle.outside.specs.Files.{Files, name_order};
+    ghost use Rattle.outside.specs.Memory.{files_code};
+
+    ghost Value = { Files };
+
+    ghost coded = { files_code };
+
+    ghost view = { λ f. map.from_sorted f.files.items };
+
+    ghost invariant = { λ f. is_sorted name_order f.files.items ≡ true };
+}
+
+impl FileMap {
+    pub fn new(alloc: Global) -> Self
+        ensures { result ≡ map.empty }
+    {
+        FileMap {
+            files: Vec::new(alloc),
+        }
+    }
+
+    /// These files; of two with one name the last.
+    pub fn from_files(alloc: Global, files: Seq<(Name, Bytes)>) -> Result<Self, NoMemory>
+        ensures { IfOk result (λ made. made ≡ files_of files) }
+    {
+        let mut made = FileMap::new(alloc);
+        'files: for (name, bytes) in files.into_vec() {
+            made.put(name, bytes)?;
+        }
+        Ok(made)
+    }
+
+    pub fn get(&self, name: &str) -> Option<&Bytes>
+        ensures { option_map (λ bytes. bytes.now) result ≡ map.get self.now name.now }
+    {
+        find_file(self.files.as_slice(), name)
+    }
+
+    /// Puts a file under its name, in place of what was there.
+    pub fn put(&mut self, name: Name, bytes: Bytes) -> Result<(), NoMemory>
+        ensures ok { OnOk result (self.new ≡ map.insert self.old name bytes) }
+        ensures err { OnErr result (self.new ≡ self.old) }
+    {
+        put_file(&mut self.files, name, bytes)
+    }
+
+    /// The names, in their order.
+    pub fn names(&self, alloc: Global) -> Result<Seq<Name>, NoMemory>
+        ensures { IfOk result (λ names. names ≡ map.keys self.now) }
+    {
+        copy_names(alloc, self.files.as_slice())
+    }
+}
+
+// Where a name belongs among files that ascend by name: at it, or before the first that is greater.
+fn place_of(files: &[(Name, Bytes)], name: &str) -> usize
+    ensures within { result ≤ length files.now }
+    ensures before { PutsAt files.now name.now result }
+    ensures stops { StopsAt files.now name.now result }
+{
+    let mut at = 0;
+    'less: while at < files.len() {
+        if name.cmp(files[at].0.as_str()) != Ordering::Greater {
+            return at;
+        }
+        at += 1;
+    }
+    at
+}
+
+// Puts a file among those that ascend by name, in place of one of its name.
+fn put_file(files: &mut Vec<(Name, Bytes)>, name: Name, bytes: Bytes) -> Result<(), NoMemory>
+    ensures ok { OnOk result (files.new.items ≡ put name_order name bytes files.old.items) }
+    ensures err { OnErr result (files.new.items ≡ files.old.items) }
+{
+    let at = place_of(files, name.as_str());
+    if at < files.len() {
+        let file = &mut files[at];
+        if let Ordering::Equal = name.as_str().cmp(file.0.as_str()) {
+            file.1 = bytes;
+            return Ok(());
+        }
+    }
+    files.insert(at, (name, bytes))?;
+    Ok(())
+}
+
+fn find_file<'a>(files: &'a [(Name, Bytes)], name: &str) -> Option<&'a Bytes>
+    ensures { option_map (λ bytes. bytes.now) result ≡ find name_order name.now files.now }
+{
+    for file in files {
+        if name.cmp(file.0.as_str()) == Ordering::Equal {
+            return Some(&file.1);
+        }
+    }
+    None
+}
+
+fn copy_names(alloc: Global, files: &[(Name, Bytes)]) -> Result<Seq<Name>, NoMemory>
+    ensures { IfOk result (λ names. names ≡ list_map (λ file. file.0) files.now) }
+{
+    let mut names = Seq::new(alloc);
+    for file in files {
+        names.push(Name::from_string(String::from_str(alloc, file.0.as_str())?))?;
+    }
+    Ok(names)
+}

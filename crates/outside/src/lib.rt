@@ -1,0 +1,28 @@
+//! The outside of the program: folders of files that are read and written, streams of bytes that are
+//! written, and the lists and names that they speak in, over the real world and in memory.
+#![tactic(auto)]
+
+mod depot;
+mod file_map;
+mod memory_calls;
+mod memory_shelf;
+mod memory_sink;
+mod name;
+mod place;
+mod read_log;
+mod seq;
+mod shelf;
+mod sink;
+mod stream_sink;
+mod whole;
+
+pub use depot::{Depot, DepotFault};
+pub use memory_shelf::MemoryShelf;
+pub use memory_sink::MemorySink;
+pub use name::Name;
+pub use place::Place;
+pub use seq::{Bytes, NoMemory, Seq};
+pub use shelf::{Shelf, ShelfFault};
+pub use sink::{Sink, SinkFault};
+pub use stream_sink::StreamSink;
+pub use whole::{ReadAllFault, read_all};

@@ -1,0 +1,145 @@
+// Shelves in memory.
+ghost use Rattle.std.specs.Prelude.{◌≡◌, ◌≤◌, ◌↔◌, Some, OnErr, IfOk, IsErrOf, IsTrue, min, length, ◌-◌, take, drop, ◌++◌, MatchResult, true, false, if◌then◌else◌};
+ghost use Rattle.outside.specs.Counts.{next};
+ghost use Rattle.outside.specs.Files.{IsNames, IsLengthOf, Has, Lacks};
+ghost use Rattle.outside.specs.Memory.{fresh, fails, read_called, read_logged, is_listed};
+ghost use Rattle.outside.specs.Reads.{ReadsAt};
+ghost use Rattle.outside.specs.declared.shelf.ShelfFault.TheVariants.{Missing, Failed, NoMemory};
+
+use crate::file_map::FileMap;
+use crate::memory_calls::MemoryCalls;
+use crate::read_log::ReadLog;
+use crate::{Bytes, Name, Seq, Shelf, ShelfFault};
+use std::alloc::{AllocError, Global};
+use std::marker::Model;
+
+/// A shelf in memory, which tells everything. It fails at the calls whose numbers it is given, counted
+/// from 0 over all its calls.
+#[derive(Drop)]
+pub struct MemoryShelf {
+    files: FileMap,
+    log: ReadLog,
+    calls: MemoryCalls,
+    faults: u64,
+}
+
+impl Model for MemoryShelf {
+    ghost use Rattle.std.specs.FinMap as map;
+    ghost use Rattle.outside.specs.Memory.{Memory, memory_code};
+
+    ghost Value = { Memory };
+
+    ghost coded = { memory_code };
+
+    ghost view = { λ s. record { held = s.files; parts = map.empty; log = s.log; failing = s.calls.failing; calls = s.calls.made; read_faults = s.faults; write_faults = 0 } };
+}
+
+impl MemoryShelf {
+    /// A shelf of these files. Of two with one name the last one stands.
+    pub fn new(
+        alloc: Global,
+        files: Seq<(Name, Bytes)>,
+        failing: Seq<u64>,
+    ) -> Result<Self, AllocError>
+        ensures { IfOk result (λ shelf. shelf ≡ fresh files failing) }
+    {
+        Ok(MemoryShelf {
+            files: FileMap::from_files(alloc, files)?,
+            log: ReadLog::new(alloc),
+            calls: MemoryCalls::new(failing),
+            faults: 0,
+        })
+    }
+}
+
+// Copies the bytes from an offset on, as many as there are and fit, and says how many.
+pub fn copy_from(bytes: &[u8], offset: u64, into: &mut [u8]) -> usize
+    ensures count { result ≡ min (length bytes.now - offset) (length into.old) }
+    ensures bytes { into.new ≡ take result (drop offset bytes.now) ++ drop result into.old }
+{
+    if offset >= bytes.len() as u64 {
+        return 0;
+    }
+    let rest = &bytes[offset as usize..];
+    let n = rest.len().min(into.len());
+    into[..n].copy_from_slice(&rest[..n]);
+    n
+}
+
+// Counts a call, and the fault where it is to fail.
+pub fn count_call(calls: &mut MemoryCalls, faults: &mut u64) -> Result<(), ShelfFault>
+    ensures failing { calls.new.failing ≡ calls.old.failing }
+    ensures made { calls.new.made ≡ next calls.old.made }
+    ensures faults { faults.new ≡ (if is_listed calls.old.failing calls.old.made then next faults.old else faults.old) }
+    ensures fails { MatchResult result (λ _. is_listed calls.old.failing calls.old.made ≡ false) (λ fault. (fault ≡ Failed) × (is_listed calls.old.failing calls.old.made ≡ true)) }
+{
+    if calls.fails() {
+        *faults = faults.saturating_add(1);
+        return Err(ShelfFault::Failed);
+    }
+    Ok(())
+}
+
+impl Shelf for MemoryShelf {
+    ghost held = { λ shelf. Some shelf.held };
+
+    ghost parts = { λ shelf. Some shelf.parts };
+
+    ghost log = { λ shelf. Some shelf.log };
+
+    ghost read_faults = { λ shelf. shelf.read_faults };
+
+    ghost write_faults = { λ shelf. shelf.write_faults };
+
+    fn names(&mut self, alloc: Global) -> Result<Seq<Name>, ShelfFault>
+        ensures after { self.new ≡ read_called self.old }
+        ensures fails { IsErrOf result Failed ↔ IsTrue (fails self.old) }
+        ensures names { IfOk result (IsNames (Some self.old.held)) }
+        ensures never_missing { ¬ IsErrOf result Missing }
+    {
+        count_call(&mut self.calls, &mut self.faults)?;
+        Ok(self.files.names(alloc)?)
+    }
+
+    fn length(&mut self, alloc: Global, name: &str) -> Result<u64, ShelfFault>
+        ensures after { self.new ≡ read_called self.old }
+        ensures fails { IsErrOf result Failed ↔ IsTrue (fails self.old) }
+        ensures length { IfOk result (IsLengthOf (Some self.old.held) name.now) }
+        ensures missing { IsErrOf result Missing → Lacks (Some self.old.held) name.now }
+        ensures no_memory { ¬ IsErrOf result NoMemory }
+    {
+        let _ = alloc;
+        count_call(&mut self.calls, &mut self.faults)?;
+        match self.files.get(name) {
+            Some(bytes) => Ok(bytes.len() as u64),
+            None => Err(ShelfFault::Missing),
+        }
+    }
+
+    fn read_at(
+        &mut self,
+        alloc: Global,
+        name: &str,
+        offset: u64,
+        into: &mut [u8],
+    ) -> Result<usize, ShelfFault>
+        ensures after { IfOk result (λ n. self.new ≡ read_logged name.now offset n (read_called self.old)) }
+        ensures after_fault { OnErr result (self.new ≡ read_called self.old) }
+        ensures fails { IsErrOf result Failed ↔ IsTrue (fails self.old) }
+        ensures bound { IfOk result (λ n. n ≤ length into.old) }
+        ensures bytes { IfOk result (λ n. ReadsAt (Some self.old.held) name.now offset n into.old into.new) }
+        ensures missing { IsErrOf result Missing → Lacks (Some self.old.held) name.now }
+        ensures present { IsErrOf result NoMemory → Has (Some self.old.held) name.now }
+    {
+        count_call(&mut self.calls, &mut self.faults)?;
+        match self.files.get(name) {
+            Some(bytes) => {
+                let count = copy_from(bytes.as_slice(), offset, into);
+                let file = Name::from_string(String::from_str(alloc, name)?);
+                self.log.push(file, offset, count)?;
+                Ok(count)
+            }
+            None => Err(ShelfFault::Missing),
+        }
+    }
+}

@@ -1,0 +1,122 @@
+// Reading whole files.
+ghost use Rattle.std.specs.Prelude.{◌≡◌, ◌≤◌, ◌↔◌, ℕ, IfOk, OnErr, IsErrOf, length, vec_len, min, take};
+ghost use Rattle.outside.specs.Counts.{Rose};
+ghost use Rattle.outside.specs.Files.{Has, Lacks, OfFile};
+ghost use Rattle.outside.specs.Reads.{LogsThrough};
+ghost use Rattle.outside.specs.Whole.{IsWhole, IsTooLong, LogsFront};
+
+use crate::{Bytes, NoMemory, Seq, Shelf, ShelfFault};
+use std::alloc::{AllocError, Global};
+
+/// Why a whole file is not read.
+#[derive(Clone, Copy, Debug, PartialEq, Eq)]
+pub enum ReadAllFault {
+    /// There is no file of the name.
+    Missing,
+    /// The shelf failed, and its count of faults rose.
+    Failed,
+    /// The file is longer than the limit.
+    TooLong,
+    NoMemory,
+}
+
+impl From<AllocError> for ReadAllFault {
+    ghost use Rattle.std.specs.Prelude.{◌≡◌};
+    ghost use Rattle.outside.specs.declared.whole.ReadAllFault.TheVariants.{NoMemory};
+
+    ghost from_gives = { λ _ fault. fault ≡ NoMemory };
+
+    fn from(_: AllocError) -> Self {
+        ReadAllFault::NoMemory
+    }
+}
+
+// What a shelf's fault is for a whole file.
+fn of_shelf(fault: ShelfFault) -> ReadAllFault
+    ensures missing { result ≡ ReadAllFault.Missing ↔ (fault ≡ ShelfFault.Missing) }
+    ensures failed { result ≡ ReadAllFault.Failed ↔ (fault ≡ ShelfFault.Failed) }
+    ensures memory { result ≡ ReadAllFault.NoMemory ↔ (fault ≡ ShelfFault.NoMemory) }
+    ensures long { ¬ (result ≡ ReadAllFault.TooLong) }
+{
+    match fault {
+        ShelfFault::Missing => ReadAllFault::Missing,
+        ShelfFault::Failed => ReadAllFault::Failed,
+        ShelfFault::NoMemory => ReadAllFault::NoMemory,
+    }
+}
+
+// So many zero bytes.
+fn zeros(alloc: Global, size: usize) -> Result<Vec<u8>, NoMemory>
+    ensures { IfOk result (λ bytes. vec_len bytes ≡ size) }
+{
+    vec![in alloc; 0u8; size]
+}
+
+/// The whole of a file that is not longer than the limit. It asks for the length first, takes memory
+/// for so many bytes once, and reads until they are there or the file ends: a file that ends before
+/// its told length is taken as ended there.
+pub fn read_all<S: Shelf>(
+    alloc: Global,
+    shelf: &mut S,
+    name: &str,
+    limit: u64,
+) -> Result<Bytes, ReadAllFault>
+    ensures whole { IfOk result (IsWhole (S.held shelf.old) name.now limit) }
+    ensures bound { IfOk result (λ bytes. length bytes ≤ limit) }
+    ensures held { S.held shelf.new ≡ S.held shelf.old }
+    ensures parts { S.parts shelf.new ≡ S.parts shelf.old }
+    ensures log { IfOk result (λ bytes. LogsThrough name.now 0 (length bytes) (S.log shelf.old) (S.log shelf.new)) }
+    ensures log_of_fault { OnErr result (LogsFront name.now limit (S.log shelf.old) (S.log shelf.new)) }
+    ensures writes { S.write_faults shelf.new ≡ S.write_faults shelf.old }
+    ensures later { S.read_faults shelf.old ≤ S.read_faults shelf.new }
+    ensures failed { IsErrOf result ReadAllFault.Failed → Rose (S.read_faults shelf.old) (S.read_faults shelf.new) }
+    ensures missing { IsErrOf result ReadAllFault.Missing → Lacks (S.held shelf.old) name.now }
+    ensures long { IsErrOf result ReadAllFault.TooLong → IsTooLong (S.held shelf.old) name.now limit }
+    ensures present { IsErrOf result ReadAllFault.NoMemory → Has (S.held shelf.old) name.now }
+{
+    let length = match shelf.length(alloc, name) {
+        Ok(length) => length,
+        Err(fault) => return Err(of_shelf(fault)),
+    };
+    if length > limit {
+        return Err(ReadAllFault::TooLong);
+    }
+    let mut bytes = zeros(alloc, length as usize)?;
+    let count = fill(alloc, shelf, name, &mut bytes)?;
+    bytes.truncate(count);
+    Ok(Seq::from_vec(bytes))
+}
+
+// Reads the first bytes of a file into `into`, as many as fit or until the file ends, and says how many.
+fn fill<S: Shelf>(
+    alloc: Global,
+    shelf: &mut S,
+    name: &str,
+    into: &mut [u8],
+) -> Result<usize, ReadAllFault>
+    ensures front { IfOk result (λ n. OfFile (S.held shelf.old) name.now (λ file. (n ≡ min (length file) (length into.old)) × (take n into.new ≡ take n file))) }
+    ensures bound { IfOk result (λ n. n ≤ length into.old) }
+    ensures held { S.held shelf.new ≡ S.held shelf.old }
+    ensures parts { S.parts shelf.new ≡ S.parts shelf.old }
+    ensures log { IfOk result (λ n. LogsThrough name.now 0 n (S.log shelf.old) (S.log shelf.new)) }
+    ensures log_of_fault { OnErr result (LogsFront name.now (length into.old) (S.log shelf.old) (S.log shelf.new)) }
+    ensures writes { S.write_faults shelf.new ≡ S.write_faults shelf.old }
+    ensures later { S.read_faults shelf.old ≤ S.read_faults shelf.new }
+    ensures failed { IsErrOf result ReadAllFault.Failed → Rose (S.read_faults shelf.old) (S.read_faults shelf.new) }
+    ensures missing { IsErrOf result ReadAllFault.Missing → Lacks (S.held shelf.old) name.now }
+    ensures long { ¬ IsErrOf result ReadAllFault.TooLong }
+    ensures present { IsErrOf result ReadAllFault.NoMemory → Has (S.held shelf.old) name.now }
+{
+    let mut done = 0;
+    'pieces: while done < into.len() {
+        let n = match shelf.read_at(alloc, name, done as u64, &mut into[done..]) {
+            Ok(n) => n,
+            Err(fault) => return Err(of_shelf(fault)),
+        };
+        if n == 0 {
+            return Ok(done);
+        }
+        done += n;
+    }
+    Ok(done)
+}
