@@ -1,9 +1,9 @@
 // Shelves in memory.
 ghost use Rattle.std.specs.Prelude.{◌≡◌, ◌≤◌, ◌↔◌, Some, OnErr, IfOk, IsErrOf, IsTrue, min, length, ◌-◌, take, drop, ◌++◌, MatchResult, true, false, if◌then◌else◌};
-ghost use Rattle.outside.specs.Counts.{next};
+ghost use Rattle.outside.specs.Counts.{Rose, next};
 ghost use Rattle.outside.specs.Files.{IsNames, IsLengthOf, Has, Lacks};
 ghost use Rattle.outside.specs.Memory.{fresh, fails, read_called, read_logged, is_listed};
-ghost use Rattle.outside.specs.Reads.{ReadsAt};
+ghost use Rattle.outside.specs.Reads.{ReadsAt, logged};
 ghost use Rattle.outside.specs.declared.shelf.ShelfFault.TheVariants.{Missing, Failed, NoMemory};
 
 use crate::file_map::FileMap;
@@ -71,6 +71,7 @@ pub fn count_call(calls: &mut MemoryCalls, faults: &mut u64) -> Result<(), Shelf
     ensures failing { calls.new.failing ≡ calls.old.failing }
     ensures made { calls.new.made ≡ next calls.old.made }
     ensures faults { faults.new ≡ (if is_listed calls.old.failing calls.old.made then next faults.old else faults.old) }
+    ensures later { faults.old ≤ faults.new }
     ensures fails { MatchResult result (λ _. is_listed calls.old.failing calls.old.made ≡ false) (λ fault. (fault ≡ Failed) × (is_listed calls.old.failing calls.old.made ≡ true)) }
 {
     if calls.fails() {
@@ -95,6 +96,12 @@ impl Shelf for MemoryShelf {
         ensures after { self.new ≡ read_called self.old }
         ensures fails { IsErrOf result Failed ↔ IsTrue (fails self.old) }
         ensures names { IfOk result (IsNames (Some self.old.held)) }
+        ensures held { Some self.new.held ≡ Some self.old.held }
+        ensures parts { Some self.new.parts ≡ Some self.old.parts }
+        ensures log { Some self.new.log ≡ Some self.old.log }
+        ensures writes { self.new.write_faults ≡ self.old.write_faults }
+        ensures later { self.old.read_faults ≤ self.new.read_faults }
+        ensures failed { IsErrOf result Failed → Rose self.old.read_faults self.new.read_faults }
         ensures never_missing { ¬ IsErrOf result Missing }
     {
         count_call(&mut self.calls, &mut self.faults)?;
@@ -105,7 +112,14 @@ impl Shelf for MemoryShelf {
         ensures after { self.new ≡ read_called self.old }
         ensures fails { IsErrOf result Failed ↔ IsTrue (fails self.old) }
         ensures length { IfOk result (IsLengthOf (Some self.old.held) name.now) }
+        ensures held { Some self.new.held ≡ Some self.old.held }
+        ensures parts { Some self.new.parts ≡ Some self.old.parts }
+        ensures log { Some self.new.log ≡ Some self.old.log }
+        ensures writes { self.new.write_faults ≡ self.old.write_faults }
+        ensures later { self.old.read_faults ≤ self.new.read_faults }
+        ensures failed { IsErrOf result Failed → Rose self.old.read_faults self.new.read_faults }
         ensures missing { IsErrOf result Missing → Lacks (Some self.old.held) name.now }
+        ensures present { IsErrOf result NoMemory → Has (Some self.old.held) name.now }
         ensures no_memory { ¬ IsErrOf result NoMemory }
     {
         let _ = alloc;
@@ -128,6 +142,13 @@ impl Shelf for MemoryShelf {
         ensures fails { IsErrOf result Failed ↔ IsTrue (fails self.old) }
         ensures bound { IfOk result (λ n. n ≤ length into.old) }
         ensures bytes { IfOk result (λ n. ReadsAt (Some self.old.held) name.now offset n into.old into.new) }
+        ensures held { Some self.new.held ≡ Some self.old.held }
+        ensures parts { Some self.new.parts ≡ Some self.old.parts }
+        ensures logged { IfOk result (λ n. Some self.new.log ≡ logged name.now offset n (Some self.old.log)) }
+        ensures not_logged { OnErr result (Some self.new.log ≡ Some self.old.log) }
+        ensures writes { self.new.write_faults ≡ self.old.write_faults }
+        ensures later { self.old.read_faults ≤ self.new.read_faults }
+        ensures failed { IsErrOf result Failed → Rose self.old.read_faults self.new.read_faults }
         ensures missing { IsErrOf result Missing → Lacks (Some self.old.held) name.now }
         ensures present { IsErrOf result NoMemory → Has (Some self.old.held) name.now }
     {

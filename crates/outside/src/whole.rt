@@ -87,13 +87,15 @@ pub fn read_all<S: Shelf>(
     Ok(Seq::from_vec(bytes))
 }
 
-// Reads the first bytes of a file into `into`, as many as fit or until the file ends, and says how many.
+// Reads the first bytes of a file that is there into `into`, as many as fit or until the file ends, and
+// says how many.
 fn fill<S: Shelf>(
     alloc: Global,
     shelf: &mut S,
     name: &str,
     into: &mut [u8],
 ) -> Result<usize, ReadAllFault>
+    requires { Has (S.held shelf.old) name.now }
     ensures front { IfOk result (λ n. OfFile (S.held shelf.old) name.now (λ file. (n ≡ min (length file) (length into.old)) × (take n into.new ≡ take n file))) }
     ensures bound { IfOk result (λ n. n ≤ length into.old) }
     ensures held { S.held shelf.new ≡ S.held shelf.old }
