@@ -50,8 +50,8 @@ pub put_held : (name bytes : List ℕ) (files : List (List ℕ × List ℕ)) →
     → map.from_sorted {R = name_order} (put name_order name bytes files) ≡ map.insert (map.from_sorted files) name bytes
 put_held name bytes files e =
     map.same_entries_map _ _ (entries-from_sorted name_order (put name_order name bytes files) (as_T _ (sorted_put name bytes files e))
-        ∙ ap (put name_order name bytes) (sym (entries-from_sorted name_order files (as_T _ e)))
-        ∙ sym (map.entries-insert nat_list_cmp_total (map.from_sorted files) name bytes))
+    ∙ ap (put name_order name bytes) (sym (entries-from_sorted name_order files (as_T _ e)))
+    ∙ sym (map.entries-insert nat_list_cmp_total (map.from_sorted files) name bytes))
 
 -- a put that may fail keeps the order
 pub sorted_after : {E : Type 0} (r : Result (Unit {0}) E) (name bytes : List ℕ) (old new : List (List ℕ × List ℕ)) → OnOk r (new ≡ put name_order name bytes old) → OnErr r (new ≡ old)

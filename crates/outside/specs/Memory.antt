@@ -30,10 +30,10 @@ entry_code = code_by (List ℕ × (ℕ × ℕ)) (coded× (coded_list coded_ℕ) 
 abbrev pub memory_code : Coded Memory
 memory_code =
     code_by ((Files × Files) × ((List Entry × List ℕ) × (ℕ × (ℕ × ℕ))))
-        (coded× (coded× files_code files_code) (coded× (coded× (coded_list entry_code) (coded_list coded_ℕ)) (coded× coded_ℕ (coded× coded_ℕ coded_ℕ))))
-        (λ m. ((m.held, m.parts), ((m.log, m.failing), (m.calls, (m.read_faults, m.write_faults)))))
-        (λ p. record { held = p.0.0; parts = p.0.1; log = p.1.0.0; failing = p.1.0.1; calls = p.1.1.0; read_faults = p.1.1.1.0; write_faults = p.1.1.1.1 })
-        (λ _. refl)
+    (coded× (coded× files_code files_code) (coded× (coded× (coded_list entry_code) (coded_list coded_ℕ)) (coded× coded_ℕ (coded× coded_ℕ coded_ℕ))))
+    (λ m. ((m.held, m.parts), ((m.log, m.failing), (m.calls, (m.read_faults, m.write_faults)))))
+    (λ p. record { held = p.0.0; parts = p.0.1; log = p.1.0.0; failing = p.1.0.1; calls = p.1.1.0; read_faults = p.1.1.1.0; write_faults = p.1.1.1.1 })
+    (λ _. refl)
 
 -- a device as it is made: of two files with one name the last
 abbrev pub fresh : List (List ℕ × List ℕ) → List ℕ → Memory
@@ -80,5 +80,5 @@ refuses bytes sink = is_listed sink.failing sink.calls || nat_lt (sink.room - le
 abbrev pub after_put : List ℕ → SinkMemory → SinkMemory
 after_put bytes sink =
     if refuses bytes sink
-        then record sink { calls = next sink.calls; faults = next sink.faults }
-        else record sink { calls = next sink.calls; written = sink.written ++ bytes }
+    then record sink { calls = next sink.calls; faults = next sink.faults }
+    else record sink { calls = next sink.calls; written = sink.written ++ bytes }

@@ -4,6 +4,8 @@
 
 mod depot;
 mod file_map;
+mod folder_files;
+mod folder_shelf;
 mod memory_calls;
 mod memory_shelf;
 mod memory_sink;
@@ -17,6 +19,7 @@ mod stream_sink;
 mod whole;
 
 pub use depot::{Depot, DepotFault};
+pub use folder_shelf::FolderShelf;
 pub use memory_shelf::MemoryShelf;
 pub use memory_sink::MemorySink;
 pub use name::Name;
