@@ -1,9 +1,9 @@
 // Files in memory, by name.
-ghost use Rattle.std.specs.Prelude.{◌≡◌, ◌≤◌, OnOk, OnErr, IfOk, option_map, length, map as list_map};
+ghost use Rattle.std.specs.Prelude.{◌≡◌, ◌≤◌, OnOk, OnErr, IfOk, option_map, length, map as list_map, MatchOption, None, Some, IfNone, true, ◌++◌};
 ghost use Rattle.std.specs.FinMap as map;
-ghost use Rattle.std.specs.FinMap.{find, put};
-ghost use Rattle.outside.specs.Files.{name_order, files_of};
-ghost use Rattle.outside.specs.FileMap.{PutsAt, StopsAt};
+ghost use Rattle.std.specs.FinMap.{find, put, is_sorted};
+ghost use Rattle.outside.specs.Files.{name_order, files_of, bytes_of, SameBut};
+ghost use Rattle.outside.specs.FileMap.{PutsAt, StopsAt, FoundAt, others};
 
 use crate::{Bytes, Name, NoMemory, Seq};
 use std::alloc::Global;
@@ -66,12 +66,51 @@ impl FileMap {
         put_file(&mut self.files, name, bytes)
     }
 
+    /// Takes a file away.
+    pub fn take(&mut self, name: &str) -> Option<Bytes>
+        ensures taken { result ≡ map.get self.old name.now }
+        ensures rest { self.new ≡ map.remove self.old name.now }
+        ensures others { SameBut name.now (Some self.old) (Some self.new) }
+        ensures absent { IfNone result (self.new ≡ self.old) }
+    {
+        let _ = &self.files;
+        take_file(&mut self.files, name)
+    }
+
+    /// Adds bytes at the end of a file; one that is not there counts as empty. Where it wants memory,
+    /// the file is gone.
+    pub fn append(&mut self, alloc: Global, name: &str, more: &[u8]) -> Result<(), NoMemory>
+        ensures ok { OnOk result (self.new ≡ map.insert self.old name.now (bytes_of (Some self.old) name.now ++ more.now)) }
+        ensures err { OnErr result (self.new ≡ map.remove self.old name.now) }
+        ensures others { SameBut name.now (Some self.old) (Some self.new) }
+    {
+        let bytes = self.take(name).unwrap_or(Seq::new(alloc));
+        self.put(named(alloc, name)?, extended(bytes, more)?)?;
+        Ok(())
+    }
+
     /// The names, in their order.
     pub fn names(&self, alloc: Global) -> Result<Seq<Name>, NoMemory>
         ensures { IfOk result (λ names. names ≡ map.keys self.now) }
     {
         copy_names(alloc, self.files.as_slice())
     }
+}
+
+/// The name of this text.
+pub fn named(alloc: Global, text: &str) -> Result<Name, NoMemory>
+    ensures { IfOk result (λ name. name ≡ text.now) }
+{
+    Ok(Name::from_string(String::from_str(alloc, text)?))
+}
+
+// Some bytes, with more behind them.
+fn extended(bytes: Bytes, more: &[u8]) -> Result<Bytes, NoMemory>
+    ensures { IfOk result (λ all. all ≡ bytes ++ more.now) }
+{
+    let mut all = bytes.into_vec();
+    all.extend_from_slice(more)?;
+    Ok(Seq::from_vec(all))
 }
 
 // Where a name belongs among files that ascend by name: at it, or before the first that is greater.
@@ -118,12 +157,39 @@ fn find_file<'a>(files: &'a [(Name, Bytes)], name: &str) -> Option<&'a Bytes>
     None
 }
 
+// Where the first file of this name stands.
+fn index_of(files: &[(Name, Bytes)], name: &str) -> Option<usize>
+    ensures { MatchOption result (find name_order name.now files.now ≡ None) (FoundAt files.now name.now) }
+{
+    for (at, file) in files.iter().enumerate() {
+        if name.cmp(file.0.as_str()) == Ordering::Equal {
+            return Some(at);
+        }
+    }
+    None
+}
+
+// Takes a file away from those that ascend by name.
+fn take_file(files: &mut Vec<(Name, Bytes)>, name: &str) -> Option<Bytes>
+    requires { is_sorted name_order files.old.items ≡ true }
+    ensures taken { result ≡ find name_order name.now files.old.items }
+    ensures rest { files.new.items ≡ others name.now files.old.items }
+{
+    match index_of(files, name) {
+        Some(at) => {
+            let (_, bytes) = files.remove(at);
+            Some(bytes)
+        }
+        None => None,
+    }
+}
+
 fn copy_names(alloc: Global, files: &[(Name, Bytes)]) -> Result<Seq<Name>, NoMemory>
     ensures { IfOk result (λ names. names ≡ list_map (λ file. file.0) files.now) }
 {
     let mut names = Seq::new(alloc);
     for file in files {
-        names.push(Name::from_string(String::from_str(alloc, file.0.as_str())?))?;
+        names.push(named(alloc, file.0.as_str())?)?;
     }
     Ok(names)
 }

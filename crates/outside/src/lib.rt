@@ -7,6 +7,7 @@ mod file_map;
 mod folder_files;
 mod folder_shelf;
 mod memory_calls;
+mod memory_depot;
 mod memory_shelf;
 mod memory_sink;
 mod name;
@@ -20,6 +21,7 @@ mod whole;
 
 pub use depot::{Depot, DepotFault};
 pub use folder_shelf::FolderShelf;
+pub use memory_depot::MemoryDepot;
 pub use memory_shelf::MemoryShelf;
 pub use memory_sink::MemorySink;
 pub use name::Name;

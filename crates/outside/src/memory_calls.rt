@@ -1,5 +1,5 @@
 // The calls of a device in memory, some of which are to fail.
-ghost use Rattle.std.specs.Prelude.{◌≡◌};
+ghost use Rattle.std.specs.Prelude.{◌≡◌, ◌≤◌, if◌then◌else◌};
 ghost use Rattle.outside.specs.Counts.{next};
 ghost use Rattle.outside.specs.Memory.{is_listed};
 
@@ -20,7 +20,7 @@ impl MemoryCalls {
         MemoryCalls { failing, made: 0 }
     }
 
-    // Counts a call, and says whether it is to fail.
+    /// Counts a call, and says whether it is to fail.
     pub fn fails(&mut self) -> bool
         ensures listed { result ≡ is_listed self.old.failing self.old.made }
         ensures failing { self.new.failing ≡ self.old.failing }
@@ -29,5 +29,20 @@ impl MemoryCalls {
         let call = self.made;
         self.made = call.saturating_add(1);
         self.failing.as_slice().contains(&call)
+    }
+
+    /// Counts a call, and the fault where it is to fail.
+    pub fn fails_counted(&mut self, faults: &mut u64) -> bool
+        ensures listed { result ≡ is_listed self.old.failing self.old.made }
+        ensures failing { self.new.failing ≡ self.old.failing }
+        ensures made { self.new.made ≡ next self.old.made }
+        ensures faults { faults.new ≡ (if result then next faults.old else faults.old) }
+        ensures later { faults.old ≤ faults.new }
+    {
+        let fails = self.fails();
+        if fails {
+            *faults = faults.saturating_add(1);
+        }
+        fails
     }
 }

@@ -1,16 +1,17 @@
 // Shelves in memory.
-ghost use Rattle.std.specs.Prelude.{◌≡◌, ◌≤◌, ◌↔◌, Some, OnErr, IfOk, IsErrOf, IsTrue, min, length, ◌-◌, take, drop, ◌++◌, MatchResult, true, false, if◌then◌else◌};
+ghost use Rattle.std.specs.Prelude.{◌≡◌, ◌≤◌, ◌↔◌, Some, OnErr, IfOk, IsErrOf, IsTrue, min, length, ◌-◌, take, drop, ◌++◌, OnOk, IfNone, if◌then◌else◌};
+ghost use Rattle.std.specs.FinMap as map;
 ghost use Rattle.outside.specs.Counts.{Rose, next};
 ghost use Rattle.outside.specs.Files.{IsNames, IsLengthOf, Has, Lacks};
 ghost use Rattle.outside.specs.Memory.{fresh, fails, read_called, read_logged, is_listed};
 ghost use Rattle.outside.specs.Reads.{ReadsAt, logged};
 ghost use Rattle.outside.specs.declared.shelf.ShelfFault.TheVariants.{Missing, Failed, NoMemory};
 
-use crate::file_map::FileMap;
+use crate::file_map::{FileMap, named};
 use crate::memory_calls::MemoryCalls;
 use crate::read_log::ReadLog;
-use crate::{Bytes, Name, Seq, Shelf, ShelfFault};
-use std::alloc::{AllocError, Global};
+use crate::{Bytes, Name, NoMemory, Seq, Shelf, ShelfFault};
+use std::alloc::Global;
 use std::marker::Model;
 
 /// A shelf in memory, which tells everything. It fails at the calls whose numbers it is given, counted
@@ -40,7 +41,7 @@ impl MemoryShelf {
         alloc: Global,
         files: Seq<(Name, Bytes)>,
         failing: Seq<u64>,
-    ) -> Result<Self, AllocError>
+    ) -> Result<Self, NoMemory>
         ensures { IfOk result (λ shelf. shelf ≡ fresh files failing) }
     {
         Ok(MemoryShelf {
@@ -49,6 +50,33 @@ impl MemoryShelf {
             calls: MemoryCalls::new(failing),
             faults: 0,
         })
+    }
+
+    /// Counts a call of another kind than those of a shelf, and its fault where it is to fail.
+    pub fn fails_counted(&mut self, faults: &mut u64) -> bool
+        ensures result { result ≡ fails self.old }
+        ensures calls { self.new ≡ record self.old { calls = next self.old.calls } }
+        ensures faults { faults.new ≡ (if result then next faults.old else faults.old) }
+        ensures later { faults.old ≤ faults.new }
+    {
+        self.calls.fails_counted(faults)
+    }
+
+    /// Puts a file under its name, in place of what was there.
+    pub fn put(&mut self, name: Name, bytes: Bytes) -> Result<(), NoMemory>
+        ensures ok { OnOk result (self.new ≡ record self.old { held = map.insert self.old.held name bytes }) }
+        ensures err { OnErr result (self.new ≡ self.old) }
+    {
+        self.files.put(name, bytes)
+    }
+
+    /// Takes a file away.
+    pub fn take(&mut self, name: &str) -> Option<Bytes>
+        ensures taken { result ≡ map.get self.old.held name.now }
+        ensures rest { self.new ≡ record self.old { held = map.remove self.old.held name.now } }
+        ensures absent { IfNone result (self.new ≡ self.old) }
+    {
+        self.files.take(name)
     }
 }
 
@@ -64,21 +92,6 @@ pub fn copy_from(bytes: &[u8], offset: u64, into: &mut [u8]) -> usize
     let n = rest.len().min(into.len());
     into[..n].copy_from_slice(&rest[..n]);
     n
-}
-
-// Counts a call, and the fault where it is to fail.
-pub fn count_call(calls: &mut MemoryCalls, faults: &mut u64) -> Result<(), ShelfFault>
-    ensures failing { calls.new.failing ≡ calls.old.failing }
-    ensures made { calls.new.made ≡ next calls.old.made }
-    ensures faults { faults.new ≡ (if is_listed calls.old.failing calls.old.made then next faults.old else faults.old) }
-    ensures later { faults.old ≤ faults.new }
-    ensures fails { MatchResult result (λ _. is_listed calls.old.failing calls.old.made ≡ false) (λ fault. (fault ≡ Failed) × (is_listed calls.old.failing calls.old.made ≡ true)) }
-{
-    if calls.fails() {
-        *faults = faults.saturating_add(1);
-        return Err(ShelfFault::Failed);
-    }
-    Ok(())
 }
 
 impl Shelf for MemoryShelf {
@@ -104,7 +117,9 @@ impl Shelf for MemoryShelf {
         ensures failed { IsErrOf result Failed → Rose self.old.read_faults self.new.read_faults }
         ensures never_missing { ¬ IsErrOf result Missing }
     {
-        count_call(&mut self.calls, &mut self.faults)?;
+        if self.calls.fails_counted(&mut self.faults) {
+            return Err(ShelfFault::Failed);
+        }
         Ok(self.files.names(alloc)?)
     }
 
@@ -123,7 +138,9 @@ impl Shelf for MemoryShelf {
         ensures no_memory { ¬ IsErrOf result NoMemory }
     {
         let _ = alloc;
-        count_call(&mut self.calls, &mut self.faults)?;
+        if self.calls.fails_counted(&mut self.faults) {
+            return Err(ShelfFault::Failed);
+        }
         match self.files.get(name) {
             Some(bytes) => Ok(bytes.len() as u64),
             None => Err(ShelfFault::Missing),
@@ -152,11 +169,13 @@ impl Shelf for MemoryShelf {
         ensures missing { IsErrOf result Missing → Lacks (Some self.old.held) name.now }
         ensures present { IsErrOf result NoMemory → Has (Some self.old.held) name.now }
     {
-        count_call(&mut self.calls, &mut self.faults)?;
+        if self.calls.fails_counted(&mut self.faults) {
+            return Err(ShelfFault::Failed);
+        }
         match self.files.get(name) {
             Some(bytes) => {
                 let count = copy_from(bytes.as_slice(), offset, into);
-                let file = Name::from_string(String::from_str(alloc, name)?);
+                let file = named(alloc, name)?;
                 self.log.push(file, offset, count)?;
                 Ok(count)
             }
