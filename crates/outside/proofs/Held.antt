@@ -168,7 +168,7 @@ either false x y e = refl
 pub remove_absent : (held : Files) (name : List ℕ) → map.get held name ≡ None → map.remove held name ≡ held
 remove_absent held name none =
     map.same_map nat_list_cmp_total same_name _ _ (λ q. map.get-remove nat_list_cmp_total held name q
-        ∙ either (eq_by_cmp name_order q name) None (map.get held q) (λ t. sym (ap (map.get held) (same_name q name (equal _ t)) ∙ none)))
+    ∙ either (eq_by_cmp name_order q name) None (map.get held q) (λ t. sym (ap (map.get held) (same_name q name (equal _ t)) ∙ none)))
 
 again : {A : Type 0} (b : Bool) (x y z : A) → cond b x (cond b y z) ≡ cond b x z
 again true x y z = refl
@@ -179,9 +179,9 @@ pub insert_removed : (held : Files) (name bytes : List ℕ) → map.insert (map.
 insert_removed held name bytes =
     let o = nat_list_cmp_total in
     map.same_map o same_name _ _ (λ q. map.get-insert o (map.remove held name) name bytes q
-        ∙ ap (λ v. cond (eq_by_cmp name_order q name) (Some bytes) v) (map.get-remove o held name q)
-        ∙ again (eq_by_cmp name_order q name) (Some bytes) None (map.get held q)
-        ∙ sym (map.get-insert o held name bytes q))
+    ∙ ap (λ v. cond (eq_by_cmp name_order q name) (Some bytes) v) (map.get-remove o held name q)
+    ∙ again (eq_by_cmp name_order q name) (Some bytes) None (map.get held q)
+    ∙ sym (map.get-insert o held name bytes q))
 
 -- what is taken away changes nothing where nothing was there
 pub absent_after : (taken : Option (List ℕ)) (held new : Files) (name : List ℕ) → taken ≡ map.get held name → new ≡ map.remove held name → IfNone taken (new ≡ held)

@@ -4,7 +4,9 @@
 
 mod depot;
 mod file_map;
+mod folder_depot;
 mod folder_files;
+mod folder_parts;
 mod folder_shelf;
 mod memory_calls;
 mod memory_depot;
@@ -20,6 +22,7 @@ mod stream_sink;
 mod whole;
 
 pub use depot::{Depot, DepotFault};
+pub use folder_depot::FolderDepot;
 pub use folder_shelf::FolderShelf;
 pub use memory_depot::MemoryDepot;
 pub use memory_shelf::MemoryShelf;
