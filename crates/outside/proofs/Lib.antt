@@ -1,2 +1,3 @@
+pub mod CountLemmas
 mod Held
 pub mod ReadLemmas

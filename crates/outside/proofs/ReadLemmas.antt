@@ -1,8 +1,14 @@
 -- Reads that go back to back, and how many bytes they give.
-use Rattle.std.proofs.Common.{◌≡◌, ◌≢◌, ◌≤◌, ◌<◌, ◌+◌, ◌-◌, ℕ, min, max, Bool, true, false, List, [], ◌∷◌, ◌++◌, length, take, drop, Option, Some, None, refl, sym, ap, ◌∙◌, subst, arith, add_assoc, append_assoc, append-nil, option_map, sum_by, length-append, length-drop}
+use Rattle.std.proofs.Common.{◌≡◌, ◌≢◌, ◌≤◌, ◌<◌, ◌+◌, ◌-◌, ℕ, min, max, Bool, true, false, List, [], ◌∷◌, ◌++◌, length, take, drop, Option, Some, None, refl, sym, ap, ◌∙◌, subst, arith, add_assoc, append_assoc, append-nil, option_map, sum_by, length-append, length-drop, ◌⊎◌, inl, inr, if◌then◌else◌}
 use Rattle.std.proofs.lemmas.List.{length-take, take_at}
 use Rattle.std.proofs.Math.Seq.{take-add, take-append-add}
 use borrow.Rule.Slice.PartMut.{mid_of, put_mid, post_of, same_len_mid}
+use Rattle.std.proofs.lemmas.List.Sums.{sum_by-append, sum_by-cons}
+use Rattle.std.proofs.lemmas.Cmp.{nat_list_cmp_total}
+use Rattle.std.specs.Cmp.{tied_itself}
+use Rattle.std.specs.FinMap as map
+use Rattle.std.specs.Ordering.{eq_by_cmp, is_eq}
+use Rattle.std.specs.declared.cmp.Ordering.TheVariants.{Less, Equal, Greater}
 use Rattle.outside.specs.Files.{Files, Has, OfFile, name_order}
 use Rattle.outside.specs.Reads.{Entry, entry_of, logged, overlap, read_by, read_in, Consecutive, LogsThrough, ReadsAt}
 
@@ -70,3 +76,72 @@ fits_after into new done n within same fits =
     let part : length (mid_of done (length into - done) into) ≡ length into - done = grind (arith, length-take (length into - done) (drop done into), length-drop done into) in
     let whole : length (put_mid done (length into - done) into new) ≡ length into = same_len_mid done (length into - done) into new same in
     omega arith
+
+-- reads of joined lists add up
+pub read_in-append : (earlier later : List Entry) (file : List ℕ) (from to : ℕ) → read_in (earlier ++ later) file from to ≡ read_in earlier file from to + read_in later file from to
+read_in-append earlier later file from to = sum_by-append (λ entry. read_by entry file from to) earlier later
+
+pub read_in-cons : (entry : Entry) (entries : List Entry) (file : List ℕ) (from to : ℕ) → read_in (entry ∷ entries) file from to ≡ read_by entry file from to + read_in entries file from to
+read_in-cons entry entries file from to = sum_by-cons (λ e. read_by e file from to) entry entries
+
+other_name : (x y : List ℕ) → x ≢ y → eq_by_cmp name_order x y ≡ false
+other_name x y ne =
+    elim (name_order x y) as (λ r. name_order x y ≡ r → is_eq r ≡ false) [
+      | Less ↦ λ e. refl
+      | Equal ↦ λ e. absurd (ne (map.slice_cmp-IsAntisymmetric map.nat_cmp-IsAntisymmetric x y e))
+      | Greater ↦ λ e. refl
+    ] refl
+
+-- a read of another file adds nothing
+pub read_by-other : (entry : Entry) (file : List ℕ) (from to : ℕ) → entry.file ≢ file → read_by entry file from to ≡ 0
+read_by-other entry file from to ne = ap (λ b. if b then overlap entry.offset (entry.offset + entry.count) from to else 0) (other_name entry.file file ne)
+
+-- a read of this file adds the bytes that it has in common with the stretch
+pub read_by-same : (entry : Entry) (file : List ℕ) (from to : ℕ) → entry.file ≡ file → read_by entry file from to ≡ overlap entry.offset (entry.offset + entry.count) from to
+read_by-same entry file from to is =
+    ap (λ r. if is_eq r then overlap entry.offset (entry.offset + entry.count) from to else 0) (ap (name_order entry.file) (sym is) ∙ tied_itself nat_list_cmp_total entry.file)
+
+at_most : (b : Bool) (x : ℕ) → x ≡ 0 → (if b then x else 0) ≡ 0
+at_most true x e = e
+at_most false x e = refl
+
+-- a read that ends before the stretch, or begins behind it, adds nothing
+pub read_by-apart : (entry : Entry) (file : List ℕ) (from to : ℕ) → (entry.offset + entry.count ≤ from) ⊎ (to ≤ entry.offset) → read_by entry file from to ≡ 0
+read_by-apart entry file from to (inl before) = at_most _ (overlap entry.offset (entry.offset + entry.count) from to) (omega (arith, before))
+read_by-apart entry file from to (inr behind) = at_most _ (overlap entry.offset (entry.offset + entry.count) from to) (omega (arith, behind))
+
+-- reads that go back to back do not go back
+pub Consecutive-le : (file : List ℕ) (a b : ℕ) (entries : List Entry) → Consecutive file a b entries → a ≤ b
+Consecutive-le file a b [] e = omega (arith, e)
+Consecutive-le file a b (entry ∷ entries) h = let rest : a + entry.count ≤ b = Consecutive-le file (a + entry.count) b entries h.2 in omega arith
+
+-- reads that go back to back, and more from where they end
+pub Consecutive-append : (file : List ℕ) (a b c : ℕ) (entries more : List Entry) → Consecutive file a b entries → Consecutive file b c more → Consecutive file a c (entries ++ more)
+Consecutive-append file a b c [] more e h = subst (λ k. Consecutive file k c more) (sym e) h
+Consecutive-append file a b c (entry ∷ entries) more h after = (h.0, h.1, Consecutive-append file (a + entry.count) b c entries more h.2 after)
+
+-- stretches that touch have together what they have each
+touching : (a m b from to : ℕ) → a ≤ m → m ≤ b → overlap a m from to + overlap m b from to ≡ overlap a b from to
+touching a m b from to p q = omega arith
+
+-- reads that go back to back from a to b give just the bytes of that stretch
+pub read_in-through : (entries : List Entry) (file : List ℕ) (a b from to : ℕ) → Consecutive file a b entries → read_in entries file from to ≡ overlap a b from to
+read_in-through [] file a b from to e = omega (arith, e)
+read_in-through (entry ∷ entries) file a b from to h =
+    let rest : read_in entries file from to ≡ overlap (a + entry.count) b from to = read_in-through entries file (a + entry.count) b from to h.2 in
+    let here : read_by entry file from to ≡ overlap a (a + entry.count) from to = read_by-same entry file from to h.0 ∙ ap (λ k. overlap k (k + entry.count) from to) h.1 in
+    let long : a + entry.count ≤ b = Consecutive-le file (a + entry.count) b entries h.2 in
+    read_in-cons entry entries file from to ∙ ap (λ k. k + read_in entries file from to) here ∙ ap (λ k. overlap a (a + entry.count) from to + k) rest ∙ touching a (a + entry.count) b from to (omega arith) long
+
+-- and none of another file
+pub read_in-through_other : (entries : List Entry) (file other : List ℕ) (a b from to : ℕ) → Consecutive other a b entries → other ≢ file → read_in entries file from to ≡ 0
+read_in-through_other [] file other a b from to h ne = refl
+read_in-through_other (entry ∷ entries) file other a b from to h ne =
+    read_in-cons entry entries file from to
+    ∙ ap (λ k. k + read_in entries file from to) (read_by-other entry file from to (subst (λ f. f ≢ file) (sym h.0) ne))
+    ∙ ap (λ k. 0 + k) (read_in-through_other entries file other (a + entry.count) b from to h.2 ne)
+
+-- logs that grow one after another
+pub LogsThrough-append : (file : List ℕ) (a b c : ℕ) (first between last : Option (List Entry)) → LogsThrough file a b first between → LogsThrough file b c between last → LogsThrough file a c first last
+LogsThrough-append file a b c first between last (entries, is, through) (more, after, on) =
+    (entries ++ more, after ∙ ap (λ log. option_map (λ before. before ++ more) log) is ∙ some_append first entries more, Consecutive-append file a b c entries more through on)

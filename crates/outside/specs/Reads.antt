@@ -21,13 +21,13 @@ abbrev pub ReadsAt : Option Files → List ℕ → ℕ → ℕ → List ℕ → 
 ReadsAt held name offset n old new =
     OfFile held name (λ bytes. (n ≡ min (length bytes - offset) (length old)) × (new ≡ take n (drop offset bytes) ++ drop n old))
 
--- how many of the `count` bytes from `offset` on lie between two offsets
+-- how many bytes two stretches have in common: from a to b, and from c to d
 abbrev pub overlap : ℕ → ℕ → ℕ → ℕ → ℕ
-overlap offset count from to = min (offset + count) to - max offset from
+overlap a b c d = min b d - max a c
 
 -- how many bytes of this file between two offsets one read gave
 abbrev pub read_by : Entry → List ℕ → ℕ → ℕ → ℕ
-read_by entry file from to = if eq_by_cmp name_order entry.file file then overlap entry.offset entry.count from to else 0
+read_by entry file from to = if eq_by_cmp name_order entry.file file then overlap entry.offset (entry.offset + entry.count) from to else 0
 
 -- how many bytes of this file between two offsets these reads gave together; bytes read twice count twice
 abbrev pub read_in : List Entry → List ℕ → ℕ → ℕ → ℕ
