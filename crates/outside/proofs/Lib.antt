@@ -1,3 +1,4 @@
 pub mod CountLemmas
 mod Held
 pub mod ReadLemmas
+mod StreamLemmas

@@ -1,8 +1,9 @@
 -- Reads that go back to back, and how many bytes they give.
-use Rattle.std.proofs.Common.{◌≡◌, ◌≢◌, ◌≤◌, ◌<◌, ◌+◌, ◌-◌, ℕ, min, max, Bool, true, false, List, [], ◌∷◌, ◌++◌, length, take, drop, Option, Some, None, refl, sym, ap, ◌∙◌, subst, arith, add_assoc, append_assoc, append-nil, option_map, sum_by, length-append, length-drop, ◌⊎◌, inl, inr, if◌then◌else◌}
+use Rattle.std.proofs.Common.{All, ◌≡◌, ◌≢◌, ◌≤◌, ◌+◌, ◌-◌, ℕ, Bool, true, false, List, [], ◌∷◌, ◌++◌, length, take, drop, Option, Some, None, refl, sym, ap, ◌∙◌, subst, arith, append_assoc, append-nil, option_map, length-drop, ◌⊎◌, inl, inr, if◌then◌else◌}
 use Rattle.std.proofs.lemmas.List.{length-take, take_at}
 use Rattle.std.proofs.Math.Seq.{take-add, take-append-add}
 use borrow.Rule.Slice.PartMut.{mid_of, put_mid, post_of, same_len_mid}
+use Rattle.std.proofs.lemmas.List.Elements.{All-tail}
 use Rattle.std.proofs.lemmas.List.Sums.{sum_by-append, sum_by-cons}
 use Rattle.std.proofs.lemmas.Cmp.{nat_list_cmp_total}
 use Rattle.std.specs.Cmp.{tied_itself}
@@ -132,6 +133,12 @@ read_in-through (entry ∷ entries) file a b from to h =
     let here : read_by entry file from to ≡ overlap a (a + entry.count) from to = read_by-same entry file from to h.0 ∙ ap (λ k. overlap k (k + entry.count) from to) h.1 in
     let long : a + entry.count ≤ b = Consecutive-le file (a + entry.count) b entries h.2 in
     read_in-cons entry entries file from to ∙ ap (λ k. k + read_in entries file from to) here ∙ ap (λ k. overlap a (a + entry.count) from to + k) rest ∙ touching a (a + entry.count) b from to (omega arith) long
+
+-- reads of other files add nothing
+pub read_in-others : (entries : List Entry) (file : List ℕ) (from to : ℕ) → All (λ entry. entry.file ≢ file) entries → read_in entries file from to ≡ 0
+read_in-others [] file from to h = refl
+read_in-others (entry ∷ entries) file from to h =
+    read_in-cons entry entries file from to ∙ ap (λ k. k + read_in entries file from to) (read_by-other entry file from to (h 0 entry (omega arith))) ∙ ap (λ k. 0 + k) (read_in-others entries file from to (All-tail (λ e. e.file ≢ file) entry entries h))
 
 -- and none of another file
 pub read_in-through_other : (entries : List Entry) (file other : List ℕ) (a b from to : ℕ) → Consecutive other a b entries → other ≢ file → read_in entries file from to ≡ 0

@@ -4,6 +4,7 @@ pub mod FileMap
 pub mod Reads
 pub mod ReadLog
 pub mod Sink
+pub mod Stream
 pub mod Told
 pub mod Whole
 pub mod Memory

@@ -1,5 +1,5 @@
 -- What a shelf, a depot and a sink in memory are seen as, and what a call of theirs does.
-use Rattle.std.specs.Prelude.{◌≡◌, ◌-◌, ◌++◌, ◌∷◌, ℕ, Bool, ◌||◌, nat_eq, nat_lt, List, [], length, if◌then◌else◌, refl}
+use Rattle.std.specs.Prelude.{◌-◌, ◌++◌, ◌∷◌, ℕ, Bool, ◌||◌, nat_eq, nat_lt, List, [], length, if◌then◌else◌, refl}
 use Rattle.std.specs.List.{list_any}
 use Rattle.std.specs.Coded.{Coded, code_by, coded×, coded_ℕ, coded_list}
 use Rattle.std.specs.FinMap as map

@@ -1,5 +1,5 @@
 -- The reads that a shelf tells, and how many bytes of a file they gave.
-use Rattle.std.specs.Prelude.{◌≡◌, ◌+◌, ◌-◌, ℕ, min, max, Bool, List, [], ◌∷◌, ◌++◌, length, take, drop, Option, option_map, sum_by, if◌then◌else◌}
+use Rattle.std.specs.Prelude.{◌≡◌, ◌+◌, ◌-◌, ℕ, min, max, List, [], ◌∷◌, ◌++◌, length, take, drop, Option, option_map, sum_by, if◌then◌else◌}
 use Rattle.std.specs.Ordering.{eq_by_cmp}
 use Rattle.outside.specs.Files.{Files, OfFile, name_order}
 

@@ -1,5 +1,5 @@
 // Laws of the words that contracts speak in. Each is the contract of a function that does nothing.
-ghost use Rattle.std.specs.Prelude.{◌≡◌, ◌≢◌, ◌≤◌, ◌+◌, ◌++◌, ◌⊎◌, ℕ, List};
+ghost use Rattle.std.specs.Prelude.{All, ◌≡◌, ◌≢◌, ◌≤◌, ◌+◌, ◌++◌, ◌⊎◌, ℕ, List};
 ghost use Rattle.outside.specs.Counts.{Rose};
 ghost use Rattle.outside.specs.Reads.{Entry, Consecutive, overlap, read_by, read_in};
 
@@ -18,6 +18,7 @@ pub fn rises_compose()
 pub fn reads_add_up()
     ensures joined { (earlier later : List Entry) (file : List ℕ) (from to : ℕ) → read_in (earlier ++ later) file from to ≡ read_in earlier file from to + read_in later file from to }
     ensures other_file { (entry : Entry) (file : List ℕ) (from to : ℕ) → entry.file ≢ file → read_by entry file from to ≡ 0 }
+    ensures other_files { (entries : List Entry) (file : List ℕ) (from to : ℕ) → All (λ entry. entry.file ≢ file) entries → read_in entries file from to ≡ 0 }
     ensures apart { (entry : Entry) (file : List ℕ) (from to : ℕ) → (entry.offset + entry.count ≤ from) ⊎ (to ≤ entry.offset) → read_by entry file from to ≡ 0 }
     ensures through { (entries : List Entry) (file : List ℕ) (a b from to : ℕ) → Consecutive file a b entries → read_in entries file from to ≡ overlap a b from to }
     ensures through_other { (entries : List Entry) (file other : List ℕ) (a b from to : ℕ) → Consecutive other a b entries → other ≢ file → read_in entries file from to ≡ 0 }

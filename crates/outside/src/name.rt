@@ -11,7 +11,7 @@ use std::hash::{Hash, Hasher};
 use std::marker::Model;
 
 /// A text, in the order of its bytes.
-#[derive(Drop)]
+#[derive(Debug, Drop)]
 pub struct Name {
     text: String,
 }

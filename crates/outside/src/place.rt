@@ -2,7 +2,7 @@
 use crate::Name;
 
 /// Some bytes of a file: `length` of them, from `offset` on.
-#[derive(Drop, PartialEq, Eq)]
+#[derive(Debug, Drop, PartialEq, Eq)]
 pub struct Place {
     pub file: Name,
     pub offset: u64,

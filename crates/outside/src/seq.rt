@@ -13,7 +13,7 @@ use std::marker::Model;
 pub type NoMemory = AllocError;
 
 /// A list. Its items are looked at one by one as those of a slice.
-#[derive(Drop)]
+#[derive(Debug, Drop)]
 pub struct Seq<T> {
     items: Vec<T>,
 }

@@ -1,4 +1,4 @@
-use Rattle.std.proofs.Common.{◌≡◌, ◌≤◌, drop, length}
+use Rattle.std.proofs.Common.{◌≡◌, drop}
 use Rattle.std.specs.FinMap.{find}
 use Rattle.outside.specs.Files.{name_order}
 use Rattle.outside.proofs.file_map.index_of.Given as goal

@@ -1,4 +1,3 @@
-use Rattle.std.proofs.Common.{◌≡◌, ◌≤◌}
 use Rattle.outside.proofs.CountLemmas.{Rose-first, Rose-second, still}
 use Rattle.outside.proofs.laws.rises_compose.Goals as goal
 

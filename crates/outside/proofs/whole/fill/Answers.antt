@@ -1,4 +1,4 @@
-use Rattle.std.proofs.Common.{◌≡◌, ◌≤◌, ◌+◌, ◌-◌, length, rules, refl, subst, sym, arith, ◌∙◌}
+use Rattle.std.proofs.Common.{◌-◌, length, refl, subst, arith, ◌∙◌}
 use borrow.Rule.Slice.PartMut.{mid_of}
 use Rattle.outside.specs.Reads.{ReadsAt}
 use Rattle.outside.proofs.ReadLemmas.{LogsThrough-none, LogsThrough-push, LogsThrough-end, front_starts, front_grows, fits_after}

@@ -1,6 +1,6 @@
-use Rattle.std.proofs.Common.{◌≡◌, ◌++◌, Some, subst, sym}
+use Rattle.std.proofs.Common.{◌≡◌, ◌++◌, Some}
 use Rattle.std.specs.FinMap as map
-use Rattle.outside.specs.Files.{SameBut, bytes_of}
+use Rattle.outside.specs.Files.{bytes_of}
 use Rattle.outside.proofs.Held.{appended_after, others_kept_put}
 use Rattle.outside.proofs.file_map.FileMap.append.Goals as goal
 

@@ -1,5 +1,3 @@
-use Rattle.std.proofs.Common.{◌∙◌, sym, ap, rules}
-use Rattle.std.specs.FinMap as map
 use Rattle.outside.proofs.Held.{keys_held}
 use Rattle.outside.proofs.file_map.FileMap.names.Goals as goal
 
