@@ -1,0 +1,7 @@
+pub mod Magnitude
+pub mod Numbers
+pub mod Order
+pub mod Printed
+pub mod Reading
+pub mod Shared
+pub mod formers
