@@ -4,4 +4,5 @@ pub mod Order
 pub mod Printed
 pub mod Reading
 pub mod Shared
+pub mod Tests
 pub mod formers

@@ -7,6 +7,7 @@ mod name;
 mod read;
 mod row;
 mod seq;
+mod test;
 mod value;
 mod whole;
 
@@ -16,5 +17,6 @@ pub use name::Name;
 pub use read::{MOST_TEXT_BYTES, ValueFault, read_value};
 pub use row::{Row, Rows, copy_row};
 pub use seq::Seq;
+pub use test::{CompareOp, Test, holds_value, may_hold};
 pub use value::{NoMemory, Value, compare, push_text};
 pub use whole::{WholeFault, read_whole};
