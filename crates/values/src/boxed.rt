@@ -4,7 +4,7 @@ use std::alloc::{AllocError, Global};
 use std::marker::Model;
 
 /// A `Box` that contracts see as its value, for trees that reach themselves one at a time.
-#[derive(Drop)]
+#[derive(Debug, Drop)]
 pub struct Boxed<T> {
     inner: Box<T>,
 }

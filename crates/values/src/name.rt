@@ -10,7 +10,7 @@ use std::marker::Model;
 use std::rc::Rc;
 
 /// A text that contracts see as its bytes. Copies share what they hold.
-#[derive(Drop)]
+#[derive(Debug, Drop)]
 pub struct Name {
     alloc: Global,
     // `None` for the empty text, which takes no memory.

@@ -9,7 +9,7 @@ use std::hash::{Hash, Hasher};
 use std::marker::Model;
 
 /// A `Vec` that contracts see as the list of its items.
-#[derive(Drop)]
+#[derive(Debug, Drop)]
 pub struct Seq<T> {
     items: Vec<T>,
 }

@@ -17,7 +17,7 @@ pub enum CompareOp {
 }
 
 /// A test of one value. The bool says negated.
-#[derive(Drop)]
+#[derive(Debug, Drop)]
 pub enum Test {
     Compare(CompareOp, Value),
     OneOf(Seq<Value>, bool),

@@ -12,7 +12,7 @@ use std::cmp::Ordering;
 pub type NoMemory = AllocError;
 
 /// A whole number or a text.
-#[derive(Drop, Hash)]
+#[derive(Debug, Drop, Hash)]
 pub enum Value {
     Whole(i64),
     Text(Name),
