@@ -5,9 +5,11 @@ use crate::{
 use std::alloc::{AllocError, Global};
 use std::cmp::Ordering;
 use std::collections::{BTreeMap, HashMap};
+use std::process::Abort;
 use std::test::Fail;
 
 const NO: Result<i64, WholeFault> = Err(WholeFault::NotANumber);
+
 const OUT: Result<i64, WholeFault> = Err(WholeFault::OutOfRange);
 
 #[test]
@@ -42,7 +44,11 @@ fn whole_numbers(rt: HostRuntime) {
     ];
     for (text, int, long) in table {
         assert_eq!(rt; read_whole(FieldKind::Int, text.as_bytes()), int, "{text}");
-        assert_eq!(rt; read_whole(FieldKind::Long, text.as_bytes()), long, "{text}");
+        assert_eq!(rt;
+            read_whole(FieldKind::Long, text.as_bytes()),
+            long,
+            "{text}"
+        );
     }
 }
 
@@ -76,54 +82,70 @@ fn values_of_texts(rt: HostRuntime) -> Result<(), Fail> {
     let refused = read_value(alloc, FieldKind::Long, "1e2");
     assert!(rt; matches!(refused, Err(ValueFault::NotANumber)));
     let mut out = Vec::from_slice(alloc, b"x=")?;
-    push_text(alloc, &read_value(alloc, FieldKind::Long, "-009")?, &mut out)?;
+    push_text(
+        alloc,
+        &read_value(alloc, FieldKind::Long, "-009")?,
+        &mut out,
+    )?;
     push_text(alloc, &read_value(alloc, FieldKind::Text, ";é")?, &mut out)?;
     assert_eq!(rt; out.as_slice(), "x=-9;é".as_bytes());
     Ok(())
 }
 
+/// Ascending: numbers, then texts by their bytes, a proper prefix first.
+fn ascending(alloc: Global) -> Result<Vec<Value>, AllocError> {
+    let mut values = Vec::new(alloc);
+    for n in [i64::MIN, -1, 10] {
+        values.push(number(n))?;
+    }
+    for t in ["", "10", "9", "Z", "a", "ab", "é"] {
+        values.push(text(alloc, t)?)?;
+    }
+    Ok(values)
+}
+
 #[test]
-fn order_of_values_and_rows(rt: HostRuntime) -> Result<(), Fail> {
-    let alloc = rt.alloc();
-    // Ascending: numbers, then texts by their bytes, a proper prefix first.
-    let ascending = [
-        number(i64::MIN),
-        number(-1),
-        number(10),
-        text(alloc, "")?,
-        text(alloc, "10")?,
-        text(alloc, "9")?,
-        text(alloc, "Z")?,
-        text(alloc, "a")?,
-        text(alloc, "ab")?,
-        text(alloc, "é")?,
-    ];
-    for (i, a) in ascending.iter().enumerate() {
-        for (j, b) in ascending.iter().enumerate() {
+fn order_of_values(rt: HostRuntime) -> Result<(), Fail> {
+    let values = ascending(rt.alloc())?;
+    for (i, a) in values.iter().enumerate() {
+        for (j, b) in values.iter().enumerate() {
             assert_eq!(rt; compare(a, b), i.cmp(&j), "{i} {j}");
             assert_eq!(rt; a == b, i == j, "{i} {j}");
             assert_eq!(rt; a < b, i < j, "{i} {j}");
         }
     }
-    let mut short: Row = Seq::new(alloc);
-    short.push(number(1))?;
-    let mut long = copy_row(alloc, &short)?;
-    assert!(rt; short == long);
-    long.push(text(alloc, "a")?.copy(alloc)?)?;
+    Ok(())
+}
+
+fn row(alloc: Global, values: &[Value]) -> Result<Row, AllocError> {
+    let mut row = Seq::with_capacity(alloc, values.len())?;
+    for value in values {
+        row.push(value.copy(alloc)?)?;
+    }
+    Ok(row)
+}
+
+#[test]
+fn order_of_rows(rt: HostRuntime) -> Result<(), Fail> {
+    let alloc = rt.alloc();
+    let values = ascending(alloc)?;
+    let long = row(alloc, values.as_slice())?;
+    let short = row(alloc, &[number(i64::MIN)])?;
+    assert!(rt; copy_row(alloc, &long)? == long);
+    assert!(rt; short != long);
     assert_eq!(rt; short.cmp(&long), Ordering::Less);
     assert_eq!(rt; long.partial_cmp(&short), Some(Ordering::Greater));
     let mut sorted: BTreeMap<Row, u8> = BTreeMap::new(alloc);
     let mut hashed: HashMap<Row, u8> = HashMap::new(alloc);
     sorted.insert(copy_row(alloc, &long)?, 1)?;
     hashed.insert(copy_row(alloc, &long)?, 1)?;
-    sorted.insert(short, 2)?;
     assert_eq!(rt; sorted.get(&long).copied(), Some(1));
     assert_eq!(rt; hashed.get(&long).copied(), Some(1));
     Ok(())
 }
 
 #[test]
-fn lists_and_names(rt: HostRuntime) -> Result<(), Fail> {
+fn lists(rt: HostRuntime) -> Result<(), Fail> {
     let alloc = rt.alloc();
     let mut list: Seq<u8> = Seq::with_capacity(alloc, 2)?;
     assert!(rt; list.is_empty());
@@ -131,7 +153,19 @@ fn lists_and_names(rt: HostRuntime) -> Result<(), Fail> {
     list.push(8)?;
     assert_eq!(rt; list.len(), 2);
     assert_eq!(rt; *list.at(1), 8);
-    assert_eq!(rt; Seq::from_vec(list.into_vec()).as_slice(), [7, 8].as_slice());
+    assert_eq!(rt;
+        Seq::from_vec(list.into_vec()).as_slice(),
+        [7, 8].as_slice()
+    );
+    let boxed = Boxed::new(alloc, 7)?;
+    assert_eq!(rt; *boxed.get(), 7);
+    assert_eq!(rt; boxed.into_inner(), 7);
+    Ok(())
+}
+
+#[test]
+fn names(rt: HostRuntime) -> Result<(), Fail> {
+    let alloc = rt.alloc();
     let mut name = Name::new(alloc);
     assert!(rt; name.is_empty());
     name.push_str("")?;
@@ -139,34 +173,29 @@ fn lists_and_names(rt: HostRuntime) -> Result<(), Fail> {
     let copy = name.copy()?;
     name.push_str("me")?;
     assert_eq!(rt; copy.as_str(), "na");
-    assert_eq!(rt; name.as_str(), "name");
+    assert_eq!(rt; name.as_slice(), b"name".as_slice());
     assert_eq!(rt; name.len(), 4);
     assert_eq!(rt; name.at(2), b'm');
     assert!(rt; copy < name);
     assert!(rt; Name::from_string(alloc, String::from_str(alloc, "na")?)? == copy);
-    let boxed = Boxed::new(alloc, name)?;
-    assert_eq!(rt; boxed.get().as_slice(), b"name".as_slice());
-    assert_eq!(rt; boxed.into_inner().as_str(), "name");
     Ok(())
 }
 
-fn pair(alloc: Global, first: Test, second: Test) -> Result<Seq<Test>, AllocError> {
-    let mut tests = Seq::new(alloc);
-    tests.push(first)?;
-    tests.push(second)?;
-    Ok(tests)
+fn is_listed(digits: &str, n: u8) -> bool {
+    digits.bytes().any(|digit| digit.wrapping_sub(48) == n)
 }
 
-fn two(alloc: Global, first: i64, second: i64) -> Result<Seq<Value>, AllocError> {
-    let mut values = Seq::new(alloc);
-    values.push(number(first))?;
-    values.push(number(second))?;
-    Ok(values)
+/// Checks which of the values 1 to 9 satisfy the test, and whether it may hold from 3 to 5.
+fn check(rt: &impl Abort, test: &Test, held: &str, may: bool) {
+    for n in 1..10 {
+        let holds = holds_value(test, &number(i64::from(n)));
+        assert_eq!(rt; holds, is_listed(held, n), "{held} {n}");
+    }
+    assert_eq!(rt; may_hold(test, &number(3), &number(5)), may, "{held}");
 }
 
-/// A test, which of the values 1 to 9 satisfy it, and whether it may hold from 3 to 5.
-fn tests(alloc: Global) -> Result<Vec<(Test, &'static str, bool)>, AllocError> {
-    let mut tests = Vec::new(alloc);
+#[test]
+fn comparisons(rt: HostRuntime) {
     for (op, bound, held, may) in [
         (CompareOp::Equal, 5, "5", true),
         (CompareOp::Equal, 6, "6", false),
@@ -176,36 +205,50 @@ fn tests(alloc: Global) -> Result<Vec<(Test, &'static str, bool)>, AllocError> {
         (CompareOp::More, 5, "6789", false),
         (CompareOp::AtLeast, 5, "56789", true),
     ] {
-        tests.push((Test::Compare(op, number(bound)), held, may))?;
+        check(&rt, &Test::Compare(op, number(bound)), held, may);
     }
-    tests.push((Test::OneOf(two(alloc, 2, 6)?, false), "26", false))?;
-    tests.push((Test::OneOf(two(alloc, 2, 6)?, true), "1345789", true))?;
-    tests.push((Test::Between(number(5), number(7), false), "567", true))?;
-    tests.push((Test::Between(number(4), number(2), false), "", false))?;
-    tests.push((Test::Between(number(3), number(5), true), "126789", false))?;
-    let over = Test::Compare(CompareOp::More, number(1));
-    let under = Test::Compare(CompareOp::Less, number(3));
-    tests.push((Test::All(pair(alloc, over, under)?), "2", false))?;
-    let over = Test::Compare(CompareOp::AtLeast, number(8));
-    let under = Test::Compare(CompareOp::AtMost, number(3));
-    tests.push((Test::Any(pair(alloc, over, under)?), "12389", true))?;
-    tests.push((Test::All(Seq::new(alloc)), "123456789", true))?;
-    tests.push((Test::Any(Seq::new(alloc)), "", false))?;
+    for (low, high, negated, held, may) in [
+        (5, 7, false, "567", true),
+        (6, 7, false, "67", false),
+        (4, 2, false, "", false),
+        (3, 5, true, "126789", false),
+        (4, 5, true, "1236789", true),
+    ] {
+        check(
+            &rt,
+            &Test::Between(number(low), number(high), negated),
+            held,
+            may,
+        );
+    }
+}
+
+fn members(alloc: Global) -> Result<Seq<Value>, AllocError> {
+    let mut values = Seq::new(alloc);
+    for n in [2, 6] {
+        values.push(number(n))?;
+    }
+    Ok(values)
+}
+
+/// More than the first number, and less than the second.
+fn pair(alloc: Global, over: i64, under: i64) -> Result<Seq<Test>, AllocError> {
+    let mut tests = Seq::new(alloc);
+    tests.push(Test::Compare(CompareOp::More, number(over)))?;
+    tests.push(Test::Compare(CompareOp::Less, number(under)))?;
     Ok(tests)
 }
 
 #[test]
-fn which_values_hold(rt: HostRuntime) -> Result<(), Fail> {
+fn lists_of_tests(rt: HostRuntime) -> Result<(), Fail> {
     let alloc = rt.alloc();
-    for (i, (test, held, may)) in tests(alloc)?.iter().enumerate() {
-        let mut found = Vec::new(alloc);
-        for n in 1..10 {
-            if holds_value(test, &number(n)) {
-                push_text(alloc, &number(n), &mut found)?;
-            }
-        }
-        assert_eq!(rt; found.as_slice(), held.as_bytes(), "{i}");
-        assert_eq!(rt; may_hold(test, &number(3), &number(5)), *may, "{i}");
-    }
+    check(&rt, &Test::OneOf(members(alloc)?, false), "26", false);
+    check(&rt, &Test::OneOf(members(alloc)?, true), "1345789", true);
+    check(&rt, &Test::All(pair(alloc, 1, 3)?), "2", false);
+    check(&rt, &Test::All(pair(alloc, 2, 5)?), "34", true);
+    check(&rt, &Test::Any(pair(alloc, 7, 4)?), "12389", true);
+    check(&rt, &Test::Any(pair(alloc, 7, 3)?), "1289", false);
+    check(&rt, &Test::All(Seq::new(alloc)), "123456789", true);
+    check(&rt, &Test::Any(Seq::new(alloc)), "", false);
     Ok(())
 }
