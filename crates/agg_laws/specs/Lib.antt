@@ -1,1 +1,11 @@
 pub mod Kind
+pub mod Numbers
+pub mod Permuted
+pub mod ByteLaws
+pub mod CountLaws
+pub mod SumLaws
+pub mod NumberBytes
+pub mod LeastLaws
+pub mod GreatestLaws
+pub mod AverageLaws
+pub mod States

@@ -2,14 +2,27 @@
 #![tactic(auto)]
 
 mod aggregate_kind;
+mod aggregator;
+mod averages;
+mod counts;
+mod extremes;
 mod id_list;
 mod kind_list;
+mod numbers;
+mod states;
+mod sums;
 mod tree_shape;
 
 pub use aggregate_kind::AggKind;
+pub use aggregator::{Aggregator, BadState};
+pub use averages::{Average, AverageState};
+pub use counts::Count;
+pub use extremes::{Greatest, Least};
 pub use id_list::{Ids, STAR};
 pub use kind_list::Kinds;
+pub use states::AggState;
 use std::alloc::AllocError;
+pub use sums::Sum;
 pub use tree_shape::TreeShape;
 
 /// A growth was refused.

@@ -1,0 +1,16 @@
+use Rattle.std.proofs.Common.{◌≡◌, Ok, Some, None, ap, ◌∙◌, sym, subst, arith, ℕ, List, ◌<◌, ◌^◌, length, get_or}
+use Rattle.std.specs.Prelude.{ℤ}
+use Rattle.std.specs.Int.{w64, from_be_bytes, cast_signed, cast_unsigned}
+use Rattle.std.proofs.lemmas.Int.{to_z-of_z}
+use Rattle.agg_laws.specs.Numbers.{number_bytes, IsWhole}
+use Rattle.agg_laws.specs.NumberBytes as bytes
+use Rattle.agg_laws.proofs.extremes.LeastAggregator.take.Goals as goal
+
+pub returns-clause-found : goal.returns-clause-found
+returns-clause-found c =
+    let read = bytes.found c.args.bytes.now c.read_i64.result (record { sfits = c.read_i64.type_inv }) c.read_i64.ensures c.requires (λ i. omega (arith, c.type_inv.bytes i)) in
+    read
+
+pub returns-clause-again : goal.returns-clause-again
+returns-clause-again c v stored is =
+    ap Ok (bytes.again c.args.bytes.now c.read_i64.result (record { sfits = c.read_i64.type_inv }) c.read_i64.ensures v stored is)
