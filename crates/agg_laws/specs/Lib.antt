@@ -9,3 +9,8 @@ pub mod LeastLaws
 pub mod GreatestLaws
 pub mod AverageLaws
 pub mod States
+pub mod Rows
+pub mod StateLaws
+pub mod RowLaws
+pub mod Order
+pub mod OrderLaws
