@@ -9,6 +9,8 @@ use Rattle.agg_laws.specs.declared.states.AggState.TheVariants.{Count, Sum, Leas
 use Rattle.agg_laws.specs.Numbers.{AreWhole, SumFits, most_stored}
 use Rattle.agg_laws.specs.States.{kind_of, rank_of, state_of, unit_of, merged, Fits, IsStored}
 use Rattle.agg_laws.specs.Rows.{head_of, tail_of, row_of, units_of, kinds_of, merged_rows, RowFits, RowStored, sum_weight, weight_of, row_weight}
+use Rattle.std.specs.List.Sorted.{IsPermutation}
+use Rattle.agg_laws.specs.Permuted.{permuted}
 use Rattle.agg_laws.specs.SumLaws as sums
 use Rattle.agg_laws.specs.LeastLaws as leasts
 use Rattle.agg_laws.specs.GreatestLaws as greatests
@@ -39,6 +41,12 @@ any_order [] [] = refl
 any_order [] (w ∷ ws) = refl
 any_order (v ∷ vs) [] = refl
 any_order (v ∷ vs) (w ∷ ws) = λ i. states.any_order v w i ∷ any_order vs ws i
+
+of_more : (ks : List AggKind) (x : List ℤ) (xs : List (List ℤ)) → row_of ks (x ∷ xs) ≡ merged_rows (row_of ks (x ∷ [])) (row_of ks xs)
+of_more ks x xs = of_both ks (x ∷ []) xs
+
+pub same_permuted : (ks : List AggKind) (xs ys : List (List ℤ)) → IsPermutation xs ys → row_of ks ys ≡ row_of ks xs
+same_permuted ks xs ys h = permuted merged_rows any_grouping any_order (row_of ks) (of_more ks) xs ys h
 
 pub fits_both : (vs ws : List AggState) (n m : ℕ) → RowFits vs n → RowFits ws m → RowFits (merged_rows vs ws) (n + m)
 fits_both [] ws n m p q = tt
@@ -101,9 +109,10 @@ row_weight_least (v ∷ vs) n h = let own = weight_least v n h.0 in let more = r
 
 pub row_fits_weight : (vs : List AggState) (n : ℕ) → RowFits vs n → RowFits vs (row_weight vs)
 row_fits_weight [] n h = tt
-row_fits_weight (v ∷ vs) n h =
-    (states.fits_more v (weight_of v) (row_weight (v ∷ vs)) (omega arith) (fits_weight v n h.0),
-    fits_more vs (row_weight vs) (row_weight (v ∷ vs)) (omega arith) (row_fits_weight vs n h.1))
+row_fits_weight (v ∷ vs) n h = (
+  states.fits_more v (weight_of v) (row_weight (v ∷ vs)) (omega arith) (fits_weight v n h.0),
+  fits_more vs (row_weight vs) (row_weight (v ∷ vs)) (omega arith) (row_fits_weight vs n h.1),
+)
 
 -- either of two states
 either_stored : (b : Bool) (v w : AggState) → IsStored v → IsStored w → IsStored (if b then v else w)
