@@ -14,3 +14,6 @@ pub mod StateLaws
 pub mod RowLaws
 pub mod Order
 pub mod OrderLaws
+pub mod Merged
+pub mod Tree
+pub mod Picks
