@@ -17,3 +17,4 @@ pub mod OrderLaws
 pub mod Merged
 pub mod Tree
 pub mod Picks
+pub mod Docs

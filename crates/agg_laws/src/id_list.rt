@@ -1,6 +1,6 @@
 //! Lists of dictionary ids.
 
-ghost use Rattle.std.specs.Prelude.{◌≡◌, ◌<◌, ◌==◌, [], ◌∷◌, ◌++◌, length, slice_get, Some, OnOk, OnErr};
+ghost use Rattle.std.specs.Prelude.{◌≡◌, ◌<◌, ◌==◌, [], ◌∷◌, ◌++◌, length, slice_get, Some, OnOk, OnErr, IfOk};
 
 use crate::NoMemory;
 use std::alloc::Global;
@@ -63,5 +63,14 @@ impl Ids {
     {
         self.ids.push(id)?;
         Ok(())
+    }
+
+    /// The same list once more.
+    pub fn copy(&self, alloc: Global) -> Result<Ids, NoMemory>
+        ensures { IfOk result (λ ids. ids ≡ self.now) }
+    {
+        Ok(Ids {
+            ids: Vec::from_slice(alloc, self.ids.as_slice())?,
+        })
     }
 }

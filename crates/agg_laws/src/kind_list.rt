@@ -1,6 +1,6 @@
 //! Lists of kinds.
 
-ghost use Rattle.std.specs.Prelude.{◌≡◌, ◌<◌, ◌==◌, [], ◌∷◌, ◌++◌, length, slice_get, Some, OnOk, OnErr};
+ghost use Rattle.std.specs.Prelude.{◌≡◌, ◌<◌, ◌==◌, [], ◌∷◌, ◌++◌, length, slice_get, Some, OnOk, OnErr, IfOk};
 
 use crate::NoMemory;
 use crate::aggregate_kind::AggKind;
@@ -62,5 +62,14 @@ impl Kinds {
     {
         self.kinds.push(kind)?;
         Ok(())
+    }
+
+    /// The same list once more.
+    pub fn copy(&self, alloc: Global) -> Result<Kinds, NoMemory>
+        ensures { IfOk result (λ kinds. kinds ≡ self.now) }
+    {
+        Ok(Kinds {
+            kinds: Vec::from_slice(alloc, self.kinds.as_slice())?,
+        })
     }
 }
