@@ -160,12 +160,21 @@ no_star_in : {S : Type 0} (k : ℕ) (after : List (List ℕ × S)) (e : List ℕ
 no_star_in k after e [] d lt h = h.0 d lt
 no_star_in k after e (b ∷ bs) d lt h = no_star_in k after e bs d lt h.1
 
+-- ordinary children have no star among them
+pub has_star-kids : {S : Type 0} (below : List (List ℕ × S) → Nodes S) (d : ℕ) (docs : List (List ℕ × S)) (last : Nodes S) (vs : List ℕ) → Avoids vs → has_star (kids_of below d docs last vs) ≡ has_star last
+has_star-kids below d docs last [] av = refl
+has_star-kids below d docs last (v ∷ vs) av = ap (λ b. cond b true (has_star (kids_of below d docs last vs))) av.0 ∙ has_star-kids below d docs last vs av.1
+
+pub star_flag : {S : Type 0} (s : Bool) (docs : List (List ℕ × S)) (kids : Nodes S) → has_star (cond s (node star docs kids none) none) ≡ s
+star_flag true docs kids = refl
+star_flag false docs kids = refl
+
 -- how often an id stands among some
 occurs : ℕ → List ℕ → ℕ
 occurs v [] = 0
 occurs v (w ∷ ws) = (if w == v then 1 else 0) + occurs v ws
 
-key_eq : (v w : ℕ) → eq_by_cmp nat_cmp v w ≡ (w == v)
+pub key_eq : (v w : ℕ) → eq_by_cmp nat_cmp v w ≡ (w == v)
 key_eq v w = grind (arith, nat_tests)
 
 and_first : (a b : Bool) → T (a && b) → T a
@@ -176,7 +185,7 @@ and_second : (a b : Bool) → T (a && b) → T b
 and_second true b p = p
 and_second false b p = absurd p
 
-not_same : (v w : ℕ) → T (is_lt (nat_cmp v w)) → (w == v) ≡ false
+pub not_same : (v w : ℕ) → T (is_lt (nat_cmp v w)) → (w == v) ≡ false
 not_same v w h = by_lt v w (nat_lt v w) refl h
   where
     by_lt : (v w : ℕ) (b : Bool) → nat_lt v w ≡ b → T (is_lt (cond b Less (cond (v == w) Equal Greater))) → (w == v) ≡ false
@@ -302,14 +311,6 @@ module _ {S : Type 0} (join : S → S → S) (j : IsJoin join) where
               let more = kids_at_most g b d path docs below last at each ws av.1 (drop_zero _ o) in
               omega (arith, both, nothing, more)
         ] refl o
-
-    has_star-kids : (below : List (List ℕ × S) → Nodes S) (d : ℕ) (docs : List (List ℕ × S)) (last : Nodes S) (vs : List ℕ) → Avoids vs → has_star (kids_of below d docs last vs) ≡ has_star last
-    has_star-kids below d docs last [] av = refl
-    has_star-kids below d docs last (v ∷ vs) av = ap (λ b. cond b true (has_star (kids_of below d docs last vs))) av.0 ∙ has_star-kids below d docs last vs av.1
-
-    star_flag : (s : Bool) (docs : List (List ℕ × S)) (kids : Nodes S) → has_star (cond s (node star docs kids none) none) ≡ s
-    star_flag true docs kids = refl
-    star_flag false docs kids = refl
 
     -- the children that are taken count the row once, where it passes
     children_count : (s : Bool) (more d : ℕ) (path : List ℕ) (sd : List (List ℕ × S)) (kids : Nodes S) → (dim d e.0 == star) ≡ false

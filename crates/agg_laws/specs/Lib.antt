@@ -18,3 +18,4 @@ pub mod Merged
 pub mod Tree
 pub mod Picks
 pub mod Docs
+pub mod Reads
