@@ -69,6 +69,11 @@ IsPartedBy t k ps x =
     ((times_covered x ps ≡ 1) × (times_counted t k x ps ≡ 1))
     ((times_covered x ps ≤ 1) × (times_counted t k x ps ≡ 0))
 
+-- each row is
+abbrev pub ArePartedBy : {S : Type 0} → Task → ℕ → List Pick → List (List ℕ × S) → Type 0
+ArePartedBy t k ps [] = Unit {0}
+ArePartedBy t k ps (e ∷ es) = IsPartedBy t k ps e.0 × ArePartedBy t k ps es
+
 -- on each grouped dimension the documents of a pick have an id of their own: the path has one there, or the dimension is still to be read
 abbrev pub KeepGroups : Task → ℕ → List Pick → Type 0
 KeepGroups t k [] = Unit {0}
