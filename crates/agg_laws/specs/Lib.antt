@@ -19,3 +19,4 @@ pub mod Tree
 pub mod Picks
 pub mod Docs
 pub mod Reads
+pub mod Documents

@@ -16,6 +16,7 @@ mod star_table;
 mod state_row;
 mod states;
 mod sums;
+mod tree_laws;
 mod tree_shape;
 
 pub use aggregate_kind::AggKind;
@@ -33,6 +34,7 @@ pub use state_row::StateRow;
 pub use states::AggState;
 use std::alloc::AllocError;
 pub use sums::Sum;
+pub use tree_laws::{covers_law, merged_law, picks_law, projected_law, reads_law, shares_law};
 pub use tree_shape::TreeShape;
 
 /// A growth was refused.
