@@ -1,11 +1,11 @@
 //! The laws of the aggregates, for states of any kind and rows of them. Each is the contract of a function that does nothing.
 
-ghost use Rattle.std.specs.Prelude.{◌≡◌, ℕ, ◌+◌, ◌≤◌, ◌↔◌, ℤ, List, [], ◌∷◌, ◌++◌, length, IsPermutation};
+ghost use Rattle.std.specs.Prelude.{◌≡◌, ℕ, ◌+◌, ◌≤◌, ◌↔◌, ℤ, List, [], ◌∷◌, ◌++◌, length, IsPermutation, ◌≤ℤ◌, Some, None, Contains, All};
 ghost use Rattle.std.specs.Cmp.{IsTotalOrder};
 ghost use Rattle.agg_laws.specs.declared.aggregate_kind.AggKind.{AggKind};
 ghost use Rattle.agg_laws.specs.declared.states.AggState.{AggState};
 ghost use Rattle.agg_laws.specs.Kind.{width_of};
-ghost use Rattle.agg_laws.specs.Numbers.{AreWhole, most_stored};
+ghost use Rattle.agg_laws.specs.Numbers.{least_of, greatest_of, AreWhole, most_stored};
 ghost use Rattle.agg_laws.specs.States.{kind_of, state_of, unit_of, merged, Fits, IsStored, spelling};
 ghost use Rattle.agg_laws.specs.Rows.{row_of, units_of, kinds_of, merged_rows, RowFits, RowStored, weight_of, row_weight};
 ghost use Rattle.agg_laws.specs.Order.{state_order};
@@ -52,4 +52,12 @@ pub fn weights_law()
 /// The order of states is total.
 pub fn order_law()
     ensures { IsTotalOrder state_order }
+{}
+
+/// The least of some numbers is one of them and no greater than any, and there is none just of no numbers; the greatest likewise.
+pub fn extremes_law()
+    ensures least { (xs : List ℤ) (m : ℤ) → least_of xs ≡ Some m → Contains xs m × All (λ x. m ≤ℤ x) xs }
+    ensures no_least { (xs : List ℤ) → least_of xs ≡ None → xs ≡ [] }
+    ensures greatest { (xs : List ℤ) (m : ℤ) → greatest_of xs ≡ Some m → Contains xs m × All (λ x. x ≤ℤ m) xs }
+    ensures no_greatest { (xs : List ℤ) → greatest_of xs ≡ None → xs ≡ [] }
 {}

@@ -27,7 +27,7 @@ pub use counts::Count;
 pub use extremes::{Greatest, Least};
 pub use id_list::{Ids, STAR};
 pub use kind_list::Kinds;
-pub use laws::{aggregates_law, order_law, rows_law, weights_law};
+pub use laws::{aggregates_law, extremes_law, order_law, rows_law, weights_law};
 pub use star_row::StarRow;
 pub use star_table::StarTable;
 pub use state_row::StateRow;
