@@ -20,3 +20,4 @@ pub mod Picks
 pub mod Docs
 pub mod Reads
 pub mod Documents
+pub mod Worked

@@ -39,3 +39,6 @@ pub use tree_shape::TreeShape;
 
 /// A growth was refused.
 pub type NoMemory = AllocError;
+
+#[cfg(test)]
+mod tests;
