@@ -1,7 +1,6 @@
 -- The lemmas of merged lists and trees, at documents of states.
-use Rattle.std.proofs.Common.{◌≡◌, ℕ, suc, ◌+◌, ◌≤◌, Bool, true, false, cond, T, sum, Option, Some, None, List, [], ◌∷◌, map, length, refl, sym, ap, ◌∙◌, arith, ℤ}
+use Rattle.std.proofs.Common.{◌≡◌, ℕ, ◌+◌, ◌≤◌, Bool, true, false, cond, T, sum, Some, None, List, [], ◌∷◌, map, refl, sym, ap, ◌∙◌, arith, ℤ}
 use Rattle.std.specs.List.{filter}
-use Rattle.std.specs.declared.cmp.Ordering.{Ordering}
 use Rattle.std.specs.declared.cmp.Ordering.TheVariants.{Less, Equal, Greater}
 use Rattle.std.specs.FinMap.{is_sorted, find}
 use Rattle.std.specs.FinMap.Entries.{by_order}
@@ -11,9 +10,9 @@ use Rattle.std.proofs.lemmas.Cmp.{nat_list_cmp_total}
 use Rattle.agg_laws.specs.declared.aggregate_kind.AggKind.{AggKind}
 use Rattle.agg_laws.specs.declared.states.AggState.{AggState}
 use Rattle.agg_laws.specs.Numbers.{most_stored}
-use Rattle.agg_laws.specs.Rows.{row_of, merged_rows, row_weight, RowStored, RowFits}
+use Rattle.agg_laws.specs.Rows.{row_of, merged_rows, row_weight, RowStored}
 use Rattle.agg_laws.specs.RowLaws as rows
-use Rattle.agg_laws.specs.Merged.{IsJoin, join_some, part, total, add, weights}
+use Rattle.agg_laws.specs.Merged.{IsJoin, join_some, total, add, weights}
 use Rattle.agg_laws.specs.Tree.{dims_order, merged_docs}
 use Rattle.agg_laws.specs.Docs.{Doc, AreStored, FitShares, projected, states_of}
 use Rattle.agg_laws.proofs.MergedLemmas.{Merged_only, find_total, is_sorted-Merged, total-Merged}

@@ -1,5 +1,5 @@
 -- The least of some numbers is one of them, and no greater than any; the greatest likewise.
-use Rattle.std.proofs.Common.{◌≡◌, ℕ, zero, suc, ◌<◌, Bool, true, false, cond, Option, Some, None, List, [], ◌∷◌, length, slice_index_or, All, Contains, refl, sym, ap, subst, ◌∙◌, arith, ℤ, ◌≤ℤ◌, int_lt}
+use Rattle.std.proofs.Common.{◌≡◌, zero, suc, true, false, cond, Some, None, List, [], ◌∷◌, All, Contains, refl, sym, subst, arith, ℤ, ◌≤ℤ◌, int_lt}
 use Rattle.std.specs.Int.{int_min, int_max}
 use Rattle.std.proofs.lemmas.Int.{ints, clamps}
 use Rattle.std.proofs.lemmas.List.Elements.{All-cons, All-nil}

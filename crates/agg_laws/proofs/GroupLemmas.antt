@@ -1,12 +1,12 @@
 -- The documents of a pick have an id of their own on each grouped dimension, and the picks part the rows.
-use Rattle.std.proofs.Common.{◌≡◌, ◌≢◌, ℕ, zero, suc, ◌+◌, ◌-◌, ◌<◌, ◌≤◌, Bool, true, false, cond, ◌&&◌, ◌==◌, not, nat_lt, List, [], ◌∷◌, ◌++◌, map, length, refl, sym, ap, subst, ◌∙◌, arith, append_assoc}
+use Rattle.std.proofs.Common.{◌≡◌, ◌≢◌, ℕ, zero, suc, ◌+◌, ◌-◌, ◌<◌, ◌≤◌, Bool, true, false, cond, ◌&&◌, ◌==◌, not, nat_lt, List, [], ◌∷◌, ◌++◌, length, refl, sym, ap, subst, ◌∙◌, arith, append_assoc}
 use Rattle.std.proofs.lemmas.Bool.{eq-eqb, eqb-true}
 use Rattle.std.proofs.lemmas.Bool.Decides.{nat_tests}
 use Rattle.std.proofs.lemmas.List.{get_or_append_left, get_or_at}
 use Rattle.agg_laws.specs.declared.tree_shape.TreeShape.{TreeShape}
 use Rattle.agg_laws.specs.Merged.{IsJoin}
 use Rattle.agg_laws.specs.Tree.{star, dim, Nodes, none, node, HaveNoStar, tree_of}
-use Rattle.agg_laws.specs.Picks.{Task, Pick, quiet, has_star, is_taken, picks_here, picks_of, picks, KeepGroups, IsPartedBy, ArePartedBy}
+use Rattle.agg_laws.specs.Picks.{Task, Pick, quiet, has_star, is_taken, picks_here, picks_of, picks, KeepGroups, ArePartedBy}
 use Rattle.agg_laws.proofs.TreeLemmas.{length_more}
 use Rattle.agg_laws.proofs.PickLemmas.{tree_parted}
 

@@ -1,9 +1,9 @@
 -- A loop that changes the states of a row in their order.
-use Rattle.std.proofs.Common.{◌≡◌, ℕ, zero, suc, ◌+◌, ◌<◌, ◌≤◌, List, [], ◌∷◌, map, length, get_or, set, refl, sym, ap, subst, ◌∙◌, arith, add-one, ℤ, pos}
+use Rattle.std.proofs.Common.{◌≡◌, ℕ, zero, suc, ◌+◌, ◌<◌, ◌≤◌, List, [], ◌∷◌, map, length, get_or, set, refl, ap, ◌∙◌, arith, ℤ}
 use Rattle.agg_laws.specs.declared.states.AggState.{AggState}
 use Rattle.agg_laws.specs.declared.aggregate_kind.AggKind.{AggKind}
 use Rattle.agg_laws.specs.States.{kind_of, state_of, merged, Fits}
-use Rattle.agg_laws.specs.Rows.{head_of, tail_of, row_of, kinds_of, merged_rows, RowFits}
+use Rattle.agg_laws.specs.Rows.{tail_of, row_of, kinds_of, merged_rows, RowFits}
 
 -- the states of a row, of which the first n are merged with those of another
 abbrev pub mixed : ℕ → List AggState → List AggState → List AggState

@@ -1,5 +1,5 @@
 -- A query reads of a tree at most as many documents as its bound says.
-use Rattle.std.proofs.Common.{◌≡◌, ◌≢◌, ℕ, zero, suc, ◌+◌, ◌-◌, ◌*◌, ◌<◌, ◌≤◌, Bool, true, false, cond, ◌&&◌, ◌||◌, ◌==◌, not, T, List, [], ◌∷◌, ◌++◌, map, length, Option, Some, None, refl, sym, ap, subst, ◌∙◌, arith, nat_le, nat_lt, if◌then◌else◌}
+use Rattle.std.proofs.Common.{◌≡◌, ℕ, zero, suc, ◌+◌, ◌-◌, ◌*◌, ◌<◌, ◌≤◌, Bool, true, false, cond, ◌&&◌, ◌||◌, ◌==◌, not, T, List, [], ◌∷◌, ◌++◌, map, length, Option, Some, None, refl, sym, ap, subst, ◌∙◌, arith, nat_le, nat_lt, if◌then◌else◌}
 use Rattle.std.specs.Prelude.{is_some}
 use Rattle.std.specs.List.{filter}
 use Rattle.std.proofs.lemmas.Bool.{eqb-true, eq-eqb}
@@ -12,13 +12,13 @@ use Rattle.std.specs.FinMap.{is_sorted, find, nat_cmp-IsAntisymmetric}
 use Rattle.std.specs.FinMap.Entries.{below_all}
 use Rattle.std.proofs.lemmas.Cmp.{nat_list_cmp_total, nat_cmp_total, ranked}
 use Rattle.agg_laws.specs.declared.tree_shape.TreeShape.{TreeShape}
-use Rattle.agg_laws.specs.Merged.{IsJoin, join_some, part, total, rekey, Merged}
+use Rattle.agg_laws.specs.Merged.{IsJoin, join_some, total, rekey, Merged}
 use Rattle.agg_laws.specs.Tree.{star, dims_order, dim, set_star, merged_docs, Nodes, none, node, skips, ids_at, docs_with, kids_of, star_kid, under, agrees, starred, rows_at, HaveNoStar, root_of, tree_of}
-use Rattle.agg_laws.specs.Picks.{Task, quiet, has_star, is_taken}
+use Rattle.agg_laws.specs.Picks.{Task, quiet, has_star}
 use Rattle.agg_laws.specs.Reads.{read_here, reads_of, read_of, cardinality, matched, factor, factors_from, bound}
 use Rattle.agg_laws.proofs.MergedLemmas.{total-rekey, total-Merged, total_agree, find_total, is_sorted-Merged}
 use Rattle.agg_laws.proofs.TreeLemmas.{same_dims, dim-starred, total_rows, Avoids, own_docs, star_docs, Avoids-ids, length_more, all_rows}
-use Rattle.agg_laws.proofs.PickLemmas.{key_eq, not_same, has_star-kids, star_flag}
+use Rattle.agg_laws.proofs.PickLemmas.{key_eq, has_star-kids, star_flag}
 
 -- an id is among some
 abbrev has : ℕ → List ℕ → Bool

@@ -1,9 +1,9 @@
 -- Documents of one shape.
-use Rattle.std.proofs.Common.{◌≡◌, ℕ, zero, suc, ◌+◌, ◌<◌, ◌≤◌, List, [], ◌∷◌, ◌++◌, map, length, get_or, slice_get, Some, refl, sym, ap, ◌∙◌, arith}
+use Rattle.std.proofs.Common.{◌≡◌, ℕ, zero, suc, ◌<◌, List, [], ◌∷◌, ◌++◌, map, length, get_or, slice_get, Some, refl, ap, ◌∙◌, arith}
 use Rattle.agg_laws.specs.declared.aggregate_kind.AggKind.{AggKind}
 use Rattle.agg_laws.specs.declared.star_row.StarRow.{StarRow}
 use Rattle.agg_laws.specs.Rows.{kinds_of}
-use Rattle.agg_laws.specs.Docs.{Doc, doc_of, doc_at, HaveShape}
+use Rattle.agg_laws.specs.Docs.{doc_of, doc_at, HaveShape}
 
 -- one more document
 pub shape_push : (k : ℕ) (ks : List AggKind) (rows : List StarRow) (row : StarRow) → HaveShape k ks (map doc_of rows) → length row.dims ≡ k → kinds_of row.states ≡ ks

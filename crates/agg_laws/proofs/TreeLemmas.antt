@@ -9,7 +9,7 @@ use Rattle.std.specs.declared.cmp.Ordering.TheVariants.{Less, Equal, Greater}
 use Rattle.std.proofs.lemmas.Cmp.{nat_list_cmp_total, nat_cmp_total}
 use Rattle.agg_laws.specs.declared.tree_shape.TreeShape.{TreeShape}
 use Rattle.agg_laws.specs.Merged.{IsJoin, join_some, total, rekey, add, Merged}
-use Rattle.agg_laws.specs.Tree.{star, dims_order, dim, set_star, merged_docs, Nodes, none, node, skips, ids_at, docs_with, kids_of, star_kid, under, root_of, tree_of, agrees, starred, rows_at, HaveNoStar, CoversRows, Covers, CoversTree}
+use Rattle.agg_laws.specs.Tree.{star, dims_order, dim, set_star, merged_docs, Nodes, none, node, ids_at, docs_with, kids_of, star_kid, under, root_of, tree_of, agrees, starred, rows_at, HaveNoStar, CoversRows, Covers, CoversTree}
 use Rattle.agg_laws.proofs.MergedLemmas.{total-filter, total-rekey, total-Merged, total_agree, Merged_same, filter-Merged, Merged-rekey}
 
 pub same_dims : IsAntisymmetric dims_order

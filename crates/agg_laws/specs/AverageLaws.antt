@@ -1,9 +1,9 @@
 -- The laws of averages.
-use Rattle.std.proofs.Common.{◌≡◌, ℕ, suc, ◌+◌, ◌*◌, ◌^◌, ◌<◌, ◌≤◌, List, [], ◌∷◌, ◌++◌, length, take, drop, get_or, subst, refl, sym, ap, ◌∙◌, arith, length-append}
-use Rattle.std.specs.Prelude.{ℤ, pos, ◌+ℤ◌, ◌≤ℤ◌}
+use Rattle.std.proofs.Common.{◌≡◌, ℕ, ◌+◌, ◌<◌, List, [], ◌∷◌, ◌++◌, length, take, drop, get_or, subst, refl, sym, ap, ◌∙◌, arith}
+use Rattle.std.specs.Prelude.{ℤ, pos, ◌+ℤ◌}
 use Rattle.std.specs.List.Sorted.{IsPermutation}
 use Rattle.agg_laws.specs.declared.averages.AverageState.{AverageState}
-use Rattle.agg_laws.specs.Numbers.{average_of, both_averages, AreWhole, AverageFits, AverageStored, most_stored, sum_bytes, count_bytes, average_bytes, SumFits}
+use Rattle.agg_laws.specs.Numbers.{average_of, both_averages, AreWhole, AverageFits, AverageStored, most_stored, sum_bytes, count_bytes, average_bytes}
 use Rattle.agg_laws.specs.Permuted.{permuted}
 use Rattle.std.proofs.lemmas.List.{get_or-drop, length-take-le, length-drop, take-append-drop}
 use Rattle.std.specs.Int.{w64, w128, from_be_bytes, cast_signed}

@@ -1,5 +1,5 @@
 -- All documents of a tree, in the order in which its nodes are visited.
-use Rattle.std.specs.Prelude.{ℕ, zero, suc, Bool, if◌then◌else◌, ◌==◌, List, [], ◌∷◌, ◌++◌, length}
+use Rattle.std.specs.Prelude.{ℕ, zero, suc, if◌then◌else◌, ◌==◌, List, [], ◌∷◌, ◌++◌, length}
 use Rattle.agg_laws.specs.Merged.{rekey}
 use Rattle.agg_laws.specs.Tree.{star, merged_docs, Nodes, none, node}
 use Rattle.agg_laws.specs.Picks.{has_star}

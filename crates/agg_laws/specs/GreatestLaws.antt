@@ -1,12 +1,10 @@
 -- The laws of greatest numbers.
-use Rattle.std.proofs.Common.{◌≡◌, ℕ, suc, ◌+◌, ◌^◌, ◌<◌, ◌≤◌, Bool, true, false, cond, Option, Some, None, List, [], ◌∷◌, ◌++◌, length, get_or, refl, sym, ap, ◌∙◌, arith}
-use Rattle.std.specs.Prelude.{ℤ, pos, negsuc, ◌+ℤ◌, ◌≤ℤ◌, int_lt}
-use Rattle.std.proofs.lemmas.Int.{ints, clamps, to_z-of_z, of_z-to_z, int_max_is}
-use Rattle.std.proofs.lemmas.Nat.{from_be_bytes-to_be_bytes_8, be_bytes_8}
-use Rattle.std.specs.Int.{int_max, w64, to_be_bytes, from_be_bytes, cast_signed, cast_unsigned}
-use Rattle.std.specs.Int.RustNames.{FitsSigned}
+use Rattle.std.proofs.Common.{◌≡◌, Option, Some, None, List, [], ◌∷◌, ◌++◌, refl, sym, ap, ◌∙◌, arith}
+use Rattle.std.specs.Prelude.{ℤ}
+use Rattle.std.proofs.lemmas.Int.{ints, clamps}
+use Rattle.std.specs.Int.{int_max}
 use Rattle.std.specs.List.Sorted.{IsPermutation}
-use Rattle.agg_laws.specs.Numbers.{greater, greatest_of, IsWhole, AreWhole, NumberFits, NumberStored, number_bytes}
+use Rattle.agg_laws.specs.Numbers.{greater, greatest_of, IsWhole, AreWhole, NumberFits, NumberStored}
 use Rattle.agg_laws.specs.Permuted.{permuted}
 
 pub nothing_added : (v : Option ℤ) → greater v None ≡ v

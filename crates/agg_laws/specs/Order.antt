@@ -1,5 +1,5 @@
 -- The order of states, by which the groups of a query are ordered.
-use Rattle.std.specs.Prelude.{◌≡◌, ℕ, ◌+◌, ◌≤◌, max, ℤ, pos, ◌*ℤ◌, Option, Some, None}
+use Rattle.std.specs.Prelude.{◌≤◌, max, ℤ, pos, ◌*ℤ◌, Option, Some, None}
 use Rattle.std.specs.declared.cmp.Ordering.{Ordering}
 use Rattle.std.specs.declared.cmp.Ordering.TheVariants.{Less, Equal, Greater}
 use Rattle.std.specs.Ordering.{nat_cmp, int_cmp}

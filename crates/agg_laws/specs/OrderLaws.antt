@@ -1,18 +1,16 @@
 -- The order of states is total.
-use Rattle.std.proofs.Common.{◌≡◌, ℕ, zero, suc, ◌+◌, ◌*◌, ◌<◌, ◌≤◌, max, Option, Some, None, refl, sym, ap, subst, ◌∙◌, arith}
+use Rattle.std.proofs.Common.{◌≡◌, ℕ, zero, suc, ◌*◌, ◌<◌, max, Option, Some, None, refl, sym, ap, ◌∙◌, arith}
 use Rattle.std.specs.Prelude.{ℤ, pos, negsuc, neg_ℤ, ◌*ℤ◌, ◌<ℤ◌}
 use Rattle.std.specs.declared.cmp.Ordering.{Ordering}
 use Rattle.std.specs.declared.cmp.Ordering.TheVariants.{Less, Equal, Greater}
-use Rattle.std.specs.Ordering.{nat_cmp, int_cmp, MatchOrdering, ordering_reverse}
+use Rattle.std.specs.Ordering.{int_cmp, MatchOrdering, ordering_reverse}
 use Rattle.std.specs.Cmp.{IsTotalOrder, int_cmp_is}
 use Rattle.std.proofs.lemmas.Cmp.{int_ranked, nat_cmp_total, int_cmp_total}
 use Rattle.std.proofs.lemmas.Int.{ints}
 use Rattle.std.proofs.Math.IntN.{pos-*ℤ-pos, negsuc-*ℤ-pos, zero-*ℤ}
-use Rattle.std.proofs.Math.Nat.{mul-le-mul_right, mul_comm, mul_assoc}
-use Rattle.agg_laws.specs.declared.averages.AverageState.{AverageState}
+use Rattle.std.proofs.Math.Nat.{mul-le-mul_right}
 use Rattle.agg_laws.specs.declared.states.AggState.{AggState}
 use Rattle.agg_laws.specs.declared.states.AggState.TheVariants.{Count, Sum, Least, Greatest, Average}
-use Rattle.agg_laws.specs.States.{kind_of, rank_of}
 use Rattle.agg_laws.specs.Order.{number_order, average_order, state_order}
 
 -- a positive factor keeps the order of two numbers

@@ -1,13 +1,13 @@
 -- The laws of the aggregates, place by place.
-use Rattle.std.proofs.Common.{◌≡◌, Bool, true, false, nat_le, if◌then◌else◌, ℕ, suc, ◌+◌, ◌-◌, ◌*◌, ◌/◌, ◌^◌, ◌<◌, ◌≤◌, max, Option, Some, None, List, [], ◌∷◌, ◌++◌, map, length, refl, sym, ap, subst, ◌∙◌, arith}
-use Rattle.std.specs.Prelude.{ℤ, pos, negsuc, ◌+ℤ◌, ◌≤ℤ◌, neg_ℤ}
+use Rattle.std.proofs.Common.{◌≡◌, Bool, true, false, nat_le, if◌then◌else◌, ℕ, ◌+◌, ◌≤◌, Some, None, List, [], ◌∷◌, ◌++◌, map, refl, ◌∙◌, arith}
+use Rattle.std.specs.Prelude.{ℤ, pos, negsuc, ◌+ℤ◌}
 use Rattle.std.proofs.lemmas.Int.{ints}
 use Rattle.std.proofs.lemmas.List.{map-append}
 use Rattle.agg_laws.specs.declared.aggregate_kind.AggKind.{AggKind}
 use Rattle.agg_laws.specs.declared.states.AggState.{AggState}
 use Rattle.agg_laws.specs.declared.states.AggState.TheVariants.{Count, Sum, Least, Greatest, Average}
-use Rattle.agg_laws.specs.Numbers.{AreWhole, SumFits, most_stored}
-use Rattle.agg_laws.specs.States.{kind_of, rank_of, state_of, unit_of, merged, Fits, IsStored}
+use Rattle.agg_laws.specs.Numbers.{SumFits, most_stored}
+use Rattle.agg_laws.specs.States.{kind_of, rank_of, state_of, merged, Fits, IsStored}
 use Rattle.agg_laws.specs.Rows.{head_of, tail_of, row_of, units_of, kinds_of, merged_rows, RowFits, RowStored, sum_weight, weight_of, row_weight}
 use Rattle.std.specs.List.Sorted.{IsPermutation}
 use Rattle.agg_laws.specs.Permuted.{permuted}

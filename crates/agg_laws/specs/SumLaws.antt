@@ -1,11 +1,11 @@
 -- The laws of sums.
-use Rattle.std.proofs.Common.{◌≡◌, ℕ, suc, ◌+◌, ◌*◌, ◌^◌, ◌<◌, ◌≤◌, List, [], ◌∷◌, ◌++◌, length, get_or, refl, sym, ap, ◌∙◌, arith}
-use Rattle.std.specs.Prelude.{ℤ, pos, negsuc, ◌+ℤ◌, ◌≤ℤ◌}
+use Rattle.std.proofs.Common.{◌≡◌, ℕ, ◌+◌, ◌^◌, ◌<◌, ◌≤◌, List, [], ◌∷◌, ◌++◌, length, get_or, refl, sym, ap, ◌∙◌, arith}
+use Rattle.std.specs.Prelude.{ℤ, pos, negsuc, ◌+ℤ◌}
 use Rattle.std.proofs.lemmas.Int.{ints, to_z-of_z, of_z-to_z}
 use Rattle.std.specs.Int.{w128, to_be_bytes, from_be_bytes, cast_signed, cast_unsigned}
 use Rattle.std.specs.Int.RustNames.{FitsSigned}
 use Rattle.std.specs.List.Sorted.{IsPermutation}
-use Rattle.agg_laws.specs.Numbers.{sum_of, IsWhole, AreWhole, SumFits, SumStored, most_stored, sum_bytes}
+use Rattle.agg_laws.specs.Numbers.{sum_of, AreWhole, SumFits, SumStored, most_stored, sum_bytes}
 use Rattle.agg_laws.specs.Permuted.{permuted}
 use Rattle.agg_laws.specs.ByteLaws.{from_be_bytes-to_be_bytes_16, be_bytes_16, below_16}
 

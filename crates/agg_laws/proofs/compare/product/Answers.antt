@@ -1,4 +1,4 @@
-use Rattle.std.proofs.Common.{◌≡◌, ℕ, ◌^◌, ◌*◌, ◌≤◌, ℤ, ◌*ℤ◌, pos, negsuc, unsigned_abs, FitsSigned, ap, sym, subst, arith, ◌∙◌}
+use Rattle.std.proofs.Common.{◌≡◌, ℕ, ◌^◌, ◌≤◌, ℤ, ◌*ℤ◌, pos, negsuc, unsigned_abs, FitsSigned, ap, sym, subst, arith, ◌∙◌}
 use Rattle.std.specs.Int.{w128, cast_signed, cast_unsigned}
 use Rattle.std.proofs.lemmas.Int.{ints, to_z-of_z, to_z_pos, fits_signed_mul}
 use Rattle.agg_laws.specs.Numbers.{SumFits, most_values}

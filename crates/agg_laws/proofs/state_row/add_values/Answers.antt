@@ -1,11 +1,11 @@
-use Rattle.std.proofs.Common.{◌≡◌, ℕ, ◌+◌, ◌<◌, ◌≤◌, List, [], ◌∷◌, length, get_or, set, ap, sym, subst, ◌∙◌, arith, rules, ℤ, pos, FitsSigned, w64}
+use Rattle.std.proofs.Common.{◌≡◌, ℕ, ◌<◌, List, [], ◌∷◌, length, get_or, set, ap, sym, subst, ◌∙◌, arith, rules, ℤ, pos, FitsSigned, w64}
 use Rattle.std.specs.Int.{cast_signed, cast_unsigned}
 use Rattle.std.proofs.lemmas.Int.{to_z-of_z}
 use Rattle.agg_laws.specs.declared.states.AggState.{AggState}
 use Rattle.agg_laws.specs.declared.states.AggState.TheVariants.{Count}
 use Rattle.agg_laws.specs.Numbers.{most_values}
 use Rattle.agg_laws.specs.States.{kind_of, state_of, merged, Fits}
-use Rattle.agg_laws.specs.Rows.{row_of, kinds_of, merged_rows, RowFits}
+use Rattle.agg_laws.specs.Rows.{row_of, kinds_of}
 use Rattle.agg_laws.proofs.Places.{mixed, mixed_at, mixed_more, mixed_all, fits_at, row_at, length-row_of, length-kinds_of}
 use Rattle.agg_laws.proofs.state_row.add_values.Goals as goal
 

@@ -1,9 +1,8 @@
-use Rattle.std.proofs.Common.{◌≡◌, ℕ, ◌+◌, ◌<◌, ◌≤◌, List, length, get_or, set, ap, sym, subst, ◌∙◌, arith}
+use Rattle.std.proofs.Common.{◌≡◌, ℕ, List, length, get_or, set, ap, sym, subst, ◌∙◌, arith}
 use Rattle.agg_laws.specs.declared.states.AggState.{AggState}
 use Rattle.agg_laws.specs.declared.states.AggState.TheVariants.{Count}
 use Rattle.agg_laws.specs.Numbers.{most_values}
 use Rattle.agg_laws.specs.States.{kind_of, merged, Fits}
-use Rattle.agg_laws.specs.Rows.{kinds_of, merged_rows, RowFits}
 use Rattle.agg_laws.proofs.Places.{mixed, mixed_at, mixed_more, mixed_all, same_length, kind_at, fits_at}
 use Rattle.agg_laws.proofs.state_row.merge_states.Goals as goal
 

@@ -1,5 +1,4 @@
-use Rattle.std.proofs.Common.{◌≡◌, ℕ, Ok, ap, ◌∙◌, sym, subst, arith, take, drop}
-use Rattle.std.specs.Prelude.{ℤ}
+use Rattle.std.proofs.Common.{◌≡◌, Ok, ap, ◌∙◌, sym, subst, arith}
 use Rattle.std.specs.Int.{w64, w128, from_be_bytes, cast_signed, cast_unsigned}
 use Rattle.std.proofs.lemmas.Int.{to_z-of_z}
 use Rattle.agg_laws.specs.Numbers.{AverageStored}

@@ -1,8 +1,4 @@
-use Rattle.std.proofs.Common.{◌≡◌, Ok, Some, None, ap, ◌∙◌, sym, subst, arith, ℕ, List, ◌<◌, ◌^◌, length, get_or}
-use Rattle.std.specs.Prelude.{ℤ}
-use Rattle.std.specs.Int.{w64, from_be_bytes, cast_signed, cast_unsigned}
-use Rattle.std.proofs.lemmas.Int.{to_z-of_z}
-use Rattle.agg_laws.specs.Numbers.{number_bytes, IsWhole}
+use Rattle.std.proofs.Common.{Ok, ap, arith}
 use Rattle.agg_laws.specs.NumberBytes as bytes
 use Rattle.agg_laws.proofs.extremes.LeastAggregator.take.Goals as goal
 

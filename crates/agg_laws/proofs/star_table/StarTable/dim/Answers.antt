@@ -1,4 +1,4 @@
-use Rattle.std.proofs.Common.{◌≡◌, ◌<◌, ap, ◌∙◌, sym, arith, length}
+use Rattle.std.proofs.Common.{◌<◌, ap, ◌∙◌, arith, length}
 use Rattle.agg_laws.specs.Tree.{star, dim}
 use Rattle.agg_laws.specs.Docs.{doc_at}
 use Rattle.agg_laws.proofs.Tables.{dims_at, doc_there, length-docs, got}

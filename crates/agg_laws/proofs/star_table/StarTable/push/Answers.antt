@@ -1,4 +1,4 @@
-use Rattle.std.proofs.Common.{◌≡◌, ap, ◌∙◌, sym, subst, map}
+use Rattle.std.proofs.Common.{ap, ◌∙◌, sym, subst, map}
 use Rattle.agg_laws.specs.Docs.{doc_of, HaveShape}
 use Rattle.agg_laws.proofs.Tables.{shape_push}
 use Rattle.agg_laws.proofs.star_table.StarTable.push.Goals as goal

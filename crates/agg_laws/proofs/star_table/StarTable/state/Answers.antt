@@ -1,4 +1,4 @@
-use Rattle.std.proofs.Common.{◌≡◌, ◌<◌, ap, ◌∙◌, sym, arith, length, slice_get}
+use Rattle.std.proofs.Common.{◌<◌, ap, ◌∙◌, sym, arith, length, slice_get}
 use Rattle.agg_laws.specs.Docs.{doc_at}
 use Rattle.agg_laws.proofs.Places.{length-kinds_of}
 use Rattle.agg_laws.proofs.Tables.{kinds_at, doc_there, length-docs}
