@@ -1,0 +1,38 @@
+-- All documents of a tree, in the order in which its nodes are visited.
+use Rattle.std.specs.Prelude.{ℕ, zero, suc, if◌then◌else◌, ◌==◌, List, [], ◌∷◌, ◌++◌, length}
+use Rattle.agg_laws.specs.Merged.{rekey}
+use Rattle.agg_laws.specs.Tree.{star, merged_docs, Nodes, none, node}
+use Rattle.agg_laws.specs.Picks.{has_star}
+
+-- the ids from a level on set to star
+abbrev pub star_from : ℕ → List ℕ → List ℕ
+star_from d [] = []
+star_from zero (x ∷ xs) = star ∷ star_from zero xs
+star_from (suc d) (x ∷ xs) = x ∷ star_from d xs
+
+-- the documents of the star child
+abbrev pub star_docs : {S : Type 0} → Nodes S → List (List ℕ × S)
+star_docs none = []
+star_docs (node id docs kids rest) = if id == star then docs else star_docs rest
+
+module _ {S : Type 0} (join : S → S → S) where
+  -- the aggregated document of a node of level d
+  abbrev pub aggregated : ℕ → List (List ℕ × S) → List (List ℕ × S)
+  aggregated d docs = merged_docs join (rekey (star_from d) docs)
+
+  -- what the visit of a node of level d appends, with what the visits of its children append: an aggregated document at a leaf of several documents;
+  -- else the documents of the star child, those of the children's visits, and where there is no star child the aggregated document
+  abbrev pub visit_of : ℕ → List (List ℕ × S) → Nodes S → List (List ℕ × S) → List (List ℕ × S)
+  visit_of d docs none below = if length docs == 1 then [] else aggregated d docs
+  visit_of d docs (node id own kids rest) below =
+      star_docs (node id own kids rest) ++ (below ++ (if has_star (node id own kids rest) then [] else aggregated d docs))
+
+  -- what the visits of nodes of level d beside each other append
+  abbrev pub visits_of : ℕ → Nodes S → List (List ℕ × S)
+  visits_of d none = []
+  visits_of d (node id docs kids rest) = visit_of d docs kids (visits_of (suc d) kids) ++ visits_of d rest
+
+  -- the documents of a tree begin with those of its root
+  abbrev pub documents_of : Nodes S → List (List ℕ × S)
+  documents_of none = []
+  documents_of (node id docs kids rest) = docs ++ visit_of 0 docs kids (visits_of 1 kids)

@@ -1,0 +1,80 @@
+//! How many values there are.
+
+ghost use Rattle.std.specs.Prelude.{◌≡◌, ◌+◌, ◌≤◌, length};
+
+use crate::aggregator::{Aggregator, BadState, MOST_STORED};
+use crate::numbers::read_u64;
+
+/// How many values there are.
+pub struct Count;
+
+impl Aggregator for Count {
+    ghost use Rattle.std.specs.Prelude.{◌+◌, ◌≤◌, length, refl};
+    ghost use Rattle.agg_laws.specs.Numbers.{CountStored, count_bytes};
+    ghost use Rattle.agg_laws.specs.CountLaws as laws;
+
+    type State = u64;
+
+    const WIDTH: usize = 8;
+
+    ghost WIDTH = { 8 };
+
+    ghost of = { λ xs. length xs };
+
+    ghost empty = { 0 };
+
+    ghost merged = { λ a b. a + b };
+
+    ghost fits = { λ c n. c ≤ n };
+
+    ghost stored = { CountStored };
+
+    ghost spelling = { count_bytes };
+
+    ghost of_none = { refl };
+
+    ghost nothing_added = { laws.nothing_added };
+
+    ghost of_both = { laws.of_both };
+
+    ghost any_grouping = { laws.any_grouping };
+
+    ghost any_order = { laws.any_order };
+
+    ghost permuted = { laws.same_permuted };
+
+    ghost fits_of = { laws.fits_of };
+
+    ghost fits_both = { laws.fits_both };
+
+    ghost stored_fits = { laws.stored_fits };
+
+    ghost spelled = { laws.spelled };
+
+    ghost one_spelling = { laws.one_spelling };
+
+    fn unit() -> u64 {
+        0
+    }
+
+    fn add(state: &mut u64, _value: i64) {
+        *state += 1;
+    }
+
+    fn merge(into: &mut u64, from: &u64) {
+        *into += *from;
+    }
+
+    #[tactic(auto, unfolding(crate::specs::Numbers::count_bytes))]
+    fn put(state: &u64, out: &mut [u8]) {
+        out.copy_from_slice(&state.to_be_bytes());
+    }
+
+    fn take(bytes: &[u8]) -> Result<u64, BadState> {
+        let count = read_u64(bytes);
+        if count == 0 || count > MOST_STORED {
+            return Err(BadState);
+        }
+        Ok(count)
+    }
+}

@@ -1,0 +1,44 @@
+//! Aggregators and their laws, merged star rows, and the star-tree as a value.
+#![tactic(auto)]
+
+mod aggregate_kind;
+mod aggregator;
+mod averages;
+mod compare;
+mod counts;
+mod extremes;
+mod id_list;
+mod kind_list;
+mod laws;
+mod numbers;
+mod star_row;
+mod star_table;
+mod state_row;
+mod states;
+mod sums;
+mod tree_laws;
+mod tree_shape;
+
+pub use aggregate_kind::AggKind;
+pub use aggregator::{Aggregator, BadState};
+pub use averages::{Average, AverageState};
+pub use compare::compare_states;
+pub use counts::Count;
+pub use extremes::{Greatest, Least};
+pub use id_list::{Ids, STAR};
+pub use kind_list::Kinds;
+pub use laws::{aggregates_law, extremes_law, order_law, rows_law, weights_law};
+pub use star_row::StarRow;
+pub use star_table::StarTable;
+pub use state_row::StateRow;
+pub use states::AggState;
+use std::alloc::AllocError;
+pub use sums::Sum;
+pub use tree_laws::{covers_law, merged_law, picks_law, projected_law, reads_law, shares_law};
+pub use tree_shape::TreeShape;
+
+/// A growth was refused.
+pub type NoMemory = AllocError;
+
+#[cfg(test)]
+mod tests;

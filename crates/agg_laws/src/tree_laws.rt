@@ -1,0 +1,62 @@
+//! The laws of merged documents and of the star-tree. Each is the contract of a function that does nothing.
+
+ghost use Rattle.std.specs.Prelude.{◌≡◌, ℕ, ◌+◌, ◌<◌, ◌≤◌, Bool, true, ℤ, List, length, map, sum, IsTrue, IsPermutation};
+ghost use Rattle.std.specs.List.{filter};
+ghost use Rattle.std.specs.FinMap.{is_sorted, find};
+ghost use Rattle.std.specs.Ordering.{eq_by_cmp};
+ghost use Rattle.agg_laws.specs.declared.aggregate_kind.AggKind.{AggKind};
+ghost use Rattle.agg_laws.specs.declared.tree_shape.TreeShape.{TreeShape};
+ghost use Rattle.agg_laws.specs.Numbers.{most_stored};
+ghost use Rattle.agg_laws.specs.Rows.{merged_rows, row_weight};
+ghost use Rattle.agg_laws.specs.Merged.{total, rekey, weights};
+ghost use Rattle.agg_laws.specs.Tree.{dims_order, set_star, merged_docs, tree_of, HaveNoStar, CoversTree, rows_at};
+ghost use Rattle.agg_laws.specs.Docs.{Doc, AreStored, FitShares, projected, states_of};
+ghost use Rattle.agg_laws.specs.Picks.{Task, picks, ArePartedBy, KeepGroups};
+ghost use Rattle.agg_laws.specs.Reads.{factor, read_of, bound};
+
+/// Merged documents are the one list whose combinations ascend, are those of the list, and have the merged states of their
+/// own entries. It does not matter in which order the list is, whether it was merged before a dimension is starred, and
+/// whether it is merged before a part with certain combinations is taken.
+pub fn merged_law()
+    ensures ascending { (docs : List Doc) → IsTrue (is_sorted dims_order (merged_docs merged_rows docs)) }
+    ensures own_entries { (docs : List Doc) (dims : List ℕ) → find dims_order dims (merged_docs merged_rows docs) ≡ total merged_rows (eq_by_cmp dims_order dims) docs }
+    ensures only { (some docs : List Doc) → IsTrue (is_sorted dims_order some)
+        → ((dims : List ℕ) → find dims_order dims some ≡ total merged_rows (eq_by_cmp dims_order dims) docs) → some ≡ merged_docs merged_rows docs }
+    ensures any_order { (docs others : List Doc) → IsPermutation docs others → merged_docs merged_rows others ≡ merged_docs merged_rows docs }
+    ensures starred { (d : ℕ) (docs : List Doc) → merged_docs merged_rows (rekey (set_star d) (merged_docs merged_rows docs)) ≡ merged_docs merged_rows (rekey (set_star d) docs) }
+    ensures part { (p : List ℕ → Bool) (docs : List Doc) → filter (λ e. p e.0) (merged_docs merged_rows docs) ≡ merged_docs merged_rows (filter (λ e. p e.0) docs) }
+    ensures whole { (p : List ℕ → Bool) (docs : List Doc) → total merged_rows p (merged_docs merged_rows docs) ≡ total merged_rows p docs }
+{}
+
+/// The states of rows of numbers, one at a time, merge to the states of all of them.
+pub fn projected_law()
+    ensures { (ks : List AggKind) (p : List ℕ → Bool) (rows : List (List ℕ × List ℤ))
+        → total merged_rows p (projected ks rows) ≡ states_of ks (map (λ row. row.1) (filter (λ row. p row.0) rows)) }
+{}
+
+/// Documents stand for no more values when they are merged, and stay stored where they stand for no more than a segment has.
+pub fn shares_law()
+    ensures merged { (docs : List Doc) → weights row_weight (merged_docs merged_rows docs) ≤ weights row_weight docs }
+    ensures least { (docs : List Doc) (shares : List ℕ) → FitShares docs shares → weights row_weight docs ≤ sum shares }
+    ensures reached { (docs : List Doc) (shares : List ℕ) → FitShares docs shares → FitShares docs (map (λ e. row_weight e.1) docs) }
+    ensures stored { (docs : List Doc) → AreStored docs → weights row_weight docs ≤ most_stored → AreStored (merged_docs merged_rows docs) }
+{}
+
+/// Each node of the tree of some documents has just those that agree with its path, starred where the path is and merged,
+/// and its aggregated document has their states.
+pub fn covers_law()
+    ensures { (shape : TreeShape) (k : ℕ) (docs : List Doc) → HaveNoStar k docs → CoversTree merged_rows docs (tree_of merged_rows shape k docs) }
+{}
+
+/// The documents that a query reads of a tree part the rows: each row that holds is in just one pick, whose remaining tests
+/// it passes; any other is in none, or in one whose remaining tests it fails. On each grouped dimension a pick has the rows' own ids.
+pub fn picks_law()
+    ensures parted { (t : Task) (shape : TreeShape) (k : ℕ) (docs : List Doc) → HaveNoStar k docs → ArePartedBy t k (picks t k (tree_of merged_rows shape k docs)) docs }
+    ensures grouped { (t : Task) (shape : TreeShape) (k : ℕ) (docs : List Doc) → KeepGroups t k (picks t k (tree_of merged_rows shape k docs)) }
+{}
+
+/// A query reads at most the leaf size times one factor for each dimension, where no factor is 0.
+pub fn reads_law()
+    ensures { (t : Task) (shape : TreeShape) (k : ℕ) (docs : List Doc) → HaveNoStar k docs → 1 ≤ shape.leaf → ((d : ℕ) → d < k → 1 ≤ factor merged_rows t shape docs d)
+        → read_of t k (tree_of merged_rows shape k docs) ≤ bound merged_rows t shape docs k }
+{}

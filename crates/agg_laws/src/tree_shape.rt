@@ -1,0 +1,16 @@
+//! The shape of a star-tree.
+
+use crate::kind_list::Kinds;
+
+/// What the settings say of a star-tree.
+#[derive(Drop)]
+pub struct TreeShape {
+    /// How many split dimensions there are: 1 to 16.
+    pub dims: u8,
+    /// Bit i says that no star child is made for split dimension i.
+    pub skipped: u16,
+    /// The most documents of a leaf, at least 1.
+    pub leaf: u32,
+    /// The kinds of the pairs, in order.
+    pub kinds: Kinds,
+}
