@@ -1,0 +1,57 @@
+-- Results in order, up to the first fault.
+use Rattle.std.proofs.Common.{◌≡◌, ◌∙◌, ◌<◌, ◌≤◌, ◌+◌, ℕ, zero, suc, List, [], ◌∷◌, ◌++◌, length, take, drop, map, Result, Ok, Err, IsErr, refl, sym, ap, subst, arith, append_assoc, append-nil, get_or, add-one, add_assoc}
+use Rattle.std.proofs.Math.Seq.{drop-cons, drop-length}
+use Rattle.std.proofs.lemmas.List.{nil_from_length, length-drop}
+use Rattle.std.specs.List.{enumerate_from}
+use Rattle.pinot_run.specs.Plain.{all_or_first, joined}
+
+-- what the first ones gave, before what the others give
+abbrev pub after : {A E : Type 0} → List A → Result (List A) E → Result (List A) E
+after front (Ok rest) = Ok (front ++ rest)
+after front (Err e) = Err e
+
+pub after-none : {A E : Type 0} (r : Result (List A) E) → r ≡ after [] r
+after-none (Ok rest) = refl
+after-none (Err e) = refl
+
+pub after-one : {A E : Type 0} (front : List A) (a : A) (r : Result A E) (rest : Result (List A) E) → r ≡ Ok a → after front (joined r rest) ≡ after (front ++ a ∷ []) rest
+after-one front a (Ok b) (Ok rest) e = ap Ok (simp append_assoc (ap (λ x. front ++ x) cc))
+after-one front a (Ok b) (Err f) e = refl
+after-one front a (Err f) rest e = absurd cc
+
+pub after-fault : {A E : Type 0} (front : List A) (r : Result A E) (rest : Result (List A) E) → IsErr r → IsErr (after front (joined r rest))
+after-fault front (Ok b) rest e = cc
+after-fault front (Err f) rest e = e
+
+pub after-all : {A E : Type 0} (front : List A) → after {E = E} front (all_or_first []) ≡ Ok front
+after-all front = ap Ok (rw append-nil refl)
+
+-- the items from a place on, with their places
+pub numbered : {A B : Type 0} (f : ℕ × A → B) (k i : ℕ) (xs : List A) (d : A) → i < length xs
+    → map f (enumerate_from (k + i) (drop i xs)) ≡ f (k + i, get_or xs i d) ∷ map f (enumerate_from (k + (i + 1)) (drop (i + 1) xs))
+numbered f k i xs d lt =
+    rw (add-one, drop-cons xs i d)
+    (ap (λ n. f (k + i, get_or xs i d) ∷ map f (enumerate_from n (drop (suc i) xs))) (omega arith))
+
+drop-all : {A : Type 0} (i : ℕ) (xs : List A) → length xs ≤ i → drop i xs ≡ []
+drop-all i xs le = nil_from_length (drop i xs) (omega (arith, length-drop i xs))
+
+-- one more that gives something
+pub step-one : {A B E : Type 0} (f : ℕ × A → Result B E) (k i : ℕ) (xs : List A) (d : A) (front : List B) (b : B) (whole : Result (List B) E) → i < length xs
+    → f (k + i, get_or xs i d) ≡ Ok b → whole ≡ after front (all_or_first (map f (enumerate_from (k + i) (drop i xs))))
+    → whole ≡ after (front ++ b ∷ []) (all_or_first (map f (enumerate_from (k + (i + 1)) (drop (i + 1) xs))))
+step-one f k i xs d front b whole lt ok so_far =
+    so_far ∙ ap (λ rs. after front (all_or_first rs)) (numbered f k i xs d lt) ∙ after-one front b (f (k + i, get_or xs i d)) _ ok
+
+-- one that is a fault
+pub step-fault : {A B E : Type 0} (f : ℕ × A → Result B E) (k i : ℕ) (xs : List A) (d : A) (front : List B) (whole : Result (List B) E) → i < length xs
+    → IsErr (f (k + i, get_or xs i d)) → whole ≡ after front (all_or_first (map f (enumerate_from (k + i) (drop i xs)))) → IsErr whole
+step-fault f k i xs d front whole lt fault so_far =
+    let shown = so_far ∙ ap (λ rs. after front (all_or_first rs)) (numbered f k i xs d lt) in
+    subst IsErr (sym shown) (after-fault front (f (k + i, get_or xs i d)) _ fault)
+
+-- no more
+pub step-end : {A B E : Type 0} (f : ℕ × A → Result B E) (k i : ℕ) (xs : List A) (front : List B) (whole : Result (List B) E) → length xs ≤ i
+    → whole ≡ after front (all_or_first (map f (enumerate_from (k + i) (drop i xs)))) → whole ≡ Ok front
+step-end f k i xs front whole le so_far =
+    so_far ∙ ap (λ ys. after front (all_or_first (map f (enumerate_from (k + i) ys)))) (drop-all i xs le) ∙ after-all front

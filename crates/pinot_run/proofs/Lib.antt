@@ -1,0 +1,11 @@
+mod CellLemmas
+mod Fields
+mod HeaderLemmas
+mod InOrder
+mod ReadingLemmas
+mod WordLemmas
+mod TallyLemmas
+mod MarkLemmas
+mod PlainLemmas
+mod ScanLemmas
+mod OutcomeLemmas

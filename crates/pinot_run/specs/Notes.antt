@@ -1,0 +1,79 @@
+-- The statuses of commands and their note lines.
+use Rattle.std.specs.Prelude.{◌≡◌, ◌⊎◌, ℕ, Bool, true, false, List, [], ◌++◌, codes}
+use Rattle.std.specs.Fmt.{decimal}
+use Rattle.pinot_run.specs.declared.bound.Reason.{Reason}
+use Rattle.pinot_run.specs.declared.bound.Reason.TheVariants.{NotYet, UnknownColumn}
+use Rattle.pinot_run.specs.declared.status.Status.{Status}
+use Rattle.pinot_run.specs.declared.status.Status.TheVariants as status
+
+-- the exit status of the program
+abbrev pub code_of : Status → ℕ
+code_of status.Done = 0
+code_of status.BadWords = 2
+code_of status.NoInput = 3
+code_of status.BadSchema = 4
+code_of status.BadSettings = 5
+code_of status.TableExists = 6
+code_of status.NoTable = 7
+code_of status.BadCsv = 8
+code_of status.TooLarge = 9
+code_of status.NameTaken = 10
+code_of status.NoSegment = 11
+code_of status.BadQuery = 12
+code_of status.NotASegment = 13
+code_of status.TooManyGroups = 14
+code_of status.ReadFault = 15
+code_of status.WriteFault = 16
+code_of status.NoMemory = 17
+
+-- whether a status tells of a device that failed or of want of memory
+abbrev pub is_fault : Status → Bool
+is_fault status.ReadFault = true
+is_fault status.WriteFault = true
+is_fault status.NoMemory = true
+is_fault _ = false
+
+-- what a note line tells
+pub data Note : Type 0 where
+  BadWords : Note
+  NoInput : (file : List ℕ) → Note
+  BadCsv : Note
+  TooLarge : (what : List ℕ) (limit : ℕ) → Note
+  BadQuery : (reason : Reason) (place : ℕ) → Note
+  ReadFault : Note
+  WriteFault : Note
+  NoMemory : Note
+
+abbrev pub status_of : Note → Status
+status_of BadWords = status.BadWords
+status_of (NoInput file) = status.NoInput
+status_of BadCsv = status.BadCsv
+status_of (TooLarge what limit) = status.TooLarge
+status_of (BadQuery reason place) = status.BadQuery
+status_of ReadFault = status.ReadFault
+status_of WriteFault = status.WriteFault
+status_of NoMemory = status.NoMemory
+
+abbrev pub reason_text : Reason → List ℕ
+reason_text NotYet = codes "NotYet"
+reason_text UnknownColumn = codes "UnknownColumn"
+
+abbrev pub note_text : Note → List ℕ
+note_text BadWords = codes "bad words\n"
+note_text (NoInput file) = codes "no input: " ++ file ++ codes "\n"
+note_text BadCsv = codes "bad csv\n"
+note_text (TooLarge what limit) = codes "too large: " ++ what ++ codes ", limit " ++ decimal limit ++ codes "\n"
+note_text (BadQuery reason place) = codes "bad query: " ++ reason_text reason ++ codes " at " ++ decimal place ++ codes "\n"
+note_text ReadFault = codes "read fault\n"
+note_text WriteFault = codes "write fault\n"
+note_text NoMemory = codes "no memory\n"
+
+-- a note line of a status: none after Done
+abbrev pub IsLineOf : Status → List ℕ → Type 0
+IsLineOf ended line = ((ended ≡ status.Done) × (line ≡ [])) ⊎ ((note : Note) × (status_of note ≡ ended) × (note_text note ≡ line))
+
+-- the note line of a fault
+abbrev pub fault_line : Status → List ℕ
+fault_line status.ReadFault = note_text ReadFault
+fault_line status.WriteFault = note_text WriteFault
+fault_line ended = note_text NoMemory

@@ -1,0 +1,20 @@
+//! One command of the store, from its words to its reply.
+#![tactic(auto)]
+
+mod answer;
+mod bound;
+mod cells;
+mod command;
+mod finish;
+mod header;
+mod names;
+mod records;
+mod reply;
+mod run;
+mod scan;
+mod sql;
+mod status;
+mod tally;
+
+pub use run::run_command;
+pub use status::Status;

@@ -1,0 +1,92 @@
+// What a command answers where no device fails.
+ghost use Rattle.std.specs.Prelude.{◌≡◌, [], IfOk, codes, ◌++◌};
+ghost use Rattle.pinot_run.specs.Notes as spec;
+ghost use Rattle.pinot_run.specs.Step.{Answer, Refuses, Replies};
+ghost use Rattle.pinot_run.specs.Outcome.{IsReply};
+
+use crate::Status;
+use crate::bound::BadQuery;
+use std::alloc::{AllocError, Global};
+
+/// A command's status, its text for `out` and its note line. A text comes with `Done` alone, and a note
+/// line with every other status.
+#[derive(Drop)]
+pub struct Reply {
+    pub status: Status,
+    pub text: Vec<u8>,
+    pub note: Vec<u8>,
+}
+
+impl Reply {
+    /// A reply that was done.
+    pub fn done(alloc: Global, text: Vec<u8>) -> Self
+        ensures { IsReply (Replies text.items) result }
+    {
+        Reply {
+            status: Status::Done,
+            text,
+            note: Vec::new(alloc),
+        }
+    }
+
+    /// The words are no command.
+    pub fn bad_words(alloc: Global) -> Result<Self, AllocError>
+        ensures { IfOk result (IsReply (Refuses spec.BadWords)) }
+    {
+        Reply::refused(alloc, Status::BadWords, b"bad words\n")
+    }
+
+    /// A CSV text has no rows.
+    pub fn bad_csv(alloc: Global) -> Result<Self, AllocError>
+        ensures { IfOk result (IsReply (Refuses spec.BadCsv)) }
+    {
+        Reply::refused(alloc, Status::BadCsv, b"bad csv\n")
+    }
+
+    /// There is no input file of this name.
+    pub fn no_input(alloc: Global, file: &str) -> Result<Self, AllocError>
+        ensures { IfOk result (IsReply (Refuses (spec.NoInput file.now))) }
+    {
+        let mut reply = Reply::refused(alloc, Status::NoInput, b"no input: ")?;
+        reply.note.extend_from_slice(file.as_bytes())?;
+        reply.note.push(b'\n')?;
+        Ok(reply)
+    }
+
+    /// Something passes a limit.
+    pub fn too_large(alloc: Global, what: &[u8], limit: u64) -> Result<Self, AllocError>
+        ensures { IfOk result (IsReply (Refuses (spec.TooLarge what.now limit))) }
+    {
+        let mut reply = Reply::refused(alloc, Status::TooLarge, b"too large: ")?;
+        reply.note.extend_from_slice(what)?;
+        reply.note.extend_from_slice(b", limit ")?;
+        let limit = limit.to_string(alloc)?;
+        reply.note.extend_from_slice(limit.as_bytes())?;
+        reply.note.push(b'\n')?;
+        Ok(reply)
+    }
+
+    /// A query is refused.
+    pub fn bad_query(alloc: Global, fault: BadQuery) -> Result<Self, AllocError>
+        ensures { IfOk result (IsReply (Refuses (spec.BadQuery fault.reason fault.place))) }
+    {
+        let mut reply = Reply::refused(alloc, Status::BadQuery, b"bad query: ")?;
+        reply.note.extend_from_slice(fault.reason.text())?;
+        reply.note.extend_from_slice(b" at ")?;
+        let place = fault.place.to_string(alloc)?;
+        reply.note.extend_from_slice(place.as_bytes())?;
+        reply.note.push(b'\n')?;
+        Ok(reply)
+    }
+
+    // A refusal whose note line begins so.
+    fn refused(alloc: Global, status: Status, note: &[u8]) -> Result<Self, AllocError>
+        ensures { IfOk result (λ r. (r.status ≡ status) × (r.text.items ≡ []) × (r.note.items ≡ note.now)) }
+    {
+        Ok(Reply {
+            status,
+            text: Vec::new(alloc),
+            note: note.to_vec(alloc)?,
+        })
+    }
+}

@@ -1,0 +1,30 @@
+-- Which files a store's state is kept in.
+use Rattle.std.specs.Prelude.{◌≡◌, ℕ, Bool, false, List, Option, Some, None, if◌then◌else◌}
+use Rattle.std.specs.FinMap as map
+use Rattle.outside.specs.Files.{Files}
+use Rattle.table_store.specs.State.{Segments, State, NoTable, HasTable, Table}
+
+-- whether a published file stands for nothing, whatever its bytes: none does so far
+abbrev pub is_idle : Files → List ℕ → Bool
+is_idle files name = false
+
+-- the bytes of a file that stands for something
+abbrev pub live_file : Files → List ℕ → Option (List ℕ)
+live_file files name = if is_idle files name then None else map.get files name
+
+-- no file stands for anything
+abbrev pub StandsForNoTable : Files → Type 0
+StandsForNoTable files = (name : List ℕ) → live_file files name ≡ None
+
+-- the published files are just those of a state; none are those of a table so far, since no command makes one
+abbrev pub Stands : Files → State → Type 0
+Stands files NoTable = StandsForNoTable files
+Stands files (HasTable table segments) = ⊥
+
+-- files stand for at most one state
+abbrev pub StandsForOne : Type 0
+StandsForOne = (files : Files) (a b : State) → Stands files a → Stands files b → a ≡ b
+
+-- where no file is published, there is no table
+abbrev pub EmptyStands : Type 0
+EmptyStands = Stands map.empty NoTable
