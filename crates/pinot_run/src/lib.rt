@@ -18,3 +18,6 @@ mod tally;
 
 pub use run::run_command;
 pub use status::Status;
+
+#[cfg(test)]
+mod tests;
