@@ -1,10 +1,10 @@
 -- What a shelf, a depot and a sink in memory are seen as, and what a call of theirs does.
-use Rattle.std.specs.Prelude.{◌-◌, ◌++◌, ◌∷◌, ℕ, Bool, ◌||◌, nat_eq, nat_lt, List, [], length, if◌then◌else◌, refl}
+use Rattle.std.specs.Prelude.{◌-◌, ◌++◌, ◌∷◌, ℕ, Bool, ◌||◌, nat_eq, nat_lt, List, [], length, Some, if◌then◌else◌, refl}
 use Rattle.std.specs.List.{list_any}
 use Rattle.std.specs.Coded.{Coded, code_by, coded×, coded_ℕ, coded_list}
 use Rattle.std.specs.FinMap as map
 use Rattle.outside.specs.Counts.{next}
-use Rattle.outside.specs.Files.{Files, files_of}
+use Rattle.outside.specs.Files.{Files, files_of, bytes_of}
 use Rattle.outside.specs.Reads.{Entry, entry_of}
 
 -- the code of files, by which a proof tells them apart
@@ -60,6 +60,27 @@ write_called memory =
 -- the log has this read as its last
 abbrev pub read_logged : List ℕ → ℕ → ℕ → Memory → Memory
 read_logged file offset count memory = record memory { log = memory.log ++ entry_of file offset count ∷ [] }
+
+-- the part is there and empty
+abbrev pub part_begun : List ℕ → Memory → Memory
+part_begun part memory = record memory { parts = map.insert memory.parts part [] }
+
+-- the part has these bytes at its end; one that was not there counts as empty
+abbrev pub part_grown : List ℕ → List ℕ → Memory → Memory
+part_grown part bytes memory = record memory { parts = map.insert memory.parts part (bytes_of (Some memory.parts) part ++ bytes) }
+
+-- the part is gone
+abbrev pub part_lost : List ℕ → Memory → Memory
+part_lost part memory = record memory { parts = map.remove memory.parts part }
+
+-- the bytes of the part stand under the name, and the part is gone
+abbrev pub part_published : List ℕ → List ℕ → Memory → Memory
+part_published part name memory =
+    record memory { held = map.insert memory.held name (bytes_of (Some memory.parts) part); parts = map.remove memory.parts part }
+
+-- the file is gone
+abbrev pub file_removed : List ℕ → Memory → Memory
+file_removed name memory = record memory { held = map.remove memory.held name }
 
 -- all that was written, the room for it, the numbers of the calls that are to fail, the calls so far, and the faults so far
 pub record SinkMemory : Type 0 where

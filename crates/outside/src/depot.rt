@@ -33,48 +33,63 @@ impl From<AllocError> for DepotFault {
 pub trait Depot: Shelf {
     /// Makes a part, or empties it.
     fn begin(&mut self, alloc: Global, part: &str) -> Result<(), DepotFault>
-        ensures begun { OnOk result (Self.parts self.new ≡ with_file part.now [] (Self.parts self.old)) }
-        ensures unknown { OnErr result (SameBut part.now (Self.parts self.old) (Self.parts self.new)) }
+        ensures begun { OnOk result
+            (Self.parts self.new ≡ with_file part.now [] (Self.parts self.old)) }
+        ensures unknown { OnErr result
+            (SameBut part.now (Self.parts self.old) (Self.parts self.new)) }
         ensures held { Self.held self.new ≡ Self.held self.old }
         ensures log { Self.log self.new ≡ Self.log self.old }
         ensures reads { Self.read_faults self.new ≡ Self.read_faults self.old }
         ensures later { Self.write_faults self.old ≤ Self.write_faults self.new }
-        ensures failed { IsErrOf result Failed → Rose (Self.write_faults self.old) (Self.write_faults self.new) }
+        ensures failed { IsErrOf result Failed →
+            Rose (Self.write_faults self.old) (Self.write_faults self.new) }
         ensures never_missing { ¬ IsErrOf result Missing };
 
     /// Adds bytes at the end of a part. One that was not begun counts as empty.
     fn append(&mut self, alloc: Global, part: &str, bytes: &[u8]) -> Result<(), DepotFault>
-        ensures appended { OnOk result (Self.parts self.new ≡ with_file part.now (bytes_of (Self.parts self.old) part.now ++ bytes.now) (Self.parts self.old)) }
-        ensures unknown { OnErr result (SameBut part.now (Self.parts self.old) (Self.parts self.new)) }
+        ensures appended { OnOk result
+            (Self.parts self.new
+            ≡ with_file part.now (bytes_of (Self.parts self.old) part.now ++ bytes.now)
+            (Self.parts self.old)) }
+        ensures unknown { OnErr result
+            (SameBut part.now (Self.parts self.old) (Self.parts self.new)) }
         ensures held { Self.held self.new ≡ Self.held self.old }
         ensures log { Self.log self.new ≡ Self.log self.old }
         ensures reads { Self.read_faults self.new ≡ Self.read_faults self.old }
         ensures later { Self.write_faults self.old ≤ Self.write_faults self.new }
-        ensures failed { IsErrOf result Failed → Rose (Self.write_faults self.old) (Self.write_faults self.new) }
+        ensures failed { IsErrOf result Failed →
+            Rose (Self.write_faults self.old) (Self.write_faults self.new) }
         ensures never_missing { ¬ IsErrOf result Missing };
 
     /// Puts the bytes of a part under a name, in place of what was there. The part is gone. One that
     /// was not begun counts as empty.
     fn publish(&mut self, alloc: Global, part: &str, name: &str) -> Result<(), DepotFault>
-        ensures published { OnOk result (Self.held self.new ≡ with_file name.now (bytes_of (Self.parts self.old) part.now) (Self.held self.old)) }
-        ensures gone { OnOk result (Self.parts self.new ≡ without_file part.now (Self.parts self.old)) }
+        ensures published { OnOk result
+            (Self.held self.new
+            ≡ with_file name.now (bytes_of (Self.parts self.old) part.now) (Self.held self.old)) }
+        ensures gone { OnOk result
+            (Self.parts self.new ≡ without_file part.now (Self.parts self.old)) }
         ensures held { OnErr result (Self.held self.new ≡ Self.held self.old) }
-        ensures unknown { OnErr result (SameBut part.now (Self.parts self.old) (Self.parts self.new)) }
+        ensures unknown { OnErr result
+            (SameBut part.now (Self.parts self.old) (Self.parts self.new)) }
         ensures log { Self.log self.new ≡ Self.log self.old }
         ensures reads { Self.read_faults self.new ≡ Self.read_faults self.old }
         ensures later { Self.write_faults self.old ≤ Self.write_faults self.new }
-        ensures failed { IsErrOf result Failed → Rose (Self.write_faults self.old) (Self.write_faults self.new) }
+        ensures failed { IsErrOf result Failed →
+            Rose (Self.write_faults self.old) (Self.write_faults self.new) }
         ensures never_missing { ¬ IsErrOf result Missing };
 
     /// Takes a published file away.
     fn remove(&mut self, alloc: Global, name: &str) -> Result<(), DepotFault>
-        ensures removed { OnOk result (Self.held self.new ≡ without_file name.now (Self.held self.old)) }
+        ensures removed { OnOk result
+            (Self.held self.new ≡ without_file name.now (Self.held self.old)) }
         ensures held { OnErr result (Self.held self.new ≡ Self.held self.old) }
         ensures parts { Self.parts self.new ≡ Self.parts self.old }
         ensures log { Self.log self.new ≡ Self.log self.old }
         ensures reads { Self.read_faults self.new ≡ Self.read_faults self.old }
         ensures later { Self.write_faults self.old ≤ Self.write_faults self.new }
-        ensures failed { IsErrOf result Failed → Rose (Self.write_faults self.old) (Self.write_faults self.new) }
+        ensures failed { IsErrOf result Failed →
+            Rose (Self.write_faults self.old) (Self.write_faults self.new) }
         ensures missing { IsErrOf result Missing → Lacks (Self.held self.old) name.now }
         ensures there { OnOk result (Has (Self.held self.old) name.now) }
         ensures present { IsErrOf result NoMemory → Has (Self.held self.old) name.now };

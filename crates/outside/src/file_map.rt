@@ -80,7 +80,9 @@ impl FileMap {
     /// Adds bytes at the end of a file; one that is not there counts as empty. Where it wants memory,
     /// the file is gone.
     pub fn append(&mut self, alloc: Global, name: &str, more: &[u8]) -> Result<(), NoMemory>
-        ensures ok { OnOk result (self.new ≡ map.insert self.old name.now (bytes_of (Some self.old) name.now ++ more.now)) }
+        ensures ok { OnOk result
+            (self.new
+            ≡ map.insert self.old name.now (bytes_of (Some self.old) name.now ++ more.now)) }
         ensures err { OnErr result (self.new ≡ map.remove self.old name.now) }
         ensures others { SameBut name.now (Some self.old) (Some self.new) }
     {
@@ -159,7 +161,9 @@ fn find_file<'a>(files: &'a [(Name, Bytes)], name: &str) -> Option<&'a Bytes>
 
 // Where the first file of this name stands.
 fn index_of(files: &[(Name, Bytes)], name: &str) -> Option<usize>
-    ensures { MatchOption result (find name_order name.now files.now ≡ None) (FoundAt files.now name.now) }
+    ensures { MatchOption result
+        (find name_order name.now files.now ≡ None)
+        (FoundAt files.now name.now) }
 {
     for (at, file) in files.iter().enumerate() {
         if name.cmp(file.0.as_str()) == Ordering::Equal {

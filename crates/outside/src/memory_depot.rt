@@ -3,7 +3,7 @@ ghost use Rattle.std.specs.Prelude.{◌≡◌, ◌≤◌, ◌↔◌, [], ◌++�
 ghost use Rattle.std.specs.FinMap as map;
 ghost use Rattle.outside.specs.Counts.{Rose};
 ghost use Rattle.outside.specs.Files.{IsNames, IsLengthOf, Has, Lacks, SameBut, bytes_of, with_file, without_file};
-ghost use Rattle.outside.specs.Memory.{fresh, fails, read_called, read_logged, write_called};
+ghost use Rattle.outside.specs.Memory.{fresh, fails, read_called, read_logged, write_called, part_begun, part_grown, part_lost, part_published, file_removed};
 ghost use Rattle.outside.specs.Reads.{ReadsAt, logged};
 
 use crate::file_map::{FileMap, named};
@@ -68,7 +68,8 @@ impl Shelf for MemoryDepot {
         ensures log { Some self.new.log ≡ Some self.old.log }
         ensures writes { self.new.write_faults ≡ self.old.write_faults }
         ensures later { self.old.read_faults ≤ self.new.read_faults }
-        ensures failed { IsErrOf result ShelfFault.Failed → Rose self.old.read_faults self.new.read_faults }
+        ensures failed { IsErrOf result ShelfFault.Failed →
+            Rose self.old.read_faults self.new.read_faults }
         ensures never_missing { ¬ IsErrOf result ShelfFault.Missing }
     {
         self.shelf.names(alloc)
@@ -83,7 +84,8 @@ impl Shelf for MemoryDepot {
         ensures log { Some self.new.log ≡ Some self.old.log }
         ensures writes { self.new.write_faults ≡ self.old.write_faults }
         ensures later { self.old.read_faults ≤ self.new.read_faults }
-        ensures failed { IsErrOf result ShelfFault.Failed → Rose self.old.read_faults self.new.read_faults }
+        ensures failed { IsErrOf result ShelfFault.Failed →
+            Rose self.old.read_faults self.new.read_faults }
         ensures missing { IsErrOf result ShelfFault.Missing → Lacks (Some self.old.held) name.now }
         ensures present { IsErrOf result ShelfFault.NoMemory → Has (Some self.old.held) name.now }
         ensures no_memory { ¬ IsErrOf result ShelfFault.NoMemory }
@@ -98,18 +100,22 @@ impl Shelf for MemoryDepot {
         offset: u64,
         into: &mut [u8],
     ) -> Result<usize, ShelfFault>
-        ensures after { IfOk result (λ n. self.new ≡ read_logged name.now offset n (read_called self.old)) }
+        ensures after { IfOk result (λ n.
+            self.new ≡ read_logged name.now offset n (read_called self.old)) }
         ensures after_fault { OnErr result (self.new ≡ read_called self.old) }
         ensures fails { IsErrOf result ShelfFault.Failed ↔ IsTrue (fails self.old) }
         ensures bound { IfOk result (λ n. n ≤ length into.old) }
-        ensures bytes { IfOk result (λ n. ReadsAt (Some self.old.held) name.now offset n into.old into.new) }
+        ensures bytes { IfOk result (λ n.
+            ReadsAt (Some self.old.held) name.now offset n into.old into.new) }
         ensures held { Some self.new.held ≡ Some self.old.held }
         ensures parts { Some self.new.parts ≡ Some self.old.parts }
-        ensures logged { IfOk result (λ n. Some self.new.log ≡ logged name.now offset n (Some self.old.log)) }
+        ensures logged { IfOk result (λ n.
+            Some self.new.log ≡ logged name.now offset n (Some self.old.log)) }
         ensures not_logged { OnErr result (Some self.new.log ≡ Some self.old.log) }
         ensures writes { self.new.write_faults ≡ self.old.write_faults }
         ensures later { self.old.read_faults ≤ self.new.read_faults }
-        ensures failed { IsErrOf result ShelfFault.Failed → Rose self.old.read_faults self.new.read_faults }
+        ensures failed { IsErrOf result ShelfFault.Failed →
+            Rose self.old.read_faults self.new.read_faults }
         ensures missing { IsErrOf result ShelfFault.Missing → Lacks (Some self.old.held) name.now }
         ensures present { IsErrOf result ShelfFault.NoMemory → Has (Some self.old.held) name.now }
     {
@@ -123,16 +129,19 @@ impl Depot for MemoryDepot {
     ghost tells_both = { λ depot. tells_both depot.held depot.parts };
 
     fn begin(&mut self, alloc: Global, part: &str) -> Result<(), DepotFault>
-        ensures after { OnOk result (self.new ≡ record (write_called self.old) { parts = map.insert self.old.parts part.now [] }) }
+        ensures after { OnOk result (self.new ≡ part_begun part.now (write_called self.old)) }
         ensures after_fault { OnErr result (self.new ≡ write_called self.old) }
         ensures fails { IsErrOf result DepotFault.Failed ↔ IsTrue (fails self.old) }
-        ensures begun { OnOk result (Some self.new.parts ≡ with_file part.now [] (Some self.old.parts)) }
-        ensures unknown { OnErr result (SameBut part.now (Some self.old.parts) (Some self.new.parts)) }
+        ensures begun { OnOk result
+            (Some self.new.parts ≡ with_file part.now [] (Some self.old.parts)) }
+        ensures unknown { OnErr result
+            (SameBut part.now (Some self.old.parts) (Some self.new.parts)) }
         ensures held { Some self.new.held ≡ Some self.old.held }
         ensures log { Some self.new.log ≡ Some self.old.log }
         ensures reads { self.new.read_faults ≡ self.old.read_faults }
         ensures later { self.old.write_faults ≤ self.new.write_faults }
-        ensures failed { IsErrOf result DepotFault.Failed → Rose self.old.write_faults self.new.write_faults }
+        ensures failed { IsErrOf result DepotFault.Failed →
+            Rose self.old.write_faults self.new.write_faults }
         ensures never_missing { ¬ IsErrOf result DepotFault.Missing }
     {
         if self.shelf.fails_counted(&mut self.faults) {
@@ -143,17 +152,24 @@ impl Depot for MemoryDepot {
     }
 
     fn append(&mut self, alloc: Global, part: &str, bytes: &[u8]) -> Result<(), DepotFault>
-        ensures after { OnOk result (self.new ≡ record (write_called self.old) { parts = map.insert self.old.parts part.now (bytes_of (Some self.old.parts) part.now ++ bytes.now) }) }
+        ensures after { OnOk result
+            (self.new ≡ part_grown part.now bytes.now (write_called self.old)) }
         ensures after_failed { IsErrOf result DepotFault.Failed → self.new ≡ write_called self.old }
-        ensures after_no_memory { IsErrOf result DepotFault.NoMemory → self.new ≡ record (write_called self.old) { parts = map.remove self.old.parts part.now } }
+        ensures after_no_memory { IsErrOf result DepotFault.NoMemory →
+            self.new ≡ part_lost part.now (write_called self.old) }
         ensures fails { IsErrOf result DepotFault.Failed ↔ IsTrue (fails self.old) }
-        ensures appended { OnOk result (Some self.new.parts ≡ with_file part.now (bytes_of (Some self.old.parts) part.now ++ bytes.now) (Some self.old.parts)) }
-        ensures unknown { OnErr result (SameBut part.now (Some self.old.parts) (Some self.new.parts)) }
+        ensures appended { OnOk result
+            (Some self.new.parts
+            ≡ with_file part.now (bytes_of (Some self.old.parts) part.now ++ bytes.now)
+            (Some self.old.parts)) }
+        ensures unknown { OnErr result
+            (SameBut part.now (Some self.old.parts) (Some self.new.parts)) }
         ensures held { Some self.new.held ≡ Some self.old.held }
         ensures log { Some self.new.log ≡ Some self.old.log }
         ensures reads { self.new.read_faults ≡ self.old.read_faults }
         ensures later { self.old.write_faults ≤ self.new.write_faults }
-        ensures failed { IsErrOf result DepotFault.Failed → Rose self.old.write_faults self.new.write_faults }
+        ensures failed { IsErrOf result DepotFault.Failed →
+            Rose self.old.write_faults self.new.write_faults }
         ensures never_missing { ¬ IsErrOf result DepotFault.Missing }
     {
         if self.shelf.fails_counted(&mut self.faults) {
@@ -164,18 +180,25 @@ impl Depot for MemoryDepot {
     }
 
     fn publish(&mut self, alloc: Global, part: &str, name: &str) -> Result<(), DepotFault>
-        ensures after { OnOk result (self.new ≡ record (write_called self.old) { held = map.insert self.old.held name.now (bytes_of (Some self.old.parts) part.now); parts = map.remove self.old.parts part.now }) }
+        ensures after { OnOk result
+            (self.new ≡ part_published part.now name.now (write_called self.old)) }
         ensures after_failed { IsErrOf result DepotFault.Failed → self.new ≡ write_called self.old }
-        ensures after_no_memory { IsErrOf result DepotFault.NoMemory → self.new ≡ record (write_called self.old) { parts = map.remove self.old.parts part.now } }
+        ensures after_no_memory { IsErrOf result DepotFault.NoMemory →
+            self.new ≡ part_lost part.now (write_called self.old) }
         ensures fails { IsErrOf result DepotFault.Failed ↔ IsTrue (fails self.old) }
-        ensures published { OnOk result (Some self.new.held ≡ with_file name.now (bytes_of (Some self.old.parts) part.now) (Some self.old.held)) }
-        ensures gone { OnOk result (Some self.new.parts ≡ without_file part.now (Some self.old.parts)) }
+        ensures published { OnOk result
+            (Some self.new.held
+            ≡ with_file name.now (bytes_of (Some self.old.parts) part.now) (Some self.old.held)) }
+        ensures gone { OnOk result
+            (Some self.new.parts ≡ without_file part.now (Some self.old.parts)) }
         ensures held { OnErr result (Some self.new.held ≡ Some self.old.held) }
-        ensures unknown { OnErr result (SameBut part.now (Some self.old.parts) (Some self.new.parts)) }
+        ensures unknown { OnErr result
+            (SameBut part.now (Some self.old.parts) (Some self.new.parts)) }
         ensures log { Some self.new.log ≡ Some self.old.log }
         ensures reads { self.new.read_faults ≡ self.old.read_faults }
         ensures later { self.old.write_faults ≤ self.new.write_faults }
-        ensures failed { IsErrOf result DepotFault.Failed → Rose self.old.write_faults self.new.write_faults }
+        ensures failed { IsErrOf result DepotFault.Failed →
+            Rose self.old.write_faults self.new.write_faults }
         ensures never_missing { ¬ IsErrOf result DepotFault.Missing }
     {
         if self.shelf.fails_counted(&mut self.faults) {
@@ -187,17 +210,19 @@ impl Depot for MemoryDepot {
     }
 
     fn remove(&mut self, alloc: Global, name: &str) -> Result<(), DepotFault>
-        ensures after { OnOk result (self.new ≡ record (write_called self.old) { held = map.remove self.old.held name.now }) }
+        ensures after { OnOk result (self.new ≡ file_removed name.now (write_called self.old)) }
         ensures after_fault { OnErr result (self.new ≡ write_called self.old) }
         ensures fails { IsErrOf result DepotFault.Failed ↔ IsTrue (fails self.old) }
         ensures no_memory { ¬ IsErrOf result DepotFault.NoMemory }
-        ensures removed { OnOk result (Some self.new.held ≡ without_file name.now (Some self.old.held)) }
+        ensures removed { OnOk result
+            (Some self.new.held ≡ without_file name.now (Some self.old.held)) }
         ensures held { OnErr result (Some self.new.held ≡ Some self.old.held) }
         ensures parts { Some self.new.parts ≡ Some self.old.parts }
         ensures log { Some self.new.log ≡ Some self.old.log }
         ensures reads { self.new.read_faults ≡ self.old.read_faults }
         ensures later { self.old.write_faults ≤ self.new.write_faults }
-        ensures failed { IsErrOf result DepotFault.Failed → Rose self.old.write_faults self.new.write_faults }
+        ensures failed { IsErrOf result DepotFault.Failed →
+            Rose self.old.write_faults self.new.write_faults }
         ensures missing { IsErrOf result DepotFault.Missing → Lacks (Some self.old.held) name.now }
         ensures there { OnOk result (Has (Some self.old.held) name.now) }
         ensures present { IsErrOf result DepotFault.NoMemory → Has (Some self.old.held) name.now }

@@ -3,7 +3,7 @@ ghost use Rattle.std.specs.Prelude.{◌≡◌, ◌≤◌, ◌↔◌, Some, OnErr
 ghost use Rattle.std.specs.FinMap as map;
 ghost use Rattle.outside.specs.Counts.{Rose, next};
 ghost use Rattle.outside.specs.Files.{IsNames, IsLengthOf, Has, Lacks};
-ghost use Rattle.outside.specs.Memory.{fresh, fails, read_called, read_logged, is_listed};
+ghost use Rattle.outside.specs.Memory.{fresh, fails, read_called, read_logged, file_removed, is_listed};
 ghost use Rattle.outside.specs.Reads.{ReadsAt, logged};
 ghost use Rattle.outside.specs.declared.shelf.ShelfFault.TheVariants.{Missing, Failed, NoMemory};
 
@@ -32,7 +32,15 @@ impl Model for MemoryShelf {
 
     ghost coded = { memory_code };
 
-    ghost view = { λ s. record { held = s.files; parts = map.empty; log = s.log; failing = s.calls.failing; calls = s.calls.made; read_faults = s.faults; write_faults = 0 } };
+    ghost view = { λ s. record {
+      held = s.files;
+      parts = map.empty;
+      log = s.log;
+      failing = s.calls.failing;
+      calls = s.calls.made;
+      read_faults = s.faults;
+      write_faults = 0;
+    } };
 }
 
 impl MemoryShelf {
@@ -64,7 +72,8 @@ impl MemoryShelf {
 
     /// Puts a file under its name, in place of what was there.
     pub fn put(&mut self, name: Name, bytes: Bytes) -> Result<(), NoMemory>
-        ensures ok { OnOk result (self.new ≡ record self.old { held = map.insert self.old.held name bytes }) }
+        ensures ok { OnOk result
+            (self.new ≡ record self.old { held = map.insert self.old.held name bytes }) }
         ensures err { OnErr result (self.new ≡ self.old) }
     {
         self.files.put(name, bytes)
@@ -73,7 +82,7 @@ impl MemoryShelf {
     /// Takes a file away.
     pub fn take(&mut self, name: &str) -> Option<Bytes>
         ensures taken { result ≡ map.get self.old.held name.now }
-        ensures rest { self.new ≡ record self.old { held = map.remove self.old.held name.now } }
+        ensures rest { self.new ≡ file_removed name.now self.old }
         ensures absent { IfNone result (self.new ≡ self.old) }
     {
         self.files.take(name)
@@ -154,14 +163,17 @@ impl Shelf for MemoryShelf {
         offset: u64,
         into: &mut [u8],
     ) -> Result<usize, ShelfFault>
-        ensures after { IfOk result (λ n. self.new ≡ read_logged name.now offset n (read_called self.old)) }
+        ensures after { IfOk result (λ n.
+            self.new ≡ read_logged name.now offset n (read_called self.old)) }
         ensures after_fault { OnErr result (self.new ≡ read_called self.old) }
         ensures fails { IsErrOf result Failed ↔ IsTrue (fails self.old) }
         ensures bound { IfOk result (λ n. n ≤ length into.old) }
-        ensures bytes { IfOk result (λ n. ReadsAt (Some self.old.held) name.now offset n into.old into.new) }
+        ensures bytes { IfOk result (λ n.
+            ReadsAt (Some self.old.held) name.now offset n into.old into.new) }
         ensures held { Some self.new.held ≡ Some self.old.held }
         ensures parts { Some self.new.parts ≡ Some self.old.parts }
-        ensures logged { IfOk result (λ n. Some self.new.log ≡ logged name.now offset n (Some self.old.log)) }
+        ensures logged { IfOk result (λ n.
+            Some self.new.log ≡ logged name.now offset n (Some self.old.log)) }
         ensures not_logged { OnErr result (Some self.new.log ≡ Some self.old.log) }
         ensures writes { self.new.write_faults ≡ self.old.write_faults }
         ensures later { self.old.read_faults ≤ self.new.read_faults }

@@ -25,7 +25,13 @@ impl Model for MemorySink {
 
     ghost Value = { SinkMemory };
 
-    ghost view = { λ s. record { written = s.bytes.items; room = s.room; failing = s.calls.failing; calls = s.calls.made; faults = s.faults } };
+    ghost view = { λ s. record {
+      written = s.bytes.items;
+      room = s.room;
+      failing = s.calls.failing;
+      calls = s.calls.made;
+      faults = s.faults;
+    } };
 
     ghost invariant = { λ s. (vec_len s.bytes ≤ s.room) × (s.room ≤ vec_capacity s.bytes) };
 }
@@ -59,8 +65,10 @@ impl Sink for MemorySink {
     fn put(&mut self, bytes: &[u8]) -> Result<(), SinkFault>
         ensures after { self.new ≡ after_put bytes.now self.old }
         ensures refused { IsErr result ↔ IsTrue (refuses bytes.now self.old) }
-        ensures all { OnOk result (Some self.new.written ≡ appended bytes.now (Some self.old.written)) }
-        ensures prefix { OnErr result (AppendsPrefix bytes.now (Some self.old.written) (Some self.new.written)) }
+        ensures all { OnOk result
+            (Some self.new.written ≡ appended bytes.now (Some self.old.written)) }
+        ensures prefix { OnErr result
+            (AppendsPrefix bytes.now (Some self.old.written) (Some self.new.written)) }
         ensures later { self.old.faults ≤ self.new.faults }
         ensures failed { OnErr result (Rose self.old.faults self.new.faults) }
     {

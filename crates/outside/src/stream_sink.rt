@@ -40,7 +40,8 @@ impl<W: Write + Drop> StreamSink<W> {
 // is left has failed.
 fn write_through<W: Write>(stream: &mut W, bytes: &[u8]) -> io::Result<()>
     ensures all { OnOk result (Appends (W.contents stream.old) (W.contents stream.new) bytes.now) }
-    ensures some { OnErr result (AppendsSome (W.contents stream.old) (W.contents stream.new) bytes.now) }
+    ensures some { OnErr result
+        (AppendsSome (W.contents stream.old) (W.contents stream.new) bytes.now) }
 {
     let mut done = 0;
     'pieces: for _ in 0..u64::MAX {
@@ -63,8 +64,10 @@ impl<W: Write + Drop> Sink for StreamSink<W> {
     ghost faults = { λ sink. sink.faults };
 
     fn put(&mut self, bytes: &[u8]) -> Result<(), SinkFault>
-        ensures stream { OnOk result (Appends (W.contents self.old.stream) (W.contents self.new.stream) bytes.now) }
-        ensures stream_after_fault { OnErr result (AppendsSome (W.contents self.old.stream) (W.contents self.new.stream) bytes.now) }
+        ensures stream { OnOk result
+            (Appends (W.contents self.old.stream) (W.contents self.new.stream) bytes.now) }
+        ensures stream_after_fault { OnErr result
+            (AppendsSome (W.contents self.old.stream) (W.contents self.new.stream) bytes.now) }
         ensures all { OnOk result (None ≡ appended bytes.now None) }
         ensures prefix { OnErr result (AppendsPrefix bytes.now None None) }
         ensures later { self.old.faults ≤ self.new.faults }

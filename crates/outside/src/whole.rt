@@ -65,13 +65,17 @@ pub fn read_all<S: Shelf>(
     ensures bound { IfOk result (λ bytes. length bytes ≤ limit) }
     ensures held { S.held shelf.new ≡ S.held shelf.old }
     ensures parts { S.parts shelf.new ≡ S.parts shelf.old }
-    ensures log { IfOk result (λ bytes. LogsThrough name.now 0 (length bytes) (S.log shelf.old) (S.log shelf.new)) }
-    ensures log_of_fault { OnErr result (LogsFront name.now limit (S.log shelf.old) (S.log shelf.new)) }
+    ensures log { IfOk result (λ bytes.
+        LogsThrough name.now 0 (length bytes) (S.log shelf.old) (S.log shelf.new)) }
+    ensures log_of_fault { OnErr result
+        (LogsFront name.now limit (S.log shelf.old) (S.log shelf.new)) }
     ensures writes { S.write_faults shelf.new ≡ S.write_faults shelf.old }
     ensures later { S.read_faults shelf.old ≤ S.read_faults shelf.new }
-    ensures failed { IsErrOf result ReadAllFault.Failed → Rose (S.read_faults shelf.old) (S.read_faults shelf.new) }
+    ensures failed { IsErrOf result ReadAllFault.Failed →
+        Rose (S.read_faults shelf.old) (S.read_faults shelf.new) }
     ensures missing { IsErrOf result ReadAllFault.Missing → Lacks (S.held shelf.old) name.now }
-    ensures long { IsErrOf result ReadAllFault.TooLong → IsTooLong (S.held shelf.old) name.now limit }
+    ensures long { IsErrOf result ReadAllFault.TooLong →
+        IsTooLong (S.held shelf.old) name.now limit }
     ensures present { IsErrOf result ReadAllFault.NoMemory → Has (S.held shelf.old) name.now }
 {
     let length = match shelf.length(alloc, name) {
@@ -96,15 +100,19 @@ fn fill<S: Shelf>(
     into: &mut [u8],
 ) -> Result<usize, ReadAllFault>
     requires { Has (S.held shelf.old) name.now }
-    ensures front { IfOk result (λ n. OfFile (S.held shelf.old) name.now (λ file. (n ≡ min (length file) (length into.old)) × (take n into.new ≡ take n file))) }
+    ensures front { IfOk result (λ n.
+        OfFile (S.held shelf.old) name.now (λ file. (n
+        ≡ min (length file) (length into.old)) × (take n into.new ≡ take n file))) }
     ensures bound { IfOk result (λ n. n ≤ length into.old) }
     ensures held { S.held shelf.new ≡ S.held shelf.old }
     ensures parts { S.parts shelf.new ≡ S.parts shelf.old }
     ensures log { IfOk result (λ n. LogsThrough name.now 0 n (S.log shelf.old) (S.log shelf.new)) }
-    ensures log_of_fault { OnErr result (LogsFront name.now (length into.old) (S.log shelf.old) (S.log shelf.new)) }
+    ensures log_of_fault { OnErr result
+        (LogsFront name.now (length into.old) (S.log shelf.old) (S.log shelf.new)) }
     ensures writes { S.write_faults shelf.new ≡ S.write_faults shelf.old }
     ensures later { S.read_faults shelf.old ≤ S.read_faults shelf.new }
-    ensures failed { IsErrOf result ReadAllFault.Failed → Rose (S.read_faults shelf.old) (S.read_faults shelf.new) }
+    ensures failed { IsErrOf result ReadAllFault.Failed →
+        Rose (S.read_faults shelf.old) (S.read_faults shelf.new) }
     ensures missing { IsErrOf result ReadAllFault.Missing → Lacks (S.held shelf.old) name.now }
     ensures long { ¬ IsErrOf result ReadAllFault.TooLong }
     ensures present { IsErrOf result ReadAllFault.NoMemory → Has (S.held shelf.old) name.now }
