@@ -1,25 +1,71 @@
-use crate::{Status, run_command};
-use outside::{MemoryDepot, MemoryShelf, MemorySink, Name, Seq, Shelf, ShelfFault};
+use crate::run_command;
+use crate::scan::scan;
+use outside::{Bytes, MemoryDepot, MemoryShelf, MemorySink, Name, Seq, Shelf, ShelfFault};
 use std::alloc::{AllocError, Global};
 use std::process::Abort;
 use std::test::Fail;
 
-fn no_calls(alloc: Global) -> Seq<u64> {
-    Seq::new(alloc)
+// The number of a call that is not made.
+const NO_CALL: u64 = 99;
+
+// The devices of a command. Each fails at the call of its number.
+#[derive(Drop)]
+struct Devices {
+    inputs: MemoryShelf,
+    depot: MemoryDepot,
+    sinks: Sinks,
+}
+
+#[derive(Drop)]
+struct Sinks {
+    out: MemorySink,
+    notes: MemorySink,
 }
 
 fn one_call(alloc: Global, call: u64) -> Result<Seq<u64>, AllocError> {
-    let mut calls = Seq::new(alloc);
-    calls.push(call)?;
-    Ok(calls)
+    Ok(Seq::from_vec([call].to_vec(alloc)?))
+}
+
+fn file(alloc: Global, text: &[u8]) -> Result<(Name, Bytes), AllocError> {
+    let bytes = Seq::from_vec(text.to_vec(alloc)?);
+    Ok((Name::from_string(String::from_str(alloc, "n.csv")?), bytes))
+}
+
+fn files(alloc: Global, text: &[u8]) -> Result<Seq<(Name, Bytes)>, AllocError> {
+    let mut files = Seq::new(alloc);
+    files.push(file(alloc, text)?)?;
+    Ok(files)
 }
 
 // A shelf with one file, `n.csv`.
-fn shelf(alloc: Global, text: &[u8], failing: Seq<u64>) -> Result<MemoryShelf, AllocError> {
-    let mut files = Seq::new(alloc);
-    let name = Name::from_string(String::from_str(alloc, "n.csv")?);
-    files.push((name, Seq::from_vec(text.to_vec(alloc)?)))?;
-    MemoryShelf::new(alloc, files, failing)
+fn shelf(alloc: Global, text: &[u8], call: u64) -> Result<MemoryShelf, AllocError> {
+    let files = files(alloc, text)?;
+    MemoryShelf::new(alloc, files, one_call(alloc, call)?)
+}
+
+fn depot(alloc: Global) -> Result<MemoryDepot, AllocError> {
+    MemoryDepot::new(alloc, Seq::new(alloc), one_call(alloc, 0)?)
+}
+
+fn sink(alloc: Global, room: usize, call: u64) -> Result<MemorySink, AllocError> {
+    MemorySink::with_room(alloc, room, one_call(alloc, call)?)
+}
+
+fn make_sinks(alloc: Global, room: usize, out: u64, notes: u64) -> Result<Sinks, AllocError> {
+    let out = sink(alloc, room, out)?;
+    let notes = sink(alloc, room, notes)?;
+    Ok(Sinks { out, notes })
+}
+
+fn make_devices(alloc: Global, text: &[u8], calls: [u64; 3]) -> Result<Devices, AllocError> {
+    let inputs = shelf(alloc, text, calls[0])?;
+    let depot = depot(alloc)?;
+    let sinks = make_sinks(alloc, 200, calls[1], calls[2])?;
+    Ok(Devices {
+        inputs,
+        depot,
+        sinks,
+    })
 }
 
 fn words(alloc: Global, all: &[&str]) -> Result<Vec<String>, AllocError> {
@@ -30,46 +76,135 @@ fn words(alloc: Global, all: &[&str]) -> Result<Vec<String>, AllocError> {
     Ok(words)
 }
 
-fn sink(alloc: Global, failing: Seq<u64>) -> Result<MemorySink, AllocError> {
-    MemorySink::with_room(alloc, 200, failing)
-}
-
-// Runs words over input files, and looks at the status and at what was written.
-fn expect<I: Shelf>(
+// Runs words, and looks at the status and at what was written.
+fn run(
     rt: &impl Abort,
     alloc: Global,
-    inputs: &mut I,
+    devices: &mut Devices,
     all: &[&str],
-    code: u8,
-    texts: (&str, &str),
+    expected: (u8, &str, &str),
 ) -> Result<(), AllocError> {
     let words = words(alloc, all)?;
-    let mut depot = MemoryDepot::new(alloc, Seq::new(alloc), no_calls(alloc))?;
-    let mut out = sink(alloc, no_calls(alloc))?;
-    let mut notes = sink(alloc, no_calls(alloc))?;
-    let status = run_command(alloc, &words, inputs, &mut depot, &mut out, &mut notes);
-    assert_eq!(rt; status.code(), code);
-    assert!(rt; out.bytes() == texts.0.as_bytes());
-    assert!(rt; notes.bytes() == texts.1.as_bytes());
+    let status = run_command(
+        alloc,
+        &words,
+        &mut devices.inputs,
+        &mut devices.depot,
+        &mut devices.sinks.out,
+        &mut devices.sinks.notes,
+    );
+    assert_eq!(rt; status.code(), expected.0);
+    assert!(rt; devices.sinks.out.bytes() == expected.1.as_bytes());
+    assert!(rt; devices.sinks.notes.bytes() == expected.2.as_bytes());
     Ok(())
+}
+
+// The same on devices of their own that do not fail.
+fn expect(
+    rt: &impl Abort,
+    alloc: Global,
+    text: &[u8],
+    all: &[&str],
+    expected: (u8, &str, &str),
+) -> Result<(), AllocError> {
+    let mut devices = make_devices(alloc, text, [NO_CALL; 3])?;
+    run(rt, alloc, &mut devices, all, expected)
 }
 
 // Texts and queries, each with its status, its reply and its note line.
 const ANSWERS: [(&[u8], &str, u8, &str, &str); 16] = [
-    (b"a,b\n1,5\n2,7\n1,-3\n", "SELECT SUM(b) FROM n WHERE a = 1", 0, "sum(b)\n2\n", ""),
+    (
+        b"a,b\n1,5\n2,7\n1,-3\n",
+        "SELECT SUM(b) FROM n WHERE a = 1",
+        0,
+        "sum(b)\n2\n",
+        "",
+    ),
     (b"x\n4\n", "SELECT COUNT(*) FROM t", 0, "count(*)\n1\n", ""),
-    (b"x\n4\n", "SELECT SUM(x), COUNT(*) FROM t", 12, "", "bad query: NotYet at 0\n"),
-    (b"x\n4\n", "SELECT SUM(x) FROM t WHERE y = 1", 12, "", "bad query: UnknownColumn at 27\n"),
-    (b"x\n4\n", "SELECT SUM(z) FROM t WHERE y = 1", 12, "", "bad query: UnknownColumn at 11\n"),
-    (b"x\n4\n", "SELECT SUM(x) FROM t;", 12, "", "bad query: NotYet at 0\n"),
-    (b"x\n4\n", "SELECT SUM(x) FROM from", 12, "", "bad query: NotYet at 0\n"),
-    (b"x\n4\n", "SELECT SUM(x) FROM t WHERE x = +4", 12, "", "bad query: NotYet at 0\n"),
-    (b"x\n4\n", "SELECT SUM(x) FROM t WHERE x = 9223372036854775808", 12, "", "bad query: NotYet at 0\n"),
-    (b"x\n-4\n", "SELECT SUM(x) FROM t WHERE x = -4", 0, "sum(x)\n-4\n", ""),
-    (b"x\n9223372036854775807\n9223372036854775807\n", "SELECT SUM(x) FROM t", 0, "sum(x)\n18446744073709551614\n", ""),
-    (b"x\n-9223372036854775808\n-9223372036854775808\n", "SELECT SUM(x) FROM t", 0, "sum(x)\n-18446744073709551616\n", ""),
-    (b"x,y\r\n+5,\r\n\r\n,6\r\n", "SELECT SUM(x) FROM t", 0, "sum(x)\n5\n", ""),
-    (b"\xEF\xBB\xBFx\n\"7\"\n", "SELECT SUM(x) FROM t", 0, "sum(x)\n7\n", ""),
+    (
+        b"x\n4\n",
+        "SELECT SUM(x), COUNT(*) FROM t",
+        12,
+        "",
+        "bad query: NotYet at 0\n",
+    ),
+    (
+        b"x\n4\n",
+        "SELECT SUM(x) FROM t WHERE y = 1",
+        12,
+        "",
+        "bad query: UnknownColumn at 27\n",
+    ),
+    (
+        b"x\n4\n",
+        "SELECT SUM(z) FROM t WHERE y = 1",
+        12,
+        "",
+        "bad query: UnknownColumn at 11\n",
+    ),
+    (
+        b"x\n4\n",
+        "SELECT SUM(x) FROM t;",
+        12,
+        "",
+        "bad query: NotYet at 0\n",
+    ),
+    (
+        b"x\n4\n",
+        "SELECT SUM(x) FROM from",
+        12,
+        "",
+        "bad query: NotYet at 0\n",
+    ),
+    (
+        b"x\n4\n",
+        "SELECT SUM(x) FROM t WHERE x = +4",
+        12,
+        "",
+        "bad query: NotYet at 0\n",
+    ),
+    (
+        b"x\n4\n",
+        "SELECT SUM(x) FROM t WHERE x = 9223372036854775808",
+        12,
+        "",
+        "bad query: NotYet at 0\n",
+    ),
+    (
+        b"x\n-4\n",
+        "SELECT SUM(x) FROM t WHERE x = -4",
+        0,
+        "sum(x)\n-4\n",
+        "",
+    ),
+    (
+        b"x\n9223372036854775807\n9223372036854775807\n",
+        "SELECT SUM(x) FROM t",
+        0,
+        "sum(x)\n18446744073709551614\n",
+        "",
+    ),
+    (
+        b"x\n-9223372036854775808\n-9223372036854775808\n",
+        "SELECT SUM(x) FROM t",
+        0,
+        "sum(x)\n-18446744073709551616\n",
+        "",
+    ),
+    (
+        b"x,y\r\n+5,\r\n\r\n,6\r\n",
+        "SELECT SUM(x) FROM t",
+        0,
+        "sum(x)\n5\n",
+        "",
+    ),
+    (
+        b"\xEF\xBB\xBFx\n\"7\"\n",
+        "SELECT SUM(x) FROM t",
+        0,
+        "sum(x)\n7\n",
+        "",
+    ),
     (b"x\n\"8", "SELECT SUM(x) FROM t", 0, "sum(x)\n8\n", ""),
     (b"x\n", "SELECT SUM(x) FROM t", 0, "sum(x)\n0\n", ""),
 ];
@@ -92,39 +227,83 @@ const BAD_TEXTS: [&[u8]; 12] = [
 
 #[test]
 fn texts_and_queries(rt: HostRuntime) -> Result<(), Fail> {
-    let alloc = rt.alloc();
     for (text, sql, code, out, note) in &ANSWERS {
-        let mut inputs = shelf(alloc, text, no_calls(alloc))?;
-        expect(&rt, alloc, &mut inputs, &["scan", "n.csv", sql], *code, (out, note))?;
+        expect(
+            &rt,
+            rt.alloc(),
+            text,
+            &["scan", "n.csv", sql],
+            (*code, out, note),
+        )?;
     }
     Ok(())
 }
 
 #[test]
 fn texts_without_rows(rt: HostRuntime) -> Result<(), Fail> {
-    let alloc = rt.alloc();
     for text in &BAD_TEXTS {
-        let mut inputs = shelf(alloc, text, no_calls(alloc))?;
-        expect(&rt, alloc, &mut inputs, &["scan", "n.csv", "no query"], 8, ("", "bad csv\n"))?;
+        expect(
+            &rt,
+            rt.alloc(),
+            text,
+            &["scan", "n.csv", "no query"],
+            (8, "", "bad csv\n"),
+        )?;
     }
     Ok(())
 }
 
+// Words with their status and note line.
+const WORDS: [(&[&str], u8, &str); 4] = [
+    (&[], 2, "bad words\n"),
+    (&["scan", "n.csv"], 2, "bad words\n"),
+    (&["Scan", "n.csv", "q"], 2, "bad words\n"),
+    (&["scan", "q.csv", "q"], 3, "no input: q.csv\n"),
+];
+
 #[test]
 fn words_and_files(rt: HostRuntime) -> Result<(), Fail> {
-    let alloc = rt.alloc();
-    let mut inputs = shelf(alloc, b"x\n4\n", no_calls(alloc))?;
-    expect(&rt, alloc, &mut inputs, &[], 2, ("", "bad words\n"))?;
-    expect(&rt, alloc, &mut inputs, &["scan", "n.csv"], 2, ("", "bad words\n"))?;
-    expect(&rt, alloc, &mut inputs, &["Scan", "n.csv", "q"], 2, ("", "bad words\n"))?;
-    expect(&rt, alloc, &mut inputs, &["scan", "q.csv", "q"], 3, ("", "no input: q.csv\n"))?;
-    expect(
+    for (all, code, note) in &WORDS {
+        expect(&rt, rt.alloc(), b"x\n4\n", all, (*code, "", note))?;
+    }
+    Ok(())
+}
+
+// Calls of the input files, of the reply's stream and of the notes that fail, with what is left.
+const FAULTS: [([u64; 3], u8, &str, &str); 6] = [
+    ([0, NO_CALL, NO_CALL], 15, "", "read fault\n"),
+    ([1, NO_CALL, NO_CALL], 15, "", "read fault\n"),
+    ([NO_CALL, 0, NO_CALL], 16, "", "write fault\n"),
+    ([NO_CALL, NO_CALL, 0], 0, "count(*)\n1\n", ""),
+    ([0, NO_CALL, 0], 15, "", ""),
+    ([NO_CALL, 0, 0], 16, "", ""),
+];
+
+#[test]
+fn devices_that_fail(rt: HostRuntime) -> Result<(), Fail> {
+    for (calls, code, out, note) in &FAULTS {
+        let mut devices = make_devices(rt.alloc(), b"x\n4\n", *calls)?;
+        run(
+            &rt,
+            rt.alloc(),
+            &mut devices,
+            &["scan", "n.csv", "SELECT COUNT(*) FROM t"],
+            (*code, out, note),
+        )?;
+    }
+    Ok(())
+}
+
+// A refusal whose note line is not written ends as a write fault.
+#[test]
+fn a_note_that_fails(rt: HostRuntime) -> Result<(), Fail> {
+    let mut devices = make_devices(rt.alloc(), b"", [NO_CALL, NO_CALL, 0])?;
+    run(
         &rt,
-        alloc,
-        &mut LongShelf,
+        rt.alloc(),
+        &mut devices,
         &["scan", "n.csv", "q"],
-        9,
-        ("", "too large: csv bytes, limit 134217728\n"),
+        (16, "", ""),
     )?;
     Ok(())
 }
@@ -165,49 +344,10 @@ impl Shelf for LongShelf {
     }
 }
 
-// Which of the three devices fails at its first call or later, and what is left.
 #[test]
-fn devices_that_fail(rt: HostRuntime) -> Result<(), Fail> {
-    let alloc = rt.alloc();
-    for (input, out_call, note_call, code, out, note) in [
-        (0, 9, 9, 15, "", "read fault\n"),
-        (1, 9, 9, 15, "", "read fault\n"),
-        (9, 0, 9, 16, "", "write fault\n"),
-        (9, 9, 0, 0, "count(*)\n1\n", ""),
-        (0, 9, 0, 15, "", ""),
-        (9, 0, 0, 16, "", ""),
-    ] {
-        let mut inputs = shelf(alloc, b"x\n4\n", one_call(alloc, input)?)?;
-        let mut depot = MemoryDepot::new(alloc, Seq::new(alloc), no_calls(alloc))?;
-        let mut told = sink(alloc, one_call(alloc, out_call)?)?;
-        let mut notes = sink(alloc, one_call(alloc, note_call)?)?;
-        let words = words(alloc, &["scan", "n.csv", "SELECT COUNT(*) FROM t"])?;
-        let status = run_command(
-            alloc,
-            &words,
-            &mut inputs,
-            &mut depot,
-            &mut told,
-            &mut notes,
-        );
-        assert_eq!(rt; status.code(), code);
-        assert!(rt; told.bytes() == out.as_bytes());
-        assert!(rt; notes.bytes() == note.as_bytes());
-    }
-    Ok(())
-}
-
-// A refusal whose note line is not written ends as a write fault.
-#[test]
-fn a_note_that_fails(rt: HostRuntime) -> Result<(), Fail> {
-    let alloc = rt.alloc();
-    let mut inputs = shelf(alloc, b"", no_calls(alloc))?;
-    let mut depot = MemoryDepot::new(alloc, Seq::new(alloc), one_call(alloc, 0)?)?;
-    let mut out = sink(alloc, no_calls(alloc))?;
-    let mut notes = MemorySink::with_room(alloc, 3, no_calls(alloc))?;
-    let words = words(alloc, &["scan", "n.csv", "q"])?;
-    let status = run_command(alloc, &words, &mut inputs, &mut depot, &mut out, &mut notes);
-    assert!(rt; status == Status::WriteFault);
-    assert!(rt; notes.bytes().is_empty());
+fn a_file_too_long(rt: HostRuntime) -> Result<(), Fail> {
+    let reply = scan(rt.alloc(), "n.csv", "q", &mut LongShelf)?;
+    assert_eq!(rt; reply.status.code(), 9);
+    assert!(rt; reply.note.as_slice() == b"too large: csv bytes, limit 134217728\n".as_slice());
     Ok(())
 }

@@ -1,0 +1,2 @@
+mod StandsLemmas
+mod TableFileLemmas

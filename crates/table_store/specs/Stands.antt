@@ -1,8 +1,9 @@
 -- Which files a store's state is kept in.
-use Rattle.std.specs.Prelude.{◌≡◌, ℕ, Bool, false, List, Option, Some, None, if◌then◌else◌}
+use Rattle.std.specs.Prelude.{◌≡◌, ◌≢◌, ℕ, Bool, false, List, Option, Some, None, if◌then◌else◌}
 use Rattle.std.specs.FinMap as map
 use Rattle.outside.specs.Files.{Files}
 use Rattle.table_store.specs.State.{Segments, State, NoTable, HasTable, Table}
+use Rattle.table_store.specs.TableFile.{FitsTable, table_file, table_name}
 
 -- whether a published file stands for nothing, whatever its bytes: none does so far
 abbrev pub is_idle : Files → List ℕ → Bool
@@ -16,10 +17,17 @@ live_file files name = if is_idle files name then None else map.get files name
 abbrev pub StandsForNoTable : Files → Type 0
 StandsForNoTable files = (name : List ℕ) → live_file files name ≡ None
 
--- the published files are just those of a state; none are those of a table so far, since no command makes one
+-- the table's file is there, and no other; a table has no segments so far, since no command makes one
+pub record StandsForTable (files : Files) (table : Table) (segments : Segments) : Type 0 where
+  pub fits : FitsTable table
+  pub kept : live_file files table_name ≡ Some (table_file table)
+  pub no_segment : segments ≡ map.empty
+  pub no_other : (name : List ℕ) → name ≢ table_name → live_file files name ≡ None
+
+-- the published files are just those of a state
 abbrev pub Stands : Files → State → Type 0
 Stands files NoTable = StandsForNoTable files
-Stands files (HasTable table segments) = ⊥
+Stands files (HasTable table segments) = StandsForTable files table segments
 
 -- files stand for at most one state
 abbrev pub StandsForOne : Type 0
