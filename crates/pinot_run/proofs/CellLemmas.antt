@@ -1,5 +1,5 @@
 -- The number in a field.
-use Rattle.std.proofs.Common.{◌≡◌, ◌∙◌, ◌<◌, ℕ, zero, suc, ℤ, pos, List, [], ◌∷◌, length, get_or, Bool, true, false, Result, Ok, Err, Option, Some, None, option_map, ◌==◌, if◌then◌else◌, refl, sym, ap, arith}
+use Rattle.std.proofs.Common.{◌≡◌, ◌<◌, ℕ, zero, suc, ℤ, pos, List, [], ◌∷◌, length, get_or, Bool, true, false, Result, Ok, Err, Option, Some, None, option_map, ◌==◌, if◌then◌else◌, refl, arith}
 use Rattle.std.specs.List.{list_all}
 use Rattle.std.specs.Result.{result_ok}
 use Rattle.std.specs.Str.{IsAscii, is_utf8}
@@ -11,7 +11,7 @@ use Rattle.values.specs.Numbers.{is_digit, negative, place_value, ranged, spelle
 use Rattle.values.specs.declared.kind.FieldKind.TheVariants.{Long}
 use Rattle.values.specs.declared.whole.WholeFault.{WholeFault}
 use Rattle.values.specs.declared.whole.WholeFault.TheVariants as whole
-use Rattle.pinot_run.specs.Plain.{CsvKind, NotUtf8, cell_of, number_of}
+use Rattle.pinot_run.specs.Plain.{NotUtf8, cell_of, number_of}
 
 digit_ascii : (b : ℕ) → is_digit b ≡ true → b < 128
 digit_ascii b e = grind (arith, nat_tests)

@@ -1,5 +1,5 @@
 -- The names of a header in order.
-use Rattle.std.proofs.Common.{◌≡◌, ◌∙◌, ◌<◌, ◌≤◌, ◌+◌, ◌-◌, ℕ, zero, suc, List, [], ◌∷◌, length, take, get_or, Bool, true, false, not, ◌&&◌, ◌==◌, nat_le, Result, Ok, Err, IsErr, if◌then◌else◌, refl, sym, ap, arith}
+use Rattle.std.proofs.Common.{◌≡◌, ◌∙◌, ◌<◌, ◌≤◌, ◌+◌, ◌-◌, ℕ, List, [], length, take, get_or, Bool, true, false, not, ◌&&◌, Ok, Err, IsErr, if◌then◌else◌, refl, sym, ap, arith}
 use Rattle.std.specs.List.{list_all, list_any}
 use Rattle.std.specs.List.{All}
 use Rattle.std.specs.Str.{bytes_eq, is_utf8}

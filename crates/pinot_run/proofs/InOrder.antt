@@ -1,6 +1,6 @@
 -- Results in order, up to the first fault.
-use Rattle.std.proofs.Common.{◌≡◌, ◌∙◌, ◌<◌, ◌≤◌, ◌+◌, ℕ, zero, suc, List, [], ◌∷◌, ◌++◌, length, take, drop, map, Result, Ok, Err, IsErr, refl, sym, ap, subst, arith, append_assoc, append-nil, get_or, add-one, add_assoc}
-use Rattle.std.proofs.Math.Seq.{drop-cons, drop-length}
+use Rattle.std.proofs.Common.{◌≡◌, ◌∙◌, ◌<◌, ◌≤◌, ◌+◌, ℕ, suc, List, [], ◌∷◌, ◌++◌, length, drop, map, Result, Ok, Err, IsErr, refl, sym, ap, subst, arith, append_assoc, append-nil, get_or, add-one}
+use Rattle.std.proofs.Math.Seq.{drop-cons}
 use Rattle.std.proofs.lemmas.List.{nil_from_length, length-drop}
 use Rattle.std.specs.List.{enumerate_from}
 use Rattle.pinot_run.specs.Plain.{all_or_first, joined}

@@ -1,5 +1,5 @@
 -- A byte order mark at the start of a text.
-use Rattle.std.proofs.Common.{◌≡◌, ◌<◌, ◌≤◌, ◌+◌, ◌-◌, ℕ, List, [], ◌∷◌, length, get_or, Bool, true, false, refl, sym, ap, arith, cond}
+use Rattle.std.proofs.Common.{◌≡◌, ◌<◌, ◌≤◌, ◌-◌, ℕ, List, [], ◌∷◌, length, get_or, true, false, refl, arith}
 use Rattle.csv.specs.Reading.{is_bom, strip_bom}
 
 pub short-text : (xs : List ℕ) → length xs < 3 → length xs ≡ length (strip_bom xs)

@@ -1,13 +1,11 @@
 -- The note lines of faults and of replies.
-use Rattle.std.proofs.Common.{◌≡◌, ◌≢◌, ◌⊎◌, ◌∙◌, inl, inr, ℕ, List, [], Bool, true, false, Option, Some, None, IfSome, refl, sym, ap, subst}
-use Rattle.outside.specs.Counts.{Rose}
+use Rattle.std.proofs.Common.{◌≡◌, ◌≢◌, ◌⊎◌, ◌∙◌, inl, inr, Bool, true, false, Option, Some, None, IfSome, refl, sym, ap, subst}
 use Rattle.outside.specs.Files.{Files}
-use Rattle.outside.specs.Sink.{appended, AppendsPrefix}
 use Rattle.pinot_run.specs.Command.{Command}
 use Rattle.pinot_run.specs.Notes as note
 use Rattle.pinot_run.specs.Notes.{IsLineOf, fault_line, is_fault, note_text, status_of}
-use Rattle.pinot_run.specs.Outcome.{GrewByLine, GrewByPart, IsReply, IsUnderstood, MayReply}
-use Rattle.pinot_run.specs.Step.{Answer, Refuses, Replies, is_met, line_of, status_after, text_of}
+use Rattle.pinot_run.specs.Outcome.{IsReply, IsUnderstood}
+use Rattle.pinot_run.specs.Step.{Answer, Refuses, Replies, is_met, line_of, status_after}
 use Rattle.pinot_run.specs.declared.reply.Reply.{Reply}
 use Rattle.pinot_run.specs.declared.status.Status.{Status}
 use Rattle.pinot_run.specs.declared.status.Status.TheVariants as status

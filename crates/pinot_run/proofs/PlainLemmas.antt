@@ -4,7 +4,7 @@ use Rattle.pinot_run.specs.Bound.{bound_of}
 use Rattle.pinot_run.specs.Notes as note
 use Rattle.pinot_run.specs.Plain.{CsvFault, columns_of, no_limits, plain_of, rows_of, under}
 use Rattle.pinot_run.specs.Query.{ScanQuery}
-use Rattle.pinot_run.specs.Step.{Answer, Refuses, bound_answer, query_answer}
+use Rattle.pinot_run.specs.Step.{Refuses, bound_answer, query_answer}
 
 pub no-record : (q : Option ScanQuery) → Refuses note.BadCsv ≡ query_answer q (plain_of no_limits [])
 unfolding plain_of

@@ -1,8 +1,8 @@
 -- A read of one record, by the records that a text has left.
-use Rattle.std.proofs.Common.{Bor, Bool, true, false, ℕ, zero, suc, List, [], ◌∷◌, ◌≡◌, ◌∙◌, ◌+◌, Option, Some, None, MatchBool, inl, refl, sym, ap, subst, add-one}
+use Rattle.std.proofs.Common.{Bool, true, false, ℕ, List, [], ◌∷◌, ◌≡◌, ◌∙◌, ◌+◌, Some, None, MatchBool, inl, refl, sym, ap, add-one}
 use Rattle.csv.proofs.ReadFacts.{rows-more, rows-end}
 use Rattle.csv.specs.Machine.{Read, next_record}
-use Rattle.csv.specs.Reading.{Reached, ReadRecord, default_config, reader_state, records_from, records_next, source_of, took_first}
+use Rattle.csv.specs.Reading.{Reached, ReadRecord, default_config, reader_state, records_from, records_next, took_first}
 use Rattle.csv.specs.declared.parser.State.{State}
 use Rattle.pinot_run.specs.Reading.{Reads, TextReader, known, records_left}
 

@@ -1,5 +1,5 @@
 -- The answer to `scan` by what is told of the input files.
-use Rattle.std.proofs.Common.{◌≡◌, ◌≤◌, ◌<◌, ℕ, List, length, Bool, true, false, nat_lt, Option, Some, None, IfSome, refl, sym, ap, subst, arith}
+use Rattle.std.proofs.Common.{◌≡◌, ◌≤◌, ◌<◌, ℕ, List, length, true, false, nat_lt, Option, Some, None, IfSome, refl, sym, subst, arith}
 use Rattle.std.proofs.lemmas.Bool.Decides.{nat_tests}
 use Rattle.std.specs.FinMap as map
 use Rattle.outside.specs.Files.{Files, Lacks}
@@ -8,7 +8,7 @@ use Rattle.pinot_run.specs.Notes as note
 use Rattle.pinot_run.specs.Outcome.{IsReply}
 use Rattle.pinot_run.specs.Plain.{no_limits, plain_of, records_of}
 use Rattle.pinot_run.specs.Query.{query_of}
-use Rattle.pinot_run.specs.Step.{Answer, Refuses, csv_limit, query_answer, scan_answer}
+use Rattle.pinot_run.specs.Step.{Refuses, csv_limit, query_answer, scan_answer}
 use Rattle.pinot_run.specs.declared.reply.Reply.{Reply}
 use Rattle.std.specs.Prelude.{codes}
 

@@ -1,5 +1,5 @@
 -- The fold of rows, one more at a time.
-use Rattle.std.proofs.Common.{◌≡◌, ◌≢◌, ◌∙◌, ◌⊎◌, inl, inr, ◌+◌, ◌-◌, ◌<◌, ◌≤◌, ℕ, ℤ, pos, ◌+ℤ◌, List, [], ◌∷◌, ◌++◌, length, map, filter, fold, Bool, true, false, not, ◌==◌, cond, Option, Some, None, Result, Ok, Err, IsErr, refl, sym, ap, subst, arith, append-nil, length-append}
+use Rattle.std.proofs.Common.{◌≡◌, ◌≢◌, ◌∙◌, ◌+◌, ◌-◌, ◌<◌, ◌≤◌, ℕ, ℤ, pos, ◌+ℤ◌, List, [], ◌∷◌, ◌++◌, length, map, filter, Bool, true, false, ◌==◌, cond, Option, Some, None, Result, Ok, IsErr, refl, sym, ap, subst, arith, append-nil, length-append}
 use Rattle.std.specs.List.{enumerate_from}
 use Rattle.std.proofs.lemmas.List.{map-append}
 use Rattle.std.proofs.lemmas.List.Elements.{filter-append}
@@ -7,7 +7,7 @@ use Rattle.std.proofs.lemmas.List.Sums.{fold-append}
 use Rattle.std.proofs.lemmas.Bool.Decides.{nat_tests}
 use Rattle.pinot_run.specs.declared.bound.Bound.{Bound}
 use Rattle.pinot_run.specs.Bound.{cell, holds, total}
-use Rattle.pinot_run.specs.Plain.{At, CsvFault, WrongLength, all_or_first, cell_at, joined, no_limits, row_at, rows_of}
+use Rattle.pinot_run.specs.Plain.{CsvFault, all_or_first, cell_at, no_limits, row_at, rows_of}
 use Rattle.pinot_run.specs.Tally.{Adds, Folds, IsTallyOf, sum_of, sum_with}
 use Rattle.csv.specs.Reading.{records_from}
 use Rattle.pinot_run.specs.Reading.{TextReader, records_left}

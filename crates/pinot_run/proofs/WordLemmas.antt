@@ -4,7 +4,7 @@ use Rattle.std.specs.Option.{option_and_then}
 use Rattle.std.specs.List.{slice_split}
 use Rattle.std.proofs.lemmas.List.{length-map}
 use Rattle.std.proofs.lemmas.Bool.Decides.{nat_tests}
-use Rattle.pinot_run.specs.Query.{Aggregate, Equality, ScanQuery, condition_of, condition_place, head_of, query_of, query_of_words}
+use Rattle.pinot_run.specs.Query.{Aggregate, Equality, condition_of, condition_place, head_of, query_of, query_of_words}
 
 abbrev list_of_four : {A : Type 0} → List A → A → List A
 list_of_four xs d = get_or xs 0 d ∷ get_or xs 1 d ∷ get_or xs 2 d ∷ get_or xs 3 d ∷ []

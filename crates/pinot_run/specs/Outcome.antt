@@ -1,6 +1,5 @@
 -- What a command leaves on its sinks.
-use Rattle.std.specs.Prelude.{◌≡◌, ◌⊎◌, ℕ, List, Option, Some, None, IfSome, true}
-use Rattle.outside.specs.Counts.{Rose}
+use Rattle.std.specs.Prelude.{◌≡◌, ℕ, List, Option, Some, None, IfSome, true}
 use Rattle.outside.specs.Files.{Files}
 use Rattle.outside.specs.Reads.{Entry}
 use Rattle.table_store.specs.Stands.{Stands}

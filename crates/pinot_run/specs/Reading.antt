@@ -1,9 +1,8 @@
 -- The records that a reader of a text has left.
-use Rattle.std.specs.Prelude.{◌≡◌, ℕ, List, [], Option, Some, None, true, false}
+use Rattle.std.specs.Prelude.{◌≡◌, ℕ, List, Option, Some}
 use Rattle.std.specs.Borrow.{Bor}
-use Rattle.csv.specs.Reading.{Ready, default_config, is_flexible, reader_config, reader_state, reader_trim, records_from, source_of}
+use Rattle.csv.specs.Reading.{Ready, default_config, reader_config, reader_state, reader_trim, records_from, source_of}
 use Rattle.csv.specs.declared.reader.Reader.{Reader}
-use Rattle.csv.specs.declared.parser.State.{State}
 use Rattle.csv.specs.declared.reader.Trim.TheVariants as trim
 
 -- a reader of a text in memory

@@ -1,5 +1,5 @@
 -- What the code's queries say.
-use Rattle.std.specs.Prelude.{Option, None, option_map, Result, Ok, Err}
+use Rattle.std.specs.Prelude.{None, option_map, Result, Ok, Err}
 use Rattle.pinot_run.specs.Query as spec
 use Rattle.pinot_run.specs.declared.bound.BadQuery.{BadQuery}
 use Rattle.pinot_run.specs.declared.bound.Bound.{Bound}

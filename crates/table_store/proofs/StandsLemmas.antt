@@ -1,6 +1,5 @@
 -- Files stand for at most one state.
-use Rattle.std.proofs.Common.{◌≡◌, ◌∙◌, ℕ, List, Option, Some, None, refl, sym, ap}
-use Rattle.std.specs.FinMap as map
+use Rattle.std.proofs.Common.{◌≡◌, ◌∙◌, ℕ, List, Some, refl, sym}
 use Rattle.outside.specs.Files.{Files}
 use Rattle.table_store.specs.State.{Segments, State, NoTable, HasTable, Table}
 use Rattle.table_store.specs.Stands.{Stands, StandsForNoTable, StandsForTable}

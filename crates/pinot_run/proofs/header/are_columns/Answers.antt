@@ -1,4 +1,4 @@
-use Rattle.std.proofs.Common.{Bor, List, ℕ, rules, sym, ◌∙◌, arith}
+use Rattle.std.proofs.Common.{Bor, List, ℕ, sym, ◌∙◌, arith}
 use Rattle.pinot_run.proofs.HeaderLemmas.{names-more, names-fault, names-end}
 use Rattle.pinot_run.proofs.header.are_columns.Goals as goal
 

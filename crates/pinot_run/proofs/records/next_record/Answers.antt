@@ -1,4 +1,3 @@
-use Rattle.std.proofs.Common.{rules}
 use Rattle.pinot_run.proofs.ReadingLemmas.{shows}
 use Rattle.pinot_run.proofs.records.next_record.Goals as goal
 

@@ -1,5 +1,4 @@
-use Rattle.std.proofs.Common.{◌≡◌, ◌⊎◌, inl, inr, List, ℕ, map, string_bytes, IfSome, sym, subst, rules}
-use Rattle.outside.specs.Files.{Files}
+use Rattle.std.proofs.Common.{inl, map, string_bytes, subst}
 use Rattle.outside.specs.Sink.{AppendsPrefix}
 use Rattle.pinot_run.specs.Command.{command_of}
 use Rattle.pinot_run.specs.Outcome.{IsReply}

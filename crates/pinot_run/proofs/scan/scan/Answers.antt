@@ -1,4 +1,4 @@
-use Rattle.std.proofs.Common.{List, ℕ, rules, subst}
+use Rattle.std.proofs.Common.{rules, subst}
 use Rattle.pinot_run.specs.Outcome.{IsReply}
 use Rattle.pinot_run.specs.Plain.{no_limits, plain_of, records_of}
 use Rattle.pinot_run.specs.Query.{query_of}

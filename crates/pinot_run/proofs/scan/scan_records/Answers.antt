@@ -1,8 +1,6 @@
-use Rattle.std.proofs.Common.{◌≡◌, ◌∙◌, ◌+◌, ◌∷◌, ℕ, List, [], IfOk, option_map, ap, sym, subst}
-use Rattle.csv.specs.Records.{fields_of}
+use Rattle.std.proofs.Common.{◌∙◌, IfOk, option_map, ap, sym, subst}
 use Rattle.pinot_run.specs.Outcome.{IsReply}
 use Rattle.pinot_run.specs.Plain.{no_limits, plain_of}
-use Rattle.pinot_run.specs.Reading.{records_left}
 use Rattle.pinot_run.specs.Step.{query_answer}
 use Rattle.pinot_run.specs.View.{query_view}
 use Rattle.pinot_run.proofs.PlainLemmas.{no-record}

@@ -1,4 +1,4 @@
-use Rattle.std.proofs.Common.{◌≡◌, ◌∙◌, Bor, ℕ, ℤ, List, Option, Some, None, Ok, IfOk, IsErr, length, map, option_map, ap, sym, subst}
+use Rattle.std.proofs.Common.{◌≡◌, ◌∙◌, Bor, ℕ, List, Ok, IfOk, IsErr, length, map, option_map, ap, sym, subst}
 use Rattle.std.proofs.lemmas.List.{length-map}
 use Rattle.csv.specs.Records.{fields_of}
 use Rattle.pinot_run.specs.Bound.{bound_of}

@@ -1,4 +1,4 @@
-use Rattle.std.proofs.Common.{ℕ, ℤ, List, length, Option, Some, None, IfOk, option_map, subst, ap, ◌∙◌}
+use Rattle.std.proofs.Common.{length, IfOk, option_map, subst, ap, ◌∙◌}
 use Rattle.pinot_run.specs.Plain.{no_limits, rows_of}
 use Rattle.pinot_run.specs.Reading.{records_left}
 use Rattle.pinot_run.specs.Tally.{Folds}

@@ -1,4 +1,4 @@
-use Rattle.std.proofs.Common.{◌≡◌, ◌+◌, ◌-◌, ◌∷◌, ℕ, List, [], length, Ok, IsErr, subst, arith}
+use Rattle.std.proofs.Common.{◌≡◌, ◌+◌, ◌-◌, ℕ, List, length, Ok, IsErr, subst, arith}
 use Rattle.csv.specs.Records.{fields_of}
 use Rattle.pinot_run.specs.Plain.{no_limits, row_at, rows_of}
 use Rattle.pinot_run.specs.Reading.{records_left}

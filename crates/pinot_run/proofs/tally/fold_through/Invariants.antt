@@ -1,4 +1,4 @@
-use Rattle.std.proofs.Common.{◌≡◌, ◌≤◌, ◌-◌, ℕ, List, length}
+use Rattle.std.proofs.Common.{◌≤◌, ◌-◌, ℕ, List, length}
 use Rattle.pinot_run.specs.Plain.{no_limits, rows_of}
 use Rattle.pinot_run.specs.Reading.{Reads, records_left}
 use Rattle.pinot_run.proofs.TallyLemmas.{Standing}
