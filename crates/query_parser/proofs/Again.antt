@@ -250,4 +250,4 @@ pub condition_again : (ts : Stream) (x : Cond) (us : Stream) → SpellsCondition
 unfolding c.condition
 condition_again ts x us s a o =
     cond_again c.row_joints (SpellsSingle SpellsTest c.row_joints c.deepest) (c.single c.test c.row_joints c.deepest)
-      (single_again SpellsTest c.test c.row_joints test_again test_kind test_shrinks c.deepest) (single_shrinks c.test c.row_joints test_shrinks c.deepest) ts x us s a o
+    (single_again SpellsTest c.test c.row_joints test_again test_kind test_shrinks c.deepest) (single_shrinks c.test c.row_joints test_shrinks c.deepest) ts x us s a o

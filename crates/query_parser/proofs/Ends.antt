@@ -54,9 +54,10 @@ cut p z q low u =
     let more : length p < length (p ++ q ∷ z) = omega (arith, length-append p (q ∷ z)) in
     let here : get_or (p ++ q ∷ z) (length p) 0 ≡ q = get_or-append_seam p q z 0 in
     let below : get_or (p ++ q ∷ z) (length p) 0 < 128 = rw here low in
-    let place = IsCharBoundary-before_ascii (p ++ q ∷ z) (length p) more below in
-    (subst IsUtf8 (take-append_seam p (q ∷ z)) (IsUtf8-take (p ++ q ∷ z) (length p) u place),
-     subst IsUtf8 (drop_at p (q ∷ z) (length p) refl) (IsUtf8-drop (p ++ q ∷ z) (length p) u place))
+    let place = IsCharBoundary-before_ascii (p ++ q ∷ z) (length p) more below in (
+      subst IsUtf8 (take-append_seam p (q ∷ z)) (IsUtf8-take (p ++ q ∷ z) (length p) u place),
+      subst IsUtf8 (drop_at p (q ∷ z) (length p) refl) (IsUtf8-drop (p ++ q ∷ z) (length p) u place),
+    )
 
 -- the value is a text behind what stands before it
 abbrev IsTextBehind : Bytes → Option (Bytes × ℕ) → Type 0

@@ -1,5 +1,5 @@
 -- The token at the front of a text.
-use Rattle.std.specs.Prelude.{ℕ, ℤ, pos, ◌+◌, Bool, true, false, not, ◌&&◌, ◌||◌, if◌then◌else◌, ◌==◌, nat_lt, List, [], ◌∷◌, length, take, drop, map, slice_index, Option, Some, None, Result, Ok, Err}
+use Rattle.std.specs.Prelude.{ℕ, ℤ, pos, ◌+◌, Bool, true, false, not, ◌&&◌, ◌||◌, if◌then◌else◌, ◌==◌, nat_lt, List, [], ◌∷◌, length, take, drop, codes, slice_index, Option, Some, None, Result, Ok, Err}
 use Rattle.std.specs.Char.{is_ascii_digit, is_ascii_alphanumeric}
 use Rattle.std.specs.List.{prefix_len}
 use Rattle.std.specs.Str.{str_eq_ignore_ascii_case}
@@ -13,7 +13,6 @@ use Rattle.query_parser.specs.declared.lex.Class.TheVariants as class
 use Rattle.query_parser.specs.declared.token.Kind.{Kind}
 use Rattle.query_parser.specs.declared.token.Kind.TheVariants as k
 use Rattle.query_parser.specs.declared.token.Token.{Token}
-use Rattle.query_parser.specs.declared.token.TheConstants.{KEYWORDS}
 
 abbrev pub Bytes : Type 0
 Bytes = List ℕ
@@ -44,8 +43,16 @@ abbrev pub lookup : List (Bytes × Kind) → Bytes → Kind
 lookup [] word = k.Name
 lookup (e ∷ es) word = if str_eq_ignore_ascii_case e.0 word then e.1 else lookup es word
 
+-- the words that are no names unless they stand in quotes
+abbrev pub keywords : List (Bytes × Kind)
+keywords =
+    (codes "SELECT", k.Select) ∷ (codes "FROM", k.From) ∷ (codes "WHERE", k.Where) ∷ (codes "GROUP", k.Group) ∷ (codes "BY", k.By) ∷ (codes "HAVING", k.Having)
+    ∷ (codes "ORDER", k.Order) ∷ (codes "LIMIT", k.Limit) ∷ (codes "OFFSET", k.Offset) ∷ (codes "AND", k.And) ∷ (codes "OR", k.Or) ∷ (codes "NOT", k.Not)
+    ∷ (codes "IN", k.In) ∷ (codes "BETWEEN", k.Between) ∷ (codes "AS", k.As) ∷ (codes "ASC", k.Asc) ∷ (codes "DESC", k.Desc) ∷ (codes "SET", k.Set) ∷ []
+
+-- the keyword that a word is in any case, or else a name
 unfoldable pub keyword : Bytes → Kind
-keyword = lookup (map (λ e. (e.0.now, e.1)) KEYWORDS)
+keyword = lookup keywords
 
 abbrev pub plain : Kind → ℕ → Token
 plain kind len = record { kind = kind; len = len; number = pos 0 }

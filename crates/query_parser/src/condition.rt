@@ -93,11 +93,7 @@ fn single<C: Condition>(
 }
 
 #[cycle(cond)]
-fn both<C: Condition>(
-    alloc: Global,
-    tokens: &mut Tokens<'_>,
-    depth: usize,
-) -> Result<C, QueryFault>
+fn both<C: Condition>(alloc: Global, tokens: &mut Tokens<'_>, depth: usize) -> Result<C, QueryFault>
     ensures { Reads (spec.both C.joints (spec.single C.leaf C.joints depth) tokens.old) result tokens.new }
 {
     let mut found = Seq::new(alloc);

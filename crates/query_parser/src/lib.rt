@@ -1,7 +1,6 @@
 //! The text of a query as a tree, or the first place where it is no query.
 #![tactic(auto)]
 
-mod cond;
 mod condition;
 mod cursor;
 mod fault;
@@ -12,6 +11,7 @@ mod query;
 mod terms;
 mod token;
 mod tree;
+mod where_clause;
 
 pub use fault::{QueryFault, Reason};
 pub use query::parse;

@@ -7,7 +7,6 @@ ghost use Rattle.query_parser.specs.SpellsQuery.{SpellsQuery};
 ghost use Rattle.query_parser.specs.Stream.{tokens};
 ghost use Rattle.query_parser.specs.declared.tree.Query.{Query};
 
-use crate::cond::condition;
 use crate::cursor::Tokens;
 use crate::fault::{QueryFault, Reason};
 use crate::lex::same_word;
@@ -17,6 +16,7 @@ use crate::token::Kind;
 use crate::tree::{
     Argument, Call, Cond, Func, LiteralAt, NameAt, Query, QueryItem, QueryKey, Term,
 };
+use crate::where_clause::condition;
 use std::alloc::Global;
 use values::{Name, Seq, Value};
 

@@ -1,19 +1,23 @@
-//! A query as it is written.
+//! A query as it is written. Each offset is the byte of the text where the token begins.
 
 use values::{Boxed, CompareOp, Name, Seq, Value};
 
+/// A name: its text without quotes, and its place.
 #[derive(Drop)]
 pub struct NameAt {
     pub name: Name,
     pub offset: u32,
 }
 
+/// A number or a text without quotes, and its place.
 #[derive(Drop)]
 pub struct LiteralAt {
     pub value: Value,
     pub offset: u32,
 }
 
+/// A condition on a row. The bool of `OneOf` and `Between` says negated. `All` and `Any` hold the
+/// two or more members of one AND or OR as written; parentheses leave no trace but their grouping.
 #[derive(Drop)]
 pub enum Cond {
     Compare(NameAt, CompareOp, LiteralAt),
@@ -33,12 +37,14 @@ pub enum Func {
     Avg,
 }
 
+/// What a call is over: `*` or a column.
 #[derive(Drop)]
 pub enum Argument {
     Star,
     Column(NameAt),
 }
 
+/// A call of a function. The offset is that of the function's name.
 #[derive(Drop)]
 pub struct Call {
     pub func: Func,
@@ -52,18 +58,22 @@ pub enum Term {
     Call(Call),
 }
 
+/// A term of the select list, with the name after AS.
 #[derive(Drop)]
 pub struct QueryItem {
     pub term: Term,
     pub label: Option<NameAt>,
 }
 
+/// A term of ORDER BY. ASC and no word at all are ascending.
 #[derive(Drop)]
 pub struct QueryKey {
     pub term: Term,
     pub descending: bool,
 }
 
+/// A whole query. `use_tree` is false where the last `SET useStarTree` says `false`; `select` is
+/// the place of SELECT. `limit` and `offset` are whole numbers from 0 on.
 #[derive(Drop)]
 pub struct Query {
     pub use_tree: bool,

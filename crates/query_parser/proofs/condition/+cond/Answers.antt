@@ -36,7 +36,7 @@ both-turns-preserved g t c =
     let shorter = single_shrinks b.leaf b.joints g.met.C.Condition.takes c.args.depth in
     let more : sees And c.single.new.tokens ≡ true = first_of (search rules, grind (arith, common_steps)) in
     let t = turns_on And (spec.single b.leaf b.joints c.args.depth) c.args.tokens.now c.turns.found c.turns.tokens c.single.new.tokens c.in_ok-member.member
-        (shorter c.turns.tokens c.single.new.tokens c.in_ok-member.member c.in_ok-member.ensures) c.turns.invariant c.in_ok-member.ensures more in
+    (shorter c.turns.tokens c.single.new.tokens c.in_ok-member.member c.in_ok-member.ensures) c.turns.invariant c.in_ok-member.ensures more in
     rw (c.in_ok-push.ensures.ok, c.eat.ensures.after) t
 
 pub cond-returns-in_err-member : goal.cond-returns-in_err-member
@@ -66,7 +66,7 @@ cond-turns-preserved g t c =
     let shorter = both_shrinks b.joints (spec.single b.leaf b.joints c.args.depth) (single_shrinks b.leaf b.joints g.met.C.Condition.takes c.args.depth) in
     let more : sees Or c.both.new.tokens ≡ true = first_of (search rules, grind (arith, common_steps)) in
     let t = turns_on Or (spec.both b.joints (spec.single b.leaf b.joints c.args.depth)) c.args.tokens.now c.turns.found c.turns.tokens c.both.new.tokens c.in_ok-member.member
-        (shorter c.turns.tokens c.both.new.tokens c.in_ok-member.member c.in_ok-member.ensures) c.turns.invariant c.in_ok-member.ensures more in
+    (shorter c.turns.tokens c.both.new.tokens c.in_ok-member.member c.in_ok-member.ensures) c.turns.invariant c.in_ok-member.ensures more in
     rw (c.in_ok-push.ensures.ok, c.eat.ensures.after) t
 
 pub single-returns-then-depth-eq0 : goal.single-returns-then-depth-eq0
