@@ -52,14 +52,6 @@ over_step : (b : ℕ) (z : Bytes) (q : Bool) → is_in Blank b ≡ q → blanks 
 over_step b z true e h = ap (λ n. blanks (drop n (b ∷ z))) (blanks-yes b z e) ∙ h
 over_step b z false e h = ap (λ n. blanks (drop n (b ∷ z))) (blanks-no b z e) ∙ blanks-no b z e
 
-behind-length : (t : Token) (z : Bytes) (at : ℕ) → ((k : ℕ) → length (lexemes k z (at + 1)) ≤ length z + 1) → length (behind t z at) ≤ length z + 1
-behind-length t z at h = elim (is_last t.kind) as (λ q. length (cond q [] (lexemes (t.len - 1) z (at + 1))) ≤ length z + 1) [ true ↦ omega arith | false ↦ h (t.len - 1) ]
-
-length_step : (b : ℕ) (z : Bytes) (at : ℕ) (q : Bool) → is_in Blank b ≡ q → length (lexemes 0 z (at + 1)) ≤ length z + 1 → ((k : ℕ) → length (lexemes k z (at + 1)) ≤ length z + 1)
-    → length (lexemes 0 (b ∷ z) at) ≤ length (b ∷ z) + 1
-length_step b z at true e h all = rw (lexemes-yes b z at e) (omega (arith, h))
-length_step b z at false e h all = let k = behind-length (token (b ∷ z)) z at all in rw (lexemes-no b z at e) (omega (arith, k))
-
 -- at a token
 pub lexemes-first : (z : Bytes) (at : ℕ) → blanks z ≡ 0 → first (lexemes 0 z at) ≡ lexeme (token z) z at
 unfolding lexemes
@@ -119,13 +111,6 @@ lexemes-next (b ∷ z) at h e some fits =
 pub blanks_over : (z : Bytes) → blanks (drop (blanks z) z) ≡ 0
 blanks_over [] = refl
 blanks_over (b ∷ z) = over_step b z (is_in Blank b) refl (blanks_over z)
-
--- each token but the last has a byte
-pub lexemes_length : (n : ℕ) (z : Bytes) (at : ℕ) → length (lexemes n z at) ≤ length z + 1
-unfolding lexemes
-lexemes_length n [] at = omega arith
-lexemes_length zero (b ∷ z) at = length_step b z at (is_in Blank b) refl (lexemes_length 0 z (at + 1)) (λ k. lexemes_length k z (at + 1))
-lexemes_length (suc n) (b ∷ z) at = let h = lexemes_length n z (at + 1) in omega (arith, h)
 
 pub ruleset steps = (kind_of, place_of, number_of, word_of)
 

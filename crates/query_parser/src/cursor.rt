@@ -76,14 +76,6 @@ impl<'a> Tokens<'a> {
         lex::value(alloc, self.ahead, self.token.len)
     }
 
-    #[tactic(auto, using(crate::proofs::Streams::lexemes_length))]
-    /// How many bytes there are from the next token on.
-    pub fn left(&self) -> usize
-        ensures { length self.now ≤ result + 1 }
-    {
-        self.ahead.len()
-    }
-
     #[tactic(auto, using(crate::proofs::Streams::moves))]
     pub fn take(&mut self)
         ensures { self.new ≡ spec.next self.old }

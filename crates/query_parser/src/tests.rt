@@ -56,12 +56,12 @@ fn repeated(
 fn limits(rt: HostRuntime) -> Result<(), Fail> {
     let alloc = rt.alloc();
     for (head, part, count, tail, expected) in [
-        ("SELECT ", "a", 128, " FROM t", ""),
+        ("SELECT ", "a", 128, " FROM t", "select"),
         ("SELECT ", "a", 129, " FROM t", "NameTooLong@7"),
-        ("SELECT \"", "\"\"", 128, "\" FROM t", ""),
+        ("SELECT \"", "\"\"", 128, "\" FROM t", "select"),
         ("SELECT \"", "\"\"", 129, "\" FROM t", "NameTooLong@7"),
         ("SELECT \"", "a", 65528, "", "OpenText@7"),
-        ("SELECT a FROM t WHERE a = '", "x", 512, "'", ""),
+        ("SELECT a FROM t WHERE a = '", "x", 512, "'", "select"),
         (
             "SELECT a FROM t WHERE a = '",
             "x",
@@ -69,7 +69,7 @@ fn limits(rt: HostRuntime) -> Result<(), Fail> {
             "'",
             "TextTooLong@26",
         ),
-        ("SELECT a FROM t WHERE a = '", "''", 512, "'", ""),
+        ("SELECT a FROM t WHERE a = '", "''", 512, "'", "select"),
         (
             "SELECT a FROM t WHERE a = '",
             "é",
@@ -77,7 +77,7 @@ fn limits(rt: HostRuntime) -> Result<(), Fail> {
             "'",
             "TextTooLong@26",
         ),
-        ("SELECT a FROM t WHERE ", "NOT ", 64, "a = 1", ""),
+        ("SELECT a FROM t WHERE ", "NOT ", 64, "a = 1", "select"),
         ("SELECT a FROM t WHERE ", "NOT ", 65, "a = 1", "TooDeep@278"),
         ("SELECT a FROM t WHERE ", "(", 65514, "", "TooDeep@86"),
         (
@@ -85,25 +85,24 @@ fn limits(rt: HostRuntime) -> Result<(), Fail> {
             "NOT a=1 AND ",
             5000,
             "NOT a=1",
-            "",
+            "select",
         ),
-        ("SELECT a FROM t WHERE ", "(a=1) OR ", 5000, "a=1", ""),
+        ("SELECT a FROM t WHERE ", "(a=1) OR ", 5000, "a=1", "select"),
         ("SELECT a FROM t LIMIT ", "9", 65514, "", "NumberTooWide@22"),
-        ("SELECT a FROM t LIMIT ", "0", 65514, "", ""),
+        ("SELECT a FROM t LIMIT ", "0", 65514, "", "select"),
         ("", "'", 65536, "", "TextTooLong@0"),
         ("", " ", 65536, "", "Unexpected@65536"),
-        ("", "SET a=b;", 8190, "SELECT a FROM t", ""),
+        ("", "SET a=b;", 8190, "SELECT a FROM t", "select"),
     ] {
         let text = repeated(alloc, head, part, count, tail)?;
         let found = outcome(alloc, text.as_str())?;
-        let shown = if expected.is_empty() {
-            "select"
-        } else {
-            expected
-        };
-        assert!(rt; found.as_str().starts_with(shown), "{found}");
+        assert!(rt; begins_with(found.as_str(), expected), "{found}");
     }
     Ok(())
+}
+
+fn begins_with(text: &str, head: &str) -> bool {
+    text.starts_with(head)
 }
 
 const WHOLE: &str =
@@ -130,7 +129,7 @@ fn cut_texts(rt: HostRuntime) -> Result<(), Fail> {
         cut.push(c)?;
     }
     let found = outcome(alloc, cut.as_str())?;
-    assert!(rt; found.as_str().starts_with("no tree select@28"));
+    assert!(rt; begins_with(found.as_str(), "no tree select@28"));
     Ok(())
 }
 
@@ -154,7 +153,7 @@ fn each_character(rt: HostRuntime) -> Result<(), Fail> {
         text.push(c)?;
         let found = outcome(alloc, text.as_str())?;
         assert!(rt;
-            found.as_str().starts_with(expected_at_26(c)),
+            begins_with(found.as_str(), expected_at_26(c)),
             "{text}: {found}"
         );
     }
