@@ -12,7 +12,7 @@ use Rattle.query_parser.specs.declared.tree.Cond.{Cond}
 use Rattle.query_parser.specs.declared.tree.Cond.TheVariants.{Compare, OneOf, Between}
 use Rattle.query_parser.specs.Lex.{is_last, same_kind}
 use Rattle.query_parser.specs.Stream.{Lexeme, Stream, kind, place, number, word, next}
-use Rattle.query_parser.specs.Reading.{Parser, and_then, ◌>>=◌, ◌>>◌, ◌<$>◌, pure, take_token, sees, after, expect, name, literal, separated_from, separated}
+use Rattle.query_parser.specs.Reading.{Parser, and_then, ◌>>=◌, ◌<$>◌, pure, sees, after, expect, name, literal, separated_from, separated}
 use Rattle.query_parser.specs.Cond as c
 use Rattle.query_parser.specs.Spells.{Rule, Skips, SpellsName, SpellsLiteral, SpellsList, MayNegate, SpellsTest, SpellsBoth, SpellsCond, SpellsSingle, SpellsCondition}
 use Rattle.query_parser.specs.Shrinks.{Shrinks, literal_shrinks, test_shrinks, single_shrinks, both_shrinks}

@@ -11,7 +11,7 @@ use Rattle.query_parser.specs.declared.tree.Cond.{Cond}
 use Rattle.query_parser.specs.declared.tree.Cond.TheVariants.{Compare, OneOf, Between}
 use Rattle.query_parser.specs.Lex.{is_last}
 use Rattle.query_parser.specs.Stream.{Lexeme, Stream, kind, place, number, word, next}
-use Rattle.query_parser.specs.Reading.{Outcome, Parser, ◌>>◌, ◌<$>◌, pure, sees, after, expect, name, literal_by, literal, separated_from, separated, take_token, too_deep}
+use Rattle.query_parser.specs.Reading.{Outcome, Parser, pure, sees, after, expect, name, literal_by, literal, separated_from, separated, too_deep}
 use Rattle.query_parser.specs.Cond as c
 use Rattle.query_parser.specs.Spells.{Rule, IsToken, Skips, SpellsName, SpellsLiteral, SpellsList, MayNegate, SpellsTest, SpellsBoth, SpellsCond, SpellsNegation, SpellsGroup, SpellsSingle, SpellsCondition}
 use Rattle.query_parser.specs.Shrinks.{ok, stop, rest_is, bind_ok, sees_kind, name_goes_on, end_is_last}

@@ -8,7 +8,6 @@ use Rattle.query_parser.specs.declared.fault.QueryFault.{QueryFault}
 use Rattle.query_parser.specs.declared.tree.NameAt.{NameAt}
 use Rattle.query_parser.specs.declared.tree.LiteralAt.{LiteralAt}
 use Rattle.values.specs.declared.test.CompareOp.{CompareOp}
-use Rattle.query_parser.specs.declared.tree.Cond.{Cond}
 use Rattle.query_parser.specs.declared.tree.Cond.TheVariants.{Compare}
 use Rattle.query_parser.specs.Lex.{is_last, same_kind}
 use Rattle.query_parser.specs.Stream.{Stream, kind, next}
