@@ -1,4 +1,4 @@
--- The token at the front of a text.
+-- The token at the front of a text. Bytes are given by their ASCII numbers.
 use Rattle.std.specs.Prelude.{ℕ, ℤ, pos, ◌+◌, Bool, true, false, not, ◌&&◌, ◌||◌, if◌then◌else◌, ◌==◌, nat_lt, List, [], ◌∷◌, length, take, drop, codes, slice_index, Option, Some, None, Result, Ok, Err}
 use Rattle.std.specs.Char.{is_ascii_digit, is_ascii_alphanumeric}
 use Rattle.std.specs.List.{prefix_len}
@@ -17,11 +17,13 @@ use Rattle.query_parser.specs.declared.token.Token.{Token}
 abbrev pub Bytes : Type 0
 Bytes = List ℕ
 
+-- blanks, digits, and the bytes of names without quotes
 abbrev pub is_in : Class → ℕ → Bool
 is_in class.Blank b = b == 32 || b == 9 || b == 13 || b == 10
 is_in class.Digit b = is_ascii_digit b
 is_in class.Word b = is_ascii_alphanumeric b || b == 95 || b == 36
 
+-- how many blanks a text begins with
 abbrev pub blanks : Bytes → ℕ
 blanks = prefix_len (is_in class.Blank)
 
@@ -39,6 +41,7 @@ is_last k.NameTooLong = true
 is_last k.TextTooLong = true
 is_last _ = false
 
+-- the kind that stands beside a word, in any case of its letters
 abbrev pub lookup : List (Bytes × Kind) → Bytes → Kind
 lookup [] word = k.Name
 lookup (e ∷ es) word = if str_eq_ignore_ascii_case e.0 word then e.1 else lookup es word
@@ -54,10 +57,11 @@ keywords =
 unfoldable pub keyword : Bytes → Kind
 keyword = lookup keywords
 
+-- a token without a number
 abbrev pub plain : Kind → ℕ → Token
 plain kind len = record { kind = kind; len = len; number = pos 0 }
 
--- A fault has no length, and so has the end.
+-- A name or a keyword. Faults and the end have no length.
 unfoldable pub word : Bytes → Token
 word z =
     let len = prefix_len (is_in class.Word) z in
@@ -66,6 +70,7 @@ word z =
 
 -- ---- numbers
 
+-- a number of so many bytes, or the fault where it is too wide
 abbrev pub number_or_fault : ℕ → Result ℤ WholeFault → Token
 number_or_fault len (Err fault) = plain k.NumberTooWide 0
 number_or_fault len (Ok n) = record { kind = k.Number; len = len; number = n }
@@ -92,6 +97,7 @@ quoted quote (b ∷ c ∷ z) =
     if not (b == quote) then longer b 1 (quoted quote (c ∷ z))
     else (if c == quote then longer quote 2 (quoted quote z) else Some ([], 1))
 
+-- the value, if the quotes are closed
 abbrev pub value_of : Option (Bytes × ℕ) → Bytes
 value_of None = []
 value_of (Some p) = p.0
@@ -101,12 +107,14 @@ abbrev pub lengths : Option (Bytes × ℕ) → Option (ℕ × ℕ)
 lengths None = None
 lengths (Some p) = Some (length p.0, p.1)
 
+-- the token of what stands in quotes; the limit is on its value
 abbrev pub quotes_token : Kind → Kind → ℕ → Option (Bytes × ℕ) → Token
 quotes_token kind too_long longest None = plain k.OpenText 0
 quotes_token kind too_long longest (Some p) =
     if nat_lt longest (length p.0) then plain too_long 0
     else (if length p.0 == 0 && same_kind kind k.Name then plain k.EmptyName (p.1 + 1) else plain kind (p.1 + 1))
 
+-- a name or a text in quotes
 unfoldable pub in_quotes : Kind → Kind → ℕ → Bytes → Token
 in_quotes kind too_long longest z = quotes_token kind too_long longest (quoted (slice_index z 0) (drop 1 z))
 

@@ -18,9 +18,11 @@ use Rattle.query_parser.specs.Stream.{Lexeme, Stream, kind, tokens}
 use Rattle.query_parser.specs.Query.{func_of, is_count, is_natural, is_value, set_option, query}
 use Rattle.query_parser.specs.Spells.{Rule, IsToken, Skips, SpellsName, SpellsList, SpellsCondition}
 
+-- `*` for COUNT, or a column
 abbrev pub SpellsArgument : Func → Rule Argument
 SpellsArgument f ts a us = (Skips k.Star ts us × (is_count f ≡ true) × (a ≡ argument.Star)) ⊎ ((n : NameAt) × SpellsName ts n us × (a ≡ argument.Column n))
 
+-- the name of a function, and its argument in parentheses
 pub record SpellsCall (ts : Stream) (x : Term) (us : Stream) : Type 0 where
   pub name : NameAt
   pub func : Func
@@ -35,6 +37,7 @@ pub record SpellsCall (ts : Stream) (x : Term) (us : Stream) : Type 0 where
   pub closes : Skips k.RParen at_close us
   pub tree : x ≡ term.Call (record { func = func; argument = argument; offset = name.offset })
 
+-- a column or a call
 abbrev pub SpellsTerm : Rule Term
 SpellsTerm ts x us = ((n : NameAt) × SpellsName ts n us × (x ≡ term.Column n)) ⊎ SpellsCall ts x us
 
@@ -48,13 +51,16 @@ abbrev pub SpellsListed : {A : Type 0} → Kind → Rule (List A) → Rule (List
 SpellsListed kd rule ts [] us = us ≡ ts
 SpellsListed kd rule ts (x ∷ xs) us = (mid : Stream) × Skips kd ts mid × rule mid (x ∷ xs) us
 
+-- an item of the select list
 abbrev pub SpellsItem : Rule QueryItem
 SpellsItem ts i us = (mid : Stream) × SpellsTerm ts i.term mid × SpellsOptional k.As SpellsName mid i.label us
 
+-- ASC or nothing, or DESC
 abbrev pub SpellsDirection : Rule Bool
 SpellsDirection ts false us = (us ≡ ts) ⊎ Skips k.Asc ts us
 SpellsDirection ts true us = Skips k.Desc ts us
 
+-- a key of ORDER BY
 abbrev pub SpellsKey : Rule QueryKey
 SpellsKey ts i us = (mid : Stream) × SpellsTerm ts i.term mid × SpellsDirection mid i.descending us
 
@@ -62,9 +68,11 @@ SpellsKey ts i us = (mid : Stream) × SpellsTerm ts i.term mid × SpellsDirectio
 abbrev pub SpellsBy : {A : Type 0} → Rule A → Rule (List A)
 SpellsBy rule ts xs us = (mid : Stream) × Skips k.By ts mid × SpellsList k.Comma rule mid xs us
 
+-- a number from 0 on
 abbrev pub SpellsCount : Rule LiteralAt
 SpellsCount ts l us = (t : Lexeme) × IsToken k.Number ts t us × (is_natural t.number ≡ true) × (l ≡ record { value = Whole t.number; offset = t.at })
 
+-- OFFSET stands behind LIMIT alone
 abbrev pub SpellsLimits : Stream → Option LiteralAt → Option LiteralAt → Stream → Type 0
 SpellsLimits ts None None us = us ≡ ts
 SpellsLimits ts None (Some o) us = ⊥
@@ -90,9 +98,11 @@ abbrev pub SpellsSets : List (NameAt × Bytes) → Stream → Bool → Bool → 
 SpellsSets [] ts before after us = (us ≡ ts) × (after ≡ before)
 SpellsSets (o ∷ os) ts before after us = (mid : Stream) × (now : Bool) × SpellsSet ts o.0 o.1 mid × (set_option o.0 o.1 before ≡ Ok now) × SpellsSets os mid now after us
 
+-- the end of the text, behind one `;` at most
 abbrev pub SpellsEnding : Stream → Type 0
 SpellsEnding ts = (kind ts ≡ k.End) ⊎ ((mid : Stream) × Skips k.Semi ts mid × (kind mid ≡ k.End))
 
+-- a whole query
 pub record SpellsQuery (ts : Stream) (q : Query) : Type 0 where
   pub sets : List (NameAt × Bytes)
   pub at_select : Stream
@@ -119,11 +129,14 @@ pub record SpellsQuery (ts : Stream) (q : Query) : Type 0 where
 
 -- ---- laws
 
+-- what is spelled is read
 abbrev pub WhatIsSpelledIsParsed : Type 0
 WhatIsSpelledIsParsed = (ts : Stream) (q : Query) → SpellsQuery ts q → (us : Stream) × (query ts ≡ Ok (q, us))
 
+-- what is read is spelled
 abbrev pub WhatIsParsedIsSpelled : Type 0
 WhatIsParsedIsSpelled = (ts : Stream) (q : Query) (us : Stream) → query ts ≡ Ok (q, us) → SpellsQuery ts q
 
+-- a text spells one query at most
 abbrev pub OneQuery : Type 0
 OneQuery = (text : Bytes) (a b : Query) → SpellsQuery (tokens text) a → SpellsQuery (tokens text) b → a ≡ b

@@ -15,13 +15,15 @@ pub record Lexeme : Type 0 where
   pub value : Bytes
   pub at : ℕ
 
+-- the tokens from a place on
 abbrev pub Stream : Type 0
 Stream = List Lexeme
 
+-- a token of a text, at its place
 abbrev pub lexeme : Token → Bytes → ℕ → Lexeme
 lexeme t z at = record { kind = t.kind; number = t.number; value = value z; at = at }
 
--- The first number counts the bytes that are left of a token.
+-- The tokens of a text whose first byte is at a place. The first number counts the bytes that are left of a token.
 unfoldable pub lexemes : ℕ → Bytes → ℕ → Stream
 lexemes left [] at = lexeme (token []) [] at ∷ []
 lexemes (suc left) (b ∷ z) at = lexemes left z (at + 1)
@@ -29,11 +31,13 @@ lexemes zero (b ∷ z) at =
     if is_in Blank b then lexemes 0 z (at + 1)
     else (let t = token (b ∷ z) in lexeme t (b ∷ z) at ∷ (if is_last t.kind then [] else lexemes (t.len - 1) z (at + 1)))
 
+-- the tokens of a whole text
 abbrev pub tokens : Bytes → Stream
 tokens text = lexemes 0 text 0
 
 -- ---- what a parser sees of the tokens that are left
 
+-- the next token
 abbrev pub first : Stream → Lexeme
 first [] = record { kind = End; number = pos 0; value = []; at = 0 }
 first (t ∷ ts) = t

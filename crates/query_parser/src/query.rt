@@ -336,7 +336,11 @@ fn whole(alloc: Global, text: &str) -> Result<Query, QueryFault>
     query(alloc, &mut tokens)
 }
 
-/// The query of a text, or its first fault.
+/// The query of a text, or its first fault: `SET` options, then `SELECT .. FROM ..` with optional
+/// `WHERE`, `GROUP BY`, `ORDER BY`, `LIMIT` and `OFFSET`, and an optional `;`, after the query
+/// language of Apache Pinot. Names stand bare or in `"`, texts in `'`, each doubled within.
+///
+/// Tokens are cut as they are reached, in time linear in the text, and none is kept.
 pub fn parse(alloc: Global, text: &str) -> Result<Query, QueryFault>
     requires { length text.now ≤ 65536 }
     // What is read is spelled by the tokens of the text.
