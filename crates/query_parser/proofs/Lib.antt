@@ -1,0 +1,11 @@
+pub mod Again
+pub mod AgainQuery
+pub mod Ends
+pub mod Found
+pub mod FoundQuery
+pub mod Quotes
+pub mod Singles
+pub mod Streams
+pub mod Takes
+pub mod Turns
+pub mod Whole

@@ -1,0 +1,123 @@
+-- How conditions are read.
+use Rattle.std.specs.Prelude.{ℕ, zero, suc, Bool, true, false, List, [], ◌∷◌, Option, Some, None}
+use Rattle.query_parser.specs.declared.token.Kind.{Kind}
+use Rattle.query_parser.specs.declared.token.Kind.TheVariants as k
+use Rattle.values.specs.declared.test.CompareOp.{CompareOp}
+use Rattle.values.specs.declared.test.CompareOp.TheVariants as op
+use Rattle.query_parser.specs.declared.tree.NameAt.{NameAt}
+use Rattle.query_parser.specs.declared.tree.Cond.{Cond}
+use Rattle.query_parser.specs.declared.tree.Cond.TheVariants.{Compare, OneOf, Between, Not, All, Any}
+use Rattle.query_parser.specs.Reading.{Parser, ◌>>=◌, ◌>>◌, ◌<$>◌, pure, refuse, too_deep, peek, take_token, expect, name, literal, separated}
+
+-- the sign of a comparison
+unfoldable pub operator : Kind → Option CompareOp
+operator k.Eq = Some op.Equal
+operator k.Ne = Some op.Unequal
+operator k.Lt = Some op.Less
+operator k.Le = Some op.AtMost
+operator k.Gt = Some op.More
+operator k.Ge = Some op.AtLeast
+operator _ = None
+
+-- behind IN
+unfoldable pub one_of : NameAt → Bool → Parser Cond
+one_of column negated = do
+  expect k.LParen
+  values ← separated k.Comma literal
+  expect k.RParen
+  pure (OneOf column values negated)
+
+-- behind BETWEEN
+unfoldable pub between : NameAt → Bool → Parser Cond
+between column negated = do
+  low ← literal
+  expect k.And
+  high ← literal
+  pure (Between column low high negated)
+
+-- behind a name and NOT
+abbrev pub negated_by : NameAt → Kind → Parser Cond
+negated_by column k.In = take_token >> one_of column true
+negated_by column k.Between = take_token >> between column true
+negated_by column _ = refuse
+
+-- the same, by the token there
+abbrev pub negated : NameAt → Parser Cond
+negated column = peek >>= negated_by column
+
+-- behind a name, at the sign
+abbrev pub compared : NameAt → Option CompareOp → Parser Cond
+compared column (Some op) = take_token >> Compare column op <$> literal
+compared column None = refuse
+
+-- behind a name
+abbrev pub test_by : NameAt → Kind → Parser Cond
+test_by column k.In = take_token >> one_of column false
+test_by column k.Between = take_token >> between column false
+test_by column k.Not = take_token >> negated column
+test_by column kind = compared column (operator kind)
+
+-- a test of one column
+unfoldable pub test : Parser Cond
+test = do
+  column ← name
+  kind ← peek
+  test_by column kind
+
+-- two or more members, or the one alone
+abbrev pub joined : {C : Type 0} → (List C → C) → List C → C
+joined f [] = f []
+joined f (c ∷ []) = c
+joined f (c ∷ d ∷ cs) = f (c ∷ d ∷ cs)
+
+-- how conditions are put together from tests of some sort
+pub record Joints (C : Type 0) : Type 0 where
+  pub not_of : C → C
+  pub all_of : List C → C
+  pub any_of : List C → C
+
+-- singles with AND between
+unfoldable pub both : {C : Type 0} → Joints C → Parser C → Parser C
+both j single = joined j.all_of <$> separated k.And single
+
+-- those with OR between
+unfoldable pub cond : {C : Type 0} → Joints C → Parser C → Parser C
+cond j single = joined j.any_of <$> separated k.Or (both j single)
+
+-- The rules of a condition, for any sort of test that begins with a name.
+module _ {C : Type 0} (leaf : Parser C) (j : Joints C) where
+  -- by the first token: NOT, a parenthesis or a test
+  abbrev pub single_by : Parser C → Parser C → Kind → Parser C
+  single_by negated grouped k.Not = negated
+  single_by negated grouped k.LParen = grouped
+  single_by negated grouped k.Name = leaf
+  single_by negated grouped _ = refuse
+
+  -- at NOT, which reaches over one single
+  abbrev pub negation : Parser C → Parser C
+  negation single = take_token >> j.not_of <$> single
+
+  -- at a parenthesis, which is open until the one that closes it
+  abbrev pub in_parentheses : Parser C → Parser C
+  in_parentheses single = do
+    take_token
+    inner ← cond j single
+    expect k.RParen
+    pure inner
+
+  -- The number says how many more parentheses and NOTs may be open.
+  unfoldable pub single : ℕ → Parser C
+  single zero = peek >>= single_by too_deep too_deep
+  single (suc depth) = peek >>= single_by (negation (single depth)) (in_parentheses (single depth))
+
+-- conditions on a row
+abbrev pub row_joints : Joints Cond
+row_joints = record { not_of = Not; all_of = All; any_of = Any }
+
+-- the most parentheses and NOTs that may be open at once
+abbrev pub deepest : ℕ
+deepest = 64
+
+-- what stands behind WHERE
+unfoldable pub condition : Parser Cond
+condition = cond row_joints (single test row_joints deepest)

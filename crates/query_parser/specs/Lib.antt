@@ -1,0 +1,9 @@
+pub mod Cond
+pub mod Cursor
+pub mod Lex
+pub mod Query
+pub mod Reading
+pub mod Shrinks
+pub mod Spells
+pub mod SpellsQuery
+pub mod Stream

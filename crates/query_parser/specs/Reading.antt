@@ -1,0 +1,103 @@
+-- How symbols are read from the tokens that are left, and where the reading stops.
+use Rattle.std.specs.Prelude.{◌≡◌, ◌≢◌, ℕ, zero, suc, Bool, if◌then◌else◌, List, [], ◌∷◌, ◌++◌, length, Result, Ok, Err}
+use Rattle.query_parser.specs.declared.token.Kind.{Kind}
+use Rattle.query_parser.specs.declared.token.Kind.TheVariants as k
+use Rattle.query_parser.specs.declared.fault.Reason.{Reason}
+use Rattle.query_parser.specs.declared.fault.Reason.TheVariants as reason
+use Rattle.query_parser.specs.declared.fault.QueryFault.{QueryFault}
+use Rattle.query_parser.specs.declared.fault.QueryFault.TheVariants.{NoMemory, At}
+use Rattle.query_parser.specs.declared.tree.NameAt.{NameAt}
+use Rattle.query_parser.specs.declared.tree.LiteralAt.{LiteralAt}
+use Rattle.values.specs.declared.value.Value.TheVariants.{Whole, Text}
+use Rattle.query_parser.specs.Lex.{same_kind}
+use Rattle.query_parser.specs.Stream.{Stream, kind, place, number, word, next}
+
+-- a tree with the tokens after it, or the fault at which the reading stops
+abbrev pub Outcome : Type 0 → Type 0
+Outcome A = Result (A × Stream) QueryFault
+
+abbrev pub Parser : Type 0 → Type 0
+Parser A = Stream → Outcome A
+
+-- what a function of the code answers: the outcome, unless memory runs out
+abbrev pub Reads : {A : Type 0} → Outcome A → Result A QueryFault → Stream → Type 0
+Reads outcome (Ok a) new = outcome ≡ Ok (a, new)
+Reads outcome (Err e) new = e ≢ NoMemory → outcome ≡ Err e
+
+abbrev pub and_then : {A B : Type 0} → Outcome A → (A → Parser B) → Outcome B
+and_then (Ok p) f = f p.0 p.1
+and_then (Err e) f = Err e
+
+infixl 10 ◌>>=◌
+abbrev pub ◌>>=◌ : {A B : Type 0} → Parser A → (A → Parser B) → Parser B
+p >>= f = λ ts. and_then (p ts) f
+
+infixl 10 ◌>>◌
+abbrev pub ◌>>◌ : {A B : Type 0} → Parser A → Parser B → Parser B
+p >> q = p >>= (λ _. q)
+
+abbrev pub pure : {A : Type 0} → A → Parser A
+pure a = λ ts. Ok (a, ts)
+
+infixr 11 ◌<$>◌
+abbrev pub ◌<$>◌ : {A B : Type 0} → (A → B) → Parser A → Parser B
+f <$> p = p >>= (λ x. pure (f x))
+
+-- why no rule reads a token of this kind
+unfoldable pub reason_of : Kind → Reason
+reason_of k.BadCharacter = reason.BadCharacter
+reason_of k.OpenText = reason.OpenText
+reason_of k.NumberTooWide = reason.NumberTooWide
+reason_of k.NameTooLong = reason.NameTooLong
+reason_of k.TextTooLong = reason.TextTooLong
+reason_of _ = reason.Unexpected
+
+unfoldable pub refusal : Stream → QueryFault
+refusal ts = At (reason_of (kind ts)) (place ts)
+
+abbrev pub refuse : {A : Type 0} → Parser A
+refuse = λ ts. Err (refusal ts)
+
+abbrev pub too_deep : {A : Type 0} → Parser A
+too_deep = λ ts. Err (At reason.TooDeep (place ts))
+
+abbrev pub peek : Parser Kind
+peek = λ ts. Ok (kind ts, ts)
+
+abbrev pub take_token : Parser (Unit {0})
+take_token = λ ts. Ok (tt, next ts)
+
+unfoldable pub sees : Kind → Stream → Bool
+sees k ts = same_kind (kind ts) k
+
+unfoldable pub after : Kind → Stream → Stream
+after k ts = if sees k ts then next ts else ts
+
+-- takes a token of this kind, where it stands there
+abbrev pub eat : Kind → Parser Bool
+eat k = λ ts. Ok (sees k ts, after k ts)
+
+unfoldable pub expect : Kind → Parser (Unit {0})
+expect k = λ ts. if sees k ts then Ok (tt, next ts) else refuse ts
+
+unfoldable pub name : Parser NameAt
+name = λ ts. if sees k.Name ts then Ok (record { name = word ts; offset = place ts }, next ts) else refuse ts
+
+abbrev pub literal_by : Kind → Parser LiteralAt
+literal_by k.Number = λ ts. Ok (record { value = Whole (number ts); offset = place ts }, next ts)
+literal_by k.Text = λ ts. Ok (record { value = Text (word ts); offset = place ts }, next ts)
+literal_by _ = refuse
+
+unfoldable pub literal : Parser LiteralAt
+literal = peek >>= literal_by
+
+-- One or more, with a token between. Each turn takes a token, so one more than the count of those that are left is enough.
+unfoldable pub separated_from : {A : Type 0} → Kind → Parser A → ℕ → List A → Parser (List A)
+separated_from sep item zero found = refuse
+separated_from sep item (suc n) found = do
+  x ← item
+  more ← eat sep
+  if more then separated_from sep item n (found ++ x ∷ []) else pure (found ++ x ∷ [])
+
+abbrev pub separated : {A : Type 0} → Kind → Parser A → Parser (List A)
+separated sep item = λ ts. separated_from sep item (suc (length ts)) [] ts

@@ -1,0 +1,46 @@
+//! Why a text is no query.
+
+use std::alloc::AllocError;
+
+/// Why the reading of a text stops.
+#[derive(Clone, Copy, Debug, PartialEq, Eq)]
+pub enum Reason {
+    /// No token begins here.
+    BadCharacter,
+    /// A quote that is not closed.
+    OpenText,
+    /// A number outside the signed 64-bit ones.
+    NumberTooWide,
+    /// A name of more than 128 bytes.
+    NameTooLong,
+    /// A text of more than 512 bytes.
+    TextTooLong,
+    /// A call of something other than COUNT, SUM, MIN, MAX and AVG.
+    UnknownFunction,
+    /// `*` in a call other than COUNT.
+    BadStar,
+    /// `enableNullHandling` with a value other than `false`.
+    UnsupportedOption,
+    /// The 65th parenthesis or NOT of a condition that is open at once.
+    TooDeep,
+    /// Any other token, or the end of the text.
+    Unexpected,
+}
+
+/// The first fault of a text, with the byte where it stands; at the end that is the text's length.
+#[derive(Clone, Copy, Debug, PartialEq, Eq)]
+pub enum QueryFault {
+    At(Reason, u32),
+    NoMemory,
+}
+
+impl From<AllocError> for QueryFault {
+    ghost use Rattle.std.specs.Prelude.{◌≡◌};
+    ghost use Rattle.query_parser.specs.declared.fault.QueryFault.TheVariants.{NoMemory};
+
+    ghost from_gives = { λ _ e. e ≡ NoMemory };
+
+    fn from(_: AllocError) -> QueryFault {
+        QueryFault::NoMemory
+    }
+}
