@@ -1,12 +1,11 @@
 -- The steps of the loops that make a tree's documents plainly.
-use Rattle.std.proofs.Common.{◌≡◌, ◌≢◌, ℕ, zero, suc, ◌+◌, ◌-◌, ◌<◌, ◌≤◌, Bool, true, false, cond, if◌then◌else◌, nat_le, nat_lt, ◌==◌, Option, Some, None, List, [], ◌∷◌, ◌++◌, map, length, get_or, slice_get, set, take, drop, insert, refl, sym, ap, subst, ◌∙◌, arith, append_assoc}
+use Rattle.std.proofs.Common.{◌≡◌, ◌≢◌, ℕ, zero, suc, ◌+◌, ◌<◌, ◌≤◌, Bool, true, false, cond, if◌then◌else◌, nat_le, nat_lt, ◌==◌, Some, List, [], ◌∷◌, ◌++◌, map, length, get_or, slice_get, take, drop, insert, refl, sym, ap, subst, ◌∙◌, arith}
 use Rattle.std.specs.List.{filter}
-use Rattle.std.proofs.Math.Seq.{drop-cons, take-suc, take-length}
+use Rattle.std.proofs.Math.Seq.{drop-cons, take-suc}
 use Rattle.std.proofs.lemmas.Bool.Decides.{nat_tests}
 use Rattle.std.proofs.lemmas.List.{take-append-drop, length-take-le, get_or_default}
-use Rattle.std.specs.declared.cmp.Ordering.{Ordering}
 use Rattle.std.specs.declared.cmp.Ordering.TheVariants.{Less, Equal, Greater}
-use Rattle.std.specs.Ordering.{nat_cmp, is_gt, is_eq, MatchOrdering}
+use Rattle.std.specs.Ordering.{nat_cmp, is_gt}
 use Rattle.std.proofs.lemmas.Cmp.{ranked, nat_cmp_total, nat_list_cmp_total}
 use Rattle.std.specs.FinMap.{nat_cmp-IsAntisymmetric}
 use Rattle.std.specs.FinMap.Entries.{by_order}
@@ -18,7 +17,7 @@ use Rattle.agg_laws.specs.Numbers.{most_stored}
 use Rattle.agg_laws.specs.RowLaws as rows
 use Rattle.agg_laws.specs.Rows.{kinds_of, merged_rows, row_weight, RowStored}
 use Rattle.agg_laws.specs.Merged.{add, rekey, Merged, weights}
-use Rattle.agg_laws.specs.Tree.{star, dims_order, dim, set_star, merged_docs, docs_with, ids_at}
+use Rattle.agg_laws.specs.Tree.{star, dims_order, dim, set_star, merged_docs, ids_at}
 use Rattle.agg_laws.specs.Docs.{Doc, AreStored}
 use Rattle.agg_laws.specs.Documents.{star_from}
 use Rattle.agg_laws.specs.Plain.{ArePlain, HaveKinds, starred_by, stars, place_in, id_place_in, add_id}

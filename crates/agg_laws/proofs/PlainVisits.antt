@@ -1,9 +1,7 @@
 -- What the visits of a node and of its children append.
-use Rattle.std.proofs.Common.{◌≡◌, ◌≢◌, ℕ, zero, suc, ◌+◌, ◌-◌, ◌<◌, ◌≤◌, Bool, true, false, cond, if◌then◌else◌, not, ◌&&◌, nat_le, nat_lt, ◌==◌, Option, Some, None, List, [], ◌∷◌, ◌++◌, map, length, get_or, take, refl, sym, ap, subst, ◌∙◌, arith, append_assoc}
+use Rattle.std.proofs.Common.{◌≡◌, ◌≢◌, ℕ, suc, ◌+◌, ◌-◌, ◌<◌, ◌≤◌, true, false, cond, if◌then◌else◌, not, ◌&&◌, nat_le, nat_lt, ◌==◌, Some, None, List, [], ◌∷◌, ◌++◌, length, get_or, take, refl, sym, ap, ◌∙◌, arith, append_assoc}
 use Rattle.std.proofs.lemmas.Bool.Decides.{nat_tests}
 use Rattle.std.proofs.lemmas.List.{get_or-set_other, get_or_default}
-use Rattle.std.specs.List.{filter}
-use Rattle.std.specs.declared.cmp.Ordering.{Ordering}
 use Rattle.std.specs.declared.cmp.Ordering.TheVariants.{Less, Equal, Greater}
 use Rattle.std.specs.Ordering.{nat_cmp, eq_by_cmp}
 use Rattle.std.specs.FinMap.{nat_cmp-IsAntisymmetric}
@@ -13,7 +11,7 @@ use Rattle.agg_laws.specs.declared.states.AggState.{AggState}
 use Rattle.agg_laws.specs.declared.tree_shape.TreeShape.{TreeShape}
 use Rattle.agg_laws.specs.Rows.{merged_rows}
 use Rattle.agg_laws.specs.Merged.{join_some, total, add, rekey, Merged}
-use Rattle.agg_laws.specs.Tree.{star, dims_order, dim, set_star, skips, merged_docs, Nodes, none, node, docs_with, kids_of, star_kid, ids_at, under, root_of, tree_of, HaveNoStar}
+use Rattle.agg_laws.specs.Tree.{star, dims_order, dim, set_star, skips, merged_docs, Nodes, none, node, docs_with, kids_of, star_kid, ids_at, under, root_of, HaveNoStar}
 use Rattle.agg_laws.specs.Picks.{has_star}
 use Rattle.agg_laws.specs.Docs.{Doc}
 use Rattle.agg_laws.specs.Documents.{star_docs, aggregated, visit_of, visits_of, documents_of}

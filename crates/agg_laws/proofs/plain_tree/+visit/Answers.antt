@@ -1,10 +1,8 @@
-use Rattle.std.proofs.Common.{◌≡◌, ◌≢◌, ◌<◌, ◌≤◌, ◌-◌, ◌+◌, suc, ◌++◌, List, not, ◌&&◌, nat_lt, true, false, length, get_or, refl, ap, ◌∙◌, sym, subst, arith}
+use Rattle.std.proofs.Common.{◌≡◌, ◌<◌, suc, not, ◌&&◌, nat_lt, true, false, length, get_or, refl, ap, ◌∙◌, sym, subst, arith}
 use Rattle.agg_laws.specs.Rows.{merged_rows}
 use Rattle.agg_laws.specs.Merged.{rekey}
-use Rattle.agg_laws.specs.Tree.{set_star, merged_docs, docs_with, skips, dim, none, kids_of, under}
-use Rattle.agg_laws.specs.Documents.{visits_of}
-use Rattle.agg_laws.specs.Docs.{Doc}
-use Rattle.agg_laws.specs.Plain.{ArePlain, HaveOwn, node_docs}
+use Rattle.agg_laws.specs.Tree.{set_star, merged_docs, docs_with, skips}
+use Rattle.agg_laws.specs.Plain.{ArePlain, HaveOwn}
 use Rattle.agg_laws.proofs.PlainLemmas.{plain-Merged, plain-rekey, plain-filter}
 use Rattle.agg_laws.proofs.PlainVisits.{own-star, own-with, visited_plain, visited_starred, child_visited}
 use Rattle.agg_laws.proofs.plain_tree.+visit.Goals as goal

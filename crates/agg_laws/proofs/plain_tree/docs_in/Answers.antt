@@ -1,4 +1,4 @@
-use Rattle.std.proofs.Common.{◌<◌, length, ◌++◌, ◌∷◌, [], ap, ◌∙◌, sym, arith}
+use Rattle.std.proofs.Common.{◌<◌, length, ◌++◌, ◌∷◌, [], ◌∙◌, sym, arith}
 use Rattle.agg_laws.specs.Docs.{doc_of}
 use Rattle.agg_laws.proofs.PlainLemmas.{kinds_from_shape}
 use Rattle.agg_laws.proofs.PlainSteps.{front_more, got_any}

@@ -1,4 +1,4 @@
-use Rattle.std.proofs.Common.{ap, ◌∙◌, sym}
+use Rattle.std.proofs.Common.{ap, ◌∙◌}
 use Rattle.agg_laws.specs.Plain.{starred_by}
 use Rattle.agg_laws.proofs.PlainSteps.{next_kinds, next_stored, next_stored_too, next_light, next_merged}
 use Rattle.agg_laws.proofs.plain_tree.merge_starred.Goals as goal

@@ -1,10 +1,9 @@
-use Rattle.std.proofs.Common.{◌≡◌, List, [], length, ◌++◌, ◌==◌, true, false, ap, ◌∙◌, sym, subst}
+use Rattle.std.proofs.Common.{◌≡◌, ◌++◌, ap, ◌∙◌, sym, subst}
 use Rattle.agg_laws.specs.Rows.{merged_rows}
 use Rattle.agg_laws.specs.Merged.{rekey}
 use Rattle.agg_laws.specs.Tree.{merged_docs, root_of}
 use Rattle.agg_laws.specs.Documents.{documents_of}
-use Rattle.agg_laws.specs.Plain.{ArePlain, HaveKinds, HaveOwn, starred_by, node_docs}
-use Rattle.agg_laws.specs.declared.plain_tree.Starred.TheVariants as levels
+use Rattle.agg_laws.specs.Plain.{ArePlain, HaveKinds, HaveOwn, node_docs}
 use Rattle.agg_laws.proofs.PlainLemmas.{plain-Merged}
 use Rattle.agg_laws.proofs.PlainVisits.{root_is, own-root, root_documents, no_documents}
 use Rattle.agg_laws.proofs.plain_tree.tree_documents.Goals as goal
