@@ -34,13 +34,14 @@ pub use star_row::StarRow;
 pub use star_table::StarTable;
 pub use state_row::StateRow;
 pub use states::AggState;
-use std::alloc::AllocError;
 pub use sums::Sum;
-pub use tree_laws::{covers_law, merged_law, picks_law, projected_law, reads_law, shares_law};
+pub use tree_laws::{
+    aggregated_law, covers_law, merged_law, picks_law, projected_law, reads_law, shares_law,
+};
 pub use tree_shape::TreeShape;
 
 /// A growth was refused.
-pub type NoMemory = AllocError;
+pub type NoMemory = std::alloc::AllocError;
 
 #[cfg(test)]
 mod tests;

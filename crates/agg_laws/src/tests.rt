@@ -32,6 +32,7 @@ fn worked_documents() {
     projected_law();
     shares_law();
     covers_law();
+    aggregated_law();
     picks_law();
     reads_law();
 }
