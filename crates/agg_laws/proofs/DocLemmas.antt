@@ -77,7 +77,7 @@ weights_reached (e ∷ es) [] h = absurd h
 weights_reached (e ∷ es) (n ∷ ns) h = (rows.row_fits_weight e.1 n h.0, weights_reached es ns h.1)
 
 -- one more entry
-stored-add : (dims : List ℕ) (states : List AggState) (docs : List Doc) → RowStored states → AreStored docs → row_weight states + weights row_weight docs ≤ most_stored
+pub stored-add : (dims : List ℕ) (states : List AggState) (docs : List Doc) → RowStored states → AreStored docs → row_weight states + weights row_weight docs ≤ most_stored
     → AreStored (add dims_order merged_rows dims states docs)
 stored-add dims states [] h k few = (h, tt)
 stored-add dims states (e ∷ es) h k few =

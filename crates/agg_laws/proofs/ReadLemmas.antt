@@ -230,7 +230,7 @@ no_kids : {S : Type 0} (below : List (List ℕ × S) → Nodes S) (d : ℕ) (doc
 no_kids below d docs last [] h = refl
 no_kids below d docs last (v ∷ vs) h = cc
 
-no_docs : {S : Type 0} (join : S → S → S) (j : IsJoin join) (d : ℕ) (docs : List (List ℕ × S)) → ids_at join d docs ≡ [] → docs ≡ []
+pub no_docs : {S : Type 0} (join : S → S → S) (j : IsJoin join) (d : ℕ) (docs : List (List ℕ × S)) → ids_at join d docs ≡ [] → docs ≡ []
 no_docs join j d [] h = refl
 no_docs join j d (e ∷ es) h =
     let v = dim d e.0 in

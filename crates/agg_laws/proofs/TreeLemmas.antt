@@ -73,7 +73,7 @@ Avoids (v ∷ vs) = ((v == star) ≡ false) × Avoids vs
 no_star_eq : (v : ℕ) → eq_by_cmp nat_cmp star v ≡ false → (v == star) ≡ false
 no_star_eq v h = grind (arith, nat_tests)
 
-eq_no_star : (v : ℕ) → v ≢ star → eq_by_cmp nat_cmp star v ≡ false
+pub eq_no_star : (v : ℕ) → v ≢ star → eq_by_cmp nat_cmp star v ≡ false
 eq_no_star v h = grind (arith, nat_tests)
 
 by_cases : {A : Type 0} {S : Type 0} (r : Ordering) (v : S) (k : List ℕ) (t : S) (x : List ℕ × S) (es more : List (List ℕ × S)) → by_order r ((k, t) ∷ x ∷ es) ((x.0, v) ∷ es) (x ∷ more) ≡ [] → A
@@ -87,7 +87,7 @@ module _ {S : Type 0} (join : S → S → S) (j : IsJoin join) where
   avoiding true s (Some t) h = cc
   avoiding false s t h = (refl, h)
 
-  Avoids-keys : (es : List (ℕ × S)) → total join (eq_by_cmp nat_cmp star) es ≡ None → Avoids (map (λ e. e.0) es)
+  pub Avoids-keys : (es : List (ℕ × S)) → total join (eq_by_cmp nat_cmp star) es ≡ None → Avoids (map (λ e. e.0) es)
   Avoids-keys [] h = tt
   Avoids-keys (e ∷ es) h = let both = avoiding (eq_by_cmp nat_cmp star e.0) e.1 (total join (eq_by_cmp nat_cmp star) es) h in (no_star_eq e.0 both.0, Avoids-keys es both.1)
 

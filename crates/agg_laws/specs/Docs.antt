@@ -23,6 +23,11 @@ abbrev pub HaveShape : ℕ → List AggKind → List Doc → Type 0
 HaveShape k ks [] = Unit {0}
 HaveShape k ks (e ∷ es) = (length e.0 ≡ k) × (kinds_of e.1 ≡ ks) × HaveShape k ks es
 
+-- each document has k ids
+abbrev pub HaveIds : ℕ → List Doc → Type 0
+HaveIds k [] = Unit {0}
+HaveIds k (e ∷ es) = (length e.0 ≡ k) × HaveIds k es
+
 -- the document with a number
 abbrev pub doc_at : List Doc → ℕ → Doc
 doc_at docs i = slice_index_or docs i ([], [])

@@ -1,5 +1,5 @@
 -- All documents of a tree, in the order in which its nodes are visited.
-use Rattle.std.specs.Prelude.{ℕ, zero, suc, if◌then◌else◌, ◌==◌, List, [], ◌∷◌, ◌++◌, length}
+use Rattle.std.specs.Prelude.{ℕ, zero, suc, if◌then◌else◌, ◌==◌, Option, Some, None, List, [], ◌∷◌, ◌++◌, length}
 use Rattle.agg_laws.specs.Merged.{rekey}
 use Rattle.agg_laws.specs.Tree.{star, merged_docs, Nodes, none, node}
 use Rattle.agg_laws.specs.Picks.{has_star}
@@ -36,3 +36,8 @@ module _ {S : Type 0} (join : S → S → S) where
   abbrev pub documents_of : Nodes S → List (List ℕ × S)
   documents_of none = []
   documents_of (node id docs kids rest) = docs ++ visit_of 0 docs kids (visits_of 1 kids)
+
+-- the one document with these ids and states, or none
+abbrev pub one_document : {S : Type 0} → List ℕ → Option S → List (List ℕ × S)
+one_document dims None = []
+one_document dims (Some states) = (dims, states) ∷ []

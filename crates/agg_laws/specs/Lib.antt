@@ -21,3 +21,4 @@ pub mod Docs
 pub mod Reads
 pub mod Documents
 pub mod Worked
+pub mod Plain

@@ -11,6 +11,7 @@ mod id_list;
 mod kind_list;
 mod laws;
 mod numbers;
+mod plain_tree;
 mod star_row;
 mod star_table;
 mod state_row;
@@ -28,17 +29,19 @@ pub use extremes::{Greatest, Least};
 pub use id_list::{Ids, STAR};
 pub use kind_list::Kinds;
 pub use laws::{aggregates_law, extremes_law, order_law, rows_law, weights_law};
+pub use plain_tree::tree_documents;
 pub use star_row::StarRow;
 pub use star_table::StarTable;
 pub use state_row::StateRow;
 pub use states::AggState;
-use std::alloc::AllocError;
 pub use sums::Sum;
-pub use tree_laws::{covers_law, merged_law, picks_law, projected_law, reads_law, shares_law};
+pub use tree_laws::{
+    aggregated_law, covers_law, merged_law, picks_law, projected_law, reads_law, shares_law,
+};
 pub use tree_shape::TreeShape;
 
 /// A growth was refused.
-pub type NoMemory = AllocError;
+pub type NoMemory = std::alloc::AllocError;
 
 #[cfg(test)]
 mod tests;

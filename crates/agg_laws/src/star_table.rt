@@ -3,7 +3,7 @@
 ghost use Rattle.std.specs.Prelude.{◌≡◌, ◌<◌, ◌==◌, [], ◌∷◌, ◌++◌, length, slice_get, Some, OnOk, OnErr, IfOk};
 ghost use Rattle.agg_laws.specs.Rows.{kinds_of};
 ghost use Rattle.agg_laws.specs.Tree.{dim};
-ghost use Rattle.agg_laws.specs.Docs.{doc_of, doc_at};
+ghost use Rattle.agg_laws.specs.Docs.{doc_of, doc_at, HaveShape};
 
 use crate::NoMemory;
 use crate::kind_list::Kinds;
@@ -45,7 +45,8 @@ impl StarTable {
     }
 
     pub fn len(&self) -> usize
-        ensures { result ≡ length self.now.docs }
+        ensures count { result ≡ length self.now.docs }
+        ensures shape { HaveShape self.now.dims self.now.kinds self.now.docs }
     {
         self.rows.len()
     }

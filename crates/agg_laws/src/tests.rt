@@ -1,8 +1,8 @@
 //! Small tables worked by hand.
 
-ghost use Rattle.std.specs.Prelude.{◌≡◌, [], ◌∷◌, length, IfOk};
+ghost use Rattle.std.specs.Prelude.{◌≡◌, [], ◌∷◌, ◌++◌, length, IfOk, OnOk, slice_index, pos};
 ghost use Rattle.agg_laws.specs.Kind.{width_of};
-ghost use Rattle.agg_laws.specs.Rows.{merged_rows};
+ghost use Rattle.agg_laws.specs.Rows.{merged_rows, row_of};
 ghost use Rattle.agg_laws.specs.States.{kind_of, IsStored};
 ghost use Rattle.agg_laws.specs.Tree.{tree_of};
 ghost use Rattle.agg_laws.specs.Docs.{projected};
@@ -32,6 +32,7 @@ fn worked_documents() {
     projected_law();
     shares_law();
     covers_law();
+    aggregated_law();
     picks_law();
     reads_law();
 }
@@ -212,5 +213,104 @@ fn tables_of_documents(rt: HostRuntime) -> Result<(), Fail> {
     assert_eq!(rt; table.dim(0, 1), STAR);
     assert_eq!(rt; table.state(0, 0), AggState::Sum(600));
     assert_eq!(rt; *table.at(0).dims.at(0), 7);
+    Ok(())
+}
+
+/// Adds a page view.
+fn add_view(
+    alloc: Global,
+    table: &mut StarTable,
+    kinds: &Kinds,
+    ids: [u32; 3],
+    impressions: i64,
+) -> Result<(), NoMemory>
+    requires dims { table.old.dims ≡ 3 }
+    requires kinds { kinds.now ≡ AggKind.Sum ∷ AggKind.Count ∷ [] }
+    requires table_kinds { table.old.kinds ≡ kinds.now }
+    ensures { OnOk result (table.new ≡ record table.old {
+      docs = table.old.docs
+          ++ (slice_index ids 0 ∷ slice_index ids 1 ∷ slice_index ids 2 ∷ [], row_of kinds.now ((impressions ∷ pos 0 ∷ []) ∷ [])) ∷ [];
+    }) }
+{
+    let mut dims = Ids::new(alloc);
+    dims.push(ids[0])?;
+    dims.push(ids[1])?;
+    dims.push(ids[2])?;
+    let mut states = StateRow::units(alloc, kinds)?;
+    states.add(&[impressions, 0]);
+    table.push(StarRow { dims, states })?;
+    Ok(())
+}
+
+/// The page views.
+fn views_of(alloc: Global, shape: &TreeShape) -> Result<StarTable, NoMemory>
+    requires dims { shape.now.dims ≡ 3 }
+    requires kinds { shape.now.kinds ≡ AggKind.Sum ∷ AggKind.Count ∷ [] }
+    ensures { IfOk result (λ table. (table.kinds ≡ shape.now.kinds) × (table.docs ≡ projected (AggKind.Sum ∷ AggKind.Count ∷ []) views)) }
+{
+    let mut table = StarTable::new(alloc, shape)?;
+    add_view(alloc, &mut table, &shape.kinds, [0, 0, 0], 400)?;
+    add_view(alloc, &mut table, &shape.kinds, [0, 1, 2], 200)?;
+    add_view(alloc, &mut table, &shape.kinds, [1, 2, 1], 300)?;
+    add_view(alloc, &mut table, &shape.kinds, [1, 2, 0], 100)?;
+    add_view(alloc, &mut table, &shape.kinds, [2, 0, 0], 600)?;
+    add_view(alloc, &mut table, &shape.kinds, [2, 1, 1], 200)?;
+    add_view(alloc, &mut table, &shape.kinds, [2, 1, 0], 400)?;
+    Ok(table)
+}
+
+/// The ids, sum and count of each document, in order.
+const DOCUMENTS: [([u32; 3], i128, u64); 28] = [
+    ([0, 0, 0], 400, 1),
+    ([0, 1, 2], 200, 1),
+    ([1, 2, 0], 100, 1),
+    ([1, 2, 1], 300, 1),
+    ([2, 0, 0], 600, 1),
+    ([2, 1, 0], 400, 1),
+    ([2, 1, 1], 200, 1),
+    ([STAR, 0, 0], 1000, 2),
+    ([STAR, 1, 0], 400, 1),
+    ([STAR, 1, 1], 200, 1),
+    ([STAR, 1, 2], 200, 1),
+    ([STAR, 2, 0], 100, 1),
+    ([STAR, 2, 1], 300, 1),
+    ([0, STAR, 0], 400, 1),
+    ([0, STAR, 2], 200, 1),
+    ([0, STAR, STAR], 600, 2),
+    ([1, 2, STAR], 400, 2),
+    ([1, STAR, STAR], 400, 2),
+    ([2, STAR, 0], 1000, 2),
+    ([2, STAR, 1], 200, 1),
+    ([2, 1, STAR], 600, 2),
+    ([2, STAR, STAR], 1200, 3),
+    ([STAR, STAR, 0], 1500, 4),
+    ([STAR, STAR, 1], 500, 2),
+    ([STAR, STAR, 2], 200, 1),
+    ([STAR, 1, STAR], 800, 3),
+    ([STAR, 2, STAR], 400, 2),
+    ([STAR, STAR, STAR], 2200, 7),
+];
+
+#[test]
+fn plain_documents(rt: HostRuntime) -> Result<(), Fail> {
+    let kinds = sums_and_counts(rt.alloc())?;
+    let shape = TreeShape {
+        dims: 3,
+        skipped: 0,
+        leaf: 1,
+        kinds,
+    };
+    let rows = views_of(rt.alloc(), &shape)?;
+    let documents = tree_documents(rt.alloc(), &shape, &rows)?;
+    assert_eq!(rt; documents.len(), 28);
+    for i in 0..28 {
+        let (ids, sum, count) = DOCUMENTS[i];
+        let document = &documents[i];
+        assert_eq!(rt; document.0.as_slice(), ids.as_slice());
+        assert_eq!(rt;
+            document.1.as_slice(),
+            [AggState::Sum(sum), AggState::Count(count)].as_slice()
+        );
+    }
     Ok(())
 }

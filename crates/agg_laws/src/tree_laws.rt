@@ -1,6 +1,6 @@
 //! The laws of merged documents and of the star-tree. Each is the contract of a function that does nothing.
 
-ghost use Rattle.std.specs.Prelude.{◌≡◌, ℕ, ◌+◌, ◌<◌, ◌≤◌, Bool, true, ℤ, List, length, map, sum, IsTrue, IsPermutation};
+ghost use Rattle.std.specs.Prelude.{◌≡◌, ℕ, ◌+◌, ◌-◌, ◌++◌, replicate, ◌<◌, ◌≤◌, Bool, true, ℤ, List, length, map, sum, IsTrue, IsPermutation};
 ghost use Rattle.std.specs.List.{filter};
 ghost use Rattle.std.specs.FinMap.{is_sorted, find};
 ghost use Rattle.std.specs.Ordering.{eq_by_cmp};
@@ -9,8 +9,9 @@ ghost use Rattle.agg_laws.specs.declared.tree_shape.TreeShape.{TreeShape};
 ghost use Rattle.agg_laws.specs.Numbers.{most_stored};
 ghost use Rattle.agg_laws.specs.Rows.{merged_rows, row_weight};
 ghost use Rattle.agg_laws.specs.Merged.{total, rekey, weights};
-ghost use Rattle.agg_laws.specs.Tree.{dims_order, set_star, merged_docs, tree_of, HaveNoStar, CoversTree, rows_at};
-ghost use Rattle.agg_laws.specs.Docs.{Doc, AreStored, FitShares, projected, states_of};
+ghost use Rattle.agg_laws.specs.Tree.{star, dims_order, set_star, CoversRows, merged_docs, tree_of, HaveNoStar, CoversTree, rows_at};
+ghost use Rattle.agg_laws.specs.Docs.{Doc, HaveIds, AreStored, FitShares, projected, states_of};
+ghost use Rattle.agg_laws.specs.Documents.{aggregated, one_document};
 ghost use Rattle.agg_laws.specs.Picks.{Task, picks, ArePartedBy, KeepGroups};
 ghost use Rattle.agg_laws.specs.Reads.{factor, read_of, bound};
 
@@ -59,4 +60,12 @@ pub fn picks_law()
 pub fn reads_law()
     ensures { (t : Task) (shape : TreeShape) (k : ℕ) (docs : List Doc) → HaveNoStar k docs → 1 ≤ shape.leaf → ((d : ℕ) → d < k → 1 ≤ factor merged_rows t shape docs d)
         → read_of t k (tree_of merged_rows shape k docs) ≤ bound merged_rows t shape docs k }
+{}
+
+/// The aggregated document of a node has the ids of the node's path, and star on each further dimension. Its states are
+/// those of the rows that agree with the path, merged.
+pub fn aggregated_law()
+    ensures { (k : ℕ) (rows docs : List Doc) (path : List ℕ) → HaveIds k rows → length path ≤ k → CoversRows merged_rows rows path docs
+        → aggregated merged_rows (length path) docs
+        ≡ one_document (path ++ replicate (k - length path) star) (total merged_rows (λ _. true) (rows_at path rows)) }
 {}

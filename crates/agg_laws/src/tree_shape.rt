@@ -14,3 +14,16 @@ pub struct TreeShape {
     /// The kinds of the pairs, in order.
     pub kinds: Kinds,
 }
+
+impl TreeShape {
+    ghost use Rattle.std.specs.Prelude.{◌≡◌, ◌<◌};
+    ghost use Rattle.agg_laws.specs.Tree.{skips};
+
+    /// Whether no star child is made for a split dimension.
+    pub fn skips(&self, level: usize) -> bool
+        requires { level < 16 }
+        ensures { result ≡ skips self.now level }
+    {
+        self.skipped / (1 << level) % 2 == 1
+    }
+}
