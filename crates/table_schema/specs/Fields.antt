@@ -54,7 +54,7 @@ name_finding base d = first_of (
     ∷ [])
 
 abbrev pub is_among : List Text → Text → Bool
-is_among names name = list_any (bytes_eq name) names
+is_among names name = list_any (λ n. bytes_eq n name) names
 
 -- ---- the type
 
