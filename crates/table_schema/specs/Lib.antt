@@ -6,3 +6,7 @@ pub mod Defaults
 pub mod Fields
 pub mod Schemas
 pub mod Entries
+pub mod Columns
+pub mod Pairs
+pub mod Trees
+pub mod Indexes

@@ -1,6 +1,7 @@
 //! Tables: the schema and the settings that Pinot's users write in JSON, and queries over their fields.
 #![tactic(auto)]
 
+mod columns;
 mod defaults;
 mod entry;
 mod fault;
