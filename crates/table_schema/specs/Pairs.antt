@@ -94,9 +94,12 @@ pair_finding fields path d = first_of (
     ∷ fault_unless (is_some (pair_of fields (text_of d))) BadPair path
     ∷ [])
 
+abbrev pub pair_places : List Field → Text → List Data → Finding
+pair_places fields path ds = by_place (λ before d. pair_finding fields (at_place path (length before)) d) [] ds
+
 -- the places of an array of pairs, of which at most 16 are kept
 abbrev pub pairs_finding : List Field → Text → List Data → Finding
 pairs_finding fields path ds = first_of (
-    by_place (λ before d. pair_finding fields (at_place path (length before)) d) [] ds
+    pair_places fields path ds
     ∷ fault_unless (nat_le (length (pairs_of fields ds)) 16) TooMany path
     ∷ [])

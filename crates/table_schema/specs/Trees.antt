@@ -4,6 +4,7 @@ use Rattle.serde_json.specs.Data.{Data}
 use Rattle.serde_json.specs.Find.{as_number, as_u64}
 use Rattle.agg_laws.specs.declared.tree_shape.TreeShape.{TreeShape}
 use Rattle.table_schema.specs.declared.field.Field.{Field}
+use Rattle.table_schema.specs.declared.settings.Pair.{Pair}
 use Rattle.table_schema.specs.declared.settings.TreeSetting.{TreeSetting}
 use Rattle.table_schema.specs.declared.fault.KeyKind.TheVariants.{MissingKey, WrongKind, UnknownColumn, DuplicateColumn, TooMany}
 use Rattle.table_schema.specs.declared.fault.TextFault.TheVariants.{At}
@@ -74,6 +75,9 @@ skip_finding fields base split d = first_of (
     ∷ skip_places fields (below base SKIP_KEY) split (items_at SKIP_KEY d)
     ∷ [])
 
+abbrev pub skips_of : List Field → Data → List ℕ
+skips_of fields d = numbers_of fields (items_at SKIP_KEY d)
+
 -- bit i says whether split dimension i is named
 abbrev pub bits_of : List ℕ → List ℕ → ℕ
 bits_of skipped [] = 0
@@ -89,6 +93,9 @@ tree_pairs_finding fields base d = first_of (
     needed_array base PAIRS_KEY d
     ∷ pairs_finding fields (below base PAIRS_KEY) (items_at PAIRS_KEY d)
     ∷ [])
+
+abbrev pub tree_pairs_of : List Field → Data → List Pair
+tree_pairs_of fields d = pairs_of fields (items_at PAIRS_KEY d)
 
 abbrev pub leaf_in_range : Option ℕ → Bool
 leaf_in_range None = false
@@ -125,22 +132,25 @@ tree_finding fields base d = first_of (
 abbrev pub shape_of : List Field → Data → TreeShape
 shape_of fields d = record {
   dims = length (split_of fields d);
-  skipped = bits_of (numbers_of fields (items_at SKIP_KEY d)) (split_of fields d);
+  skipped = bits_of (skips_of fields d) (split_of fields d);
   leaf = leaf_of d;
-  kinds = map (λ p. p.kind) (pairs_of fields (items_at PAIRS_KEY d));
+  kinds = map (λ p. p.kind) (tree_pairs_of fields d);
 }
 
 abbrev pub tree_of : List Field → Data → TreeSetting
-tree_of fields d = record { split = split_of fields d; pairs = pairs_of fields (items_at PAIRS_KEY d); shape = shape_of fields d }
+tree_of fields d = record { split = split_of fields d; pairs = tree_pairs_of fields d; shape = shape_of fields d }
 
 abbrev pub TREES_KEY : Text
 TREES_KEY = codes "starTreeIndexConfigs"
+
+abbrev pub tree_places : List Field → Text → List Data → Finding
+tree_places fields path ds = by_place (λ before d. tree_finding fields (at_place path (length before)) d) [] ds
 
 abbrev pub trees_finding : List Field → Text → Data → Finding
 trees_finding fields base d = first_of (
     optional_array base TREES_KEY d
     ∷ fault_unless (nat_le (length (items_at TREES_KEY d)) 8) TooMany (below base TREES_KEY)
-    ∷ by_place (λ before v. tree_finding fields (at_place (below base TREES_KEY) (length before)) v) [] (items_at TREES_KEY d)
+    ∷ tree_places fields (below base TREES_KEY) (items_at TREES_KEY d)
     ∷ [])
 
 abbrev pub trees_of : List Field → Data → List TreeSetting

@@ -10,11 +10,13 @@ mod field_text;
 mod json;
 mod keys;
 mod names;
+mod pairs;
 mod path;
 mod query;
 mod schema_text;
 mod settings;
 mod table;
+mod trees;
 
 pub use fault::{KeyKind, KeyPath, TextFault};
 pub use field::{Field, Role, Schema};
