@@ -7,7 +7,7 @@ use Rattle.table_schema.specs.declared.fault.KeyKind.{KeyKind}
 use Rattle.table_schema.specs.declared.fault.TextFault.{TextFault}
 use Rattle.table_schema.specs.declared.fault.TextFault.TheVariants.{At}
 use Rattle.table_schema.specs.Json.{Text}
-use Rattle.table_schema.specs.Faults.{Finding, or_else, fault_unless, Gives}
+use Rattle.table_schema.specs.Faults.{Finding, or_else, fault_unless, Gives, Refuses}
 use Rattle.table_schema.proofs.Places.{length-map}
 
 pub or_else-none : (f : Finding) → or_else f None ≡ f
@@ -33,3 +33,12 @@ fault_unless-le n m kind path le =
 -- an array has no more items than the values that it is read from
 pub fault_unless-few : (vs : List Value) (ds : List Data) (m : ℕ) (kind : KeyKind) (path : Text) → map view vs ≡ ds → length vs ≤ m → fault_unless (nat_le (length ds) m) kind path ≡ None
 fault_unless-few vs ds m kind path same le = fault_unless-le (length ds) m kind path (omega (arith, ap length same, length-map view vs))
+
+pub second_refuses : (a b c rest : Finding) (e : TextFault) → a ≡ None → c ≡ b → Refuses c e → Refuses (or_else a (or_else b rest)) e
+second_refuses a b c rest e none same refuses = λ other. ap (λ f. or_else f (or_else b rest)) none ∙ ap (λ g. or_else g rest) (sym same ∙ refuses other)
+
+pub third_refuses : (a b f g : Finding) (e : TextFault) → a ≡ None → b ≡ None → g ≡ f → Refuses g e → Refuses (or_else a (or_else b (or_else f None))) e
+third_refuses a b f g e none also same refuses = λ other. sym (third_of_three a b f none also) ∙ sym same ∙ refuses other
+
+pub all_none : (a b f : Finding) → a ≡ None → b ≡ None → f ≡ None → or_else a (or_else b (or_else f None)) ≡ None
+all_none a b f none also last = sym (third_of_three a b f none also) ∙ last

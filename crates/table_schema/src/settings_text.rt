@@ -44,11 +44,12 @@ fn settings_of(alloc: Global, fields: &[Field], json: &Json) -> Result<Settings,
     ensures { Gives (spec.settings_finding fields.now (view json.now))
         (spec.settings_of fields.now (view json.now)) result }
 {
-    let table = Name::from_text(alloc, read_head(alloc, json)?)?;
-    match key_of(json, INDEX_KEY) {
-        Some(index) => read_indexes(alloc, fields, table, index),
-        None => Ok(plain(alloc, fields, table)?),
-    }
+    let name = read_head(alloc, json)?;
+    let table = Name::from_text(alloc, name)?;
+    let Some(index) = key_of(json, INDEX_KEY) else {
+        return Ok(plain(alloc, fields, table)?);
+    };
+    read_indexes(alloc, fields, table, index)
 }
 
 /// The settings in which no index is named.
