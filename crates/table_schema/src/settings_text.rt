@@ -24,11 +24,7 @@ const INGESTION_KEY: &str = "ingestionConfig";
 ///
 /// The table is offline. Keys that are not checked are ignored, and a key whose value is `null`
 /// counts as absent. The fault is the first one in the order of the checks.
-pub fn read_settings(
-    alloc: Global,
-    schema: &Schema,
-    bytes: &[u8],
-) -> Result<Settings, TextFault>
+pub fn read_settings(alloc: Global, schema: &Schema, bytes: &[u8]) -> Result<Settings, TextFault>
     requires { length schema.now.fields ≤ 64 }
     ensures ok { IfOk result
         (λ settings. spec.settings_read schema.now.fields bytes.now ≡ Ok settings) }

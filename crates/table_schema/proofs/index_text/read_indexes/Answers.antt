@@ -13,8 +13,8 @@ returns-in_err-check_raw c =
     let s = indexed fields c.args.table (view c.args.json.now) in
     let raw = map view c.in_ok-settings.raw.now in
     let same = ap (λ t. raw_places fields t c.as_str.result.now raw) c.in_ok-settings.ensures.settings
-        ∙ ap (λ path. raw_places fields s path raw) (c.as_str.ensures ∙ c.in_ok-path.ensures)
-        ∙ ap (raw_places fields s (below INDEX_KEY RAW_KEY)) c.in_ok-settings.ensures.raw in
+    ∙ ap (λ path. raw_places fields s path raw) (c.as_str.ensures ∙ c.in_ok-path.ensures)
+    ∙ ap (raw_places fields s (below INDEX_KEY RAW_KEY)) c.in_ok-settings.ensures.raw in
     rw (p.1, p.2) (second_refuses _ _ _ _ c.in_err-check_raw.field-0.0 c.in_ok-settings.ensures.ok same c.in_err-check_raw.ensures)
 
 pub returns-in_err-check_built : goal.returns-in_err-check_built
@@ -24,10 +24,10 @@ returns-in_err-check_built c =
     let s = indexed fields c.args.table (view c.args.json.now) in
     let raw = map view c.in_ok-settings.raw.now in
     let same = ap (λ t. raw_places fields t c.as_str.result.now raw) c.in_ok-settings.ensures.settings
-        ∙ ap (λ path. raw_places fields s path raw) (c.as_str.ensures ∙ c.in_ok-path.ensures)
-        ∙ ap (raw_places fields s (below INDEX_KEY RAW_KEY)) c.in_ok-settings.ensures.raw in
+    ∙ ap (λ path. raw_places fields s path raw) (c.as_str.ensures ∙ c.in_ok-path.ensures)
+    ∙ ap (raw_places fields s (below INDEX_KEY RAW_KEY)) c.in_ok-settings.ensures.raw in
     rw (p.1, p.2) (third_refuses _ _ _ _ c.in_err-check_built.field-0.0 c.in_ok-settings.ensures.ok (sym same ∙ c.in_ok-check_raw.ensures)
-        (ap unbuilt_finding c.in_ok-settings.ensures.settings) c.in_err-check_built.ensures)
+    (ap unbuilt_finding c.in_ok-settings.ensures.settings) c.in_err-check_built.ensures)
 
 pub returns : goal.returns
 returns c =
@@ -35,9 +35,9 @@ returns c =
     let s = indexed fields c.args.table (view c.args.json.now) in
     let raw = map view c.in_ok-settings.raw.now in
     let same = ap (λ t. raw_places fields t c.as_str.result.now raw) c.in_ok-settings.ensures.settings
-        ∙ ap (λ path. raw_places fields s path raw) (c.as_str.ensures ∙ c.in_ok-path.ensures)
-        ∙ ap (raw_places fields s (below INDEX_KEY RAW_KEY)) c.in_ok-settings.ensures.raw in (
-        all_none _ _ _ c.in_ok-settings.ensures.ok (sym same ∙ c.in_ok-check_raw.ensures)
-            (ap unbuilt_finding (sym c.in_ok-settings.ensures.settings) ∙ c.in_ok-check_built.ensures),
-        c.in_ok-settings.ensures.settings,
+    ∙ ap (λ path. raw_places fields s path raw) (c.as_str.ensures ∙ c.in_ok-path.ensures)
+    ∙ ap (raw_places fields s (below INDEX_KEY RAW_KEY)) c.in_ok-settings.ensures.raw in (
+      all_none _ _ _ c.in_ok-settings.ensures.ok (sym same ∙ c.in_ok-check_raw.ensures)
+          (ap unbuilt_finding (sym c.in_ok-settings.ensures.settings) ∙ c.in_ok-check_built.ensures),
+      c.in_ok-settings.ensures.settings,
     )

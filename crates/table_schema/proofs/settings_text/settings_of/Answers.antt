@@ -14,7 +14,7 @@ returns c =
     let v = view c.in-Some.index.now in
     let table = c.in_ok-table.ensures ∙ c.in_ok-name.ensures.name in
     Gives-same _ _ _ _ c.read_indexes.result
-        (ap (λ t. index_finding fields t v) table ∙ ap (optional (index_finding fields (table_name d))) c.in-Some.ensures
-        ∙ second_of_two (head_finding d) _ c.in_ok-name.ensures.ok)
-        (ap (λ t. indexed fields t v) table ∙ ap (λ o. indexed fields (table_name d) (unwrap_or o null)) c.in-Some.ensures)
-        c.read_indexes.ensures
+    (ap (λ t. index_finding fields t v) table ∙ ap (optional (index_finding fields (table_name d))) c.in-Some.ensures
+    ∙ second_of_two (head_finding d) _ c.in_ok-name.ensures.ok)
+    (ap (λ t. indexed fields t v) table ∙ ap (λ o. indexed fields (table_name d) (unwrap_or o null)) c.in-Some.ensures)
+    c.read_indexes.ensures

@@ -12,6 +12,6 @@ returns c =
     let v = view c.in-Some.value.now in
     let path = c.as_str.ensures ∙ c.in_ok-path.ensures in
     Gives-same _ _ _ _ c.read_value.result
-        (ap (λ p. sorted_value_finding fields p v) path ∙ ap (optional (sorted_value_finding fields (below c.args.base.now SORTED_KEY))) c.in-Some.ensures)
-        (ap (option_and_then (λ w. sorted_number fields (sorted_name w))) c.in-Some.ensures)
-        c.read_value.ensures
+    (ap (λ p. sorted_value_finding fields p v) path ∙ ap (optional (sorted_value_finding fields (below c.args.base.now SORTED_KEY))) c.in-Some.ensures)
+    (ap (option_and_then (λ w. sorted_number fields (sorted_name w))) c.in-Some.ensures)
+    c.read_value.ensures

@@ -15,8 +15,8 @@ returns-clause-split c =
     let path = c.as_str.ensures ∙ c.in_ok-path.ensures in
     let items = c.in_ok-items.ensures.items in
     Gives-same _ _ _ _ c.split_places.result
-        (ap (λ p. split_places fields p (map view c.in_ok-items.items.now)) path ∙ ap (split_places fields (below base SPLIT_KEY)) items
-        ∙ third_of_three (needed_array base SPLIT_KEY d) _ _ c.in_ok-items.ensures.ok
-            (fault_unless-few c.in_ok-items.items.now (items_at SPLIT_KEY d) 16 _ _ items (omega arith)))
-        (ap (numbers_of fields) items)
-        c.split_places.ensures.split
+    (ap (λ p. split_places fields p (map view c.in_ok-items.items.now)) path ∙ ap (split_places fields (below base SPLIT_KEY)) items
+    ∙ third_of_three (needed_array base SPLIT_KEY d) _ _ c.in_ok-items.ensures.ok
+    (fault_unless-few c.in_ok-items.items.now (items_at SPLIT_KEY d) 16 _ _ items (omega arith)))
+    (ap (numbers_of fields) items)
+    c.split_places.ensures.split

@@ -14,8 +14,8 @@ returns c =
     let path = c.as_str.ensures ∙ c.in_ok-path.ensures in
     let items = c.in_ok-items.ensures.items in
     Gives-same _ _ _ _ c.tree_places.result
-        (ap (λ p. tree_places fields p (map view c.in_ok-items.items.now)) path ∙ ap (tree_places fields (below base TREES_KEY)) items
-        ∙ third_of_three (optional_array base TREES_KEY d) _ _ c.in_ok-items.ensures.ok
-            (fault_unless-few c.in_ok-items.items.now (items_at TREES_KEY d) 8 _ _ items (omega arith)))
-        (ap (map (tree_of fields)) items)
-        c.tree_places.ensures
+    (ap (λ p. tree_places fields p (map view c.in_ok-items.items.now)) path ∙ ap (tree_places fields (below base TREES_KEY)) items
+    ∙ third_of_three (optional_array base TREES_KEY d) _ _ c.in_ok-items.ensures.ok
+    (fault_unless-few c.in_ok-items.items.now (items_at TREES_KEY d) 8 _ _ items (omega arith)))
+    (ap (map (tree_of fields)) items)
+    c.tree_places.ensures

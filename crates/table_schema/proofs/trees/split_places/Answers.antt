@@ -12,7 +12,7 @@ loop-place-preserved c =
     let x = c.index-items-place.result in
     let within : l.place < length xs = omega arith in
     let is = c.index-items-place.is in (
-        split_more fields path xs l.place x within is c.as_slice.result.now (c.as_slice.ensures ∙ l.invariant.1) l.invariant.0 c.in_ok-number.ensures.ok,
-        c.in_ok-push.ensures.ok ∙ ap (λ s. s ++ c.in_ok-number.number ∷ []) l.invariant.1 ∙ numbers_more fields path xs l.place x within is c.in_ok-number.number c.in_ok-number.ensures.number,
-        grind (arith, common_steps),
+      split_more fields path xs l.place x within is c.as_slice.result.now (c.as_slice.ensures ∙ l.invariant.1) l.invariant.0 c.in_ok-number.ensures.ok,
+      c.in_ok-push.ensures.ok ∙ ap (λ s. s ++ c.in_ok-number.number ∷ []) l.invariant.1 ∙ numbers_more fields path xs l.place x within is c.in_ok-number.number c.in_ok-number.ensures.number,
+      grind (arith, common_steps),
     )

@@ -14,7 +14,7 @@ returns c =
     let path = c.as_str.ensures ∙ c.in_ok-path.ensures in
     let items = c.in_ok-items.ensures.items in
     Gives-same _ _ _ _ c.read_pairs.result
-        (ap (λ p. pairs_finding fields p (map view c.in_ok-items.items.now)) path ∙ ap (pairs_finding fields (below c.args.base.now PAIRS_KEY)) items
-        ∙ second_of_two (needed_array c.args.base.now PAIRS_KEY d) _ c.in_ok-items.ensures.ok)
-        (ap (pairs_of fields) items)
-        c.read_pairs.ensures
+    (ap (λ p. pairs_finding fields p (map view c.in_ok-items.items.now)) path ∙ ap (pairs_finding fields (below c.args.base.now PAIRS_KEY)) items
+    ∙ second_of_two (needed_array c.args.base.now PAIRS_KEY d) _ c.in_ok-items.ensures.ok)
+    (ap (pairs_of fields) items)
+    c.read_pairs.ensures

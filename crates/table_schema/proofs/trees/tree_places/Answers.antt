@@ -14,9 +14,9 @@ loop-place-preserved c =
     let within : l.place < length xs = omega arith in
     let is = c.index-items-place.is in
     let base = c.as_str.ensures ∙ c.in_ok-base.ensures ∙ ap (at_place c.args.path.now) (sym (places_done view xs l.place within)) in (
-        passed_here view _ xs l.place x within is l.invariant.0 _ (ap (λ b. tree_finding fields b (view x)) base) c.in_ok-tree.ensures.0,
-        c.in_ok-push.ensures.ok
-        ∙ ap (λ ts. ts ++ c.in_ok-tree.tree ∷ []) l.invariant.1
-        ∙ ap (λ t. map (tree_of fields) (map view (take l.place xs)) ++ t ∷ []) c.in_ok-tree.ensures.1
-        ∙ sym (ap (map (tree_of fields)) (done_more view xs l.place x within is) ∙ map-append (tree_of fields) (map view (take l.place xs)) (view x ∷ [])),
+      passed_here view _ xs l.place x within is l.invariant.0 _ (ap (λ b. tree_finding fields b (view x)) base) c.in_ok-tree.ensures.0,
+      c.in_ok-push.ensures.ok
+          ∙ ap (λ ts. ts ++ c.in_ok-tree.tree ∷ []) l.invariant.1
+          ∙ ap (λ t. map (tree_of fields) (map view (take l.place xs)) ++ t ∷ []) c.in_ok-tree.ensures.1
+          ∙ sym (ap (map (tree_of fields)) (done_more view xs l.place x within is) ∙ map-append (tree_of fields) (map view (take l.place xs)) (view x ∷ [])),
     )
