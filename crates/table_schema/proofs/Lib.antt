@@ -4,3 +4,5 @@ pub mod Places
 pub mod FieldWalk
 pub mod Answered
 pub mod Numbers
+pub mod SchemaLaw
+pub mod SettingsLaw

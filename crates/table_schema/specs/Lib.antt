@@ -11,3 +11,5 @@ pub mod Pairs
 pub mod Trees
 pub mod Indexes
 pub mod TableTexts
+pub mod Valid
+pub mod ValidSettings

@@ -10,6 +10,7 @@ mod field_text;
 mod index_text;
 mod json;
 mod keys;
+mod laws;
 mod names;
 mod pairs;
 mod path;
@@ -23,6 +24,7 @@ mod trees;
 
 pub use fault::{KeyKind, KeyPath, TextFault};
 pub use field::{Field, Role, Schema};
+pub use laws::{schema_law, settings_law};
 pub use query::{Agg, BoundQuery, Conjunct, Item, OrderKey, Wide};
 pub use schema_text::read_schema;
 pub use settings::{Pair, Settings, TreeSetting};

@@ -52,68 +52,70 @@ fn defaults(rt: HostRuntime) -> Result<(), Fail> {
     Ok(())
 }
 
+const WHOLE_TEXTS: [(&str, KeyKind, &str); 17] = [
+    ("", KeyKind::NotJson, ""),
+    ("{", KeyKind::NotJson, ""),
+    (r#"{"schemaName":1e400}"#, KeyKind::NotJson, ""),
+    ("[{}]", KeyKind::WrongKind, ""),
+    ("null", KeyKind::WrongKind, ""),
+    (r#"{"a":1}"#, KeyKind::MissingKey, "schemaName"),
+    (r#"{"schemaName":null}"#, KeyKind::MissingKey, "schemaName"),
+    (
+        r#"{"timeFieldSpec":1,"schemaName":1}"#,
+        KeyKind::WrongKind,
+        "schemaName",
+    ),
+    (
+        r#"{"schemaName":"s","complexFieldSpecs":[null],"timeFieldSpec":{"a":[0]}}"#,
+        KeyKind::Unsupported,
+        "timeFieldSpec",
+    ),
+    (
+        r#"{"schemaName":"s","complexFieldSpecs":[null],"enableColumnBasedNullHandling":true}"#,
+        KeyKind::Unsupported,
+        "complexFieldSpecs",
+    ),
+    (
+        r#"{"schemaName":"s","enableColumnBasedNullHandling":true,"dimensionFieldSpecs":1}"#,
+        KeyKind::Unsupported,
+        "enableColumnBasedNullHandling",
+    ),
+    (
+        r#"{"schemaName":"s","metricFieldSpecs":1,"dimensionFieldSpecs":{}}"#,
+        KeyKind::WrongKind,
+        "dimensionFieldSpecs",
+    ),
+    (
+        r#"{"schemaName":"s","dateTimeFieldSpecs":"","metricFieldSpecs":1}"#,
+        KeyKind::WrongKind,
+        "metricFieldSpecs",
+    ),
+    (
+        r#"{"schemaName":"s","dimensionFieldSpecs":[1],"dateTimeFieldSpecs":""}"#,
+        KeyKind::WrongKind,
+        "dateTimeFieldSpecs",
+    ),
+    (
+        r#"{"schemaName":"s","metricFieldSpecs":[]}"#,
+        KeyKind::MissingKey,
+        "dimensionFieldSpecs",
+    ),
+    (
+        r#"{"schemaName":"s","metricFieldSpecs":[{"name":"m","dataType":"DOUBLE"}]}"#,
+        KeyKind::UnknownType,
+        "metricFieldSpecs[0].dataType",
+    ),
+    (
+        r#"{"schemaName":"s","metricFieldSpecs":[{"name":"m","dataType":"STRING","maxLength":1}]}"#,
+        KeyKind::Unsupported,
+        "metricFieldSpecs[0].dataType",
+    ),
+];
+
 #[test]
 fn whole_texts(rt: HostRuntime) {
     let alloc = rt.alloc();
-    for (text, kind, path) in [
-        ("", KeyKind::NotJson, ""),
-        ("{", KeyKind::NotJson, ""),
-        (r#"{"schemaName":1e400}"#, KeyKind::NotJson, ""),
-        ("[{}]", KeyKind::WrongKind, ""),
-        ("null", KeyKind::WrongKind, ""),
-        (r#"{"a":1}"#, KeyKind::MissingKey, "schemaName"),
-        (r#"{"schemaName":null}"#, KeyKind::MissingKey, "schemaName"),
-        (
-            r#"{"timeFieldSpec":1,"schemaName":1}"#,
-            KeyKind::WrongKind,
-            "schemaName",
-        ),
-        (
-            r#"{"schemaName":"s","complexFieldSpecs":[null],"timeFieldSpec":{"a":[0]}}"#,
-            KeyKind::Unsupported,
-            "timeFieldSpec",
-        ),
-        (
-            r#"{"schemaName":"s","complexFieldSpecs":[null],"enableColumnBasedNullHandling":true}"#,
-            KeyKind::Unsupported,
-            "complexFieldSpecs",
-        ),
-        (
-            r#"{"schemaName":"s","enableColumnBasedNullHandling":true,"dimensionFieldSpecs":1}"#,
-            KeyKind::Unsupported,
-            "enableColumnBasedNullHandling",
-        ),
-        (
-            r#"{"schemaName":"s","metricFieldSpecs":1,"dimensionFieldSpecs":{}}"#,
-            KeyKind::WrongKind,
-            "dimensionFieldSpecs",
-        ),
-        (
-            r#"{"schemaName":"s","dateTimeFieldSpecs":"","metricFieldSpecs":1}"#,
-            KeyKind::WrongKind,
-            "metricFieldSpecs",
-        ),
-        (
-            r#"{"schemaName":"s","dimensionFieldSpecs":[1],"dateTimeFieldSpecs":""}"#,
-            KeyKind::WrongKind,
-            "dateTimeFieldSpecs",
-        ),
-        (
-            r#"{"schemaName":"s","metricFieldSpecs":[]}"#,
-            KeyKind::MissingKey,
-            "dimensionFieldSpecs",
-        ),
-        (
-            r#"{"schemaName":"s","metricFieldSpecs":[{"name":"m","dataType":"DOUBLE"}]}"#,
-            KeyKind::UnknownType,
-            "metricFieldSpecs[0].dataType",
-        ),
-        (
-            r#"{"schemaName":"s","metricFieldSpecs":[{"name":"m","dataType":"STRING","maxLength":1}]}"#,
-            KeyKind::Unsupported,
-            "metricFieldSpecs[0].dataType",
-        ),
-    ] {
+    for (text, kind, path) in WHOLE_TEXTS {
         let answer = read_schema(alloc, text.as_bytes());
         assert!(rt; is_refused(&answer, kind, path), "{text}");
     }
@@ -135,68 +137,70 @@ fn dimensions(alloc: Global, fields: &str) -> Result<String, AllocError> {
     )
 }
 
+const NAMES_AND_TYPES: [(&str, KeyKind, &str); 13] = [
+    ("1", KeyKind::WrongKind, "dimensionFieldSpecs[0]"),
+    ("null", KeyKind::WrongKind, "dimensionFieldSpecs[0]"),
+    (
+        r#"{"dataType":1}"#,
+        KeyKind::MissingKey,
+        "dimensionFieldSpecs[0].name",
+    ),
+    (
+        r#"{"name":[]}"#,
+        KeyKind::WrongKind,
+        "dimensionFieldSpecs[0].name",
+    ),
+    (
+        r#"{"name":""}"#,
+        KeyKind::BadName,
+        "dimensionFieldSpecs[0].name",
+    ),
+    (
+        r#"{"name":"a b"}"#,
+        KeyKind::BadName,
+        "dimensionFieldSpecs[0].name",
+    ),
+    (
+        r#"{"name":"a*"}"#,
+        KeyKind::BadName,
+        "dimensionFieldSpecs[0].name",
+    ),
+    (
+        r#"{"name":"é"}"#,
+        KeyKind::BadName,
+        "dimensionFieldSpecs[0].name",
+    ),
+    (
+        r#"{"name":"a"}"#,
+        KeyKind::MissingKey,
+        "dimensionFieldSpecs[0].dataType",
+    ),
+    (
+        r#"{"name":"a","dataType":2}"#,
+        KeyKind::WrongKind,
+        "dimensionFieldSpecs[0].dataType",
+    ),
+    (
+        r#"{"name":"a","dataType":"int","singleValueField":false}"#,
+        KeyKind::UnknownType,
+        "dimensionFieldSpecs[0].dataType",
+    ),
+    (
+        r#"{"name":"a","dataType":"INT"},{"name":"b","dataType":"LONG"},{"name":"a","dataType":"STRING"}"#,
+        KeyKind::DuplicateColumn,
+        "dimensionFieldSpecs[2].name",
+    ),
+    (
+        r#"{"name":"a","dataType":"INT"},{"name":"a","dataType":"INT","defaultNullValue":[]}"#,
+        KeyKind::WrongKind,
+        "dimensionFieldSpecs[1].defaultNullValue",
+    ),
+];
+
 #[test]
 fn names_and_types(rt: HostRuntime) -> Result<(), Fail> {
     let alloc = rt.alloc();
-    for (fields, kind, path) in [
-        ("1", KeyKind::WrongKind, "dimensionFieldSpecs[0]"),
-        ("null", KeyKind::WrongKind, "dimensionFieldSpecs[0]"),
-        (
-            r#"{"dataType":1}"#,
-            KeyKind::MissingKey,
-            "dimensionFieldSpecs[0].name",
-        ),
-        (
-            r#"{"name":[]}"#,
-            KeyKind::WrongKind,
-            "dimensionFieldSpecs[0].name",
-        ),
-        (
-            r#"{"name":""}"#,
-            KeyKind::BadName,
-            "dimensionFieldSpecs[0].name",
-        ),
-        (
-            r#"{"name":"a b"}"#,
-            KeyKind::BadName,
-            "dimensionFieldSpecs[0].name",
-        ),
-        (
-            r#"{"name":"a*"}"#,
-            KeyKind::BadName,
-            "dimensionFieldSpecs[0].name",
-        ),
-        (
-            r#"{"name":"é"}"#,
-            KeyKind::BadName,
-            "dimensionFieldSpecs[0].name",
-        ),
-        (
-            r#"{"name":"a"}"#,
-            KeyKind::MissingKey,
-            "dimensionFieldSpecs[0].dataType",
-        ),
-        (
-            r#"{"name":"a","dataType":2}"#,
-            KeyKind::WrongKind,
-            "dimensionFieldSpecs[0].dataType",
-        ),
-        (
-            r#"{"name":"a","dataType":"int","singleValueField":false}"#,
-            KeyKind::UnknownType,
-            "dimensionFieldSpecs[0].dataType",
-        ),
-        (
-            r#"{"name":"a","dataType":"INT"},{"name":"b","dataType":"LONG"},{"name":"a","dataType":"STRING"}"#,
-            KeyKind::DuplicateColumn,
-            "dimensionFieldSpecs[2].name",
-        ),
-        (
-            r#"{"name":"a","dataType":"INT"},{"name":"a","dataType":"INT","defaultNullValue":[]}"#,
-            KeyKind::WrongKind,
-            "dimensionFieldSpecs[1].defaultNullValue",
-        ),
-    ] {
+    for (fields, kind, path) in NAMES_AND_TYPES {
         let text = dimensions(alloc, fields)?;
         let answer = read_schema(alloc, text.as_bytes());
         assert!(rt; is_refused(&answer, kind, path), "{fields}");
@@ -204,71 +208,73 @@ fn names_and_types(rt: HostRuntime) -> Result<(), Fail> {
     Ok(())
 }
 
+const WHAT_FIELDS_ADD: [(&str, &str, KeyKind, &str); 10] = [
+    (
+        "INT",
+        r#""singleValueField":false,"transformFunction":"f""#,
+        KeyKind::Unsupported,
+        "dimensionFieldSpecs[0].singleValueField",
+    ),
+    (
+        "INT",
+        r#""virtualColumnProvider":1,"transformFunction":"f""#,
+        KeyKind::Unsupported,
+        "dimensionFieldSpecs[0].transformFunction",
+    ),
+    (
+        "INT",
+        r#""virtualColumnProvider":1,"maxLength":511"#,
+        KeyKind::Unsupported,
+        "dimensionFieldSpecs[0].virtualColumnProvider",
+    ),
+    (
+        "STRING",
+        r#""maxLength":511,"defaultNullValue":1"#,
+        KeyKind::Unsupported,
+        "dimensionFieldSpecs[0].maxLength",
+    ),
+    (
+        "LONG",
+        r#""maxLength":-1"#,
+        KeyKind::Unsupported,
+        "dimensionFieldSpecs[0].maxLength",
+    ),
+    (
+        "INT",
+        r#""defaultNullValue":2147483648"#,
+        KeyKind::WrongKind,
+        "dimensionFieldSpecs[0].defaultNullValue",
+    ),
+    (
+        "LONG",
+        r#""defaultNullValue":9223372036854775808"#,
+        KeyKind::WrongKind,
+        "dimensionFieldSpecs[0].defaultNullValue",
+    ),
+    (
+        "LONG",
+        r#""defaultNullValue":-0"#,
+        KeyKind::WrongKind,
+        "dimensionFieldSpecs[0].defaultNullValue",
+    ),
+    (
+        "LONG",
+        r#""defaultNullValue":"1.0""#,
+        KeyKind::WrongKind,
+        "dimensionFieldSpecs[0].defaultNullValue",
+    ),
+    (
+        "STRING",
+        r#""defaultNullValue":0"#,
+        KeyKind::WrongKind,
+        "dimensionFieldSpecs[0].defaultNullValue",
+    ),
+];
+
 #[test]
 fn what_fields_add(rt: HostRuntime) -> Result<(), Fail> {
     let alloc = rt.alloc();
-    for (kind_name, added, kind, key) in [
-        (
-            "INT",
-            r#""singleValueField":false,"transformFunction":"f""#,
-            KeyKind::Unsupported,
-            "dimensionFieldSpecs[0].singleValueField",
-        ),
-        (
-            "INT",
-            r#""virtualColumnProvider":1,"transformFunction":"f""#,
-            KeyKind::Unsupported,
-            "dimensionFieldSpecs[0].transformFunction",
-        ),
-        (
-            "INT",
-            r#""virtualColumnProvider":1,"maxLength":511"#,
-            KeyKind::Unsupported,
-            "dimensionFieldSpecs[0].virtualColumnProvider",
-        ),
-        (
-            "STRING",
-            r#""maxLength":511,"defaultNullValue":1"#,
-            KeyKind::Unsupported,
-            "dimensionFieldSpecs[0].maxLength",
-        ),
-        (
-            "LONG",
-            r#""maxLength":-1"#,
-            KeyKind::Unsupported,
-            "dimensionFieldSpecs[0].maxLength",
-        ),
-        (
-            "INT",
-            r#""defaultNullValue":2147483648"#,
-            KeyKind::WrongKind,
-            "dimensionFieldSpecs[0].defaultNullValue",
-        ),
-        (
-            "LONG",
-            r#""defaultNullValue":9223372036854775808"#,
-            KeyKind::WrongKind,
-            "dimensionFieldSpecs[0].defaultNullValue",
-        ),
-        (
-            "LONG",
-            r#""defaultNullValue":-0"#,
-            KeyKind::WrongKind,
-            "dimensionFieldSpecs[0].defaultNullValue",
-        ),
-        (
-            "LONG",
-            r#""defaultNullValue":"1.0""#,
-            KeyKind::WrongKind,
-            "dimensionFieldSpecs[0].defaultNullValue",
-        ),
-        (
-            "STRING",
-            r#""defaultNullValue":0"#,
-            KeyKind::WrongKind,
-            "dimensionFieldSpecs[0].defaultNullValue",
-        ),
-    ] {
+    for (kind_name, added, kind, key) in WHAT_FIELDS_ADD {
         let front = around(alloc, r#"{"name":"a","dataType":""#, kind_name, r#"","#)?;
         let field = around(alloc, front.as_str(), added, "}")?;
         let text = dimensions(alloc, field.as_str())?;
