@@ -9,7 +9,7 @@ use Rattle.table_schema.specs.Faults.{Finding, or_else, by_place, Refuses}
 use Rattle.table_schema.specs.Fields.{Entry, field_of, name_of, field_finding}
 use Rattle.table_schema.specs.Schemas.{fields_finding}
 use Rattle.table_schema.specs.Entries.{seen}
-use Rattle.table_schema.proofs.Places.{by_place-more, done_more, map-append}
+use Rattle.table_schema.proofs.Places.{done_more, map-append, refused_here, passed_here}
 
 abbrev pub check : List Entry → Entry → Finding
 check before e = field_finding (map name_of before) e
@@ -25,14 +25,11 @@ module _ (xs : List code.Entry) (i : ℕ) (x : code.Entry) (fields : List Field)
   here : field_finding (map (λ f. f.name) fields) (seen x) ≡ check (map seen (take i xs)) (seen x)
   here = ap (λ ns. field_finding ns (seen x)) (ap (map (λ f. f.name)) read ∙ names_of (map seen (take i xs)))
 
-  step : fields_finding (map seen xs) ≡ or_else (field_finding (map (λ f. f.name) fields) (seen x)) (by_place check (map seen (take (i + 1) xs)) (map seen (drop (i + 1) xs)))
-  step = sym walk ∙ by_place-more seen check xs i x within is ∙ ap (λ f. or_else f (by_place check (map seen (take (i + 1) xs)) (map seen (drop (i + 1) xs)))) (sym here)
-
   pub field_refused : (e : TextFault) → Refuses (field_finding (map (λ f. f.name) fields) (seen x)) e → Refuses (fields_finding (map seen xs)) e
-  field_refused e refuses = λ other. step ∙ ap (λ f. or_else f (by_place check (map seen (take (i + 1) xs)) (map seen (drop (i + 1) xs)))) (refuses other)
+  field_refused e refuses = refused_here seen check xs i x within is walk _ here e refuses
 
   pub walk_more : field_finding (map (λ f. f.name) fields) (seen x) ≡ None → by_place check (map seen (take (i + 1) xs)) (map seen (drop (i + 1) xs)) ≡ fields_finding (map seen xs)
-  walk_more passes = sym (step ∙ ap (λ f. or_else f (by_place check (map seen (take (i + 1) xs)) (map seen (drop (i + 1) xs)))) passes)
+  walk_more passes = passed_here seen check xs i x within is walk _ here passes
 
   pub read_more : (field : Field) → field ≡ field_of (seen x) → fields ++ field ∷ [] ≡ map field_of (map seen (take (i + 1) xs))
   read_more field value = ap (λ fs. fs ++ field ∷ []) read ∙ ap (λ f. map field_of (map seen (take i xs)) ++ f ∷ []) value ∙ sym (ap (map field_of) (done_more seen xs i x within is) ∙ map-append field_of (map seen (take i xs)) (seen x ∷ []))

@@ -134,27 +134,27 @@ field_checked names e none =
     let d = e.json in
     let here = below path (codes "name") in
     let all = nones (
-        fault_unless (nat_lt (length names) 64) TooMany path
-        ∷ object_finding path d
-        ∷ name_finding path d
-        ∷ type_finding path e.role d
-        ∷ support_finding path d
-        ∷ default_finding path (kind_of d) d
-        ∷ fault_if (is_among names (name_of e)) DuplicateColumn here
-        ∷ []) none in
+    fault_unless (nat_lt (length names) 64) TooMany path
+    ∷ object_finding path d
+    ∷ name_finding path d
+    ∷ type_finding path e.role d
+    ∷ support_finding path d
+    ∷ default_finding path (kind_of d) d
+    ∷ fault_if (is_among names (name_of e)) DuplicateColumn here
+    ∷ []) none in
     let named = nones (required_text path (codes "name") d ∷ fault_unless (is_column_name (name_of e)) BadName here ∷ []) all.1.1.0 in
     let typed = nones (
-        required_text path (codes "dataType") d
-        ∷ fault_unless (is_some (kind_named (text_at (codes "dataType") d))) UnknownType (below path (codes "dataType"))
-        ∷ fault_if (is_text_metric e.role (kind_of d)) Unsupported (below path (codes "dataType"))
-        ∷ []) all.1.1.1.0 in (
-        unless_none (nat_lt (length names) 64) TooMany path all.0,
-        if_none (is_among names (name_of e)) DuplicateColumn here all.1.1.1.1.1.1.0,
-        both_true (is_column_name (name_of e) && not (is_text_metric e.role (kind_of d))) (fits_kind (kind_of d) (default_of e.role (kind_of d) d))
-            (both_true (is_column_name (name_of e)) (not (is_text_metric e.role (kind_of d)))
-                (unless_none (is_column_name (name_of e)) BadName here named.1.0)
-                (ap not (if_none (is_text_metric e.role (kind_of d)) Unsupported (below path (codes "dataType")) typed.1.1.0)))
-            (default_by e.role (kind_of d) (below path DEFAULT_KEY) (key_of DEFAULT_KEY d) all.1.1.1.1.1.0),
+    required_text path (codes "dataType") d
+    ∷ fault_unless (is_some (kind_named (text_at (codes "dataType") d))) UnknownType (below path (codes "dataType"))
+    ∷ fault_if (is_text_metric e.role (kind_of d)) Unsupported (below path (codes "dataType"))
+    ∷ []) all.1.1.1.0 in (
+      unless_none (nat_lt (length names) 64) TooMany path all.0,
+      if_none (is_among names (name_of e)) DuplicateColumn here all.1.1.1.1.1.1.0,
+      both_true (is_column_name (name_of e) && not (is_text_metric e.role (kind_of d))) (fits_kind (kind_of d) (default_of e.role (kind_of d) d))
+          (both_true (is_column_name (name_of e)) (not (is_text_metric e.role (kind_of d)))
+          (unless_none (is_column_name (name_of e)) BadName here named.1.0)
+          (ap not (if_none (is_text_metric e.role (kind_of d)) Unsupported (below path (codes "dataType")) typed.1.1.0)))
+          (default_by e.role (kind_of d) (below path DEFAULT_KEY) (key_of DEFAULT_KEY d) all.1.1.1.1.1.0),
     )
 
 fields_good : (before es : List Entry) → by_place check before es ≡ None → length before ≤ 64
@@ -169,9 +169,9 @@ fields_good before (e ∷ es) none few =
     let below_64 : length names < 64 = search (rules, tests) in
     let grown : length (before ++ e ∷ []) ≡ length before + 1 = grind (arith, common_steps) in
     let more = fields_good (before ++ e ∷ []) es left (omega (arith, length-map name_of before)) in (
-        both_true _ _ checked.2 more.0,
-        both_true _ _ (ap not checked.1) (subst (λ ns. no_repeat ns (map name_of es) ≡ true) (map-append name_of before (e ∷ [])) more.1),
-        omega (arith, more.2),
+      both_true _ _ checked.2 more.0,
+      both_true _ _ (ap not checked.1) (subst (λ ns. no_repeat ns (map name_of es) ≡ true) (map-append name_of before (e ∷ [])) more.1),
+      omega (arith, more.2),
     )
 
 some_listed : (es : List Entry) → is_none_listed es ≡ false → 0 < length es
@@ -183,11 +183,11 @@ schema_valid d none =
     let es = all_entries d in
     let all = nones (head_finding d ∷ lists_finding d ∷ fields_finding es ∷ []) none in
     let lists = nones (
-        optional_array [] (list_key Dimension) d
-        ∷ optional_array [] (list_key Metric) d
-        ∷ optional_array [] (list_key DateTime) d
-        ∷ fault_if (is_none_listed es) MissingKey (list_key Dimension)
-        ∷ []) all.1.0 in
+    optional_array [] (list_key Dimension) d
+    ∷ optional_array [] (list_key Metric) d
+    ∷ optional_array [] (list_key DateTime) d
+    ∷ fault_if (is_none_listed es) MissingKey (list_key Dimension)
+    ∷ []) all.1.0 in
     let listed = if_none (is_none_listed es) MissingKey (list_key Dimension) lists.1.1.1.0 in
     let good = fields_good [] es all.1.1.0 (omega arith) in
     record {

@@ -73,8 +73,8 @@ no_ids s plain n =
     let inverted = is_set (slice_get s.inverted n) in
     let ranged = is_set (slice_get s.ranged n) in
     both_false (sorted || inverted || ranged) (is_split s.trees n)
-        (both_false (sorted || inverted) ranged (both_false sorted inverted (not_sorted s.sorted n plain.no_sorted) (unset s.inverted n plain.no_inverted)) (unset s.ranged n plain.no_ranged))
-        (not_split s.trees n plain.no_tree)
+    (both_false (sorted || inverted) ranged (both_false sorted inverted (not_sorted s.sorted n plain.no_sorted) (unset s.inverted n plain.no_inverted)) (unset s.ranged n plain.no_ranged))
+    (not_split s.trees n plain.no_tree)
 
 known : (fields : List Field) (o : Option ℕ) → is_some o ≡ false → is_known_number fields o ≡ true
 known fields None e = refl
@@ -120,13 +120,13 @@ settings_valid fields d none =
     let table = table_name d in
     let all = nones (head_finding d ∷ optional (index_finding fields table) (key_of INDEX_KEY d) ∷ []) none in
     let head = nones (
-        object_finding [] d
-        ∷ table_finding d
-        ∷ type_finding d
-        ∷ unused_key [] (codes "upsertConfig") d
-        ∷ unused_key [] (codes "dedupConfig") d
-        ∷ ingestion_finding d
-        ∷ []) all.0 in
+    object_finding [] d
+    ∷ table_finding d
+    ∷ type_finding d
+    ∷ unused_key [] (codes "upsertConfig") d
+    ∷ unused_key [] (codes "dedupConfig") d
+    ∷ ingestion_finding d
+    ∷ []) all.0 in
     let named = nones (required_text [] (codes "tableName") d ∷ fault_unless (is_column_name table) BadName (codes "tableName") ∷ []) head.1.0 in
     plain_valid fields table (unwrap_or (key_of INDEX_KEY d) null) (unless_none (is_column_name table) BadName (codes "tableName") named.1.0)
-        (index_plain fields table (key_of INDEX_KEY d) all.1.0)
+    (index_plain fields table (key_of INDEX_KEY d) all.1.0)

@@ -52,6 +52,10 @@ fn defaults(rt: HostRuntime) -> Result<(), Fail> {
     Ok(())
 }
 
+fn refuses(alloc: Global, text: &[u8], kind: KeyKind, path: &str) -> bool {
+    is_refused(&read_schema(alloc, text), kind, path)
+}
+
 const WHOLE_TEXTS: [(&str, KeyKind, &str); 17] = [
     ("", KeyKind::NotJson, ""),
     ("{", KeyKind::NotJson, ""),
@@ -114,27 +118,35 @@ const WHOLE_TEXTS: [(&str, KeyKind, &str); 17] = [
 
 #[test]
 fn whole_texts(rt: HostRuntime) {
-    let alloc = rt.alloc();
     for (text, kind, path) in WHOLE_TEXTS {
-        let answer = read_schema(alloc, text.as_bytes());
-        assert!(rt; is_refused(&answer, kind, path), "{text}");
+        assert!(rt; refuses(rt.alloc(), text.as_bytes(), kind, path), "{text}");
     }
+    assert!(rt; refuses(rt.alloc(), b"\"\xff\"", KeyKind::NotJson, ""));
 }
 
-#[test]
-fn not_utf8(rt: HostRuntime) {
-    let answer = read_schema(rt.alloc(), b"\"\xff\"");
-    assert!(rt; is_refused(&answer, KeyKind::NotJson, ""));
+/// Whether a schema with these dimensions is refused so.
+fn refuses_dimensions(
+    alloc: Global,
+    fields: &str,
+    kind: KeyKind,
+    path: &str,
+) -> Result<bool, AllocError> {
+    let front = r#"{"schemaName":"s","dimensionFieldSpecs":["#;
+    let text = around(alloc, front, fields, "]}")?;
+    Ok(refuses(alloc, text.as_bytes(), kind, path))
 }
 
-/// A schema with these dimensions.
-fn dimensions(alloc: Global, fields: &str) -> Result<String, AllocError> {
-    around(
-        alloc,
-        r#"{"schemaName":"s","dimensionFieldSpecs":["#,
-        fields,
-        "]}",
-    )
+/// The same with one dimension of that type, which says this too.
+fn refuses_added(
+    alloc: Global,
+    kind_name: &str,
+    added: &str,
+    kind: KeyKind,
+    path: &str,
+) -> Result<bool, AllocError> {
+    let front = around(alloc, r#"{"name":"a","dataType":""#, kind_name, r#"","#)?;
+    let field = around(alloc, front.as_str(), added, "}")?;
+    refuses_dimensions(alloc, field.as_str(), kind, path)
 }
 
 const NAMES_AND_TYPES: [(&str, KeyKind, &str); 13] = [
@@ -199,11 +211,9 @@ const NAMES_AND_TYPES: [(&str, KeyKind, &str); 13] = [
 
 #[test]
 fn names_and_types(rt: HostRuntime) -> Result<(), Fail> {
-    let alloc = rt.alloc();
     for (fields, kind, path) in NAMES_AND_TYPES {
-        let text = dimensions(alloc, fields)?;
-        let answer = read_schema(alloc, text.as_bytes());
-        assert!(rt; is_refused(&answer, kind, path), "{fields}");
+        let refused = refuses_dimensions(rt.alloc(), fields, kind, path)?;
+        assert!(rt; refused, "{fields}");
     }
     Ok(())
 }
@@ -273,13 +283,9 @@ const WHAT_FIELDS_ADD: [(&str, &str, KeyKind, &str); 10] = [
 
 #[test]
 fn what_fields_add(rt: HostRuntime) -> Result<(), Fail> {
-    let alloc = rt.alloc();
-    for (kind_name, added, kind, key) in WHAT_FIELDS_ADD {
-        let front = around(alloc, r#"{"name":"a","dataType":""#, kind_name, r#"","#)?;
-        let field = around(alloc, front.as_str(), added, "}")?;
-        let text = dimensions(alloc, field.as_str())?;
-        let answer = read_schema(alloc, text.as_bytes());
-        assert!(rt; is_refused(&answer, kind, key), "{added}");
+    for (kind_name, added, kind, path) in WHAT_FIELDS_ADD {
+        let refused = refuses_added(rt.alloc(), kind_name, added, kind, path)?;
+        assert!(rt; refused, "{added}");
     }
     Ok(())
 }
@@ -299,13 +305,11 @@ fn many(alloc: Global, count: u32) -> Result<String, AllocError> {
 #[test]
 fn too_many_fields(rt: HostRuntime) -> Result<(), Fail> {
     let alloc = rt.alloc();
-    for (count, kind, path) in [
-        (63, KeyKind::WrongKind, "dimensionFieldSpecs[63]"),
-        (64, KeyKind::TooMany, "dimensionFieldSpecs[64]"),
-    ] {
-        let text = dimensions(alloc, many(alloc, count)?.as_str())?;
-        let answer = read_schema(alloc, text.as_bytes());
-        assert!(rt; is_refused(&answer, kind, path), "{count}");
-    }
+    let last = many(alloc, 63)?;
+    let place = "dimensionFieldSpecs[63]";
+    assert!(rt; refuses_dimensions(alloc, last.as_str(), KeyKind::WrongKind, place)?);
+    let further = many(alloc, 64)?;
+    let place = "dimensionFieldSpecs[64]";
+    assert!(rt; refuses_dimensions(alloc, further.as_str(), KeyKind::TooMany, place)?);
     Ok(())
 }

@@ -1,5 +1,6 @@
 use super::{V, around, is_refused};
-use crate::{KeyKind, read_schema, read_settings};
+use crate::{KeyKind, Settings, TextFault, read_schema, read_settings};
+use std::alloc::{AllocError, Global};
 use std::test::Fail;
 
 const USUAL: &str = r#"{"tableName":"V","tableType":"OFFLINE","segmentsConfig":{"replication":"1"},
@@ -17,37 +18,64 @@ const WITHOUT_TREE: &str =
 "noDictionaryColumns":["Impressions","Country","Impressions"]},
 "metadata":{}}"#;
 
+/// The settings of the text, beside the schema of table V.
+fn settings_of(alloc: Global, text: &str) -> Result<Settings, TextFault> {
+    let schema = read_schema(alloc, V.as_bytes())?;
+    if schema.fields.len() > 64 {
+        return Err(TextFault::NoMemory);
+    }
+    read_settings(alloc, &schema, text.as_bytes())
+}
+
+fn refuses(alloc: Global, text: &str, kind: KeyKind, path: &str) -> bool {
+    is_refused(&settings_of(alloc, text), kind, path)
+}
+
+/// Whether settings that say this of indexes are refused so, at that key.
+fn refuses_inside(
+    alloc: Global,
+    inside: &str,
+    kind: KeyKind,
+    key: &str,
+) -> Result<bool, AllocError> {
+    let front = r#"{"tableName":"V","tableType":"OFFLINE","tableIndexConfig":{"#;
+    let text = around(alloc, front, inside, "}}")?;
+    let path = around(alloc, "tableIndexConfig", key, "")?;
+    Ok(refuses(alloc, text.as_str(), kind, path.as_str()))
+}
+
+/// Whether settings that say this of their one star-tree are refused so, at that key.
+fn refuses_tree(alloc: Global, inside: &str, kind: KeyKind, key: &str) -> Result<bool, AllocError> {
+    let tree = around(alloc, r#""starTreeIndexConfigs":[{"#, inside, "}]")?;
+    let path = around(alloc, ".starTreeIndexConfigs[0].", key, "")?;
+    refuses_inside(alloc, tree.as_str(), kind, path.as_str())
+}
+
 #[test]
 fn usual_settings(rt: HostRuntime) -> Result<(), Fail> {
     let alloc = rt.alloc();
-    let schema = read_schema(alloc, V.as_bytes())?;
-    assert!(rt; schema.fields.len() <= 64);
-    let refused = read_settings(alloc, &schema, USUAL.as_bytes());
-    assert!(rt; is_refused(&refused, KeyKind::Unsupported, "tableIndexConfig"));
-    let settings = read_settings(alloc, &schema, WITHOUT_TREE.as_bytes())?;
+    assert!(rt; refuses(alloc, USUAL, KeyKind::Unsupported, "tableIndexConfig"));
+    let settings = settings_of(alloc, WITHOUT_TREE)?;
     assert_eq!(rt; settings.table.as_str(), "V");
     assert_eq!(rt; settings.sorted, None);
-    assert_eq!(rt;
-        settings.inverted.as_slice(),
-        [false, false, false, false].as_slice()
-    );
-    assert_eq!(rt;
-        settings.ranged.as_slice(),
-        [false, false, false, false].as_slice()
-    );
     assert_eq!(rt;
         settings.raw.as_slice(),
         [true, false, false, true].as_slice()
     );
     assert!(rt; settings.trees.is_empty());
-    let plain = read_settings(
-        alloc,
-        &schema,
-        br#"{"tableName":"t","tableType":"OFFLINE"}"#,
-    )?;
+    Ok(())
+}
+
+#[test]
+fn without_indexes(rt: HostRuntime) -> Result<(), Fail> {
+    let plain = settings_of(rt.alloc(), r#"{"tableName":"t","tableType":"OFFLINE"}"#)?;
     assert_eq!(rt; plain.table.as_str(), "t");
     assert_eq!(rt;
-        plain.raw.as_slice(),
+        plain.inverted.as_slice(),
+        [false, false, false, false].as_slice()
+    );
+    assert_eq!(rt;
+        plain.ranged.as_slice(),
         [false, false, false, false].as_slice()
     );
     Ok(())
@@ -104,96 +132,85 @@ const OUTSIDE_OF_INDEXES: [(&str, KeyKind, &str); 15] = [
 ];
 
 #[test]
-fn outside_of_indexes(rt: HostRuntime) -> Result<(), Fail> {
-    let alloc = rt.alloc();
-    let schema = read_schema(alloc, V.as_bytes())?;
-    assert!(rt; schema.fields.len() <= 64);
+fn outside_of_indexes(rt: HostRuntime) {
     for (text, kind, path) in OUTSIDE_OF_INDEXES {
-        let answer = read_settings(alloc, &schema, text.as_bytes());
-        assert!(rt; is_refused(&answer, kind, path), "{text}");
+        assert!(rt; refuses(rt.alloc(), text, kind, path), "{text}");
     }
-    Ok(())
 }
 
 const INDEXES: [(&str, KeyKind, &str); 13] = [
     (
         r#""nullHandlingEnabled":true,"sortedColumn":1"#,
         KeyKind::Unsupported,
-        "nullHandlingEnabled",
+        ".nullHandlingEnabled",
     ),
     (
         r#""sortedColumn":["x",1]"#,
         KeyKind::WrongKind,
-        "sortedColumn",
+        ".sortedColumn",
     ),
     (
         r#""sortedColumn":["x","y"]"#,
         KeyKind::TooMany,
-        "sortedColumn",
+        ".sortedColumn",
     ),
     (
         r#""sortedColumn":["x"],"invertedIndexColumns":1"#,
         KeyKind::UnknownColumn,
-        "sortedColumn",
+        ".sortedColumn",
     ),
     (
         r#""rangeIndexColumns":1,"invertedIndexColumns":"Country""#,
         KeyKind::WrongKind,
-        "invertedIndexColumns",
+        ".invertedIndexColumns",
     ),
     (
         r#""invertedIndexColumns":["Country",1,"x"]"#,
         KeyKind::WrongKind,
-        "invertedIndexColumns[1]",
+        ".invertedIndexColumns[1]",
     ),
     (
         r#""rangeIndexColumns":["Country","x",1],"noDictionaryColumns":1"#,
         KeyKind::UnknownColumn,
-        "rangeIndexColumns[1]",
+        ".rangeIndexColumns[1]",
     ),
     (
         r#""noDictionaryColumns":["Locale","country"],"starTreeIndexConfigs":1"#,
         KeyKind::UnknownColumn,
-        "noDictionaryColumns[1]",
+        ".noDictionaryColumns[1]",
     ),
     (
         r#""starTreeIndexConfigs":{}"#,
         KeyKind::WrongKind,
-        "starTreeIndexConfigs",
+        ".starTreeIndexConfigs",
     ),
     (
         r#""starTreeIndexConfigs":[1,2,3,4,5,6,7,8,9]"#,
         KeyKind::TooMany,
-        "starTreeIndexConfigs",
+        ".starTreeIndexConfigs",
     ),
     (
         r#""starTreeIndexConfigs":[1,2,3,4,5,6,7,8]"#,
         KeyKind::WrongKind,
-        "starTreeIndexConfigs[0]",
+        ".starTreeIndexConfigs[0]",
     ),
     (
         r#""noDictionaryColumns":["Country","Impressions"],"invertedIndexColumns":["Country"],"rangeIndexColumns":["Impressions"]"#,
         KeyKind::Unsupported,
-        "noDictionaryColumns[1]",
+        ".noDictionaryColumns[1]",
     ),
     (
         r#""noDictionaryColumns":["Impressions"],"sortedColumn":"Impressions""#,
         KeyKind::Unsupported,
-        "noDictionaryColumns[0]",
+        ".noDictionaryColumns[0]",
     ),
 ];
 
 #[test]
 fn indexes(rt: HostRuntime) -> Result<(), Fail> {
-    let alloc = rt.alloc();
-    let schema = read_schema(alloc, V.as_bytes())?;
-    assert!(rt; schema.fields.len() <= 64);
     for (inside, kind, key) in INDEXES {
-        let front = r#"{"tableName":"V","tableType":"OFFLINE","tableIndexConfig":{"#;
-        let text = around(alloc, front, inside, "}}")?;
-        let path = around(alloc, "tableIndexConfig.", key, "")?;
-        let answer = read_settings(alloc, &schema, text.as_bytes());
-        assert!(rt; is_refused(&answer, kind, path.as_str()), "{inside}");
+        let refused = refuses_inside(rt.alloc(), inside, kind, key)?;
+        assert!(rt; refused, "{inside}");
     }
     Ok(())
 }
@@ -207,17 +224,9 @@ const UNBUILT: [&str; 4] = [
 
 #[test]
 fn unbuilt(rt: HostRuntime) -> Result<(), Fail> {
-    let alloc = rt.alloc();
-    let schema = read_schema(alloc, V.as_bytes())?;
-    assert!(rt; schema.fields.len() <= 64);
     for inside in UNBUILT {
-        let front = r#"{"tableName":"V","tableType":"OFFLINE","tableIndexConfig":{"#;
-        let text = around(alloc, front, inside, "}}")?;
-        let answer = read_settings(alloc, &schema, text.as_bytes());
-        assert!(rt;
-            is_refused(&answer, KeyKind::Unsupported, "tableIndexConfig"),
-            "{inside}"
-        );
+        let refused = refuses_inside(rt.alloc(), inside, KeyKind::Unsupported, "")?;
+        assert!(rt; refused, "{inside}");
     }
     Ok(())
 }
@@ -297,16 +306,9 @@ const TREES: [(&str, KeyKind, &str); 14] = [
 
 #[test]
 fn trees(rt: HostRuntime) -> Result<(), Fail> {
-    let alloc = rt.alloc();
-    let schema = read_schema(alloc, V.as_bytes())?;
-    assert!(rt; schema.fields.len() <= 64);
     for (inside, kind, key) in TREES {
-        let front =
-            r#"{"tableName":"V","tableType":"OFFLINE","tableIndexConfig":{"starTreeIndexConfigs":[{"#;
-        let text = around(alloc, front, inside, "}]}}")?;
-        let path = around(alloc, "tableIndexConfig.starTreeIndexConfigs[0].", key, "")?;
-        let answer = read_settings(alloc, &schema, text.as_bytes());
-        assert!(rt; is_refused(&answer, kind, path.as_str()), "{inside}");
+        let refused = refuses_tree(rt.alloc(), inside, kind, key)?;
+        assert!(rt; refused, "{inside}");
     }
     Ok(())
 }
