@@ -1,0 +1,8 @@
+pub mod Items
+pub mod Read
+pub mod Places
+pub mod FieldWalk
+pub mod Answered
+pub mod Numbers
+pub mod SchemaLaw
+pub mod SettingsLaw

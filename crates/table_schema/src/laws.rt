@@ -1,0 +1,20 @@
+//! What the checks accept is valid. Each law is the contract of a function that does nothing.
+
+ghost use Rattle.std.specs.Prelude.{◌≡◌, None, List};
+ghost use Rattle.serde_json.specs.Data.{Data};
+ghost use Rattle.table_schema.specs.declared.field.Field.{Field};
+ghost use Rattle.table_schema.specs.Schemas.{schema_finding, schema_of};
+ghost use Rattle.table_schema.specs.TableTexts.{settings_finding, settings_of};
+ghost use Rattle.table_schema.specs.Valid.{IsValidSchema};
+ghost use Rattle.table_schema.specs.ValidSettings.{IsValidSettings};
+
+/// A value in JSON that passes the checks of a schema gives a valid one.
+pub fn schema_law()
+    ensures { (d : Data) → schema_finding d ≡ None → IsValidSchema (schema_of d) }
+{}
+
+/// A value in JSON that passes the checks of settings gives valid ones, beside these fields.
+pub fn settings_law()
+    ensures { (fields : List Field) (d : Data) → settings_finding fields d ≡ None
+        → IsValidSettings fields (settings_of fields d) }
+{}
