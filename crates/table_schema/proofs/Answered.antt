@@ -1,5 +1,5 @@
 -- What a call answers, where the checks before it found nothing.
-use Rattle.std.proofs.Common.{◌≡◌, ℕ, ◌≤◌, nat_le, cond, true, length, map, arith, rules, tests, List, [], ◌∷◌, Option, Some, None, Result, Ok, Err, refl, sym, ap, ◌∙◌, subst}
+use Rattle.std.proofs.Common.{◌≡◌, ℕ, ◌≤◌, nat_le, cond, true, length, map, arith, rules, tests, List, Some, None, Result, refl, sym, ap, ◌∙◌, subst}
 use Rattle.serde_json.specs.Data.{Data}
 use Rattle.serde_json.specs.View.{view}
 use Rattle.serde_json.specs.declared.value.Value.{Value}

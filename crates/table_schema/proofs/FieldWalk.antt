@@ -1,11 +1,9 @@
 -- The walk over the places of a schema, beside the fields that were read so far.
-use Rattle.std.proofs.Common.{◌≡◌, ◌≢◌, ℕ, ◌+◌, ◌<◌, List, [], ◌∷◌, ◌++◌, length, get_or, take, drop, map, Option, Some, None, refl, sym, ap, ◌∙◌, subst, arith}
+use Rattle.std.proofs.Common.{◌≡◌, ℕ, ◌+◌, ◌<◌, List, [], ◌∷◌, ◌++◌, length, get_or, take, drop, map, None, refl, sym, ap, ◌∙◌}
 use Rattle.table_schema.specs.declared.entry.Entry as code
 use Rattle.table_schema.specs.declared.field.Field.{Field}
 use Rattle.table_schema.specs.declared.fault.TextFault.{TextFault}
-use Rattle.table_schema.specs.declared.fault.TextFault.TheVariants.{NoMemory}
-use Rattle.table_schema.specs.Json.{Text}
-use Rattle.table_schema.specs.Faults.{Finding, or_else, by_place, Refuses}
+use Rattle.table_schema.specs.Faults.{Finding, by_place, Refuses}
 use Rattle.table_schema.specs.Fields.{Entry, field_of, name_of, field_finding}
 use Rattle.table_schema.specs.Schemas.{fields_finding}
 use Rattle.table_schema.specs.Entries.{seen}

@@ -1,5 +1,5 @@
 -- What the checks of a schema accept is valid.
-use Rattle.std.proofs.Common.{◌≡◌, ℕ, ℤ, suc, ◌+◌, ◌<◌, ◌≤◌, nat_le, nat_lt, cond, Bool, true, false, not, ◌&&◌, true≢false, codes, List, [], ◌∷◌, ◌++◌, length, map, Option, Some, None, is_some, Result, Ok, Err, option_and_then, unwrap_or, refl, sym, ap, ◌∙◌, subst, arith, rules, tests}
+use Rattle.std.proofs.Common.{◌≡◌, ℤ, ◌+◌, ◌<◌, ◌≤◌, nat_le, nat_lt, cond, Bool, true, false, not, ◌&&◌, true≢false, codes, List, [], ◌∷◌, ◌++◌, length, map, Option, Some, None, is_some, Ok, Err, option_and_then, unwrap_or, refl, ap, ◌∙◌, subst, arith, rules, tests}
 use Rattle.std.specs.List.{list_all}
 use Rattle.std.specs.Result.{result_ok}
 use Rattle.std.proofs.lemmas.Grind.{common_steps}
@@ -11,21 +11,17 @@ use Rattle.values.specs.declared.kind.FieldKind.TheVariants as kind
 use Rattle.values.specs.declared.value.Value.{Value}
 use Rattle.values.specs.declared.value.Value.TheVariants as value
 use Rattle.values.specs.Numbers.{is_in_range, ranged, spelled_number}
-use Rattle.values.specs.Reading.{value_of, number_value}
-use Rattle.values.specs.declared.whole.WholeFault.{WholeFault}
+use Rattle.values.specs.Reading.{number_value}
 use Rattle.values.specs.declared.whole.WholeFault.TheVariants.{OutOfRange}
 use Rattle.table_schema.specs.declared.field.Role.{Role}
 use Rattle.table_schema.specs.declared.field.Role.TheVariants.{Dimension, Metric, DateTime}
-use Rattle.table_schema.specs.declared.field.Schema.{Schema}
 use Rattle.table_schema.specs.declared.fault.KeyKind.{KeyKind}
 use Rattle.table_schema.specs.declared.fault.KeyKind.TheVariants.{WrongKind, TooMany, BadName, UnknownType, Unsupported, DuplicateColumn, MissingKey}
-use Rattle.table_schema.specs.declared.fault.TextFault.{TextFault}
-use Rattle.table_schema.specs.declared.fault.TextFault.TheVariants.{At}
 use Rattle.table_schema.specs.Json.{Text, key_of}
 use Rattle.table_schema.specs.Faults.{Finding, or_else, first_of, by_place, fault_unless, fault_if, below}
 use Rattle.table_schema.specs.Keys.{optional, object_finding, required_text, text_at, optional_array}
 use Rattle.table_schema.specs.Names.{is_column_name}
-use Rattle.table_schema.specs.Defaults.{DEFAULT_KEY, short_text, text_default, whole_default, number_default, given_default, default_finding, usual_default, default_of}
+use Rattle.table_schema.specs.Defaults.{DEFAULT_KEY, text_default, whole_default, number_default, given_default, default_finding, usual_default, default_of}
 use Rattle.table_schema.specs.Fields.{Entry, is_among, is_text_metric, kind_named, kind_of, name_of, path_of, list_key, name_finding, type_finding, support_finding, field_finding, field_of, all_entries}
 use Rattle.table_schema.specs.Schemas.{head_finding, lists_finding, fields_finding, is_none_listed, schema_finding, schema_of}
 use Rattle.table_schema.specs.Valid.{fits_kind, is_valid_field, no_repeat, IsValidSchema}

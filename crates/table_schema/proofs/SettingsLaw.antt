@@ -1,5 +1,5 @@
 -- What the checks of settings accept is valid. What is not built yet is not accepted, so no column is looked up by its ids.
-use Rattle.std.proofs.Common.{◌≡◌, ℕ, zero, suc, ◌≤◌, Bool, true, false, not, ◌||◌, is_some, true≢false, codes, List, [], ◌∷◌, length, map, Option, Some, None, unwrap_or, refl, sym, ap, ◌∙◌, subst, arith}
+use Rattle.std.proofs.Common.{◌≡◌, ℕ, zero, suc, ◌≤◌, Bool, true, false, not, ◌||◌, is_some, true≢false, codes, List, [], ◌∷◌, length, Option, Some, None, unwrap_or, refl, sym, ap, ◌∙◌, arith}
 use Rattle.std.specs.List.{slice_get, AllByRecursion}
 use Rattle.serde_json.specs.Data.{Data, null}
 use Rattle.table_schema.specs.declared.field.Field.{Field}

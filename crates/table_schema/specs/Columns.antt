@@ -1,11 +1,11 @@
 -- Columns that settings name.
-use Rattle.std.specs.Prelude.{ℕ, ◌+◌, Bool, true, false, ◌==◌, List, [], ◌∷◌, ◌++◌, map, length, codes, Option, Some, None, is_some, option_and_then, unwrap_or, if◌then◌else◌}
+use Rattle.std.specs.Prelude.{ℕ, ◌+◌, Bool, false, ◌==◌, List, [], ◌∷◌, map, length, Option, Some, None, is_some, unwrap_or, if◌then◌else◌}
 use Rattle.std.specs.List.{list_any, filter_map}
 use Rattle.std.specs.Str.{bytes_eq}
 use Rattle.serde_json.specs.Data.{Data}
 use Rattle.serde_json.specs.Find.{as_str}
 use Rattle.table_schema.specs.declared.field.Field.{Field}
-use Rattle.table_schema.specs.declared.fault.KeyKind.TheVariants.{WrongKind, UnknownColumn}
+use Rattle.table_schema.specs.declared.fault.KeyKind.TheVariants.{UnknownColumn}
 use Rattle.table_schema.specs.Json.{Text}
 use Rattle.table_schema.specs.Faults.{Finding, below, at_place, fault_unless, first_of, by_place}
 use Rattle.table_schema.specs.Keys.{text_finding, optional_array, items_at}

@@ -1,7 +1,7 @@
 -- What stands in a row that has no value of a field.
-use Rattle.std.specs.Prelude.{ℕ, ◌^◌, ℤ, pos, neg_ℤ, nat_le, List, length, codes, Option, Some, None, option_and_then, unwrap_or, is_some, if◌then◌else◌}
+use Rattle.std.specs.Prelude.{ℤ, pos, neg_ℤ, nat_le, length, codes, Option, Some, None, option_and_then, unwrap_or, is_some, if◌then◌else◌}
 use Rattle.std.specs.Result.{result_ok}
-use Rattle.serde_json.specs.Data.{Num, Data, null, boolean, number, string, array, object}
+use Rattle.serde_json.specs.Data.{Num, Data, number, string}
 use Rattle.serde_json.specs.Find.{as_i64}
 use Rattle.values.specs.declared.kind.FieldKind.{FieldKind}
 use Rattle.values.specs.declared.kind.FieldKind.TheVariants as kind

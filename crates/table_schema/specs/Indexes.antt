@@ -1,22 +1,18 @@
 -- What settings say of indexes.
-use Rattle.std.specs.Prelude.{◌≡◌, ℕ, ◌+◌, Bool, true, false, not, ◌&&◌, ◌||◌, ◌==◌, nat_eq, nat_le, List, [], ◌∷◌, ◌++◌, take, ◌-◌, map, length, codes, Option, Some, None, is_some, option_and_then, unwrap_or, if◌then◌else◌}
-use Rattle.std.specs.List.{list_any, list_all, slice_get, ends_with}
-use Rattle.std.specs.Str.{str_eq_ignore_ascii_case}
-use Rattle.std.specs.Option.{option_map_or}
-use Rattle.serde_json.specs.Data.{Data, null}
+use Rattle.std.specs.Prelude.{◌≡◌, ℕ, Bool, true, false, not, ◌&&◌, ◌||◌, ◌==◌, nat_le, List, [], ◌∷◌, length, codes, Option, Some, None, is_some, option_and_then, unwrap_or, if◌then◌else◌}
+use Rattle.std.specs.List.{list_any, list_all, slice_get}
+use Rattle.serde_json.specs.Data.{Data}
 use Rattle.serde_json.specs.Find.{as_str}
 use Rattle.table_schema.specs.declared.field.Role.{Role}
 use Rattle.table_schema.specs.declared.field.Role.TheVariants.{Dimension, Metric, DateTime}
 use Rattle.table_schema.specs.declared.field.Field.{Field}
 use Rattle.table_schema.specs.declared.settings.TreeSetting.{TreeSetting}
 use Rattle.table_schema.specs.declared.settings.Settings.{Settings}
-use Rattle.table_schema.specs.declared.fault.KeyKind.TheVariants.{WrongKind, BadName, Unsupported, UnknownColumn, TooMany}
-use Rattle.table_schema.specs.declared.fault.TextFault.{TextFault}
+use Rattle.table_schema.specs.declared.fault.KeyKind.TheVariants.{WrongKind, Unsupported, UnknownColumn, TooMany}
 use Rattle.table_schema.specs.declared.fault.TextFault.TheVariants.{At}
-use Rattle.table_schema.specs.Json.{Text, key_of, array_of, json_of}
+use Rattle.table_schema.specs.Json.{Text, key_of, array_of}
 use Rattle.table_schema.specs.Faults.{Finding, below, at_place, fault_unless, fault_if, first_of, by_place}
-use Rattle.table_schema.specs.Keys.{optional, object_finding, required_text, text_at, unused_key, refused_bool, items_at}
-use Rattle.table_schema.specs.Names.{is_column_name}
+use Rattle.table_schema.specs.Keys.{optional, object_finding, refused_bool, items_at}
 use Rattle.table_schema.specs.Columns.{number_of, is_known, text_of, is_member, columns_finding, named}
 use Rattle.table_schema.specs.Trees.{trees_finding, trees_of}
 

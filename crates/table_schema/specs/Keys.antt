@@ -1,5 +1,5 @@
 -- Checks of one key of an object, and what its value is read as.
-use Rattle.std.specs.Prelude.{Bool, true, false, not, ℕ, List, [], Option, Some, None, is_some, option_and_then, unwrap_or}
+use Rattle.std.specs.Prelude.{Bool, true, false, not, List, [], Option, Some, None, is_some, option_and_then, unwrap_or}
 use Rattle.serde_json.specs.Data.{Data}
 use Rattle.serde_json.specs.Find.{as_bool, as_str, as_array, as_object}
 use Rattle.table_schema.specs.declared.fault.KeyKind.TheVariants.{MissingKey, WrongKind, Unsupported}

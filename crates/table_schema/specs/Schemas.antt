@@ -1,5 +1,5 @@
 -- The schema that a text is, or the first check of a schema that it fails.
-use Rattle.std.specs.Prelude.{Bool, true, false, ℕ, List, [], ◌∷◌, map, codes, Option, Some, None, Result, Ok, Err}
+use Rattle.std.specs.Prelude.{Bool, true, false, List, [], ◌∷◌, map, codes, Option, Some, None, Result, Ok, Err}
 use Rattle.serde_json.specs.Data.{Data}
 use Rattle.table_schema.specs.declared.field.Role.TheVariants.{Dimension, Metric, DateTime}
 use Rattle.table_schema.specs.declared.field.Schema.{Schema}

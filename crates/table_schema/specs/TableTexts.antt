@@ -1,5 +1,5 @@
 -- The settings of a table that a text is, or the first check of settings that it fails.
-use Rattle.std.specs.Prelude.{ℕ, ◌-◌, Bool, true, false, nat_eq, List, [], ◌∷◌, take, length, codes, Option, Some, None, Result, unwrap_or, if◌then◌else◌}
+use Rattle.std.specs.Prelude.{◌-◌, Bool, nat_eq, List, [], ◌∷◌, take, length, codes, Result, unwrap_or, if◌then◌else◌}
 use Rattle.std.specs.List.{ends_with}
 use Rattle.std.specs.Str.{str_eq_ignore_ascii_case}
 use Rattle.serde_json.specs.Data.{Data, null}
@@ -8,7 +8,7 @@ use Rattle.table_schema.specs.declared.settings.Settings.{Settings}
 use Rattle.table_schema.specs.declared.fault.KeyKind.TheVariants.{BadName, Unsupported}
 use Rattle.table_schema.specs.declared.fault.TextFault.{TextFault}
 use Rattle.table_schema.specs.Json.{Text, key_of, json_of}
-use Rattle.table_schema.specs.Faults.{Finding, below, fault_unless, first_of}
+use Rattle.table_schema.specs.Faults.{Finding, fault_unless, first_of}
 use Rattle.table_schema.specs.Keys.{optional, object_finding, required_text, text_at, unused_key}
 use Rattle.table_schema.specs.Names.{is_column_name}
 use Rattle.table_schema.specs.Schemas.{read_by}

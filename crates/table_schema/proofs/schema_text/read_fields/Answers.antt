@@ -1,4 +1,4 @@
-use Rattle.std.proofs.Common.{◌≡◌, ap, ◌∙◌, sym}
+use Rattle.std.proofs.Common.{◌∙◌}
 use Rattle.std.proofs.lemmas.Result.{err_from_is_err_and}
 use Rattle.table_schema.proofs.FieldWalk.{field_refused, walk_more, read_more}
 use Rattle.table_schema.proofs.schema_text.read_fields.Goals as goal

@@ -1,4 +1,4 @@
-use Rattle.std.proofs.Common.{◌≡◌, [], map, take, drop}
+use Rattle.std.proofs.Common.{◌≡◌, map, take, drop}
 use Rattle.table_schema.specs.Faults.{by_place}
 use Rattle.table_schema.specs.Fields.{field_of, name_of, field_finding}
 use Rattle.table_schema.specs.Schemas.{fields_finding}

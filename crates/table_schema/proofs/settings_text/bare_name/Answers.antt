@@ -1,4 +1,4 @@
-use Rattle.std.proofs.Common.{◌≡◌, ◌-◌, cond, codes, length, take, sym, ap, ◌∙◌}
+use Rattle.std.proofs.Common.{◌-◌, cond, codes, length, take, sym, ap, ◌∙◌}
 use Rattle.std.proofs.lemmas.Str.Pattern.{ends_text}
 use Rattle.table_schema.proofs.settings_text.bare_name.Goals as goal
 

@@ -1,4 +1,4 @@
-use Rattle.std.proofs.Common.{◌≡◌, unwrap_or, ap, ◌∙◌}
+use Rattle.std.proofs.Common.{unwrap_or, ap, ◌∙◌}
 use Rattle.serde_json.specs.Data.{null}
 use Rattle.serde_json.specs.View.{view}
 use Rattle.table_schema.specs.Keys.{optional}

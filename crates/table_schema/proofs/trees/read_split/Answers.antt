@@ -1,4 +1,4 @@
-use Rattle.std.proofs.Common.{◌≡◌, map, ap, ◌∙◌, arith}
+use Rattle.std.proofs.Common.{map, ap, ◌∙◌, arith}
 use Rattle.serde_json.specs.View.{view}
 use Rattle.table_schema.specs.Faults.{below}
 use Rattle.table_schema.specs.Columns.{numbers_of}

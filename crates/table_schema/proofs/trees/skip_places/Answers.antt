@@ -1,4 +1,4 @@
-use Rattle.std.proofs.Common.{◌≡◌, ◌<◌, ◌∷◌, [], ◌++◌, length, ap, ◌∙◌, arith}
+use Rattle.std.proofs.Common.{◌<◌, ◌∷◌, [], ◌++◌, length, ap, ◌∙◌, arith}
 use Rattle.table_schema.proofs.Numbers.{numbers_more, skip_more}
 use Rattle.table_schema.proofs.trees.skip_places.Goals as goal
 

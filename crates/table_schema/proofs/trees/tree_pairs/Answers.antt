@@ -1,7 +1,6 @@
 use Rattle.std.proofs.Common.{map, ap, ◌∙◌}
 use Rattle.serde_json.specs.View.{view}
 use Rattle.table_schema.specs.Faults.{below}
-use Rattle.table_schema.specs.Keys.{items_at}
 use Rattle.table_schema.specs.Pairs.{pairs_finding, pairs_of}
 use Rattle.table_schema.specs.Trees.{PAIRS_KEY, needed_array}
 use Rattle.table_schema.proofs.Answered.{Gives-same, second_of_two}

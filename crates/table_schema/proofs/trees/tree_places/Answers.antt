@@ -1,4 +1,4 @@
-use Rattle.std.proofs.Common.{◌≡◌, ◌<◌, ◌∷◌, [], ◌++◌, length, map, take, ap, sym, ◌∙◌, arith}
+use Rattle.std.proofs.Common.{◌<◌, ◌∷◌, [], ◌++◌, length, map, take, ap, sym, ◌∙◌, arith}
 use Rattle.serde_json.specs.View.{view}
 use Rattle.table_schema.specs.Faults.{at_place}
 use Rattle.table_schema.specs.Trees.{tree_finding, tree_of}
