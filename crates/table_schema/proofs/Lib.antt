@@ -1,0 +1,4 @@
+pub mod Items
+pub mod Read
+pub mod Places
+pub mod FieldWalk

@@ -1,0 +1,13 @@
+use Rattle.std.proofs.Common.{◌≡◌, ◌≤◌, map, take, drop, length}
+use Rattle.serde_json.specs.View.{view}
+use Rattle.table_schema.specs.Faults.{by_place, at_place}
+use Rattle.table_schema.specs.Columns.{numbers_of}
+use Rattle.table_schema.specs.Trees.{split_place, split_places}
+use Rattle.table_schema.proofs.trees.split_places.Given as goal
+
+abbrev pub invariant-loop-place : goal.invariant-loop-place
+invariant-loop-place l =
+    (by_place (λ before d. split_place l.fields (at_place l.path (length before)) (numbers_of l.fields before) d) (map view (take l.place l.items)) (map view (drop l.place l.items))
+    ≡ split_places l.fields l.path (map view l.items))
+    × (l.split ≡ numbers_of l.fields (map view (take l.place l.items)))
+    × (length l.split ≤ l.place)

@@ -1,0 +1,51 @@
+-- Checks in order, of which the first that fails is the fault, and the paths at which they fail.
+use Rattle.std.specs.Prelude.{◌≡◌, ◌≢◌, Bool, if◌then◌else◌, ◌==◌, ℕ, List, [], ◌∷◌, ◌++◌, length, codes, decimal, Option, Some, None, Result, Ok, Err}
+use Rattle.table_schema.specs.declared.fault.KeyKind.{KeyKind}
+use Rattle.table_schema.specs.declared.fault.TextFault.{TextFault}
+use Rattle.table_schema.specs.declared.fault.TextFault.TheVariants.{At, NoMemory}
+use Rattle.table_schema.specs.Json.{Text}
+
+-- what a check finds: no fault, or what is wrong and where
+abbrev pub Finding : Type 0
+Finding = Option TextFault
+
+-- a key of the object that stands at `base`
+abbrev pub below : Text → Text → Text
+below base key = if length base == 0 then key else base ++ codes "." ++ key
+
+-- a place, from 0, of the array that stands at `base`
+abbrev pub at_place : Text → ℕ → Text
+at_place base place = base ++ codes "[" ++ decimal place ++ codes "]"
+
+abbrev pub fault_unless : Bool → KeyKind → Text → Finding
+fault_unless passes kind path = if passes then None else Some (At kind path)
+
+abbrev pub fault_if : Bool → KeyKind → Text → Finding
+fault_if fails kind path = if fails then Some (At kind path) else None
+
+abbrev pub or_else : Finding → Finding → Finding
+or_else (Some fault) later = Some fault
+or_else None later = later
+
+-- the first fault of some checks
+abbrev pub first_of : List Finding → Finding
+first_of [] = None
+first_of (finding ∷ later) = or_else finding (first_of later)
+
+-- the first fault by place: `check` is given the items before a place, and the item there
+abbrev pub by_place : {A : Type 0} → (List A → A → Finding) → List A → List A → Finding
+by_place check before [] = None
+by_place check before (x ∷ xs) = or_else (check before x) (by_place check (before ++ x ∷ []) xs)
+
+-- A call that was refused says what the checks found, unless memory ran out.
+abbrev pub Refuses : Finding → TextFault → Type 0
+Refuses finding fault = fault ≢ NoMemory → finding ≡ Some fault
+
+-- what a call answers: the value where the checks find no fault, and else what they found
+abbrev pub Gives : {A : Type 0} → Finding → A → Result A TextFault → Type 0
+Gives finding value (Ok answer) = (finding ≡ None) × (answer ≡ value)
+Gives finding value (Err fault) = Refuses finding fault
+
+abbrev pub Passes : Finding → Result (Unit {0}) TextFault → Type 0
+Passes finding (Ok answer) = finding ≡ None
+Passes finding (Err fault) = Refuses finding fault

@@ -1,0 +1,12 @@
+pub mod Json
+pub mod Faults
+pub mod Keys
+pub mod Names
+pub mod Defaults
+pub mod Fields
+pub mod Schemas
+pub mod Entries
+pub mod Columns
+pub mod Pairs
+pub mod Trees
+pub mod Indexes

@@ -1,0 +1,26 @@
+//! Tables: the schema and the settings that Pinot's users write in JSON, and queries over their fields.
+#![tactic(auto)]
+
+mod columns;
+mod defaults;
+mod entry;
+mod fault;
+mod field;
+mod field_text;
+mod json;
+mod keys;
+mod names;
+mod pairs;
+mod path;
+mod query;
+mod schema_text;
+mod settings;
+mod table;
+mod trees;
+
+pub use fault::{KeyKind, KeyPath, TextFault};
+pub use field::{Field, Role, Schema};
+pub use query::{Agg, BoundQuery, Conjunct, Item, OrderKey, Wide};
+pub use schema_text::read_schema;
+pub use settings::{Pair, Settings, TreeSetting};
+pub use table::Table;
