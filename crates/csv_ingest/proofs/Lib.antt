@@ -1,0 +1,9 @@
+mod CellLemmas
+mod Fields
+mod HeaderLemmas
+mod InOrder
+mod MarkLemmas
+mod PlainLemmas
+mod ReadingLemmas
+mod RowLemmas
+mod RowsLemmas

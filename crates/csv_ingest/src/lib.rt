@@ -1,0 +1,14 @@
+//! The rows of a CSV text, or the first thing that is wrong with it.
+#![tactic(auto)]
+
+mod cells;
+mod fault;
+mod header;
+mod plain;
+mod records;
+mod row;
+mod rows;
+
+pub use fault::{CsvFault, CsvKind};
+pub use plain::read_plain;
+
