@@ -1,13 +1,16 @@
 -- The number in a field.
-use Rattle.std.proofs.Common.{◌≡◌, ◌∙◌, ◌<◌, ℕ, zero, suc, ℤ, pos, List, [], ◌∷◌, length, get_or, Bool, true, false, Result, Ok, Err, Option, Some, None, option_map, ◌==◌, if◌then◌else◌, refl, ap, arith}
+use Rattle.std.proofs.Common.{◌≡◌, ◌∙◌, ◌<◌, ℕ, zero, suc, ℤ, pos, List, [], ◌∷◌, length, get_or, Bool, true, false, Result, Ok, Err, Option, Some, None, option_map, ◌==◌, IfSome, if◌then◌else◌, refl, sym, ap, subst, arith}
 use Rattle.std.specs.List.{list_all}
 use Rattle.std.specs.Str.{IsAscii, is_utf8}
+use Rattle.std.specs.Prelude.{IsUtf8}
+use Rattle.std.specs.Result.{result_ok}
 use Rattle.std.proofs.lemmas.Bool.Decides.{nat_tests}
 use Rattle.std.proofs.lemmas.List.Sums.{AllPass-from_list_all}
-use Rattle.std.proofs.lemmas.Str.{IsUtf8-from_ascii, is_utf8-from_IsUtf8}
+use Rattle.std.proofs.lemmas.Str.{IsUtf8-from_ascii, IsUtf8-from_is_utf8, is_utf8-from_IsUtf8}
 use Rattle.std.proofs.lemmas.Str.Ascii.{IsAscii-from_all}
 use Rattle.values.specs.Numbers.{is_digit, negative, place_value, ranged, spelled_number, unsigned_number, whole_of}
 use Rattle.values.specs.declared.kind.FieldKind.{FieldKind}
+use Rattle.values.specs.declared.whole.WholeFault.{WholeFault}
 use Rattle.values.specs.declared.value.Value.TheVariants.{Whole}
 use Rattle.values.specs.Reading.{number_value, value_of}
 use Rattle.csv_ingest.specs.declared.fault.CsvKind.TheVariants.{NotUtf8}
@@ -62,3 +65,24 @@ pub number_ok : (kind : FieldKind) (text : List ℕ) (n : ℤ) → value_of kind
 number_ok kind text n is e =
     ap (λ b. if b then kinded (value_of kind text) else Err NotUtf8) (spelled-utf8 kind text n e)
     ∙ ap kinded is ∙ ap (λ r. kinded (number_value r)) e
+
+number_by : (kind : FieldKind) (text : List ℕ) (found : Option ℤ) (o : Result ℤ WholeFault) → value_of kind text ≡ number_value (whole_of kind text) → whole_of kind text ≡ o → found ≡ result_ok o
+    → IfSome found (λ n. value_in kind text ≡ Ok (Whole n))
+number_by kind text found (Ok n) is e got = subst (λ r. IfSome r (λ m. value_in kind text ≡ Ok (Whole m))) (sym got) (number_ok kind text n is e)
+number_by kind text found (Err fault) is e got = subst (λ r. IfSome r (λ m. value_in kind text ≡ Ok (Whole m))) (sym got) tt
+
+-- the same for one of the two kinds of numbers
+pub number-found : (kind named : FieldKind) (text : List ℕ) (found : Option ℤ) → kind ≡ named → value_of named text ≡ number_value (whole_of named text) → found ≡ result_ok (whole_of named text)
+    → IfSome found (λ n. value_in kind text ≡ Ok (Whole n))
+number-found kind named text found same is got =
+    subst (λ k. IfSome found (λ n. value_in k text ≡ Ok (Whole n))) (sym same) (number_by named text found (whole_of named text) is refl got)
+
+not_utf8_by : (bytes : List ℕ) (b : Bool) → is_utf8 bytes ≡ b → (IsUtf8 bytes → ⊥) → is_utf8 bytes ≡ false
+not_utf8_by bytes true e never = absurd (never (IsUtf8-from_is_utf8 bytes e))
+not_utf8_by bytes false e never = e
+
+pub not-utf8 : (bytes : List ℕ) → (IsUtf8 bytes → ⊥) → is_utf8 bytes ≡ false
+not-utf8 bytes never = not_utf8_by bytes (is_utf8 bytes) refl never
+
+pub yes-utf8 : (bytes : List ℕ) → IsUtf8 bytes → is_utf8 bytes ≡ true
+yes-utf8 bytes is = is_utf8-from_IsUtf8 bytes is

@@ -19,7 +19,7 @@ module _ {A X : Type 0} (reading : List (List ℕ) → List ℕ → Result A Csv
   at_place =
       let e : 1 + i - 1 ≡ i = omega arith in
       ap (λ k. placed 0 (1 + i) (reading (take k (map f xs)) (get_or (map f xs) i []))) e
-      ∙ ap (λ ns. placed 0 (1 + i) (reading ns (get_or (map f xs) i []))) take-map
+      ∙ ap (λ ns. placed 0 (1 + i) (reading ns (get_or (map f xs) i []))) (take-map f i xs)
       ∙ ap (λ n. placed 0 (1 + i) (reading (map f (take i xs)) n)) (get_or-map f xs i d [] lt)
 
   pub names-more : (a : A) → reading (map f (take i xs)) (f (get_or xs i d)) ≡ Ok a → NamesTo reading f xs i done → NamesTo reading f xs (i + 1) (done ++ a ∷ [])

@@ -1,5 +1,5 @@
 -- The columns and rows of a list of records.
-use Rattle.std.proofs.Common.{◌≡◌, ◌∙◌, ◌<◌, ◌≤◌, ℕ, List, [], ◌∷◌, length, nat_lt, true, false, Result, Ok, Err, if◌then◌else◌, refl, sym, ap, arith}
+use Rattle.std.proofs.Common.{◌≡◌, ◌∙◌, ◌<◌, ◌≤◌, ℕ, List, [], ◌∷◌, length, nat_lt, true, false, Result, Ok, Err, IfOk, IfErr, if◌then◌else◌, refl, sym, ap, arith}
 use Rattle.std.proofs.lemmas.Bool.Decides.{nat_tests}
 use Rattle.values.specs.declared.value.Value.{Value}
 use Rattle.table_schema.specs.declared.field.Field.{Field}
@@ -8,6 +8,15 @@ use Rattle.csv_ingest.specs.declared.fault.CsvFault.{CsvFault}
 use Rattle.csv_ingest.specs.declared.fault.CsvFault.TheVariants.{At, TooManyColumns}
 use Rattle.csv_ingest.specs.Names.{plain_name}
 use Rattle.csv_ingest.specs.Rows.{csv_limits, header_of, plain_in, rows_of, under, with_schema}
+
+-- what follows of the value or the fault of a call
+pub ok-at : {T E : Type 0} (r : Result T E) (P Q : T → Type 0) → ((t : T) → P t → Q t) → IfOk r P → IfOk r Q
+ok-at (Ok t) P Q f p = f t p
+ok-at (Err e) P Q f p = tt
+
+pub err-at : {T E : Type 0} (r : Result T E) (P Q : E → Type 0) → ((e : E) → P e → Q e) → IfErr r P → IfErr r Q
+err-at (Ok t) P Q f p = tt
+err-at (Err e) P Q f p = f e p
 
 pub no-record : plain_in csv_limits [] ≡ Err (At NoHeader 0 0)
 unfolding plain_in

@@ -15,7 +15,10 @@ use values::{FieldKind, Value, ValueFault, read_value, read_whole};
 pub fn text_of(bytes: &[u8]) -> Option<&str>
     ensures { MatchOption result (is_utf8 bytes.now ≡ false) (λ text. (text.now ≡ bytes.now) × (is_utf8 bytes.now ≡ true)) }
 {
-    str::from_utf8(bytes).ok()
+    match str::from_utf8(bytes) {
+        Ok(text) => Some(text),
+        Err(_) => None,
+    }
 }
 
 // The value of a text.
@@ -47,7 +50,8 @@ fn number_in(kind: FieldKind, bytes: &[u8]) -> Option<i64>
 {
     match kind {
         FieldKind::Text => None,
-        FieldKind::Int | FieldKind::Long => read_whole(kind, bytes).ok(),
+        FieldKind::Int => read_whole(FieldKind::Int, bytes).ok(),
+        FieldKind::Long => read_whole(FieldKind::Long, bytes).ok(),
     }
 }
 

@@ -1,5 +1,7 @@
 // One record as a row of a table.
 ghost use Rattle.std.specs.Prelude.{◌≡◌, ◌≢◌, ◌≤◌, ◌<◌, ◌^◌, map, length, IfOk, IfErr, IfSome, Ok, Err};
+ghost use Rattle.std.specs.List.{position_from};
+ghost use Rattle.std.specs.Str.{bytes_eq};
 ghost use Rattle.csv.specs.Records.{fields_of};
 ghost use Rattle.csv_ingest.specs.Rows.{csv_limits, most_rows, place_of, row_at, values_of};
 
@@ -11,11 +13,11 @@ use table_schema::Field;
 use values::{Row, Seq};
 
 // The place of a name in a header, from 1.
-fn place_of(field: &Field, names: &[&[u8]]) -> Option<usize>
-    ensures value { result ≡ place_of (map (λ f. f.now) names.now) field.now }
+fn place_in(names: &[&[u8]], name: &[u8]) -> Option<usize>
+    ensures { result ≡ position_from (bytes_eq name.now) 1 (map (λ f. f.now) names.now) }
 {
-    for i in 0..names.len() {
-        if field.name.as_slice() == names[i] {
+    'names: for i in 0..names.len() {
+        if name == names[i] {
             return Some(i + 1);
         }
     }
@@ -32,7 +34,7 @@ pub fn places_of(
 {
     let mut places = Vec::with_capacity(alloc, fields.len())?;
     for i in 0..fields.len() {
-        places.push(place_of(&fields[i], names))?;
+        places.push(place_in(names, fields[i].name.as_slice()))?;
     }
     Ok(places)
 }
