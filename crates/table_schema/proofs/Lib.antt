@@ -2,3 +2,5 @@ pub mod Items
 pub mod Read
 pub mod Places
 pub mod FieldWalk
+pub mod Answered
+pub mod Numbers

@@ -1,5 +1,5 @@
--- The sorted column, and the settings of a table.
-use Rattle.std.specs.Prelude.{ℕ, ◌+◌, Bool, true, false, not, ◌&&◌, ◌||◌, ◌==◌, nat_eq, nat_le, List, [], ◌∷◌, ◌++◌, take, ◌-◌, map, length, codes, Option, Some, None, is_some, option_and_then, unwrap_or, if◌then◌else◌}
+-- What settings say of indexes.
+use Rattle.std.specs.Prelude.{◌≡◌, ℕ, ◌+◌, Bool, true, false, not, ◌&&◌, ◌||◌, ◌==◌, nat_eq, nat_le, List, [], ◌∷◌, ◌++◌, take, ◌-◌, map, length, codes, Option, Some, None, is_some, option_and_then, unwrap_or, if◌then◌else◌}
 use Rattle.std.specs.List.{list_any, list_all, slice_get, ends_with}
 use Rattle.std.specs.Str.{str_eq_ignore_ascii_case}
 use Rattle.std.specs.Option.{option_map_or}
@@ -63,3 +63,107 @@ sorted_number fields name = if length name == 0 then None else number_of fields 
 
 abbrev pub sorted_of : List Field → Data → Option ℕ
 sorted_of fields d = option_and_then (λ v. sorted_number fields (sorted_name v)) (key_of SORTED_KEY d)
+
+-- ---- what stands under `tableIndexConfig`
+
+abbrev pub INDEX_KEY : Text
+INDEX_KEY = codes "tableIndexConfig"
+
+abbrev pub INVERTED_KEY : Text
+INVERTED_KEY = codes "invertedIndexColumns"
+
+abbrev pub RANGE_KEY : Text
+RANGE_KEY = codes "rangeIndexColumns"
+
+abbrev pub RAW_KEY : Text
+RAW_KEY = codes "noDictionaryColumns"
+
+abbrev pub index_form : List Field → Data → Finding
+index_form fields d = first_of (
+    object_finding INDEX_KEY d
+    ∷ refused_bool true INDEX_KEY (codes "nullHandlingEnabled") d
+    ∷ sorted_finding fields INDEX_KEY d
+    ∷ columns_finding fields INDEX_KEY INVERTED_KEY d
+    ∷ columns_finding fields INDEX_KEY RANGE_KEY d
+    ∷ columns_finding fields INDEX_KEY RAW_KEY d
+    ∷ trees_finding fields INDEX_KEY d
+    ∷ [])
+
+-- the settings of a table of that name
+abbrev pub indexed : List Field → Text → Data → Settings
+indexed fields table d = record {
+  table = table;
+  sorted = sorted_of fields d;
+  inverted = named fields (items_at INVERTED_KEY d);
+  ranged = named fields (items_at RANGE_KEY d);
+  raw = named fields (items_at RAW_KEY d);
+  trees = trees_of fields d;
+}
+
+-- ---- metrics without a dictionary
+
+abbrev pub is_metric : Role → Bool
+is_metric Metric = true
+is_metric Dimension = false
+is_metric DateTime = false
+
+abbrev pub is_metric_at : Option Field → Bool
+is_metric_at None = false
+is_metric_at (Some f) = is_metric f.role
+
+abbrev pub is_the_number : ℕ → Option ℕ → Bool
+is_the_number n None = false
+is_the_number n (Some m) = m == n
+
+abbrev pub is_set : Option Bool → Bool
+is_set None = false
+is_set (Some b) = b
+
+abbrev pub is_split : List TreeSetting → ℕ → Bool
+is_split trees n = list_any (λ tree. is_member tree.split n) trees
+
+-- the column is looked up by its ids
+abbrev pub needs_ids : Settings → ℕ → Bool
+needs_ids s n = is_the_number n s.sorted || is_set (slice_get s.inverted n) || is_set (slice_get s.ranged n) || is_split s.trees n
+
+abbrev pub misfits_at : List Field → Settings → ℕ → Bool
+misfits_at fields s n = is_metric_at (slice_get fields n) && needs_ids s n
+
+abbrev pub misfits : List Field → Settings → Option ℕ → Bool
+misfits fields s None = false
+misfits fields s (Some n) = misfits_at fields s n
+
+-- the settings have one flag a field for the indexes
+abbrev pub HasFlags : List Field → Settings → Type 0
+HasFlags fields s = (length s.inverted ≡ length fields) × (length s.ranged ≡ length fields)
+
+abbrev pub raw_place : List Field → Settings → Text → Data → Finding
+raw_place fields s path d = fault_if (misfits fields s (number_of fields (text_of d))) Unsupported path
+
+abbrev pub raw_places : List Field → Settings → Text → List Data → Finding
+raw_places fields s path ds = by_place (λ before d. raw_place fields s (at_place path (length before)) d) [] ds
+
+abbrev pub raw_finding : List Field → Settings → Data → Finding
+raw_finding fields s d = raw_places fields s (below INDEX_KEY RAW_KEY) (items_at RAW_KEY d)
+
+-- ---- what is not built yet
+
+abbrev pub is_set_anywhere : List Bool → Bool
+is_set_anywhere bs = list_any (λ b. b) bs
+
+abbrev pub is_no_tree : List TreeSetting → Bool
+is_no_tree [] = true
+is_no_tree (t ∷ ts) = false
+
+abbrev pub names_unbuilt : Settings → Bool
+names_unbuilt s = is_some s.sorted || is_set_anywhere s.inverted || is_set_anywhere s.ranged || not (is_no_tree s.trees)
+
+abbrev pub unbuilt_finding : Settings → Finding
+unbuilt_finding s = fault_if (names_unbuilt s) Unsupported INDEX_KEY
+
+abbrev pub index_finding : List Field → Text → Data → Finding
+index_finding fields table d = first_of (
+    index_form fields d
+    ∷ raw_finding fields (indexed fields table d) d
+    ∷ unbuilt_finding (indexed fields table d)
+    ∷ [])

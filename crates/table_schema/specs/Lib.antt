@@ -10,3 +10,4 @@ pub mod Columns
 pub mod Pairs
 pub mod Trees
 pub mod Indexes
+pub mod TableTexts

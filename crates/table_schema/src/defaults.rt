@@ -50,11 +50,7 @@ fn usual_default(alloc: Global, role: Role, kind: FieldKind) -> Result<Value, No
 }
 
 /// The default that a value in JSON gives, if it is one of that type.
-fn given_default(
-    alloc: Global,
-    kind: FieldKind,
-    json: &Json,
-) -> Result<Option<Value>, NoMemory>
+fn given_default(alloc: Global, kind: FieldKind, json: &Json) -> Result<Option<Value>, NoMemory>
     ensures { IfOk result (λ value. value ≡ spec.given_default kind (view json.now)) }
 {
     match json {

@@ -93,12 +93,7 @@ fn kind_named(name: &str) -> Option<FieldKind>
     }
 }
 
-fn read_kind(
-    alloc: Global,
-    base: &str,
-    role: Role,
-    json: &Json,
-) -> Result<FieldKind, TextFault>
+fn read_kind(alloc: Global, base: &str, role: Role, json: &Json) -> Result<FieldKind, TextFault>
     ensures { Gives (spec.type_finding base.now role (view json.now))
         (spec.kind_of (view json.now)) result }
 {

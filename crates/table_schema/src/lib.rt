@@ -7,6 +7,7 @@ mod entry;
 mod fault;
 mod field;
 mod field_text;
+mod index_text;
 mod json;
 mod keys;
 mod names;
@@ -15,6 +16,8 @@ mod path;
 mod query;
 mod schema_text;
 mod settings;
+mod settings_text;
+mod sorted;
 mod table;
 mod trees;
 
@@ -23,4 +26,8 @@ pub use field::{Field, Role, Schema};
 pub use query::{Agg, BoundQuery, Conjunct, Item, OrderKey, Wide};
 pub use schema_text::read_schema;
 pub use settings::{Pair, Settings, TreeSetting};
+pub use settings_text::read_settings;
 pub use table::Table;
+
+#[cfg(test)]
+mod tests;

@@ -81,10 +81,12 @@ fn pair_by(fields: &[Field], function: AggKind, column: &[u8]) -> Option<Pair>
     ensures { result ≡ spec.pair_by fields.now function column.now }
 {
     match function {
-        AggKind::Count if column == b"*".as_slice() || number_of(fields, column).is_some() => Some(Pair {
-            kind: AggKind::Count,
-            column: None,
-        }),
+        AggKind::Count if column == b"*".as_slice() || number_of(fields, column).is_some() => Some(
+            Pair {
+                kind: AggKind::Count,
+                column: None,
+            },
+        ),
         AggKind::Count => None,
         AggKind::Sum | AggKind::Least | AggKind::Greatest | AggKind::Average => {
             numeric_pair(fields, function, number_of(fields, column)?)

@@ -8,10 +8,10 @@ ghost use Rattle.table_schema.specs.Fields.{all_entries, field_of};
 ghost use Rattle.table_schema.specs.Faults.{Gives, Passes, Refuses};
 
 use crate::entry::{Entry, list_key, push_entries};
+use crate::field_text::read_field;
 use crate::json::read_json;
 use crate::keys::{check_not, check_object, check_unused, optional_array, required_text};
 use crate::path::fault;
-use crate::field_text::read_field;
 use crate::{Field, KeyKind, Role, Schema, TextFault};
 use serde_json::Value as Json;
 use std::alloc::Global;
@@ -65,11 +65,7 @@ fn read_lists<'v>(alloc: Global, json: &'v Json) -> Result<Vec<Entry<'v>>, TextF
     push_entries(Role::Metric, metrics, &mut entries)?;
     push_entries(Role::DateTime, date_times, &mut entries)?;
     if entries.is_empty() {
-        return Err(fault(
-            alloc,
-            KeyKind::MissingKey,
-            list_key(Role::Dimension),
-        ));
+        return Err(fault(alloc, KeyKind::MissingKey, list_key(Role::Dimension)));
     }
     Ok(entries)
 }
