@@ -25,6 +25,10 @@ module _ {A X : Type 0} (reading : List (List ℕ) → List ℕ → Result A Csv
   pub names-more : (a : A) → reading (map f (take i xs)) (f (get_or xs i d)) ≡ Ok a → NamesTo reading f xs i done → NamesTo reading f xs (i + 1) (done ++ a ∷ [])
   names-more a ok so_far = step-one (name_at reading (map f xs)) 1 i (map f xs) [] done a (header_of reading (map f xs)) within (at_place ∙ ap (placed 0 (1 + i)) ok) so_far
 
+  -- the same, whatever the names were
+  pub names-on : (a : A) → reading (map f (take i xs)) (f (get_or xs i d)) ≡ Ok a → NamesTo reading f xs i done → (all : List A) × NamesTo reading f xs (i + 1) all
+  names-on a ok so_far = (done ++ a ∷ [], names-more a ok so_far)
+
   pub names-fault : (kind : CsvKind) → reading (map f (take i xs)) (f (get_or xs i d)) ≡ Err kind → NamesTo reading f xs i done → header_of reading (map f xs) ≡ Err (At kind 0 (1 + i))
   names-fault kind bad so_far = step-fault (name_at reading (map f xs)) 1 i (map f xs) [] done (At kind 0 (1 + i)) (header_of reading (map f xs)) within (at_place ∙ ap (placed 0 (1 + i)) bad) so_far
 

@@ -1,7 +1,9 @@
 mod CellLemmas
+mod CountLemmas
 mod Fields
 mod HeaderLemmas
 mod InOrder
+mod KnownLemmas
 mod MarkLemmas
 mod PlainLemmas
 mod ReadingLemmas

@@ -1,8 +1,8 @@
 // The header of a CSV text.
-ghost use Rattle.std.specs.Prelude.{◌≡◌, ◌≢◌, ◌≤◌, true, false, map, take, length, IfOk, IfErr, Ok, Err};
+ghost use Rattle.std.specs.Prelude.{◌≡◌, ◌≢◌, ◌≤◌, true, false, map, take, length, ◌<◌, ◌^◌, IfOk, IfErr, IsOk, Ok, Err};
 ghost use Rattle.std.specs.List.{list_all};
 ghost use Rattle.csv.specs.Records.{fields_of};
-ghost use Rattle.csv_ingest.specs.Names.{is_among, is_column_byte, fits_name, is_column_name, plain_field, plain_name};
+ghost use Rattle.csv_ingest.specs.Names.{is_among, is_column_byte, fits_name, is_column_name, known_name, names_of, plain_field, plain_name};
 ghost use Rattle.csv_ingest.specs.Rows.{header_of};
 
 use crate::cells::text_of;
@@ -101,4 +101,43 @@ pub fn plain_columns(alloc: Global, names: &[&[u8]]) -> Result<Seq<Field>, CsvFa
         }
     }
     Ok(fields)
+}
+
+fn is_field(name: &[u8], fields: &[Field]) -> bool
+    ensures { result ≡ is_among name.now (names_of fields.now) }
+{
+    for field in fields {
+        if name == field.name.as_slice() {
+            return true;
+        }
+    }
+    false
+}
+
+// What is wrong with a name behind these, over a table of these fields.
+fn check_name(fields: &[Field], name: &[u8], earlier: &[&[u8]]) -> Result<(), CsvKind>
+    ensures ok { IfOk result (λ _. known_name fields.now (map (λ f. f.now) earlier.now) name.now ≡ Ok name.now) }
+    ensures err { IfErr result (λ kind. known_name fields.now (map (λ f. f.now) earlier.now) name.now ≡ Err kind) }
+{
+    let Some(_) = text_of(name) else {
+        return Err(CsvKind::NotUtf8);
+    };
+    if is_field(name, fields) && is_among(name, earlier) {
+        return Err(CsvKind::DuplicateHeader);
+    }
+    Ok(())
+}
+
+/// The first thing that is wrong with the names in a header, over a table of these fields.
+pub fn check_names(fields: &[Field], names: &[&[u8]]) -> Result<(), CsvFault>
+    requires { length names.now < 2 ^ 31 }
+    ensures ok { IfOk result (λ _. IsOk (header_of (known_name fields.now) (map (λ f. f.now) names.now))) }
+    ensures err { IfErr result (λ fault. header_of (known_name fields.now) (map (λ f. f.now) names.now) ≡ Err fault) }
+{
+    'names: for i in 0..names.len() {
+        if let Err(kind) = check_name(fields, names[i], &names[..i]) {
+            return Err(CsvFault::At(kind, 0, i as u32 + 1));
+        }
+    }
+    Ok(())
 }

@@ -4,11 +4,13 @@
 mod cells;
 mod fault;
 mod header;
+mod known;
 mod plain;
 mod records;
 mod row;
 mod rows;
 
 pub use fault::{CsvFault, CsvKind};
+pub use known::read_rows;
 pub use plain::read_plain;
 
