@@ -80,17 +80,17 @@ pub fn read_field(
     alloc: Global,
     field: &Field,
     place: Option<usize>,
-    record: &ByteRecord,
+    cells: &ByteRecord,
     row: u32,
 ) -> Result<Value, CsvFault>
     requires first { IfSome place (λ n. 1 ≤ n) }
-    requires within { IfSome place (λ n. n ≤ length (fields_of record.now)) }
-    requires few { length (fields_of record.now) < 2 ^ 32 }
-    ensures ok { IfOk result (λ value. value_at row (fields_of record.now) field.now place ≡ Ok value) }
-    ensures err { IfErr result (λ fault. fault ≢ CsvFault.NoMemory → value_at row (fields_of record.now) field.now place ≡ Err fault) }
+    requires within { IfSome place (λ n. n ≤ length (fields_of cells.now)) }
+    requires few { length (fields_of cells.now) < 2 ^ 32 }
+    ensures ok { IfOk result (λ value. value_at row (fields_of cells.now) field.now place ≡ Ok value) }
+    ensures err { IfErr result (λ fault. fault ≢ CsvFault.NoMemory → value_at row (fields_of cells.now) field.now place ≡ Err fault) }
 {
     match place {
         None => Ok(field.default.copy(alloc)?),
-        Some(column) => read_cell(alloc, field, cell(record, column - 1), row, column as u32),
+        Some(column) => read_cell(alloc, field, cell(cells, column - 1), row, column as u32),
     }
 }

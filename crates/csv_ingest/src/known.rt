@@ -66,5 +66,10 @@ pub fn read_rows(alloc: Global, schema: &Schema, bytes: &[u8]) -> Result<Rows, C
     ensures err { IfErr result (λ fault. fault ≢ CsvFault.NoMemory → rows_in csv_limits schema.now.fields (records_of bytes.now) ≡ Err fault) }
 {
     let mut reader = text_reader(alloc, bytes);
-    known_records(alloc, &mut reader, unmarked_len(bytes), schema.fields.as_slice())
+    known_records(
+        alloc,
+        &mut reader,
+        unmarked_len(bytes),
+        schema.fields.as_slice(),
+    )
 }

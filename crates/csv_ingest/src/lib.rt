@@ -13,4 +13,3 @@ mod rows;
 pub use fault::{CsvFault, CsvKind};
 pub use known::read_rows;
 pub use plain::read_plain;
-

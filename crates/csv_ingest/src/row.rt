@@ -52,18 +52,18 @@ fn read_values(
     fields: &[Field],
     names: &[&[u8]],
     places: &[Option<usize>],
-    record: &ByteRecord,
+    cells: &ByteRecord,
     row: u32,
 ) -> Result<Row, CsvFault>
     requires places { places.now ≡ map (place_of (map (λ f. f.now) names.now)) fields.now }
-    requires width { length (fields_of record.now) ≡ length names.now }
+    requires width { length (fields_of cells.now) ≡ length names.now }
     requires few { length names.now < 2 ^ 32 }
-    ensures ok { IfOk result (λ values. values_of fields.now (map (λ f. f.now) names.now) row (fields_of record.now) ≡ Ok values) }
-    ensures err { IfErr result (λ fault. fault ≢ CsvFault.NoMemory → values_of fields.now (map (λ f. f.now) names.now) row (fields_of record.now) ≡ Err fault) }
+    ensures ok { IfOk result (λ values. values_of fields.now (map (λ f. f.now) names.now) row (fields_of cells.now) ≡ Ok values) }
+    ensures err { IfErr result (λ fault. fault ≢ CsvFault.NoMemory → values_of fields.now (map (λ f. f.now) names.now) row (fields_of cells.now) ≡ Err fault) }
 {
     let mut values = Seq::with_capacity(alloc, fields.len())?;
     'values: for i in 0..fields.len() {
-        match read_field(alloc, &fields[i], places[i], record, row) {
+        match read_field(alloc, &fields[i], places[i], cells, row) {
             Ok(value) => values.push(value)?,
             Err(fault) => return Err(fault),
         }
@@ -77,19 +77,19 @@ pub fn read_row(
     fields: &[Field],
     names: &[&[u8]],
     places: &[Option<usize>],
-    record: &ByteRecord,
+    cells: &ByteRecord,
     row: u32,
 ) -> Result<Row, CsvFault>
     requires places { places.now ≡ map (place_of (map (λ f. f.now) names.now)) fields.now }
     requires few { length names.now < 2 ^ 32 }
-    ensures ok { IfOk result (λ values. row_at csv_limits fields.now (map (λ f. f.now) names.now) (row, fields_of record.now) ≡ Ok values) }
-    ensures err { IfErr result (λ fault. fault ≢ CsvFault.NoMemory → row_at csv_limits fields.now (map (λ f. f.now) names.now) (row, fields_of record.now) ≡ Err fault) }
+    ensures ok { IfOk result (λ values. row_at csv_limits fields.now (map (λ f. f.now) names.now) (row, fields_of cells.now) ≡ Ok values) }
+    ensures err { IfErr result (λ fault. fault ≢ CsvFault.NoMemory → row_at csv_limits fields.now (map (λ f. f.now) names.now) (row, fields_of cells.now) ≡ Err fault) }
 {
     if row as usize > most_rows(fields.len()) {
         return Err(CsvFault::TooManyRows);
     }
-    if record.len() != names.len() {
+    if cells.len() != names.len() {
         return Err(CsvFault::At(CsvKind::WrongLength, row, 0));
     }
-    read_values(alloc, fields, names, places, record, row)
+    read_values(alloc, fields, names, places, cells, row)
 }

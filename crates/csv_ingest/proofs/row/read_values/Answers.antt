@@ -12,4 +12,4 @@ read_field-requires-clause-first c =
 pub read_field-requires-clause-within : goal.read_field-requires-clause-within
 read_field-requires-clause-within c =
     let now : Bor (List ℕ) → List ℕ = λ f. f.now in
-    places-last (map now c.args.names.now) c.args.fields.now c.args.places.now c.values.i (length (fields_of c.args.record.now)) c.requires.places (length-map c.args.names.now now ∙ sym c.requires.width)
+    places-last (map now c.args.names.now) c.args.fields.now c.args.places.now c.values.i (length (fields_of c.args.cells.now)) c.requires.places (length-map c.args.names.now now ∙ sym c.requires.width)

@@ -16,7 +16,6 @@ returns-then-not-branch-clause-ok c = λ whole r.
 pub returns-in-Err-clause-err : goal.returns-in-Err-clause-err
 returns-in-Err-clause-err c = λ real whole r.
     let now : Bor (List ℕ) → List ℕ = λ f. f.now in
-
     let (rest, reads, s) = c.rows.invariant whole r in
     let (after, reads_on, next) = rw c.if-not-branch.false at (c.in_ok-next_record.ensures rest reads) in
     let number : c.rows.i + 1 ≡ 1 + c.rows.i = omega arith in
