@@ -13,3 +13,6 @@ mod rows;
 pub use fault::{CsvFault, CsvKind};
 pub use known::read_rows;
 pub use plain::read_plain;
+
+#[cfg(test)]
+mod tests;
