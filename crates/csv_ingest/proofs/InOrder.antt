@@ -1,0 +1,76 @@
+-- Results in order, up to the first fault.
+use Rattle.std.proofs.Common.{◌≡◌, ◌∙◌, ◌<◌, ◌≤◌, ◌+◌, ℕ, suc, List, [], ◌∷◌, ◌++◌, length, drop, map, Result, Ok, Err, refl, sym, ap, arith, append_assoc, append-nil, get_or, add-one}
+use Rattle.std.proofs.Math.Seq.{drop-cons}
+use Rattle.std.proofs.lemmas.List.{nil_from_length, length-drop}
+use Rattle.std.specs.List.{enumerate_from}
+use Rattle.csv_ingest.specs.Rows.{all_or_first, joined}
+
+-- what the first ones gave, before what the others give
+abbrev pub after : {A E : Type 0} → List A → Result (List A) E → Result (List A) E
+after front (Ok rest) = Ok (front ++ rest)
+after front (Err e) = Err e
+
+pub after-none : {A E : Type 0} (r : Result (List A) E) → r ≡ after [] r
+after-none (Ok rest) = refl
+after-none (Err e) = refl
+
+pub after-one : {A E : Type 0} (front : List A) (a : A) (r : Result A E) (rest : Result (List A) E) → r ≡ Ok a → after front (joined r rest) ≡ after (front ++ a ∷ []) rest
+after-one front a (Ok b) (Ok rest) e = ap Ok (simp append_assoc (ap (λ x. front ++ x) cc))
+after-one front a (Ok b) (Err f) e = refl
+after-one front a (Err f) rest e = absurd cc
+
+pub after-fault : {A E : Type 0} (front : List A) (r : Result A E) (rest : Result (List A) E) (fault : E) → r ≡ Err fault → after front (joined r rest) ≡ Err fault
+after-fault front (Ok b) rest fault e = absurd cc
+after-fault front (Err f) rest fault e = ap Err cc
+
+pub after-all : {A E : Type 0} (front : List A) → after {E = E} front (all_or_first []) ≡ Ok front
+after-all front = ap Ok (rw append-nil refl)
+
+drop-all : {A : Type 0} (i : ℕ) (xs : List A) → length xs ≤ i → drop i xs ≡ []
+drop-all i xs le = nil_from_length (drop i xs) (omega (arith, length-drop i xs))
+
+-- the items from a place on
+one_item : {A B : Type 0} (f : A → B) (i : ℕ) (xs : List A) (d : A) → i < length xs → map f (drop i xs) ≡ f (get_or xs i d) ∷ map f (drop (i + 1) xs)
+one_item f i xs d lt = rw (add-one, drop-cons xs i d) refl
+
+-- one more that gives something
+pub item-one : {A B E : Type 0} (f : A → Result B E) (i : ℕ) (xs : List A) (d : A) (front : List B) (b : B) (whole : Result (List B) E) → i < length xs
+    → f (get_or xs i d) ≡ Ok b → whole ≡ after front (all_or_first (map f (drop i xs)))
+    → whole ≡ after (front ++ b ∷ []) (all_or_first (map f (drop (i + 1) xs)))
+item-one f i xs d front b whole lt ok so_far =
+    so_far ∙ ap (λ rs. after front (all_or_first rs)) (one_item f i xs d lt) ∙ after-one front b (f (get_or xs i d)) _ ok
+
+-- one that is a fault
+pub item-fault : {A B E : Type 0} (f : A → Result B E) (i : ℕ) (xs : List A) (d : A) (front : List B) (fault : E) (whole : Result (List B) E) → i < length xs
+    → f (get_or xs i d) ≡ Err fault → whole ≡ after front (all_or_first (map f (drop i xs))) → whole ≡ Err fault
+item-fault f i xs d front fault whole lt bad so_far =
+    so_far ∙ ap (λ rs. after front (all_or_first rs)) (one_item f i xs d lt) ∙ after-fault front (f (get_or xs i d)) _ fault bad
+
+-- no more
+pub item-end : {A B E : Type 0} (f : A → Result B E) (i : ℕ) (xs : List A) (front : List B) (whole : Result (List B) E) → length xs ≤ i
+    → whole ≡ after front (all_or_first (map f (drop i xs))) → whole ≡ Ok front
+item-end f i xs front whole le so_far =
+    so_far ∙ ap (λ ys. after front (all_or_first (map f ys))) (drop-all i xs le) ∙ after-all front
+
+-- the items from a place on, with their places
+numbered : {A B : Type 0} (f : ℕ × A → B) (k i : ℕ) (xs : List A) (d : A) → i < length xs
+    → map f (enumerate_from (k + i) (drop i xs)) ≡ f (k + i, get_or xs i d) ∷ map f (enumerate_from (k + (i + 1)) (drop (i + 1) xs))
+numbered f k i xs d lt =
+    rw (add-one, drop-cons xs i d)
+    (ap (λ n. f (k + i, get_or xs i d) ∷ map f (enumerate_from n (drop (suc i) xs))) (omega arith))
+
+pub step-one : {A B E : Type 0} (f : ℕ × A → Result B E) (k i : ℕ) (xs : List A) (d : A) (front : List B) (b : B) (whole : Result (List B) E) → i < length xs
+    → f (k + i, get_or xs i d) ≡ Ok b → whole ≡ after front (all_or_first (map f (enumerate_from (k + i) (drop i xs))))
+    → whole ≡ after (front ++ b ∷ []) (all_or_first (map f (enumerate_from (k + (i + 1)) (drop (i + 1) xs))))
+step-one f k i xs d front b whole lt ok so_far =
+    so_far ∙ ap (λ rs. after front (all_or_first rs)) (numbered f k i xs d lt) ∙ after-one front b (f (k + i, get_or xs i d)) _ ok
+
+pub step-fault : {A B E : Type 0} (f : ℕ × A → Result B E) (k i : ℕ) (xs : List A) (d : A) (front : List B) (fault : E) (whole : Result (List B) E) → i < length xs
+    → f (k + i, get_or xs i d) ≡ Err fault → whole ≡ after front (all_or_first (map f (enumerate_from (k + i) (drop i xs)))) → whole ≡ Err fault
+step-fault f k i xs d front fault whole lt bad so_far =
+    so_far ∙ ap (λ rs. after front (all_or_first rs)) (numbered f k i xs d lt) ∙ after-fault front (f (k + i, get_or xs i d)) _ fault bad
+
+pub step-end : {A B E : Type 0} (f : ℕ × A → Result B E) (k i : ℕ) (xs : List A) (front : List B) (whole : Result (List B) E) → length xs ≤ i
+    → whole ≡ after front (all_or_first (map f (enumerate_from (k + i) (drop i xs)))) → whole ≡ Ok front
+step-end f k i xs front whole le so_far =
+    so_far ∙ ap (λ ys. after front (all_or_first (map f (enumerate_from (k + i) ys)))) (drop-all i xs le) ∙ after-all front

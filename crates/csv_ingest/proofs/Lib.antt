@@ -1,0 +1,11 @@
+mod CellLemmas
+mod CountLemmas
+mod Fields
+mod HeaderLemmas
+mod InOrder
+mod KnownLemmas
+mod MarkLemmas
+mod PlainLemmas
+mod ReadingLemmas
+mod RowLemmas
+mod RowsLemmas

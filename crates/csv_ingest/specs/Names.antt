@@ -1,0 +1,46 @@
+-- The names in the header of a CSV text.
+use Rattle.std.specs.Prelude.{ℕ, pos, nat_le, Bool, not, ◌&&◌, ◌==◌, List, length, map, Result, Ok, Err, if◌then◌else◌}
+use Rattle.std.specs.List.{list_all, list_any}
+use Rattle.std.specs.Str.{bytes_eq, is_utf8}
+use Rattle.values.specs.declared.kind.FieldKind.TheVariants.{Long}
+use Rattle.values.specs.declared.value.Value.TheVariants.{Whole}
+use Rattle.table_schema.specs.declared.field.Field.{Field}
+use Rattle.table_schema.specs.declared.field.Role.TheVariants.{Metric}
+use Rattle.csv_ingest.specs.declared.fault.CsvKind.{CsvKind}
+use Rattle.csv_ingest.specs.declared.fault.CsvKind.TheVariants.{NotUtf8, BadHeader, DuplicateHeader}
+
+-- a column's name has 1 to 128 visible ASCII characters without `"` (34), `,` (44) and `*` (42)
+abbrev pub is_column_byte : ℕ → Bool
+is_column_byte b = nat_le 33 b && nat_le b 126 && not (b == 34) && not (b == 44) && not (b == 42)
+
+abbrev pub fits_name : ℕ → Bool
+fits_name n = nat_le 1 n && nat_le n 128
+
+abbrev pub is_column_name : List ℕ → Bool
+is_column_name name = fits_name (length name) && list_all is_column_byte name
+
+-- whether one of these is that name
+abbrev pub is_among : List ℕ → List (List ℕ) → Bool
+is_among name names = list_any (bytes_eq name) names
+
+-- a column of whole numbers, 0 where a cell is empty
+abbrev pub plain_field : List ℕ → Field
+plain_field name = record { name = name; kind = Long; role = Metric; default = Whole (pos 0) }
+
+-- the column that a name behind these makes, where every field of the header is one
+abbrev pub plain_name : List (List ℕ) → List ℕ → Result Field CsvKind
+plain_name earlier name =
+    if not (is_utf8 name) then Err NotUtf8
+    else if not (is_column_name name) then Err BadHeader
+    else if is_among name earlier then Err DuplicateHeader
+    else Ok (plain_field name)
+
+abbrev pub names_of : List Field → List (List ℕ)
+names_of fields = map (λ f. f.name) fields
+
+-- a name behind these, where a header may have more than the schema's fields
+abbrev pub known_name : List Field → List (List ℕ) → List ℕ → Result (List ℕ) CsvKind
+known_name fields earlier name =
+    if not (is_utf8 name) then Err NotUtf8
+    else if is_among name (names_of fields) && is_among name earlier then Err DuplicateHeader
+    else Ok name

@@ -1,0 +1,18 @@
+//! The rows of a CSV text, or the first thing that is wrong with it.
+#![tactic(auto)]
+
+mod cells;
+mod fault;
+mod header;
+mod known;
+mod plain;
+mod records;
+mod row;
+mod rows;
+
+pub use fault::{CsvFault, CsvKind};
+pub use known::read_rows;
+pub use plain::read_plain;
+
+#[cfg(test)]
+mod tests;
