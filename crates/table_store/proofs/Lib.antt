@@ -1,2 +1,3 @@
+mod FilesLemmas
 mod StandsLemmas
 mod TableFileLemmas

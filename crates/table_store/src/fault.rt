@@ -1,0 +1,33 @@
+//! Why a call on a store is refused.
+
+use std::alloc::AllocError;
+
+/// The part of a stored file that is wrong. There is one so far, since no command makes a segment.
+#[derive(Clone, Copy, Debug, PartialEq, Eq)]
+pub enum Part {
+    /// The file of the table.
+    Table,
+}
+
+/// Why a call on a store is refused.
+#[derive(Clone, Copy, Debug, PartialEq, Eq)]
+pub enum StoreFault {
+    TableExists,
+    NoTable,
+    /// A stored file is not what it stands for.
+    NotASegment(Part),
+    ReadFault,
+    WriteFault,
+    NoMemory,
+}
+
+impl From<AllocError> for StoreFault {
+    ghost use Rattle.std.specs.Prelude.{◌≡◌};
+    ghost use Rattle.table_store.specs.declared.fault.StoreFault.TheVariants.{NoMemory};
+
+    ghost from_gives = { λ _ fault. fault ≡ NoMemory };
+
+    fn from(_: AllocError) -> Self {
+        StoreFault::NoMemory
+    }
+}
