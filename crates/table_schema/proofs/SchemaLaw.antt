@@ -1,5 +1,5 @@
 -- What the checks of a schema accept is valid.
-use Rattle.std.proofs.Common.{◌≡◌, ℤ, ◌+◌, ◌<◌, ◌≤◌, nat_le, nat_lt, cond, Bool, true, false, not, ◌&&◌, true≢false, codes, List, [], ◌∷◌, ◌++◌, length, map, Option, Some, None, is_some, Ok, Err, option_and_then, unwrap_or, refl, ap, ◌∙◌, subst, arith, rules, tests}
+use Rattle.std.proofs.Common.{◌≡◌, ℤ, ◌+◌, ◌<◌, ◌≤◌, nat_le, nat_lt, cond, Bool, true, false, not, ◌&&◌, true≢false, codes, List, [], ◌∷◌, ◌++◌, length, map, Option, Some, None, is_some, Result, Ok, Err, IfOk, option_and_then, unwrap_or, refl, ap, ◌∙◌, sym, subst, arith, rules, tests}
 use Rattle.std.specs.List.{list_all}
 use Rattle.std.specs.Result.{result_ok}
 use Rattle.std.proofs.lemmas.Grind.{common_steps}
@@ -16,9 +16,11 @@ use Rattle.values.specs.declared.whole.WholeFault.TheVariants.{OutOfRange}
 use Rattle.table_schema.specs.declared.field.Role.{Role}
 use Rattle.table_schema.specs.declared.field.Role.TheVariants.{Dimension, Metric, DateTime}
 use Rattle.table_schema.specs.declared.fault.KeyKind.{KeyKind}
+use Rattle.table_schema.specs.declared.fault.TextFault.{TextFault}
+use Rattle.table_schema.specs.declared.field.Schema.{Schema}
 use Rattle.table_schema.specs.declared.fault.KeyKind.TheVariants.{WrongKind, TooMany, BadName, UnknownType, Unsupported, DuplicateColumn, MissingKey}
 use Rattle.table_schema.specs.Json.{Text, key_of}
-use Rattle.table_schema.specs.Faults.{Finding, or_else, first_of, by_place, fault_unless, fault_if, below}
+use Rattle.table_schema.specs.Faults.{Finding, Gives, or_else, first_of, by_place, fault_unless, fault_if, below}
 use Rattle.table_schema.specs.Keys.{optional, object_finding, required_text, text_at, optional_array}
 use Rattle.table_schema.specs.Names.{is_column_name}
 use Rattle.table_schema.specs.Defaults.{DEFAULT_KEY, text_default, whole_default, number_default, given_default, default_finding, usual_default, default_of}
@@ -192,3 +194,8 @@ schema_valid d none =
       fields = good.0;
       apart = ap (no_repeat []) (names_of es) ∙ good.1;
     }
+
+-- a call that answers a schema answers a valid one
+pub gives_valid : (d : Data) (r : Result Schema TextFault) → Gives (schema_finding d) (schema_of d) r → IfOk r IsValidSchema
+gives_valid d (Ok schema) g = subst IsValidSchema (sym g.1) (schema_valid d g.0)
+gives_valid d (Err fault) g = tt

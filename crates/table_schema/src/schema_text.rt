@@ -6,6 +6,7 @@ ghost use Rattle.table_schema.specs.Schemas as spec;
 ghost use Rattle.table_schema.specs.Entries.{seen};
 ghost use Rattle.table_schema.specs.Fields.{all_entries, field_of};
 ghost use Rattle.table_schema.specs.Faults.{Gives, Passes, Refuses};
+ghost use Rattle.table_schema.specs.Valid.{IsValidSchema};
 
 use crate::entry::{Entry, list_key, push_entries};
 use crate::field_text::read_field;
@@ -26,6 +27,7 @@ pub fn read_schema(alloc: Global, bytes: &[u8]) -> Result<Schema, TextFault>
     ensures ok { IfOk result (λ schema. spec.schema_read bytes.now ≡ Ok schema) }
     ensures err { IfErr result
         (λ fault. fault ≢ TextFault.NoMemory → spec.schema_read bytes.now ≡ Err fault) }
+    ensures valid { IfOk result (λ schema. IsValidSchema schema) }
 {
     let json = read_json(alloc, bytes)?;
     schema_of(alloc, &json)
