@@ -1,3 +1,4 @@
 mod FilesLemmas
+mod OpenLemmas
 mod StandsLemmas
 mod TableFileLemmas

@@ -1,3 +1,4 @@
 pub mod State
 pub mod TableFile
+pub mod Accepted
 pub mod Stands

@@ -1,9 +1,11 @@
 -- Which files a store's state is kept in.
 use Rattle.std.specs.Prelude.{◌≡◌, ◌≢◌, ℕ, Bool, false, List, Option, Some, None, if◌then◌else◌}
 use Rattle.std.specs.FinMap as map
-use Rattle.outside.specs.Files.{Files}
+use Rattle.outside.specs.Files.{Files, OfFile}
+use Rattle.table_schema.specs.declared.table.Table as schema
 use Rattle.table_store.specs.State.{Segments, State, NoTable, HasTable, Table}
-use Rattle.table_store.specs.TableFile.{FitsTable, table_file, table_name}
+use Rattle.table_store.specs.Accepted.{IsAccepted, IsTableFile}
+use Rattle.table_store.specs.TableFile.{table_file, table_name}
 
 -- whether a published file stands for nothing, whatever its bytes: none does so far
 abbrev pub is_idle : Files → List ℕ → Bool
@@ -17,9 +19,10 @@ live_file files name = if is_idle files name then None else map.get files name
 abbrev pub StandsForNoTable : Files → Type 0
 StandsForNoTable files = (name : List ℕ) → live_file files name ≡ None
 
--- the table's file is there, and no other; a table has no segments so far, since no command makes one
+-- the table's file is there, of texts that the checks accept, and no other; a table has no segments so far, since no command makes one
 pub record StandsForTable (files : Files) (table : Table) (segments : Segments) : Type 0 where
-  pub fits : FitsTable table
+  pub read : schema.Table
+  pub accepted : IsAccepted table read
   pub kept : live_file files table_name ≡ Some (table_file table)
   pub no_segment : segments ≡ map.empty
   pub no_other : (name : List ℕ) → name ≢ table_name → live_file files name ≡ None
@@ -36,3 +39,11 @@ StandsForOne = (files : Files) (a b : State) → Stands files a → Stands files
 -- where no file is published, there is no table
 abbrev pub EmptyStands : Type 0
 EmptyStands = Stands map.empty NoTable
+
+-- where there is no table, the file of one makes the store stand for it
+abbrev pub CreateStands : Type 0
+CreateStands = (files : Files) (table : Table) (read : schema.Table) → Stands files NoTable → IsAccepted table read → Stands (map.insert files table_name (table_file table)) (HasTable table map.empty)
+
+-- the file of a table is that of the one that the store stands for
+abbrev pub TableStands : Type 0
+TableStands = (files : Files) (table : Table) (segments : Segments) (read : schema.Table) → Stands files (HasTable table segments) → OfFile (Some files) table_name (λ bytes. IsTableFile bytes read) → IsAccepted table read

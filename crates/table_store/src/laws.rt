@@ -1,5 +1,5 @@
 // Laws of the files that a state is kept in.
-ghost use Rattle.table_store.specs.Stands.{EmptyStands, StandsForOne};
+ghost use Rattle.table_store.specs.Stands.{CreateStands, EmptyStands, StandsForOne, TableStands};
 
 /// Files stand for at most one state.
 pub fn one_state_law()
@@ -9,4 +9,15 @@ pub fn one_state_law()
 /// Where no file is published, there is no table.
 pub fn empty_stands_law()
     ensures { EmptyStands }
+{}
+
+/// Where there is no table, the file of accepted texts makes a store that stands for them, without
+/// segments.
+pub fn create_stands_law()
+    ensures { CreateStands }
+{}
+
+/// Where a store stands for a table, the file of the table is of that one.
+pub fn table_stands_law()
+    ensures { TableStands }
 {}

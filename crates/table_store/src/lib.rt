@@ -4,9 +4,14 @@
 mod create;
 mod fault;
 mod laws;
+mod open;
 mod table_file;
 
 pub use create::{create_table, has_table};
 pub use fault::{Part, StoreFault};
-pub use laws::{empty_stands_law, one_state_law};
+pub use laws::{create_stands_law, empty_stands_law, one_state_law, table_stands_law};
+pub use open::open_table;
 pub use table_file::TEXT_LIMIT;
+
+#[cfg(test)]
+mod tests;

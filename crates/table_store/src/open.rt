@@ -1,0 +1,75 @@
+//! The table of a store.
+
+ghost use Rattle.std.specs.Prelude.{◌≡◌, ◌≢◌, ◌≤◌, IfOk, IfErr, IsErrOf};
+ghost use Rattle.outside.specs.Counts.{Rose};
+ghost use Rattle.outside.specs.Files.{Has, Lacks, OfFile};
+ghost use Rattle.outside.specs.Whole.{LogsFront};
+ghost use Rattle.table_schema.specs.Valid.{IsValidSchema};
+ghost use Rattle.table_schema.specs.ValidSettings.{IsValidSettings};
+ghost use Rattle.table_store.specs.Accepted.{IsNoTableFile, IsTableFile};
+ghost use Rattle.table_store.specs.TableFile.{file_limit, table_name};
+ghost use Rattle.table_store.specs.declared.fault.Part.TheVariants as part;
+ghost use Rattle.table_store.specs.declared.fault.StoreFault.TheVariants.{NoMemory, NotASegment};
+
+use crate::table_file::{FILE_LIMIT, NAME, texts_of};
+use crate::{Part, StoreFault};
+use outside::{Depot, ReadAllFault, read_all};
+use std::alloc::Global;
+use table_schema::{Table, TextFault, read_schema, read_settings};
+
+// What a refused text is for the file that it stands in.
+fn of_text(fault: TextFault) -> StoreFault
+    ensures text { fault ≢ TextFault.NoMemory → result ≡ NotASegment part.Table }
+    ensures memory { fault ≡ TextFault.NoMemory → result ≡ NoMemory }
+{
+    match fault {
+        TextFault::At(_, _) => StoreFault::NotASegment(Part::Table),
+        TextFault::NoMemory => StoreFault::NoMemory,
+    }
+}
+
+// The table that a file is of.
+fn read_table(alloc: Global, file: &[u8]) -> Result<Table, StoreFault>
+    ensures ok { IfOk result (IsTableFile file.now) }
+    ensures err { IfErr result (λ fault. fault ≢ NoMemory → (fault ≡ NotASegment part.Table) × IsNoTableFile file.now) }
+{
+    let Some((schema, settings)) = texts_of(file) else {
+        return Err(StoreFault::NotASegment(Part::Table));
+    };
+    let schema = match read_schema(alloc, schema) {
+        Ok(schema) => schema,
+        Err(fault) => return Err(of_text(fault)),
+    };
+    match read_settings(alloc, &schema, settings) {
+        Ok(settings) => Ok(Table { schema, settings }),
+        Err(fault) => Err(of_text(fault)),
+    }
+}
+
+/// The table of a store. It reads the file of the table alone, and no more of it than two texts at
+/// their limit need.
+pub fn open_table<D: Depot>(alloc: Global, depot: &mut D) -> Result<Table, StoreFault>
+    ensures table { IfOk result (λ table.
+        OfFile (D.held depot.old) table_name (λ bytes. IsTableFile bytes table)) }
+    ensures none { IsErrOf result StoreFault.NoTable → Lacks (D.held depot.old) table_name }
+    ensures other { IsErrOf result (StoreFault.NotASegment Part.Table) →
+        OfFile (D.held depot.old) table_name IsNoTableFile }
+    ensures present { IsErrOf result StoreFault.NoMemory → Has (D.held depot.old) table_name }
+    ensures failed { IsErrOf result StoreFault.ReadFault →
+        Rose (D.read_faults depot.old) (D.read_faults depot.new) }
+    ensures no_write { ¬ IsErrOf result StoreFault.WriteFault }
+    ensures never_exists { ¬ IsErrOf result StoreFault.TableExists }
+    ensures held { D.held depot.new ≡ D.held depot.old }
+    ensures parts { D.parts depot.new ≡ D.parts depot.old }
+    ensures log { LogsFront table_name file_limit (D.log depot.old) (D.log depot.new) }
+    ensures writes { D.write_faults depot.new ≡ D.write_faults depot.old }
+    ensures later { D.read_faults depot.old ≤ D.read_faults depot.new }
+{
+    match read_all(alloc, depot, NAME, FILE_LIMIT) {
+        Ok(file) => read_table(alloc, file.as_slice()),
+        Err(ReadAllFault::Missing) => Err(StoreFault::NoTable),
+        Err(ReadAllFault::TooLong) => Err(StoreFault::NotASegment(Part::Table)),
+        Err(ReadAllFault::Failed) => Err(StoreFault::ReadFault),
+        Err(ReadAllFault::NoMemory) => Err(StoreFault::NoMemory),
+    }
+}
