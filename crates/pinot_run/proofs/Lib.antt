@@ -1,4 +1,7 @@
+mod HaltsLemmas
+mod MachineLemmas
 mod OutcomeLemmas
+mod RunLemmas
 mod ScanLemmas
 mod TallyLemmas
 mod WordLemmas

@@ -2,8 +2,11 @@ pub mod Command
 pub mod Query
 pub mod Bound
 pub mod Notes
+pub mod Create
 pub mod Step
+pub mod Does
 pub mod Outcome
+pub mod Halts
 pub mod View
 pub mod Tally
 pub mod CommandView

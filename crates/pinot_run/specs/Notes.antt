@@ -1,13 +1,17 @@
 -- The statuses of commands and their note lines.
-use Rattle.std.specs.Prelude.{◌≡◌, ◌⊎◌, ℕ, Bool, true, false, List, [], ◌++◌, codes}
+use Rattle.std.specs.Prelude.{◌≡◌, ◌⊎◌, ℕ, Bool, true, false, List, [], ◌++◌, length, codes, ◌==◌, if◌then◌else◌}
 use Rattle.std.specs.Fmt.{decimal}
 use Rattle.csv_ingest.specs.Rows.{most_columns}
 use Rattle.csv_ingest.specs.declared.fault.CsvKind.{CsvKind}
 use Rattle.csv_ingest.specs.declared.fault.CsvKind.TheVariants as kind
 use Rattle.csv_ingest.specs.declared.fault.CsvFault.{CsvFault}
 use Rattle.csv_ingest.specs.declared.fault.CsvFault.TheVariants as csv
+use Rattle.table_schema.specs.declared.fault.KeyKind.{KeyKind}
+use Rattle.table_schema.specs.declared.fault.KeyKind.TheVariants as key
 use Rattle.pinot_run.specs.declared.bound.Reason.{Reason}
 use Rattle.pinot_run.specs.declared.bound.Reason.TheVariants.{NotYet, UnknownColumn}
+use Rattle.pinot_run.specs.declared.fault.Fault.{Fault}
+use Rattle.pinot_run.specs.declared.fault.Fault.TheVariants as fault
 use Rattle.pinot_run.specs.declared.status.Status.{Status}
 use Rattle.pinot_run.specs.declared.status.Status.TheVariants as status
 
@@ -38,10 +42,19 @@ is_fault status.WriteFault = true
 is_fault status.NoMemory = true
 is_fault _ = false
 
+-- the status of a fault
+abbrev pub status_of_fault : Fault → Status
+status_of_fault fault.Read = status.ReadFault
+status_of_fault fault.Write = status.WriteFault
+status_of_fault fault.Memory = status.NoMemory
+
 -- what a note line tells
 pub data Note : Type 0 where
   BadWords : Note
   NoInput : (file : List ℕ) → Note
+  BadSchema : (wrong : KeyKind) (path : List ℕ) → Note
+  BadSettings : (wrong : KeyKind) (path : List ℕ) → Note
+  TableExists : Note
   BadCsv : (wrong : CsvKind) (row column : ℕ) → Note
   TooLarge : (what : List ℕ) (limit : ℕ) → Note
   BadQuery : (reason : Reason) (place : ℕ) → Note
@@ -52,6 +65,9 @@ pub data Note : Type 0 where
 abbrev pub status_of : Note → Status
 status_of BadWords = status.BadWords
 status_of (NoInput file) = status.NoInput
+status_of (BadSchema wrong path) = status.BadSchema
+status_of (BadSettings wrong path) = status.BadSettings
+status_of TableExists = status.TableExists
 status_of (BadCsv wrong row column) = status.BadCsv
 status_of (TooLarge what limit) = status.TooLarge
 status_of (BadQuery reason place) = status.BadQuery
@@ -69,6 +85,22 @@ kind_text kind.NotANumber = codes "NotANumber"
 kind_text kind.OutOfRange = codes "OutOfRange"
 kind_text kind.TooLong = codes "TooLong"
 
+abbrev pub key_text : KeyKind → List ℕ
+key_text key.NotJson = codes "NotJson"
+key_text key.MissingKey = codes "MissingKey"
+key_text key.WrongKind = codes "WrongKind"
+key_text key.BadName = codes "BadName"
+key_text key.UnknownType = codes "UnknownType"
+key_text key.Unsupported = codes "Unsupported"
+key_text key.DuplicateColumn = codes "DuplicateColumn"
+key_text key.UnknownColumn = codes "UnknownColumn"
+key_text key.BadPair = codes "BadPair"
+key_text key.TooMany = codes "TooMany"
+
+-- nothing is said of the path of a whole text
+abbrev pub path_text : List ℕ → List ℕ
+path_text path = if length path == 0 then [] else codes " at " ++ path
+
 abbrev pub reason_text : Reason → List ℕ
 reason_text NotYet = codes "NotYet"
 reason_text UnknownColumn = codes "UnknownColumn"
@@ -76,6 +108,9 @@ reason_text UnknownColumn = codes "UnknownColumn"
 abbrev pub note_text : Note → List ℕ
 note_text BadWords = codes "bad words\n"
 note_text (NoInput file) = codes "no input: " ++ file ++ codes "\n"
+note_text (BadSchema wrong path) = codes "bad schema: " ++ key_text wrong ++ path_text path ++ codes "\n"
+note_text (BadSettings wrong path) = codes "bad settings: " ++ key_text wrong ++ path_text path ++ codes "\n"
+note_text TableExists = codes "table exists\n"
 note_text (BadCsv wrong row column) = codes "bad csv: " ++ kind_text wrong ++ codes ", record " ++ decimal row ++ codes ", column " ++ decimal column ++ codes "\n"
 note_text (TooLarge what limit) = codes "too large: " ++ what ++ codes ", limit " ++ decimal limit ++ codes "\n"
 note_text (BadQuery reason place) = codes "bad query: " ++ reason_text reason ++ codes " at " ++ decimal place ++ codes "\n"

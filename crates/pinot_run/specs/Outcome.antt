@@ -1,14 +1,14 @@
--- What a command leaves on its sinks.
+-- What a command leaves on its sinks and of its store.
 use Rattle.std.specs.Prelude.{◌≡◌, ℕ, List, Option, Some, None, IfSome, true}
 use Rattle.outside.specs.Files.{Files}
-use Rattle.outside.specs.Reads.{Entry}
+use Rattle.table_store.specs.State.{State}
 use Rattle.table_store.specs.Stands.{Stands}
-use Rattle.outside.specs.Whole.{LogsFront}
 use Rattle.outside.specs.Sink.{appended, AppendsPrefix}
-use Rattle.pinot_run.specs.Command.{Command, Scan}
+use Rattle.pinot_run.specs.Command.{Command}
+use Rattle.pinot_run.specs.Does.{Does}
 use Rattle.pinot_run.specs.Notes.{IsLineOf}
 use Rattle.pinot_run.specs.Notes as note
-use Rattle.pinot_run.specs.Step.{After, Answer, Refuses, csv_limit, is_met, status_after, text_of, line_of}
+use Rattle.pinot_run.specs.Step.{After, Answer, Refuses, is_met, status_after, text_of, line_of}
 use Rattle.pinot_run.specs.declared.status.Status.{Status}
 use Rattle.pinot_run.specs.declared.reply.Reply.{Reply}
 
@@ -46,7 +46,34 @@ abbrev pub IsUnderstood : Option Command → Reply → Type 0
 IsUnderstood None reply = IsReply (Refuses note.BadWords) reply
 IsUnderstood (Some command) reply = MayReply reply
 
--- what a told log of input files grew by: reads of the front of the file that the words name, and nothing where they name none
-abbrev pub LogsCommand : Option Command → Option (List Entry) → Option (List Entry) → Type 0
-LogsCommand None old new = new ≡ old
-LogsCommand (Some (Scan file sql)) old new = LogsFront file csv_limit old new
+-- what holds wherever the input files are told, and the stored files too, and these stand for a state
+abbrev pub WhereStands : Option Files → Option Files → (State → Files → Type 0) → Type 0
+WhereStands inputs stored P = IfSome inputs (λ files. IfSome stored (λ kept. (state : State) → Stands kept state → P state files))
+
+-- a command did what it does: the stored files are as it leaves them, and what the sinks tell grew by its answer
+pub record IsDone (command : Option Command) (inputs : Files) (ended : Status) (stored_old stored_new : Option Files) (out_old out_new notes_old notes_new : Option (List ℕ)) : Type 0 where
+  pub answer : Answer
+  pub does : Does command inputs stored_old answer stored_new
+  pub answers : IsAnswer answer ended out_old out_new notes_old notes_new
+
+-- the stored files are as a command leaves them, and `out` grew by a first part of its text
+pub record IsCut (command : Option Command) (inputs : Files) (stored_old stored_new : Option Files) (out_old out_new : Option (List ℕ)) : Type 0 where
+  pub answer : Answer
+  pub does : Does command inputs stored_old answer stored_new
+  pub out : AppendsPrefix (text_of answer) out_old out_new
+
+-- the same, and `out` grew by all of it
+pub record IsWhole (command : Option Command) (inputs : Files) (stored_old stored_new : Option Files) (out_old out_new : Option (List ℕ)) : Type 0 where
+  pub answer : Answer
+  pub does : Does command inputs stored_old answer stored_new
+  pub out : out_new ≡ appended (text_of answer) out_old
+
+-- the stored files stand for the state that a step leaves, and `out` grew by a first part of its text
+pub record IsLeft (after : After) (stored : Option Files) (out_old out_new : Option (List ℕ)) : Type 0 where
+  pub stands : IfSome stored (λ files. Stands files after.state)
+  pub out : AppendsPrefix (text_of after.answer) out_old out_new
+
+-- nothing was done
+pub record IsUndone (stored_old stored_new : Option Files) (out_old out_new : Option (List ℕ)) : Type 0 where
+  pub stored : stored_new ≡ stored_old
+  pub out : out_new ≡ out_old

@@ -1,5 +1,5 @@
 -- What one command answers where no device fails and there is memory.
-use Rattle.std.specs.Prelude.{ℕ, Bool, true, false, not, nat_lt, List, [], length, codes, Option, Some, None, Result, Ok, Err, if◌then◌else◌}
+use Rattle.std.specs.Prelude.{ℕ, Bool, true, false, not, nat_lt, List, [], ◌++◌, length, codes, Option, Some, None, Result, Ok, Err, if◌then◌else◌}
 use Rattle.std.specs.FinMap as map
 use Rattle.outside.specs.Files.{Files}
 use Rattle.values.specs.declared.value.Value.{Value}
@@ -7,8 +7,9 @@ use Rattle.table_schema.specs.declared.field.Schema.{Schema}
 use Rattle.csv_ingest.specs.Names.{names_of}
 use Rattle.csv_ingest.specs.Rows.{csv_limits, plain_in, records_of}
 use Rattle.csv_ingest.specs.declared.fault.CsvFault.{CsvFault}
-use Rattle.table_store.specs.State.{State}
-use Rattle.pinot_run.specs.Command.{Command, Scan, command_of}
+use Rattle.table_store.specs.State.{State, NoTable, HasTable}
+use Rattle.pinot_run.specs.Command.{Command, Create, Scan, command_of}
+use Rattle.pinot_run.specs.Create.{Made, new_table}
 use Rattle.pinot_run.specs.Query.{Aggregate, ScanQuery, query_of}
 use Rattle.pinot_run.specs.Bound.{bound_of, reply_of}
 use Rattle.pinot_run.specs.declared.bound.Bound.{Bound}
@@ -61,16 +62,34 @@ scan_answer file sql (Some bytes) =
     if nat_lt csv_limit (length bytes) then Refuses (note.TooLarge (codes "csv bytes") csv_limit)
     else query_answer (query_of sql) (plain_in csv_limits (records_of bytes))
 
--- the answer to a command over these input files, where it needs no more
-abbrev pub answer_of : Option Command → Files → Answer
-answer_of None inputs = Refuses note.BadWords
-answer_of (Some (Scan file sql)) inputs = scan_answer file sql (map.get inputs file)
+-- the answer to `create`, by whether there is a table, and by what its files make
+abbrev pub create_answer : Bool → Made → Answer
+create_answer true made = Refuses note.TableExists
+create_answer false (Err line) = Refuses line
+create_answer false (Ok (texts, table)) = Replies (codes "created " ++ table.settings.table ++ codes "\n")
+
+abbrev pub has_table : State → Bool
+has_table NoTable = false
+has_table (HasTable table segments) = true
+
+-- the store after `create`
+abbrev pub created : State → Made → State
+created (HasTable table segments) made = HasTable table segments
+created NoTable (Err line) = NoTable
+created NoTable (Ok (texts, table)) = HasTable texts map.empty
 
 -- what a command leaves: its answer, and the state of the store
 pub record After : Type 0 where
   pub answer : Answer
   pub state : State
 
--- what these words do to a store, over these input files
+-- what a command does to a store, over these input files
+abbrev pub step_of : State → Option Command → Files → After
+step_of state None inputs = record { answer = Refuses note.BadWords; state = state }
+step_of state (Some (Scan file sql)) inputs = record { answer = scan_answer file sql (map.get inputs file); state = state }
+step_of state (Some (Create schema settings)) inputs =
+    record { answer = create_answer (has_table state) (new_table schema settings inputs); state = created state (new_table schema settings inputs) }
+
+-- what these words do
 abbrev pub step : State → List (List ℕ) → Files → After
-step state words inputs = record { answer = answer_of (command_of words) inputs; state = state }
+step state words inputs = step_of state (command_of words) inputs

@@ -4,6 +4,8 @@
 mod answer;
 mod bound;
 mod command;
+mod create;
+mod fault;
 mod finish;
 mod names;
 mod reply;

@@ -1,5 +1,5 @@
 // What a command answers where no device fails.
-ghost use Rattle.std.specs.Prelude.{◌≡◌, ◌≢◌, [], IfOk, codes, ◌++◌};
+ghost use Rattle.std.specs.Prelude.{◌≡◌, ◌≢◌, [], IfOk, OnOk, codes, ◌++◌};
 ghost use Rattle.pinot_run.specs.Notes as spec;
 ghost use Rattle.pinot_run.specs.Step.{Answer, Refuses, Replies};
 ghost use Rattle.pinot_run.specs.Outcome.{IsReply};
@@ -8,6 +8,7 @@ use crate::Status;
 use crate::bound::BadQuery;
 use csv_ingest::{CsvFault, CsvKind};
 use std::alloc::{AllocError, Global};
+use table_schema::KeyKind;
 
 /// The most columns that a CSV text of whole numbers may have.
 const MOST_COLUMNS: u64 = 64;
@@ -25,6 +26,24 @@ fn kind_text(kind: CsvKind) -> &'static [u8]
         CsvKind::NotANumber => b"NotANumber",
         CsvKind::OutOfRange => b"OutOfRange",
         CsvKind::TooLong => b"TooLong",
+    }
+}
+
+// The name of what is wrong at a key, in a note line.
+fn key_text(kind: KeyKind) -> &'static [u8]
+    ensures { result.now ≡ spec.key_text kind }
+{
+    match kind {
+        KeyKind::NotJson => b"NotJson",
+        KeyKind::MissingKey => b"MissingKey",
+        KeyKind::WrongKind => b"WrongKind",
+        KeyKind::BadName => b"BadName",
+        KeyKind::UnknownType => b"UnknownType",
+        KeyKind::Unsupported => b"Unsupported",
+        KeyKind::DuplicateColumn => b"DuplicateColumn",
+        KeyKind::UnknownColumn => b"UnknownColumn",
+        KeyKind::BadPair => b"BadPair",
+        KeyKind::TooMany => b"TooMany",
     }
 }
 
@@ -93,6 +112,56 @@ impl Reply {
         reply.note.extend_from_slice(file.as_bytes())?;
         reply.note.push(b'\n')?;
         Ok(reply)
+    }
+
+    /// A schema is refused.
+    pub fn bad_schema(alloc: Global, kind: KeyKind, path: &[u8]) -> Result<Self, AllocError>
+        ensures { IfOk result (IsReply (Refuses (spec.BadSchema kind path.now))) }
+    {
+        let mut reply = Reply::refused(alloc, Status::BadSchema, b"bad schema: ")?;
+        reply.end_at_key(kind, path)?;
+        Ok(reply)
+    }
+
+    /// Table settings are refused.
+    pub fn bad_settings(alloc: Global, kind: KeyKind, path: &[u8]) -> Result<Self, AllocError>
+        ensures { IfOk result (IsReply (Refuses (spec.BadSettings kind path.now))) }
+    {
+        let mut reply = Reply::refused(alloc, Status::BadSettings, b"bad settings: ")?;
+        reply.end_at_key(kind, path)?;
+        Ok(reply)
+    }
+
+    // Ends a note line by what is wrong at a key.
+    fn end_at_key(&mut self, kind: KeyKind, path: &[u8]) -> Result<(), AllocError>
+        ensures note { OnOk result (self.new.note.items ≡ self.old.note.items ++ spec.key_text kind ++ spec.path_text path.now ++ codes "\n") }
+        ensures status { self.new.status ≡ self.old.status }
+        ensures text { self.new.text ≡ self.old.text }
+    {
+        self.note.extend_from_slice(key_text(kind))?;
+        if !path.is_empty() {
+            self.note.extend_from_slice(b" at ")?;
+            self.note.extend_from_slice(path)?;
+        }
+        self.note.push(b'\n')?;
+        Ok(())
+    }
+
+    /// There is a table already.
+    pub fn table_exists(alloc: Global) -> Result<Self, AllocError>
+        ensures { IfOk result (IsReply (Refuses spec.TableExists)) }
+    {
+        Reply::refused(alloc, Status::TableExists, b"table exists\n")
+    }
+
+    /// A table was made.
+    pub fn created(alloc: Global, table: &[u8]) -> Result<Self, AllocError>
+        ensures { IfOk result (IsReply (Replies (codes "created " ++ table.now ++ codes "\n"))) }
+    {
+        let mut text = b"created ".to_vec(alloc)?;
+        text.extend_from_slice(table)?;
+        text.push(b'\n')?;
+        Ok(Reply::done(alloc, text))
     }
 
     /// Something passes a limit.

@@ -16,6 +16,7 @@ ghost use Rattle.pinot_run.specs.View.{aggregate_view};
 
 use crate::answer::{answer_text, label_of};
 use crate::bound::{Bound, bind};
+use crate::fault::Fault;
 use crate::reply::Reply;
 use crate::sql::{Aggregate, read_query};
 use crate::tally::{Tally, tally_rows};
@@ -77,26 +78,6 @@ fn scan_text(alloc: Global, sql: &str, text: Bytes) -> Result<Reply, AllocError>
     }
 }
 
-/// Why there is no reply.
-#[derive(Clone, Copy, Debug, PartialEq, Eq)]
-pub enum Fault {
-    /// An input file could not be read.
-    Read,
-    /// Memory ran out.
-    Memory,
-}
-
-impl From<AllocError> for Fault {
-    ghost use Rattle.std.specs.Prelude.{◌≡◌};
-    ghost use Rattle.pinot_run.specs.declared.scan.Fault.TheVariants.{Memory};
-
-    ghost from_gives = { λ _ fault. fault ≡ Memory };
-
-    fn from(_: AllocError) -> Self {
-        Fault::Memory
-    }
-}
-
 // The most bytes that a CSV file may have.
 const CSV_LIMIT: u64 = 134_217_728;
 
@@ -110,6 +91,7 @@ pub fn scan<I: Shelf>(alloc: Global, file: &str, sql: &str, inputs: &mut I) -> R
     ensures writes { I.write_faults inputs.new ≡ I.write_faults inputs.old }
     ensures later { I.read_faults inputs.old ≤ I.read_faults inputs.new }
     ensures failed { IsErrOf result Fault.Read → Rose (I.read_faults inputs.old) (I.read_faults inputs.new) }
+    ensures no_write { ¬ IsErrOf result Fault.Write }
 {
     match read_all(alloc, inputs, file, CSV_LIMIT) {
         Ok(bytes) => Ok(scan_text(alloc, sql, bytes)?),

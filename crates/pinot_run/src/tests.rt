@@ -1,3 +1,5 @@
+mod create;
+
 use crate::run_command;
 use crate::scan::scan;
 use outside::{Bytes, MemoryDepot, MemoryShelf, MemorySink, Name, Seq, Shelf, ShelfFault};

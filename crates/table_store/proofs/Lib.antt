@@ -1,4 +1,4 @@
 mod FilesLemmas
 mod OpenLemmas
-mod StandsLemmas
+pub mod StandsLemmas
 mod TableFileLemmas
