@@ -28,7 +28,8 @@ use values::Row;
 
 // What is written of a tally: its number of rows, or its sum.
 fn folded(alloc: Global, sums: Option<usize>, tally: &Tally) -> Result<String, AllocError>
-    ensures { (rows : List (List Value)) → tally.now.rows ≡ length rows → tally.now.sum ≡ sum_of sums rows → IfOk result (λ text. string_bytes text ≡ folded sums rows) }
+    ensures { (rows : List (List Value)) → tally.now.rows ≡ length rows → tally.now.sum ≡ sum_of sums rows
+        → IfOk result (λ text. string_bytes text ≡ folded sums rows) }
 {
     match sums {
         None => tally.rows.to_string(alloc),
@@ -55,7 +56,8 @@ fn answer(
 // The reply to a query over the rows of these fields.
 fn scan_rows(alloc: Global, sql: &str, fields: &[Field], rows: &[Row]) -> Result<Reply, AllocError>
     requires numbers { All (IsNumbers (length fields.now)) rows.now }
-    ensures { IfOk result (IsReply (bound_answer rows.now (bound_of (names_of fields.now) (query_of sql.now)))) }
+    ensures { IfOk result (IsReply
+        (bound_answer rows.now (bound_of (names_of fields.now) (query_of sql.now)))) }
 {
     let query = read_query(alloc, sql.as_bytes())?;
     match bind(fields, query) {
@@ -67,7 +69,8 @@ fn scan_rows(alloc: Global, sql: &str, fields: &[Field], rows: &[Row]) -> Result
 // The reply to a query over the bytes of a file, which are let go before the rows are looked at.
 fn scan_text(alloc: Global, sql: &str, text: Bytes) -> Result<Reply, AllocError>
     requires { length text ≤ 134217728 }
-    ensures step { IfOk result (IsReply (query_answer (query_of sql.now) (plain_in csv_limits (records_of text)))) }
+    ensures step { IfOk result (IsReply
+        (query_answer (query_of sql.now) (plain_in csv_limits (records_of text)))) }
     ensures line { IfOk result MayReply }
 {
     let table = read_plain(alloc, text.as_slice());
