@@ -1,5 +1,6 @@
 -- What stops `create` is what is found first in its input files.
 use Rattle.std.proofs.Common.{◌≡◌, ◌∙◌, ℕ, List, [], ◌++◌, length, Option, Some, None, option_map, Result, Ok, Err, IfSome, refl, sym, ap, subst, append-nil, arith}
+use Rattle.std.specs.Prelude.{IfErr, IsErrAnd}
 use Rattle.outside.specs.Files.{Files}
 use Rattle.outside.specs.Reads.{Entry}
 use Rattle.outside.specs.Whole.{LogsFront}
@@ -95,3 +96,8 @@ first_read first second old new reads = (new, reads, no_reads second 1048576 new
 
 pub nothing_read : (first second : List ℕ) (old new : Option (List Entry)) → new ≡ old → LogsFronts first second old new
 nothing_read first second old new same = subst (λ log. LogsFronts first second old log) (sym same) (old, no_reads first 1048576 old, no_reads second 1048576 old)
+
+-- a halt that is handed on
+pub handed_on : {A B : Type 0} (r : Result A Halt) (halt : Halt) (found : Option (Result B Note)) → IsErrAnd r (λ h. h ≡ halt) → HaltsBy found halt → IfErr r (HaltsBy found)
+handed_on (Ok x) halt found is by = absurd is
+handed_on (Err h) halt found is by = subst (HaltsBy found) (sym is) by

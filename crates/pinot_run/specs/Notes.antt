@@ -10,8 +10,6 @@ use Rattle.table_schema.specs.declared.fault.KeyKind.{KeyKind}
 use Rattle.table_schema.specs.declared.fault.KeyKind.TheVariants as key
 use Rattle.pinot_run.specs.declared.bound.Reason.{Reason}
 use Rattle.pinot_run.specs.declared.bound.Reason.TheVariants.{NotYet, UnknownColumn}
-use Rattle.pinot_run.specs.declared.fault.Fault.{Fault}
-use Rattle.pinot_run.specs.declared.fault.Fault.TheVariants as fault
 use Rattle.pinot_run.specs.declared.status.Status.{Status}
 use Rattle.pinot_run.specs.declared.status.Status.TheVariants as status
 
@@ -41,12 +39,6 @@ is_fault status.ReadFault = true
 is_fault status.WriteFault = true
 is_fault status.NoMemory = true
 is_fault _ = false
-
--- the status of a fault
-abbrev pub status_of_fault : Fault → Status
-status_of_fault fault.Read = status.ReadFault
-status_of_fault fault.Write = status.WriteFault
-status_of_fault fault.Memory = status.NoMemory
 
 -- what a note line tells
 pub data Note : Type 0 where

@@ -1,5 +1,5 @@
 -- What a command leaves on its sinks and of its store.
-use Rattle.std.specs.Prelude.{◌≡◌, ℕ, List, Option, Some, None, IfSome, true}
+use Rattle.std.specs.Prelude.{◌≡◌, ℕ, List, Option, Some, None, IfSome, true, false}
 use Rattle.outside.specs.Files.{Files}
 use Rattle.table_store.specs.State.{State}
 use Rattle.table_store.specs.Stands.{Stands}
@@ -8,7 +8,7 @@ use Rattle.pinot_run.specs.Command.{Command}
 use Rattle.pinot_run.specs.Does.{Does}
 use Rattle.pinot_run.specs.Notes.{IsLineOf}
 use Rattle.pinot_run.specs.Notes as note
-use Rattle.pinot_run.specs.Step.{After, Answer, Refuses, is_met, status_after, text_of, line_of}
+use Rattle.pinot_run.specs.Step.{After, Answer, Refuses, is_met, tells_of_store, status_after, text_of, line_of}
 use Rattle.pinot_run.specs.declared.status.Status.{Status}
 use Rattle.pinot_run.specs.declared.reply.Reply.{Reply}
 
@@ -40,6 +40,10 @@ pub record IsReply (answer : Answer) (reply : Reply) : Type 0 where
 -- a reply of the code is some answer to a command that was understood
 abbrev pub MayReply : Reply → Type 0
 MayReply reply = (answer : Answer) × (is_met answer ≡ true) × IsReply answer reply
+
+-- a reply of the code is some answer that tells nothing of the store
+abbrev pub TellsNoStore : Reply → Type 0
+TellsNoStore reply = (answer : Answer) × (tells_of_store answer ≡ false) × IsReply answer reply
 
 -- words that are no command are refused so, and others are answered
 abbrev pub IsUnderstood : Option Command → Reply → Type 0

@@ -42,6 +42,11 @@ is_met (Replies text) = true
 is_met (Refuses note.BadWords) = false
 is_met (Refuses line) = not (is_fault (status_of line))
 
+-- whether an answer tells what the store holds
+abbrev pub tells_of_store : Answer → Bool
+tells_of_store (Refuses note.TableExists) = true
+tells_of_store answer = false
+
 -- the most bytes that a CSV file may have
 abbrev pub csv_limit : ℕ
 csv_limit = 134217728

@@ -143,6 +143,8 @@ pub fn run_command<I: Shelf, D: Depot, O: Sink, N: Sink>(
 {
     match reply_to(alloc, words, inputs, depot) {
         Ok(reply) => give(&reply, out, notes),
-        Err(fault) => note_fault(fault.status(), notes),
+        Err(Fault::Read) => note_fault(Status::ReadFault, notes),
+        Err(Fault::Write) => note_fault(Status::WriteFault, notes),
+        Err(Fault::Memory) => note_fault(Status::NoMemory, notes),
     }
 }

@@ -8,7 +8,7 @@ ghost use Rattle.outside.specs.Whole.{LogsFront};
 ghost use Rattle.csv_ingest.specs.Names.{names_of};
 ghost use Rattle.csv_ingest.specs.Rows.{csv_limits, IsNumbers, plain_in, records_of};
 ghost use Rattle.pinot_run.specs.Bound.{bound_of, folded, reply_of};
-ghost use Rattle.pinot_run.specs.Outcome.{IsReply, MayReply};
+ghost use Rattle.pinot_run.specs.Outcome.{IsReply, MayReply, TellsNoStore};
 ghost use Rattle.pinot_run.specs.Query.{query_of};
 ghost use Rattle.pinot_run.specs.Step.{Replies, bound_answer, query_answer, scan_answer};
 ghost use Rattle.pinot_run.specs.Tally.{IsRowFor, sum_of};
@@ -72,6 +72,7 @@ fn scan_text(alloc: Global, sql: &str, text: Bytes) -> Result<Reply, AllocError>
     ensures step { IfOk result (IsReply
         (query_answer (query_of sql.now) (plain_in csv_limits (records_of text)))) }
     ensures line { IfOk result MayReply }
+    ensures apart { IfOk result TellsNoStore }
 {
     let table = read_plain(alloc, text.as_slice());
     drop(text);
@@ -88,6 +89,7 @@ const CSV_LIMIT: u64 = 134_217_728;
 pub fn scan<I: Shelf>(alloc: Global, file: &str, sql: &str, inputs: &mut I) -> Result<Reply, Fault>
     ensures step { IfOk result (λ r. IfSome (I.held inputs.old) (λ files. IsReply (scan_answer file.now sql.now (get files file.now)) r)) }
     ensures line { IfOk result (λ r. MayReply r) }
+    ensures apart { IfOk result (λ r. TellsNoStore r) }
     ensures held { I.held inputs.new ≡ I.held inputs.old }
     ensures parts { I.parts inputs.new ≡ I.parts inputs.old }
     ensures log { LogsFront file.now 134217728 (I.log inputs.old) (I.log inputs.new) }

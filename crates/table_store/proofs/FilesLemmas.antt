@@ -62,18 +62,10 @@ same_but_put name bytes None now same = same
 same_but_put name bytes (Some files) None same = same
 same_but_put name bytes (Some files) (Some new) same = λ q ne. same q ne ∙ get_other files name bytes q ne
 
--- what holds in any case holds of a call that went well, or failed
-pub on_err : {A E P : Type 0} (r : Result A E) → P → OnErr r P
-on_err (Ok x) p = tt
-on_err (Err e) p = p
-
+-- what follows from what a call that went well says
 pub on_ok_then : {A E P Q : Type 0} (r : Result A E) → (P → Q) → OnOk r P → OnOk r Q
 on_ok_then (Ok x) f p = f p
 on_ok_then (Err e) f p = tt
-
-pub on_err_then : {A E P Q : Type 0} (r : Result A E) → (P → Q) → OnErr r P → OnErr r Q
-on_err_then (Ok x) f p = tt
-on_err_then (Err e) f p = f p
 
 -- a device before a part is begun, after it, after it was written to
 pub record IsWritten (name bytes : List ℕ) (held0 held1 held2 parts0 parts1 parts2 : Option Files) : Type 0 where
@@ -100,3 +92,16 @@ unknown_after name bytes held0 held1 held2 parts0 parts1 parts2 parts3 is same =
     let all : List ℕ = bytes_of parts1 name ++ bytes in
     same_but_put name [] parts0 parts3 (same_but_put name all (with_file name [] parts0) parts3
     (subst (λ p. SameBut name p parts3) (is.grown ∙ ap (with_file name all) is.begun) same))
+
+-- nor does a part that is gone
+same_but_gone : (name : List ℕ) (parts now : Option Files) → now ≡ without_file name parts → SameBut name parts now
+same_but_gone name None now gone = gone
+same_but_gone name (Some files) None gone = absurd cc
+same_but_gone name (Some files) (Some new) gone = λ q ne.
+    let same : new ≡ map.remove files name = cc in
+    ap (λ m. map.get m q) same ∙ map.get-remove nat_list_cmp_total files name q ∙ ap (λ b. cond b None (map.get files q)) (other_name q name ne)
+
+-- a part that was published is gone, and one that was not is unknown
+pub after_publish : {A E : Type 0} (r : Result A E) (name : List ℕ) (parts now : Option Files) → OnOk r (now ≡ without_file name parts) → OnErr r (SameBut name parts now) → SameBut name parts now
+after_publish (Ok x) name parts now gone unknown = same_but_gone name parts now gone
+after_publish (Err e) name parts now gone unknown = unknown

@@ -52,7 +52,7 @@ pub fn create_table<D: Depot>(
     ensures only { OnErr result (IsErrOf result StoreFault.TableExists ⊎ IsErrOf result StoreFault.ReadFault
         ⊎ IsErrOf result StoreFault.WriteFault ⊎ IsErrOf result StoreFault.NoMemory) }
     ensures part_gone { OnOk result (D.parts depot.new ≡ without_file table_name (D.parts depot.old)) }
-    ensures part_unknown { OnErr result (SameBut table_name (D.parts depot.old) (D.parts depot.new)) }
+    ensures other_parts { SameBut table_name (D.parts depot.old) (D.parts depot.new) }
     ensures untouched { IsErrOf result StoreFault.TableExists ⊎ IsErrOf result StoreFault.ReadFault →
         (D.parts depot.new ≡ D.parts depot.old) × (D.write_faults depot.new ≡ D.write_faults depot.old) }
     ensures log { D.log depot.new ≡ D.log depot.old }
@@ -76,7 +76,7 @@ fn publish_file<D: Depot>(alloc: Global, depot: &mut D, file: &[u8]) -> Result<(
     ensures published { OnOk result (D.held depot.new ≡ with_file table_name file.now (D.held depot.old)) }
     ensures kept { OnErr result (D.held depot.new ≡ D.held depot.old) }
     ensures gone { OnOk result (D.parts depot.new ≡ without_file table_name (D.parts depot.old)) }
-    ensures unknown { OnErr result (SameBut table_name (D.parts depot.old) (D.parts depot.new)) }
+    ensures other_parts { SameBut table_name (D.parts depot.old) (D.parts depot.new) }
     ensures failed { IsErrOf result DepotFault.Failed →
         Rose (D.write_faults depot.old) (D.write_faults depot.new) }
     ensures never_missing { ¬ IsErrOf result DepotFault.Missing }
