@@ -1,5 +1,5 @@
 -- The number in a field.
-use Rattle.std.proofs.Common.{◌≡◌, ◌∙◌, ◌<◌, ℕ, zero, suc, ℤ, pos, List, [], ◌∷◌, length, get_or, Bool, true, false, Result, Ok, Err, Option, Some, None, option_map, ◌==◌, IfSome, if◌then◌else◌, refl, sym, ap, subst, arith}
+use Rattle.std.proofs.Common.{◌≡◌, ◌∙◌, ◌<◌, ℕ, zero, suc, ℤ, pos, List, [], ◌∷◌, get_or, Bool, true, false, Result, Ok, Err, Option, Some, None, option_map, ◌==◌, IfSome, if◌then◌else◌, refl, sym, ap, subst, arith}
 use Rattle.std.specs.List.{list_all}
 use Rattle.std.specs.Str.{IsAscii, is_utf8}
 use Rattle.std.specs.Prelude.{IsUtf8}

@@ -1,6 +1,5 @@
 -- The rows of a list of records over the fields of a table.
-use Rattle.std.proofs.Common.{◌≡◌, ◌∙◌, ℕ, List, [], ◌∷◌, Result, Ok, Err, IsOk, refl, sym, ap}
-use Rattle.values.specs.declared.value.Value.{Value}
+use Rattle.std.proofs.Common.{◌≡◌, ℕ, List, [], ◌∷◌, Result, Ok, Err, IsOk, refl, ap}
 use Rattle.table_schema.specs.declared.field.Field.{Field}
 use Rattle.csv_ingest.specs.declared.fault.CsvKind.TheVariants.{NoHeader}
 use Rattle.csv_ingest.specs.declared.fault.CsvFault.{CsvFault}

@@ -5,6 +5,7 @@ mod HeaderLemmas
 mod InOrder
 mod KnownLemmas
 mod MarkLemmas
+mod NumberLemmas
 mod PlainLemmas
 mod ReadingLemmas
 mod RowLemmas

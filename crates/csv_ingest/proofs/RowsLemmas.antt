@@ -1,5 +1,5 @@
 -- The records of a text as rows, one more at a time.
-use Rattle.std.proofs.Common.{◌≡◌, ◌∙◌, ◌+◌, ◌-◌, ◌<◌, ◌≤◌, ◌++◌, ℕ, List, [], ◌∷◌, map, Result, Ok, Err, refl, sym, ap, subst, arith}
+use Rattle.std.proofs.Common.{◌≡◌, ◌∙◌, ◌+◌, ◌-◌, ◌<◌, ◌≤◌, ◌++◌, ℕ, List, [], ◌∷◌, map, Result, Ok, Err, ap, subst, arith}
 use Rattle.std.specs.List.{enumerate_from}
 use Rattle.csv.specs.Reading.{records_from}
 use Rattle.values.specs.declared.value.Value.{Value}

@@ -1,11 +1,12 @@
 -- The rows of a CSV text, or the first thing that is wrong with it: functions of the whole list of its records.
-use Rattle.std.specs.Prelude.{ℕ, ◌-◌, ◌/◌, max, min, nat_lt, Bool, not, ◌==◌, List, [], ◌∷◌, length, take, map, slice_index_or, Option, Some, None, Result, Ok, Err, if◌then◌else◌}
-use Rattle.std.specs.List.{enumerate_from, position_from}
+use Rattle.std.specs.Prelude.{◌≡◌, ℕ, ◌-◌, ◌/◌, max, min, nat_lt, Bool, true, false, not, ◌==◌, List, [], ◌∷◌, length, take, map, slice_index_or, Option, Some, None, Result, Ok, Err, if◌then◌else◌}
+use Rattle.std.specs.List.{enumerate_from, list_all, position_from}
 use Rattle.std.specs.Str.{bytes_eq, is_utf8}
 use Rattle.csv.specs.Reading.{default_config, records, strip_bom}
 use Rattle.values.specs.Reading.{value_of}
 use Rattle.values.specs.declared.kind.FieldKind.{FieldKind}
 use Rattle.values.specs.declared.value.Value.{Value}
+use Rattle.values.specs.declared.value.Value.TheVariants.{Whole, Text}
 use Rattle.values.specs.declared.read.ValueFault.{ValueFault}
 use Rattle.values.specs.declared.read.ValueFault.TheVariants as refused
 use Rattle.table_schema.specs.declared.field.Field.{Field}
@@ -21,12 +22,15 @@ pub record Limits : Type 0 where
   pub many_columns : ℕ → Bool
   pub most_rows : ℕ → ℕ
 
--- 64 columns; 2^20 rows, and 2^24 values in all of them
+abbrev pub most_columns : ℕ
+most_columns = 64
+
+-- 2^20 rows, and 2^24 values in all of them
 abbrev pub most_rows : ℕ → ℕ
 most_rows fields = min 1048576 (16777216 / max 1 fields)
 
 abbrev pub csv_limits : Limits
-csv_limits = record { many_columns = λ n. nat_lt 64 n; most_rows = most_rows }
+csv_limits = record { many_columns = λ n. nat_lt most_columns n; most_rows = most_rows }
 
 -- the records of a text, each a list of cells; one byte order mark is no part of them
 abbrev pub records_of : List ℕ → List (List (List ℕ))
@@ -85,7 +89,7 @@ values_of fields header row cells = all_or_first (map (λ field. value_at row ce
 -- the row of a number, from 1
 abbrev pub row_at : Limits → List Field → List (List ℕ) → ℕ × List (List ℕ) → Result (List Value) CsvFault
 row_at limits fields header (row, cells) =
-    if nat_lt (limits.most_rows (length fields)) row then Err TooManyRows
+    if nat_lt (limits.most_rows (length fields)) row then Err (TooManyRows (limits.most_rows (length fields)))
     else if not (length cells == length header) then Err (At WrongLength row 0)
     else values_of fields header row cells
 
@@ -104,6 +108,15 @@ rows_in limits fields (header ∷ rows) = under (header_of (known_name fields) h
 abbrev pub with_schema : List Field → Result (List (List Value)) CsvFault → Result (Schema × List (List Value)) CsvFault
 with_schema fields (Err fault) = Err fault
 with_schema fields (Ok rows) = Ok (record { fields = fields }, rows)
+
+abbrev pub is_number : Value → Bool
+is_number (Whole n) = true
+is_number (Text text) = false
+
+-- a row of so many whole numbers
+pub record IsNumbers (columns : ℕ) (row : List Value) : Type 0 where
+  pub width : length row ≡ columns
+  pub numbers : list_all is_number row ≡ true
 
 -- the same where every name of the header is a column of whole numbers, and these columns are the schema
 unfoldable pub plain_in : Limits → List (List (List ℕ)) → Result (Schema × List (List Value)) CsvFault

@@ -1,8 +1,9 @@
 // The rows of a CSV text of whole numbers.
 ghost use Rattle.std.specs.Prelude.{◌≡◌, ◌≢◌, ◌≤◌, ◌<◌, ◌+◌, ◌^◌, ◌∷◌, ℕ, List, length, IfOk, IfErr, Ok, Err};
+ghost use Rattle.std.specs.List.{All};
 ghost use Rattle.csv.specs.Records.{fields_of};
 ghost use Rattle.csv_ingest.specs.Reading.{Reads, records_left};
-ghost use Rattle.csv_ingest.specs.Rows.{csv_limits, plain_in, records_of};
+ghost use Rattle.csv_ingest.specs.Rows.{csv_limits, IsNumbers, plain_in, records_of};
 
 use crate::header::{names_in, plain_columns};
 use crate::records::{next_record, text_reader, unmarked_len};
@@ -69,6 +70,7 @@ pub fn read_plain(alloc: Global, bytes: &[u8]) -> Result<(Schema, Rows), CsvFaul
     requires { length bytes.now ≤ 134217728 }
     ensures ok { IfOk result (λ table. plain_in csv_limits (records_of bytes.now) ≡ Ok table) }
     ensures err { IfErr result (λ fault. fault ≢ CsvFault.NoMemory → plain_in csv_limits (records_of bytes.now) ≡ Err fault) }
+    ensures numbers { IfOk result (λ table. All (IsNumbers (length table.0.fields)) table.1) }
 {
     let mut reader = text_reader(alloc, bytes);
     plain_records(alloc, &mut reader, unmarked_len(bytes))

@@ -40,11 +40,11 @@ pub fn places_of(
     Ok(places)
 }
 
-/// How many rows of so many fields are the most.
-pub fn most_rows(fields: usize) -> usize
+// How many rows of so many fields are the most.
+fn most_rows(fields: usize) -> u32
     ensures { result ≡ most_rows fields }
 {
-    (16_777_216 / fields.max(1)).min(1_048_576)
+    (16_777_216 / fields.max(1)).min(1_048_576) as u32
 }
 
 // The values of a record, field by field.
@@ -88,8 +88,9 @@ pub fn read_row(
     ensures ok { IfOk result (λ values. row_at csv_limits fields.now (map (λ f. f.now) names.now) (row, fields_of cells.now) ≡ Ok values) }
     ensures err { IfErr result (λ fault. fault ≢ CsvFault.NoMemory → row_at csv_limits fields.now (map (λ f. f.now) names.now) (row, fields_of cells.now) ≡ Err fault) }
 {
-    if row as usize > most_rows(fields.len()) {
-        return Err(CsvFault::TooManyRows);
+    let most = most_rows(fields.len());
+    if row > most {
+        return Err(CsvFault::TooManyRows(most));
     }
     if cells.len() != names.len() {
         return Err(CsvFault::At(CsvKind::WrongLength, row, 0));

@@ -1,4 +1,4 @@
-use Rattle.std.proofs.Common.{◌≡◌, ◌∙◌, Bor, ℕ, List, Ok, Err, map, sym, ap, subst, arith}
+use Rattle.std.proofs.Common.{◌≡◌, ◌∙◌, Bor, ℕ, List, Ok, Err, map, ap, subst, arith}
 use Rattle.csv.specs.Records.{fields_of}
 use Rattle.csv_ingest.specs.Names.{plain_name}
 use Rattle.csv_ingest.specs.Reading.{records_left}

@@ -1,0 +1,146 @@
+-- The rows of a text of whole numbers have a number for each column.
+use Rattle.std.proofs.Common.{◌≡◌, ◌∙◌, ◌-◌, ℕ, ℤ, suc, pos, List, [], ◌∷◌, length, take, map, nat_lt, slice_index_or, Bool, true, false, not, ◌==◌, Option, Some, None, Result, Ok, Err, if◌then◌else◌, refl, sym, ap, subst}
+use Rattle.std.specs.Bool.{⊤}
+use Rattle.std.specs.List.{All, AllByRecursion, enumerate_from, list_all}
+use Rattle.std.specs.Str.{is_utf8}
+use Rattle.std.proofs.lemmas.List.Elements.{All-from_recursion}
+use Rattle.values.specs.Numbers.{whole_of}
+use Rattle.values.specs.Reading.{number_value, value_of}
+use Rattle.values.specs.declared.kind.FieldKind.TheVariants.{Long}
+use Rattle.values.specs.declared.value.Value.{Value}
+use Rattle.values.specs.declared.value.Value.TheVariants.{Whole}
+use Rattle.values.specs.declared.whole.WholeFault.{WholeFault}
+use Rattle.values.specs.declared.whole.WholeFault.TheVariants as whole
+use Rattle.table_schema.specs.declared.field.Field.{Field}
+use Rattle.table_schema.specs.declared.field.Schema.{Schema}
+use Rattle.csv_ingest.specs.declared.fault.CsvKind.{CsvKind}
+use Rattle.csv_ingest.specs.declared.fault.CsvKind.TheVariants.{NotUtf8, BadHeader, DuplicateHeader, WrongLength}
+use Rattle.csv_ingest.specs.declared.fault.CsvFault.{CsvFault}
+use Rattle.csv_ingest.specs.declared.fault.CsvFault.TheVariants.{At, TooManyRows, TooManyColumns}
+use Rattle.csv_ingest.specs.Names.{is_among, is_column_name, plain_field, plain_name}
+use Rattle.csv_ingest.specs.Rows.{all_or_first, cell_value, header_of, is_number, IsNumbers, joined, kinded, Limits, name_at, placed, place_of, plain_in, row_at, rows_of, under, value_at, values_of, with_schema}
+
+-- what joins two results
+joins : {A E : Type 0} (r : Result A E) (rest : Result (List A) E) (all : List A) → joined r rest ≡ Ok all → (a : A) × (more : List A) × (r ≡ Ok a) × (rest ≡ Ok more) × (all ≡ a ∷ more)
+joins (Err e) rest all is = absurd cc
+joins (Ok a) (Err e) all is = absurd cc
+joins (Ok a) (Ok more) all is = (a, more, refl, refl, cc)
+
+-- what a rule gives of each item holds of all that it gives
+each : {A B E : Type 0} (Q : A → Type 0) (P : B → Type 0) (f : A → Result B E) → ((a : A) (b : B) → Q a → f a ≡ Ok b → P b)
+    → (xs : List A) (ys : List B) → AllByRecursion Q xs → all_or_first (map f xs) ≡ Ok ys → AllByRecursion P ys
+each Q P f rule [] ys q is =
+    let none : [] ≡ ys = cc in
+    subst (AllByRecursion P) none tt
+each Q P f rule (x ∷ xs) ys q is =
+    let (b, bs, first, rest, all) = joins (f x) (all_or_first (map f xs)) ys is in
+    subst (AllByRecursion P) (sym all) (rule x b q.0 first, each Q P f rule xs bs q.1 rest)
+
+as_many : {A B E : Type 0} (f : A → Result B E) (xs : List A) (ys : List B) → all_or_first (map f xs) ≡ Ok ys → length ys ≡ length xs
+as_many f [] ys is =
+    let none : ys ≡ [] = cc in
+    ap length none
+as_many f (x ∷ xs) ys is =
+    let (b, bs, first, rest, all) = joins (f x) (all_or_first (map f xs)) ys is in
+    ap length all ∙ ap suc (as_many f xs bs rest)
+
+-- a column of whole numbers
+abbrev IsPlain : Field → Type 0
+IsPlain field = (name : List ℕ) × (field ≡ plain_field name)
+
+whole_number : (r : Result ℤ WholeFault) (v : Value) → kinded (number_value r) ≡ Ok v → is_number v ≡ true
+whole_number (Ok n) v is =
+    let same : Whole n ≡ v = cc in
+    subst (λ w. is_number w ≡ true) same refl
+whole_number (Err whole.NotANumber) v is = absurd cc
+whole_number (Err whole.OutOfRange) v is = absurd cc
+
+utf8_number : (utf8 : Bool) (bytes : List ℕ) (v : Value) → (if utf8 then kinded (value_of Long bytes) else Err NotUtf8) ≡ Ok v → is_number v ≡ true
+utf8_number true bytes v is = whole_number (whole_of Long bytes) v is
+utf8_number false bytes v is = absurd cc
+
+cell_number : (name bytes : List ℕ) (v : Value) → cell_value (plain_field name) bytes ≡ Ok v → is_number v ≡ true
+cell_number name [] v is =
+    let same : Whole (pos 0) ≡ v = cc in
+    subst (λ w. is_number w ≡ true) same refl
+cell_number name (b ∷ bytes) v is = utf8_number (is_utf8 (b ∷ bytes)) (b ∷ bytes) v is
+
+placed_ok : {A : Type 0} (row column : ℕ) (r : Result A CsvKind) (a : A) → placed row column r ≡ Ok a → r ≡ Ok a
+placed_ok row column (Ok b) a is = ap Ok cc
+placed_ok row column (Err kind) a is = absurd cc
+
+place_number : (row : ℕ) (cells : List (List ℕ)) (place : Option ℕ) (name : List ℕ) (v : Value) → value_at row cells (plain_field name) place ≡ Ok v → is_number v ≡ true
+place_number row cells None name v is =
+    let same : Whole (pos 0) ≡ v = cc in
+    subst (λ w. is_number w ≡ true) same refl
+place_number row cells (Some column) name v is = cell_number name (slice_index_or cells (column - 1) []) v (placed_ok row column (cell_value (plain_field name) (slice_index_or cells (column - 1) [])) v is)
+
+field_number : (header : List (List ℕ)) (row : ℕ) (cells : List (List ℕ)) (field : Field) (v : Value) → IsPlain field → value_at row cells field (place_of header field) ≡ Ok v → is_number v ≡ true
+field_number header row cells field v (name, is) =
+    subst (λ f. value_at row cells f (place_of header f) ≡ Ok v → is_number v ≡ true) (sym is) (place_number row cells (place_of header (plain_field name)) name v)
+
+all_numbers : (row : List Value) → AllByRecursion (λ v. is_number v ≡ true) row → list_all is_number row ≡ true
+all_numbers [] q = refl
+all_numbers (v ∷ row) q = rw q.0 (all_numbers row q.1)
+
+values_numbers : (header : List (List ℕ)) (n : ℕ) (cells : List (List ℕ)) (fields : List Field) (row : List Value) → AllByRecursion IsPlain fields → values_of fields header n cells ≡ Ok row → IsNumbers (length fields) row
+values_numbers header n cells fields row plain is = record {
+  width = as_many (λ field. value_at n cells field (place_of header field)) fields row is;
+  numbers = all_numbers row (each IsPlain (λ v. is_number v ≡ true) (λ field. value_at n cells field (place_of header field)) (field_number header n cells) fields row plain is);
+}
+
+row_numbers : (many short : Bool) (much wrong : CsvFault) (header : List (List ℕ)) (n : ℕ) (cells : List (List ℕ)) (fields : List Field) (row : List Value) → AllByRecursion IsPlain fields
+    → (if many then Err much else if short then Err wrong else values_of fields header n cells) ≡ Ok row → IsNumbers (length fields) row
+row_numbers true short much wrong header n cells fields row plain is = absurd cc
+row_numbers false true much wrong header n cells fields row plain is = absurd cc
+row_numbers false false much wrong header n cells fields row plain is = values_numbers header n cells fields row plain is
+
+anything : {A : Type 0} (xs : List A) → AllByRecursion (λ x. ⊤) xs
+anything [] = tt
+anything (x ∷ xs) = (tt, anything xs)
+
+rows_numbers : (limits : Limits) (fields : List Field) (header : List (List ℕ)) (records : List (List (List ℕ))) (rows : List (List Value)) → AllByRecursion IsPlain fields
+    → rows_of limits fields header records ≡ Ok rows → AllByRecursion (IsNumbers (length fields)) rows
+rows_numbers limits fields header records rows plain is =
+    each (λ x. ⊤) (IsNumbers (length fields)) (row_at limits fields header)
+    (λ (n, cells) row _ ok. row_numbers (nat_lt (limits.most_rows (length fields)) n) (not (length cells == length header)) (TooManyRows (limits.most_rows (length fields))) (At WrongLength n 0) header n cells fields row plain ok)
+    (enumerate_from 1 records) rows (anything (enumerate_from 1 records)) is
+
+name_plain : (odd bad twice : Bool) (name : List ℕ) (field : Field) → (if odd then Err NotUtf8 else if bad then Err BadHeader else if twice then Err DuplicateHeader else Ok (plain_field name)) ≡ Ok field → IsPlain field
+name_plain true bad twice name field is = absurd cc
+name_plain false true twice name field is = absurd cc
+name_plain false false true name field is = absurd cc
+name_plain false false false name field is = (name, cc)
+
+header_plain : (header : List (List ℕ)) (fields : List Field) → header_of plain_name header ≡ Ok fields → AllByRecursion IsPlain fields
+header_plain header fields is =
+    each (λ x. ⊤) IsPlain (name_at plain_name header)
+    (λ (column, name) field _ ok. name_plain (not (is_utf8 name)) (not (is_column_name name)) (is_among name (take (column - 1) header)) name field (placed_ok 0 column (plain_name (take (column - 1) header) name) field ok))
+    (enumerate_from 1 header) fields (anything (enumerate_from 1 header)) is
+
+-- each row of this table has a number for each column
+abbrev Holds : Schema × List (List Value) → Type 0
+Holds table = All (IsNumbers (length table.0.fields)) table.1
+
+schema_numbers : (fields : List Field) (rows : Result (List (List Value)) CsvFault) (table : Schema × List (List Value)) → with_schema fields rows ≡ Ok table
+    → ((all : List (List Value)) → rows ≡ Ok all → AllByRecursion (IsNumbers (length fields)) all) → Holds table
+schema_numbers fields (Err fault) table is all = absurd cc
+schema_numbers fields (Ok rows) table is all =
+    let same : (record { fields = fields }, rows) ≡ table = cc in
+    subst Holds same (All-from_recursion (IsNumbers (length fields)) rows (all rows refl))
+
+under_numbers : (limits : Limits) (header : List (List ℕ)) (records : List (List (List ℕ))) (names : Result (List Field) CsvFault) (table : Schema × List (List Value))
+    → ((fields : List Field) → names ≡ Ok fields → AllByRecursion IsPlain fields) → under names (λ fields. with_schema fields (rows_of limits fields header records)) ≡ Ok table → Holds table
+under_numbers limits header records (Err fault) table plain is = absurd cc
+under_numbers limits header records (Ok fields) table plain is =
+    schema_numbers fields (rows_of limits fields header records) table is (λ rows ok. rows_numbers limits fields header records rows (plain fields refl) ok)
+
+columns_numbers : (limits : Limits) (many : Bool) (header : List (List ℕ)) (records : List (List (List ℕ))) (table : Schema × List (List Value))
+    → (if many then Err TooManyColumns else under (header_of plain_name header) (λ fields. with_schema fields (rows_of limits fields header records))) ≡ Ok table → Holds table
+columns_numbers limits true header records table is = absurd cc
+columns_numbers limits false header records table is = under_numbers limits header records (header_of plain_name header) table (header_plain header) is
+
+pub numbers-plain : (limits : Limits) (records : List (List (List ℕ))) (table : Schema × List (List Value)) → plain_in limits records ≡ Ok table → Holds table
+unfolding plain_in
+numbers-plain limits [] table is = absurd cc
+numbers-plain limits (header ∷ records) table is = columns_numbers limits (limits.many_columns (length header)) header records table is
