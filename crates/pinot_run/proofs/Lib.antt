@@ -1,11 +1,4 @@
-mod CellLemmas
-mod Fields
-mod HeaderLemmas
-mod InOrder
-mod ReadingLemmas
-mod WordLemmas
-mod TallyLemmas
-mod MarkLemmas
-mod PlainLemmas
-mod ScanLemmas
 mod OutcomeLemmas
+mod ScanLemmas
+mod TallyLemmas
+mod WordLemmas

@@ -55,7 +55,7 @@ met_answer : (answer : Answer) → is_met answer ≡ true → is_fault (status_a
 met_answer (Replies text) e = refl
 met_answer (Refuses note.BadWords) e = refl
 met_answer (Refuses (note.NoInput file)) e = refl
-met_answer (Refuses note.BadCsv) e = refl
+met_answer (Refuses (note.BadCsv wrong row column)) e = refl
 met_answer (Refuses (note.TooLarge what limit)) e = refl
 met_answer (Refuses (note.BadQuery reason place)) e = refl
 met_answer (Refuses note.ReadFault) e = absurd cc

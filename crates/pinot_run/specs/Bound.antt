@@ -5,6 +5,8 @@ use Rattle.std.specs.Ordering.{int_eq}
 use Rattle.std.specs.Str.{bytes_eq}
 use Rattle.std.specs.Fmt.{decimal, signed_decimal}
 use Rattle.csv.specs.Writing.{default_writer, row_text}
+use Rattle.values.specs.declared.value.Value.{Value}
+use Rattle.values.specs.declared.value.Value.TheVariants.{Whole, Text}
 use Rattle.pinot_run.specs.declared.bound.Reason.TheVariants.{NotYet, UnknownColumn}
 use Rattle.pinot_run.specs.declared.bound.BadQuery.{BadQuery}
 use Rattle.pinot_run.specs.declared.bound.Bound.{Bound}
@@ -52,12 +54,17 @@ abbrev pub bound_of : List (List ℕ) → Option ScanQuery → Result (Aggregate
 bound_of columns None = Err (record { reason = NotYet; place = 0 })
 bound_of columns (Some query) = folding query.aggregate (both (sums_of columns query.aggregate) (equals_of columns query.condition))
 
+-- the number that a value is; a text counts as 0
+abbrev pub number_of : Value → ℤ
+number_of (Whole n) = n
+number_of (Text text) = pos 0
+
 -- the number of a row in a column
-abbrev pub cell : ℕ → List ℤ → ℤ
-cell column row = slice_index_or row column (pos 0)
+abbrev pub cell : ℕ → List Value → ℤ
+cell column row = number_of (slice_index_or row column (Whole (pos 0)))
 
 -- whether a row holds
-abbrev pub holds : Option (ℕ × ℤ) → List ℤ → Bool
+abbrev pub holds : Option (ℕ × ℤ) → List Value → Bool
 holds None row = true
 holds (Some (column, value)) row = int_eq (cell column row) value
 
@@ -66,7 +73,7 @@ abbrev pub total : List ℤ → ℤ
 total numbers = fold ◌+ℤ◌ (pos 0) numbers
 
 -- what is written of these rows: their number, or the sum of a column
-abbrev pub folded : Option ℕ → List (List ℤ) → List ℕ
+abbrev pub folded : Option ℕ → List (List Value) → List ℕ
 folded None rows = decimal (length rows)
 folded (Some column) rows = signed_decimal (total (map (cell column) rows))
 
@@ -79,5 +86,5 @@ abbrev pub answer_text : List ℕ → List ℕ → List ℕ
 answer_text label cell' = row_text default_writer (label ∷ []) ++ row_text default_writer (cell' ∷ [])
 
 -- the answer: the fold of the rows that hold
-abbrev pub reply_of : Aggregate → Bound → List (List ℤ) → List ℕ
+abbrev pub reply_of : Aggregate → Bound → List (List Value) → List ℕ
 reply_of aggregate bound rows = answer_text (label_of aggregate) (folded bound.sums (filter (holds bound.equals) rows))

@@ -1,11 +1,9 @@
 pub mod Command
-pub mod Plain
 pub mod Query
 pub mod Bound
 pub mod Notes
 pub mod Step
 pub mod Outcome
-pub mod Reading
 pub mod View
 pub mod Tally
 pub mod CommandView

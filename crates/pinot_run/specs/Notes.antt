@@ -1,6 +1,11 @@
 -- The statuses of commands and their note lines.
 use Rattle.std.specs.Prelude.{◌≡◌, ◌⊎◌, ℕ, Bool, true, false, List, [], ◌++◌, codes}
 use Rattle.std.specs.Fmt.{decimal}
+use Rattle.csv_ingest.specs.Rows.{most_columns}
+use Rattle.csv_ingest.specs.declared.fault.CsvKind.{CsvKind}
+use Rattle.csv_ingest.specs.declared.fault.CsvKind.TheVariants as kind
+use Rattle.csv_ingest.specs.declared.fault.CsvFault.{CsvFault}
+use Rattle.csv_ingest.specs.declared.fault.CsvFault.TheVariants as csv
 use Rattle.pinot_run.specs.declared.bound.Reason.{Reason}
 use Rattle.pinot_run.specs.declared.bound.Reason.TheVariants.{NotYet, UnknownColumn}
 use Rattle.pinot_run.specs.declared.status.Status.{Status}
@@ -37,7 +42,7 @@ is_fault _ = false
 pub data Note : Type 0 where
   BadWords : Note
   NoInput : (file : List ℕ) → Note
-  BadCsv : Note
+  BadCsv : (wrong : CsvKind) (row column : ℕ) → Note
   TooLarge : (what : List ℕ) (limit : ℕ) → Note
   BadQuery : (reason : Reason) (place : ℕ) → Note
   ReadFault : Note
@@ -47,12 +52,22 @@ pub data Note : Type 0 where
 abbrev pub status_of : Note → Status
 status_of BadWords = status.BadWords
 status_of (NoInput file) = status.NoInput
-status_of BadCsv = status.BadCsv
+status_of (BadCsv wrong row column) = status.BadCsv
 status_of (TooLarge what limit) = status.TooLarge
 status_of (BadQuery reason place) = status.BadQuery
 status_of ReadFault = status.ReadFault
 status_of WriteFault = status.WriteFault
 status_of NoMemory = status.NoMemory
+
+abbrev pub kind_text : CsvKind → List ℕ
+kind_text kind.NoHeader = codes "NoHeader"
+kind_text kind.NotUtf8 = codes "NotUtf8"
+kind_text kind.BadHeader = codes "BadHeader"
+kind_text kind.DuplicateHeader = codes "DuplicateHeader"
+kind_text kind.WrongLength = codes "WrongLength"
+kind_text kind.NotANumber = codes "NotANumber"
+kind_text kind.OutOfRange = codes "OutOfRange"
+kind_text kind.TooLong = codes "TooLong"
 
 abbrev pub reason_text : Reason → List ℕ
 reason_text NotYet = codes "NotYet"
@@ -61,12 +76,19 @@ reason_text UnknownColumn = codes "UnknownColumn"
 abbrev pub note_text : Note → List ℕ
 note_text BadWords = codes "bad words\n"
 note_text (NoInput file) = codes "no input: " ++ file ++ codes "\n"
-note_text BadCsv = codes "bad csv\n"
+note_text (BadCsv wrong row column) = codes "bad csv: " ++ kind_text wrong ++ codes ", record " ++ decimal row ++ codes ", column " ++ decimal column ++ codes "\n"
 note_text (TooLarge what limit) = codes "too large: " ++ what ++ codes ", limit " ++ decimal limit ++ codes "\n"
 note_text (BadQuery reason place) = codes "bad query: " ++ reason_text reason ++ codes " at " ++ decimal place ++ codes "\n"
 note_text ReadFault = codes "read fault\n"
 note_text WriteFault = codes "write fault\n"
 note_text NoMemory = codes "no memory\n"
+
+-- what is told of a CSV text that has no rows
+abbrev pub csv_note : CsvFault → Note
+csv_note (csv.At wrong row column) = BadCsv wrong row column
+csv_note (csv.TooManyRows most) = TooLarge (codes "rows") most
+csv_note csv.TooManyColumns = TooLarge (codes "columns") most_columns
+csv_note csv.NoMemory = NoMemory
 
 -- a note line of a status: none after Done
 abbrev pub IsLineOf : Status → List ℕ → Type 0

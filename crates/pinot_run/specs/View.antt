@@ -1,5 +1,5 @@
 -- What the code's queries say.
-use Rattle.std.specs.Prelude.{None, option_map, Result, Ok, Err}
+use Rattle.std.specs.Prelude.{option_map, Result, Ok, Err}
 use Rattle.pinot_run.specs.Query as spec
 use Rattle.pinot_run.specs.declared.bound.BadQuery.{BadQuery}
 use Rattle.pinot_run.specs.declared.bound.Bound.{Bound}
@@ -21,8 +21,3 @@ query_view q = record { aggregate = aggregate_view q.aggregate; condition = opti
 abbrev pub bound_view : Result (Aggregate × Bound) BadQuery → Result (spec.Aggregate × Bound) BadQuery
 bound_view (Ok (aggregate, bound)) = Ok (aggregate_view aggregate, bound)
 bound_view (Err fault) = Err fault
-
--- the query by which rows are folded; where there is none, all of them are counted
-abbrev pub rows_bound : Result (spec.Aggregate × Bound) BadQuery → Bound
-rows_bound (Ok (aggregate, bound)) = bound
-rows_bound (Err fault) = record { equals = None; sums = None }

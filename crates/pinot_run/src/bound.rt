@@ -1,12 +1,16 @@
 // A query over the columns of a text.
-ghost use Rattle.std.specs.Prelude.{◌≡◌, ◌<◌, IfOk, IfSome, length, map, option_map};
-ghost use Rattle.std.specs.List.{position_from};
+ghost use Rattle.std.specs.Prelude.{◌≡◌, ◌<◌, true, IfOk, IfSome, length, option_map};
+ghost use Rattle.std.specs.List.{list_all, position_from};
 ghost use Rattle.std.specs.Str.{bytes_eq};
-ghost use Rattle.pinot_run.specs.Bound.{both, bound_of, column_at, equals_of, sums_of};
+ghost use Rattle.csv_ingest.specs.Names.{names_of};
+ghost use Rattle.csv_ingest.specs.Rows.{is_number};
+ghost use Rattle.pinot_run.specs.Bound.{both, bound_of, cell, column_at, equals_of, sums_of};
 ghost use Rattle.pinot_run.specs.Tally.{IsWithin};
-ghost use Rattle.pinot_run.specs.View.{aggregate_view, bound_view, equality_view, query_view, rows_bound};
+ghost use Rattle.pinot_run.specs.View.{aggregate_view, bound_view, equality_view, query_view};
 
 use crate::sql::{Aggregate, Equality, ScanQuery};
+use table_schema::Field;
+use values::Value;
 
 /// Why a query is not answered.
 #[derive(Clone, Copy, Debug, PartialEq, Eq)]
@@ -47,28 +51,41 @@ pub struct Bound {
 }
 
 impl Bound {
-    ghost use Rattle.std.specs.Prelude.{◌≡◌, ◌<◌, IfSome, length};
+    ghost use Rattle.std.specs.Prelude.{◌≡◌};
     ghost use Rattle.pinot_run.specs.Bound.{holds};
+    ghost use Rattle.pinot_run.specs.Tally.{IsRowFor};
 
     /// Whether a row holds.
-    pub fn holds(&self, row: &[i64]) -> bool
-        requires { IfSome self.now.equals (λ p. p.0 < length row.now) }
+    pub fn holds(&self, row: &[Value]) -> bool
+        requires { IsRowFor self.now row.now }
         ensures { result ≡ holds self.now.equals row.now }
     {
         match self.equals {
-            Some((column, value)) => row[column] == value,
+            Some((column, value)) => cell(row, column) == value,
             None => true,
         }
     }
 }
 
-// The place of a name among others.
-fn place_of(names: &[&[u8]], name: &[u8]) -> Option<usize>
-    ensures value { result ≡ position_from (bytes_eq name.now) 0 (map (λ n. n.now) names.now) }
-    ensures within { IfSome result (λ place. place < length names.now) }
+/// The number of a row in a column.
+pub fn cell(row: &[Value], column: usize) -> i64
+    requires within { column < length row.now }
+    requires numbers { list_all is_number row.now ≡ true }
+    ensures { result ≡ cell column row.now }
 {
-    'names: for i in 0..names.len() {
-        if name == names[i] {
+    match &row[column] {
+        Value::Whole(number) => *number,
+        Value::Text(_) => unreachable!(),
+    }
+}
+
+// The place of a field's name among others.
+fn place_of(fields: &[Field], name: &[u8]) -> Option<usize>
+    ensures value { result ≡ position_from (bytes_eq name.now) 0 (names_of fields.now) }
+    ensures within { IfSome result (λ place. place < length fields.now) }
+{
+    'fields: for i in 0..fields.len() {
+        if name == fields[i].name.as_slice() {
             return Some(i);
         }
     }
@@ -76,11 +93,11 @@ fn place_of(names: &[&[u8]], name: &[u8]) -> Option<usize>
 }
 
 // The number of a column, which the text names at the byte `place`.
-fn column_at(names: &[&[u8]], place: usize, name: &[u8]) -> Result<usize, BadQuery>
-    ensures value { result ≡ column_at (map (λ n. n.now) names.now) place name.now }
-    ensures within { IfOk result (λ column. column < length names.now) }
+fn column_at(fields: &[Field], place: usize, name: &[u8]) -> Result<usize, BadQuery>
+    ensures value { result ≡ column_at (names_of fields.now) place name.now }
+    ensures within { IfOk result (λ column. column < length fields.now) }
 {
-    match place_of(names, name) {
+    match place_of(fields, name) {
         Some(column) => Ok(column),
         None => Err(BadQuery {
             reason: Reason::UnknownColumn,
@@ -92,27 +109,27 @@ fn column_at(names: &[&[u8]], place: usize, name: &[u8]) -> Result<usize, BadQue
 // The byte of the column in `SELECT SUM(column)`.
 const ARGUMENT_PLACE: usize = 11;
 
-fn sums_of(names: &[&[u8]], aggregate: Aggregate<'_>) -> Result<Option<usize>, BadQuery>
-    ensures value { result ≡ sums_of (map (λ n. n.now) names.now) (aggregate_view aggregate.entry) }
-    ensures within { IfOk result (λ sums. IfSome sums (λ column. column < length names.now)) }
+fn sums_of(fields: &[Field], aggregate: Aggregate<'_>) -> Result<Option<usize>, BadQuery>
+    ensures value { result ≡ sums_of (names_of fields.now) (aggregate_view aggregate.entry) }
+    ensures within { IfOk result (λ sums. IfSome sums (λ column. column < length fields.now)) }
 {
     match aggregate {
         Aggregate::CountRows => Ok(None),
-        Aggregate::SumOf(name) => Ok(Some(column_at(names, ARGUMENT_PLACE, name)?)),
+        Aggregate::SumOf(name) => Ok(Some(column_at(fields, ARGUMENT_PLACE, name)?)),
     }
 }
 
 fn equals_of(
-    names: &[&[u8]],
+    fields: &[Field],
     condition: Option<Equality<'_>>,
 ) -> Result<Option<(usize, i64)>, BadQuery>
-    ensures value { result ≡ equals_of (map (λ n. n.now) names.now) (option_map equality_view condition.entry) }
-    ensures within { IfOk result (λ equals. IfSome equals (λ p. p.0 < length names.now)) }
+    ensures value { result ≡ equals_of (names_of fields.now) (option_map equality_view condition.entry) }
+    ensures within { IfOk result (λ equals. IfSome equals (λ p. p.0 < length fields.now)) }
 {
     match condition {
         None => Ok(None),
         Some(equality) => {
-            let column = column_at(names, equality.place, equality.column)?;
+            let column = column_at(fields, equality.place, equality.column)?;
             Ok(Some((column, equality.value)))
         }
     }
@@ -132,11 +149,11 @@ fn both(
 
 /// What is folded and the query by column numbers, or the first name in its text that is no column.
 pub fn bind<'a>(
-    names: &[&[u8]],
+    fields: &[Field],
     query: Option<ScanQuery<'a>>,
 ) -> Result<(Aggregate<'a>, Bound), BadQuery>
-    ensures value { bound_view result ≡ bound_of (map (λ n. n.now) names.now) (option_map query_view query.entry) }
-    ensures within { IfOk result (λ p. IsWithin (length names.now) p.1) }
+    ensures value { bound_view result ≡ bound_of (names_of fields.now) (option_map query_view query.entry) }
+    ensures within { IfOk result (λ p. IsWithin (length fields.now) p.1) }
 {
     let Some(query) = query else {
         return Err(BadQuery {
@@ -145,22 +162,8 @@ pub fn bind<'a>(
         });
     };
     let bound = both(
-        sums_of(names, query.aggregate),
-        equals_of(names, query.condition),
+        sums_of(fields, query.aggregate),
+        equals_of(fields, query.condition),
     )?;
     Ok((query.aggregate, bound))
-}
-
-/// The query by which rows are folded. Where the query is refused all rows are counted, so that they are
-/// looked at all the same.
-pub fn rows_bound(bound: &Result<(Aggregate<'_>, Bound), BadQuery>) -> Bound
-    ensures { result ≡ rows_bound (bound_view bound.now) }
-{
-    match bound {
-        Ok((_, bound)) => *bound,
-        Err(_) => Bound {
-            equals: None,
-            sums: None,
-        },
-    }
 }

@@ -3,12 +3,9 @@
 
 mod answer;
 mod bound;
-mod cells;
 mod command;
 mod finish;
-mod header;
 mod names;
-mod records;
 mod reply;
 mod run;
 mod scan;

@@ -1,12 +1,32 @@
 // What a command answers where no device fails.
-ghost use Rattle.std.specs.Prelude.{◌≡◌, [], IfOk, codes, ◌++◌};
+ghost use Rattle.std.specs.Prelude.{◌≡◌, ◌≢◌, [], IfOk, codes, ◌++◌};
 ghost use Rattle.pinot_run.specs.Notes as spec;
 ghost use Rattle.pinot_run.specs.Step.{Answer, Refuses, Replies};
 ghost use Rattle.pinot_run.specs.Outcome.{IsReply};
 
 use crate::Status;
 use crate::bound::BadQuery;
+use csv_ingest::{CsvFault, CsvKind};
 use std::alloc::{AllocError, Global};
+
+/// The most columns that a CSV text of whole numbers may have.
+const MOST_COLUMNS: u64 = 64;
+
+// The name of what is wrong with a CSV text, in a note line.
+fn kind_text(kind: CsvKind) -> &'static [u8]
+    ensures { result.now ≡ spec.kind_text kind }
+{
+    match kind {
+        CsvKind::NoHeader => b"NoHeader",
+        CsvKind::NotUtf8 => b"NotUtf8",
+        CsvKind::BadHeader => b"BadHeader",
+        CsvKind::DuplicateHeader => b"DuplicateHeader",
+        CsvKind::WrongLength => b"WrongLength",
+        CsvKind::NotANumber => b"NotANumber",
+        CsvKind::OutOfRange => b"OutOfRange",
+        CsvKind::TooLong => b"TooLong",
+    }
+}
 
 /// A command's status, its text for `out` and its note line. A text comes with `Done` alone, and a note
 /// line with every other status.
@@ -37,10 +57,32 @@ impl Reply {
     }
 
     /// A CSV text has no rows.
-    pub fn bad_csv(alloc: Global) -> Result<Self, AllocError>
-        ensures { IfOk result (IsReply (Refuses spec.BadCsv)) }
+    pub fn no_rows(alloc: Global, fault: CsvFault) -> Result<Self, AllocError>
+        ensures reply { IfOk result (IsReply (Refuses (spec.csv_note fault))) }
+        ensures real { IfOk result (λ _. fault ≢ CsvFault.NoMemory) }
     {
-        Reply::refused(alloc, Status::BadCsv, b"bad csv\n")
+        match fault {
+            CsvFault::At(kind, row, column) => Reply::bad_csv(alloc, kind, row, column),
+            CsvFault::TooManyRows(most) => Reply::too_large(alloc, b"rows", u64::from(most)),
+            CsvFault::TooManyColumns => Reply::too_large(alloc, b"columns", MOST_COLUMNS),
+            CsvFault::NoMemory => Err(AllocError),
+        }
+    }
+
+    // A CSV text has a fault at a place.
+    fn bad_csv(alloc: Global, kind: CsvKind, row: u32, column: u32) -> Result<Self, AllocError>
+        ensures { IfOk result (IsReply (Refuses (spec.BadCsv kind row column))) }
+    {
+        let mut reply = Reply::refused(alloc, Status::BadCsv, b"bad csv: ")?;
+        reply.note.extend_from_slice(kind_text(kind))?;
+        reply.note.extend_from_slice(b", record ")?;
+        let row = row.to_string(alloc)?;
+        reply.note.extend_from_slice(row.as_bytes())?;
+        reply.note.extend_from_slice(b", column ")?;
+        let column = column.to_string(alloc)?;
+        reply.note.extend_from_slice(column.as_bytes())?;
+        reply.note.push(b'\n')?;
+        Ok(reply)
     }
 
     /// There is no input file of this name.

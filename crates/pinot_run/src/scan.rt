@@ -1,53 +1,33 @@
 // The command `scan`: a query over one CSV file of whole numbers.
-ghost use Rattle.std.specs.Prelude.{◌≡◌, ◌≤◌, ◌<◌, ◌+◌, ◌^◌, ◌∷◌, ℕ, ℤ, List, IfOk, IfSome, IsErrOf, OnErr, length, string_bytes, option_map};
+ghost use Rattle.std.specs.Prelude.{◌≡◌, ◌≤◌, ◌<◌, ◌^◌, List, IfOk, IfSome, IsErrOf, length, string_bytes};
 ghost use Rattle.std.specs.FinMap.{get};
-ghost use Rattle.csv.specs.Records.{fields_of};
-ghost use Rattle.pinot_run.specs.Reading.{Reads, records_left};
-ghost use Rattle.csv.specs.Reading.{is_bom, strip_bom};
+ghost use Rattle.std.specs.List.{All};
+ghost use Rattle.values.specs.declared.value.Value.{Value};
 ghost use Rattle.outside.specs.Counts.{Rose};
 ghost use Rattle.outside.specs.Whole.{LogsFront};
-ghost use Rattle.pinot_run.specs.Bound.{folded};
+ghost use Rattle.csv_ingest.specs.Names.{names_of};
+ghost use Rattle.csv_ingest.specs.Rows.{csv_limits, IsNumbers, plain_in, records_of};
+ghost use Rattle.pinot_run.specs.Bound.{bound_of, folded, reply_of};
 ghost use Rattle.pinot_run.specs.Outcome.{IsReply, MayReply};
-ghost use Rattle.pinot_run.specs.Plain.{no_limits, plain_of, records_of};
 ghost use Rattle.pinot_run.specs.Query.{query_of};
-ghost use Rattle.pinot_run.specs.Step.{bound_answer, query_answer, scan_answer};
-ghost use Rattle.pinot_run.specs.Tally.{IsTallyOf, sum_of};
-ghost use Rattle.pinot_run.specs.View.{bound_view, query_view, rows_bound};
+ghost use Rattle.pinot_run.specs.Step.{Replies, bound_answer, query_answer, scan_answer};
+ghost use Rattle.pinot_run.specs.Tally.{IsRowFor, sum_of};
+ghost use Rattle.pinot_run.specs.View.{aggregate_view};
 
 use crate::answer::{answer_text, label_of};
-use crate::bound::{BadQuery, Bound, bind, rows_bound};
-use crate::header::{are_columns, fields};
-use crate::records::{next_record, text_reader};
+use crate::bound::{Bound, bind};
 use crate::reply::Reply;
-use crate::sql::{Aggregate, ScanQuery, read_query};
-use crate::tally::{Tally, fold_rows};
-use csv::{ByteRecord, Reader};
-use outside::{ReadAllFault, Shelf, read_all};
+use crate::sql::{Aggregate, read_query};
+use crate::tally::{Tally, tally_rows};
+use csv_ingest::read_plain;
+use outside::{Bytes, ReadAllFault, Shelf, read_all};
 use std::alloc::{AllocError, Global};
-
-fn is_mark(a: u8, b: u8, c: u8) -> bool
-    ensures { result ≡ is_bom a b c }
-{
-    a == 0xEF && b == 0xBB && c == 0xBF
-}
-
-// How many bytes a text has behind a byte order mark at its start.
-fn unmarked_len(text: &[u8]) -> usize
-    ensures value { result ≡ length (strip_bom text.now) }
-    ensures within { result ≤ length text.now }
-{
-    if text.len() < 3 {
-        return text.len();
-    }
-    if is_mark(text[0], text[1], text[2]) {
-        return text.len() - 3;
-    }
-    text.len()
-}
+use table_schema::Field;
+use values::Row;
 
 // What is written of a tally: its number of rows, or its sum.
 fn folded(alloc: Global, sums: Option<usize>, tally: &Tally) -> Result<String, AllocError>
-    ensures { (rows : List (List ℤ)) → tally.now.rows ≡ length rows → tally.now.sum ≡ sum_of sums rows → IfOk result (λ text. string_bytes text ≡ folded sums rows) }
+    ensures { (rows : List (List Value)) → tally.now.rows ≡ length rows → tally.now.sum ≡ sum_of sums rows → IfOk result (λ text. string_bytes text ≡ folded sums rows) }
 {
     match sums {
         None => tally.rows.to_string(alloc),
@@ -55,75 +35,46 @@ fn folded(alloc: Global, sums: Option<usize>, tally: &Tally) -> Result<String, A
     }
 }
 
-// The reply over the tally of a text's rows.
+// The reply of a fold of rows.
 fn answer(
     alloc: Global,
-    bound: Result<(Aggregate<'_>, Bound), BadQuery>,
-    tally: &Tally,
+    aggregate: Aggregate<'_>,
+    bound: &Bound,
+    rows: &[Row],
 ) -> Result<Reply, AllocError>
-    ensures { (rows : List (List ℤ)) → IsTallyOf (rows_bound (bound_view bound.entry)) rows tally.now.rows tally.now.sum
-        → IfOk result (IsReply (bound_answer rows (bound_view bound.entry))) }
+    requires rows { All (IsRowFor bound.now) rows.now }
+    ensures { IfOk result (IsReply (Replies (reply_of (aggregate_view aggregate.entry) bound.now rows.now))) }
 {
-    match bound {
-        Err(fault) => Reply::bad_query(alloc, fault),
-        Ok((aggregate, bound)) => {
-            let label = label_of(alloc, aggregate)?;
-            let cell = folded(alloc, bound.sums, tally)?;
-            let text = answer_text(alloc, &label, cell.as_bytes())?;
-            Ok(Reply::done(alloc, text))
-        }
-    }
+    let label = label_of(alloc, aggregate)?;
+    let cell = folded(alloc, bound.sums, &tally_rows(rows, bound))?;
+    let text = answer_text(alloc, &label, cell.as_bytes())?;
+    Ok(Reply::done(alloc, text))
 }
 
-// The reply to a query over at most `most` records that are left, below this header.
-fn scan_rows(
-    alloc: Global,
-    reader: &mut Reader<&[u8]>,
-    most: usize,
-    header: &ByteRecord,
-    query: Option<ScanQuery<'_>>,
-) -> Result<Reply, AllocError>
-    requires { most < 2 ^ 62 }
-    ensures { (rest : List ℕ) → Reads reader.old rest
-        → IfOk result (IsReply (query_answer (option_map query_view query.entry) (plain_of no_limits (fields_of header.now ∷ records_left most reader.old rest)))) }
-{
-    let names = fields(alloc, header)?;
-    if !are_columns(&names) {
-        return Reply::bad_csv(alloc);
-    }
-    let bound = bind(&names, query);
-    match fold_rows(alloc, reader, most, names.len(), &rows_bound(&bound))? {
-        None => Reply::bad_csv(alloc),
-        Some(tally) => answer(alloc, bound, &tally),
-    }
-}
-
-// The reply to a query over a header and at most `most` records that are left.
-fn scan_records(
-    alloc: Global,
-    reader: &mut Reader<&[u8]>,
-    most: usize,
-    query: Option<ScanQuery<'_>>,
-) -> Result<Reply, AllocError>
-    requires { most < 2 ^ 62 }
-    ensures { (rest : List ℕ) → Reads reader.old rest
-        → IfOk result (IsReply (query_answer (option_map query_view query.entry) (plain_of no_limits (records_left (most + 1) reader.old rest)))) }
-{
-    let mut header = ByteRecord::new(alloc);
-    if !next_record(reader, &mut header)? {
-        return Reply::bad_csv(alloc);
-    }
-    scan_rows(alloc, reader, most, &header, query)
-}
-
-// The reply to a query over the bytes of a file.
-fn scan_text(alloc: Global, sql: &str, text: &[u8]) -> Result<Reply, AllocError>
-    requires { length text.now ≤ 134217728 }
-    ensures { IfOk result (IsReply (query_answer (query_of sql.now) (plain_of no_limits (records_of text.now)))) }
+// The reply to a query over the rows of these fields.
+fn scan_rows(alloc: Global, sql: &str, fields: &[Field], rows: &[Row]) -> Result<Reply, AllocError>
+    requires numbers { All (IsNumbers (length fields.now)) rows.now }
+    ensures { IfOk result (IsReply (bound_answer rows.now (bound_of (names_of fields.now) (query_of sql.now)))) }
 {
     let query = read_query(alloc, sql.as_bytes())?;
-    let mut reader = text_reader(alloc, text);
-    scan_records(alloc, &mut reader, unmarked_len(text), query)
+    match bind(fields, query) {
+        Err(fault) => Reply::bad_query(alloc, fault),
+        Ok((aggregate, bound)) => answer(alloc, aggregate, &bound, rows),
+    }
+}
+
+// The reply to a query over the bytes of a file, which are let go before the rows are looked at.
+fn scan_text(alloc: Global, sql: &str, text: Bytes) -> Result<Reply, AllocError>
+    requires { length text ≤ 134217728 }
+    ensures step { IfOk result (IsReply (query_answer (query_of sql.now) (plain_in csv_limits (records_of text)))) }
+    ensures line { IfOk result MayReply }
+{
+    let table = read_plain(alloc, text.as_slice());
+    drop(text);
+    match table {
+        Ok((schema, rows)) => scan_rows(alloc, sql, schema.fields.as_slice(), rows.as_slice()),
+        Err(fault) => Reply::no_rows(alloc, fault),
+    }
 }
 
 /// Why there is no reply.
@@ -161,7 +112,7 @@ pub fn scan<I: Shelf>(alloc: Global, file: &str, sql: &str, inputs: &mut I) -> R
     ensures failed { IsErrOf result Fault.Read → Rose (I.read_faults inputs.old) (I.read_faults inputs.new) }
 {
     match read_all(alloc, inputs, file, CSV_LIMIT) {
-        Ok(bytes) => Ok(scan_text(alloc, sql, bytes.as_slice())?),
+        Ok(bytes) => Ok(scan_text(alloc, sql, bytes)?),
         Err(ReadAllFault::Missing) => Ok(Reply::no_input(alloc, file)?),
         Err(ReadAllFault::TooLong) => Ok(Reply::too_large(alloc, b"csv bytes", CSV_LIMIT)?),
         Err(ReadAllFault::Failed) => Err(Fault::Read),

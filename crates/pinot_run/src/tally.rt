@@ -1,16 +1,11 @@
 // The fold of the rows that hold.
-ghost use Rattle.std.specs.Prelude.{◌≡◌, ◌<◌, ◌≤◌, true, false, option_map, ◌+◌, ◌*◌, ◌^◌, ℕ, List, ℤ, pos, neg_ℤ, ◌≤ℤ◌, Option, Some, None, Result, Ok, IsErr, IfOk, IfSome, MatchOption, length, map, filter};
-ghost use Rattle.csv.specs.Records.{fields_of};
-ghost use Rattle.pinot_run.specs.Bound.{cell, holds};
-ghost use Rattle.pinot_run.specs.Plain.{no_limits, row_at, rows_of};
-ghost use Rattle.pinot_run.specs.Reading.{Reads, records_left};
-ghost use Rattle.pinot_run.specs.Tally.{Adds, Folds, IsWithin, sum_with};
+ghost use Rattle.std.specs.Prelude.{◌≡◌, ◌<◌, ◌≤◌, ◌+◌, ◌-◌, ◌*◌, ◌^◌, ℕ, ℤ, pos, neg_ℤ, ◌≤ℤ◌, true, IfSome, length};
+ghost use Rattle.std.specs.List.{All, list_all};
+ghost use Rattle.csv_ingest.specs.Rows.{is_number};
+ghost use Rattle.pinot_run.specs.Tally.{Adds, IsRowFor, IsTallyOf, sum_with};
 
-use crate::bound::Bound;
-use crate::cells::read_cells;
-use crate::records::next_record;
-use csv::{ByteRecord, Reader};
-use std::alloc::{AllocError, Global};
+use crate::bound::{Bound, cell};
+use values::{Row, Value};
 
 /// How many rows hold, and the sum of their numbers in one column.
 #[derive(Clone, Copy, Debug, PartialEq, Eq)]
@@ -33,86 +28,41 @@ impl Tally {
     }
 
     // Counts one row more, and adds its number in a column, if one is added up.
-    fn add(&mut self, sums: Option<usize>, row: &[i64])
-        requires room { self.old.rows < 2 ^ 62 }
+    fn add(&mut self, sums: Option<usize>, row: &[Value])
+        requires room { self.old.rows < 2 ^ 64 - 1 }
         requires within { IfSome sums (λ column. column < length row.now) }
+        requires numbers { list_all is_number row.now ≡ true }
         ensures rows { self.new.rows ≡ self.old.rows + 1 }
         ensures sum { self.new.sum ≡ sum_with sums self.old.sum row.now }
     {
         let value = match sums {
-            Some(column) => row[column],
+            Some(column) => cell(row, column),
             None => 0,
         };
         self.rows += 1;
         self.sum += i128::from(value);
     }
-}
 
-// So many zeros.
-fn zeros(alloc: Global, size: usize) -> Result<Vec<i64>, AllocError>
-    ensures { IfOk result (λ row. length row.items ≡ size) }
-{
-    vec![in alloc; 0i64; size]
-}
-
-// Reads a record into `row`, and adds its numbers where the row holds. It says whether the record is a
-// row.
-fn take_row(fields: &ByteRecord, bound: &Bound, row: &mut [i64], tally: &mut Tally) -> bool
-    requires room { tally.old.rows < 2 ^ 62 }
-    requires within { IsWithin (length row.old) bound.now }
-    ensures yes { result ≡ true → (n : ℕ) → row_at no_limits (length row.old) (n, fields_of fields.now) ≡ Ok row.new }
-    ensures adds { result ≡ true → Adds bound.now row.new tally.old.rows tally.old.sum tally.new.rows tally.new.sum }
-    ensures no { result ≡ false → (n : ℕ) → IsErr (row_at no_limits (length row.old) (n, fields_of fields.now)) }
-{
-    if fields.len() != row.len() || !read_cells(fields, row) {
-        return false;
+    // Adds a row where it holds.
+    fn take(&mut self, bound: &Bound, row: &[Value])
+        requires room { self.old.rows < 2 ^ 64 - 1 }
+        requires row { IsRowFor bound.now row.now }
+        ensures { Adds bound.now row.now self.old.rows self.old.sum self.new.rows self.new.sum }
+    {
+        if bound.holds(row) {
+            self.add(bound.sums, row);
+        }
     }
-    if bound.holds(row) {
-        tally.add(bound.sums, row);
-    }
-    true
 }
 
-// The tally of at most `most` records that are left, by way of `row`.
-fn fold_through(
-    alloc: Global,
-    reader: &mut Reader<&[u8]>,
-    most: usize,
-    bound: &Bound,
-    row: &mut [i64],
-) -> Result<Option<Tally>, AllocError>
-    requires few { most < 2 ^ 62 }
-    requires within { IsWithin (length row.old) bound.now }
-    ensures { (rest : List ℕ) → Reads reader.old rest → IfOk result (λ tally.
-        Folds bound.now (rows_of no_limits (length row.old) (records_left most reader.old rest)) (option_map (λ t. (t.rows, t.sum)) tally)) }
+/// The tally of the rows that hold.
+pub fn tally_rows(rows: &[Row], bound: &Bound) -> Tally
+    requires rows { All (IsRowFor bound.now) rows.now }
+    ensures { IsTallyOf bound.now rows.now result.rows result.sum }
 {
-    let mut fields = ByteRecord::new(alloc);
     let mut tally = Tally::new();
-    'rows: for i in 0..most {
-        if !next_record(reader, &mut fields)? {
-            return Ok(Some(tally));
-        }
-        if !take_row(&fields, bound, row, &mut tally) {
-            return Ok(None);
-        }
+    'rows: for i in 0..rows.len() {
+        tally.take(bound, rows[i].as_slice());
     }
-    Ok(Some(tally))
-}
-
-/// The tally of at most `most` records that are left, as rows of so many columns; none where one of them
-/// has a fault.
-pub fn fold_rows(
-    alloc: Global,
-    reader: &mut Reader<&[u8]>,
-    most: usize,
-    columns: usize,
-    bound: &Bound,
-) -> Result<Option<Tally>, AllocError>
-    requires few { most < 2 ^ 62 }
-    requires within { IsWithin columns bound.now }
-    ensures { (rest : List ℕ) → Reads reader.old rest → IfOk result (λ tally.
-        Folds bound.now (rows_of no_limits columns (records_left most reader.old rest)) (option_map (λ t. (t.rows, t.sum)) tally)) }
-{
-    let mut row = zeros(alloc, columns)?;
-    fold_through(alloc, reader, most, bound, row.as_mut_slice())
+    tally
 }

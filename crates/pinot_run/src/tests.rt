@@ -209,20 +209,37 @@ const ANSWERS: [(&[u8], &str, u8, &str, &str); 16] = [
     (b"x\n", "SELECT SUM(x) FROM t", 0, "sum(x)\n0\n", ""),
 ];
 
-// Texts that have no rows.
-const BAD_TEXTS: [&[u8]; 12] = [
-    b"",
-    b"x,x\n4,5\n",
-    b"a,*\n4,5\n",
-    b"a b\n4\n",
-    b"\"\"\n4\n",
-    b"\xFF\n4\n",
-    b"\xEF\xBB\xBF\xEF\xBB\xBFx\n4\n",
-    b"x,y\n4\n",
-    b"x\n4 \n",
-    b"x\n9223372036854775808\n",
-    b"x\n\xFF\n",
-    b"x\n4\n-\n",
+// Texts that have no rows, each with its status and its note line.
+const BAD_TEXTS: [(&[u8], u8, &str); 13] = [
+    (b"", 8, "bad csv: NoHeader, record 0, column 0\n"),
+    (
+        b"x,x\n4,5\n",
+        8,
+        "bad csv: DuplicateHeader, record 0, column 2\n",
+    ),
+    (b"a,*\n4,5\n", 8, "bad csv: BadHeader, record 0, column 2\n"),
+    (b"a b\n4\n", 8, "bad csv: BadHeader, record 0, column 1\n"),
+    (b"\"\"\n4\n", 8, "bad csv: BadHeader, record 0, column 1\n"),
+    (b"\xFF\n4\n", 8, "bad csv: NotUtf8, record 0, column 1\n"),
+    (
+        b"\xEF\xBB\xBF\xEF\xBB\xBFx\n4\n",
+        8,
+        "bad csv: BadHeader, record 0, column 1\n",
+    ),
+    (b"a,b\n1\n", 8, "bad csv: WrongLength, record 1, column 0\n"),
+    (b"x\n4 \n", 8, "bad csv: NotANumber, record 1, column 1\n"),
+    (
+        b"x,y\n1,9223372036854775808\n",
+        8,
+        "bad csv: OutOfRange, record 1, column 2\n",
+    ),
+    (b"x\n\xFF\n", 8, "bad csv: NotUtf8, record 1, column 1\n"),
+    (b"x\n4\n-\n", 8, "bad csv: NotANumber, record 2, column 1\n"),
+    (
+        b",,,,,,,,,,,,,,,,,,,,,,,,,,,,,,,,,,,,,,,,,,,,,,,,,,,,,,,,,,,,,,,,\n",
+        9,
+        "too large: columns, limit 64\n",
+    ),
 ];
 
 #[test]
@@ -241,13 +258,43 @@ fn texts_and_queries(rt: HostRuntime) -> Result<(), Fail> {
 
 #[test]
 fn texts_without_rows(rt: HostRuntime) -> Result<(), Fail> {
-    for text in &BAD_TEXTS {
+    for (text, code, note) in &BAD_TEXTS {
         expect(
             &rt,
             rt.alloc(),
             text,
             &["scan", "n.csv", "no query"],
-            (8, "", "bad csv\n"),
+            (*code, "", note),
+        )?;
+    }
+    Ok(())
+}
+
+// A header `k` and so many records `1`.
+fn ones(alloc: Global, rows: usize) -> Result<Vec<u8>, AllocError> {
+    let mut text = b"k\n".to_vec(alloc)?;
+    for _ in 0..rows {
+        text.extend_from_slice(b"1\n")?;
+    }
+    Ok(text)
+}
+
+// How many records there are, with the status, the reply and the note line.
+const MANY_ROWS: [(usize, u8, &str, &str); 2] = [
+    (1_048_576, 0, "count(*)\n1048576\n", ""),
+    (1_048_577, 9, "", "too large: rows, limit 1048576\n"),
+];
+
+#[test]
+fn rows_at_their_limit(rt: HostRuntime) -> Result<(), Fail> {
+    for (rows, code, out, note) in &MANY_ROWS {
+        let text = ones(rt.alloc(), *rows)?;
+        expect(
+            &rt,
+            rt.alloc(),
+            &text,
+            &["scan", "n.csv", "SELECT COUNT(*) FROM t"],
+            (*code, out, note),
         )?;
     }
     Ok(())

@@ -1,15 +1,10 @@
-use Rattle.std.proofs.Common.{rules, subst}
-use Rattle.pinot_run.specs.Outcome.{IsReply}
-use Rattle.pinot_run.specs.Plain.{no_limits, plain_of, records_of}
-use Rattle.pinot_run.specs.Query.{query_of}
-use Rattle.pinot_run.specs.Step.{query_answer}
+use Rattle.std.proofs.Common.{rules}
 use Rattle.pinot_run.proofs.ScanLemmas.{answers-long, answers-missing, answers-whole}
 use Rattle.pinot_run.proofs.scan.scan.Goals as goal
 
 pub returns-in_ok-scan_text-in-Ok-clause-step : goal.returns-in_ok-scan_text-in-Ok-clause-step
 returns-in_ok-scan_text-in-Ok-clause-step g c =
-    answers-whole (g.I.Shelf.held c.args.inputs.now) c.args.file.now c.args.sql.now c.in-Ok.bytes c.in_ok-scan_text-in-Ok.field-0 c.in-Ok.ensures.whole
-    (subst (λ bytes. IsReply (query_answer (query_of c.args.sql.now) (plain_of no_limits (records_of bytes))) c.in_ok-scan_text-in-Ok.field-0) c.as_slice.ensures c.in_ok-scan_text-in-Ok.ensures)
+    answers-whole (g.I.Shelf.held c.args.inputs.now) c.args.file.now c.args.sql.now c.in-Ok.bytes c.in_ok-scan_text-in-Ok.field-0 c.in-Ok.ensures.whole c.in_ok-scan_text-in-Ok.ensures.step
 
 pub returns-in_ok-no_input-in-Err-Missing-clause-step :
     goal.returns-in_ok-no_input-in-Err-Missing-clause-step
