@@ -1,7 +1,7 @@
 //! Terms and group columns, by numbers of fields.
 
 ghost use Rattle.std.specs.Prelude.{◌≡◌, ◌≤◌, length, map, option_map};
-ghost use Rattle.query_bind.specs.Names as names;
+ghost use Rattle.query_bind.specs.Names as naming;
 ghost use Rattle.query_bind.specs.Terms as spec;
 ghost use Rattle.query_bind.specs.Faults.{Resolves, Gives, first_in};
 
@@ -57,7 +57,7 @@ fn kind(func: Func) -> AggKind
 /// The number of the field in a call, which is one of numbers unless rows are counted.
 fn resolve_argument(fields: &[Field], func: Func, argument: &Argument) -> Result<Option<u16>, BindFault>
     requires { length fields.now ≤ 64 }
-    ensures { Resolves (names.argument_finding fields.now func argument.now)
+    ensures { Resolves (naming.argument_finding fields.now func argument.now)
         (spec.column_of fields.now argument.now) result }
 {
     let Argument::Column(name) = argument else {
@@ -72,7 +72,7 @@ fn resolve_argument(fields: &[Field], func: Func, argument: &Argument) -> Result
 
 fn resolve_term(fields: &[Field], term: &Term) -> Result<Meaning, BindFault>
     requires { length fields.now ≤ 64 }
-    ensures { Resolves (names.term_finding fields.now term.now)
+    ensures { Resolves (naming.term_finding fields.now term.now)
         (spec.meaning_of fields.now term.now) result }
 {
     match term {
@@ -105,7 +105,7 @@ pub(crate) fn items_at(
     items: &[QueryItem],
 ) -> Result<Seq<TermAt>, BindFault>
     requires { length fields.now ≤ 64 }
-    ensures { Gives (first_in (λ i. names.term_finding fields.now i.term) items.now)
+    ensures { Gives (first_in (λ i. naming.term_finding fields.now i.term) items.now)
         (map (λ i. spec.term_at fields.now i.term) items.now) result }
 {
     let mut terms = Seq::with_capacity(alloc, items.len())?;
@@ -124,7 +124,7 @@ pub(crate) fn groups_at(
     names: &[NameAt],
 ) -> Result<Seq<ColumnAt>, BindFault>
     requires { length fields.now ≤ 64 }
-    ensures { Gives (first_in (names.column_finding fields.now) names.now)
+    ensures { Gives (first_in (naming.column_finding fields.now) names.now)
         (map (spec.column_at fields.now) names.now) result }
 {
     let mut columns = Seq::with_capacity(alloc, names.len())?;
@@ -145,7 +145,7 @@ pub(crate) fn keys_at(
 ) -> Result<Seq<KeyAt>, BindFault>
     requires { length fields.now ≤ 64 }
     ensures { Gives
-        (first_in (λ k. names.term_finding fields.now (names.meant items.now k.term)) order.now)
+        (first_in (λ k. naming.term_finding fields.now (naming.meant items.now k.term)) order.now)
         (map (spec.key_at fields.now items.now) order.now) result }
 {
     let mut keys = Seq::with_capacity(alloc, order.len())?;
