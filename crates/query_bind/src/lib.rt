@@ -1,0 +1,6 @@
+//! Names and types of a query: the query over the fields of a table, or the first check that fails.
+#![tactic(auto)]
+
+mod fault;
+
+pub use fault::{BindFault, BindReason};
