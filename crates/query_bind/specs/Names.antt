@@ -1,5 +1,5 @@
 -- Names of columns and types of literals, in the order of the text.
-use Rattle.std.specs.Prelude.{ℕ, Bool, true, false, ◌||◌, List, [], ◌∷◌, ◌++◌, codes, Option, Some, None, option_map, option_and_then, unwrap_or, if◌then◌else◌}
+use Rattle.std.specs.Prelude.{Bool, true, false, ◌||◌, List, [], ◌∷◌, ◌++◌, codes, Option, Some, None, option_map, option_and_then, unwrap_or, if◌then◌else◌}
 use Rattle.std.specs.List.{slice_get}
 use Rattle.std.specs.Str.{bytes_eq}
 use Rattle.values.specs.declared.kind.FieldKind.{FieldKind}
@@ -38,10 +38,6 @@ abbrev pub table_finding : Table → Bool → Query → Finding
 table_finding table any_table q = fault_unless (any_table || is_table table.settings.table q.table.name) UnknownTable q.table.offset
 
 -- ---- columns
-
--- the number of a column; it is meant for the name of a field
-abbrev pub column : List Field → NameAt → ℕ
-column fields n = unwrap_or (number_of fields n.name) 0
 
 -- the type of the field of that name
 abbrev pub kind_of : List Field → NameAt → Option FieldKind

@@ -22,7 +22,8 @@ use Rattle.query_bind.specs.declared.terms.Meaning.TheVariants as meaning
 use Rattle.query_bind.specs.declared.terms.TermAt.{TermAt}
 use Rattle.query_bind.specs.declared.terms.KeyAt.{KeyAt}
 use Rattle.query_bind.specs.declared.terms.ColumnAt.{ColumnAt}
-use Rattle.query_bind.specs.Names.{column, meant}
+use Rattle.query_bind.specs.Written.{field_number}
+use Rattle.query_bind.specs.Names.{meant}
 
 -- ---- terms
 
@@ -35,7 +36,7 @@ kind_of func.Avg = Average
 
 abbrev pub column_of : List Field → Argument → Option ℕ
 column_of fields argument.Star = None
-column_of fields (argument.Column n) = Some (column fields n)
+column_of fields (argument.Column n) = Some (field_number fields n)
 
 -- the aggregate of a call; a count of a column is the count of rows
 abbrev pub agg_of : List Field → Func → Argument → Agg
@@ -43,7 +44,7 @@ agg_of fields func.Count a = record { kind = Count; column = None }
 agg_of fields f a = record { kind = kind_of f; column = column_of fields a }
 
 abbrev pub meaning_of : List Field → Term → Meaning
-meaning_of fields (term.Column n) = meaning.Column (column fields n)
+meaning_of fields (term.Column n) = meaning.Column (field_number fields n)
 meaning_of fields (term.Call c) = meaning.Agg (agg_of fields c.func c.argument)
 
 -- the byte where a term begins
@@ -65,7 +66,7 @@ abbrev pub keys_at : List Field → Query → List KeyAt
 keys_at fields q = map (key_at fields q.items) q.order
 
 abbrev pub column_at : List Field → NameAt → ColumnAt
-column_at fields n = record { column = column fields n; offset = n.offset }
+column_at fields n = record { column = field_number fields n; offset = n.offset }
 
 abbrev pub groups_at : List Field → Query → List ColumnAt
 groups_at fields q = map (column_at fields) q.groups

@@ -3,6 +3,7 @@
 ghost use Rattle.std.specs.Prelude.{◌≡◌, ◌<◌, ◌≤◌, length, IfOk, IfErr, IfSome, Some, None};
 ghost use Rattle.table_schema.specs.Columns as fields_spec;
 ghost use Rattle.query_bind.specs.Names as spec;
+ghost use Rattle.query_bind.specs.Written.{field_number};
 ghost use Rattle.query_bind.specs.Faults.{Resolves};
 
 use crate::{BindFault, BindReason};
@@ -28,7 +29,7 @@ pub(crate) fn number_of(fields: &[Field], name: &[u8]) -> Option<u16>
 pub(crate) fn column(fields: &[Field], name: &NameAt) -> Result<u16, BindFault>
     requires { length fields.now ≤ 64 }
     ensures { Resolves (spec.column_finding fields.now name.now)
-        (spec.column fields.now name.now) result }
+        (field_number fields.now name.now) result }
 {
     match number_of(fields, name.name.as_slice()) {
         Some(number) => Ok(number),
