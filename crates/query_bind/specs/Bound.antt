@@ -47,7 +47,7 @@ before wanted xs = prefix_len (λ x. not (wanted x)) xs
 
 -- the place of a term among the group columns or the aggregates
 abbrev pub item_of : List ℕ → List Agg → Meaning → Item
-item_of groups aggs (meaning.Column c) = item.Group (before (λ g. c == g) groups)
+item_of groups aggs (meaning.Column c) = item.Group (before (λ g. g == c) groups)
 item_of groups aggs (meaning.Agg a) = item.Agg (before (same_agg a) aggs)
 
 abbrev pub items_of : List ℕ → List Agg → List TermAt → List Item

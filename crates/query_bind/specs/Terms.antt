@@ -78,7 +78,7 @@ abbrev pub with_new : {A : Type 0} → (A → A → Bool) → List A → A → L
 with_new same kept x = if list_any (same x) kept then kept else kept ++ x ∷ []
 
 abbrev pub with_column : List ℕ → ℕ → List ℕ
-with_column = with_new (λ a b. a == b)
+with_column = with_new (λ a b. b == a)
 
 -- the columns of some names, behind those that are kept
 abbrev pub columns_from : List ℕ → List ColumnAt → List ℕ

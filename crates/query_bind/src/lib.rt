@@ -1,9 +1,12 @@
 //! Names and types of a query: the query over the fields of a table, or the first check that fails.
 #![tactic(auto)]
 
+mod checks;
 mod columns;
 mod condition;
+mod distinct;
 mod fault;
+mod items;
 mod labels;
 mod terms;
 
