@@ -36,7 +36,7 @@ use Rattle.query_bind.specs.declared.terms.Meaning.TheVariants as meaning
 use Rattle.query_bind.specs.declared.terms.TermAt.{TermAt}
 use Rattle.query_bind.specs.declared.terms.KeyAt.{KeyAt}
 use Rattle.query_bind.specs.Grouped.{aggregate_finding, grouped_finding}
-use Rattle.query_bind.specs.Terms.{same_agg, items_at, keys_at, groups_of, aggs_of}
+use Rattle.query_bind.specs.Terms.{same_agg, terms_of, groups_of, aggs_of}
 use Rattle.query_bind.specs.Limits.{limits_finding, count_or}
 
 -- ---- items and keys
@@ -103,16 +103,17 @@ pub record Bound : Type 0 where
 -- a query whose names and types are in order
 abbrev pub bound_of : List Field → Query → Bound
 bound_of fields q =
-    let groups = groups_of fields q in
-    let aggs = aggs_of fields q in
+    let terms = terms_of fields q in
+    let groups = groups_of terms in
+    let aggs = aggs_of terms in
     record {
       use_tree = q.use_tree;
       condition = where_written fields q.condition;
       groups = groups;
       aggs = aggs;
-      items = items_of groups aggs (items_at fields q);
+      items = items_of groups aggs terms.items;
       labels = map label_of q.items;
-      order = keys_of groups aggs (keys_at fields q);
+      order = keys_of groups aggs terms.keys;
       offset = count_or 0 q.offset;
       limit = count_or 10 q.limit;
     }
@@ -124,7 +125,7 @@ query_finding table any_table q = first_of (
     ∷ names_finding table.schema.fields q
     ∷ aggregate_finding q
     ∷ grouped_finding q
-    ∷ limits_finding table.schema.fields q
+    ∷ limits_finding (terms_of table.schema.fields q)
     ∷ [])
 
 abbrev pub answer : {A : Type 0} → Finding → A → Result A BindFault

@@ -22,6 +22,8 @@ use Rattle.query_bind.specs.declared.terms.Meaning.TheVariants as meaning
 use Rattle.query_bind.specs.declared.terms.TermAt.{TermAt}
 use Rattle.query_bind.specs.declared.terms.KeyAt.{KeyAt}
 use Rattle.query_bind.specs.declared.terms.ColumnAt.{ColumnAt}
+use Rattle.query_bind.specs.declared.terms.Terms.{Terms}
+use Rattle.query_bind.specs.declared.distinct.Lists.{Lists}
 use Rattle.query_bind.specs.Written.{field_number}
 use Rattle.query_bind.specs.Names.{meant}
 
@@ -71,6 +73,9 @@ column_at fields n = record { column = field_number fields n; offset = n.offset 
 abbrev pub groups_at : List Field → Query → List ColumnAt
 groups_at fields q = map (column_at fields) q.groups
 
+abbrev pub terms_of : List Field → Query → Terms
+terms_of fields q = record { items = items_at fields q; groups = groups_at fields q; keys = keys_at fields q }
+
 -- ---- without repeats
 
 -- a list with one more, unless it is there
@@ -85,9 +90,6 @@ abbrev pub columns_from : List ℕ → List ColumnAt → List ℕ
 columns_from kept [] = kept
 columns_from kept (n ∷ ns) = columns_from (with_column kept n.column) ns
 
-abbrev pub groups_of : List Field → Query → List ℕ
-groups_of fields q = columns_from [] (groups_at fields q)
-
 abbrev pub same_agg : Agg → Agg → Bool
 same_agg a b = same_function a.kind b.kind && same_column a.column b.column
 
@@ -100,9 +102,12 @@ abbrev pub aggs_from : List Agg → List TermAt → List Agg
 aggs_from kept [] = kept
 aggs_from kept (t ∷ ts) = aggs_from (with_agg kept t.meaning) ts
 
-abbrev pub item_aggs : List Field → Query → List Agg
-item_aggs fields q = aggs_from [] (items_at fields q)
-
 -- over the items, and then the keys
-abbrev pub aggs_of : List Field → Query → List Agg
-aggs_of fields q = aggs_from (item_aggs fields q) (map (λ k. k.term) (keys_at fields q))
+abbrev pub aggs_of : Terms → List Agg
+aggs_of terms = aggs_from (aggs_from [] terms.items) (map (λ k. k.term) terms.keys)
+
+abbrev pub groups_of : Terms → List ℕ
+groups_of terms = columns_from [] terms.groups
+
+abbrev pub lists_of : Terms → Lists
+lists_of terms = record { groups = groups_of terms; aggs = aggs_of terms }

@@ -7,7 +7,7 @@ ghost use Rattle.query_bind.specs.Terms as spec;
 ghost use Rattle.query_bind.specs.Limits as limits;
 ghost use Rattle.query_bind.specs.Faults.{Gives, fault_if};
 
-use crate::terms::{ColumnAt, KeyAt, Meaning, TermAt};
+use crate::terms::{ColumnAt, KeyAt, Meaning, TermAt, Terms};
 use crate::{BindFault, BindReason};
 use agg_laws::AggKind;
 use std::alloc::Global;
@@ -23,8 +23,26 @@ const MOST_AGGS: usize = 16;
 /// The most keys of ORDER BY.
 const MOST_KEYS: usize = 16;
 
+/// Group columns and aggregates, each once.
+#[derive(Drop)]
+pub struct Lists {
+    pub groups: Seq<u16>,
+    pub aggs: Seq<Agg>,
+}
+
+/// The group columns and the aggregates of a query.
+pub(crate) fn without_repeats(alloc: Global, terms: &Terms) -> Result<Lists, BindFault>
+    ensures lists { Gives (limits.limits_finding terms.now) (spec.lists_of terms.now) result }
+    ensures few { IfOk result (λ lists. (length lists.groups ≤ 8) × (length lists.aggs ≤ 16)) }
+{
+    let aggs = item_aggs(alloc, terms.items.as_slice())?;
+    let groups = group_columns(alloc, terms.groups.as_slice())?;
+    let aggs = key_aggs(aggs, terms.keys.as_slice())?;
+    Ok(Lists { groups, aggs })
+}
+
 /// The group columns.
-pub(crate) fn group_columns(alloc: Global, names: &[ColumnAt]) -> Result<Seq<u16>, BindFault>
+fn group_columns(alloc: Global, names: &[ColumnAt]) -> Result<Seq<u16>, BindFault>
     ensures columns { Gives (limits.groups_finding [] names.now)
         (spec.columns_from [] names.now) result }
     ensures few { IfOk result (λ columns. length columns ≤ 8) }
@@ -55,7 +73,7 @@ fn push_column(columns: &mut Seq<u16>, name: ColumnAt) -> Result<(), BindFault>
 }
 
 /// The aggregates of the items.
-pub(crate) fn item_aggs(alloc: Global, terms: &[TermAt]) -> Result<Seq<Agg>, BindFault>
+fn item_aggs(alloc: Global, terms: &[TermAt]) -> Result<Seq<Agg>, BindFault>
     ensures aggs { Gives (limits.aggs_finding [] terms.now) (spec.aggs_from [] terms.now) result }
     ensures few { IfOk result (λ aggs. length aggs ≤ 16) }
 {
@@ -67,7 +85,7 @@ pub(crate) fn item_aggs(alloc: Global, terms: &[TermAt]) -> Result<Seq<Agg>, Bin
 }
 
 /// These aggregates, and behind them those of the keys.
-pub(crate) fn key_aggs(before: Seq<Agg>, keys: &[KeyAt]) -> Result<Seq<Agg>, BindFault>
+fn key_aggs(before: Seq<Agg>, keys: &[KeyAt]) -> Result<Seq<Agg>, BindFault>
     requires { length before ≤ 16 }
     ensures aggs { Gives (limits.keys_finding 0 before keys.now)
         (spec.aggs_from before (map (λ k. k.term) keys.now)) result }

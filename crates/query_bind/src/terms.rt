@@ -6,10 +6,11 @@ ghost use Rattle.query_bind.specs.Terms as spec;
 ghost use Rattle.query_bind.specs.Faults.{Resolves, Gives, first_in};
 
 use crate::columns::{column, kind_of};
+use crate::checks::check_where;
 use crate::labels::meant;
 use crate::{BindFault, BindReason};
 use agg_laws::AggKind;
-use query_parser::{Argument, Func, NameAt, QueryItem, QueryKey, Term};
+use query_parser::{Argument, Func, NameAt, Query, QueryItem, QueryKey, Term};
 use std::alloc::Global;
 use table_schema::{Agg, Field};
 use values::{FieldKind, Seq};
@@ -40,6 +41,14 @@ pub struct KeyAt {
 pub struct ColumnAt {
     pub column: u16,
     pub offset: u32,
+}
+
+/// What the terms of a query are.
+#[derive(Drop)]
+pub struct Terms {
+    pub items: Seq<TermAt>,
+    pub groups: Seq<ColumnAt>,
+    pub keys: Seq<KeyAt>,
 }
 
 fn kind(func: Func) -> AggKind
@@ -161,4 +170,22 @@ pub(crate) fn keys_at(
         })?;
     }
     Ok(keys)
+}
+
+/// What the terms of a query are, whose names and types are in order.
+pub(crate) fn resolve(alloc: Global, fields: &[Field], query: &Query) -> Result<Terms, BindFault>
+    requires { length fields.now ≤ 64 }
+    ensures { Gives (naming.names_finding fields.now query.now)
+        (spec.terms_of fields.now query.now) result }
+{
+    let items = items_at(alloc, fields, query.items.as_slice())?;
+    check_where(fields, &query.condition)?;
+    let groups = groups_at(alloc, fields, query.groups.as_slice())?;
+    let order = query.order.as_slice();
+    let keys = keys_at(alloc, fields, query.items.as_slice(), order)?;
+    Ok(Terms {
+        items,
+        groups,
+        keys,
+    })
 }
