@@ -34,9 +34,12 @@ use Rattle.query_bind.specs.Names.{table_finding, names_finding}
 use Rattle.query_bind.specs.declared.terms.Meaning.{Meaning}
 use Rattle.query_bind.specs.declared.terms.Meaning.TheVariants as meaning
 use Rattle.query_bind.specs.declared.terms.TermAt.{TermAt}
+use Rattle.query_bind.specs.declared.terms.Terms.{Terms}
+use Rattle.query_bind.specs.declared.distinct.Lists.{Lists}
+use Rattle.table_schema.specs.declared.query.Conjunct.{Conjunct}
 use Rattle.query_bind.specs.declared.terms.KeyAt.{KeyAt}
 use Rattle.query_bind.specs.Grouped.{aggregate_finding, grouped_finding}
-use Rattle.query_bind.specs.Terms.{same_agg, terms_of, groups_of, aggs_of}
+use Rattle.query_bind.specs.Terms.{same_agg, terms_of, lists_of, groups_of, aggs_of}
 use Rattle.query_bind.specs.Limits.{limits_finding, count_or}
 
 -- ---- items and keys
@@ -99,6 +102,23 @@ pub record Bound : Type 0 where
   pub order : List OrderKey
   pub offset : ℕ
   pub limit : ℕ
+
+abbrev pub parts_of : List Field → Query → Terms × Lists
+parts_of fields q = (terms_of fields q, lists_of (terms_of fields q))
+
+-- a query of these parts, with any form of its condition
+abbrev pub assembled : Query → Terms → Lists → List Conjunct → BoundQuery
+assembled q terms lists conjuncts = record {
+  use_tree = q.use_tree;
+  conjuncts = conjuncts;
+  groups = lists.groups;
+  aggs = lists.aggs;
+  items = items_of lists.groups lists.aggs terms.items;
+  labels = map label_of q.items;
+  order = keys_of lists.groups lists.aggs terms.keys;
+  offset = count_or 0 q.offset;
+  limit = count_or 10 q.limit;
+}
 
 -- a query whose names and types are in order
 abbrev pub bound_of : List Field → Query → Bound

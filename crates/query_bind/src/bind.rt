@@ -1,13 +1,79 @@
 //! The query over the fields of a table.
 
 ghost use Rattle.std.specs.Prelude.{◌≡◌, ◌≤◌, length, true, IfOk};
+ghost use Rattle.table_schema.specs.Valid.{IsValidSchema};
+ghost use Rattle.query_bind.specs.Written.{where_written};
+ghost use Rattle.query_bind.specs.Conjuncts.{where_conjuncts};
+ghost use Rattle.query_bind.specs.Terms as terms_spec;
 ghost use Rattle.query_bind.specs.Limits as limits;
+ghost use Rattle.query_bind.specs.Bound as spec;
+ghost use Rattle.query_bind.specs.Faults.{Gives};
 
-use query_parser::LiteralAt;
-use values::Value;
+use crate::BindFault;
+use crate::checks::{check_aggregate, check_grouped, check_table};
+use crate::distinct::{Lists, without_repeats};
+use crate::items::{items_of, keys_of};
+use crate::labels::labels;
+use crate::terms::{Terms, resolve};
+use query_parser::{LiteralAt, Query};
+use std::alloc::Global;
+use table_schema::{BoundQuery, Conjunct, Field, Table};
+use values::{NoMemory, Seq, Value};
 
 /// How many groups are answered where the query does not say.
 const USUAL_LIMIT: u64 = 10;
+
+/// What the terms of a query are, and the lists of them, where no check fails.
+fn check(
+    alloc: Global,
+    query: &Query,
+    table: &Table,
+    any_table: bool,
+) -> Result<(Terms, Lists), BindFault>
+    requires { length table.now.schema.fields ≤ 64 }
+    ensures checked { Gives (spec.query_finding table.now any_table query.now)
+        (spec.parts_of table.now.schema.fields query.now) result }
+    ensures few { IfOk result
+        (λ parts. (length parts.1.groups ≤ 8) × (length parts.1.aggs ≤ 16)) }
+{
+    check_table(table, any_table, query)?;
+    let terms = resolve(alloc, table.schema.fields.as_slice(), query)?;
+    check_aggregate(query)?;
+    check_grouped(query)?;
+    let lists = without_repeats(alloc, &terms)?;
+    Ok((terms, lists))
+}
+
+/// The bound query of these parts.
+fn assemble(
+    alloc: Global,
+    query: &Query,
+    terms: &Terms,
+    lists: Lists,
+    conjuncts: Seq<Conjunct>,
+) -> Result<BoundQuery, NoMemory>
+    requires few { (length lists.groups ≤ 8) × (length lists.aggs ≤ 16) }
+    requires limit { limits.is_count query.now.limit ≡ true }
+    requires offset { limits.is_count query.now.offset ≡ true }
+    ensures { IfOk result (λ bound. bound ≡ spec.assembled query.now terms.now lists conjuncts) }
+{
+    let groups = lists.groups.as_slice();
+    let aggs = lists.aggs.as_slice();
+    let items = items_of(alloc, groups, aggs, terms.items.as_slice())?;
+    let order = keys_of(alloc, groups, aggs, terms.keys.as_slice())?;
+    let labels = labels(alloc, query.items.as_slice())?;
+    Ok(BoundQuery {
+        use_tree: query.use_tree,
+        conjuncts,
+        groups: lists.groups,
+        aggs: lists.aggs,
+        items,
+        labels,
+        order,
+        offset: count_or(0, &query.offset),
+        limit: count_or(USUAL_LIMIT, &query.limit),
+    })
+}
 
 /// The number behind LIMIT or OFFSET, or the usual one.
 fn count_or(usual: u64, literal: &Option<LiteralAt>) -> u64
