@@ -1,7 +1,7 @@
 //! Names and types of a query: the query over the fields of a table, or the first check that fails.
 #![tactic(auto)]
 
-mod bind;
+mod bound;
 mod checks;
 mod columns;
 mod condition;
