@@ -1,0 +1,3 @@
+pub mod WideLemmas
+pub mod JointLemmas
+pub mod RowLemmas
