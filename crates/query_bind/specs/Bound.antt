@@ -25,10 +25,8 @@ use Rattle.query_parser.specs.Stream.{tokens}
 use Rattle.query_parser.specs.SpellsQuery.{SpellsQuery}
 use Rattle.query_bind.specs.declared.fault.BindFault.{BindFault}
 use Rattle.query_bind.specs.declared.fault.BindFault.TheVariants.{NoMemory}
-use Rattle.query_bind.specs.Written.{Written, where_written, where_holds}
+use Rattle.query_bind.specs.Written.{Written, where_written}
 use Rattle.query_bind.specs.Conjuncts.{where_conjuncts}
-use Rattle.table_schema.specs.Conditions.{all_hold}
-use Rattle.values.specs.declared.value.Value.{Value}
 use Rattle.query_bind.specs.Faults.{Finding, first_of}
 use Rattle.query_bind.specs.Names.{table_finding, names_finding}
 use Rattle.query_bind.specs.declared.terms.Meaning.{Meaning}
@@ -174,10 +172,6 @@ in_normal_form b = record {
 abbrev pub Binds : Result Bound BindFault → Result BoundQuery BindFault → Type 0
 Binds outcome (Ok answer) = (b : Bound) × (outcome ≡ Ok b) × (answer ≡ in_normal_form b)
 Binds outcome (Err fault) = fault ≢ NoMemory → outcome ≡ Err fault
-
--- every row satisfies all conjuncts exactly where it satisfies the condition as it is written
-abbrev pub KeepsCondition : List Field → Query → BoundQuery → Type 0
-KeepsCondition fields q b = (row : List Value) → all_hold row b.conjuncts ≡ where_holds row (where_written fields q.condition)
 
 -- some text of at most 65,536 bytes is that query
 abbrev pub Spelled : Query → Type 0

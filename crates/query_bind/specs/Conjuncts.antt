@@ -80,6 +80,10 @@ fields_step (Wide-F.Any inner) = flat_map (λ fields. fields) inner
 abbrev pub fields_of : Wide → List ℕ
 fields_of = fold-Wide (List ℕ) fields_step
 
+abbrev pub first : List ℕ → Option ℕ
+first [] = None
+first (field ∷ fields) = Some field
+
 -- the field that is named where no other one is
 abbrev pub only_field : List ℕ → Option ℕ
 only_field [] = None
@@ -110,6 +114,6 @@ abbrev pub where_conjuncts : Option Written → List Conjunct
 where_conjuncts None = []
 where_conjuncts (Some w) = conjuncts w
 
--- every row satisfies all conjuncts exactly where it satisfies the written condition
-abbrev pub KeepsRows : Option Written → Type 0
-KeepsRows w = (row : List Value) → all_hold row (where_conjuncts w) ≡ where_holds row w
+-- every row satisfies all these conjuncts exactly where it satisfies the written condition
+abbrev pub KeepRows : List Conjunct → Option Written → Type 0
+KeepRows cs w = (row : List Value) → all_hold row cs ≡ where_holds row w

@@ -1,6 +1,7 @@
 pub mod Faults
 pub mod Written
 pub mod Conjuncts
+pub mod Joints
 pub mod Names
 pub mod Grouped
 pub mod Terms

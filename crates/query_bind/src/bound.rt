@@ -1,27 +1,50 @@
 //! The query over the fields of a table.
 
 ghost use Rattle.std.specs.Prelude.{◌≡◌, ◌≤◌, length, true, IfOk};
-ghost use Rattle.table_schema.specs.Valid.{IsValidSchema};
 ghost use Rattle.query_bind.specs.Written.{where_written};
-ghost use Rattle.query_bind.specs.Conjuncts.{where_conjuncts};
-ghost use Rattle.query_bind.specs.Terms as terms_spec;
+ghost use Rattle.query_bind.specs.Conjuncts.{KeepRows};
 ghost use Rattle.query_bind.specs.Limits as limits;
 ghost use Rattle.query_bind.specs.Bound as spec;
 ghost use Rattle.query_bind.specs.Faults.{Gives};
 
 use crate::BindFault;
 use crate::checks::{check_aggregate, check_grouped, check_table};
+use crate::conjuncts::conjuncts;
 use crate::distinct::{Lists, without_repeats};
 use crate::items::{items_of, keys_of};
 use crate::labels::labels;
 use crate::terms::{Terms, resolve};
 use query_parser::{LiteralAt, Query};
 use std::alloc::Global;
-use table_schema::{BoundQuery, Conjunct, Field, Table};
+use table_schema::{BoundQuery, Conjunct, Table};
 use values::{NoMemory, Seq, Value};
 
 /// How many groups are answered where the query does not say.
 const USUAL_LIMIT: u64 = 10;
+
+/// The query over the fields of a table, or the first of the checks that fails, in their order and
+/// then that of the text: the table's name, which may be any where `any_table`; names and types; an
+/// aggregate in the select list; columns that GROUP BY does not name; limits.
+///
+/// The conjuncts are the normal form of the condition.
+pub fn bind(
+    alloc: Global,
+    query: &Query,
+    table: &Table,
+    any_table: bool,
+) -> Result<BoundQuery, BindFault>
+    requires few { length table.now.schema.fields ≤ 64 }
+    requires spelled { spec.Spelled query.now }
+    ensures bound { spec.Binds (spec.bound table.now any_table query.now) result }
+    // Every row satisfies all conjuncts exactly where it satisfies the condition as it is written.
+    ensures rows { IfOk result (λ bound.
+        KeepRows bound.conjuncts (where_written table.now.schema.fields query.now.condition)) }
+{
+    let (terms, lists) = check(alloc, query, table, any_table)?;
+    let conjuncts = conjuncts(alloc, table.schema.fields.as_slice(), &query.condition)?;
+    let bound = assemble(alloc, query, &terms, lists, conjuncts)?;
+    Ok(bound)
+}
 
 /// What the terms of a query are, and the lists of them, where no check fails.
 fn check(

@@ -5,10 +5,13 @@ mod bound;
 mod checks;
 mod columns;
 mod condition;
+mod conjuncts;
 mod distinct;
 mod fault;
 mod items;
 mod labels;
+mod normal;
 mod terms;
 
+pub use bound::bind;
 pub use fault::{BindFault, BindReason};
