@@ -1,0 +1,6 @@
+mod BoundLemmas
+mod Counts
+mod Joined
+pub mod JointLemmas
+pub mod RowLemmas
+pub mod WideLemmas
