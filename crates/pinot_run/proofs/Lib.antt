@@ -1,4 +1,4 @@
 mod OutcomeLemmas
+mod QueryLemmas
 mod ScanLemmas
 mod TallyLemmas
-mod WordLemmas

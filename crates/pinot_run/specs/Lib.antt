@@ -1,9 +1,8 @@
 pub mod Command
-pub mod Query
-pub mod Bound
-pub mod Notes
-pub mod Step
-pub mod Outcome
-pub mod View
-pub mod Tally
 pub mod CommandView
+pub mod Form
+pub mod Notes
+pub mod Outcome
+pub mod Reply
+pub mod Step
+pub mod Tally

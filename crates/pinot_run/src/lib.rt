@@ -2,14 +2,14 @@
 #![tactic(auto)]
 
 mod answer;
-mod bound;
+mod bad_query;
 mod command;
 mod finish;
-mod names;
+mod form;
+mod holds;
 mod reply;
 mod run;
 mod scan;
-mod sql;
 mod status;
 mod tally;
 
