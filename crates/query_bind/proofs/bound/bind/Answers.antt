@@ -9,4 +9,4 @@ returns-clause-bound c =
     let checked = c.in_ok-terms.ensures.checked in
     let form = c.in_ok-conjuncts.ensures.form ∙ ap (λ fields. where_conjuncts (where_written fields c.args.query.now.condition)) c.as_slice.ensures in
     answers_bound c.args.table.now c.args.any_table c.args.query.now (c.in_ok-terms.terms, c.in_ok-terms.lists) c.in_ok-conjuncts.conjuncts c.in_ok-bound.bound
-        checked.0 checked.1 form c.in_ok-bound.ensures
+    checked.0 checked.1 form c.in_ok-bound.ensures
