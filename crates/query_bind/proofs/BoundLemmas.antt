@@ -19,10 +19,10 @@ pub answers_bound : (table : Table) (any_table : Bool) (q : Query) (parts : Term
     → b ≡ assembled q parts.0 parts.1 conjuncts
     → Binds (bound table any_table q) (Ok b)
 answers_bound table any_table q parts conjuncts b none same form is = (
-    bound_of table.schema.fields q,
-    ap (λ f. answer f (bound_of table.schema.fields q)) none,
-    is ∙ ap (λ p. assembled q p.0 p.1 conjuncts) same ∙ ap (assembled q (parts_of table.schema.fields q).0 (parts_of table.schema.fields q).1) form,
-  )
+  bound_of table.schema.fields q,
+  ap (λ f. answer f (bound_of table.schema.fields q)) none,
+  is ∙ ap (λ p. assembled q p.0 p.1 conjuncts) same ∙ ap (assembled q (parts_of table.schema.fields q).0 (parts_of table.schema.fields q).1) form,
+)
 
 pub answers_fault : (table : Table) (any_table : Bool) (q : Query) (fault : BindFault)
     → (fault ≢ NoMemory → query_finding table any_table q ≡ Some fault)

@@ -1,5 +1,4 @@
 mod BoundLemmas
-mod Counts
 mod Joined
 pub mod JointLemmas
 pub mod RowLemmas

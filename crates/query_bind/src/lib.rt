@@ -15,3 +15,6 @@ mod terms;
 
 pub use bound::bind;
 pub use fault::{BindFault, BindReason};
+
+#[cfg(test)]
+mod tests;
