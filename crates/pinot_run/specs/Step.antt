@@ -1,5 +1,5 @@
 -- What one command answers where no device fails and there is memory.
-use Rattle.std.specs.Prelude.{ℕ, Bool, true, false, not, nat_lt, List, [], length, map, codes, Option, Some, None, Result, Ok, Err, if◌then◌else◌}
+use Rattle.std.specs.Prelude.{ℕ, Bool, true, false, not, nat_lt, List, [], length, replicate, codes, Option, Some, None, Result, Ok, Err, if◌then◌else◌}
 use Rattle.std.specs.FinMap as map
 use Rattle.outside.specs.Files.{Files}
 use Rattle.values.specs.declared.value.Value.{Value}
@@ -61,9 +61,9 @@ abbrev pub bare_settings : Schema → Settings
 bare_settings schema = record {
   table = [];
   sorted = None;
-  inverted = map (λ field. false) schema.fields;
-  ranged = map (λ field. false) schema.fields;
-  raw = map (λ field. false) schema.fields;
+  inverted = replicate (length schema.fields) false;
+  ranged = replicate (length schema.fields) false;
+  raw = replicate (length schema.fields) false;
   trees = [];
 }
 

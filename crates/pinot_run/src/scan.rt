@@ -1,5 +1,5 @@
 // The command `scan`: a query over one CSV file of whole numbers.
-ghost use Rattle.std.specs.Prelude.{◌≡◌, ◌≢◌, ◌≤◌, ◌<◌, ◌^◌, List, IfOk, IfSome, IsErrOf, length, map, string_bytes};
+ghost use Rattle.std.specs.Prelude.{◌≡◌, ◌≤◌, true, false, List, IfOk, IfSome, IsErrOf, length, replicate, string_bytes};
 ghost use Rattle.std.specs.FinMap.{get};
 ghost use Rattle.values.specs.declared.value.Value.{Value};
 ghost use Rattle.outside.specs.Counts.{Rose};
@@ -86,22 +86,18 @@ fn bound_reply(
     }
 }
 
-// No mark for each field.
-fn unmarked(alloc: Global, fields: &[Field]) -> Result<Seq<bool>, AllocError>
-    ensures { IfOk result (λ marks. marks ≡ map (λ field. false) fields.now) }
+// No mark for each of so many fields.
+fn unmarked(alloc: Global, fields: usize) -> Result<Seq<bool>, AllocError>
+    ensures { IfOk result (λ marks. marks ≡ replicate fields false) }
 {
-    let mut marks = Seq::with_capacity(alloc, fields.len())?;
-    for _ in fields {
-        marks.push(false)?;
-    }
-    Ok(marks)
+    Ok(Seq::from_vec(vec![in alloc; false; fields]?))
 }
 
 // The settings of a table without a name and without indexes.
 fn bare_settings(alloc: Global, schema: &Schema) -> Result<Settings, AllocError>
     ensures { IfOk result (λ settings. settings ≡ bare_settings schema.now) }
 {
-    let fields = schema.fields.as_slice();
+    let fields = schema.fields.len();
     Ok(Settings {
         table: Name::new(alloc),
         sorted: None,
