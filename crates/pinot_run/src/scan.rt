@@ -46,7 +46,8 @@ fn label_of(labels: &[Name]) -> &[u8]
 
 // What is written of a tally: its number of rows, or its sum.
 fn folded(alloc: Global, sums: Option<u16>, tally: &Tally) -> Result<String, AllocError>
-    ensures { (rows : List (List Value)) → tally.now.rows ≡ length rows → tally.now.sum ≡ sum_of sums rows → IfOk result (λ text. string_bytes text ≡ folded sums rows) }
+    ensures { (rows : List (List Value)) → tally.now.rows ≡ length rows → tally.now.sum ≡ sum_of sums rows
+        → IfOk result (λ text. string_bytes text ≡ folded sums rows) }
 {
     match sums {
         None => tally.rows.to_string(alloc),
@@ -151,7 +152,8 @@ fn sql_reply(alloc: Global, sql: &str, schema: Schema, rows: &[Row]) -> Result<R
 // The reply to a query over the bytes of a file, which are let go before the rows are looked at.
 fn scan_text(alloc: Global, sql: &str, text: Bytes) -> Result<Reply, AllocError>
     requires { length text ≤ 134217728 }
-    ensures step { IfOk result (IsReply (query_answer sql.now (plain_in csv_limits (records_of text)))) }
+    ensures step { IfOk result
+        (IsReply (query_answer sql.now (plain_in csv_limits (records_of text)))) }
     ensures line { IfOk result MayReply }
 {
     let table = read_plain(alloc, text.as_slice());
