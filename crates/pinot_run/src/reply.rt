@@ -109,11 +109,7 @@ impl Reply {
     }
 
     /// A query is refused.
-    pub fn bad_query(
-        alloc: Global,
-        reason: QueryReason,
-        place: u32,
-    ) -> Result<Self, AllocError>
+    pub fn bad_query(alloc: Global, reason: QueryReason, place: u32) -> Result<Self, AllocError>
         ensures { IfOk result (IsReply (Refuses (spec.BadQuery reason place))) }
     {
         let mut reply = Reply::refused(alloc, Status::BadQuery, b"bad query: ")?;
