@@ -1,9 +1,11 @@
 -- The rows of a text of whole numbers have a number for each column.
-use Rattle.std.proofs.Common.{◌≡◌, ◌∙◌, ◌-◌, ℕ, ℤ, suc, pos, List, [], ◌∷◌, length, take, map, nat_lt, slice_index_or, Bool, true, false, not, ◌==◌, Option, Some, None, Result, Ok, Err, if◌then◌else◌, refl, sym, ap, subst}
+use Rattle.std.proofs.Common.{◌≡◌, ◌∙◌, ◌-◌, ◌≤◌, ℕ, ℤ, suc, pos, List, [], ◌∷◌, length, take, map, nat_lt, slice_index_or, Bool, true, false, not, ◌==◌, Option, Some, None, Result, Ok, Err, if◌then◌else◌, refl, sym, ap, subst, arith}
 use Rattle.std.specs.Bool.{⊤}
 use Rattle.std.specs.List.{All, AllByRecursion, enumerate_from, list_all}
 use Rattle.std.specs.Str.{is_utf8}
+use Rattle.std.proofs.lemmas.Bool.Decides.{nat_tests}
 use Rattle.std.proofs.lemmas.List.Elements.{All-from_recursion}
+use Rattle.std.proofs.lemmas.List.FromFn.{length-enumerate_from}
 use Rattle.values.specs.Numbers.{whole_of}
 use Rattle.values.specs.Reading.{number_value, value_of}
 use Rattle.values.specs.declared.kind.FieldKind.TheVariants.{Long}
@@ -18,7 +20,7 @@ use Rattle.csv_ingest.specs.declared.fault.CsvKind.TheVariants.{NotUtf8, BadHead
 use Rattle.csv_ingest.specs.declared.fault.CsvFault.{CsvFault}
 use Rattle.csv_ingest.specs.declared.fault.CsvFault.TheVariants.{At, TooManyRows, TooManyColumns}
 use Rattle.csv_ingest.specs.Names.{is_among, is_column_name, plain_field, plain_name}
-use Rattle.csv_ingest.specs.Rows.{all_or_first, cell_value, header_of, is_number, IsNumbers, joined, kinded, Limits, name_at, placed, place_of, plain_in, row_at, rows_of, under, value_at, values_of, with_schema}
+use Rattle.csv_ingest.specs.Rows.{all_or_first, cell_value, csv_limits, header_of, is_number, IsNumbers, joined, kinded, Limits, name_at, placed, place_of, plain_in, row_at, rows_of, under, value_at, values_of, with_schema}
 
 -- what joins two results
 joins : {A E : Type 0} (r : Result A E) (rest : Result (List A) E) (all : List A) → joined r rest ≡ Ok all → (a : A) × (more : List A) × (r ≡ Ok a) × (rest ≡ Ok more) × (all ≡ a ∷ more)
@@ -144,3 +146,34 @@ pub numbers-plain : (limits : Limits) (records : List (List (List ℕ))) (table 
 unfolding plain_in
 numbers-plain limits [] table is = absurd cc
 numbers-plain limits (header ∷ records) table is = columns_numbers limits (limits.many_columns (length header)) header records table is
+
+-- ---- how many columns there are
+
+header_width : (header : List (List ℕ)) (fields : List Field) → header_of plain_name header ≡ Ok fields → length fields ≡ length header
+header_width header fields is = as_many (name_at plain_name header) (enumerate_from 1 header) fields is ∙ length-enumerate_from 1 header
+
+-- this table has as many columns as it may
+abbrev IsFew : Schema × List (List Value) → Type 0
+IsFew table = length table.0.fields ≤ 64
+
+schema_few : (fields : List Field) (rows : Result (List (List Value)) CsvFault) (table : Schema × List (List Value)) → with_schema fields rows ≡ Ok table → length fields ≤ 64 → IsFew table
+schema_few fields (Err fault) table is few = absurd cc
+schema_few fields (Ok rows) table is few =
+    let same : (record { fields = fields }, rows) ≡ table = cc in
+    subst IsFew same few
+
+under_few : (header : List (List ℕ)) (records : List (List (List ℕ))) (names : Result (List Field) CsvFault) (table : Schema × List (List Value))
+    → ((fields : List Field) → names ≡ Ok fields → length fields ≤ 64) → under names (λ fields. with_schema fields (rows_of csv_limits fields header records)) ≡ Ok table → IsFew table
+under_few header records (Err fault) table few is = absurd cc
+under_few header records (Ok fields) table few is = schema_few fields (rows_of csv_limits fields header records) table is (few fields refl)
+
+columns_few : (many : Bool) (header : List (List ℕ)) (records : List (List (List ℕ))) (table : Schema × List (List Value)) → nat_lt 64 (length header) ≡ many
+    → (if many then Err TooManyColumns else under (header_of plain_name header) (λ fields. with_schema fields (rows_of csv_limits fields header records))) ≡ Ok table → IsFew table
+columns_few true header records table test is = absurd cc
+columns_few false header records table test is =
+    under_few header records (header_of plain_name header) table (λ fields ok. let width = header_width header fields ok in grind (arith, nat_tests)) is
+
+pub few-plain : (records : List (List (List ℕ))) (table : Schema × List (List Value)) → plain_in csv_limits records ≡ Ok table → IsFew table
+unfolding plain_in
+few-plain [] table is = absurd cc
+few-plain (header ∷ records) table is = columns_few (nat_lt 64 (length header)) header records table refl is

@@ -2,14 +2,15 @@
 ghost use Rattle.std.specs.Prelude.{◌≡◌, ◌≢◌, ◌≤◌, ◌<◌, ◌^◌, true, false, length, IfOk, IfErr, IfSome, MatchOption, Ok, Err};
 ghost use Rattle.std.specs.Str.{is_utf8};
 ghost use Rattle.csv.specs.Records.{fields_of};
+ghost use Rattle.values.specs.Reading.{value_of};
 ghost use Rattle.csv_ingest.specs.Rows.{cell_value, placed, value_at, value_in};
 
 use crate::records::field as cell;
+use crate::texts::Texts;
 use crate::{CsvFault, CsvKind};
 use csv::ByteRecord;
-use std::alloc::Global;
 use table_schema::Field;
-use values::{FieldKind, Value, ValueFault, read_value, read_whole};
+use values::{FieldKind, MOST_TEXT_BYTES, Value, ValueFault, read_value, read_whole};
 
 /// The text of some bytes, if they are UTF-8.
 pub fn text_of(bytes: &[u8]) -> Option<&str>
@@ -21,9 +22,23 @@ pub fn text_of(bytes: &[u8]) -> Option<&str>
     }
 }
 
+// The value of a text, which shares its bytes with an equal one that was met of late.
+fn shared_value(texts: &mut Texts, kind: FieldKind, text: &str) -> Result<Value, ValueFault>
+    ensures ok { IfOk result (λ value. value_of kind text.now ≡ Ok value) }
+    ensures err { IfErr result (λ fault. fault ≢ ValueFault.NoMemory → value_of kind text.now ≡ Err fault) }
+{
+    if let FieldKind::Text = kind {
+        if text.len() > MOST_TEXT_BYTES {
+            return Err(ValueFault::TooLong);
+        }
+        return Ok(Value::Text(texts.name(text)?));
+    }
+    read_value(texts.alloc(), kind, text)
+}
+
 // The value of a text.
 fn read_text(
-    alloc: Global,
+    texts: &mut Texts,
     kind: FieldKind,
     bytes: &[u8],
     row: u32,
@@ -35,7 +50,7 @@ fn read_text(
     let Some(text) = text_of(bytes) else {
         return Err(CsvFault::At(CsvKind::NotUtf8, row, column));
     };
-    match read_value(alloc, kind, text) {
+    match shared_value(texts, kind, text) {
         Ok(value) => Ok(value),
         Err(ValueFault::NotANumber) => Err(CsvFault::At(CsvKind::NotANumber, row, column)),
         Err(ValueFault::OutOfRange) => Err(CsvFault::At(CsvKind::OutOfRange, row, column)),
@@ -57,7 +72,7 @@ fn number_in(kind: FieldKind, bytes: &[u8]) -> Option<i64>
 
 // The value of a field in its cell.
 fn read_cell(
-    alloc: Global,
+    texts: &mut Texts,
     field: &Field,
     bytes: &[u8],
     row: u32,
@@ -67,17 +82,17 @@ fn read_cell(
     ensures err { IfErr result (λ fault. fault ≢ CsvFault.NoMemory → placed row column (cell_value field.now bytes.now) ≡ Err fault) }
 {
     if bytes.is_empty() {
-        return Ok(field.default.copy(alloc)?);
+        return Ok(field.default.copy(texts.alloc())?);
     }
     if let Some(number) = number_in(field.kind, bytes) {
         return Ok(Value::Whole(number));
     }
-    read_text(alloc, field.kind, bytes, row, column)
+    read_text(texts, field.kind, bytes, row, column)
 }
 
 /// The value of a field in a record of that number, by its place in the header.
 pub fn read_field(
-    alloc: Global,
+    texts: &mut Texts,
     field: &Field,
     place: Option<usize>,
     cells: &ByteRecord,
@@ -90,7 +105,7 @@ pub fn read_field(
     ensures err { IfErr result (λ fault. fault ≢ CsvFault.NoMemory → value_at row (fields_of cells.now) field.now place ≡ Err fault) }
 {
     match place {
-        None => Ok(field.default.copy(alloc)?),
-        Some(column) => read_cell(alloc, field, cell(cells, column - 1), row, column as u32),
+        None => Ok(field.default.copy(texts.alloc())?),
+        Some(column) => read_cell(texts, field, cell(cells, column - 1), row, column as u32),
     }
 }

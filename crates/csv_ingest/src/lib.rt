@@ -9,6 +9,7 @@ mod plain;
 mod records;
 mod row;
 mod rows;
+mod texts;
 
 pub use fault::{CsvFault, CsvKind};
 pub use known::read_rows;

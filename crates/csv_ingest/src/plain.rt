@@ -70,6 +70,7 @@ pub fn read_plain(alloc: Global, bytes: &[u8]) -> Result<(Schema, Rows), CsvFaul
     requires { length bytes.now ≤ 134217728 }
     ensures ok { IfOk result (λ table. plain_in csv_limits (records_of bytes.now) ≡ Ok table) }
     ensures err { IfErr result (λ fault. fault ≢ CsvFault.NoMemory → plain_in csv_limits (records_of bytes.now) ≡ Err fault) }
+    ensures few { IfOk result (λ table. length table.0.fields ≤ 64) }
     ensures numbers { IfOk result (λ table. All (IsNumbers (length table.0.fields)) table.1) }
 {
     let mut reader = text_reader(alloc, bytes);

@@ -6,6 +6,7 @@ ghost use Rattle.csv.specs.Records.{fields_of};
 ghost use Rattle.csv_ingest.specs.Rows.{csv_limits, most_rows, place_of, row_at, values_of};
 
 use crate::cells::read_field;
+use crate::texts::Texts;
 use crate::{CsvFault, CsvKind};
 use csv::ByteRecord;
 use std::alloc::{AllocError, Global};
@@ -49,6 +50,7 @@ fn most_rows(fields: usize) -> u32
 // The values of a record, field by field.
 fn read_values(
     alloc: Global,
+    texts: &mut Texts,
     fields: &[Field],
     names: &[&[u8]],
     places: &[Option<usize>],
@@ -63,7 +65,7 @@ fn read_values(
 {
     let mut values = Seq::with_capacity(alloc, fields.len())?;
     'values: for i in 0..fields.len() {
-        match read_field(alloc, &fields[i], places[i], cells, row) {
+        match read_field(texts, &fields[i], places[i], cells, row) {
             Ok(value) => values.push(value)?,
             Err(fault) => return Err(fault),
         }
@@ -74,6 +76,7 @@ fn read_values(
 /// The row of a number, from 1, that a record is under these names.
 pub fn read_row(
     alloc: Global,
+    texts: &mut Texts,
     fields: &[Field],
     names: &[&[u8]],
     places: &[Option<usize>],
@@ -92,5 +95,5 @@ pub fn read_row(
     if cells.len() != names.len() {
         return Err(CsvFault::At(CsvKind::WrongLength, row, 0));
     }
-    read_values(alloc, fields, names, places, cells, row)
+    read_values(alloc, texts, fields, names, places, cells, row)
 }

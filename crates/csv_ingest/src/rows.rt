@@ -6,6 +6,7 @@ ghost use Rattle.csv_ingest.specs.Rows.{csv_limits, place_of, rows_of};
 use crate::CsvFault;
 use crate::records::next_record;
 use crate::row::{places_of, read_row};
+use crate::texts::Texts;
 use csv::{ByteRecord, Reader};
 use std::alloc::Global;
 use table_schema::Field;
@@ -27,12 +28,21 @@ fn rows_by(
     ensures err { IfErr result (λ fault. fault ≢ CsvFault.NoMemory → (rest : List ℕ) → Reads reader.old rest → rows_of csv_limits fields.now (map (λ f. f.now) names.now) (records_left most reader.old rest) ≡ Err fault) }
 {
     let mut record = ByteRecord::new(alloc);
+    let mut texts = Texts::new(alloc);
     let mut rows = Seq::new(alloc);
     'rows: for i in 0..most {
         if !next_record(reader, &mut record)? {
             return Ok(rows);
         }
-        match read_row(alloc, fields, names, places, &record, i as u32 + 1) {
+        match read_row(
+            alloc,
+            &mut texts,
+            fields,
+            names,
+            places,
+            &record,
+            i as u32 + 1,
+        ) {
             Ok(row) => rows.push(row)?,
             Err(fault) => return Err(fault),
         }

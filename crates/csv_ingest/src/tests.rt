@@ -22,7 +22,7 @@ fn print(alloc: Global, rows: &Rows) -> Result<Vec<u8>, AllocError> {
 }
 
 // Texts of whole numbers with their rows.
-const PLAIN_ROWS: [(&[u8], &str); 4] = [
+const PLAIN_ROWS: [(&[u8], &str); 5] = [
     (b"a,b\r\n1,+2\r\n,\"-3\"\n", "1;2;\n0;-3;\n"),
     (b"\xEF\xBB\xBFx\n\n\n\"7", "7;\n"),
     (
@@ -30,10 +30,11 @@ const PLAIN_ROWS: [(&[u8], &str); 4] = [
         "45;\n-9223372036854775808;\n",
     ),
     (b"x\n", ""),
+    (b"x,y\r\n\r\n\"+1\",-0\r\n\r\n", "1;0;\n"),
 ];
 
 // Texts of whole numbers with their first faults.
-const PLAIN_FAULTS: [(&[u8], CsvFault); 14] = [
+const PLAIN_FAULTS: [(&[u8], CsvFault); 17] = [
     (b"", CsvFault::At(CsvKind::NoHeader, 0, 0)),
     (b"\r\n\n", CsvFault::At(CsvKind::NoHeader, 0, 0)),
     (b"x,\xFF\n", CsvFault::At(CsvKind::NotUtf8, 0, 2)),
@@ -59,6 +60,12 @@ const PLAIN_FAULTS: [(&[u8], CsvFault); 14] = [
     ),
     (b"x,y\n1,\xFF\n", CsvFault::At(CsvKind::NotUtf8, 1, 2)),
     (b"x\n\"1\"\"\"\n", CsvFault::At(CsvKind::NotANumber, 1, 1)),
+    (b"x\n\"1\n2\n", CsvFault::At(CsvKind::NotANumber, 1, 1)),
+    (b"x\n+\n\xFF\n", CsvFault::At(CsvKind::NotANumber, 1, 1)),
+    (
+        b",,,,,,,,,,,,,,,,,,,,,,,,,,,,,,,,,,,,,,,,,,,,,,,,,,,,,,,,,,,,,,,\n",
+        CsvFault::At(CsvKind::BadHeader, 0, 1),
+    ),
     (
         b",,,,,,,,,,,,,,,,,,,,,,,,,,,,,,,,,,,,,,,,,,,,,,,,,,,,,,,,,,,,,,,,\n",
         CsvFault::TooManyColumns,
@@ -116,7 +123,7 @@ fn schema(alloc: Global) -> Result<Schema, AllocError> {
 }
 
 // Texts with their rows of `c`, `d` and `n`.
-const KNOWN_ROWS: [(&[u8], &str); 5] = [
+const KNOWN_ROWS: [(&[u8], &str); 12] = [
     (b"c,d,n\n,,\n", "null;-9;0;\n"),
     (b"c\nCA\n", "CA;-9;0;\n"),
     (b"n,q,q,c\n5,\xFF,\xFE,\"a,\"\"b\"\"\"\n", "a,\"b\";-9;5;\n"),
@@ -125,10 +132,20 @@ const KNOWN_ROWS: [(&[u8], &str); 5] = [
         b"n\n2147483647\n-2147483648\n",
         "null;-9;2147483647;\nnull;-9;-2147483648;\n",
     ),
+    (
+        b"c,n\r\n\"a\r\nb\",1\r\n\r\n\"\",2\r\n",
+        "a\r\nb;-9;1;\nnull;-9;2;\n",
+    ),
+    (b"c,n\rx,+1\r\ry,-0", "x;-9;1;\ny;-9;0;\n"),
+    (b"n,c\n1,\"a,\n", "a,\n;-9;1;\n"),
+    (b"c\n\"a\"b\nab\nab\n", "ab;-9;0;\nab;-9;0;\nab;-9;0;\n"),
+    (b"\xEF\xBB\xBF\xEF\xBB\xBFn\n1\n", "null;-9;0;\n"),
+    (b"n,,\n1,2,3\n", "null;-9;1;\n"),
+    (b"n,d,c\n", ""),
 ];
 
 // Texts with their first faults over `c`, `d` and `n`.
-const KNOWN_FAULTS: [(&[u8], CsvFault); 9] = [
+const KNOWN_FAULTS: [(&[u8], CsvFault); 17] = [
     (b"", CsvFault::At(CsvKind::NoHeader, 0, 0)),
     (b"q,\xFF\n", CsvFault::At(CsvKind::NotUtf8, 0, 2)),
     (
@@ -147,17 +164,34 @@ const KNOWN_FAULTS: [(&[u8], CsvFault); 9] = [
     (b"n,c\nx,\xFF\n", CsvFault::At(CsvKind::NotUtf8, 1, 2)),
     (b"q,d\n\xFF,\xFF\n", CsvFault::At(CsvKind::NotUtf8, 1, 2)),
     (b"d\n1\n1,2\nx\n", CsvFault::At(CsvKind::WrongLength, 2, 0)),
+    (b"\xFF,n,n\n", CsvFault::At(CsvKind::NotUtf8, 0, 1)),
+    (
+        b"n,n,\xFF\nx\n",
+        CsvFault::At(CsvKind::DuplicateHeader, 0, 2),
+    ),
+    (b"n,d\n\nx,y\n", CsvFault::At(CsvKind::NotANumber, 1, 2)),
+    (b"n,c\nx,\xFF\n\xFF\n", CsvFault::At(CsvKind::NotUtf8, 1, 2)),
+    (
+        b"q,n\n\xFF,99999999999999999999\n",
+        CsvFault::At(CsvKind::OutOfRange, 1, 2),
+    ),
+    (
+        b"d\n9223372036854775808\n",
+        CsvFault::At(CsvKind::OutOfRange, 1, 1),
+    ),
+    (b"n\n-\n", CsvFault::At(CsvKind::NotANumber, 1, 1)),
+    (b"n\n1\n \n", CsvFault::At(CsvKind::NotANumber, 2, 1)),
 ];
 
 fn expect_known(
     rt: &impl Abort,
     alloc: Global,
+    schema: &Schema,
     text: &[u8],
     expected: &str,
 ) -> Result<(), AllocError> {
     assert!(rt; text.len() <= MOST_BYTES);
-    let schema = schema(alloc)?;
-    let Ok(rows) = read_rows(alloc, &schema, text) else {
+    let Ok(rows) = read_rows(alloc, schema, text) else {
         panic!(rt; "a fault");
     };
     let printed = print(alloc, &rows)?;
@@ -167,8 +201,37 @@ fn expect_known(
 
 #[test]
 fn known_rows(rt: HostRuntime) -> Result<(), Fail> {
+    let schema = schema(rt.alloc())?;
     for (text, rows) in &KNOWN_ROWS {
-        expect_known(&rt, rt.alloc(), text, rows)?;
+        expect_known(&rt, rt.alloc(), &schema, text, rows)?;
+    }
+    Ok(())
+}
+
+// A text and two 64-bit numbers, with the defaults of two dimensions and a metric.
+fn visits(alloc: Global) -> Result<Schema, AllocError> {
+    let mut fields = Seq::new(alloc);
+    let null = Value::Text(Name::from_text(alloc, "null")?);
+    fields.push(field(alloc, "Country", FieldKind::Text, null)?)?;
+    fields.push(field(alloc, "day", FieldKind::Long, Value::Whole(i64::MIN))?)?;
+    fields.push(field(alloc, "Impressions", FieldKind::Long, Value::Whole(0))?)?;
+    Ok(Schema { fields })
+}
+
+// Texts with their rows of visits.
+const VISITS: [(&[u8], &str); 2] = [
+    (
+        b"Country,day,Impressions\n,,\n",
+        "null;-9223372036854775808;0;\n",
+    ),
+    (b"Country\nCA\n", "CA;-9223372036854775808;0;\n"),
+];
+
+#[test]
+fn defaults(rt: HostRuntime) -> Result<(), Fail> {
+    let schema = visits(rt.alloc())?;
+    for (text, rows) in &VISITS {
+        expect_known(&rt, rt.alloc(), &schema, text, rows)?;
     }
     Ok(())
 }

@@ -1,7 +1,7 @@
 mod HaltsLemmas
 mod MachineLemmas
 mod OutcomeLemmas
+mod QueryLemmas
 mod RunLemmas
 mod ScanLemmas
 mod TallyLemmas
-mod WordLemmas

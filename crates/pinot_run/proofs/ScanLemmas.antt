@@ -8,7 +8,6 @@ use Rattle.csv_ingest.specs.Rows.{csv_limits, plain_in, records_of}
 use Rattle.pinot_run.specs.Notes as note
 use Rattle.pinot_run.specs.Outcome.{IsReply}
 use Rattle.pinot_run.specs.Step.{Refuses, csv_limit, query_answer, scan_answer}
-use Rattle.pinot_run.specs.Query.{query_of}
 use Rattle.pinot_run.specs.declared.reply.Reply.{Reply}
 use Rattle.std.specs.Prelude.{codes}
 
@@ -16,7 +15,7 @@ use Rattle.std.specs.Prelude.{codes}
 abbrev pub Answers : Option Files → List ℕ → List ℕ → Reply → Type 0
 Answers held file sql reply = IfSome held (λ files. IsReply (scan_answer file sql (map.get files file)) reply)
 
-within_limit : (file sql bytes : List ℕ) → length bytes ≤ 134217728 → query_answer (query_of sql) (plain_in csv_limits (records_of bytes)) ≡ scan_answer file sql (Some bytes)
+within_limit : (file sql bytes : List ℕ) → length bytes ≤ 134217728 → query_answer sql (plain_in csv_limits (records_of bytes)) ≡ scan_answer file sql (Some bytes)
 unfolding scan_answer
 within_limit file sql bytes le =
     let test : nat_lt 134217728 (length bytes) ≡ false = grind (arith, nat_tests) in
@@ -33,7 +32,7 @@ unfolding scan_answer
 not_there file sql = refl
 
 pub answers-whole : (held : Option Files) (file sql bytes : List ℕ) (reply : Reply) → IsWhole held file 134217728 bytes
-    → IsReply (query_answer (query_of sql) (plain_in csv_limits (records_of bytes))) reply → Answers held file sql reply
+    → IsReply (query_answer sql (plain_in csv_limits (records_of bytes))) reply → Answers held file sql reply
 answers-whole None file sql bytes reply whole is = tt
 answers-whole (Some files) file sql bytes reply (told, got, (same, le)) is =
     subst (λ o. IsReply (scan_answer file sql o) reply) (sym got)

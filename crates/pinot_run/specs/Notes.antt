@@ -8,8 +8,12 @@ use Rattle.csv_ingest.specs.declared.fault.CsvFault.{CsvFault}
 use Rattle.csv_ingest.specs.declared.fault.CsvFault.TheVariants as csv
 use Rattle.table_schema.specs.declared.fault.KeyKind.{KeyKind}
 use Rattle.table_schema.specs.declared.fault.KeyKind.TheVariants as key
-use Rattle.pinot_run.specs.declared.bound.Reason.{Reason}
-use Rattle.pinot_run.specs.declared.bound.Reason.TheVariants.{NotYet, UnknownColumn}
+use Rattle.query_parser.specs.declared.fault.Reason.{Reason}
+use Rattle.query_parser.specs.declared.fault.Reason.TheVariants as parse
+use Rattle.query_bind.specs.declared.fault.BindReason.{BindReason}
+use Rattle.query_bind.specs.declared.fault.BindReason.TheVariants as bind
+use Rattle.pinot_run.specs.declared.bad_query.QueryReason.{QueryReason}
+use Rattle.pinot_run.specs.declared.bad_query.QueryReason.TheVariants as reason
 use Rattle.pinot_run.specs.declared.status.Status.{Status}
 use Rattle.pinot_run.specs.declared.status.Status.TheVariants as status
 
@@ -49,7 +53,7 @@ pub data Note : Type 0 where
   TableExists : Note
   BadCsv : (wrong : CsvKind) (row column : ℕ) → Note
   TooLarge : (what : List ℕ) (limit : ℕ) → Note
-  BadQuery : (reason : Reason) (place : ℕ) → Note
+  BadQuery : (wrong : QueryReason) (place : ℕ) → Note
   ReadFault : Note
   WriteFault : Note
   NoMemory : Note
@@ -62,7 +66,7 @@ status_of (BadSettings wrong path) = status.BadSettings
 status_of TableExists = status.TableExists
 status_of (BadCsv wrong row column) = status.BadCsv
 status_of (TooLarge what limit) = status.TooLarge
-status_of (BadQuery reason place) = status.BadQuery
+status_of (BadQuery wrong place) = status.BadQuery
 status_of ReadFault = status.ReadFault
 status_of WriteFault = status.WriteFault
 status_of NoMemory = status.NoMemory
@@ -93,9 +97,31 @@ key_text key.TooMany = codes "TooMany"
 abbrev pub path_text : List ℕ → List ℕ
 path_text path = if length path == 0 then [] else codes " at " ++ path
 
-abbrev pub reason_text : Reason → List ℕ
-reason_text NotYet = codes "NotYet"
-reason_text UnknownColumn = codes "UnknownColumn"
+abbrev pub parse_text : Reason → List ℕ
+parse_text parse.BadCharacter = codes "BadCharacter"
+parse_text parse.OpenText = codes "OpenText"
+parse_text parse.NumberTooWide = codes "NumberTooWide"
+parse_text parse.NameTooLong = codes "NameTooLong"
+parse_text parse.TextTooLong = codes "TextTooLong"
+parse_text parse.UnknownFunction = codes "UnknownFunction"
+parse_text parse.BadStar = codes "BadStar"
+parse_text parse.UnsupportedOption = codes "UnsupportedOption"
+parse_text parse.TooDeep = codes "TooDeep"
+parse_text parse.Unexpected = codes "Unexpected"
+
+abbrev pub bind_text : BindReason → List ℕ
+bind_text bind.UnknownTable = codes "UnknownTable"
+bind_text bind.UnknownColumn = codes "UnknownColumn"
+bind_text bind.TypeMismatch = codes "TypeMismatch"
+bind_text bind.NotNumeric = codes "NotNumeric"
+bind_text bind.NoAggregate = codes "NoAggregate"
+bind_text bind.NotGrouped = codes "NotGrouped"
+bind_text bind.TooMany = codes "TooMany"
+
+abbrev pub reason_text : QueryReason → List ℕ
+reason_text reason.NotYet = codes "NotYet"
+reason_text (reason.Parse wrong) = parse_text wrong
+reason_text (reason.Bind wrong) = bind_text wrong
 
 abbrev pub note_text : Note → List ℕ
 note_text BadWords = codes "bad words\n"
@@ -105,7 +131,7 @@ note_text (BadSettings wrong path) = codes "bad settings: " ++ key_text wrong ++
 note_text TableExists = codes "table exists\n"
 note_text (BadCsv wrong row column) = codes "bad csv: " ++ kind_text wrong ++ codes ", record " ++ decimal row ++ codes ", column " ++ decimal column ++ codes "\n"
 note_text (TooLarge what limit) = codes "too large: " ++ what ++ codes ", limit " ++ decimal limit ++ codes "\n"
-note_text (BadQuery reason place) = codes "bad query: " ++ reason_text reason ++ codes " at " ++ decimal place ++ codes "\n"
+note_text (BadQuery wrong place) = codes "bad query: " ++ reason_text wrong ++ codes " at " ++ decimal place ++ codes "\n"
 note_text ReadFault = codes "read fault\n"
 note_text WriteFault = codes "write fault\n"
 note_text NoMemory = codes "no memory\n"

@@ -1,19 +1,26 @@
 -- What one command answers where no device fails and there is memory.
-use Rattle.std.specs.Prelude.{ℕ, Bool, true, false, not, nat_lt, List, [], ◌++◌, length, codes, Option, Some, None, Result, Ok, Err, if◌then◌else◌}
+use Rattle.std.specs.Prelude.{ℕ, Bool, true, false, not, nat_lt, List, [], ◌++◌, length, replicate, codes, Option, Some, None, Result, Ok, Err, if◌then◌else◌}
 use Rattle.std.specs.FinMap as map
 use Rattle.outside.specs.Files.{Files}
 use Rattle.values.specs.declared.value.Value.{Value}
 use Rattle.table_schema.specs.declared.field.Schema.{Schema}
-use Rattle.csv_ingest.specs.Names.{names_of}
+use Rattle.table_schema.specs.declared.settings.Settings.{Settings}
+use Rattle.table_schema.specs.declared.table.Table.{Table}
+use Rattle.query_parser.specs.Query.{parsed}
+use Rattle.query_parser.specs.declared.tree.Query.{Query}
+use Rattle.query_parser.specs.declared.fault.QueryFault.{QueryFault}
+use Rattle.query_parser.specs.declared.fault.QueryFault.TheVariants as parse
+use Rattle.query_bind.specs.Bound.{Bound, bound}
+use Rattle.query_bind.specs.declared.fault.BindFault.{BindFault}
+use Rattle.query_bind.specs.declared.fault.BindFault.TheVariants as bind
 use Rattle.csv_ingest.specs.Rows.{csv_limits, plain_in, records_of}
 use Rattle.csv_ingest.specs.declared.fault.CsvFault.{CsvFault}
 use Rattle.table_store.specs.State.{State, NoTable, HasTable}
 use Rattle.pinot_run.specs.Command.{Command, Create, Scan, command_of}
 use Rattle.pinot_run.specs.Create.{Made, new_table}
-use Rattle.pinot_run.specs.Query.{Aggregate, ScanQuery, query_of}
-use Rattle.pinot_run.specs.Bound.{bound_of, reply_of}
-use Rattle.pinot_run.specs.declared.bound.Bound.{Bound}
-use Rattle.pinot_run.specs.declared.bound.BadQuery.{BadQuery}
+use Rattle.pinot_run.specs.Form.{is_answered}
+use Rattle.pinot_run.specs.Reply.{reply_of}
+use Rattle.pinot_run.specs.declared.bad_query.QueryReason.TheVariants as reason
 use Rattle.pinot_run.specs.Notes.{Note, csv_note, is_fault, status_of, note_text}
 use Rattle.pinot_run.specs.Notes as note
 use Rattle.pinot_run.specs.declared.status.Status.{Status}
@@ -51,21 +58,56 @@ tells_of_store answer = false
 abbrev pub csv_limit : ℕ
 csv_limit = 134217728
 
-abbrev pub bound_answer : List (List Value) → Result (Aggregate × Bound) BadQuery → Answer
-bound_answer rows (Err fault) = Refuses (note.BadQuery fault.reason fault.place)
-bound_answer rows (Ok (aggregate, bound)) = Replies (reply_of aggregate bound rows)
+-- the most bytes that a query may have
+abbrev pub sql_limit : ℕ
+sql_limit = 65536
 
--- the answer to a query over the rows of a text
-abbrev pub query_answer : Option ScanQuery → Result (Schema × List (List Value)) CsvFault → Answer
-query_answer q (Err fault) = Refuses (csv_note fault)
-query_answer q (Ok (schema, rows)) = bound_answer rows (bound_of (names_of schema.fields) q)
+-- a table of these fields without a name and without indexes
+abbrev pub bare_settings : Schema → Settings
+bare_settings schema = record {
+  table = [];
+  sorted = None;
+  inverted = replicate (length schema.fields) false;
+  ranged = replicate (length schema.fields) false;
+  raw = replicate (length schema.fields) false;
+  trees = [];
+}
+
+abbrev pub bare_table : Schema → Table
+bare_table schema = record { schema = schema; settings = bare_settings schema }
+
+-- the answer to a query by its names and types
+abbrev pub bound_answer : List (List Value) → Result Bound BindFault → Answer
+bound_answer rows (Ok b) = Replies (reply_of b rows)
+bound_answer rows (Err (bind.At wrong place)) = Refuses (note.BadQuery (reason.Bind wrong) place)
+bound_answer rows (Err bind.NoMemory) = Refuses note.NoMemory
+
+-- the answer to a query whose text is in the grammar, by its form; any name stands for the table
+abbrev pub formed_answer : Schema → List (List Value) → Query → Answer
+formed_answer schema rows q = if is_answered q then bound_answer rows (bound (bare_table schema) true q) else Refuses (note.BadQuery reason.NotYet 0)
+
+abbrev pub parsed_answer : Schema → List (List Value) → Result Query QueryFault → Answer
+parsed_answer schema rows (Ok q) = formed_answer schema rows q
+parsed_answer schema rows (Err (parse.At wrong place)) = Refuses (note.BadQuery (reason.Parse wrong) place)
+parsed_answer schema rows (Err parse.NoMemory) = Refuses note.NoMemory
+
+-- the answer to a query's text over rows of these fields
+abbrev pub sql_answer : List ℕ → Schema → List (List Value) → Answer
+sql_answer sql schema rows =
+    if nat_lt sql_limit (length sql) then Refuses (note.TooLarge (codes "sql bytes") sql_limit)
+    else parsed_answer schema rows (parsed sql)
+
+-- the answer to a query's text over the rows of a CSV text
+abbrev pub query_answer : List ℕ → Result (Schema × List (List Value)) CsvFault → Answer
+query_answer sql (Err fault) = Refuses (csv_note fault)
+query_answer sql (Ok (schema, rows)) = sql_answer sql schema rows
 
 -- the answer to a query over the bytes of a file, if there is one
 unfoldable pub scan_answer : List ℕ → List ℕ → Option (List ℕ) → Answer
 scan_answer file sql None = Refuses (note.NoInput file)
 scan_answer file sql (Some bytes) =
     if nat_lt csv_limit (length bytes) then Refuses (note.TooLarge (codes "csv bytes") csv_limit)
-    else query_answer (query_of sql) (plain_in csv_limits (records_of bytes))
+    else query_answer sql (plain_in csv_limits (records_of bytes))
 
 -- the answer to `create`, by whether there is a table, and by what its files make
 abbrev pub create_answer : Bool → Made → Answer

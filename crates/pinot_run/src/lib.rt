@@ -2,16 +2,16 @@
 #![tactic(auto)]
 
 mod answer;
-mod bound;
+mod bad_query;
 mod command;
 mod create;
 mod fault;
 mod finish;
-mod names;
+mod form;
+mod holds;
 mod reply;
 mod run;
 mod scan;
-mod sql;
 mod status;
 mod tally;
 

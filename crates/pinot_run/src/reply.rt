@@ -5,7 +5,7 @@ ghost use Rattle.pinot_run.specs.Step.{Answer, Refuses, Replies};
 ghost use Rattle.pinot_run.specs.Outcome.{IsReply};
 
 use crate::Status;
-use crate::bound::BadQuery;
+use crate::bad_query::QueryReason;
 use csv_ingest::{CsvFault, CsvKind};
 use std::alloc::{AllocError, Global};
 use table_schema::KeyKind;
@@ -178,13 +178,13 @@ impl Reply {
     }
 
     /// A query is refused.
-    pub fn bad_query(alloc: Global, fault: BadQuery) -> Result<Self, AllocError>
-        ensures { IfOk result (IsReply (Refuses (spec.BadQuery fault.reason fault.place))) }
+    pub fn bad_query(alloc: Global, reason: QueryReason, place: u32) -> Result<Self, AllocError>
+        ensures { IfOk result (IsReply (Refuses (spec.BadQuery reason place))) }
     {
         let mut reply = Reply::refused(alloc, Status::BadQuery, b"bad query: ")?;
-        reply.note.extend_from_slice(fault.reason.text())?;
+        reply.note.extend_from_slice(reason.text())?;
         reply.note.extend_from_slice(b" at ")?;
-        let place = fault.place.to_string(alloc)?;
+        let place = place.to_string(alloc)?;
         reply.note.extend_from_slice(place.as_bytes())?;
         reply.note.push(b'\n')?;
         Ok(reply)

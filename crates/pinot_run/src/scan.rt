@@ -1,33 +1,52 @@
 // The command `scan`: a query over one CSV file of whole numbers.
-ghost use Rattle.std.specs.Prelude.{◌≡◌, ◌≤◌, ◌<◌, ◌^◌, List, IfOk, IfSome, IsErrOf, length, string_bytes};
+ghost use Rattle.std.specs.Prelude.{◌≡◌, ◌≤◌, true, false, List, IfOk, IfSome, IsErrOf, length, replicate, string_bytes};
 ghost use Rattle.std.specs.FinMap.{get};
-ghost use Rattle.std.specs.List.{All};
 ghost use Rattle.values.specs.declared.value.Value.{Value};
 ghost use Rattle.outside.specs.Counts.{Rose};
 ghost use Rattle.outside.specs.Whole.{LogsFront};
-ghost use Rattle.csv_ingest.specs.Names.{names_of};
-ghost use Rattle.csv_ingest.specs.Rows.{csv_limits, IsNumbers, plain_in, records_of};
-ghost use Rattle.pinot_run.specs.Bound.{bound_of, folded, reply_of};
+ghost use Rattle.csv_ingest.specs.Rows.{csv_limits, plain_in, records_of};
+ghost use Rattle.query_bind.specs.Bound.{bound, Spelled};
 ghost use Rattle.pinot_run.specs.Outcome.{IsReply, MayReply, TellsNoStore};
-ghost use Rattle.pinot_run.specs.Query.{query_of};
-ghost use Rattle.pinot_run.specs.Step.{Replies, bound_answer, query_answer, scan_answer};
-ghost use Rattle.pinot_run.specs.Tally.{IsRowFor, sum_of};
-ghost use Rattle.pinot_run.specs.View.{aggregate_view};
+ghost use Rattle.pinot_run.specs.Reply.{folded, label_of, summed};
+ghost use Rattle.pinot_run.specs.Step.{Replies, bare_settings, bound_answer, formed_answer, query_answer, scan_answer, sql_answer};
+ghost use Rattle.pinot_run.specs.Tally.{fold_text, sum_of};
 
-use crate::answer::{answer_text, label_of};
-use crate::bound::{Bound, bind};
+use crate::answer::answer_text;
+use crate::bad_query::QueryReason;
 use crate::fault::Fault;
+use crate::form::is_answered;
 use crate::reply::Reply;
-use crate::sql::{Aggregate, read_query};
 use crate::tally::{Tally, tally_rows};
 use csv_ingest::read_plain;
 use outside::{Bytes, ReadAllFault, Shelf, read_all};
+use query_bind::{BindFault, bind};
+use query_parser::{Query, QueryFault, parse};
 use std::alloc::{AllocError, Global};
-use table_schema::Field;
-use values::Row;
+use table_schema::{Agg, BoundQuery, Field, Schema, Settings, Table};
+use values::{Name, Row, Seq};
+
+// The column that is added up; none where the rows are counted.
+fn summed(aggs: &[Agg]) -> Option<u16>
+    ensures { result ≡ summed aggs.now }
+{
+    match aggs.first() {
+        Some(agg) => agg.column,
+        None => None,
+    }
+}
+
+// The label of the one item.
+fn label_of(labels: &[Name]) -> &[u8]
+    ensures { result.now ≡ label_of labels.now }
+{
+    match labels.first() {
+        Some(label) => label.as_slice(),
+        None => b"",
+    }
+}
 
 // What is written of a tally: its number of rows, or its sum.
-fn folded(alloc: Global, sums: Option<usize>, tally: &Tally) -> Result<String, AllocError>
+fn folded(alloc: Global, sums: Option<u16>, tally: &Tally) -> Result<String, AllocError>
     ensures { (rows : List (List Value)) → tally.now.rows ≡ length rows → tally.now.sum ≡ sum_of sums rows
         → IfOk result (λ text. string_bytes text ≡ folded sums rows) }
 {
@@ -37,47 +56,115 @@ fn folded(alloc: Global, sums: Option<usize>, tally: &Tally) -> Result<String, A
     }
 }
 
-// The reply of a fold of rows.
-fn answer(
-    alloc: Global,
-    aggregate: Aggregate<'_>,
-    bound: &Bound,
-    rows: &[Row],
-) -> Result<Reply, AllocError>
-    requires rows { All (IsRowFor bound.now) rows.now }
-    ensures { IfOk result (IsReply (Replies (reply_of (aggregate_view aggregate.entry) bound.now rows.now))) }
+// The reply of a fold of the rows that satisfy the conjuncts.
+fn fold_reply(alloc: Global, bound: &BoundQuery, rows: &[Row]) -> Result<Reply, AllocError>
+    ensures { IfOk result (IsReply (Replies (fold_text bound.now rows.now))) }
 {
-    let label = label_of(alloc, aggregate)?;
-    let cell = folded(alloc, bound.sums, &tally_rows(rows, bound))?;
-    let text = answer_text(alloc, &label, cell.as_bytes())?;
+    let sums = summed(bound.aggs.as_slice());
+    let tally = tally_rows(rows, bound.conjuncts.as_slice(), sums);
+    let cell = folded(alloc, sums, &tally)?;
+    let text = answer_text(alloc, label_of(bound.labels.as_slice()), cell.as_bytes())?;
     Ok(Reply::done(alloc, text))
 }
 
-// The reply to a query over the rows of these fields.
-fn scan_rows(alloc: Global, sql: &str, fields: &[Field], rows: &[Row]) -> Result<Reply, AllocError>
-    requires numbers { All (IsNumbers (length fields.now)) rows.now }
-    ensures { IfOk result (IsReply
-        (bound_answer rows.now (bound_of (names_of fields.now) (query_of sql.now)))) }
+// The reply to a query by its names and types.
+fn bound_reply(
+    alloc: Global,
+    query: &Query,
+    table: &Table,
+    rows: &[Row],
+) -> Result<Reply, AllocError>
+    requires few { length table.now.schema.fields ≤ 64 }
+    requires spelled { Spelled query.now }
+    ensures step { IfOk result (IsReply (bound_answer rows.now (bound table.now true query.now))) }
+    ensures line { IfOk result MayReply }
+    ensures apart { IfOk result TellsNoStore }
 {
-    let query = read_query(alloc, sql.as_bytes())?;
-    match bind(fields, query) {
-        Err(fault) => Reply::bad_query(alloc, fault),
-        Ok((aggregate, bound)) => answer(alloc, aggregate, &bound, rows),
+    match bind(alloc, query, table, true) {
+        Ok(bound) => fold_reply(alloc, &bound, rows),
+        Err(BindFault::At(reason, place)) => {
+            Reply::bad_query(alloc, QueryReason::Bind(reason), place)
+        }
+        Err(BindFault::NoMemory) => Err(AllocError),
+    }
+}
+
+// No mark for each of so many fields.
+fn unmarked(alloc: Global, fields: usize) -> Result<Seq<bool>, AllocError>
+    ensures { IfOk result (λ marks. marks ≡ replicate fields false) }
+{
+    Ok(Seq::from_vec(vec![in alloc; false; fields]?))
+}
+
+// The settings of a table without a name and without indexes.
+fn bare_settings(alloc: Global, schema: &Schema) -> Result<Settings, AllocError>
+    ensures { IfOk result (λ settings. settings ≡ bare_settings schema.now) }
+{
+    let fields = schema.fields.len();
+    Ok(Settings {
+        table: Name::new(alloc),
+        sorted: None,
+        inverted: unmarked(alloc, fields)?,
+        ranged: unmarked(alloc, fields)?,
+        raw: unmarked(alloc, fields)?,
+        trees: Seq::new(alloc),
+    })
+}
+
+// The reply to a query by its form.
+fn formed_reply(
+    alloc: Global,
+    query: &Query,
+    schema: Schema,
+    rows: &[Row],
+) -> Result<Reply, AllocError>
+    requires few { length schema.fields ≤ 64 }
+    requires spelled { Spelled query.now }
+    ensures step { IfOk result (IsReply (formed_answer schema rows.now query.now)) }
+    ensures line { IfOk result MayReply }
+    ensures apart { IfOk result TellsNoStore }
+{
+    if !is_answered(query) {
+        return Reply::bad_query(alloc, QueryReason::NotYet, 0);
+    }
+    let settings = bare_settings(alloc, &schema)?;
+    bound_reply(alloc, query, &Table { schema, settings }, rows)
+}
+
+// The most bytes that a query may have.
+const SQL_LIMIT: usize = 65_536;
+
+// The reply to a query's text over rows of these fields.
+fn sql_reply(alloc: Global, sql: &str, schema: Schema, rows: &[Row]) -> Result<Reply, AllocError>
+    requires { length schema.fields ≤ 64 }
+    ensures step { IfOk result (IsReply (sql_answer sql.now schema rows.now)) }
+    ensures line { IfOk result MayReply }
+    ensures apart { IfOk result TellsNoStore }
+{
+    if sql.len() > SQL_LIMIT {
+        return Reply::too_large(alloc, b"sql bytes", SQL_LIMIT as u64);
+    }
+    match parse(alloc, sql) {
+        Ok(query) => formed_reply(alloc, &query, schema, rows),
+        Err(QueryFault::At(reason, place)) => {
+            Reply::bad_query(alloc, QueryReason::Parse(reason), place)
+        }
+        Err(QueryFault::NoMemory) => Err(AllocError),
     }
 }
 
 // The reply to a query over the bytes of a file, which are let go before the rows are looked at.
 fn scan_text(alloc: Global, sql: &str, text: Bytes) -> Result<Reply, AllocError>
     requires { length text ≤ 134217728 }
-    ensures step { IfOk result (IsReply
-        (query_answer (query_of sql.now) (plain_in csv_limits (records_of text)))) }
+    ensures step { IfOk result
+        (IsReply (query_answer sql.now (plain_in csv_limits (records_of text)))) }
     ensures line { IfOk result MayReply }
     ensures apart { IfOk result TellsNoStore }
 {
     let table = read_plain(alloc, text.as_slice());
     drop(text);
     match table {
-        Ok((schema, rows)) => scan_rows(alloc, sql, schema.fields.as_slice(), rows.as_slice()),
+        Ok((schema, rows)) => sql_reply(alloc, sql, schema, rows.as_slice()),
         Err(fault) => Reply::no_rows(alloc, fault),
     }
 }

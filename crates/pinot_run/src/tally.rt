@@ -1,11 +1,22 @@
 // The fold of the rows that hold.
-ghost use Rattle.std.specs.Prelude.{◌≡◌, ◌<◌, ◌≤◌, ◌+◌, ◌-◌, ◌*◌, ◌^◌, ℕ, ℤ, pos, neg_ℤ, ◌≤ℤ◌, true, IfSome, length};
-ghost use Rattle.std.specs.List.{All, list_all};
-ghost use Rattle.csv_ingest.specs.Rows.{is_number};
-ghost use Rattle.pinot_run.specs.Tally.{Adds, IsRowFor, IsTallyOf, sum_with};
+ghost use Rattle.std.specs.Prelude.{◌≡◌, ◌<◌, ◌≤◌, ◌+◌, ◌-◌, ◌*◌, ◌^◌, ℕ, ℤ, pos, neg_ℤ, ◌≤ℤ◌, length};
+ghost use Rattle.table_schema.specs.Conditions.{all_hold};
+ghost use Rattle.pinot_run.specs.Reply.{number_at};
+ghost use Rattle.pinot_run.specs.Tally.{Adds, IsTallyOf, sum_with};
 
-use crate::bound::{Bound, cell};
+use crate::holds::all_hold;
+use table_schema::Conjunct;
 use values::{Row, Value};
+
+// The number of a row in a column; a text, and what is beyond the row's end, count as 0.
+fn number_at(row: &[Value], column: u16) -> i64
+    ensures { result ≡ number_at column row.now }
+{
+    match row.get(usize::from(column)) {
+        Some(Value::Whole(number)) => *number,
+        _ => 0,
+    }
+}
 
 /// How many rows hold, and the sum of their numbers in one column.
 #[derive(Clone, Copy, Debug, PartialEq, Eq)]
@@ -17,7 +28,9 @@ pub struct Tally {
 }
 
 impl Tally {
-    ghost use Rattle.pinot_run.specs.Tally.{sum_with};
+    ghost use Rattle.std.specs.Prelude.{◌≡◌};
+    ghost use Rattle.table_schema.specs.Conditions.{all_hold};
+    ghost use Rattle.pinot_run.specs.Tally.{Adds, sum_with};
 
     /// The tally of no row.
     pub fn new() -> Self
@@ -28,15 +41,13 @@ impl Tally {
     }
 
     // Counts one row more, and adds its number in a column, if one is added up.
-    fn add(&mut self, sums: Option<usize>, row: &[Value])
-        requires room { self.old.rows < 2 ^ 64 - 1 }
-        requires within { IfSome sums (λ column. column < length row.now) }
-        requires numbers { list_all is_number row.now ≡ true }
+    fn add(&mut self, sums: Option<u16>, row: &[Value])
+        requires { self.old.rows < 2 ^ 64 - 1 }
         ensures rows { self.new.rows ≡ self.old.rows + 1 }
         ensures sum { self.new.sum ≡ sum_with sums self.old.sum row.now }
     {
         let value = match sums {
-            Some(column) => cell(row, column),
+            Some(column) => number_at(row, column),
             None => 0,
         };
         self.rows += 1;
@@ -44,25 +55,23 @@ impl Tally {
     }
 
     // Adds a row where it holds.
-    fn take(&mut self, bound: &Bound, row: &[Value])
-        requires room { self.old.rows < 2 ^ 64 - 1 }
-        requires row { IsRowFor bound.now row.now }
-        ensures { Adds bound.now row.now self.old.rows self.old.sum self.new.rows self.new.sum }
+    fn take(&mut self, sums: Option<u16>, conjuncts: &[Conjunct], row: &[Value])
+        requires { self.old.rows < 2 ^ 64 - 1 }
+        ensures { Adds sums (all_hold row.now conjuncts.now) row.now self.old.rows self.old.sum self.new.rows self.new.sum }
     {
-        if bound.holds(row) {
-            self.add(bound.sums, row);
+        if all_hold(row, conjuncts) {
+            self.add(sums, row);
         }
     }
 }
 
 /// The tally of the rows that hold.
-pub fn tally_rows(rows: &[Row], bound: &Bound) -> Tally
-    requires rows { All (IsRowFor bound.now) rows.now }
-    ensures { IsTallyOf bound.now rows.now result.rows result.sum }
+pub fn tally_rows(rows: &[Row], conjuncts: &[Conjunct], sums: Option<u16>) -> Tally
+    ensures { IsTallyOf sums (λ row. all_hold row conjuncts.now) rows.now result.rows result.sum }
 {
     let mut tally = Tally::new();
     'rows: for i in 0..rows.len() {
-        tally.take(bound, rows[i].as_slice());
+        tally.take(sums, conjuncts, rows[i].as_slice());
     }
     tally
 }

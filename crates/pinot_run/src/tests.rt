@@ -114,7 +114,7 @@ fn expect(
 }
 
 // Texts and queries, each with its status, its reply and its note line.
-const ANSWERS: [(&[u8], &str, u8, &str, &str); 16] = [
+const ANSWERS: [(&[u8], &str, u8, &str, &str); 29] = [
     (
         b"a,b\n1,5\n2,7\n1,-3\n",
         "SELECT SUM(b) FROM n WHERE a = 1",
@@ -144,33 +144,27 @@ const ANSWERS: [(&[u8], &str, u8, &str, &str); 16] = [
         "",
         "bad query: UnknownColumn at 11\n",
     ),
-    (
-        b"x\n4\n",
-        "SELECT SUM(x) FROM t;",
-        12,
-        "",
-        "bad query: NotYet at 0\n",
-    ),
+    (b"x\n4\n", "SELECT SUM(x) FROM t;", 0, "sum(x)\n4\n", ""),
     (
         b"x\n4\n",
         "SELECT SUM(x) FROM from",
         12,
         "",
-        "bad query: NotYet at 0\n",
+        "bad query: Unexpected at 19\n",
     ),
     (
         b"x\n4\n",
         "SELECT SUM(x) FROM t WHERE x = +4",
         12,
         "",
-        "bad query: NotYet at 0\n",
+        "bad query: BadCharacter at 31\n",
     ),
     (
         b"x\n4\n",
         "SELECT SUM(x) FROM t WHERE x = 9223372036854775808",
         12,
         "",
-        "bad query: NotYet at 0\n",
+        "bad query: NumberTooWide at 31\n",
     ),
     (
         b"x\n-4\n",
@@ -209,6 +203,91 @@ const ANSWERS: [(&[u8], &str, u8, &str, &str); 16] = [
     ),
     (b"x\n\"8", "SELECT SUM(x) FROM t", 0, "sum(x)\n8\n", ""),
     (b"x\n", "SELECT SUM(x) FROM t", 0, "sum(x)\n0\n", ""),
+    (
+        b"x\n4\n",
+        "SET useStarTree=false; select sum(x) from t where x = 4",
+        0,
+        "sum(x)\n4\n",
+        "",
+    ),
+    (
+        b"x\n4\n",
+        "SELECT COUNT(x) FROM t",
+        12,
+        "",
+        "bad query: NotYet at 0\n",
+    ),
+    (
+        b"x\n4\n",
+        "SELECT MIN(x) FROM t",
+        12,
+        "",
+        "bad query: NotYet at 0\n",
+    ),
+    (
+        b"x\n4\n",
+        "SELECT x FROM t",
+        12,
+        "",
+        "bad query: NotYet at 0\n",
+    ),
+    (
+        b"x\n4\n",
+        "SELECT SUM(x) AS y FROM t",
+        12,
+        "",
+        "bad query: NotYet at 0\n",
+    ),
+    (
+        b"x\n4\n",
+        "SELECT SUM(x) FROM t WHERE x = 'a'",
+        12,
+        "",
+        "bad query: NotYet at 0\n",
+    ),
+    (
+        b"x\n4\n",
+        "SELECT SUM(x) FROM t WHERE x > 3",
+        12,
+        "",
+        "bad query: NotYet at 0\n",
+    ),
+    (
+        b"x\n4\n",
+        "SELECT SUM(y) FROM t WHERE NOT x = 4",
+        12,
+        "",
+        "bad query: NotYet at 0\n",
+    ),
+    (
+        b"x\n4\n",
+        "SELECT SUM(x) FROM t GROUP BY x",
+        12,
+        "",
+        "bad query: NotYet at 0\n",
+    ),
+    (
+        b"x\n4\n",
+        "SELECT SUM(x) FROM t ORDER BY SUM(x)",
+        12,
+        "",
+        "bad query: NotYet at 0\n",
+    ),
+    (
+        b"x\n4\n",
+        "SELECT SUM(x) FROM t LIMIT 10",
+        12,
+        "",
+        "bad query: NotYet at 0\n",
+    ),
+    (
+        b"x\n4\n",
+        "SELECT SUM(x FROM t",
+        12,
+        "",
+        "bad query: Unexpected at 13\n",
+    ),
+    (b"x\n4\n", "", 12, "", "bad query: Unexpected at 0\n"),
 ];
 
 // Texts that have no rows, each with its status and its note line.
@@ -296,6 +375,36 @@ fn rows_at_their_limit(rt: HostRuntime) -> Result<(), Fail> {
             rt.alloc(),
             &text,
             &["scan", "n.csv", "SELECT COUNT(*) FROM t"],
+            (*code, out, note),
+        )?;
+    }
+    Ok(())
+}
+
+// A query of so many bytes, most of them spaces at its end.
+fn long_query(alloc: Global, size: usize) -> Result<String, AllocError> {
+    let mut sql = String::from_str(alloc, "SELECT COUNT(*) FROM t")?;
+    for _ in sql.len()..size {
+        sql.push(' ')?;
+    }
+    Ok(sql)
+}
+
+// How long a query is, with the status, the reply and the note line.
+const LONG_QUERIES: [(usize, u8, &str, &str); 2] = [
+    (65_536, 0, "count(*)\n1\n", ""),
+    (65_537, 9, "", "too large: sql bytes, limit 65536\n"),
+];
+
+#[test]
+fn queries_at_their_limit(rt: HostRuntime) -> Result<(), Fail> {
+    for (size, code, out, note) in &LONG_QUERIES {
+        let sql = long_query(rt.alloc(), *size)?;
+        expect(
+            &rt,
+            rt.alloc(),
+            b"x\n4\n",
+            &["scan", "n.csv", sql.as_str()],
             (*code, out, note),
         )?;
     }

@@ -13,3 +13,4 @@ pub mod Indexes
 pub mod TableTexts
 pub mod Valid
 pub mod ValidSettings
+pub mod Conditions

@@ -1,0 +1,44 @@
+//! Reads a schema and a CSV file over it, and prints how many rows it has: what the benchmark of reading rows runs.
+#![tactic(auto)]
+
+use csv_ingest::read_rows;
+use outside::{FolderShelf, read_all};
+use std::process::ExitCode;
+use std::{env, io};
+use table_schema::read_schema;
+
+const SCHEMA_LIMIT: u64 = 1_048_576;
+const CSV_LIMIT: u64 = 134_217_728;
+
+// How many rows the CSV file has, unless one of the files is refused.
+fn count_rows(rt: &HostRuntime, schema: &str, rows: &str) -> io::Result<Option<usize>> {
+    let alloc = rt.alloc();
+    let mut files = FolderShelf::new(rt.clone()?, String::from_str(alloc, ".")?);
+    let Ok(text) = read_all(alloc, &mut files, schema, SCHEMA_LIMIT) else {
+        return Ok(None);
+    };
+    let Ok(schema) = read_schema(alloc, text.as_slice()) else {
+        return Ok(None);
+    };
+    let Ok(text) = read_all(alloc, &mut files, rows, CSV_LIMIT) else {
+        return Ok(None);
+    };
+    match read_rows(alloc, &schema, text.as_slice()) {
+        Ok(rows) => Ok(Some(rows.len())),
+        Err(_) => Ok(None),
+    }
+}
+
+fn main(rt: HostRuntime) -> io::Result<ExitCode> {
+    let words: Vec<String> = env::args(&rt)?.skip(1).collect(rt.alloc())?;
+    let [schema, rows] = words.as_slice() else {
+        return Ok(ExitCode::from(2));
+    };
+    match count_rows(&rt, schema.as_str(), rows.as_str())? {
+        Some(count) => {
+            println!(rt; "{count}")?;
+            Ok(ExitCode::from(0))
+        }
+        None => Ok(ExitCode::from(1)),
+    }
+}

@@ -1,0 +1,201 @@
+//! A condition with NOT pushed in, and nested ANDs and ORs flattened.
+
+ghost use Rattle.std.specs.Prelude.{◌≡◌, ◌≤◌, ◌++◌, length, map, IfOk, OnOk};
+ghost use Rattle.values.specs.declared.test.Test.TheVariants as test;
+ghost use Rattle.values.specs.Tests.{negated_if};
+ghost use Rattle.query_bind.specs.Written.{field_number, value_in};
+ghost use Rattle.query_bind.specs.Conjuncts.{opposite_if};
+ghost use Rattle.query_bind.specs.Joints as spec;
+
+use query_parser::{Cond, LiteralAt, NameAt};
+use std::alloc::Global;
+use table_schema::{Field, Wide};
+use values::{CompareOp, NoMemory, Seq, Test};
+
+/// How the members of a condition are joined.
+#[derive(Clone, Copy, PartialEq, Eq)]
+pub(crate) enum Joint {
+    All,
+    Any,
+}
+
+impl Joint {
+    /// The same, or under a NOT the other one.
+    fn other_if(self, negated: bool) -> Joint
+        ensures { result ≡ spec.other_if negated self }
+    {
+        match self {
+            Joint::All => if negated { Joint::Any } else { Joint::All },
+            Joint::Any => if negated { Joint::All } else { Joint::Any },
+        }
+    }
+
+    fn join(self, members: Seq<Wide>) -> Wide
+        ensures { result ≡ spec.join self members }
+    {
+        match self {
+            Joint::All => Wide::All(members),
+            Joint::Any => Wide::Any(members),
+        }
+    }
+}
+
+/// The number of the field of that name.
+fn field_number(fields: &[Field], name: &NameAt) -> u16
+    requires { length fields.now ≤ 64 }
+    ensures { result ≡ field_number fields.now name.now }
+{
+    for (number, field) in fields.iter().enumerate() {
+        if field.name.as_slice() == name.name.as_slice() {
+            return number as u16;
+        }
+    }
+    0
+}
+
+fn opposite_if(negated: bool, op: CompareOp) -> CompareOp
+    ensures { result ≡ opposite_if negated op }
+{
+    if !negated {
+        return op;
+    }
+    match op {
+        CompareOp::Equal => CompareOp::Unequal,
+        CompareOp::Unequal => CompareOp::Equal,
+        CompareOp::Less => CompareOp::AtLeast,
+        CompareOp::AtMost => CompareOp::More,
+        CompareOp::More => CompareOp::AtMost,
+        CompareOp::AtLeast => CompareOp::Less,
+    }
+}
+
+fn comparison(
+    alloc: Global,
+    negated: bool,
+    op: CompareOp,
+    bound: &LiteralAt,
+) -> Result<Test, NoMemory>
+    ensures { IfOk result (λ t. t ≡ test.Compare (opposite_if negated op) bound.now.value) }
+{
+    let bound = bound.value.copy(alloc)?;
+    Ok(Test::Compare(opposite_if(negated, op), bound))
+}
+
+fn one_of(alloc: Global, literals: &[LiteralAt], negated: bool) -> Result<Test, NoMemory>
+    ensures { IfOk result (λ t. t ≡ test.OneOf (map value_in literals.now) negated) }
+{
+    let mut values = Seq::with_capacity(alloc, literals.len())?;
+    for literal in literals {
+        values.push(literal.value.copy(alloc)?)?;
+    }
+    Ok(Test::OneOf(values, negated))
+}
+
+fn between(
+    alloc: Global,
+    low: &LiteralAt,
+    high: &LiteralAt,
+    negated: bool,
+) -> Result<Test, NoMemory>
+    ensures { IfOk result (λ t. t ≡ test.Between low.now.value high.now.value negated) }
+{
+    let low = low.value.copy(alloc)?;
+    let high = high.value.copy(alloc)?;
+    Ok(Test::Between(low, high, negated))
+}
+
+/// Puts the normal form of a condition among members that are joined so.
+#[cycle(gather)]
+pub(crate) fn gather(
+    alloc: Global,
+    fields: &[Field],
+    condition: &Cond,
+    negated: bool,
+    joint: Joint,
+    members: &mut Seq<Wide>,
+) -> Result<(), NoMemory>
+    requires { length fields.now ≤ 64 }
+    ensures { OnOk result (members.new ≡ members.old ++ spec.gathered joint negated fields.now condition.now) }
+{
+    match condition {
+        Cond::Compare(name, op, bound) => {
+            let test = comparison(alloc, negated, *op, bound)?;
+            members.push(Wide::Leaf(field_number(fields, name), test))
+        }
+        Cond::OneOf(name, literals, n) => {
+            let test = one_of(alloc, literals.as_slice(), negated != *n)?;
+            members.push(Wide::Leaf(field_number(fields, name), test))
+        }
+        Cond::Between(name, low, high, n) => {
+            let test = between(alloc, low, high, negated != *n)?;
+            members.push(Wide::Leaf(field_number(fields, name), test))
+        }
+        Cond::Not(inner) => gather(alloc, fields, inner.get(), !negated, joint, members),
+        Cond::All(inner) => {
+            let own = Joint::All.other_if(negated);
+            gather_joined(
+                alloc,
+                fields,
+                inner.as_slice(),
+                negated,
+                own,
+                joint,
+                members,
+            )
+        }
+        Cond::Any(inner) => {
+            let own = Joint::Any.other_if(negated);
+            gather_joined(
+                alloc,
+                fields,
+                inner.as_slice(),
+                negated,
+                own,
+                joint,
+                members,
+            )
+        }
+    }
+}
+
+/// Puts conditions that are joined by `own` among members that are joined by `joint`.
+#[cycle(gather)]
+fn gather_joined(
+    alloc: Global,
+    fields: &[Field],
+    conditions: &[Cond],
+    negated: bool,
+    own: Joint,
+    joint: Joint,
+    members: &mut Seq<Wide>,
+) -> Result<(), NoMemory>
+    requires { length fields.now ≤ 64 }
+    ensures { OnOk result (members.new ≡ members.old
+        ++ spec.parts joint (spec.join own (spec.all_gathered own negated fields.now conditions.now))) }
+{
+    if own == joint {
+        return gather_all(alloc, fields, conditions, negated, joint, members);
+    }
+    let mut inner = Seq::with_capacity(alloc, conditions.len())?;
+    gather_all(alloc, fields, conditions, negated, own, &mut inner)?;
+    members.push(own.join(inner))
+}
+
+/// Puts conditions one by one among members that are joined so.
+#[cycle(gather)]
+fn gather_all(
+    alloc: Global,
+    fields: &[Field],
+    conditions: &[Cond],
+    negated: bool,
+    joint: Joint,
+    members: &mut Seq<Wide>,
+) -> Result<(), NoMemory>
+    requires { length fields.now ≤ 64 }
+    ensures { OnOk result (members.new ≡ members.old ++ spec.all_gathered joint negated fields.now conditions.now) }
+{
+    for condition in conditions {
+        gather(alloc, fields, condition, negated, joint, members)?;
+    }
+    Ok(())
+}
