@@ -1,3 +1,4 @@
 pub mod WideLemmas
 pub mod JointLemmas
 pub mod RowLemmas
+mod Joined

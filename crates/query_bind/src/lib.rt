@@ -1,8 +1,16 @@
 //! Names and types of a query: the query over the fields of a table, or the first check that fails.
 #![tactic(auto)]
 
+mod bind;
+mod checks;
+mod columns;
+mod condition;
 mod conjuncts;
+mod distinct;
 mod fault;
+mod items;
+mod labels;
 mod normal;
+mod terms;
 
 pub use fault::{BindFault, BindReason};

@@ -7,6 +7,7 @@ ghost use Rattle.query_bind.specs.Written.{field_number, value_in};
 ghost use Rattle.query_bind.specs.Conjuncts.{opposite_if};
 ghost use Rattle.query_bind.specs.Joints as spec;
 
+use crate::columns::number_of;
 use query_parser::{Cond, LiteralAt, NameAt};
 use std::alloc::Global;
 use table_schema::{Field, Wide};
@@ -45,12 +46,7 @@ fn field_number(fields: &[Field], name: &NameAt) -> u16
     requires { length fields.now ≤ 64 }
     ensures { result ≡ field_number fields.now name.now }
 {
-    for (number, field) in fields.iter().enumerate() {
-        if field.name.as_slice() == name.name.as_slice() {
-            return number as u16;
-        }
-    }
-    0
+    number_of(fields, name.name.as_slice()).unwrap_or(0)
 }
 
 fn opposite_if(negated: bool, op: CompareOp) -> CompareOp

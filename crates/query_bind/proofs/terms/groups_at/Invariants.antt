@@ -1,0 +1,10 @@
+use Rattle.std.proofs.Common.{◌≡◌, map, take, drop}
+use Rattle.query_bind.specs.Names.{column_finding}
+use Rattle.query_bind.specs.Terms.{column_at}
+use Rattle.query_bind.specs.Faults.{first_in}
+use Rattle.query_bind.proofs.terms.groups_at.Given as goal
+
+abbrev pub invariant-loop-name : goal.invariant-loop-name
+invariant-loop-name l =
+    (first_in (column_finding l.fields) (drop l.name-index l.names) ≡ first_in (column_finding l.fields) l.names)
+    × (l.columns ≡ map (column_at l.fields) (take l.name-index l.names))

@@ -1,0 +1,10 @@
+use Rattle.std.proofs.Common.{◌≡◌, map, take, drop}
+use Rattle.query_bind.specs.Names.{term_finding, meant}
+use Rattle.query_bind.specs.Terms.{key_at}
+use Rattle.query_bind.specs.Faults.{first_in}
+use Rattle.query_bind.proofs.terms.keys_at.Given as goal
+
+abbrev pub invariant-loop-key : goal.invariant-loop-key
+invariant-loop-key l =
+    (first_in (λ k. term_finding l.fields (meant l.items k.term)) (drop l.key-index l.order) ≡ first_in (λ k. term_finding l.fields (meant l.items k.term)) l.order)
+    × (l.keys ≡ map (key_at l.fields l.items) (take l.key-index l.order))

@@ -1,0 +1,127 @@
+//! Checks of a query that no number of a field is needed for.
+
+ghost use Rattle.std.specs.Prelude.{◌≡◌, ◌≤◌, ◌++◌, length};
+ghost use Rattle.std.specs.List.{list_any};
+ghost use Rattle.std.specs.Str.{bytes_eq};
+ghost use Rattle.query_bind.specs.Names as naming;
+ghost use Rattle.query_bind.specs.Grouped as spec;
+ghost use Rattle.query_bind.specs.Faults.{Passes, first_in};
+
+use crate::condition::check_condition;
+use crate::labels::meant;
+use crate::{BindFault, BindReason};
+use query_parser::{Cond, NameAt, Query, QueryItem, QueryKey, Term};
+use table_schema::{Field, Table};
+
+/// What the name of a table may end with.
+const SUFFIX: &str = "_OFFLINE";
+
+/// A table's own name, or that with `_OFFLINE` at its end.
+fn is_table(own: &[u8], name: &[u8]) -> bool
+    ensures { result ≡ naming.is_table own.now name.now }
+{
+    name == own || is_joined(name, own, SUFFIX.as_bytes())
+}
+
+/// Whether the name is these two parts.
+fn is_joined(name: &[u8], front: &[u8], back: &[u8]) -> bool
+    ensures { result ≡ bytes_eq name.now (front.now ++ back.now) }
+{
+    let middle = front.len();
+    if name.len() < middle {
+        return false;
+    }
+    &name[..middle] == front && &name[middle..] == back
+}
+
+pub(crate) fn check_table(table: &Table, any_table: bool, query: &Query) -> Result<(), BindFault>
+    ensures { Passes (naming.table_finding table.now any_table query.now) result }
+{
+    if any_table || is_table(table.settings.table.as_slice(), query.table.name.as_slice()) {
+        Ok(())
+    } else {
+        Err(BindFault::At(BindReason::UnknownTable, query.table.offset))
+    }
+}
+
+pub(crate) fn check_where(fields: &[Field], condition: &Option<Cond>) -> Result<(), BindFault>
+    requires { length fields.now ≤ 64 }
+    ensures { Passes (naming.where_finding fields.now condition.now) result }
+{
+    match condition {
+        Some(condition) => check_condition(fields, condition),
+        None => Ok(()),
+    }
+}
+
+pub(crate) fn check_aggregate(query: &Query) -> Result<(), BindFault>
+    ensures { Passes (spec.aggregate_finding query.now) result }
+{
+    if has_call(query.items.as_slice()) {
+        Ok(())
+    } else {
+        Err(BindFault::At(BindReason::NoAggregate, query.select))
+    }
+}
+
+fn has_call(items: &[QueryItem]) -> bool
+    ensures { result ≡ list_any (λ i. spec.is_call i.term) items.now }
+{
+    items.iter().any(|item| matches!(item.term, Term::Call(_)))
+}
+
+pub(crate) fn check_grouped(query: &Query) -> Result<(), BindFault>
+    ensures { Passes (spec.grouped_finding query.now) result }
+{
+    let groups = query.groups.as_slice();
+    let items = query.items.as_slice();
+    check_items(groups, items)?;
+    check_keys(groups, items, query.order.as_slice())
+}
+
+fn check_items(groups: &[NameAt], items: &[QueryItem]) -> Result<(), BindFault>
+    ensures { Passes (first_in (λ i. spec.term_grouped groups.now i.term) items.now) result }
+{
+    for item in items {
+        check_term(groups, &item.term)?;
+    }
+    Ok(())
+}
+
+fn check_keys(
+    groups: &[NameAt],
+    items: &[QueryItem],
+    keys: &[QueryKey],
+) -> Result<(), BindFault>
+    ensures { Passes
+        (first_in (λ k. spec.term_grouped groups.now (naming.meant items.now k.term)) keys.now)
+        result }
+{
+    for key in keys {
+        check_term(groups, meant(items, &key.term))?;
+    }
+    Ok(())
+}
+
+/// A column has to be one of GROUP BY.
+fn check_term(groups: &[NameAt], term: &Term) -> Result<(), BindFault>
+    ensures { Passes (spec.term_grouped groups.now term.now) result }
+{
+    match term {
+        Term::Column(name) if !is_grouped(groups, name) => {
+            Err(BindFault::At(BindReason::NotGrouped, name.offset))
+        }
+        _ => Ok(()),
+    }
+}
+
+fn is_grouped(groups: &[NameAt], name: &NameAt) -> bool
+    ensures { result ≡ spec.is_grouped groups.now name.now }
+{
+    for group in groups {
+        if group.name.as_slice() == name.name.as_slice() {
+            return true;
+        }
+    }
+    false
+}
