@@ -14,3 +14,6 @@ mod normal;
 mod terms;
 
 pub use fault::{BindFault, BindReason};
+
+#[cfg(test)]
+mod tests;

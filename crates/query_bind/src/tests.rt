@@ -1,0 +1,4 @@
+//! Conditions, and their conjuncts.
+
+mod conditions;
+mod show;
