@@ -1,4 +1,5 @@
-pub mod WideLemmas
+mod BoundLemmas
+mod Joined
 pub mod JointLemmas
 pub mod RowLemmas
-mod Joined
+pub mod WideLemmas

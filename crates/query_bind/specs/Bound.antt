@@ -25,18 +25,19 @@ use Rattle.query_parser.specs.Stream.{tokens}
 use Rattle.query_parser.specs.SpellsQuery.{SpellsQuery}
 use Rattle.query_bind.specs.declared.fault.BindFault.{BindFault}
 use Rattle.query_bind.specs.declared.fault.BindFault.TheVariants.{NoMemory}
-use Rattle.query_bind.specs.Written.{Written, where_written, where_holds}
+use Rattle.query_bind.specs.Written.{Written, where_written}
 use Rattle.query_bind.specs.Conjuncts.{where_conjuncts}
-use Rattle.table_schema.specs.Conditions.{all_hold}
-use Rattle.values.specs.declared.value.Value.{Value}
 use Rattle.query_bind.specs.Faults.{Finding, first_of}
 use Rattle.query_bind.specs.Names.{table_finding, names_finding}
 use Rattle.query_bind.specs.declared.terms.Meaning.{Meaning}
 use Rattle.query_bind.specs.declared.terms.Meaning.TheVariants as meaning
 use Rattle.query_bind.specs.declared.terms.TermAt.{TermAt}
+use Rattle.query_bind.specs.declared.terms.Terms.{Terms}
+use Rattle.query_bind.specs.declared.distinct.Lists.{Lists}
+use Rattle.table_schema.specs.declared.query.Conjunct.{Conjunct}
 use Rattle.query_bind.specs.declared.terms.KeyAt.{KeyAt}
 use Rattle.query_bind.specs.Grouped.{aggregate_finding, grouped_finding}
-use Rattle.query_bind.specs.Terms.{same_agg, terms_of, groups_of, aggs_of}
+use Rattle.query_bind.specs.Terms.{same_agg, terms_of, lists_of, groups_of, aggs_of}
 use Rattle.query_bind.specs.Limits.{limits_finding, count_or}
 
 -- ---- items and keys
@@ -100,6 +101,23 @@ pub record Bound : Type 0 where
   pub offset : ℕ
   pub limit : ℕ
 
+abbrev pub parts_of : List Field → Query → Terms × Lists
+parts_of fields q = (terms_of fields q, lists_of (terms_of fields q))
+
+-- a query of these parts, with any form of its condition
+abbrev pub assembled : Query → Terms → Lists → List Conjunct → BoundQuery
+assembled q terms lists conjuncts = record {
+  use_tree = q.use_tree;
+  conjuncts = conjuncts;
+  groups = lists.groups;
+  aggs = lists.aggs;
+  items = items_of lists.groups lists.aggs terms.items;
+  labels = map label_of q.items;
+  order = keys_of lists.groups lists.aggs terms.keys;
+  offset = count_or 0 q.offset;
+  limit = count_or 10 q.limit;
+}
+
 -- a query whose names and types are in order
 abbrev pub bound_of : List Field → Query → Bound
 bound_of fields q =
@@ -154,10 +172,6 @@ in_normal_form b = record {
 abbrev pub Binds : Result Bound BindFault → Result BoundQuery BindFault → Type 0
 Binds outcome (Ok answer) = (b : Bound) × (outcome ≡ Ok b) × (answer ≡ in_normal_form b)
 Binds outcome (Err fault) = fault ≢ NoMemory → outcome ≡ Err fault
-
--- every row satisfies all conjuncts exactly where it satisfies the condition as it is written
-abbrev pub KeepsCondition : List Field → Query → BoundQuery → Type 0
-KeepsCondition fields q b = (row : List Value) → all_hold row b.conjuncts ≡ where_holds row (where_written fields q.condition)
 
 -- some text of at most 65,536 bytes is that query
 abbrev pub Spelled : Query → Type 0

@@ -88,11 +88,7 @@ fn check_items(groups: &[NameAt], items: &[QueryItem]) -> Result<(), BindFault>
     Ok(())
 }
 
-fn check_keys(
-    groups: &[NameAt],
-    items: &[QueryItem],
-    keys: &[QueryKey],
-) -> Result<(), BindFault>
+fn check_keys(groups: &[NameAt], items: &[QueryItem], keys: &[QueryKey]) -> Result<(), BindFault>
     ensures { Passes
         (first_in (λ k. spec.term_grouped groups.now (naming.meant items.now k.term)) keys.now)
         result }

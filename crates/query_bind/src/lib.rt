@@ -1,7 +1,7 @@
 //! Names and types of a query: the query over the fields of a table, or the first check that fails.
 #![tactic(auto)]
 
-mod bind;
+mod bound;
 mod checks;
 mod columns;
 mod condition;
@@ -13,6 +13,7 @@ mod labels;
 mod normal;
 mod terms;
 
+pub use bound::bind;
 pub use fault::{BindFault, BindReason};
 
 #[cfg(test)]

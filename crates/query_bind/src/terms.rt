@@ -5,8 +5,8 @@ ghost use Rattle.query_bind.specs.Names as naming;
 ghost use Rattle.query_bind.specs.Terms as spec;
 ghost use Rattle.query_bind.specs.Faults.{Resolves, Gives, first_in};
 
-use crate::columns::{column, kind_of};
 use crate::checks::check_where;
+use crate::columns::{column, kind_of};
 use crate::labels::meant;
 use crate::{BindFault, BindReason};
 use agg_laws::AggKind;
@@ -64,7 +64,11 @@ fn kind(func: Func) -> AggKind
 }
 
 /// The number of the field in a call, which is one of numbers unless rows are counted.
-fn resolve_argument(fields: &[Field], func: Func, argument: &Argument) -> Result<Option<u16>, BindFault>
+fn resolve_argument(
+    fields: &[Field],
+    func: Func,
+    argument: &Argument,
+) -> Result<Option<u16>, BindFault>
     requires { length fields.now ≤ 64 }
     ensures { Resolves (naming.argument_finding fields.now func argument.now)
         (spec.column_of fields.now argument.now) result }
@@ -88,7 +92,11 @@ fn resolve_term(fields: &[Field], term: &Term) -> Result<Meaning, BindFault>
         Term::Column(name) => Ok(Meaning::Column(column(fields, name)?)),
         Term::Call(call) => {
             let number = resolve_argument(fields, call.func, &call.argument)?;
-            let column = if call.func == Func::Count { None } else { number };
+            let column = if call.func == Func::Count {
+                None
+            } else {
+                number
+            };
             Ok(Meaning::Agg(Agg {
                 kind: kind(call.func),
                 column,
