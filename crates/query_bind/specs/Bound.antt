@@ -17,8 +17,6 @@ use Rattle.query_parser.specs.declared.tree.Argument.TheVariants as argument
 use Rattle.query_parser.specs.declared.tree.Term.{Term}
 use Rattle.query_parser.specs.declared.tree.Term.TheVariants as term
 use Rattle.query_parser.specs.declared.tree.QueryItem.{QueryItem}
-use Rattle.query_parser.specs.declared.tree.QueryKey.{QueryKey}
-use Rattle.query_parser.specs.declared.tree.Cond.{Cond}
 use Rattle.query_parser.specs.declared.tree.Query.{Query}
 use Rattle.query_parser.specs.Lex.{Bytes}
 use Rattle.query_parser.specs.Stream.{tokens}

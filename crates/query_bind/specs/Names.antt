@@ -19,7 +19,6 @@ use Rattle.query_parser.specs.declared.tree.Argument.TheVariants as argument
 use Rattle.query_parser.specs.declared.tree.Term.{Term}
 use Rattle.query_parser.specs.declared.tree.Term.TheVariants as term
 use Rattle.query_parser.specs.declared.tree.QueryItem.{QueryItem}
-use Rattle.query_parser.specs.declared.tree.QueryKey.{QueryKey}
 use Rattle.query_parser.specs.declared.tree.Cond.{Cond}
 use Rattle.query_parser.specs.declared.tree.Cond.TheOpen.{Cond-F}
 use Rattle.query_parser.specs.declared.tree.Cond.TheFolds.{fold-Cond}

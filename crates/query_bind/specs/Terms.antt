@@ -11,7 +11,6 @@ use Rattle.query_parser.specs.declared.tree.Func.{Func}
 use Rattle.query_parser.specs.declared.tree.Func.TheVariants as func
 use Rattle.query_parser.specs.declared.tree.Argument.{Argument}
 use Rattle.query_parser.specs.declared.tree.Argument.TheVariants as argument
-use Rattle.query_parser.specs.declared.tree.Call.{Call}
 use Rattle.query_parser.specs.declared.tree.Term.{Term}
 use Rattle.query_parser.specs.declared.tree.Term.TheVariants as term
 use Rattle.query_parser.specs.declared.tree.QueryItem.{QueryItem}

@@ -6,7 +6,7 @@ ghost use Rattle.query_bind.specs.Written.{where_written};
 ghost use Rattle.query_bind.specs.Conjuncts as spec;
 ghost use Rattle.query_bind.specs.Conjuncts.{KeepRows};
 
-use crate::normal::{Joint, gather};
+use crate::normal::{Joint, Scope};
 use query_parser::Cond;
 use std::alloc::Global;
 use table_schema::{Conjunct, Field, Wide};
@@ -131,6 +131,7 @@ pub(crate) fn conjuncts(
         return Ok(Seq::new(alloc));
     };
     let mut members = Seq::new(alloc);
-    gather(alloc, fields, condition, false, Joint::All, &mut members)?;
+    let scope = Scope { alloc, fields };
+    scope.gather(condition, false, Joint::All, &mut members)?;
     conjuncts_of(alloc, members)
 }

@@ -7,6 +7,7 @@ ghost use Rattle.query_bind.specs.Written.{field_number, value_in};
 ghost use Rattle.query_bind.specs.Conjuncts.{opposite_if};
 ghost use Rattle.query_bind.specs.Joints as spec;
 
+use crate::columns::number_of;
 use query_parser::{Cond, LiteralAt, NameAt};
 use std::alloc::Global;
 use table_schema::{Field, Wide};
@@ -40,17 +41,100 @@ impl Joint {
     }
 }
 
-/// The number of the field of that name.
-fn field_number(fields: &[Field], name: &NameAt) -> u16
-    requires { length fields.now ≤ 64 }
-    ensures { result ≡ field_number fields.now name.now }
-{
-    for (number, field) in fields.iter().enumerate() {
-        if field.name.as_slice() == name.name.as_slice() {
-            return number as u16;
+/// The fields that names in conditions stand for.
+#[derive(Clone, Copy)]
+pub(crate) struct Scope<'a> {
+    pub(crate) alloc: Global,
+    pub(crate) fields: &'a [Field],
+}
+
+impl Scope<'_> {
+    /// The number of the field of that name.
+    fn field_number(&self, name: &NameAt) -> u16
+        requires { length self.now.fields.now ≤ 64 }
+        ensures { result ≡ field_number self.now.fields.now name.now }
+    {
+        number_of(self.fields, name.name.as_slice()).unwrap_or(0)
+    }
+
+    /// Puts the normal form of a condition among members that are joined so.
+    #[cycle(gather)]
+    pub(crate) fn gather(
+        &self,
+        condition: &Cond,
+        negated: bool,
+        joint: Joint,
+        members: &mut Seq<Wide>,
+    ) -> Result<(), NoMemory>
+        requires { length self.now.fields.now ≤ 64 }
+        ensures { OnOk result (members.new
+            ≡ members.old ++ spec.gathered joint negated self.now.fields.now condition.now) }
+    {
+        match condition {
+            Cond::Compare(name, op, bound) => {
+                let test = comparison(self.alloc, negated, *op, bound)?;
+                members.push(Wide::Leaf(self.field_number(name), test))
+            }
+            Cond::OneOf(name, literals, n) => {
+                let test = one_of(self.alloc, literals.as_slice(), negated != *n)?;
+                members.push(Wide::Leaf(self.field_number(name), test))
+            }
+            Cond::Between(name, low, high, n) => {
+                let test = between(self.alloc, low, high, negated != *n)?;
+                members.push(Wide::Leaf(self.field_number(name), test))
+            }
+            Cond::Not(inner) => self.gather(inner.get(), !negated, joint, members),
+            Cond::All(inner) => {
+                let own = Joint::All.other_if(negated);
+                self.gather_joined(inner.as_slice(), negated, own, joint, members)
+            }
+            Cond::Any(inner) => {
+                let own = Joint::Any.other_if(negated);
+                self.gather_joined(inner.as_slice(), negated, own, joint, members)
+            }
         }
     }
-    0
+
+    /// Puts conditions that are joined by `own` among members that are joined by `joint`.
+    #[cycle(gather)]
+    fn gather_joined(
+        &self,
+        conditions: &[Cond],
+        negated: bool,
+        own: Joint,
+        joint: Joint,
+        members: &mut Seq<Wide>,
+    ) -> Result<(), NoMemory>
+        requires { length self.now.fields.now ≤ 64 }
+        ensures { OnOk result (members.new ≡ members.old ++ spec.parts joint
+            (spec.join own (spec.all_gathered own negated self.now.fields.now conditions.now))) }
+    {
+        if own == joint {
+            return self.gather_all(conditions, negated, joint, members);
+        }
+        let mut inner = Seq::with_capacity(self.alloc, conditions.len())?;
+        self.gather_all(conditions, negated, own, &mut inner)?;
+        members.push(own.join(inner))
+    }
+
+    /// Puts conditions one by one among members that are joined so.
+    #[cycle(gather)]
+    fn gather_all(
+        &self,
+        conditions: &[Cond],
+        negated: bool,
+        joint: Joint,
+        members: &mut Seq<Wide>,
+    ) -> Result<(), NoMemory>
+        requires { length self.now.fields.now ≤ 64 }
+        ensures { OnOk result (members.new
+            ≡ members.old ++ spec.all_gathered joint negated self.now.fields.now conditions.now) }
+    {
+        for condition in conditions {
+            self.gather(condition, negated, joint, members)?;
+        }
+        Ok(())
+    }
 }
 
 fn opposite_if(negated: bool, op: CompareOp) -> CompareOp
@@ -102,100 +186,4 @@ fn between(
     let low = low.value.copy(alloc)?;
     let high = high.value.copy(alloc)?;
     Ok(Test::Between(low, high, negated))
-}
-
-/// Puts the normal form of a condition among members that are joined so.
-#[cycle(gather)]
-pub(crate) fn gather(
-    alloc: Global,
-    fields: &[Field],
-    condition: &Cond,
-    negated: bool,
-    joint: Joint,
-    members: &mut Seq<Wide>,
-) -> Result<(), NoMemory>
-    requires { length fields.now ≤ 64 }
-    ensures { OnOk result (members.new ≡ members.old ++ spec.gathered joint negated fields.now condition.now) }
-{
-    match condition {
-        Cond::Compare(name, op, bound) => {
-            let test = comparison(alloc, negated, *op, bound)?;
-            members.push(Wide::Leaf(field_number(fields, name), test))
-        }
-        Cond::OneOf(name, literals, n) => {
-            let test = one_of(alloc, literals.as_slice(), negated != *n)?;
-            members.push(Wide::Leaf(field_number(fields, name), test))
-        }
-        Cond::Between(name, low, high, n) => {
-            let test = between(alloc, low, high, negated != *n)?;
-            members.push(Wide::Leaf(field_number(fields, name), test))
-        }
-        Cond::Not(inner) => gather(alloc, fields, inner.get(), !negated, joint, members),
-        Cond::All(inner) => {
-            let own = Joint::All.other_if(negated);
-            gather_joined(
-                alloc,
-                fields,
-                inner.as_slice(),
-                negated,
-                own,
-                joint,
-                members,
-            )
-        }
-        Cond::Any(inner) => {
-            let own = Joint::Any.other_if(negated);
-            gather_joined(
-                alloc,
-                fields,
-                inner.as_slice(),
-                negated,
-                own,
-                joint,
-                members,
-            )
-        }
-    }
-}
-
-/// Puts conditions that are joined by `own` among members that are joined by `joint`.
-#[cycle(gather)]
-fn gather_joined(
-    alloc: Global,
-    fields: &[Field],
-    conditions: &[Cond],
-    negated: bool,
-    own: Joint,
-    joint: Joint,
-    members: &mut Seq<Wide>,
-) -> Result<(), NoMemory>
-    requires { length fields.now ≤ 64 }
-    ensures { OnOk result (members.new ≡ members.old
-        ++ spec.parts joint (spec.join own (spec.all_gathered own negated fields.now conditions.now))) }
-{
-    if own == joint {
-        return gather_all(alloc, fields, conditions, negated, joint, members);
-    }
-    let mut inner = Seq::with_capacity(alloc, conditions.len())?;
-    gather_all(alloc, fields, conditions, negated, own, &mut inner)?;
-    members.push(own.join(inner))
-}
-
-/// Puts conditions one by one among members that are joined so.
-#[cycle(gather)]
-fn gather_all(
-    alloc: Global,
-    fields: &[Field],
-    conditions: &[Cond],
-    negated: bool,
-    joint: Joint,
-    members: &mut Seq<Wide>,
-) -> Result<(), NoMemory>
-    requires { length fields.now ≤ 64 }
-    ensures { OnOk result (members.new ≡ members.old ++ spec.all_gathered joint negated fields.now conditions.now) }
-{
-    for condition in conditions {
-        gather(alloc, fields, condition, negated, joint, members)?;
-    }
-    Ok(())
 }

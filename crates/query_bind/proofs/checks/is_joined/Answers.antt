@@ -1,4 +1,4 @@
-use Rattle.std.proofs.Common.{◌≡◌, ◌&&◌, ◌-◌, ap, ◌∙◌, length, take, drop, sym}
+use Rattle.std.proofs.Common.{◌&&◌, ap, ◌∙◌, length, drop, sym}
 use Rattle.std.specs.Str.{bytes_eq}
 use Rattle.std.proofs.lemmas.List.{take_rest}
 use Rattle.query_bind.proofs.Joined.{joined_parts, joined_short}
