@@ -1,5 +1,6 @@
 mod BoundLemmas
 mod Joined
 pub mod JointLemmas
+mod PlaceLemmas
 pub mod RowLemmas
 pub mod WideLemmas

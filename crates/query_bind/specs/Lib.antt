@@ -7,3 +7,4 @@ pub mod Grouped
 pub mod Terms
 pub mod Limits
 pub mod Bound
+pub mod Places
