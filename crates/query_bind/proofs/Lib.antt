@@ -1,4 +1,5 @@
 mod BoundLemmas
+mod FirstLemmas
 mod Joined
 pub mod JointLemmas
 mod PlaceLemmas

@@ -8,3 +8,4 @@ pub mod Terms
 pub mod Limits
 pub mod Bound
 pub mod Places
+pub mod Firsts
