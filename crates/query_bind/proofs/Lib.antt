@@ -2,6 +2,7 @@ mod BoundLemmas
 mod FirstLemmas
 mod Joined
 pub mod JointLemmas
+mod OnceLemmas
 mod PlaceLemmas
 pub mod RowLemmas
 pub mod WideLemmas

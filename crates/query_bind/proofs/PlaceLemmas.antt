@@ -34,10 +34,10 @@ use Rattle.query_bind.specs.Places.{at_place, ItemsAreTerms, KeysAreTerms, ALabe
 
 -- ---- what is put into a list without repeats
 
-not_true : false ≡ true → ⊥
+pub not_true : false ≡ true → ⊥
 not_true e = cc
 
-or_true : (a : Bool) → (a || true) ≡ true
+pub or_true : (a : Bool) → (a || true) ≡ true
 or_true true = refl
 or_true false = refl
 
@@ -95,7 +95,7 @@ own_column : (c : Option ℕ) → same_column c c ≡ true
 own_column None = refl
 own_column (Some c) = eq-eqb c c refl
 
-own_agg : (a : Agg) → same_agg a a ≡ true
+pub own_agg : (a : Agg) → same_agg a a ≡ true
 own_agg a = ap (λ b. b && same_column a.column a.column) (own_function a.kind) ∙ own_column a.column
 
 function_is : (j k : AggKind) → same_function j k ≡ true → j ≡ k
@@ -135,7 +135,7 @@ both : (a b : Bool) → (a && b) ≡ true → (a ≡ true) × (b ≡ true)
 both true b e = (refl, e)
 both false b e = absurd (not_true e)
 
-agg_is : (a b : Agg) → same_agg a b ≡ true → a ≡ b
+pub agg_is : (a b : Agg) → same_agg a b ≡ true → a ≡ b
 agg_is a b e =
     let parts = both (same_function a.kind b.kind) (same_column a.column b.column) e in
     ap (λ k. record { kind = k; column = a.column }) (function_is a.kind b.kind parts.0)

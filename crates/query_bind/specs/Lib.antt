@@ -9,3 +9,4 @@ pub mod Limits
 pub mod Bound
 pub mod Places
 pub mod Firsts
+pub mod Once

@@ -1,6 +1,7 @@
 //! What holds of every bound query. Each law is the contract of a function that does nothing.
 
 ghost use Rattle.query_bind.specs.Places.{ItemsAreTerms, KeysAreTerms, ALabelAnItem};
+ghost use Rattle.query_bind.specs.Once.{GroupsStandOnce, GroupsAreNamed, AggsStandOnce, AggsAreWritten};
 ghost use Rattle.query_bind.specs.Firsts.{FewGroups, FewAggs, FewKeys, FirstGroup, FirstAgg, FirstKey};
 
 /// At the place of each item stands what its term is.
@@ -35,4 +36,16 @@ pub fn aggs_law()
 pub fn order_law()
     ensures few { FewKeys }
     ensures first { FirstKey }
+{}
+
+/// Group columns stand once, and are those that are named.
+pub fn group_list_law()
+    ensures once { GroupsStandOnce }
+    ensures named { GroupsAreNamed }
+{}
+
+/// Aggregates stand once, and are those that are written.
+pub fn agg_list_law()
+    ensures once { AggsStandOnce }
+    ensures written { AggsAreWritten }
 {}
