@@ -1,5 +1,8 @@
 mod BoundLemmas
+mod FirstLemmas
 mod Joined
 pub mod JointLemmas
+mod OnceLemmas
+mod PlaceLemmas
 pub mod RowLemmas
 pub mod WideLemmas

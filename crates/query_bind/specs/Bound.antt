@@ -1,6 +1,6 @@
 -- The bound query of a query over a table, or the first check that it fails.
-use Rattle.std.specs.Prelude.{◌≡◌, ◌≢◌, ◌≤◌, ℕ, Bool, not, ◌==◌, List, [], ◌∷◌, ◌++◌, codes, map, length, Option, Some, None, Result, Ok, Err}
-use Rattle.std.specs.List.{prefix_len}
+use Rattle.std.specs.Prelude.{◌≡◌, ◌≢◌, ◌≤◌, ℕ, Bool, ◌==◌, List, [], ◌∷◌, ◌++◌, codes, map, length, Option, Some, None, Result, Ok, Err}
+use Rattle.std.specs.List.{position_or_len}
 use Rattle.table_schema.specs.declared.field.Field.{Field}
 use Rattle.table_schema.specs.declared.table.Table.{Table}
 use Rattle.table_schema.specs.declared.query.Agg.{Agg}
@@ -40,14 +40,10 @@ use Rattle.query_bind.specs.Limits.{limits_finding, count_or}
 
 -- ---- items and keys
 
--- how many stand before the first that is wanted
-abbrev pub before : {A : Type 0} → (A → Bool) → List A → ℕ
-before wanted xs = prefix_len (λ x. not (wanted x)) xs
-
 -- the place of a term among the group columns or the aggregates
 abbrev pub item_of : List ℕ → List Agg → Meaning → Item
-item_of groups aggs (meaning.Column c) = item.Group (before (λ g. g == c) groups)
-item_of groups aggs (meaning.Agg a) = item.Agg (before (same_agg a) aggs)
+item_of groups aggs (meaning.Column c) = item.Group (position_or_len (λ g. g == c) groups)
+item_of groups aggs (meaning.Agg a) = item.Agg (position_or_len (same_agg a) aggs)
 
 abbrev pub items_of : List ℕ → List Agg → List TermAt → List Item
 items_of groups aggs terms = map (λ t. item_of groups aggs t.meaning) terms

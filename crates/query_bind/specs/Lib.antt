@@ -7,3 +7,6 @@ pub mod Grouped
 pub mod Terms
 pub mod Limits
 pub mod Bound
+pub mod Places
+pub mod Firsts
+pub mod Once

@@ -1,6 +1,7 @@
 //! The columns of an answer and its order, by places among group columns and aggregates.
 
 ghost use Rattle.std.specs.Prelude.{◌≡◌, ◌≤◌, ◌==◌, length, IfOk};
+ghost use Rattle.std.specs.List.{position_or_len};
 ghost use Rattle.query_bind.specs.Terms as terms_spec;
 ghost use Rattle.query_bind.specs.Bound as spec;
 
@@ -13,7 +14,7 @@ use values::{NoMemory, Seq};
 /// The place of a column among the group columns; their number where it is none of them.
 fn column_place(groups: &[u16], column: u16) -> u16
     requires { length groups.now ≤ 8 }
-    ensures { result ≡ spec.before (λ g. g == column) groups.now }
+    ensures { result ≡ position_or_len (λ g. g == column) groups.now }
 {
     for (place, group) in groups.iter().enumerate() {
         if *group == column {
@@ -26,7 +27,7 @@ fn column_place(groups: &[u16], column: u16) -> u16
 /// The place of an aggregate among these; their number where it is none of them.
 fn agg_place(aggs: &[Agg], agg: Agg) -> u16
     requires { length aggs.now ≤ 16 }
-    ensures { result ≡ spec.before (terms_spec.same_agg agg) aggs.now }
+    ensures { result ≡ position_or_len (terms_spec.same_agg agg) aggs.now }
 {
     for (place, other) in aggs.iter().enumerate() {
         if same_agg(agg, *other) {
