@@ -36,7 +36,9 @@ short file None bytes e = absurd cc
 short file (Some b) bytes e = within (nat_lt 1048576 (length b)) _ b bytes refl e
 
 beside_ok : {A : Type 0} (refused : KeyKind → List ℕ → Note) (b : List ℕ) (r : Result A TextFault) (bytes : List ℕ) (value : A) → beside refused b r ≡ Ok (bytes, value) → (b ≡ bytes) × (r ≡ Ok value)
-beside_ok refused b (Ok v) bytes value e = (cc, cc)
+beside_ok {A = A} refused b (Ok v) bytes value e =
+    let pair : ◌≡◌ {A = List ℕ × A} (b, v) (bytes, value) = cc in
+    (ap (λ p. p.0) pair, ap (λ p. Ok p.1) pair)
 beside_ok refused b (Err (fault.At wrong path)) bytes value e = absurd cc
 beside_ok refused b (Err fault.NoMemory) bytes value e = absurd cc
 

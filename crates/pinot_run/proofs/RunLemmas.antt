@@ -42,7 +42,7 @@ where_told (Some files) (Some kept) P Q f h = λ before stands. f files kept bef
 module _ (reply : Reply) (ended : Status) (out out_new notes notes_new : Option (List ℕ)) (RO RN : Type 0) (gave : Gave reply ended out out_new notes notes_new RO RN) where
   -- a status that is no fault is that of the reply
   as_replied : is_fault ended ≡ false → ended ≡ reply.status
-  as_replied no = elim gave.status [ inl same ↦ same | inr fault ↦ absurd (let e : is_fault ended ≡ true = ap is_fault fault in cc) ]
+  as_replied fine = elim gave.status [ inl same ↦ same | inr fault ↦ absurd (let e : is_fault ended ≡ true = ap is_fault fault in cc) ]
 
   -- a write fault is not that of the reply
   other : ended ≡ status.WriteFault → ended ≢ reply.status
@@ -56,11 +56,11 @@ module _ (reply : Reply) (ended : Status) (out out_new notes notes_new : Option 
   streams_failed fault = gave.failed (other fault)
 
   pub none_failed : {A : Type 0} → ended ≡ status.WriteFault → ¬ RO → ¬ RN → A
-  none_failed fault a b = absurd (elim streams_failed fault [ inl x ↦ a x | inr y ↦ b y ])
+  none_failed fault a b = absurd (elim (streams_failed fault) [ inl x ↦ a x | inr y ↦ b y ])
 
   -- the status of a refusal is that of the reply
   pub refused_so : ended ≢ status.WriteFault → ended ≡ reply.status
-  refused_so no = elim gave.status [ inl same ↦ same | inr fault ↦ absurd (no fault) ]
+  refused_so other_one = elim gave.status [ inl same ↦ same | inr fault ↦ absurd (other_one fault) ]
 
   answers : (answer : Answer) → IsReply answer reply → ended ≡ reply.status → IsAnswer answer ended out out_new notes notes_new
   answers answer is same = record {
@@ -74,9 +74,9 @@ module _ (reply : Reply) (ended : Status) (out out_new notes notes_new : Option 
 
   module _ (command : Option Command) (held stored stored_new : Option Files) (did : Did command held stored stored_new reply) where
     pub gave-does : is_fault ended ≡ false → IfSome held (λ files. IsDone command files ended stored stored_new out out_new notes notes_new)
-    gave-does no =
+    gave-does fine =
         each_told held (λ files. (answer : Answer) × Does command files stored answer stored_new × IsReply answer reply) (λ files. IsDone command files ended stored stored_new out out_new notes notes_new)
-        (λ files (answer, does, is). record { answer = answer; does = does; answers = answers answer is (as_replied no) }) did
+        (λ files (answer, does, is). record { answer = answer; does = does; answers = answers answer is (as_replied fine) }) did
 
     pub gave-cut : IfSome held (λ files. IsCut command files stored stored_new out out_new)
     gave-cut =
@@ -94,11 +94,11 @@ module _ (reply : Reply) (ended : Status) (out out_new notes notes_new : Option 
     stepped files kept before told stands answer does = does_step command files kept answer stored_new before stands (subst (λ s. Does command files s answer stored_new) told does)
 
     pub gave-step : is_fault ended ≡ false → WhereStands held stored (λ before files. IsStep (step_of before command files) ended out out_new notes notes_new stored_new)
-    gave-step no =
+    gave-step fine =
         where_told held stored (λ files. (answer : Answer) × Does command files stored answer stored_new × IsReply answer reply) (λ before files. IsStep (step_of before command files) ended out out_new notes notes_new stored_new)
         (λ files kept before told stands (answer, does, is).
         let s = stepped files kept before told stands answer does in
-        record { answers = subst (λ a. IsAnswer a ended out out_new notes notes_new) s.0 (answers answer is (as_replied no)); stands = s.1 }) did
+        record { answers = subst (λ a. IsAnswer a ended out out_new notes notes_new) s.0 (answers answer is (as_replied fine)); stands = s.1 }) did
 
     pub gave-left : WhereStands held stored (λ before files. IsLeft (step_of before command files) stored_new out out_new)
     gave-left =
@@ -107,18 +107,48 @@ module _ (reply : Reply) (ended : Status) (out out_new notes notes_new : Option 
         let s = stepped files kept before told stands answer does in
         record { stands = s.1; out = subst (λ a. AppendsPrefix (text_of a) out out_new) s.0 (cut_text answer is) }) did
 
-    pub gave-either : {U : Type 0} → WhereStands held stored (λ before files. U ⊎ IsLeft (step_of before command files) stored_new out out_new)
-    gave-either {U = U} =
+    pub gave-either : (U : Type 0) → WhereStands held stored (λ before files. U ⊎ IsLeft (step_of before command files) stored_new out out_new)
+    gave-either U =
         where_told held stored (λ files. (answer : Answer) × Does command files stored answer stored_new × IsReply answer reply) (λ before files. U ⊎ IsLeft (step_of before command files) stored_new out out_new)
         (λ files kept before told stands (answer, does, is).
         let s = stepped files kept before told stands answer does in
         inr (record { stands = s.1; out = subst (λ a. AppendsPrefix (text_of a) out out_new) s.0 (cut_text answer is) })) did
 
-    pub gave-complete : {RI RD RW : Type 0} → WhereStands held stored (λ before files. ¬ RI → ¬ RD → ¬ RW → ¬ RO → ¬ RN → (ended ≡ status_after (step_of before command files).answer) ⊎ (ended ≡ status.NoMemory))
-    gave-complete {RI = RI} {RD = RD} {RW = RW} =
+    pub gave-complete : (RI RD RW : Type 0) → WhereStands held stored (λ before files. ¬ RI → ¬ RD → ¬ RW → ¬ RO → ¬ RN → (ended ≡ status_after (step_of before command files).answer) ⊎ (ended ≡ status.NoMemory))
+    gave-complete RI RD RW =
         where_told held stored (λ files. (answer : Answer) × Does command files stored answer stored_new × IsReply answer reply)
         (λ before files. ¬ RI → ¬ RD → ¬ RW → ¬ RO → ¬ RN → (ended ≡ status_after (step_of before command files).answer) ⊎ (ended ≡ status.NoMemory))
         (λ files kept before told stands (answer, does, is) i d w o n.
         let s = stepped files kept before told stands answer does in
         let same : ended ≡ reply.status = refused_so (λ fault. none_failed fault o n) in
         inl (same ∙ is.status ∙ ap status_after s.0)) did
+
+-- what holds of every state and of all files holds where they are told
+where_all : (held stored : Option Files) (Q : State → Files → Type 0) → ((before : State) (files : Files) → Q before files) → WhereStands held stored Q
+where_all None stored Q f = tt
+where_all (Some files) None Q f = tt
+where_all (Some files) (Some kept) Q f = λ before stands. f before files
+
+-- where a fault came nothing is owed, and where memory ran out it is told
+pub read-complete : (RI RD RW RO RN : Type 0) (held stored : Option Files) (command : Option Command) (ended : Status) → RI ⊎ RD
+    → WhereStands held stored (λ before files. ¬ RI → ¬ RD → ¬ RW → ¬ RO → ¬ RN → (ended ≡ status_after (step_of before command files).answer) ⊎ (ended ≡ status.NoMemory))
+read-complete RI RD RW RO RN held stored command ended failed =
+    where_all held stored (λ before files. ¬ RI → ¬ RD → ¬ RW → ¬ RO → ¬ RN → (ended ≡ status_after (step_of before command files).answer) ⊎ (ended ≡ status.NoMemory))
+    (λ before files i d w o n. absurd (elim failed [ inl x ↦ i x | inr y ↦ d y ]))
+
+pub write-complete : (RI RD RW RO RN : Type 0) (held stored : Option Files) (command : Option Command) (ended : Status) → RW
+    → WhereStands held stored (λ before files. ¬ RI → ¬ RD → ¬ RW → ¬ RO → ¬ RN → (ended ≡ status_after (step_of before command files).answer) ⊎ (ended ≡ status.NoMemory))
+write-complete RI RD RW RO RN held stored command ended failed =
+    where_all held stored (λ before files. ¬ RI → ¬ RD → ¬ RW → ¬ RO → ¬ RN → (ended ≡ status_after (step_of before command files).answer) ⊎ (ended ≡ status.NoMemory))
+    (λ before files i d w o n. absurd (w failed))
+
+pub memory-complete : (RI RD RW RO RN : Type 0) (held stored : Option Files) (command : Option Command) (ended : Status) → ended ≡ status.NoMemory
+    → WhereStands held stored (λ before files. ¬ RI → ¬ RD → ¬ RW → ¬ RO → ¬ RN → (ended ≡ status_after (step_of before command files).answer) ⊎ (ended ≡ status.NoMemory))
+memory-complete RI RD RW RO RN held stored command ended is =
+    where_all held stored (λ before files. ¬ RI → ¬ RD → ¬ RW → ¬ RO → ¬ RN → (ended ≡ status_after (step_of before command files).answer) ⊎ (ended ≡ status.NoMemory))
+    (λ before files i d w o n. inr is)
+
+-- nothing was done
+pub undone-either : (U : Type 0) (held stored stored_new : Option Files) (out out_new : Option (List ℕ)) (command : Option Command) → U → WhereStands held stored (λ before files. U ⊎ IsLeft (step_of before command files) stored_new out out_new)
+undone-either U held stored stored_new out out_new command is =
+    where_all held stored (λ before files. U ⊎ IsLeft (step_of before command files) stored_new out out_new) (λ before files. inl is)
