@@ -22,6 +22,7 @@ pub fn text_of(bytes: &[u8]) -> Option<&str>
 }
 
 // The value of a text.
+#[inline(never)]
 fn read_text(
     alloc: Global,
     kind: FieldKind,
