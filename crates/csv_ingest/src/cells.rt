@@ -37,6 +37,7 @@ fn shared_value(texts: &mut Texts, kind: FieldKind, text: &str) -> Result<Value,
 }
 
 // The value of a text.
+#[inline(never)]
 fn read_text(
     texts: &mut Texts,
     kind: FieldKind,

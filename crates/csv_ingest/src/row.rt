@@ -48,6 +48,7 @@ fn most_rows(fields: usize) -> u32
 }
 
 // The values of a record, field by field.
+#[inline(never)]
 fn read_values(
     alloc: Global,
     texts: &mut Texts,
