@@ -1,5 +1,5 @@
 -- What stops `create` is what is found first in its input files.
-use Rattle.std.proofs.Common.{◌≡◌, ◌∙◌, ℕ, List, [], ◌++◌, length, Option, Some, None, option_map, Result, Ok, Err, IfSome, refl, sym, ap, subst, append-nil, arith}
+use Rattle.std.proofs.Common.{◌≡◌, ◌∙◌, ℕ, List, [], ◌++◌, Option, Some, None, option_map, Result, Ok, Err, IfSome, refl, sym, ap, subst, append-nil, arith}
 use Rattle.std.specs.Prelude.{IfErr, IsErrAnd}
 use Rattle.outside.specs.Files.{Files}
 use Rattle.outside.specs.Reads.{Entry}
@@ -8,8 +8,6 @@ use Rattle.table_schema.specs.declared.fault.KeyKind.{KeyKind}
 use Rattle.table_schema.specs.declared.fault.TextFault.{TextFault}
 use Rattle.table_schema.specs.declared.field.Schema.{Schema}
 use Rattle.table_schema.specs.declared.settings.Settings.{Settings}
-use Rattle.table_schema.specs.declared.table.Table.{Table}
-use Rattle.table_store.specs.State as state
 use Rattle.pinot_run.specs.Create.{beside, new_table, read_by, schema_in, settings_in, table_of, with_settings}
 use Rattle.pinot_run.specs.Does.{LogsFronts}
 use Rattle.pinot_run.specs.Halts.{HaltsBy}

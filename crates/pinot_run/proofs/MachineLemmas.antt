@@ -1,5 +1,5 @@
 -- What a command does to stored files is its step on the state that they stand for.
-use Rattle.std.proofs.Common.{◌≡◌, ◌≤◌, ◌<◌, ◌∙◌, ℕ, Bool, true, false, List, length, nat_lt, Option, Some, None, Result, Ok, Err, IfSome, refl, sym, ap, subst, arith, cond}
+use Rattle.std.proofs.Common.{◌≡◌, ◌≤◌, ◌∙◌, ℕ, Bool, true, false, List, length, nat_lt, Option, Some, None, Result, Ok, Err, IfSome, refl, sym, ap, subst, arith, cond}
 use Rattle.std.proofs.lemmas.Bool.Decides.{nat_tests}
 use Rattle.std.specs.FinMap as map
 use Rattle.outside.specs.Files.{Files, Has, Lacks}
@@ -19,7 +19,7 @@ use Rattle.table_store.specs.TableFile.{table_file, table_name}
 use Rattle.table_store.proofs.StandsLemmas.{create_stands}
 use Rattle.pinot_run.specs.Command.{Command, Create, Scan}
 use Rattle.pinot_run.specs.Create.{Made, beside, json_bytes, json_in, new_table, read_by, schema_in, settings_in, table_of, with_settings}
-use Rattle.pinot_run.specs.Does.{Creates, Does, TableIsThere, files_after}
+use Rattle.pinot_run.specs.Does.{Does, TableIsThere, files_after}
 use Rattle.pinot_run.specs.Notes.{Note, BadSchema, BadSettings}
 use Rattle.pinot_run.specs.Step.{Answer, create_answer, created, has_table, step_of}
 

@@ -8,7 +8,7 @@ use Rattle.pinot_run.specs.Command.{Command}
 use Rattle.pinot_run.specs.Does.{Does}
 use Rattle.pinot_run.specs.Notes.{is_fault}
 use Rattle.pinot_run.specs.Outcome.{IsAnswer, IsCut, IsDone, IsLeft, IsReply, IsStep, IsWhole, WhereStands}
-use Rattle.pinot_run.specs.Step.{Answer, line_of, status_after, step_of, text_of}
+use Rattle.pinot_run.specs.Step.{Answer, status_after, step_of, text_of}
 use Rattle.pinot_run.specs.declared.reply.Reply.{Reply}
 use Rattle.pinot_run.specs.declared.status.Status.{Status}
 use Rattle.pinot_run.specs.declared.status.Status.TheVariants as status

@@ -1,5 +1,5 @@
 -- What a command does to the stored files, whether they stand for a state or not.
-use Rattle.std.specs.Prelude.{◌≡◌, ℕ, Bool, true, false, List, Option, Some, None, Result, Ok, Err}
+use Rattle.std.specs.Prelude.{◌≡◌, ℕ, Bool, true, false, List, Option, Some, None, Ok, Err}
 use Rattle.std.specs.FinMap as map
 use Rattle.outside.specs.Files.{Files, Has, Lacks, SameBut, with_file}
 use Rattle.outside.specs.Reads.{Entry}

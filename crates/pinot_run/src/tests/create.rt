@@ -7,12 +7,14 @@ use std::alloc::{AllocError, Global};
 use std::test::Fail;
 use table_store::has_table;
 
-const V: &[u8] = br#"{"schemaName":"V","dimensionFieldSpecs":[{"name":"Country","dataType":"STRING"},
+const V: &[u8] =
+    br#"{"schemaName":"V","dimensionFieldSpecs":[{"name":"Country","dataType":"STRING"},
 {"name":"Browser","dataType":"STRING"},{"name":"Locale","dataType":"STRING"}],
 "metricFieldSpecs":[{"name":"Impressions","dataType":"LONG"}]}"#;
 
 // The same with a metric of a type that is not kept.
-const DOUBLE: &[u8] = br#"{"schemaName":"V","dimensionFieldSpecs":[{"name":"Country","dataType":"STRING"},
+const DOUBLE: &[u8] =
+    br#"{"schemaName":"V","dimensionFieldSpecs":[{"name":"Country","dataType":"STRING"},
 {"name":"Browser","dataType":"STRING"},{"name":"Locale","dataType":"STRING"}],
 "metricFieldSpecs":[{"name":"Impressions","dataType":"DOUBLE"}]}"#;
 
@@ -25,7 +27,8 @@ const TREE: &[u8] = br#"{"tableName":"V","tableType":"OFFLINE","segmentsConfig":
 "functionColumnPairs":["SUM__Impressions","COUNT__*"],"maxLeafRecords":1}]},
 "metadata":{}}"#;
 
-const PLAIN: &[u8] = br#"{"tableName":"V","tableType":"OFFLINE","segmentsConfig":{"replication":"1"},
+const PLAIN: &[u8] =
+    br#"{"tableName":"V","tableType":"OFFLINE","segmentsConfig":{"replication":"1"},
 "tenants":{"broker":"DefaultTenant","server":"DefaultTenant"},
 "tableIndexConfig":{"loadMode":"MMAP"},
 "metadata":{}}"#;
@@ -116,12 +119,7 @@ fn texts(rt: HostRuntime) -> Result<(), Fail> {
 // Words over one store, one after the other, with the status, all that was replied and all that was noted
 // so far.
 const CALLS: [(&[&str], u8, &str, &str); 4] = [
-    (
-        &["create", "q.json", "t.json"],
-        3,
-        "",
-        "no input: q.json\n",
-    ),
+    (&["create", "q.json", "t.json"], 3, "", "no input: q.json\n"),
     (
         &["create", "s.json", "q.json"],
         3,

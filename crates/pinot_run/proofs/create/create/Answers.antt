@@ -21,5 +21,5 @@ returns-in-Err-NoMemory-clause-log g c = nothing_read c.args.schema.now c.args.s
 pub returns-in-Ok-false-clause-does : goal.returns-in-Ok-false-clause-does
 returns-in-Ok-false-clause-does g c =
     subst (λ held. IfOk c.create_new.result (λ r. IfSome (g.I.Shelf.held c.args.inputs.now) (λ files. (answer : Answer)
-        × Creates (new_table c.args.schema.now c.args.settings.now files) held answer (g.D.Shelf.held c.create_new.new.depot) × IsReply answer r)))
+    × Creates (new_table c.args.schema.now c.args.settings.now files) held answer (g.D.Shelf.held c.create_new.new.depot) × IsReply answer r)))
     c.has_table.ensures.held c.create_new.ensures.does

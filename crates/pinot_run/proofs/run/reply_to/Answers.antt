@@ -13,5 +13,5 @@ returns-in_ok-bad_words-in-None-clause-line g c = reply_line (Refuses note.BadWo
 pub returns-in-Some-Create-clause-does : goal.returns-in-Some-Create-clause-does
 returns-in-Some-Create-clause-does g c =
     subst (λ command. IfOk c.create.result (λ r. IfSome (g.I.Shelf.held c.args.inputs.now) (λ files. (answer : Answer)
-        × Does command files (g.D.Shelf.held c.args.depot.now) answer (g.D.Shelf.held c.create.new.depot) × IsReply answer r)))
+    × Does command files (g.D.Shelf.held c.args.depot.now) answer (g.D.Shelf.held c.create.new.depot) × IsReply answer r)))
     (ap (λ command. Some (command_view command)) (sym c.in-Some-Create.field-0-is) ∙ c.in-Some-Create.ensures) c.create.ensures.does

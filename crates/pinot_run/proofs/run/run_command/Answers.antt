@@ -24,7 +24,7 @@ returns-in-Ok-clause-does g c = λ fine.
     (g.D.Shelf.held c.args.depot.now) (g.D.Shelf.held c.reply_to.new.depot) c.in-Ok.ensures.does fine
 
 pub returns-in-Ok-clause-complete : goal.returns-in-Ok-clause-complete
-returns-in-Ok-clause-complete g c = 
+returns-in-Ok-clause-complete g c =
     gave-complete c.in-Ok.reply c.give.result (g.O.Sink.written c.args.out.now) (g.O.Sink.written c.give.new.out) (g.N.Sink.written c.args.notes.now) (g.N.Sink.written c.give.new.notes)
     (Rose (g.O.Sink.faults c.args.out.now) (g.O.Sink.faults c.give.new.out))
     (Rose (g.N.Sink.faults c.args.notes.now) (g.N.Sink.faults c.give.new.notes))
