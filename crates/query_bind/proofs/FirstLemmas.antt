@@ -1,5 +1,5 @@
 -- Where there are too many.
-use Rattle.std.proofs.Common.{◌≡◌, ◌⊎◌, inl, inr, ℕ, suc, ◌+◌, ◌≤◌, ◌<◌, nat_lt, nat_le, ◌==◌, Bool, true, false, ◌||◌, cond, List, [], ◌∷◌, ◌++◌, length, length-append, map, Some, None, refl, sym, ap, ◌∙◌, arith, rules, tests}
+use Rattle.std.proofs.Common.{◌≡◌, ◌⊎◌, inl, inr, ℕ, suc, ◌+◌, ◌≤◌, ◌<◌, nat_lt, nat_le, ◌==◌, Bool, true, false, ◌||◌, cond, List, [], ◌∷◌, ◌++◌, length, length-append, map, Some, None, refl, ap, ◌∙◌, arith, rules, tests}
 use Rattle.table_schema.specs.declared.query.Agg.{Agg}
 use Rattle.query_bind.specs.declared.fault.BindReason.TheVariants.{TooMany}
 use Rattle.query_bind.specs.declared.fault.BindFault.TheVariants.{At}

@@ -6,3 +6,4 @@ mod OnceLemmas
 mod PlaceLemmas
 pub mod RowLemmas
 pub mod WideLemmas
+mod WithinLemmas

@@ -12,7 +12,7 @@ use Rattle.query_bind.specs.declared.terms.TermAt.{TermAt}
 use Rattle.query_bind.specs.declared.terms.ColumnAt.{ColumnAt}
 use Rattle.query_bind.specs.Terms.{with_new, with_column, columns_from, same_agg, with_agg, aggs_from}
 use Rattle.query_bind.specs.Once.{GroupsStandOnce, GroupsAreNamed, AggsStandOnce, is_agg, AggsAreWritten}
-use Rattle.query_bind.proofs.PlaceLemmas.{own_agg, agg_is, not_true}
+use Rattle.query_bind.proofs.PlaceLemmas.{own_agg, agg_is}
 
 or_false : (a : Bool) → (a || false) ≡ a
 or_false true = refl

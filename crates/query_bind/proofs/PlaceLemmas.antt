@@ -197,11 +197,11 @@ item_stands b (meaning.Agg a) column has = ap (option_map meaning.Agg) (stands (
 
 -- ---- checks that find nothing
 
-none_first : (f g : Finding) → or_else f g ≡ None → f ≡ None
+pub none_first : (f g : Finding) → or_else f g ≡ None → f ≡ None
 none_first None g e = refl
 none_first (Some x) g e = e
 
-none_later : (f g : Finding) → or_else f g ≡ None → g ≡ None
+pub none_later : (f g : Finding) → or_else f g ≡ None → g ≡ None
 none_later None g e = e
 none_later (Some x) g e = let no : Some x ≡ None = e in cc
 
@@ -238,7 +238,7 @@ as_many : (fields : List Field) (b : Bound) (items : List QueryItem) → length 
 as_many fields b [] = refl
 as_many fields b (i ∷ is) = ap suc (as_many fields b is)
 
-answered : {A : Type 0} (f : Finding) (value b : A) → answer f value ≡ Ok b → (f ≡ None) × (value ≡ b)
+pub answered : {A : Type 0} (f : Finding) (value b : A) → answer f value ≡ Ok b → (f ≡ None) × (value ≡ b)
 answered None value b e = (refl, cc)
 answered {A} (Some fault) value b e = let no : Err fault ≡ Ok b = e in absurd (cc)
 

@@ -2,6 +2,7 @@
 
 ghost use Rattle.query_bind.specs.Places.{ItemsAreTerms, KeysAreTerms, ALabelAnItem};
 ghost use Rattle.query_bind.specs.Once.{GroupsStandOnce, GroupsAreNamed, AggsStandOnce, AggsAreWritten};
+ghost use Rattle.query_bind.specs.Within.{GroupsAreIn, AggsAreIn, ConjunctsAreIn};
 ghost use Rattle.query_bind.specs.Firsts.{FewGroups, FewAggs, FewKeys, FirstGroup, FirstAgg, FirstKey};
 
 /// At the place of each item stands what its term is.
@@ -48,4 +49,11 @@ pub fn group_list_law()
 pub fn agg_list_law()
     ensures once { AggsStandOnce }
     ensures written { AggsAreWritten }
+{}
+
+/// Numbers of fields are in range.
+pub fn fields_law()
+    ensures groups { GroupsAreIn }
+    ensures aggs { AggsAreIn }
+    ensures conjuncts { ConjunctsAreIn }
 {}
