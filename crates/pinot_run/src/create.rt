@@ -79,8 +79,10 @@ fn read_json<I: Shelf>(alloc: Global, file: &str, inputs: &mut I) -> Result<Byte
 fn schema_of(alloc: Global, text: &[u8]) -> Result<Schema, Halt>
     ensures read { IfOk result (λ schema. schema_read text.now ≡ Ok schema) }
     ensures valid { IfOk result (λ schema. IsValidSchema schema) }
-    ensures halts { IfErr result (HaltsBy (Some (beside note.BadSchema text.now (schema_read text.now)))) }
-    ensures no_device { ¬ (IsErrOf result (Halt.Fault Fault.Read) ⊎ IsErrOf result (Halt.Fault Fault.Write)) }
+    ensures halts { IfErr result
+        (HaltsBy (Some (beside note.BadSchema text.now (schema_read text.now)))) }
+    ensures no_device { ¬ (IsErrOf result (Halt.Fault Fault.Read)
+        ⊎ IsErrOf result (Halt.Fault Fault.Write)) }
 {
     match read_schema(alloc, text) {
         Ok(schema) => Ok(schema),
@@ -94,10 +96,12 @@ fn schema_of(alloc: Global, text: &[u8]) -> Result<Schema, Halt>
 // The settings that a text is.
 fn settings_of(alloc: Global, schema: &Schema, text: &[u8]) -> Result<Settings, Halt>
     requires { length schema.now.fields ≤ 64 }
-    ensures read { IfOk result (λ settings. settings_read schema.now.fields text.now ≡ Ok settings) }
+    ensures read { IfOk result (λ settings.
+        settings_read schema.now.fields text.now ≡ Ok settings) }
     ensures halts { IfErr result
         (HaltsBy (Some (beside note.BadSettings text.now (settings_read schema.now.fields text.now)))) }
-    ensures no_device { ¬ (IsErrOf result (Halt.Fault Fault.Read) ⊎ IsErrOf result (Halt.Fault Fault.Write)) }
+    ensures no_device { ¬ (IsErrOf result (Halt.Fault Fault.Read)
+        ⊎ IsErrOf result (Halt.Fault Fault.Write)) }
 {
     match read_settings(alloc, schema, text) {
         Ok(settings) => Ok(settings),
@@ -142,7 +146,8 @@ fn read_settings_file<I: Shelf>(
 ) -> Result<(Bytes, Settings), Halt>
     requires { length schema.now.fields ≤ 64 }
     ensures read { IfOk result (λ r.
-        IfSome (I.held inputs.old) (λ files. settings_in schema.now file.now files ≡ Ok (r.0, r.1))) }
+        IfSome (I.held inputs.old) (λ files.
+        settings_in schema.now file.now files ≡ Ok (r.0, r.1))) }
     ensures short { IfOk result (λ r. length r.0 ≤ text_limit) }
     ensures halts { IfErr result
         (HaltsBy (option_map (settings_in schema.now file.now) (I.held inputs.old))) }
@@ -170,7 +175,8 @@ fn read_table<I: Shelf>(
     ensures made { IfOk result (λ new. IfSome (I.held inputs.old) (λ files.
         new_table schema.now settings.now files
         ≡ Ok (record { schema = new.schema; settings = new.settings }, new.table))) }
-    ensures fits { IfOk result (λ new. FitsTable (record { schema = new.schema; settings = new.settings })) }
+    ensures fits { IfOk result (λ new.
+        FitsTable (record { schema = new.schema; settings = new.settings })) }
     ensures halts { IfErr result
         (HaltsBy (option_map (new_table schema.now settings.now) (I.held inputs.old))) }
     ensures failed { IsErrOf result (Halt.Fault Fault.Read) →
@@ -195,16 +201,23 @@ fn read_table<I: Shelf>(
 fn make<D: Depot>(alloc: Global, new: &NewTable, depot: &mut D) -> Result<Reply, Fault>
     requires { FitsTable (record { schema = new.now.schema; settings = new.now.settings }) }
     ensures does { IfOk result (λ r. (answer : Answer)
-        × Creates (Ok (record { schema = new.now.schema; settings = new.now.settings }, new.now.table)) (D.held depot.old) answer (D.held depot.new)
+        × Creates (Ok (
+          record { schema = new.now.schema; settings = new.now.settings },
+          new.now.table,
+        )) (D.held depot.old) answer (D.held depot.new)
         × IsReply answer r) }
     ensures met { IfOk result (λ r. MayReply r) }
-    ensures refused { IfOk result (λ r. r.status ≢ Status.Done → D.held depot.new ≡ D.held depot.old) }
-    ensures exists { IfOk result (λ r. r.status ≡ Status.TableExists → Has (D.held depot.old) table_name) }
+    ensures refused { IfOk result (λ r.
+        r.status ≢ Status.Done → D.held depot.new ≡ D.held depot.old) }
+    ensures exists { IfOk result (λ r.
+        r.status ≡ Status.TableExists → Has (D.held depot.old) table_name) }
     ensures kept { OnErr result (D.held depot.new ≡ D.held depot.old) }
     ensures parts { SameBut table_name (D.parts depot.old) (D.parts depot.new) }
     ensures log { D.log depot.new ≡ D.log depot.old }
-    ensures read_failed { IsErrOf result Fault.Read → Rose (D.read_faults depot.old) (D.read_faults depot.new) }
-    ensures write_failed { IsErrOf result Fault.Write → Rose (D.write_faults depot.old) (D.write_faults depot.new) }
+    ensures read_failed { IsErrOf result Fault.Read
+        → Rose (D.read_faults depot.old) (D.read_faults depot.new) }
+    ensures write_failed { IsErrOf result Fault.Write
+        → Rose (D.write_faults depot.old) (D.write_faults depot.new) }
     ensures reads_later { D.read_faults depot.old ≤ D.read_faults depot.new }
     ensures writes_later { D.write_faults depot.old ≤ D.write_faults depot.new }
 {
@@ -228,16 +241,22 @@ pub fn create<I: Shelf, D: Depot>(
     depot: &mut D,
 ) -> Result<Reply, Fault>
     ensures does { IfOk result (λ r. IfSome (I.held inputs.old) (λ files. (answer : Answer)
-        × Creates (new_table schema.now settings.now files) (D.held depot.old) answer (D.held depot.new)
+        × Creates (new_table schema.now settings.now files) (D.held depot.old) answer
+        (D.held depot.new)
         × IsReply answer r)) }
     ensures met { IfOk result (λ r. MayReply r) }
-    ensures refused { IfOk result (λ r. r.status ≢ Status.Done → D.held depot.new ≡ D.held depot.old) }
-    ensures exists { IfOk result (λ r. r.status ≡ Status.TableExists → Has (D.held depot.old) table_name) }
+    ensures refused { IfOk result (λ r.
+        r.status ≢ Status.Done → D.held depot.new ≡ D.held depot.old) }
+    ensures exists { IfOk result (λ r.
+        r.status ≡ Status.TableExists → Has (D.held depot.old) table_name) }
     ensures kept { OnErr result (D.held depot.new ≡ D.held depot.old) }
     ensures stored_parts { SameBut table_name (D.parts depot.old) (D.parts depot.new) }
     ensures stored_log { D.log depot.new ≡ D.log depot.old }
-    ensures read_failed { IsErrOf result Fault.Read → Rose (I.read_faults inputs.old) (I.read_faults inputs.new) ⊎ Rose (D.read_faults depot.old) (D.read_faults depot.new) }
-    ensures write_failed { IsErrOf result Fault.Write → Rose (D.write_faults depot.old) (D.write_faults depot.new) }
+    ensures read_failed { IsErrOf result Fault.Read
+        → Rose (I.read_faults inputs.old) (I.read_faults inputs.new)
+        ⊎ Rose (D.read_faults depot.old) (D.read_faults depot.new) }
+    ensures write_failed { IsErrOf result Fault.Write
+        → Rose (D.write_faults depot.old) (D.write_faults depot.new) }
     ensures stored_reads { D.read_faults depot.old ≤ D.read_faults depot.new }
     ensures stored_writes { D.write_faults depot.old ≤ D.write_faults depot.new }
     ensures held { I.held inputs.new ≡ I.held inputs.old }
@@ -265,16 +284,22 @@ fn create_new<I: Shelf, D: Depot>(
 ) -> Result<Reply, Fault>
     requires { Lacks (D.held depot.old) table_name }
     ensures does { IfOk result (λ r. IfSome (I.held inputs.old) (λ files. (answer : Answer)
-        × Creates (new_table schema.now settings.now files) (D.held depot.old) answer (D.held depot.new)
+        × Creates (new_table schema.now settings.now files) (D.held depot.old) answer
+        (D.held depot.new)
         × IsReply answer r)) }
     ensures met { IfOk result (λ r. MayReply r) }
-    ensures refused { IfOk result (λ r. r.status ≢ Status.Done → D.held depot.new ≡ D.held depot.old) }
-    ensures exists { IfOk result (λ r. r.status ≡ Status.TableExists → Has (D.held depot.old) table_name) }
+    ensures refused { IfOk result (λ r.
+        r.status ≢ Status.Done → D.held depot.new ≡ D.held depot.old) }
+    ensures exists { IfOk result (λ r.
+        r.status ≡ Status.TableExists → Has (D.held depot.old) table_name) }
     ensures kept { OnErr result (D.held depot.new ≡ D.held depot.old) }
     ensures stored_parts { SameBut table_name (D.parts depot.old) (D.parts depot.new) }
     ensures stored_log { D.log depot.new ≡ D.log depot.old }
-    ensures read_failed { IsErrOf result Fault.Read → Rose (I.read_faults inputs.old) (I.read_faults inputs.new) ⊎ Rose (D.read_faults depot.old) (D.read_faults depot.new) }
-    ensures write_failed { IsErrOf result Fault.Write → Rose (D.write_faults depot.old) (D.write_faults depot.new) }
+    ensures read_failed { IsErrOf result Fault.Read
+        → Rose (I.read_faults inputs.old) (I.read_faults inputs.new)
+        ⊎ Rose (D.read_faults depot.old) (D.read_faults depot.new) }
+    ensures write_failed { IsErrOf result Fault.Write
+        → Rose (D.write_faults depot.old) (D.write_faults depot.new) }
     ensures stored_reads { D.read_faults depot.old ≤ D.read_faults depot.new }
     ensures stored_writes { D.write_faults depot.old ≤ D.write_faults depot.new }
     ensures held { I.held inputs.new ≡ I.held inputs.old }

@@ -134,7 +134,9 @@ impl Reply {
 
     // Ends a note line by what is wrong at a key.
     fn end_at_key(&mut self, kind: KeyKind, path: &[u8]) -> Result<(), AllocError>
-        ensures note { OnOk result (self.new.note.items ≡ self.old.note.items ++ spec.key_text kind ++ spec.path_text path.now ++ codes "\n") }
+        ensures note { OnOk result
+            (self.new.note.items ≡ self.old.note.items ++ spec.key_text kind ++ spec.path_text
+            path.now ++ codes "\n") }
         ensures status { self.new.status ≡ self.old.status }
         ensures text { self.new.text ≡ self.old.text }
     {
@@ -192,7 +194,8 @@ impl Reply {
 
     // A refusal whose note line begins so.
     fn refused(alloc: Global, status: Status, note: &[u8]) -> Result<Self, AllocError>
-        ensures { IfOk result (λ r. (r.status ≡ status) × (r.text.items ≡ []) × (r.note.items ≡ note.now)) }
+        ensures { IfOk result (λ r.
+            (r.status ≡ status) × (r.text.items ≡ []) × (r.note.items ≡ note.now)) }
     {
         Ok(Reply {
             status,

@@ -16,7 +16,8 @@ pub fn has_table<D: Depot>(alloc: Global, depot: &mut D) -> Result<bool, StoreFa
     ensures no { result ≡ Ok false → Lacks (D.held depot.old) table_name }
     ensures failed { IsErrOf result StoreFault.ReadFault →
         Rose (D.read_faults depot.old) (D.read_faults depot.new) }
-    ensures only { OnErr result (IsErrOf result StoreFault.ReadFault ⊎ IsErrOf result StoreFault.NoMemory) }
+    ensures only { OnErr result
+        (IsErrOf result StoreFault.ReadFault ⊎ IsErrOf result StoreFault.NoMemory) }
     ensures held { D.held depot.new ≡ D.held depot.old }
     ensures parts { D.parts depot.new ≡ D.parts depot.old }
     ensures log { D.log depot.new ≡ D.log depot.old }
@@ -41,7 +42,8 @@ pub fn create_table<D: Depot>(
 ) -> Result<(), StoreFault>
     requires { FitsTable (record { schema = schema.now; settings = settings.now }) }
     ensures created { OnOk result (D.held depot.new
-        ≡ with_file table_name (table_file (record { schema = schema.now; settings = settings.now })) (D.held depot.old)) }
+        ≡ with_file table_name (table_file
+        (record { schema = schema.now; settings = settings.now })) (D.held depot.old)) }
     ensures was_none { OnOk result (Lacks (D.held depot.old) table_name) }
     ensures kept { OnErr result (D.held depot.new ≡ D.held depot.old) }
     ensures exists { IsErrOf result StoreFault.TableExists → Has (D.held depot.old) table_name }
@@ -49,12 +51,15 @@ pub fn create_table<D: Depot>(
         Rose (D.read_faults depot.old) (D.read_faults depot.new) }
     ensures write_failed { IsErrOf result StoreFault.WriteFault →
         Rose (D.write_faults depot.old) (D.write_faults depot.new) }
-    ensures only { OnErr result (IsErrOf result StoreFault.TableExists ⊎ IsErrOf result StoreFault.ReadFault
+    ensures only { OnErr result
+        (IsErrOf result StoreFault.TableExists ⊎ IsErrOf result StoreFault.ReadFault
         ⊎ IsErrOf result StoreFault.WriteFault ⊎ IsErrOf result StoreFault.NoMemory) }
-    ensures part_gone { OnOk result (D.parts depot.new ≡ without_file table_name (D.parts depot.old)) }
+    ensures part_gone { OnOk result
+        (D.parts depot.new ≡ without_file table_name (D.parts depot.old)) }
     ensures other_parts { SameBut table_name (D.parts depot.old) (D.parts depot.new) }
-    ensures untouched { IsErrOf result StoreFault.TableExists ⊎ IsErrOf result StoreFault.ReadFault →
-        (D.parts depot.new ≡ D.parts depot.old) × (D.write_faults depot.new ≡ D.write_faults depot.old) }
+    ensures untouched { IsErrOf result StoreFault.TableExists ⊎ IsErrOf result StoreFault.ReadFault
+        → (D.parts depot.new ≡ D.parts depot.old)
+        × (D.write_faults depot.new ≡ D.write_faults depot.old) }
     ensures log { D.log depot.new ≡ D.log depot.old }
     ensures reads_later { D.read_faults depot.old ≤ D.read_faults depot.new }
     ensures writes_later { D.write_faults depot.old ≤ D.write_faults depot.new }
@@ -73,7 +78,8 @@ pub fn create_table<D: Depot>(
 
 // Writes the file of the table, as a part of the same name that is published.
 fn publish_file<D: Depot>(alloc: Global, depot: &mut D, file: &[u8]) -> Result<(), DepotFault>
-    ensures published { OnOk result (D.held depot.new ≡ with_file table_name file.now (D.held depot.old)) }
+    ensures published { OnOk result
+        (D.held depot.new ≡ with_file table_name file.now (D.held depot.old)) }
     ensures kept { OnErr result (D.held depot.new ≡ D.held depot.old) }
     ensures gone { OnOk result (D.parts depot.new ≡ without_file table_name (D.parts depot.old)) }
     ensures other_parts { SameBut table_name (D.parts depot.old) (D.parts depot.new) }

@@ -31,7 +31,8 @@ fn of_text(fault: TextFault) -> StoreFault
 // The table that a file is of.
 fn read_table(alloc: Global, file: &[u8]) -> Result<Table, StoreFault>
     ensures ok { IfOk result (IsTableFile file.now) }
-    ensures err { IfErr result (λ fault. fault ≢ NoMemory → (fault ≡ NotASegment part.Table) × IsNoTableFile file.now) }
+    ensures err { IfErr result (λ fault.
+        fault ≢ NoMemory → (fault ≡ NotASegment part.Table) × IsNoTableFile file.now) }
 {
     let Some((schema, settings)) = texts_of(file) else {
         return Err(StoreFault::NotASegment(Part::Table));

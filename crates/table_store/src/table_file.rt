@@ -44,7 +44,8 @@ fn push_text(file: &mut Vec<u8>, text: &[u8]) -> Result<(), AllocError>
 pub fn texts_of(file: &[u8]) -> Option<(&[u8], &[u8])>
     ensures { MatchOption result
         ((texts : state.Table) → FitsTable texts → file.now ≢ table_file texts)
-        (λ t. let texts : state.Table = record { schema = t.0.now; settings = t.1.now } in FitsTable texts × (file.now ≡ table_file texts)) }
+        (λ t. let texts : state.Table = record { schema = t.0.now; settings = t.1.now } in
+        FitsTable texts × (file.now ≡ table_file texts)) }
 {
     let rest = file.strip_prefix(MAGIC)?;
     let (schema, rest) = split_text(rest)?;
