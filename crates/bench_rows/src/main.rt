@@ -8,6 +8,7 @@ use std::{env, io};
 use table_schema::read_schema;
 
 const SCHEMA_LIMIT: u64 = 1_048_576;
+
 const CSV_LIMIT: u64 = 134_217_728;
 
 // How many rows the CSV file has, unless one of the files is refused.
