@@ -1,5 +1,5 @@
 -- Where there are too many.
-use Rattle.std.proofs.Common.{◌≡◌, ◌⊎◌, inl, inr, ℕ, suc, ◌+◌, ◌≤◌, ◌<◌, nat_lt, nat_le, ◌==◌, Bool, true, false, ◌||◌, cond, List, [], ◌∷◌, ◌++◌, length, length-append, map, Some, None, refl, ap, ◌∙◌, arith, rules, tests}
+use Rattle.std.proofs.Common.{◌≡◌, ◌⊎◌, inl, inr, ℕ, suc, ◌+◌, ◌≤◌, ◌<◌, nat_lt, nat_le, ◌==◌, Bool, true, false, ◌||◌, cond, List, [], ◌∷◌, ◌++◌, length, length-append, map, Some, None, Ok, refl, sym, ap, ◌∙◌, subst, arith, rules, tests}
 use Rattle.table_schema.specs.declared.query.Agg.{Agg}
 use Rattle.query_bind.specs.declared.fault.BindReason.TheVariants.{TooMany}
 use Rattle.query_bind.specs.declared.fault.BindFault.TheVariants.{At}
@@ -8,10 +8,19 @@ use Rattle.query_bind.specs.declared.terms.Meaning.TheVariants as meaning
 use Rattle.query_bind.specs.declared.terms.TermAt.{TermAt}
 use Rattle.query_bind.specs.declared.terms.KeyAt.{KeyAt}
 use Rattle.query_bind.specs.declared.terms.ColumnAt.{ColumnAt}
-use Rattle.query_bind.specs.Faults.{Finding, or_else, fault_if}
-use Rattle.query_bind.specs.Terms.{with_new, with_column, columns_from, same_agg, with_agg, aggs_from}
-use Rattle.query_bind.specs.Limits.{aggs_finding, groups_finding, keys_finding}
-use Rattle.query_bind.specs.Firsts.{FewGroups, FewAggs, FewKeys, FirstGroup, FirstAgg, FirstKey}
+use Rattle.query_bind.specs.Faults.{Finding, or_else, fault_if, first_of}
+use Rattle.query_bind.specs.Terms.{terms_of, with_new, with_column, columns_from, same_agg, with_agg, aggs_from, groups_of, aggs_of}
+use Rattle.query_bind.specs.Limits.{aggs_finding, groups_finding, keys_finding, limits_finding}
+use Rattle.std.proofs.lemmas.Bool.{ltb-false, leb-false}
+use Rattle.std.proofs.lemmas.Option.{none-some}
+use Rattle.table_schema.specs.declared.table.Table.{Table}
+use Rattle.query_parser.specs.declared.tree.Query.{Query}
+use Rattle.query_bind.specs.declared.terms.Terms.{Terms}
+use Rattle.query_bind.specs.Names.{table_finding, names_finding}
+use Rattle.query_bind.specs.Grouped.{aggregate_finding, grouped_finding}
+use Rattle.query_bind.specs.Bound.{Bound, bound_of, bound, query_finding, item_of, keys_of}
+use Rattle.query_bind.proofs.PlaceLemmas.{none_first, none_later, answered}
+use Rattle.query_bind.specs.Firsts.{LimitsAreKept, FewGroups, FewAggs, FewKeys, FirstGroup, FirstAgg, FirstKey}
 
 -- ---- lists without repeats only grow
 
@@ -146,3 +155,75 @@ few_keys = λ aggs ks some few. few_keys_from 0 aggs ks (omega (arith, some)) fe
 
 pub first_key : FirstKey
 first_key = λ aggs before k after some few many. first_key_from 0 aggs before k after (omega (arith, some)) few (from_0 (length before) many)
+
+-- ---- what is kept where none is too many
+
+within_by : (m k at : ℕ) (b : Bool) → nat_lt m k ≡ b → fault_if b TooMany at ≡ None → k ≤ m
+within_by m k at true e passes = absurd (none-some (At TooMany at) (sym passes))
+within_by m k at false e passes = ltb-false m k e
+
+within : (m k at : ℕ) → fault_if (nat_lt m k) TooMany at ≡ None → k ≤ m
+within m k at passes = within_by m k at (nat_lt m k) refl passes
+
+both_by : (others k at : ℕ) (a b : Bool) → nat_le 16 others ≡ a → nat_lt 16 k ≡ b → fault_if (a || b) TooMany at ≡ None → (others < 16) × (k ≤ 16)
+both_by others k at true b e f passes = absurd (none-some (At TooMany at) (sym passes))
+both_by others k at false true e f passes = absurd (none-some (At TooMany at) (sym passes))
+both_by others k at false false e f passes = (leb-false 16 others e, ltb-false 16 k f)
+
+small_groups : (kept : List ℕ) (ns : List ColumnAt) → length kept ≤ 8 → groups_finding kept ns ≡ None → length (columns_from kept ns) ≤ 8
+small_groups kept [] room passes = room
+small_groups kept (n ∷ ns) room passes =
+    let here = fault_if (nat_lt 8 (length (with_column kept n.column))) TooMany n.offset in
+    small_groups (with_column kept n.column) ns (within 8 (length (with_column kept n.column)) n.offset (none_first here _ passes)) (none_later here _ passes)
+
+small_aggs : (kept : List Agg) (ts : List TermAt) → length kept ≤ 16 → aggs_finding kept ts ≡ None → length (aggs_from kept ts) ≤ 16
+small_aggs kept [] room passes = room
+small_aggs kept (t ∷ ts) room passes =
+    let here = fault_if (nat_lt 16 (length (with_agg kept t.meaning))) TooMany t.offset in
+    small_aggs (with_agg kept t.meaning) ts (within 16 (length (with_agg kept t.meaning)) t.offset (none_first here _ passes)) (none_later here _ passes)
+
+small_keys : (others : ℕ) (kept : List Agg) (ks : List KeyAt) → others ≤ 16 → length kept ≤ 16 → keys_finding others kept ks ≡ None
+    → (length (aggs_from kept (map (λ k. k.term) ks)) ≤ 16) × (others + length ks ≤ 16)
+small_keys others kept [] some room passes = (room, omega (arith, some))
+small_keys others kept (k ∷ ks) some room passes =
+    let len = length (with_agg kept k.term.meaning) in
+    let here = fault_if (nat_le 16 others || nat_lt 16 len) TooMany k.term.offset in
+    let parts = both_by others len k.term.offset (nat_le 16 others) (nat_lt 16 len) refl refl (none_first here _ passes) in
+    let rest = small_keys (others + 1) (with_agg kept k.term.meaning) ks (omega (arith, parts.0)) parts.1 (none_later here _ passes) in
+    (rest.0, omega (arith, rest.1))
+
+as_many_keys : (groups : List ℕ) (aggs : List Agg) (ks : List KeyAt) → length (keys_of groups aggs ks) ≡ length ks
+as_many_keys groups aggs [] = refl
+as_many_keys groups aggs (k ∷ ks) = ap suc (as_many_keys groups aggs ks)
+
+module _ (table : Table) (any_table : Bool) (q : Query) (b : Bound) (is : bound table any_table q ≡ Ok b) where
+  abbrev terms : Terms
+  terms = terms_of table.schema.fields q
+
+  own : (query_finding table any_table q ≡ None) × (bound_of table.schema.fields q ≡ b)
+  own = answered (query_finding table any_table q) (bound_of table.schema.fields q) b is
+
+  limits : limits_finding terms ≡ None
+  limits = none_first (limits_finding terms) _ (none_later (grouped_finding q) _ (none_later (aggregate_finding q) _
+      (none_later (names_finding table.schema.fields q) _ (none_later (table_finding table any_table q) _ own.0))))
+
+  behind_aggs : first_of (groups_finding [] terms.groups ∷ keys_finding 0 (aggs_from [] terms.items) terms.keys ∷ []) ≡ None
+  behind_aggs = none_later (aggs_finding [] terms.items) _ limits
+
+  keys : (length (aggs_of terms) ≤ 16) × (0 + length terms.keys ≤ 16)
+  keys = small_keys 0 (aggs_from [] terms.items) terms.keys (omega arith)
+      (small_aggs [] terms.items (omega arith) (none_first (aggs_finding [] terms.items) _ limits))
+      (none_first (keys_finding 0 (aggs_from [] terms.items) terms.keys) _ (none_later (groups_finding [] terms.groups) _ behind_aggs))
+
+  kept : (length (groups_of terms) ≤ 8) × (length (aggs_of terms) ≤ 16) × (length (keys_of (groups_of terms) (aggs_of terms) terms.keys) ≤ 16)
+  kept = (
+      small_groups [] terms.groups (omega arith) (none_first (groups_finding [] terms.groups) _ behind_aggs),
+      keys.0,
+      omega (arith, keys.1, as_many_keys (groups_of terms) (aggs_of terms) terms.keys),
+    )
+
+  limits_kept : (length b.groups ≤ 8) × (length b.aggs ≤ 16) × (length b.order ≤ 16)
+  limits_kept = subst (λ x. (length x.groups ≤ 8) × (length x.aggs ≤ 16) × (length x.order ≤ 16)) own.1 kept
+
+pub limits_are_kept : LimitsAreKept
+limits_are_kept = λ table any_table q b is. limits_kept table any_table q b is

@@ -3,7 +3,7 @@
 ghost use Rattle.query_bind.specs.Places.{ItemsAreTerms, KeysAreTerms, ALabelAnItem};
 ghost use Rattle.query_bind.specs.Once.{GroupsStandOnce, GroupsAreNamed, AggsStandOnce, AggsAreWritten};
 ghost use Rattle.query_bind.specs.Within.{GroupsAreIn, AggsAreIn, ConjunctsAreIn};
-ghost use Rattle.query_bind.specs.Firsts.{FewGroups, FewAggs, FewKeys, FirstGroup, FirstAgg, FirstKey};
+ghost use Rattle.query_bind.specs.Firsts.{LimitsAreKept, FewGroups, FewAggs, FewKeys, FirstGroup, FirstAgg, FirstKey};
 
 /// At the place of each item stands what its term is.
 pub fn items_law()
@@ -56,4 +56,9 @@ pub fn fields_law()
     ensures groups { GroupsAreIn }
     ensures aggs { AggsAreIn }
     ensures conjuncts { ConjunctsAreIn }
+{}
+
+/// At most 8 group columns, 16 aggregates and 16 keys are kept.
+pub fn limits_law()
+    ensures { LimitsAreKept }
 {}

@@ -8,10 +8,11 @@ use std::test::Fail;
 use table_schema::{Agg, BoundQuery, Conjunct, Item, Table, Wide, read_schema, read_settings};
 use values::{CompareOp, Test, Value};
 
-/// The texts of a table.
+/// The texts of a table, and whether conditions are shown in place of whole queries.
 pub struct TestTable {
     pub schema: &'static str,
     pub settings: &'static str,
+    pub conditions: bool,
 }
 
 fn read(alloc: Global, table: &TestTable) -> Result<Table, Fail> {
@@ -51,31 +52,33 @@ fn bound(
     }
 }
 
-/// What comes of a text, whose FROM has to name the table.
-pub fn outcome(alloc: Global, table: &TestTable, text: &str) -> Result<String, Fail> {
-    let table = read(alloc, table)?;
-    match bound(alloc, &table, text, false)? {
-        Ok(query) => {
-            let mut out = String::new(alloc);
-            show_query(&mut out, &query)?;
-            Ok(out)
-        }
+/// What comes of a query whose FROM has to name the table; or the conjuncts of a condition, where
+/// FROM names another table.
+pub fn found(alloc: Global, table: &TestTable, text: &str) -> Result<String, Fail> {
+    if table.conditions {
+        let query = format!(in alloc; "SELECT COUNT(*) FROM any WHERE {text}")?;
+        shown(alloc, table, query.as_str())
+    } else {
+        shown(alloc, table, text)
+    }
+}
+
+fn shown(alloc: Global, table: &TestTable, text: &str) -> Result<String, Fail> {
+    let of = read(alloc, table)?;
+    match bound(alloc, &of, text, table.conditions)? {
+        Ok(query) => Ok(show(alloc, table.conditions, &query)?),
         Err(fault) => Ok(fault),
     }
 }
 
-/// The conjuncts of a condition, where FROM names another table.
-pub fn conjuncts(alloc: Global, table: &TestTable, condition: &str) -> Result<String, Fail> {
-    let table = read(alloc, table)?;
-    let text = format!(in alloc; "SELECT COUNT(*) FROM any WHERE {condition}")?;
-    match bound(alloc, &table, text.as_str(), true)? {
-        Ok(query) => {
-            let mut out = String::new(alloc);
-            show_conjuncts(&mut out, &query)?;
-            Ok(out)
-        }
-        Err(fault) => Ok(fault),
+fn show(alloc: Global, conditions: bool, query: &BoundQuery) -> Result<String, AllocError> {
+    let mut out = String::new(alloc);
+    if conditions {
+        show_conjuncts(&mut out, query)?;
+    } else {
+        show_query(&mut out, query)?;
     }
+    Ok(out)
 }
 
 fn show_value(out: &mut String, value: &Value) -> Result<(), AllocError> {
