@@ -24,9 +24,12 @@ pub record Gave (reply : Reply) (ended : Status) (out out_new notes notes_new : 
   pub noted : ended ≡ reply.status → notes_new ≡ appended reply.note.items notes
   pub met : is_fault reply.status ≡ false
 
--- where the input files are told, the reply is the answer of what was done
+-- the reply is the answer of what was done over these input files
+abbrev pub DidOver : Option Command → Option Files → Option Files → Reply → Files → Type 0
+DidOver command stored stored_new reply files = (answer : Answer) × Does command files stored answer stored_new × IsReply answer reply
+
 abbrev pub Did : Option Command → Option Files → Option Files → Option Files → Reply → Type 0
-Did command held stored stored_new reply = IfSome held (λ files. (answer : Answer) × Does command files stored answer stored_new × IsReply answer reply)
+Did command held stored stored_new reply = IfSome held (DidOver command stored stored_new reply)
 
 -- what holds of all files holds of those that are told
 each_told : (held : Option Files) (P Q : Files → Type 0) → ((files : Files) → P files → Q files) → IfSome held P → IfSome held Q
@@ -75,17 +78,17 @@ module _ (reply : Reply) (ended : Status) (out out_new notes notes_new : Option 
   module _ (command : Option Command) (held stored stored_new : Option Files) (did : Did command held stored stored_new reply) where
     pub gave-does : is_fault ended ≡ false → IfSome held (λ files. IsDone command files ended stored stored_new out out_new notes notes_new)
     gave-does fine =
-        each_told held (λ files. (answer : Answer) × Does command files stored answer stored_new × IsReply answer reply) (λ files. IsDone command files ended stored stored_new out out_new notes notes_new)
+        each_told held (DidOver command stored stored_new reply) (λ files. IsDone command files ended stored stored_new out out_new notes notes_new)
         (λ files (answer, does, is). record { answer = answer; does = does; answers = answers answer is (as_replied fine) }) did
 
     pub gave-cut : IfSome held (λ files. IsCut command files stored stored_new out out_new)
     gave-cut =
-        each_told held (λ files. (answer : Answer) × Does command files stored answer stored_new × IsReply answer reply) (λ files. IsCut command files stored stored_new out out_new)
+        each_told held (DidOver command stored stored_new reply) (λ files. IsCut command files stored stored_new out out_new)
         (λ files (answer, does, is). record { answer = answer; does = does; out = cut_text answer is }) did
 
     pub gave-whole : ¬ RO → IfSome held (λ files. IsWhole command files stored stored_new out out_new)
     gave-whole none =
-        each_told held (λ files. (answer : Answer) × Does command files stored answer stored_new × IsReply answer reply) (λ files. IsWhole command files stored stored_new out out_new)
+        each_told held (DidOver command stored stored_new reply) (λ files. IsWhole command files stored stored_new out out_new)
         (λ files (answer, does, is). record { answer = answer; does = does; out = gave.all none ∙ ap (λ text. appended text out) is.text }) did
 
     -- what was done is the step on the state
@@ -95,28 +98,28 @@ module _ (reply : Reply) (ended : Status) (out out_new notes notes_new : Option 
 
     pub gave-step : is_fault ended ≡ false → WhereStands held stored (λ before files. IsStep (step_of before command files) ended out out_new notes notes_new stored_new)
     gave-step fine =
-        where_told held stored (λ files. (answer : Answer) × Does command files stored answer stored_new × IsReply answer reply) (λ before files. IsStep (step_of before command files) ended out out_new notes notes_new stored_new)
+        where_told held stored (DidOver command stored stored_new reply) (λ before files. IsStep (step_of before command files) ended out out_new notes notes_new stored_new)
         (λ files kept before told stands (answer, does, is).
         let s = stepped files kept before told stands answer does in
         record { answers = subst (λ a. IsAnswer a ended out out_new notes notes_new) s.0 (answers answer is (as_replied fine)); stands = s.1 }) did
 
     pub gave-left : WhereStands held stored (λ before files. IsLeft (step_of before command files) stored_new out out_new)
     gave-left =
-        where_told held stored (λ files. (answer : Answer) × Does command files stored answer stored_new × IsReply answer reply) (λ before files. IsLeft (step_of before command files) stored_new out out_new)
+        where_told held stored (DidOver command stored stored_new reply) (λ before files. IsLeft (step_of before command files) stored_new out out_new)
         (λ files kept before told stands (answer, does, is).
         let s = stepped files kept before told stands answer does in
         record { stands = s.1; out = subst (λ a. AppendsPrefix (text_of a) out out_new) s.0 (cut_text answer is) }) did
 
     pub gave-either : (U : Type 0) → WhereStands held stored (λ before files. U ⊎ IsLeft (step_of before command files) stored_new out out_new)
     gave-either U =
-        where_told held stored (λ files. (answer : Answer) × Does command files stored answer stored_new × IsReply answer reply) (λ before files. U ⊎ IsLeft (step_of before command files) stored_new out out_new)
+        where_told held stored (DidOver command stored stored_new reply) (λ before files. U ⊎ IsLeft (step_of before command files) stored_new out out_new)
         (λ files kept before told stands (answer, does, is).
         let s = stepped files kept before told stands answer does in
         inr (record { stands = s.1; out = subst (λ a. AppendsPrefix (text_of a) out out_new) s.0 (cut_text answer is) })) did
 
     pub gave-complete : (RI RD RW : Type 0) → WhereStands held stored (λ before files. ¬ RI → ¬ RD → ¬ RW → ¬ RO → ¬ RN → (ended ≡ status_after (step_of before command files).answer) ⊎ (ended ≡ status.NoMemory))
     gave-complete RI RD RW =
-        where_told held stored (λ files. (answer : Answer) × Does command files stored answer stored_new × IsReply answer reply)
+        where_told held stored (DidOver command stored stored_new reply)
         (λ before files. ¬ RI → ¬ RD → ¬ RW → ¬ RO → ¬ RN → (ended ≡ status_after (step_of before command files).answer) ⊎ (ended ≡ status.NoMemory))
         (λ files kept before told stands (answer, does, is) i d w o n.
         let s = stepped files kept before told stands answer does in

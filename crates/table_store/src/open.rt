@@ -4,9 +4,7 @@ ghost use Rattle.std.specs.Prelude.{◌≡◌, ◌≢◌, ◌≤◌, IfOk, IfErr
 ghost use Rattle.outside.specs.Counts.{Rose};
 ghost use Rattle.outside.specs.Files.{Has, Lacks, OfFile};
 ghost use Rattle.outside.specs.Whole.{LogsFront};
-ghost use Rattle.table_schema.specs.Valid.{IsValidSchema};
-ghost use Rattle.table_schema.specs.ValidSettings.{IsValidSettings};
-ghost use Rattle.table_store.specs.Accepted.{IsNoTableFile, IsTableFile};
+ghost use Rattle.table_store.specs.Accepted.{IsNoTableFile, IsTableFile, IsValidTable};
 ghost use Rattle.table_store.specs.TableFile.{file_limit, table_name};
 ghost use Rattle.table_store.specs.declared.fault.Part.TheVariants as part;
 ghost use Rattle.table_store.specs.declared.fault.StoreFault.TheVariants.{NoMemory, NotASegment};
@@ -31,6 +29,7 @@ fn of_text(fault: TextFault) -> StoreFault
 // The table that a file is of.
 fn read_table(alloc: Global, file: &[u8]) -> Result<Table, StoreFault>
     ensures ok { IfOk result (IsTableFile file.now) }
+    ensures valid { IfOk result (λ table. IsValidTable table) }
     ensures err { IfErr result (λ fault.
         fault ≢ NoMemory → (fault ≡ NotASegment part.Table) × IsNoTableFile file.now) }
 {
@@ -52,6 +51,7 @@ fn read_table(alloc: Global, file: &[u8]) -> Result<Table, StoreFault>
 pub fn open_table<D: Depot>(alloc: Global, depot: &mut D) -> Result<Table, StoreFault>
     ensures table { IfOk result (λ table.
         OfFile (D.held depot.old) table_name (λ bytes. IsTableFile bytes table)) }
+    ensures valid { IfOk result (λ table. IsValidTable table) }
     ensures none { IsErrOf result StoreFault.NoTable → Lacks (D.held depot.old) table_name }
     ensures other { IsErrOf result (StoreFault.NotASegment Part.Table) →
         OfFile (D.held depot.old) table_name IsNoTableFile }
