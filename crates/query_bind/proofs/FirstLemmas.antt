@@ -217,10 +217,10 @@ module _ (table : Table) (any_table : Bool) (q : Query) (b : Bound) (is : bound 
 
   kept : (length (groups_of terms) ≤ 8) × (length (aggs_of terms) ≤ 16) × (length (keys_of (groups_of terms) (aggs_of terms) terms.keys) ≤ 16)
   kept = (
-      small_groups [] terms.groups (omega arith) (none_first (groups_finding [] terms.groups) _ behind_aggs),
-      keys.0,
-      omega (arith, keys.1, as_many_keys (groups_of terms) (aggs_of terms) terms.keys),
-    )
+    small_groups [] terms.groups (omega arith) (none_first (groups_finding [] terms.groups) _ behind_aggs),
+    keys.0,
+    omega (arith, keys.1, as_many_keys (groups_of terms) (aggs_of terms) terms.keys),
+  )
 
   limits_kept : (length b.groups ≤ 8) × (length b.aggs ≤ 16) × (length b.order ≤ 16)
   limits_kept = subst (λ x. (length x.groups ≤ 8) × (length x.aggs ≤ 16) × (length x.order ≤ 16)) own.1 kept
