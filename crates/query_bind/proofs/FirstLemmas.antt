@@ -18,7 +18,7 @@ use Rattle.query_parser.specs.declared.tree.Query.{Query}
 use Rattle.query_bind.specs.declared.terms.Terms.{Terms}
 use Rattle.query_bind.specs.Names.{table_finding, names_finding}
 use Rattle.query_bind.specs.Grouped.{aggregate_finding, grouped_finding}
-use Rattle.query_bind.specs.Bound.{Bound, bound_of, bound, query_finding, item_of, keys_of}
+use Rattle.query_bind.specs.Bound.{Bound, bound_of, bound, query_finding, keys_of}
 use Rattle.query_bind.proofs.PlaceLemmas.{none_first, none_later, answered}
 use Rattle.query_bind.specs.Firsts.{LimitsAreKept, FewGroups, FewAggs, FewKeys, FirstGroup, FirstAgg, FirstKey}
 
@@ -217,10 +217,10 @@ module _ (table : Table) (any_table : Bool) (q : Query) (b : Bound) (is : bound 
 
   kept : (length (groups_of terms) ≤ 8) × (length (aggs_of terms) ≤ 16) × (length (keys_of (groups_of terms) (aggs_of terms) terms.keys) ≤ 16)
   kept = (
-      small_groups [] terms.groups (omega arith) (none_first (groups_finding [] terms.groups) _ behind_aggs),
-      keys.0,
-      omega (arith, keys.1, as_many_keys (groups_of terms) (aggs_of terms) terms.keys),
-    )
+    small_groups [] terms.groups (omega arith) (none_first (groups_finding [] terms.groups) _ behind_aggs),
+    keys.0,
+    omega (arith, keys.1, as_many_keys (groups_of terms) (aggs_of terms) terms.keys),
+  )
 
   limits_kept : (length b.groups ≤ 8) × (length b.aggs ≤ 16) × (length b.order ≤ 16)
   limits_kept = subst (λ x. (length x.groups ≤ 8) × (length x.aggs ≤ 16) × (length x.order ≤ 16)) own.1 kept
