@@ -18,7 +18,7 @@ use Rattle.query_parser.specs.declared.tree.Query.{Query}
 use Rattle.query_bind.specs.declared.terms.Terms.{Terms}
 use Rattle.query_bind.specs.Names.{table_finding, names_finding}
 use Rattle.query_bind.specs.Grouped.{aggregate_finding, grouped_finding}
-use Rattle.query_bind.specs.Bound.{Bound, bound_of, bound, query_finding, item_of, keys_of}
+use Rattle.query_bind.specs.Bound.{Bound, bound_of, bound, query_finding, keys_of}
 use Rattle.query_bind.proofs.PlaceLemmas.{none_first, none_later, answered}
 use Rattle.query_bind.specs.Firsts.{LimitsAreKept, FewGroups, FewAggs, FewKeys, FirstGroup, FirstAgg, FirstKey}
 

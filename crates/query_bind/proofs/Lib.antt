@@ -7,3 +7,4 @@ mod PlaceLemmas
 pub mod RowLemmas
 pub mod WideLemmas
 mod WithinLemmas
+mod FitLemmas

@@ -3,6 +3,7 @@
 ghost use Rattle.query_bind.specs.Places.{ItemsAreTerms, KeysAreTerms, ALabelAnItem};
 ghost use Rattle.query_bind.specs.Once.{GroupsStandOnce, GroupsAreNamed, AggsStandOnce, AggsAreWritten};
 ghost use Rattle.query_bind.specs.Within.{GroupsAreIn, AggsAreIn, ConjunctsAreIn};
+ghost use Rattle.query_bind.specs.Fits.{ConjunctsFit};
 ghost use Rattle.query_bind.specs.Firsts.{LimitsAreKept, FewGroups, FewAggs, FewKeys, FirstGroup, FirstAgg, FirstKey};
 
 /// At the place of each item stands what its term is.
@@ -61,4 +62,9 @@ pub fn fields_law()
 /// At most 8 group columns, 16 aggregates and 16 keys are kept.
 pub fn limits_law()
     ensures { LimitsAreKept }
+{}
+
+/// Values in tests have the type of their field.
+pub fn values_law()
+    ensures { ConjunctsFit }
 {}
