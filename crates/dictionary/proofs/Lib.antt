@@ -1,0 +1,10 @@
+pub mod Ascending
+pub mod Distinct
+pub mod Found
+pub mod Spells
+pub mod Written
+pub mod Bytes
+pub mod Numbers
+pub mod Progress
+pub mod Texts
+pub mod IdLemmas

@@ -1,0 +1,8 @@
+use Rattle.std.proofs.Common.{◌∙◌}
+use Rattle.dictionary.proofs.Distinct.{sees_more}
+use Rattle.dictionary.proofs.dictionary.first_sights.Goals as goal
+
+pub loop-value-preserved : goal.loop-value-preserved
+loop-value-preserved c =
+    sees_more c.args.column.now c.loop-value.seen.keys c.insert.new.self.keys c.loop-value.value-index c.in_ok-shared.field-0 c.value-item.result c.loop-value-test.true c.in_ok-insert.ensures.keys
+    (c.in_ok-shared.ensures.same ∙ c.value-item.is) c.in_ok-shared.ensures.unicode c.loop-value.invariant

@@ -1,0 +1,4 @@
+pub mod Dictionary
+pub mod Ids
+pub mod Spelling
+pub mod Reading

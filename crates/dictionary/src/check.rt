@@ -1,0 +1,203 @@
+//! Bytes read as a dictionary.
+
+ghost use Rattle.std.specs.Prelude.{◌≡◌, ◌≢◌, ◌<◌, ◌≤◌, ◌*◌, ◌^◌, ◌++◌, ◌∷◌, [], List, ℕ, true, length, IfOk, IfErr, OnOk, MatchOption};
+ghost use Rattle.values.specs.Numbers.{is_in_range};
+ghost use Rattle.dictionary.specs.Dictionary.{Distinct, IsDictionary, most_values};
+ghost use Rattle.dictionary.specs.Spelling.{spelling, counted, number_bytes};
+ghost use Rattle.dictionary.specs.Reading.{IsBody, NoBody, is_above_last, Left, IsNext, NoNext};
+
+use crate::{DictFault, Dictionary, MOST_VALUES};
+use std::alloc::Global;
+use values::{FieldKind, MOST_TEXT_BYTES, Name, Value};
+
+impl Dictionary {
+    /// The dictionary of that kind whose spelling the bytes are.
+    pub fn check(alloc: Global, kind: FieldKind, bytes: &[u8]) -> Result<Dictionary, DictFault>
+        ensures kind { IfOk result (λ d. d.kind ≡ kind) }
+        ensures ok { IfOk result (λ d. bytes.now ≡ spelling d) }
+        ensures bad { IfErr result (λ fault. fault ≡ DictFault.BadDictionary →
+            (d : Distinct) → IsDictionary d → d.kind ≡ kind → bytes.now ≢ spelling d) }
+        ensures stands { IfOk result IsDictionary }
+    {
+        let Some((count, body)) = split_number(bytes) else {
+            return Err(DictFault::BadDictionary);
+        };
+        if count > MOST_VALUES {
+            return Err(DictFault::BadDictionary);
+        }
+        match read_body(alloc, kind, count, body) {
+            Ok(values) => Ok(Dictionary { kind, values }),
+            Err(fault) => Err(fault),
+        }
+    }
+}
+
+fn read_body(
+    alloc: Global,
+    kind: FieldKind,
+    count: usize,
+    body: &[u8],
+) -> Result<Vec<Value>, DictFault>
+    requires { count ≤ most_values }
+    ensures ok { IfOk result (λ values. IsBody kind count body.now values.items) }
+    ensures bad { IfErr result (λ fault. fault ≡ DictFault.BadDictionary → NoBody kind count body.now) }
+{
+    match kind {
+        FieldKind::Int | FieldKind::Long => read_numbers(alloc, kind, count, body),
+        FieldKind::Text => read_texts(alloc, count, body),
+    }
+}
+
+// The number that four bytes at the front spell, and the bytes behind them.
+fn split_number(bytes: &[u8]) -> Option<(usize, &[u8])>
+    ensures { MatchOption result
+        (length bytes.now < 4)
+        (λ p. (p.0 < 2 ^ 32) × (bytes.now ≡ counted p.0 ++ p.1.now)) }
+{
+    let (number, rest) = bytes.split_first_chunk::<4>()?;
+    Some((u32::from_be_bytes(*number) as usize, rest))
+}
+
+fn read_numbers(
+    alloc: Global,
+    kind: FieldKind,
+    count: usize,
+    body: &[u8],
+) -> Result<Vec<Value>, DictFault>
+    requires few { count ≤ most_values }
+    requires numbers { kind ≢ FieldKind.Text }
+    ensures ok { IfOk result (λ values. IsBody kind count body.now values.items) }
+    ensures bad { IfErr result (λ fault. fault ≡ DictFault.BadDictionary → NoBody kind count body.now) }
+{
+    if body.len() != 8 * count {
+        return Err(DictFault::BadDictionary);
+    }
+    let mut values = Vec::with_capacity(alloc, count)?;
+    let mut rest = body;
+    while let Some((chunk, behind)) = rest.split_first_chunk::<8>() {
+        let number = number_of(chunk);
+        let value = Value::Whole(number);
+        if !is_in_range(kind, number) || !is_above_last(&values, &value) {
+            return Err(DictFault::BadDictionary);
+        }
+        keep(&mut values, value)?;
+        rest = behind;
+    }
+    Ok(values)
+}
+
+// The number that eight bytes spell.
+fn number_of(bytes: &[u8; 8]) -> i64
+    ensures spelled { number_bytes (Value.Whole result) ≡ bytes.now }
+    ensures within { is_in_range FieldKind.Long result ≡ true }
+{
+    u64::from_be_bytes(*bytes).cast_signed()
+}
+
+fn is_in_range(kind: FieldKind, number: i64) -> bool
+    ensures { result ≡ is_in_range kind number }
+{
+    match kind {
+        FieldKind::Int => i64::from(i32::MIN) <= number && number <= i64::from(i32::MAX),
+        FieldKind::Long | FieldKind::Text => true,
+    }
+}
+
+fn is_above_last(values: &[Value], value: &Value) -> bool
+    ensures { result ≡ is_above_last values.now value.now }
+{
+    match values.last() {
+        None => true,
+        Some(last) => last < value,
+    }
+}
+
+fn keep(values: &mut Vec<Value>, value: Value) -> Result<(), DictFault>
+    ensures ok { OnOk result (values.new.items ≡ values.old.items ++ value ∷ []) }
+    ensures err { IfErr result (λ fault. fault ≡ DictFault.NoMemory) }
+{
+    match values.push(value) {
+        Ok(()) => Ok(()),
+        Err(_) => Err(DictFault::NoMemory),
+    }
+}
+
+// What is left of the offsets and of the bytes of the texts. The next text begins at `start`.
+#[derive(Clone, Copy)]
+struct Ahead<'a> {
+    start: usize,
+    offsets: &'a [u8],
+    texts: &'a [u8],
+}
+
+fn read_texts(alloc: Global, count: usize, body: &[u8]) -> Result<Vec<Value>, DictFault>
+    requires { count ≤ most_values }
+    ensures ok { IfOk result (λ values. IsBody FieldKind.Text count body.now values.items) }
+    ensures bad { IfErr result (λ fault. fault ≡ DictFault.BadDictionary →
+        NoBody FieldKind.Text count body.now) }
+{
+    let Some(mut ahead) = texts_ahead(count, body) else {
+        return Err(DictFault::BadDictionary);
+    };
+    let mut values = Vec::with_capacity(alloc, count)?;
+    for _ in 0..count {
+        let Some((text, behind)) = next_text(ahead) else {
+            return Err(DictFault::BadDictionary);
+        };
+        let value = Value::Text(Name::from_text(alloc, text)?);
+        if !is_above_last(&values, &value) {
+            return Err(DictFault::BadDictionary);
+        }
+        keep(&mut values, value)?;
+        ahead = behind;
+    }
+    if !ahead.texts.is_empty() {
+        return Err(DictFault::BadDictionary);
+    }
+    Ok(values)
+}
+
+fn texts_ahead(count: usize, body: &[u8]) -> Option<Ahead<'_>>
+    requires { count ≤ most_values }
+    ensures { MatchOption result
+        (NoBody FieldKind.Text count body.now)
+        (λ ahead. (ahead.start ≡ 0) × (length ahead.offsets.now ≡ 4 * count) ×
+        (body.now ≡ counted 0 ++ ahead.offsets.now ++ ahead.texts.now)) }
+{
+    let (offsets, texts) = body.split_at_checked(4 * count + 4)?;
+    let (first, offsets) = split_number(offsets)?;
+    if first != 0 {
+        return None;
+    }
+    Some(Ahead {
+        start: 0,
+        offsets,
+        texts,
+    })
+}
+
+// The next text, and what is left behind it.
+fn next_text(ahead: Ahead<'_>) -> Option<(&str, Ahead<'_>)>
+    requires { ahead.start ≤ 536870912 }
+    ensures { let left : Left = record { start = ahead.entry.start; offsets = ahead.entry.offsets.now; texts = ahead.entry.texts.now } in
+        MatchOption result (NoNext left) (λ r. IsNext left r.0.now
+        (record { start = r.1.start; offsets = r.1.offsets.now; texts = r.1.texts.now })) }
+{
+    let (end, offsets) = split_number(ahead.offsets)?;
+    let length = end.checked_sub(ahead.start)?;
+    if length > MOST_TEXT_BYTES {
+        return None;
+    }
+    let (text, texts) = ahead.texts.split_at_checked(length)?;
+    let Ok(text) = str::from_utf8(text) else {
+        return None;
+    };
+    Some((
+        text,
+        Ahead {
+            start: end,
+            offsets,
+            texts,
+        },
+    ))
+}

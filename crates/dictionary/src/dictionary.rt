@@ -1,0 +1,158 @@
+//! A dictionary, made of a column, and its look-ups.
+
+ghost use Rattle.std.specs.Prelude.{◌≡◌, ◌<◌, ◌≤◌, ℕ, false, length, slice_get, Some, IfOk, MatchOption};
+ghost use Rattle.std.specs.List.{All, IsDistinct};
+ghost use Rattle.values.specs.Order.{value_eq};
+ghost use Rattle.values.specs.Tests.{is_member};
+ghost use Rattle.dictionary.specs.Dictionary.{Fits, Distinct, IsDictionary, IsUnicode, distinct, most_values};
+ghost use Rattle.dictionary.specs.Ids.{has_id, matching, satisfies};
+
+use crate::IdSet;
+use indexmap::IndexSet;
+use std::alloc::Global;
+use std::marker::Model;
+use values::{FieldKind, NoMemory, Seq, Test, Value, holds_value};
+
+/// The most values that a column has.
+pub const MOST_VALUES: usize = 1_048_576;
+
+/// The distinct values of a column in ascending order. The id of a value is its place, from 0.
+#[derive(Debug, Drop)]
+pub struct Dictionary {
+    pub(crate) kind: FieldKind,
+    pub(crate) values: Vec<Value>,
+}
+
+impl Model for Dictionary {
+    ghost use Rattle.dictionary.specs.Dictionary.{Distinct, IsDictionary};
+
+    ghost Value = { Distinct };
+
+    ghost view = { λ d. record { kind = d.kind; values = d.values.items } };
+
+    ghost invariant = { λ d. IsDictionary (record { kind = d.kind; values = d.values.items }) };
+}
+
+impl Dictionary {
+    /// The dictionary of a column of that kind. Texts are shared with the column.
+    pub fn build(
+        alloc: Global,
+        kind: FieldKind,
+        column: &Seq<Value>,
+    ) -> Result<Dictionary, NoMemory>
+        requires few { length column.now ≤ most_values }
+        requires fit { All (Fits kind) column.now }
+        ensures kind { IfOk result (λ d. d.kind ≡ kind) }
+        ensures distinct { IfOk result (λ d. d.values ≡ distinct column.now) }
+        ensures members { IfOk result (λ d. (value : _) → is_member d.values value ≡ is_member column.now value) }
+        ensures stands { IfOk result IsDictionary }
+    {
+        let values = distinct_values(alloc, kind, column.as_slice())?;
+        Ok(Dictionary { kind, values })
+    }
+
+    pub fn kind(&self) -> FieldKind
+        ensures { result ≡ self.now.kind }
+    {
+        self.kind
+    }
+
+    pub fn count(&self) -> u32
+        ensures count { result ≡ length self.now.values }
+        ensures stands { IsDictionary self.now }
+    {
+        self.values.len() as u32
+    }
+
+    /// Found by halving.
+    pub fn id_of(&self, value: &Value) -> Option<u32>
+        ensures { MatchOption result
+            (is_member self.now.values value.now ≡ false)
+            (λ id. slice_get self.now.values id ≡ Some value.now) }
+    {
+        match self.values.binary_search(value) {
+            Ok(id) => Some(id as u32),
+            Err(_) => None,
+        }
+    }
+
+    pub fn value_at(&self, id: u32) -> &Value
+        requires { id < length self.now.values }
+        ensures { slice_get self.now.values id ≡ Some result.now }
+    {
+        &self.values[id as usize]
+    }
+
+    /// The ids of the values that satisfy the test. Each value is tested once.
+    pub fn ids_matching(&self, alloc: Global, test: &Test) -> Result<IdSet, NoMemory>
+        ensures ids { IfOk result (λ ids. ids ≡ matching test.now self.now.values) }
+        ensures each { IfOk result (λ ids. (id : ℕ) →
+            has_id ids id ≡ satisfies test.now (slice_get self.now.values id)) }
+    {
+        satisfying(alloc, test, self.values.as_slice())
+    }
+}
+
+// The places of the values that satisfy the test.
+fn satisfying(alloc: Global, test: &Test, values: &[Value]) -> Result<IdSet, NoMemory>
+    requires { length values.now ≤ most_values }
+    ensures ids { IfOk result (λ ids. ids ≡ matching test.now values.now) }
+    ensures each { IfOk result (λ ids. (id : ℕ) →
+        has_id ids id ≡ satisfies test.now (slice_get values.now id)) }
+{
+    let mut ids = IdSet::new(alloc);
+    for (id, value) in values.iter().enumerate() {
+        if holds_value(test, value) {
+            ids.push(id as u32)?;
+        }
+    }
+    Ok(ids)
+}
+
+// The distinct values: those at first sight, put in order.
+fn distinct_values(alloc: Global, kind: FieldKind, column: &[Value]) -> Result<Vec<Value>, NoMemory>
+    requires few { length column.now ≤ most_values }
+    requires fit { All (Fits kind) column.now }
+    ensures distinct { IfOk result (λ values. values.items ≡ distinct column.now) }
+    ensures members { IfOk result (λ values. (value : _) →
+        is_member values.items value ≡ is_member column.now value) }
+    ensures stands { IfOk result (λ values.
+        IsDictionary (record { kind = kind; values = values.items })) }
+{
+    let mut values = first_sights(alloc, column)?;
+    values.sort_unstable();
+    Ok(values)
+}
+
+// Each value where it is first seen.
+fn first_sights(alloc: Global, column: &[Value]) -> Result<Vec<Value>, NoMemory>
+    ensures few { IfOk result (λ values. length values.items ≤ length column.now) }
+    ensures members { IfOk result (λ values. (value : _) →
+        is_member values.items value ≡ is_member column.now value) }
+    ensures unicode { IfOk result (λ values. All IsUnicode values.items) }
+    ensures apart { IfOk result (λ values. IsDistinct value_eq values.items) }
+{
+    let mut seen = IndexSet::new(alloc);
+    for value in column {
+        seen.insert(shared(alloc, value)?)?;
+    }
+    listed(alloc, seen)
+}
+
+fn listed(alloc: Global, seen: IndexSet<Value>) -> Result<Vec<Value>, NoMemory>
+    ensures same { IfOk result (λ values. values.items ≡ seen.keys) }
+    ensures apart { IfOk result (λ values. IsDistinct value_eq values.items) }
+{
+    seen.into_iter().collect(alloc)
+}
+
+// An equal value, whose text is shared.
+fn shared(alloc: Global, value: &Value) -> Result<Value, NoMemory>
+    ensures same { IfOk result (λ copy. copy ≡ value.now) }
+    ensures unicode { IfOk result IsUnicode }
+{
+    if let Value::Text(text) = value {
+        let _text = text.as_str();
+    }
+    value.copy(alloc)
+}

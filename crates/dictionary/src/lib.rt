@@ -1,0 +1,17 @@
+//! The dictionary of a column: its distinct values in ascending order, whose places are their ids.
+#![tactic(auto)]
+
+mod check;
+mod dictionary;
+mod fault;
+mod id_set;
+mod laws;
+mod spelling;
+
+pub use dictionary::{Dictionary, MOST_VALUES};
+pub use fault::DictFault;
+pub use id_set::IdSet;
+pub use laws::spells_one_law;
+
+#[cfg(test)]
+mod tests;
