@@ -2,6 +2,7 @@
 use Rattle.std.proofs.Common.{◌≡◌, ◌∙◌, ◌<◌, ◌≤◌, ◌+◌, ℕ, Bool, false, List, [], ◌∷◌, ◌++◌, ◌-◌, length, get_or, Option, Some, None, Result, Ok, Err, refl, sym, ap, subst, arith, inl, inr, eq-eqb}
 use Rattle.std.proofs.lemmas.Bool.{cases_lt, ne_eqb}
 use Rattle.std.proofs.lemmas.Cmp.{nat_cmp_total}
+use Rattle.std.proofs.lemmas.List.{length-append}
 use Rattle.std.proofs.lemmas.List.Elements.{All-from_get_or}
 use Rattle.std.proofs.lemmas.List.Folds.{list_any_at, list_any_none}
 use Rattle.std.proofs.lemmas.List.Sorted.{searchable_from_sorted, searched}
@@ -21,8 +22,8 @@ use Rattle.values.specs.Order.{value_order, value_eq}
 use Rattle.values.specs.Order.Laws.{value_order-total, value_eq-ties}
 use Rattle.values.specs.Tests.{is_member}
 use Rattle.dictionary.specs.Dictionary.{Ascends}
-use Rattle.dictionary.specs.Ids.{has_id, IsAboveLast}
-use Rattle.dictionary.proofs.Ascending.{push_ascends}
+use Rattle.dictionary.specs.Ids.{has_id, IsAboveLast, IsIdSet}
+use Rattle.dictionary.proofs.Ascending.{none_ascends, push_ascends}
 
 -- ---- values
 
@@ -74,6 +75,12 @@ pub id_contained : (kept slice told : List ℕ) (id : ℕ) (r : Result ℕ ℕ) 
 id_contained kept slice told id r b view same up position e =
     e ∙ id_found kept id r up (subst (λ xs. IsBinarySearchResult (λ y. nat_cmp y id) xs r) same position) ∙ ap (λ xs. has_id xs id) view
 
-pub id_kept : (kept told new : List ℕ) (id : ℕ) → kept ≡ told → IsStrictlySortedBy nat_cmp kept → IsAboveLast told id → new ≡ kept ++ id ∷ [] → IsStrictlySortedBy nat_cmp new
-id_kept kept told new id view up above is =
-    subst (IsStrictlySortedBy nat_cmp) (sym is) (id_pushed kept id up (subst (λ xs. IsAboveLast xs id) (sym view) above))
+pub id_kept : (kept told new : List ℕ) (id : ℕ) → kept ≡ told → IsIdSet kept → length kept < 4294967295 → IsAboveLast told id → new ≡ kept ++ id ∷ [] → IsIdSet new
+id_kept kept told new id view stands room above is =
+    subst IsIdSet (sym is) (record {
+      ascends = id_pushed kept id stands.ascends (subst (λ xs. IsAboveLast xs id) (sym view) above);
+      few = omega (arith, length-append kept (id ∷ []));
+    })
+
+pub no_ids : IsIdSet []
+no_ids = record { ascends = none_ascends nat_cmp; few = omega arith }

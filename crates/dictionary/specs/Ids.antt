@@ -1,10 +1,17 @@
 -- Ids: the places of values in a dictionary, from 0.
-use Rattle.std.specs.Prelude.{◌<◌, ◌+◌, ◌-◌, ℕ, Bool, false, nat_eq, List, [], ◌∷◌, length, Option, Some, None, slice_get, if◌then◌else◌}
+use Rattle.std.specs.Prelude.{◌<◌, ◌≤◌, ◌+◌, ◌-◌, ℕ, Bool, false, nat_eq, List, [], ◌∷◌, length, Option, Some, None, slice_get, if◌then◌else◌}
 use Rattle.std.specs.List.{list_any}
+use Rattle.std.specs.List.Sorted.{IsStrictlySortedBy}
 use Rattle.std.specs.Option.{IfSome}
+use Rattle.std.specs.Ordering.{nat_cmp}
 use Rattle.values.specs.declared.value.Value.{Value}
 use Rattle.values.specs.declared.test.Test.{Test}
 use Rattle.values.specs.Tests.{holds}
+
+-- ids in ascending order, none of them twice; how many there are is a number of 32 bits
+pub record IsIdSet (ids : List ℕ) : Type 0 where
+  pub ascends : IsStrictlySortedBy nat_cmp ids
+  pub few : length ids ≤ 4294967295
 
 abbrev pub has_id : List ℕ → ℕ → Bool
 has_id ids id = list_any (nat_eq id) ids

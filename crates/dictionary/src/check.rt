@@ -94,7 +94,7 @@ fn number_of(bytes: &[u8; 8]) -> i64
     u64::from_be_bytes(*bytes).cast_signed()
 }
 
-fn is_in_range(kind: FieldKind, number: i64) -> bool
+pub(crate) fn is_in_range(kind: FieldKind, number: i64) -> bool
     ensures { result ≡ is_in_range kind number }
 {
     match kind {

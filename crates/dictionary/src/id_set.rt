@@ -1,9 +1,9 @@
 //! Ascending lists of ids.
 
 ghost use Rattle.std.specs.Prelude.{◌≡◌, ◌<◌, ◌==◌, [], ◌∷◌, ◌++◌, length, slice_get, Some, OnOk, OnErr};
-ghost use Rattle.dictionary.specs.Ids.{has_id, IsAboveLast};
+ghost use Rattle.dictionary.specs.Ids.{has_id, IsAboveLast, IsIdSet};
 
-use std::alloc::Global;
+use std::alloc::{AllocError, Global};
 use std::marker::Model;
 use values::NoMemory;
 
@@ -14,15 +14,14 @@ pub struct IdSet {
 }
 
 impl Model for IdSet {
-    ghost use Rattle.std.specs.Prelude.{List, ℕ, ◌≤◌, ◌^◌, length};
-    ghost use Rattle.std.specs.List.Sorted.{IsStrictlySortedBy};
-    ghost use Rattle.std.specs.Ordering.{nat_cmp};
+    ghost use Rattle.std.specs.Prelude.{List, ℕ};
+    ghost use Rattle.dictionary.specs.Ids.{IsIdSet};
 
     ghost Value = { List ℕ };
 
     ghost view = { λ s. s.ids.items };
 
-    ghost invariant = { λ s. IsStrictlySortedBy nat_cmp s.ids.items };
+    ghost invariant = { λ s. IsIdSet s.ids.items };
 }
 
 impl IdSet {
@@ -34,10 +33,10 @@ impl IdSet {
         }
     }
 
-    pub fn len(&self) -> usize
+    pub fn len(&self) -> u32
         ensures { result ≡ length self.now }
     {
-        self.ids.len()
+        self.ids.len() as u32
     }
 
     pub fn is_empty(&self) -> bool
@@ -54,7 +53,8 @@ impl IdSet {
     }
 
     pub fn as_slice(&self) -> &[u32]
-        ensures { result.now ≡ self.now }
+        ensures same { result.now ≡ self.now }
+        ensures stands { IsIdSet self.now }
     {
         self.ids.as_slice()
     }
@@ -66,12 +66,15 @@ impl IdSet {
         self.ids.binary_search(&id).is_ok()
     }
 
-    /// Adds an id that is greater than the last.
+    /// Adds an id that is greater than the last. A list of 4,294,967,295 ids grows no more.
     pub fn push(&mut self, id: u32) -> Result<(), NoMemory>
         requires { IsAboveLast self.old id }
         ensures ok { OnOk result (self.new ≡ self.old ++ id ∷ []) }
         ensures err { OnErr result (self.new ≡ self.old) }
     {
+        if self.ids.len() >= u32::MAX as usize {
+            return Err(AllocError);
+        }
         self.ids.push(id)?;
         Ok(())
     }
