@@ -40,7 +40,8 @@ fn read_body(
 ) -> Result<Vec<Value>, DictFault>
     requires { count ≤ most_values }
     ensures ok { IfOk result (λ values. IsBody kind count body.now values.items) }
-    ensures bad { IfErr result (λ fault. fault ≡ DictFault.BadDictionary → NoBody kind count body.now) }
+    ensures bad { IfErr result (λ fault. fault ≡ DictFault.BadDictionary →
+        NoBody kind count body.now) }
 {
     match kind {
         FieldKind::Int | FieldKind::Long => read_numbers(alloc, kind, count, body),
@@ -67,7 +68,8 @@ fn read_numbers(
     requires few { count ≤ most_values }
     requires numbers { kind ≢ FieldKind.Text }
     ensures ok { IfOk result (λ values. IsBody kind count body.now values.items) }
-    ensures bad { IfErr result (λ fault. fault ≡ DictFault.BadDictionary → NoBody kind count body.now) }
+    ensures bad { IfErr result (λ fault. fault ≡ DictFault.BadDictionary →
+        NoBody kind count body.now) }
 {
     if body.len() != 8 * count {
         return Err(DictFault::BadDictionary);
@@ -179,7 +181,11 @@ fn texts_ahead(count: usize, body: &[u8]) -> Option<Ahead<'_>>
 // The next text, and what is left behind it.
 fn next_text(ahead: Ahead<'_>) -> Option<(&str, Ahead<'_>)>
     requires { ahead.start ≤ 536870912 }
-    ensures { let left : Left = record { start = ahead.entry.start; offsets = ahead.entry.offsets.now; texts = ahead.entry.texts.now } in
+    ensures { let left : Left = record {
+      start = ahead.entry.start;
+      offsets = ahead.entry.offsets.now;
+      texts = ahead.entry.texts.now;
+    } in
         MatchOption result (NoNext left) (λ r. IsNext left r.0.now
         (record { start = r.1.start; offsets = r.1.offsets.now; texts = r.1.texts.now })) }
 {

@@ -44,7 +44,8 @@ impl Dictionary {
         requires fit { All (Fits kind) column.now }
         ensures kind { IfOk result (λ d. d.kind ≡ kind) }
         ensures distinct { IfOk result (λ d. d.values ≡ distinct column.now) }
-        ensures members { IfOk result (λ d. (value : _) → is_member d.values value ≡ is_member column.now value) }
+        ensures members { IfOk result (λ d. (value : _) →
+            is_member d.values value ≡ is_member column.now value) }
         ensures stands { IfOk result IsDictionary }
     {
         let values = distinct_values(alloc, kind, column.as_slice())?;

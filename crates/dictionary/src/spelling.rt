@@ -28,7 +28,8 @@ impl Dictionary {
 
 fn push_spelling(kind: FieldKind, values: &[Value], out: &mut Vec<u8>) -> Result<(), NoMemory>
     requires { IsDictionary (record { kind = kind; values = values.now }) }
-    ensures ok { OnOk result (out.new.items ≡ out.old.items ++ spelling (record { kind = kind; values = values.now })) }
+    ensures ok { OnOk result (out.new.items ≡
+        out.old.items ++ spelling (record { kind = kind; values = values.now })) }
     ensures kept { IsExtended out.old.items out.new.items }
 {
     out.extend_from_slice(&(values.len() as u32).to_be_bytes())?;
