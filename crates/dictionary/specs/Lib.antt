@@ -2,3 +2,4 @@ pub mod Dictionary
 pub mod Ids
 pub mod Spelling
 pub mod Reading
+pub mod Laws

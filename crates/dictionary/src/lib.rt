@@ -11,7 +11,7 @@ mod spelling;
 pub use dictionary::{Dictionary, MOST_VALUES};
 pub use fault::DictFault;
 pub use id_set::IdSet;
-pub use laws::spells_one_law;
+pub use laws::{distinct_law, spells_one_law};
 
 #[cfg(test)]
 mod tests;

@@ -5,7 +5,7 @@ ghost use Rattle.std.specs.List.{All};
 ghost use Rattle.dictionary.specs.Dictionary.{Fits, fits, most_values};
 
 use crate::check::is_in_range;
-use crate::{DictFault, Dictionary, IdSet, spells_one_law};
+use crate::{DictFault, Dictionary, IdSet, distinct_law, spells_one_law};
 use std::alloc::{AllocError, Global};
 use std::process::Abort;
 use std::test::Fail;
@@ -167,6 +167,7 @@ fn spelled(rt: HostRuntime) -> Result<(), Fail> {
     for (kind, cells, bytes) in SPELLED {
         is_spelled(&rt, rt.alloc(), *kind, cells, bytes)?;
     }
+    distinct_law();
     spells_one_law();
     Ok(())
 }
