@@ -7,7 +7,6 @@ ghost use Rattle.query_bind.specs.Written.{field_number, value_in};
 ghost use Rattle.query_bind.specs.Conjuncts.{opposite_if};
 ghost use Rattle.query_bind.specs.Joints as spec;
 
-use crate::columns::number_of;
 use query_parser::{Cond, LiteralAt, NameAt};
 use std::alloc::Global;
 use table_schema::{Field, Wide};
@@ -54,7 +53,7 @@ impl Scope<'_> {
         requires { length self.now.fields.now ≤ 64 }
         ensures { result ≡ field_number self.now.fields.now name.now }
     {
-        number_of(self.fields, name.name.as_slice()).unwrap_or(0)
+        Field::number_of(self.fields, name.name.as_slice()).unwrap_or(0)
     }
 
     /// Puts the normal form of a condition among members that are joined so.
