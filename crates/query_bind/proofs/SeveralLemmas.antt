@@ -14,7 +14,7 @@ use Rattle.query_parser.specs.declared.tree.Query.{Query}
 use Rattle.query_bind.specs.Written.{Written, Compare, OneOf, Between, Not, All, Any, Members, no_members, member, where_written}
 use Rattle.query_bind.specs.Conjuncts.{opposite_if, conjoined, disjoined, normal, normals, fields_of, only_field, conjunct_by, conjunct, where_conjuncts}
 use Rattle.query_bind.specs.Bound.{Bound, Spelled, bound_of, bound, query_finding}
-use Rattle.query_bind.specs.Several.{some_differ, is_on_several, ManyAreOnSeveral}
+use Rattle.query_bind.specs.Several.{some_differ, conjunct_names, ManyNameSeveral}
 use Rattle.query_bind.proofs.Truth.{and_of, both}
 use Rattle.query_bind.proofs.PlaceLemmas.{or_true, answered}
 use Rattle.query_bind.proofs.WideLemmas.{fields_of-Leaf, conjoined-Leaf, conjoined-All, conjoined-Any, disjoined-Leaf, disjoined-All, disjoined-Any}
@@ -125,28 +125,28 @@ differ (c ∷ cs) has e =
     let here : list_any (λ d. not (d == c)) (c ∷ cs) ≡ true = ap (λ b. not (c == c) || b) rest ∙ or_true (not (c == c)) in
     ap (λ b. b || list_any (λ x. list_any (λ d. not (d == x)) (c ∷ cs)) cs) here
 
-several_by : (w : Wide) (o : Option ℕ) → only_field (fields_of w) ≡ o → is_named w ≡ true → is_on_several (conjunct_by w o) ≡ true
+several_by : (w : Wide) (o : Option ℕ) → only_field (fields_of w) ≡ o → is_named w ≡ true → conjunct_names (conjunct_by w o) ≡ true
 several_by w None e own = differ (fields_of w) own e
 several_by w (Some field) e own = refl
 
-several : (ws : List Wide) → are_named ws ≡ true → list_all is_on_several (map conjunct ws) ≡ true
+several : (ws : List Wide) → are_named ws ≡ true → list_all conjunct_names (map conjunct ws) ≡ true
 several [] own = refl
 several (w ∷ ws) own =
     let parts = both (is_named w) (are_named ws) own in
-    and_of (is_on_several (conjunct w)) _ (several_by w (only_field (fields_of w)) refl parts.0) (several ws parts.1)
+    and_of (conjunct_names (conjunct w)) _ (several_by w (only_field (fields_of w)) refl parts.0) (several ws parts.1)
 
-where_several : (o : Option Written) → WhereIsFull o → list_all is_on_several (where_conjuncts o) ≡ true
+where_several : (o : Option Written) → WhereIsFull o → list_all conjunct_names (where_conjuncts o) ≡ true
 where_several None full = refl
 where_several (Some w) full = several (conjoined (normal false w)) (normal_parts false w full).0
 
 module _ (table : Table) (any_table : Bool) (q : Query) (b : Bound) (is : bound table any_table q ≡ Ok b) (spelled : Spelled q) where
-  all_several : list_all is_on_several (where_conjuncts b.condition) ≡ true
+  all_several : list_all conjunct_names (where_conjuncts b.condition) ≡ true
   all_several =
       let fields = table.schema.fields in
       let own = answered (query_finding table any_table q) (bound_of fields q) b is in
       let s = spelled.2 in
-      subst (λ x. list_all is_on_several (where_conjuncts x.condition) ≡ true) own.1
+      subst (λ x. list_all conjunct_names (where_conjuncts x.condition) ≡ true) own.1
       (where_several (where_written fields q.condition) (where_full fields q.condition s.after_table s.after_condition s.spells_condition))
 
-pub many_on_several : ManyAreOnSeveral
-many_on_several = λ table any_table q b is spelled. all_several table any_table q b is spelled
+pub many_name_several : ManyNameSeveral
+many_name_several = λ table any_table q b is spelled. all_several table any_table q b is spelled

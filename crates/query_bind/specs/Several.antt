@@ -10,9 +10,10 @@ use Rattle.query_bind.specs.Places.{OfSpelled}
 abbrev pub some_differ : List ℕ → Bool
 some_differ cs = list_any (λ c. list_any (λ other. not (other == c)) cs) cs
 
-abbrev pub is_on_several : Conjunct → Bool
-is_on_several (One c test) = true
-is_on_several (Many wide) = some_differ (fields_of wide)
+-- where it is on more than one column, it names two that differ
+abbrev pub conjunct_names : Conjunct → Bool
+conjunct_names (One c test) = true
+conjunct_names (Many wide) = some_differ (fields_of wide)
 
-abbrev pub ManyAreOnSeveral : Type 0
-ManyAreOnSeveral = OfSpelled (λ table q b. list_all is_on_several (where_conjuncts b.condition) ≡ true)
+abbrev pub ManyNameSeveral : Type 0
+ManyNameSeveral = OfSpelled (λ table q b. list_all conjunct_names (where_conjuncts b.condition) ≡ true)

@@ -4,7 +4,7 @@ ghost use Rattle.query_bind.specs.Places.{ItemsAreTerms, KeysAreTerms, ALabelAnI
 ghost use Rattle.query_bind.specs.Once.{GroupsStandOnce, GroupsAreNamed, AggsStandOnce, AggsAreWritten};
 ghost use Rattle.query_bind.specs.Within.{GroupsAreIn, AggsAreIn, ConjunctsAreIn};
 ghost use Rattle.query_bind.specs.Fits.{ConjunctsFit};
-ghost use Rattle.query_bind.specs.Several.{ManyAreOnSeveral};
+ghost use Rattle.query_bind.specs.Several.{ManyNameSeveral};
 ghost use Rattle.query_bind.specs.Functions.{FunctionsFit};
 ghost use Rattle.query_bind.specs.Firsts.{LimitsAreKept, FewGroups, FewAggs, FewKeys, FirstGroup, FirstAgg, FirstKey};
 
@@ -73,7 +73,7 @@ pub fn values_law()
 
 /// A conjunct is on one column, or names two of them at least.
 pub fn several_law()
-    ensures { ManyAreOnSeveral }
+    ensures { ManyNameSeveral }
 {}
 
 /// COUNT has no column, and each other function has one of whole numbers.
