@@ -31,7 +31,8 @@ pub fn places_of(
     fields: &[Field],
     names: &[&[u8]],
 ) -> Result<Vec<Option<usize>>, AllocError>
-    ensures { IfOk result (λ places. places.items ≡ map (place_of (map (λ f. f.now) names.now)) fields.now) }
+    ensures { IfOk result (λ places. places.items ≡ map (place_of
+        (map (λ f. f.now) names.now)) fields.now) }
 {
     let mut places = Vec::with_capacity(alloc, fields.len())?;
     for i in 0..fields.len() {
@@ -61,8 +62,10 @@ fn read_values(
     requires places { places.now ≡ map (place_of (map (λ f. f.now) names.now)) fields.now }
     requires width { length (fields_of cells.now) ≡ length names.now }
     requires few { length names.now < 2 ^ 32 }
-    ensures ok { IfOk result (λ values. values_of fields.now (map (λ f. f.now) names.now) row (fields_of cells.now) ≡ Ok values) }
-    ensures err { IfErr result (λ fault. fault ≢ CsvFault.NoMemory → values_of fields.now (map (λ f. f.now) names.now) row (fields_of cells.now) ≡ Err fault) }
+    ensures ok { IfOk result (λ values.
+        values_of fields.now (map (λ f. f.now) names.now) row (fields_of cells.now) ≡ Ok values) }
+    ensures err { IfErr result (λ fault. fault ≢ CsvFault.NoMemory
+        → values_of fields.now (map (λ f. f.now) names.now) row (fields_of cells.now) ≡ Err fault) }
 {
     let mut values = Seq::with_capacity(alloc, fields.len())?;
     'values: for i in 0..fields.len() {
@@ -86,8 +89,12 @@ pub fn read_row(
 ) -> Result<Row, CsvFault>
     requires places { places.now ≡ map (place_of (map (λ f. f.now) names.now)) fields.now }
     requires few { length names.now < 2 ^ 32 }
-    ensures ok { IfOk result (λ values. row_at csv_limits fields.now (map (λ f. f.now) names.now) (row, fields_of cells.now) ≡ Ok values) }
-    ensures err { IfErr result (λ fault. fault ≢ CsvFault.NoMemory → row_at csv_limits fields.now (map (λ f. f.now) names.now) (row, fields_of cells.now) ≡ Err fault) }
+    ensures ok { IfOk result (λ values.
+        row_at csv_limits fields.now (map (λ f. f.now) names.now) (row, fields_of cells.now)
+        ≡ Ok values) }
+    ensures err { IfErr result (λ fault. fault ≢ CsvFault.NoMemory
+        → row_at csv_limits fields.now (map (λ f. f.now) names.now) (row, fields_of cells.now)
+        ≡ Err fault) }
 {
     let most = most_rows(fields.len());
     if row > most {

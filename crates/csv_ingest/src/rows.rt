@@ -24,8 +24,12 @@ fn rows_by(
     requires places { places.now ≡ map (place_of (map (λ f. f.now) names.now)) fields.now }
     requires most { most < 2 ^ 31 }
     requires few { length names.now < 2 ^ 32 }
-    ensures ok { IfOk result (λ rows. (rest : List ℕ) → Reads reader.old rest → rows_of csv_limits fields.now (map (λ f. f.now) names.now) (records_left most reader.old rest) ≡ Ok rows) }
-    ensures err { IfErr result (λ fault. fault ≢ CsvFault.NoMemory → (rest : List ℕ) → Reads reader.old rest → rows_of csv_limits fields.now (map (λ f. f.now) names.now) (records_left most reader.old rest) ≡ Err fault) }
+    ensures ok { IfOk result (λ rows. (rest : List ℕ) → Reads reader.old rest
+        → rows_of csv_limits fields.now (map (λ f. f.now) names.now)
+        (records_left most reader.old rest) ≡ Ok rows) }
+    ensures err { IfErr result (λ fault. fault ≢ CsvFault.NoMemory → (rest : List ℕ)
+        → Reads reader.old rest → rows_of csv_limits fields.now (map (λ f. f.now) names.now)
+        (records_left most reader.old rest) ≡ Err fault) }
 {
     let mut record = ByteRecord::new(alloc);
     let mut texts = Texts::new(alloc);
@@ -60,8 +64,12 @@ pub fn rows_below(
 ) -> Result<Rows, CsvFault>
     requires most { most < 2 ^ 31 }
     requires few { length names.now < 2 ^ 32 }
-    ensures ok { IfOk result (λ rows. (rest : List ℕ) → Reads reader.old rest → rows_of csv_limits fields.now (map (λ f. f.now) names.now) (records_left most reader.old rest) ≡ Ok rows) }
-    ensures err { IfErr result (λ fault. fault ≢ CsvFault.NoMemory → (rest : List ℕ) → Reads reader.old rest → rows_of csv_limits fields.now (map (λ f. f.now) names.now) (records_left most reader.old rest) ≡ Err fault) }
+    ensures ok { IfOk result (λ rows. (rest : List ℕ) → Reads reader.old rest
+        → rows_of csv_limits fields.now (map (λ f. f.now) names.now)
+        (records_left most reader.old rest) ≡ Ok rows) }
+    ensures err { IfErr result (λ fault. fault ≢ CsvFault.NoMemory → (rest : List ℕ)
+        → Reads reader.old rest → rows_of csv_limits fields.now (map (λ f. f.now) names.now)
+        (records_left most reader.old rest) ≡ Err fault) }
 {
     let places = places_of(alloc, fields, names)?;
     rows_by(alloc, reader, most, fields, names, &places)
