@@ -74,6 +74,18 @@ fn number_in(kind: FieldKind, bytes: &[u8]) -> Option<i64>
     }
 }
 
+/// The 64-bit number that a cell spells, if it has characters and spells one.
+#[inline(always)]
+pub fn long_in(bytes: &[u8]) -> Option<i64>
+    ensures { IfSome result (λ number. (field : Field) → field.kind ≡ FieldKind.Long
+        → cell_value field bytes.now ≡ Ok (Value.Whole number)) }
+{
+    if bytes.is_empty() {
+        return None;
+    }
+    read_whole(FieldKind::Long, bytes).ok()
+}
+
 // The value of a field in its cell.
 fn read_cell(
     texts: &mut Texts,

@@ -4,6 +4,7 @@ ghost use Rattle.csv_ingest.specs.Reading.{Reads, records_left};
 ghost use Rattle.csv_ingest.specs.Rows.{csv_limits, place_of, rows_of};
 
 use crate::CsvFault;
+use crate::numbers::are_in_order;
 use crate::records::next_record;
 use crate::row::{places_of, read_row};
 use crate::texts::Texts;
@@ -31,6 +32,7 @@ fn rows_by(
         → Reads reader.old rest → rows_of csv_limits fields.now (map (λ f. f.now) names.now)
         (records_left most reader.old rest) ≡ Err fault) }
 {
+    let in_order = are_in_order(fields, places);
     let mut record = ByteRecord::new(alloc);
     let mut texts = Texts::new(alloc);
     let mut rows = Seq::new(alloc);
@@ -44,6 +46,7 @@ fn rows_by(
             fields,
             names,
             places,
+            in_order,
             &record,
             i as u32 + 1,
         ) {

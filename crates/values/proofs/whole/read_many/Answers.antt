@@ -1,8 +1,8 @@
 use Rattle.std.proofs.Common.{arith, inl, inr}
 use Rattle.std.proofs.lemmas.Bool.Decides.{nat_tests}
 use Rattle.values.proofs.Digits.{refused, read_whole}
-use Rattle.values.proofs.whole.read_magnitude.Goals as goal
-use Rattle.values.proofs.whole.read_magnitude.Goals.{then-digit-gt9-via-then-digit-gt9, then-digit-gt9-via-else-digit-gt9+then-number-gt-MOST_BEFORE_A_DIGIT}
+use Rattle.values.proofs.whole.read_many.Goals as goal
+use Rattle.values.proofs.whole.read_many.Goals.{then-digit-gt9-via-then-digit-gt9, then-digit-gt9-via-else-digit-gt9+then-number-gt-MOST_BEFORE_A_DIGIT}
 
 pub returns-then-digit-gt9 : goal.returns-then-digit-gt9
 returns-then-digit-gt9 c =
