@@ -1,0 +1,19 @@
+// Laws of spelled ids. Each is the contract of a function that does nothing.
+ghost use Rattle.std.specs.Prelude.{◌≡◌, ◌≤◌, ◌<◌, ◌-◌, ◌*◌, ◌^◌, ◌++◌, ℕ, List, All, length, take, drop, replicate, slice_index};
+ghost use Rattle.bit_column.specs.Bits.{bits_of};
+ghost use Rattle.bit_column.specs.Column.{bytes_for, spelled, id_at, ids_between};
+
+/// What is written are the bits of the ids and less than eight zero bits, in no more bytes than these take,
+/// and what is written is read back.
+pub fn reads_back()
+    ensures length { (width : ℕ) (ids : List ℕ) →
+        length (spelled width ids) ≡ bytes_for (length ids * width) }
+    ensures bits { (width : ℕ) (ids : List ℕ) → (zeros : ℕ) × (zeros < 8)
+        × (bits_of 8 (spelled width ids) ≡ bits_of width ids ++ replicate zeros 0) }
+    ensures at { (width index : ℕ) (ids : List ℕ) → All (λ id. id < 2 ^ width) ids →
+        index < length ids → id_at width index (spelled width ids) ≡ slice_index ids index }
+    ensures between { (width from to : ℕ) (ids : List ℕ) → All (λ id. id < 2 ^ width) ids →
+        from ≤ to → to ≤ length ids →
+        ids_between width from to (spelled width ids) ≡ take (to - from) (drop from ids) }
+{
+}
