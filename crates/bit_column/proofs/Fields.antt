@@ -1,10 +1,9 @@
 -- Numbers read out of bytes.
-use Rattle.std.proofs.Common.{◌≡◌, ◌≤◌, ◌<◌, All, map, ℕ, zero, suc, ◌+◌, ◌-◌, ◌*◌, ◌/◌, ◌%◌, ◌^◌, List, [], ◌∷◌, ◌++◌, length, take, drop, get_or, fold, min, refl, sym, ap, ◌∙◌, subst, arith, append_assoc, append-nil, bit_or, length-take, length-drop}
-use Rattle.std.proofs.lemmas.List.{take_at, drop_at, take_more, drop_more, drop_all, drop-drop, drop-take, take-take, take_rest}
+use Rattle.std.proofs.Common.{◌≡◌, ◌≤◌, ◌<◌, All, ℕ, suc, ◌+◌, ◌-◌, ◌*◌, ◌/◌, ◌%◌, ◌^◌, List, [], ◌∷◌, ◌++◌, length, take, drop, get_or, sym, ap, ◌∙◌, subst, arith, append_assoc, append-nil, bit_or, length-take, length-drop}
+use Rattle.std.proofs.lemmas.List.{take_more, drop_more, drop_all, drop-drop, drop-take, take-take, take_rest}
 use Rattle.std.proofs.lemmas.List.FromFn.{map-range_with_len_more, length-map-range_with_len, get_or-map-range_with_len}
 use Rattle.std.proofs.lemmas.List.Elements.{All-get_or}
 use Rattle.std.proofs.lemmas.Nat.{mul-le}
-use Rattle.std.specs.List.{range_with_len}
 use Rattle.bit_column.specs.Bits.{bits, bits_of, number, field, pieces}
 use Rattle.bit_column.proofs.BitLemmas.{bits-join, bits_of-push, drop-bits_of, take-bits_of}
 use Rattle.bit_column.proofs.Windows.{joined, field-window}

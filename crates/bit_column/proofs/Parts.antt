@@ -1,14 +1,14 @@
 -- A part of a file that is read piece by piece.
-use Rattle.std.proofs.Common.{◌≡◌, ◌≤◌, ◌<◌, ℕ, zero, suc, ◌+◌, ◌-◌, ◌*◌, ◌^◌, List, [], ◌∷◌, ◌++◌, length, take, drop, min, Option, Some, None, IfSome, OnErr, Result, Ok, Err, refl, sym, ap, ◌∙◌, subst, arith, append_assoc, length-take, length-drop}
+use Rattle.std.proofs.Common.{◌≡◌, ◌≤◌, ◌<◌, ℕ, ◌+◌, ◌-◌, ◌^◌, List, [], ◌++◌, length, take, drop, Option, Some, None, IfSome, OnErr, Result, Ok, Err, refl, sym, ap, ◌∙◌, subst, arith, append_assoc, length-take, length-drop}
 use Rattle.std.proofs.lemmas.List.{take_at, drop-drop}
 use Rattle.std.proofs.Math.Seq.{take-add, take-append-add}
 use Rattle.std.specs.FinMap as map
 use Rattle.std.specs.Option.{option_and_then}
-use borrow.Rule.Slice.PartMut.{mid_of, put_mid, post_of, same_len_mid}
-use Rattle.outside.specs.Files.{Files, OfFile, Has, Lacks, IsLengthOf, bytes_of}
-use Rattle.outside.specs.Reads.{Entry, LogsThrough, ReadsAt, logged}
-use Rattle.outside.proofs.ReadLemmas.{LogsThrough-none, LogsThrough-push, LogsThrough-end}
-use Rattle.bit_column.specs.Sections.{IsPart, EndsBefore, Fills, LogsUpTo}
+use borrow.Rule.Slice.PartMut.{mid_of, put_mid, post_of}
+use Rattle.outside.specs.Files.{Files, Lacks, IsLengthOf, bytes_of}
+use Rattle.outside.specs.Reads.{Entry, ReadsAt}
+use Rattle.outside.proofs.ReadLemmas.{LogsThrough-none}
+use Rattle.bit_column.specs.Sections.{EndsBefore, LogsUpTo}
 
 -- the bytes that are told under a name, where there is such a file and where there is none
 there : (files : Files) (name bytes : List ℕ) → map.get files name ≡ Some bytes → bytes_of (Some files) name ≡ bytes

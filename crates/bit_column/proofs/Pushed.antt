@@ -1,8 +1,8 @@
 -- Bytes that are pushed behind others.
-use Rattle.std.proofs.Common.{◌≡◌, ◌≤◌, ◌<◌, ℕ, zero, suc, ◌+◌, ◌-◌, ◌*◌, ◌/◌, ◌%◌, ◌^◌, List, [], ◌∷◌, ◌++◌, All, length, take, drop, get_or, replicate, min, refl, sym, ap, ◌∙◌, subst, arith, append_assoc, append-nil, length-append, length-take}
+use Rattle.std.proofs.Common.{◌≡◌, ◌≤◌, ◌<◌, ℕ, ◌+◌, ◌-◌, List, [], ◌∷◌, ◌++◌, length, take, get_or, replicate, sym, ap, ◌∙◌, arith, append_assoc, append-nil, length-take}
 use Rattle.std.proofs.lemmas.List.{take-append-le, take-take, take_all, take_more}
 use Rattle.bit_column.specs.Bits.{bits, bits_of}
-use Rattle.bit_column.proofs.BitLemmas.{bits_of-push, bits-split, length-bits_of}
+use Rattle.bit_column.proofs.BitLemmas.{bits_of-push}
 
 -- a list that begins with another is as long
 begins-long : (old new : List ℕ) → take (length old) new ≡ old → length old ≤ length new

@@ -1,5 +1,5 @@
 -- A range of ids in the bytes that were read for it.
-use Rattle.std.proofs.Common.{◌≡◌, ◌≤◌, ◌<◌, ℕ, zero, suc, ◌+◌, ◌-◌, ◌*◌, ◌/◌, ◌%◌, ◌^◌, List, [], ◌∷◌, ◌++◌, All, length, take, drop, map, min, Option, Some, None, IfSome, IfOk, IsErrOf, Result, Ok, Err, refl, sym, ap, ◌∙◌, subst, arith, length-take, length-drop}
+use Rattle.std.proofs.Common.{◌≡◌, ◌≤◌, ◌<◌, ℕ, zero, suc, ◌+◌, ◌-◌, ◌*◌, ◌/◌, ◌%◌, List, ◌∷◌, All, length, take, drop, map, min, Option, Some, None, IfSome, IfOk, Result, Ok, Err, refl, sym, ap, ◌∙◌, subst, arith, length-take, length-drop}
 use Rattle.std.proofs.lemmas.List.{drop-take, drop-drop, take-take}
 use Rattle.std.proofs.lemmas.List.FromFn.{length-map-range_with_len}
 use Rattle.std.proofs.lemmas.Nat.{mul-le}
@@ -8,9 +8,9 @@ use Rattle.std.specs.List.{range_with_len}
 use Rattle.outside.specs.Files.{Files, bytes_of}
 use Rattle.outside.specs.declared.place.Place.{Place}
 use Rattle.bit_column.specs.Bits.{bits_of, field, pieces}
-use Rattle.bit_column.specs.Column.{bytes_for, ids_between}
-use Rattle.bit_column.specs.Sections.{first_byte, end_byte, section, Reach, Readable, IsPart}
-use Rattle.bit_column.proofs.Fields.{field-bytes, pieces-below}
+use Rattle.bit_column.specs.Column.{ids_between}
+use Rattle.bit_column.specs.Sections.{end_byte, section, Reach, Readable, IsPart}
+use Rattle.bit_column.proofs.Fields.{field-bytes}
 
 -- the bits of a range follow those before it
 span : (width from to : ℕ) → from ≤ to → to * width ≡ from * width + (to - from) * width

@@ -1,14 +1,15 @@
 -- What is written is read back.
-use Rattle.std.proofs.Common.{◌≡◌, ◌≤◌, ◌<◌, ℕ, zero, suc, ◌+◌, ◌-◌, ◌*◌, ◌/◌, ◌%◌, ◌^◌, List, [], ◌∷◌, ◌++◌, All, length, take, drop, get_or, map, replicate, min, refl, sym, ap, ◌∙◌, subst, arith, append_assoc, append-nil, length-append, length-take, length-drop, take-append-drop, mod-eq_of_lt}
+use Rattle.std.proofs.Common.{◌≡◌, ◌≤◌, ◌<◌, ℕ, zero, suc, ◌+◌, ◌-◌, ◌*◌, ◌^◌, List, ◌∷◌, ◌++◌, All, length, take, drop, get_or, map, replicate, refl, sym, ap, ◌∙◌, subst, arith, append_assoc, length-append, length-take, length-drop, take-append-drop, mod-eq_of_lt}
 use Rattle.std.proofs.Math.Seq.{take-add, take-append-add}
 use Rattle.std.proofs.lemmas.List.{take_at, take_all, drop_more, drop-drop, drop-append-le, get_or-drop, take-replicate, replicate-append-replicate, append_cancel_left, length-replicate}
 use Rattle.std.proofs.lemmas.List.FromFn.{length-map-range_with_len}
 use Rattle.std.proofs.lemmas.List.Concat.{flat_map-append}
-use Rattle.std.proofs.lemmas.List.Elements.{All-get_or}
+use Rattle.std.proofs.lemmas.List.Elements.{All-get_or, All-take, All-drop, All-same}
 use Rattle.std.proofs.lemmas.Nat.{mul-le}
 use Rattle.std.specs.List.{range_with_len}
 use Rattle.bit_column.specs.Bits.{bits, bits_of, number, field, pieces}
 use Rattle.bit_column.specs.Column.{bytes_for, spelled, id_at, ids_between}
+use Rattle.bit_column.specs.Sections.{Readable}
 use Rattle.bit_column.proofs.BitLemmas.{next, length-bits, length-bits_of, drop-bits_of, number-bits, AreBits, AreBits-append, AreBits-bits_of, AreBits-zeros, AreBits-take, AreBits-drop, bits-number}
 
 pub below-all : (width : ℕ) (ns : List ℕ) → All (λ n. n < 2 ^ width) ns → (i : ℕ) → i < length ns → get_or ns i 0 < 2 ^ width
@@ -113,14 +114,14 @@ written old new ids width zeros begins small few is =
     let all : bits_of 8 rest ++ tail ≡ ones ++ replicate 7 0 = ap (λ ds. ds ++ tail) same ∙ append_assoc ones (replicate zeros 0) tail ∙ ap (λ ds. ones ++ ds) (replicate-append-replicate zeros (7 - zeros) 0 ∙ ap (λ k. replicate k 0) seven) in
     let behind : List ℕ = replicate zeros 0 in
     let count : length rest * 8 ≡ length ids * width + zeros =
-        sym (length-bits_of 8 rest) ∙ ap length same ∙ length-append ones behind ∙ ap (λ k. k + length behind) (length-bits_of width ids) ∙ ap (λ k. length ids * width + k) (length-replicate zeros 0) in
+    sym (length-bits_of 8 rest) ∙ ap length same ∙ length-append ones behind ∙ ap (λ k. k + length behind) (length-bits_of width ids) ∙ ap (λ k. length ids * width + k) (length-replicate zeros 0) in
     let bytes : bytes_for (length ids * width) ≡ length rest = omega (arith, count) in
     let below : (i : ℕ) → i < length rest → get_or rest i 0 < 2 ^ 8 = λ i within. subst (λ n. n < 2 ^ 8) (sym (get_or-drop (length old) new i 0)) (small (length old + i) (omega (arith, length-drop (length old) new))) in
     whole ∙ ap (λ xs. old ++ xs) (sym (
-        ap (λ k. pieces 8 0 k (ones ++ replicate 7 0)) bytes
-        ∙ ap (pieces 8 0 (length rest)) (sym all)
-        ∙ pieces-of 8 0 (length rest) rest tail (omega arith) below
-        ∙ take_all (length rest) rest (omega arith)))
+    ap (λ k. pieces 8 0 k (ones ++ replicate 7 0)) bytes
+    ∙ ap (pieces 8 0 (length rest)) (sym all)
+    ∙ pieces-of 8 0 (length rest) rest tail (omega arith) below
+    ∙ take_all (length rest) rest (omega arith)))
 
 pub id-written : (width index : ℕ) (ids : List ℕ) → All (λ id. id < 2 ^ width) ids → index < length ids → id_at width index (spelled width ids) ≡ get_or ids index 0
 id-written width index ids small within =
@@ -129,3 +130,11 @@ id-written width index ids small within =
 pub ids-written : (width from to : ℕ) (ids : List ℕ) → All (λ id. id < 2 ^ width) ids → from ≤ to → to ≤ length ids → ids_between width from to (spelled width ids) ≡ take (to - from) (drop from ids)
 ids-written width from to ids small order within =
     ap (pieces width (from * width) (to - from)) (spelled-bits width ids) ∙ pieces-of width from (to - from) ids (replicate (zeros_behind (length ids * width)) 0) (omega arith) (below-all width ids small)
+
+pub readable-written : (width count from to : ℕ) (ids : List ℕ) → All (λ id. id < 2 ^ width) ids → All (λ id. id < count) ids → from ≤ to → to ≤ length ids → Readable width count from to (spelled width ids)
+readable-written width count from to ids small below order within =
+    let held : to * width ≤ length ids * width = mul-le to width (length ids) width within (omega arith) in (
+      λ _. omega (arith, length-spelled width ids, held),
+      All-same (λ id. id < count) (ids_between width from to (spelled width ids)) (take (to - from) (drop from ids)) (ids-written width from to ids small order within)
+          (All-take (λ id. id < count) (to - from) (drop from ids) (All-drop (λ id. id < count) from ids below)),
+    )

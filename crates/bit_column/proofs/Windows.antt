@@ -1,9 +1,9 @@
 -- A window of 64 bits, and what shifts and masks leave of it.
-use Rattle.std.proofs.Common.{◌≡◌, ◌≤◌, ◌<◌, ℕ, zero, suc, ◌+◌, ◌-◌, ◌*◌, ◌/◌, ◌%◌, ◌^◌, List, [], ◌∷◌, ◌++◌, length, take, drop, replicate, refl, sym, ap, ◌∙◌, subst, arith, append_assoc, bit_and, bit_or}
+use Rattle.std.proofs.Common.{◌≡◌, ◌≤◌, ◌<◌, ℕ, ◌+◌, ◌-◌, ◌*◌, ◌/◌, ◌%◌, ◌^◌, List, ◌++◌, take, drop, replicate, sym, ap, ◌∙◌, arith, append_assoc, bit_and, bit_or}
 use Rattle.std.proofs.lemmas.Nat.{or_shifted, or_mod, and_mask, one_shl, pow_pos}
 use Rattle.std.proofs.Math.Nat.{pow-le-pow_right}
 use Rattle.std.proofs.lemmas.List.{take_at, drop_at}
-use Rattle.bit_column.specs.Bits.{bits, bits_of, number, field}
+use Rattle.bit_column.specs.Bits.{bits, number, field}
 use Rattle.bit_column.proofs.BitLemmas.{length-bits, bits-split, bits-low, bits-join, bits-none, number-bits}
 
 small : (id width : ℕ) → width ≤ 64 → id < 2 ^ width → id < 2 ^ 64
@@ -45,7 +45,7 @@ field-window width first behind window digits e =
     let high = window / 2 ^ behind in
     let front = bits first (high / 2 ^ width) in
     let parts : digits ≡ front ++ (bits width high ++ bits behind window) =
-        e ∙ bits-split (first + width) behind window ∙ ap (λ ds. ds ++ bits behind window) (bits-split first width high) ∙ append_assoc front (bits width high) (bits behind window) in
+    e ∙ bits-split (first + width) behind window ∙ ap (λ ds. ds ++ bits behind window) (bits-split first width high) ∙ append_assoc front (bits width high) (bits behind window) in
     ap (λ ds. number (take width (drop first ds))) parts
     ∙ ap (λ ds. number (take width ds)) (drop_at front (bits width high ++ bits behind window) first (length-bits first (high / 2 ^ width)))
     ∙ ap number (take_at (bits width high) (bits behind window) width (length-bits width high))

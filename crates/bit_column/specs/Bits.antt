@@ -1,5 +1,5 @@
 -- Numbers in binary, each in so many digits, one behind the other.
-use Rattle.std.specs.Prelude.{ℕ, zero, suc, ◌+◌, ◌*◌, ◌/◌, ◌%◌, ◌^◌, List, [], ◌∷◌, ◌++◌, length, take, drop, map}
+use Rattle.std.specs.Prelude.{ℕ, zero, suc, ◌+◌, ◌*◌, ◌/◌, ◌%◌, ◌^◌, List, [], ◌∷◌, length, take, drop, map}
 use Rattle.std.specs.List.{flat_map, range_with_len}
 
 -- the last so many binary digits of a number, the most significant first

@@ -1,5 +1,5 @@
 -- Sections of files, and which bytes of them hold a range of ids.
-use Rattle.std.specs.Prelude.{◌≡◌, ◌≤◌, ◌<◌, ℕ, ◌+◌, ◌-◌, ◌*◌, ◌/◌, min, List, All, length, take, drop, Option, Some, IfSome, nat_lt, if◌then◌else◌}
+use Rattle.std.specs.Prelude.{◌≡◌, ◌≤◌, ◌<◌, ℕ, ◌-◌, ◌*◌, ◌/◌, min, List, All, length, take, drop, Option, Some, IfSome, nat_lt, if◌then◌else◌}
 use Rattle.outside.specs.Files.{Files, bytes_of}
 use Rattle.outside.specs.Reads.{Entry, LogsThrough}
 use Rattle.outside.specs.declared.place.Place.{Place}

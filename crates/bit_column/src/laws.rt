@@ -2,9 +2,10 @@
 ghost use Rattle.std.specs.Prelude.{◌≡◌, ◌≤◌, ◌<◌, ◌-◌, ◌*◌, ◌^◌, ◌++◌, ℕ, List, All, length, take, drop, replicate, slice_index};
 ghost use Rattle.bit_column.specs.Bits.{bits_of};
 ghost use Rattle.bit_column.specs.Column.{bytes_for, spelled, id_at, ids_between};
+ghost use Rattle.bit_column.specs.Sections.{Readable};
 
 /// What is written are the bits of the ids and less than eight zero bits, in no more bytes than these take,
-/// and what is written is read back.
+/// and what is written is read back: no range of it is refused.
 pub fn reads_back()
     ensures length { (width : ℕ) (ids : List ℕ) →
         length (spelled width ids) ≡ bytes_for (length ids * width) }
@@ -15,5 +16,7 @@ pub fn reads_back()
     ensures between { (width from to : ℕ) (ids : List ℕ) → All (λ id. id < 2 ^ width) ids →
         from ≤ to → to ≤ length ids →
         ids_between width from to (spelled width ids) ≡ take (to - from) (drop from ids) }
-{
-}
+    ensures readable { (width count from to : ℕ) (ids : List ℕ) → All (λ id. id < 2 ^ width) ids →
+        All (λ id. id < count) ids → from ≤ to → to ≤ length ids →
+        Readable width count from to (spelled width ids) }
+{}

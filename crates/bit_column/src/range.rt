@@ -58,5 +58,12 @@ pub fn read_range<S: Shelf>(
         Ok(bytes) => bytes,
         Err(fault) => return Err(fault),
     };
-    ids_from(alloc, &bytes, (bit % 8) as usize, width, count, (to - from) as usize)
+    ids_from(
+        alloc,
+        &bytes,
+        (bit % 8) as usize,
+        width,
+        count,
+        (to - from) as usize,
+    )
 }

@@ -1,5 +1,5 @@
 use Rattle.std.proofs.Common.{arith, length, ◌*◌}
-use Rattle.bit_column.proofs.Spelling.{zeros_behind, length-spelled, spelled-bits, id-written, ids-written}
+use Rattle.bit_column.proofs.Spelling.{zeros_behind, length-spelled, spelled-bits, id-written, ids-written, readable-written}
 use Rattle.bit_column.proofs.laws.reads_back.Goals as goal
 
 pub returns-clause-length : goal.returns-clause-length
@@ -13,3 +13,6 @@ returns-clause-at c = id-written
 
 pub returns-clause-between : goal.returns-clause-between
 returns-clause-between c = ids-written
+
+pub returns-clause-readable : goal.returns-clause-readable
+returns-clause-readable c = readable-written

@@ -1,4 +1,4 @@
-use Rattle.std.proofs.Common.{◌≡◌, ◌+◌, ◌-◌, length, refl, subst, arith, ◌∙◌}
+use Rattle.std.proofs.Common.{◌≡◌, ◌+◌, ◌-◌, length, subst, arith, ◌∙◌}
 use borrow.Rule.Slice.PartMut.{mid_of}
 use Rattle.outside.specs.Reads.{ReadsAt, LogsThrough}
 use Rattle.outside.proofs.ReadLemmas.{LogsThrough-push, LogsThrough-end, fits_after}

@@ -1,4 +1,4 @@
-use Rattle.std.proofs.Common.{◌≡◌, ◌≤◌, ◌<◌, ◌+◌, ◌-◌, ◌*◌, ◌/◌, ◌%◌, All, List, ℕ, IfSome, length, arith, refl, sym, ap, ◌∙◌, subst}
+use Rattle.std.proofs.Common.{◌≡◌, ◌<◌, ◌+◌, ◌-◌, ◌*◌, ◌/◌, ◌%◌, All, IfSome, length, arith, refl, ap, ◌∙◌}
 use Rattle.bit_column.specs.Bits.{bits_of, pieces}
 use Rattle.bit_column.specs.Column.{ids_between}
 use Rattle.bit_column.specs.Sections.{first_byte, end_byte, section, Readable}
@@ -31,11 +31,11 @@ returns-clause-ids g c =
     let bytes = c.deref.result.now in
     let part = part-read held c.as_str.result.now place.file (place.offset + from * width / 8) (place.offset + (to * width + 7) / 8) c.in-Ok.bytes.items bytes c.as_str.ensures c.deref.ensures.value c.in-Ok.ensures.part in
     if-ok c.ids_from.result
-        (λ ids. ids ≡ pieces width (from * width % 8) (to - from) (bits_of 8 bytes))
-        (All (λ id. id < c.args.count))
-        (λ ids. IfSome held (λ files. Readable width c.args.count from to (section files place) × (ids ≡ ids_between width from to (section files place))))
-        (λ ids is below. range-read held place width c.args.count from to bytes ids c.requires.width (omega arith) (omega arith) part is below)
-        c.ids_from.ensures.ids c.ids_from.ensures.below
+    (λ ids. ids ≡ pieces width (from * width % 8) (to - from) (bits_of 8 bytes))
+    (All (λ id. id < c.args.count))
+    (λ ids. IfSome held (λ files. Readable width c.args.count from to (section files place) × (ids ≡ ids_between width from to (section files place))))
+    (λ ids is below. range-read held place width c.args.count from to bytes ids c.requires.width (omega arith) (omega arith) part is below)
+    c.ids_from.ensures.ids c.ids_from.ensures.below
 
 pub returns-clause-number : goal.returns-clause-number
 returns-clause-number g c =
@@ -44,7 +44,7 @@ returns-clause-number g c =
     let number = c.args.to - c.args.from in
     let digits = bits_of 8 c.deref.result.now in
     IfOk-weaker c.ids_from.result (λ ids. ids ≡ pieces width bit number digits) (λ ids. length ids ≡ number)
-        (λ ids is. ap length is ∙ pieces-long width bit number digits) c.ids_from.ensures.ids
+    (λ ids is. ap length is ∙ pieces-long width bit number digits) c.ids_from.ensures.ids
 
 pub returns-clause-bad : goal.returns-clause-bad
 returns-clause-bad g c =

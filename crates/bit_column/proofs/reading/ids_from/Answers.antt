@@ -1,4 +1,4 @@
-use Rattle.std.proofs.Common.{arith, rules, refl, sym, ap, ◌∙◌, ◌∷◌, [], ◌++◌, ◌<◌, length}
+use Rattle.std.proofs.Common.{arith, rules, sym, ap, ◌∙◌, ◌∷◌, [], ◌++◌, ◌<◌}
 use Rattle.std.proofs.lemmas.List.Elements.{All-push, All-same}
 use Rattle.bit_column.specs.Bits.{bits_of, pieces}
 use Rattle.bit_column.proofs.Fields.{field-far, pieces-more, pieces-below}
@@ -20,10 +20,10 @@ returns-then-id-count-clause-bad c = λ _ all.
 pub loop-i-preserved : goal.loop-i-preserved
 loop-i-preserved c = record {
   ids =
-    c.in_ok-push.ensures.ok
-    ∙ ap (λ ids. ids ++ c.field_at-id.result ∷ []) c.loop-i.invariant.ids
-    ∙ ap (λ id. pieces c.args.width c.args.bit c.loop-i.i (bits_of 8 c.args.bytes.now) ++ id ∷ []) c.field_at-id.ensures
-    ∙ sym (pieces-more c.args.width c.args.bit c.loop-i.i (bits_of 8 c.args.bytes.now));
+      c.in_ok-push.ensures.ok
+      ∙ ap (λ ids. ids ++ c.field_at-id.result ∷ []) c.loop-i.invariant.ids
+      ∙ ap (λ id. pieces c.args.width c.args.bit c.loop-i.i (bits_of 8 c.args.bytes.now) ++ id ∷ []) c.field_at-id.ensures
+      ∙ sym (pieces-more c.args.width c.args.bit c.loop-i.i (bits_of 8 c.args.bytes.now));
   below = All-same (λ id. id < c.args.count) c.push.new.self (c.loop-i.ids ++ c.field_at-id.result ∷ []) c.in_ok-push.ensures.ok
-    (All-push (λ id. id < c.args.count) c.loop-i.ids c.field_at-id.result c.loop-i.invariant.below (omega arith));
+      (All-push (λ id. id < c.args.count) c.loop-i.ids c.field_at-id.result c.loop-i.invariant.below (omega arith));
 }
