@@ -4,4 +4,5 @@ pub mod Parts
 pub mod Pushed
 pub mod Ranges
 pub mod Spelling
+pub mod Widths
 pub mod Windows

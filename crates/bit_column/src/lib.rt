@@ -11,7 +11,7 @@ mod width;
 mod writing;
 
 pub use fault::ColumnFault;
-pub use laws::reads_back;
+pub use laws::{reads_back, widths_are_least};
 pub use range::read_range;
 pub use reading::at;
 pub use width::width_for;
