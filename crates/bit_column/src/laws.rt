@@ -4,8 +4,8 @@ ghost use Rattle.bit_column.specs.Bits.{bits_of};
 ghost use Rattle.bit_column.specs.Column.{IsWidth, width_of, bytes_for, spelled, id_at, ids_between};
 ghost use Rattle.bit_column.specs.Sections.{Readable};
 
-/// What is written are the bits of the ids and less than eight zero bits, in no more bytes than these take,
-/// and what is written is read back: no range of it is refused.
+/// What is written are the bits of the ids and less than eight zero bits, in no more bytes than
+/// these take, and what is written is read back: no range of it is refused.
 pub fn reads_back()
     ensures length { (width : ℕ) (ids : List ℕ) →
         length (spelled width ids) ≡ bytes_for (length ids * width) }

@@ -1,4 +1,5 @@
-//! The forward index of a column: the ids of its rows in a fixed number of bits each, written and read.
+//! The forward index of a column: the ids of its rows in a fixed number of bits each, written and
+//! read.
 #![tactic(auto)]
 
 mod bits;

@@ -15,8 +15,8 @@ fn zeros(alloc: Global, size: usize) -> Result<Vec<u8>, NoMemory>
     vec![in alloc; 0u8; size]
 }
 
-/// The bytes of a file between two places behind an offset. It takes memory for them once, and reads until
-/// they are there or the file ends. A file that is not there has no bytes.
+/// The bytes of a file between two places behind an offset. It takes memory for them once, and
+/// reads until they are there or the file ends. A file that is not there has no bytes.
 pub fn read_part<S: Shelf>(
     alloc: Global,
     shelf: &mut S,
@@ -53,7 +53,8 @@ pub fn read_part<S: Shelf>(
     Ok(bytes)
 }
 
-// What comes of bytes past the greatest offset: no file has them, if the shelf tells how long it is.
+// What comes of bytes past the greatest offset: no file has them, if the shelf says how long it
+// is.
 fn past_all<S: Shelf>(alloc: Global, shelf: &mut S, name: &str) -> ColumnFault
     ensures held { S.held shelf.new ≡ S.held shelf.old }
     ensures parts { S.parts shelf.new ≡ S.parts shelf.old }
@@ -72,8 +73,8 @@ fn past_all<S: Shelf>(alloc: Global, shelf: &mut S, name: &str) -> ColumnFault
     }
 }
 
-// Reads the bytes of a file from an offset on into `into`, as many as fit or until the file ends, and says
-// how many.
+// Reads the bytes of a file from an offset on into `into`, as many as fit or until the file ends,
+// and says how many.
 fn fill<S: Shelf>(
     alloc: Global,
     shelf: &mut S,

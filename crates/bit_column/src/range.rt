@@ -11,8 +11,9 @@ use crate::reading::ids_from;
 use outside::{Place, Seq, Shelf};
 use std::alloc::Global;
 
-/// The ids of a section between two indexes, the second left out, in so many bits each. It reads their
-/// bytes and no others, each once. A range without ids is there in any section, and reads nothing.
+/// The ids of a section between two indexes, the second left out, in so many bits each. It reads
+/// their bytes and no others, each once. A range without ids is there in any section, and reads
+/// nothing.
 pub fn read_range<S: Shelf>(
     alloc: Global,
     shelf: &mut S,

@@ -18,7 +18,8 @@ const SPELLED: &[(u32, &[u32], &[u8])] = &[
     (5, &[], &[]),
 ];
 
-// The ids 5, 0, 7, 2, 6, 1, 4, 3 in three bits each, behind a byte of something else and before another.
+// The ids 5, 0, 7, 2, 6, 1, 4, 3 in three bits each, behind a byte of something else and before
+// another.
 const FILE: &[u8] = &[0xff, 0b1010_0011, 0b1010_1100, 0b0110_0011, 0xff];
 
 // Where a section is, as offset and length, how many ids there are, the range, and what comes.

@@ -6,8 +6,8 @@ ghost use Rattle.bit_column.specs.Column.{spelled};
 use crate::bits::{joined, last_byte, whole_byte};
 use outside::NoMemory;
 
-/// Appends ids, each in so many bits with the most significant first, and zero bits to the end of the last
-/// byte.
+/// Appends ids, each in so many bits with the most significant first, and zero bits to the end of
+/// the last byte.
 pub fn write(ids: &[u32], width: u32, out: &mut Vec<u8>) -> Result<(), NoMemory>
     requires width { 1 ≤ width }
     requires bound { width ≤ 32 }
