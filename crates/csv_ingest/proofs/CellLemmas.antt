@@ -10,11 +10,13 @@ use Rattle.std.proofs.lemmas.Str.{IsUtf8-from_ascii, IsUtf8-from_is_utf8, is_utf
 use Rattle.std.proofs.lemmas.Str.Ascii.{IsAscii-from_all}
 use Rattle.values.specs.Numbers.{is_digit, negative, place_value, ranged, spelled_number, unsigned_number, whole_of}
 use Rattle.values.specs.declared.kind.FieldKind.{FieldKind}
+use Rattle.values.specs.declared.kind.FieldKind.TheVariants.{Long}
 use Rattle.values.specs.declared.whole.WholeFault.{WholeFault}
 use Rattle.values.specs.declared.value.Value.TheVariants.{Whole}
 use Rattle.values.specs.Reading.{number_value, value_of}
 use Rattle.csv_ingest.specs.declared.fault.CsvKind.TheVariants.{NotUtf8}
-use Rattle.csv_ingest.specs.Rows.{kinded, value_in}
+use Rattle.table_schema.specs.declared.field.Field.{Field}
+use Rattle.csv_ingest.specs.Rows.{cell_value, kinded, value_in}
 
 digit_ascii : (b : ℕ) → is_digit b ≡ true → b < 128
 digit_ascii b e = grind (arith, nat_tests)
@@ -76,6 +78,16 @@ pub number-found : (kind named : FieldKind) (text : List ℕ) (found : Option �
     → IfSome found (λ n. value_in kind text ≡ Ok (Whole n))
 number-found kind named text found same is got =
     subst (λ k. IfSome found (λ n. value_in k text ≡ Ok (Whole n))) (sym same) (number_by named text found (whole_of named text) is refl got)
+
+long_by : (bytes : List ℕ) (found : Option ℤ) → IfSome found (λ n. value_in Long bytes ≡ Ok (Whole n)) → IfSome found (λ n. (field : Field) → field.kind ≡ Long → value_in field.kind bytes ≡ Ok (Whole n))
+long_by bytes None is = tt
+long_by bytes (Some n) is = λ field kind. subst (λ k. value_in k bytes ≡ Ok (Whole n)) (sym kind) is
+
+-- the number of a cell of a column of 64-bit numbers
+pub long-found : (bytes : List ℕ) (found : Option ℤ) → found ≡ result_ok (whole_of Long bytes) → IfSome found (λ n. (field : Field) → field.kind ≡ Long → cell_value field bytes ≡ Ok (Whole n))
+long-found [] found got =
+    subst (λ r. IfSome r (λ n. (field : Field) → field.kind ≡ Long → cell_value field [] ≡ Ok (Whole n))) (sym got) tt
+long-found (b ∷ bytes) found got = long_by (b ∷ bytes) found (number-found Long Long (b ∷ bytes) found refl refl got)
 
 not_utf8_by : (bytes : List ℕ) (b : Bool) → is_utf8 bytes ≡ b → (IsUtf8 bytes → ⊥) → is_utf8 bytes ≡ false
 not_utf8_by bytes true e never = absurd (never (IsUtf8-from_is_utf8 bytes e))

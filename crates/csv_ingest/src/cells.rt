@@ -14,7 +14,8 @@ use values::{FieldKind, MOST_TEXT_BYTES, Value, ValueFault, read_value, read_who
 
 /// The text of some bytes, if they are UTF-8.
 pub fn text_of(bytes: &[u8]) -> Option<&str>
-    ensures { MatchOption result (is_utf8 bytes.now ≡ false) (λ text. (text.now ≡ bytes.now) × (is_utf8 bytes.now ≡ true)) }
+    ensures { MatchOption result (is_utf8 bytes.now ≡ false)
+        (λ text. (text.now ≡ bytes.now) × (is_utf8 bytes.now ≡ true)) }
 {
     match str::from_utf8(bytes) {
         Ok(text) => Some(text),
@@ -25,7 +26,8 @@ pub fn text_of(bytes: &[u8]) -> Option<&str>
 // The value of a text, which shares its bytes with an equal one that was met of late.
 fn shared_value(texts: &mut Texts, kind: FieldKind, text: &str) -> Result<Value, ValueFault>
     ensures ok { IfOk result (λ value. value_of kind text.now ≡ Ok value) }
-    ensures err { IfErr result (λ fault. fault ≢ ValueFault.NoMemory → value_of kind text.now ≡ Err fault) }
+    ensures err { IfErr result (λ fault. fault ≢ ValueFault.NoMemory
+        → value_of kind text.now ≡ Err fault) }
 {
     if let FieldKind::Text = kind {
         if text.len() > MOST_TEXT_BYTES {
@@ -46,7 +48,8 @@ fn read_text(
     column: u32,
 ) -> Result<Value, CsvFault>
     ensures ok { IfOk result (λ value. placed row column (value_in kind bytes.now) ≡ Ok value) }
-    ensures err { IfErr result (λ fault. fault ≢ CsvFault.NoMemory → placed row column (value_in kind bytes.now) ≡ Err fault) }
+    ensures err { IfErr result (λ fault. fault ≢ CsvFault.NoMemory
+        → placed row column (value_in kind bytes.now) ≡ Err fault) }
 {
     let Some(text) = text_of(bytes) else {
         return Err(CsvFault::At(CsvKind::NotUtf8, row, column));
@@ -71,6 +74,18 @@ fn number_in(kind: FieldKind, bytes: &[u8]) -> Option<i64>
     }
 }
 
+/// The 64-bit number that a cell spells, if it has characters and spells one.
+#[inline(always)]
+pub fn long_in(bytes: &[u8]) -> Option<i64>
+    ensures { IfSome result (λ number. (field : Field) → field.kind ≡ FieldKind.Long
+        → cell_value field bytes.now ≡ Ok (Value.Whole number)) }
+{
+    if bytes.is_empty() {
+        return None;
+    }
+    read_whole(FieldKind::Long, bytes).ok()
+}
+
 // The value of a field in its cell.
 fn read_cell(
     texts: &mut Texts,
@@ -79,8 +94,10 @@ fn read_cell(
     row: u32,
     column: u32,
 ) -> Result<Value, CsvFault>
-    ensures ok { IfOk result (λ value. placed row column (cell_value field.now bytes.now) ≡ Ok value) }
-    ensures err { IfErr result (λ fault. fault ≢ CsvFault.NoMemory → placed row column (cell_value field.now bytes.now) ≡ Err fault) }
+    ensures ok { IfOk result (λ value. placed row column (cell_value field.now bytes.now)
+        ≡ Ok value) }
+    ensures err { IfErr result (λ fault. fault ≢ CsvFault.NoMemory
+        → placed row column (cell_value field.now bytes.now) ≡ Err fault) }
 {
     if bytes.is_empty() {
         return Ok(field.default.copy(texts.alloc())?);
@@ -102,8 +119,10 @@ pub fn read_field(
     requires first { IfSome place (λ n. 1 ≤ n) }
     requires within { IfSome place (λ n. n ≤ length (fields_of cells.now)) }
     requires few { length (fields_of cells.now) < 2 ^ 32 }
-    ensures ok { IfOk result (λ value. value_at row (fields_of cells.now) field.now place ≡ Ok value) }
-    ensures err { IfErr result (λ fault. fault ≢ CsvFault.NoMemory → value_at row (fields_of cells.now) field.now place ≡ Err fault) }
+    ensures ok { IfOk result (λ value. value_at row (fields_of cells.now) field.now place
+        ≡ Ok value) }
+    ensures err { IfErr result (λ fault. fault ≢ CsvFault.NoMemory
+        → value_at row (fields_of cells.now) field.now place ≡ Err fault) }
 {
     match place {
         None => Ok(field.default.copy(texts.alloc())?),

@@ -23,8 +23,12 @@ fn known_rows(
 ) -> Result<Rows, CsvFault>
     requires most { most < 2 ^ 31 }
     requires few { length (fields_of header.now) < 2 ^ 31 }
-    ensures ok { IfOk result (λ rows. (rest : List ℕ) → Reads reader.old rest → rows_in csv_limits fields.now (fields_of header.now ∷ records_left most reader.old rest) ≡ Ok rows) }
-    ensures err { IfErr result (λ fault. fault ≢ CsvFault.NoMemory → (rest : List ℕ) → Reads reader.old rest → rows_in csv_limits fields.now (fields_of header.now ∷ records_left most reader.old rest) ≡ Err fault) }
+    ensures ok { IfOk result (λ rows. (rest : List ℕ) → Reads reader.old rest
+        → rows_in csv_limits fields.now (fields_of header.now ∷ records_left most reader.old rest)
+        ≡ Ok rows) }
+    ensures err { IfErr result (λ fault. fault ≢ CsvFault.NoMemory → (rest : List ℕ)
+        → Reads reader.old rest → rows_in csv_limits fields.now (fields_of header.now
+        ∷ records_left most reader.old rest) ≡ Err fault) }
 {
     let names = names_in(alloc, header)?;
     if let Err(fault) = check_names(fields, &names) {
@@ -42,8 +46,11 @@ fn known_records(
 ) -> Result<Rows, CsvFault>
     requires most { most < 2 ^ 31 }
     requires left { (rest : List ℕ) × Reads reader.old rest × (length rest ≤ 134217728) }
-    ensures ok { IfOk result (λ rows. (rest : List ℕ) → Reads reader.old rest → rows_in csv_limits fields.now (records_left (most + 1) reader.old rest) ≡ Ok rows) }
-    ensures err { IfErr result (λ fault. fault ≢ CsvFault.NoMemory → (rest : List ℕ) → Reads reader.old rest → rows_in csv_limits fields.now (records_left (most + 1) reader.old rest) ≡ Err fault) }
+    ensures ok { IfOk result (λ rows. (rest : List ℕ) → Reads reader.old rest
+        → rows_in csv_limits fields.now (records_left (most + 1) reader.old rest) ≡ Ok rows) }
+    ensures err { IfErr result (λ fault. fault ≢ CsvFault.NoMemory → (rest : List ℕ)
+        → Reads reader.old rest
+        → rows_in csv_limits fields.now (records_left (most + 1) reader.old rest) ≡ Err fault) }
 {
     let mut header = ByteRecord::new(alloc);
     if !next_record(reader, &mut header)? {
@@ -54,16 +61,19 @@ fn known_records(
 
 /// The rows of a CSV text as RFC 4180 has it, one value for each field of the schema.
 ///
-/// The first record is the header. A field stands in the column that has its name; where no column has it,
-/// and where the cell is empty, its default stands in the row. A whole number is an optional `+` or `-` and
-/// one digit or more, within 32 or 64 bits, and a text has at most 512 bytes. Columns that the schema lacks
-/// are passed over, save that their names have to be UTF-8. A line without any character is no record, and
-/// one byte order mark at the start is skipped. There are at most 1,048,576 rows, and at most 16,777,216
-/// values. The fault is the first by record, and within a record by the order of the schema.
+/// The first record is the header. A field stands in the column that has its name; where no column
+/// has it, and where the cell is empty, its default stands in the row. A whole number is an
+/// optional `+` or `-` and one digit or more, within 32 or 64 bits, and a text has at most 512
+/// bytes. Columns that the schema lacks are passed over, save that their names have to be UTF-8. A
+/// line without any character is no record, and one byte order mark at the start is skipped. There
+/// are at most 1,048,576 rows, and at most 16,777,216 values. The fault is the first by record, and
+/// within a record by the order of the schema.
 pub fn read_rows(alloc: Global, schema: &Schema, bytes: &[u8]) -> Result<Rows, CsvFault>
     requires { length bytes.now ≤ 134217728 }
-    ensures ok { IfOk result (λ rows. rows_in csv_limits schema.now.fields (records_of bytes.now) ≡ Ok rows) }
-    ensures err { IfErr result (λ fault. fault ≢ CsvFault.NoMemory → rows_in csv_limits schema.now.fields (records_of bytes.now) ≡ Err fault) }
+    ensures ok { IfOk result (λ rows. rows_in csv_limits schema.now.fields (records_of bytes.now)
+        ≡ Ok rows) }
+    ensures err { IfErr result (λ fault. fault ≢ CsvFault.NoMemory
+        → rows_in csv_limits schema.now.fields (records_of bytes.now) ≡ Err fault) }
 {
     let mut reader = text_reader(alloc, bytes);
     known_records(

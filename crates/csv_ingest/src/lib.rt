@@ -5,6 +5,7 @@ mod cells;
 mod fault;
 mod header;
 mod known;
+mod numbers;
 mod plain;
 mod records;
 mod row;

@@ -25,8 +25,12 @@ fn plain_rows(
     header: &ByteRecord,
 ) -> Result<(Schema, Rows), CsvFault>
     requires { most < 2 ^ 31 }
-    ensures ok { IfOk result (λ table. (rest : List ℕ) → Reads reader.old rest → plain_in csv_limits (fields_of header.now ∷ records_left most reader.old rest) ≡ Ok table) }
-    ensures err { IfErr result (λ fault. fault ≢ CsvFault.NoMemory → (rest : List ℕ) → Reads reader.old rest → plain_in csv_limits (fields_of header.now ∷ records_left most reader.old rest) ≡ Err fault) }
+    ensures ok { IfOk result (λ table. (rest : List ℕ) → Reads reader.old rest
+        → plain_in csv_limits (fields_of header.now ∷ records_left most reader.old rest)
+        ≡ Ok table) }
+    ensures err { IfErr result (λ fault. fault ≢ CsvFault.NoMemory → (rest : List ℕ)
+        → Reads reader.old rest → plain_in csv_limits (fields_of header.now
+        ∷ records_left most reader.old rest) ≡ Err fault) }
 {
     if header.len() > MOST_COLUMNS {
         return Err(CsvFault::TooManyColumns);
@@ -49,8 +53,11 @@ fn plain_records(
     most: usize,
 ) -> Result<(Schema, Rows), CsvFault>
     requires { most < 2 ^ 31 }
-    ensures ok { IfOk result (λ table. (rest : List ℕ) → Reads reader.old rest → plain_in csv_limits (records_left (most + 1) reader.old rest) ≡ Ok table) }
-    ensures err { IfErr result (λ fault. fault ≢ CsvFault.NoMemory → (rest : List ℕ) → Reads reader.old rest → plain_in csv_limits (records_left (most + 1) reader.old rest) ≡ Err fault) }
+    ensures ok { IfOk result (λ table. (rest : List ℕ) → Reads reader.old rest
+        → plain_in csv_limits (records_left (most + 1) reader.old rest) ≡ Ok table) }
+    ensures err { IfErr result (λ fault. fault ≢ CsvFault.NoMemory → (rest : List ℕ)
+        → Reads reader.old rest → plain_in csv_limits (records_left (most + 1) reader.old rest)
+        ≡ Err fault) }
 {
     let mut header = ByteRecord::new(alloc);
     if !next_record(reader, &mut header)? {
@@ -59,17 +66,19 @@ fn plain_records(
     plain_rows(alloc, reader, most, &header)
 }
 
-/// The columns of a CSV text as RFC 4180 has it, and its rows, where each cell is a signed 64-bit number.
+/// The columns of a CSV text as RFC 4180 has it, and its rows, where each cell is a signed 64-bit
+/// number.
 ///
-/// The first record is the header; each of its 1 to 64 names is a column of its own, of 1 to 128 visible
-/// ASCII characters without `"`, `,` and `*`. A number is an optional `+` or `-` and one digit or more, and
-/// an empty cell is 0. A line without any character is no record, and one byte order mark at the start is
-/// skipped. There are at most 1,048,576 rows, and at most 16,777,216 numbers. The fault is the first by
-/// record.
+/// The first record is the header; each of its 1 to 64 names is a column of its own, of 1 to 128
+/// visible ASCII characters without `"`, `,` and `*`. A number is an optional `+` or `-` and one
+/// digit or more, and an empty cell is 0. A line without any character is no record, and one byte
+/// order mark at the start is skipped. There are at most 1,048,576 rows, and at most 16,777,216
+/// numbers. The fault is the first by record.
 pub fn read_plain(alloc: Global, bytes: &[u8]) -> Result<(Schema, Rows), CsvFault>
     requires { length bytes.now ≤ 134217728 }
     ensures ok { IfOk result (λ table. plain_in csv_limits (records_of bytes.now) ≡ Ok table) }
-    ensures err { IfErr result (λ fault. fault ≢ CsvFault.NoMemory → plain_in csv_limits (records_of bytes.now) ≡ Err fault) }
+    ensures err { IfErr result (λ fault. fault ≢ CsvFault.NoMemory
+        → plain_in csv_limits (records_of bytes.now) ≡ Err fault) }
     ensures few { IfOk result (λ table. length table.0.fields ≤ 64) }
     ensures numbers { IfOk result (λ table. All (IsNumbers (length table.0.fields)) table.1) }
 {

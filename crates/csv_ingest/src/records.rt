@@ -11,7 +11,8 @@ use std::alloc::{AllocError, Global};
 /// A reader of the records of a text, of any lengths and with no header row of its own.
 pub fn text_reader(alloc: Global, text: &[u8]) -> Reader<&[u8]>
     ensures reads { Reads result (strip_bom text.now) }
-    ensures left { (n : ℕ) → records_left n result (strip_bom text.now) ≡ records_from default_config n st.StartRecord (strip_bom text.now) }
+    ensures left { (n : ℕ) → records_left n result (strip_bom text.now)
+        ≡ records_from default_config n st.StartRecord (strip_bom text.now) }
 {
     ReaderBuilder::new()
         .has_headers(false)
@@ -22,7 +23,8 @@ pub fn text_reader(alloc: Global, text: &[u8]) -> Reader<&[u8]>
 /// Reads the next record into `row`, if there is one.
 pub fn next_record(reader: &mut Reader<&[u8]>, row: &mut ByteRecord) -> Result<bool, AllocError>
     ensures { (rest : List ℕ) → Reads reader.old rest → IfOk result (λ found. MatchBool found
-        ((after : List ℕ) × Reads reader.new after × ((n : ℕ) → records_left (n + 1) reader.old rest ≡ fields_of row.new ∷ records_left n reader.new after))
+        ((after : List ℕ) × Reads reader.new after × ((n : ℕ) → records_left (n + 1) reader.old rest
+        ≡ fields_of row.new ∷ records_left n reader.new after))
         ((n : ℕ) → records_left (n + 1) reader.old rest ≡ [])) }
 {
     let Ok(found) = reader.read_byte_record(row) else {

@@ -1,11 +1,12 @@
 // One record as a row of a table.
-ghost use Rattle.std.specs.Prelude.{◌≡◌, ◌≢◌, ◌≤◌, ◌<◌, ◌^◌, map, length, IfOk, IfErr, IfSome, Ok, Err};
+ghost use Rattle.std.specs.Prelude.{◌≡◌, ◌≢◌, ◌≤◌, ◌<◌, ◌^◌, map, length, IfOk, IfErr, IfSome, true, Ok, Err};
 ghost use Rattle.std.specs.List.{position_from};
 ghost use Rattle.std.specs.Str.{bytes_eq};
 ghost use Rattle.csv.specs.Records.{fields_of};
-ghost use Rattle.csv_ingest.specs.Rows.{csv_limits, most_rows, place_of, row_at, values_of};
+ghost use Rattle.csv_ingest.specs.Rows.{csv_limits, InOrder, most_rows, place_of, row_at, values_of};
 
 use crate::cells::read_field;
+use crate::numbers::read_numbers;
 use crate::texts::Texts;
 use crate::{CsvFault, CsvKind};
 use csv::ByteRecord;
@@ -31,7 +32,8 @@ pub fn places_of(
     fields: &[Field],
     names: &[&[u8]],
 ) -> Result<Vec<Option<usize>>, AllocError>
-    ensures { IfOk result (λ places. places.items ≡ map (place_of (map (λ f. f.now) names.now)) fields.now) }
+    ensures { IfOk result (λ places. places.items ≡ map (place_of
+        (map (λ f. f.now) names.now)) fields.now) }
 {
     let mut places = Vec::with_capacity(alloc, fields.len())?;
     for i in 0..fields.len() {
@@ -61,8 +63,10 @@ fn read_values(
     requires places { places.now ≡ map (place_of (map (λ f. f.now) names.now)) fields.now }
     requires width { length (fields_of cells.now) ≡ length names.now }
     requires few { length names.now < 2 ^ 32 }
-    ensures ok { IfOk result (λ values. values_of fields.now (map (λ f. f.now) names.now) row (fields_of cells.now) ≡ Ok values) }
-    ensures err { IfErr result (λ fault. fault ≢ CsvFault.NoMemory → values_of fields.now (map (λ f. f.now) names.now) row (fields_of cells.now) ≡ Err fault) }
+    ensures ok { IfOk result (λ values.
+        values_of fields.now (map (λ f. f.now) names.now) row (fields_of cells.now) ≡ Ok values) }
+    ensures err { IfErr result (λ fault. fault ≢ CsvFault.NoMemory
+        → values_of fields.now (map (λ f. f.now) names.now) row (fields_of cells.now) ≡ Err fault) }
 {
     let mut values = Seq::with_capacity(alloc, fields.len())?;
     'values: for i in 0..fields.len() {
@@ -81,13 +85,19 @@ pub fn read_row(
     fields: &[Field],
     names: &[&[u8]],
     places: &[Option<usize>],
+    in_order: bool,
     cells: &ByteRecord,
     row: u32,
 ) -> Result<Row, CsvFault>
     requires places { places.now ≡ map (place_of (map (λ f. f.now) names.now)) fields.now }
     requires few { length names.now < 2 ^ 32 }
-    ensures ok { IfOk result (λ values. row_at csv_limits fields.now (map (λ f. f.now) names.now) (row, fields_of cells.now) ≡ Ok values) }
-    ensures err { IfErr result (λ fault. fault ≢ CsvFault.NoMemory → row_at csv_limits fields.now (map (λ f. f.now) names.now) (row, fields_of cells.now) ≡ Err fault) }
+    requires order { in_order ≡ true → InOrder fields.now places.now }
+    ensures ok { IfOk result (λ values.
+        row_at csv_limits fields.now (map (λ f. f.now) names.now) (row, fields_of cells.now)
+        ≡ Ok values) }
+    ensures err { IfErr result (λ fault. fault ≢ CsvFault.NoMemory
+        → row_at csv_limits fields.now (map (λ f. f.now) names.now) (row, fields_of cells.now)
+        ≡ Err fault) }
 {
     let most = most_rows(fields.len());
     if row > most {
@@ -95,6 +105,9 @@ pub fn read_row(
     }
     if cells.len() != names.len() {
         return Err(CsvFault::At(CsvKind::WrongLength, row, 0));
+    }
+    if in_order {
+        return read_numbers(alloc, texts, fields, names, places, cells, row);
     }
     read_values(alloc, texts, fields, names, places, cells, row)
 }

@@ -4,6 +4,7 @@ ghost use Rattle.csv_ingest.specs.Reading.{Reads, records_left};
 ghost use Rattle.csv_ingest.specs.Rows.{csv_limits, place_of, rows_of};
 
 use crate::CsvFault;
+use crate::numbers::are_in_order;
 use crate::records::next_record;
 use crate::row::{places_of, read_row};
 use crate::texts::Texts;
@@ -24,9 +25,14 @@ fn rows_by(
     requires places { places.now ≡ map (place_of (map (λ f. f.now) names.now)) fields.now }
     requires most { most < 2 ^ 31 }
     requires few { length names.now < 2 ^ 32 }
-    ensures ok { IfOk result (λ rows. (rest : List ℕ) → Reads reader.old rest → rows_of csv_limits fields.now (map (λ f. f.now) names.now) (records_left most reader.old rest) ≡ Ok rows) }
-    ensures err { IfErr result (λ fault. fault ≢ CsvFault.NoMemory → (rest : List ℕ) → Reads reader.old rest → rows_of csv_limits fields.now (map (λ f. f.now) names.now) (records_left most reader.old rest) ≡ Err fault) }
+    ensures ok { IfOk result (λ rows. (rest : List ℕ) → Reads reader.old rest
+        → rows_of csv_limits fields.now (map (λ f. f.now) names.now)
+        (records_left most reader.old rest) ≡ Ok rows) }
+    ensures err { IfErr result (λ fault. fault ≢ CsvFault.NoMemory → (rest : List ℕ)
+        → Reads reader.old rest → rows_of csv_limits fields.now (map (λ f. f.now) names.now)
+        (records_left most reader.old rest) ≡ Err fault) }
 {
+    let in_order = are_in_order(fields, places);
     let mut record = ByteRecord::new(alloc);
     let mut texts = Texts::new(alloc);
     let mut rows = Seq::new(alloc);
@@ -40,6 +46,7 @@ fn rows_by(
             fields,
             names,
             places,
+            in_order,
             &record,
             i as u32 + 1,
         ) {
@@ -60,8 +67,12 @@ pub fn rows_below(
 ) -> Result<Rows, CsvFault>
     requires most { most < 2 ^ 31 }
     requires few { length names.now < 2 ^ 32 }
-    ensures ok { IfOk result (λ rows. (rest : List ℕ) → Reads reader.old rest → rows_of csv_limits fields.now (map (λ f. f.now) names.now) (records_left most reader.old rest) ≡ Ok rows) }
-    ensures err { IfErr result (λ fault. fault ≢ CsvFault.NoMemory → (rest : List ℕ) → Reads reader.old rest → rows_of csv_limits fields.now (map (λ f. f.now) names.now) (records_left most reader.old rest) ≡ Err fault) }
+    ensures ok { IfOk result (λ rows. (rest : List ℕ) → Reads reader.old rest
+        → rows_of csv_limits fields.now (map (λ f. f.now) names.now)
+        (records_left most reader.old rest) ≡ Ok rows) }
+    ensures err { IfErr result (λ fault. fault ≢ CsvFault.NoMemory → (rest : List ℕ)
+        → Reads reader.old rest → rows_of csv_limits fields.now (map (λ f. f.now) names.now)
+        (records_left most reader.old rest) ≡ Err fault) }
 {
     let places = places_of(alloc, fields, names)?;
     rows_by(alloc, reader, most, fields, names, &places)

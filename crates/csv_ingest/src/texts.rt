@@ -8,7 +8,8 @@ use values::Name;
 // How many texts are remembered at most.
 const SLOTS: usize = 16_384;
 
-/// Texts that were met of late, each in the slot that its hash gives it. It takes no memory before the first.
+/// Texts that were met of late, each in the slot that its hash gives it. It takes no memory before
+/// the first.
 #[derive(Drop)]
 pub struct Texts {
     alloc: Global,

@@ -23,7 +23,7 @@ use query_bind::{BindFault, bind};
 use query_parser::{Query, QueryFault, parse};
 use std::alloc::{AllocError, Global};
 use table_schema::{Agg, BoundQuery, Field, Schema, Settings, Table};
-use values::{Name, Row, Seq};
+use values::{Name, Rows, Seq};
 
 // The column that is added up; none where the rows are counted.
 fn summed(aggs: &[Agg]) -> Option<u16>
@@ -57,8 +57,8 @@ fn folded(alloc: Global, sums: Option<u16>, tally: &Tally) -> Result<String, All
 }
 
 // The reply of a fold of the rows that satisfy the conjuncts.
-fn fold_reply(alloc: Global, bound: &BoundQuery, rows: &[Row]) -> Result<Reply, AllocError>
-    ensures { IfOk result (IsReply (Replies (fold_text bound.now rows.now))) }
+fn fold_reply(alloc: Global, bound: &BoundQuery, rows: Rows) -> Result<Reply, AllocError>
+    ensures { IfOk result (IsReply (Replies (fold_text bound.now rows))) }
 {
     let sums = summed(bound.aggs.as_slice());
     let tally = tally_rows(rows, bound.conjuncts.as_slice(), sums);
@@ -72,11 +72,11 @@ fn bound_reply(
     alloc: Global,
     query: &Query,
     table: &Table,
-    rows: &[Row],
+    rows: Rows,
 ) -> Result<Reply, AllocError>
     requires few { length table.now.schema.fields ≤ 64 }
     requires spelled { Spelled query.now }
-    ensures step { IfOk result (IsReply (bound_answer rows.now (bound table.now true query.now))) }
+    ensures step { IfOk result (IsReply (bound_answer rows (bound table.now true query.now))) }
     ensures line { IfOk result MayReply }
     ensures apart { IfOk result TellsNoStore }
 {
@@ -116,11 +116,11 @@ fn formed_reply(
     alloc: Global,
     query: &Query,
     schema: Schema,
-    rows: &[Row],
+    rows: Rows,
 ) -> Result<Reply, AllocError>
     requires few { length schema.fields ≤ 64 }
     requires spelled { Spelled query.now }
-    ensures step { IfOk result (IsReply (formed_answer schema rows.now query.now)) }
+    ensures step { IfOk result (IsReply (formed_answer schema rows query.now)) }
     ensures line { IfOk result MayReply }
     ensures apart { IfOk result TellsNoStore }
 {
@@ -135,9 +135,9 @@ fn formed_reply(
 const SQL_LIMIT: usize = 65_536;
 
 // The reply to a query's text over rows of these fields.
-fn sql_reply(alloc: Global, sql: &str, schema: Schema, rows: &[Row]) -> Result<Reply, AllocError>
+fn sql_reply(alloc: Global, sql: &str, schema: Schema, rows: Rows) -> Result<Reply, AllocError>
     requires { length schema.fields ≤ 64 }
-    ensures step { IfOk result (IsReply (sql_answer sql.now schema rows.now)) }
+    ensures step { IfOk result (IsReply (sql_answer sql.now schema rows)) }
     ensures line { IfOk result MayReply }
     ensures apart { IfOk result TellsNoStore }
 {
@@ -164,7 +164,7 @@ fn scan_text(alloc: Global, sql: &str, text: Bytes) -> Result<Reply, AllocError>
     let table = read_plain(alloc, text.as_slice());
     drop(text);
     match table {
-        Ok((schema, rows)) => sql_reply(alloc, sql, schema, rows.as_slice()),
+        Ok((schema, rows)) => sql_reply(alloc, sql, schema, rows),
         Err(fault) => Reply::no_rows(alloc, fault),
     }
 }

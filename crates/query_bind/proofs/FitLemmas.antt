@@ -1,7 +1,7 @@
 -- Values in tests have the type of their field.
 use Rattle.std.proofs.Common.{◌≡◌, ◌==◌, ℕ, Bool, true, false, not, ◌&&◌, List, [], ◌∷◌, ◌++◌, map, flat_map, Option, Some, None, Ok, is_some, option_map, option_and_then, unwrap_or, if◌then◌else◌, refl, sym, ap, ◌∙◌, subst, eq-eqb}
 use Rattle.std.specs.List.{list_all, slice_get}
-use Rattle.std.proofs.lemmas.Bool.{false≢true, eqb-true}
+use Rattle.std.proofs.lemmas.Bool.{eqb-true}
 use Rattle.std.proofs.lemmas.Option.{none-some}
 use Rattle.std.proofs.lemmas.List.{map-append}
 use Rattle.std.proofs.lemmas.List.Folds.{list_all-append}
@@ -37,6 +37,7 @@ use Rattle.query_bind.specs.Conjuncts.{opposite_if, members_of_all, members_of_a
 use Rattle.query_bind.specs.Names.{column_finding, kind_of, fits, literal_finding, term_finding, condition_step, condition_finding, where_finding, table_finding, names_finding}
 use Rattle.query_bind.specs.Bound.{Bound, bound_of, bound, query_finding}
 use Rattle.query_bind.specs.Fits.{kind_at, fits_step, test_fits, wide_step, wide_fits, conjunct_fits, ConjunctsFit}
+use Rattle.query_bind.proofs.Truth.{and_of, both}
 use Rattle.query_bind.proofs.PlaceLemmas.{none_first, none_later, answered}
 
 -- ---- truth
@@ -44,13 +45,6 @@ use Rattle.query_bind.proofs.PlaceLemmas.{none_first, none_later, answered}
 and_true : (b : Bool) → b && true ≡ b
 and_true true = refl
 and_true false = refl
-
-and_of : (a b : Bool) → a ≡ true → b ≡ true → (a && b) ≡ true
-and_of a b e f = ap (λ c. c && b) e ∙ f
-
-both : (a b : Bool) → (a && b) ≡ true → (a ≡ true) × (b ≡ true)
-both true b e = (refl, e)
-both false b e = absurd (false≢true e)
 
 all_true-append : (bs cs : List Bool) → all_true (bs ++ cs) ≡ (all_true bs && all_true cs)
 all_true-append [] cs = refl

@@ -14,10 +14,10 @@ use Rattle.query_bind.specs.Written.{Written, All, Any, members_of, written_step
 use Rattle.query_bind.specs.Conjuncts.{conjoined, disjoined, all_of, any_of, normal, normals}
 use Rattle.query_bind.specs.Joints.{other_if, join, parts, gathered, all_gathered}
 
-written-All : (fields : List Field) (cs : List Cond) → written fields (cond.All cs) ≡ All (members_of (map (written fields) cs))
+pub written-All : (fields : List Field) (cs : List Cond) → written fields (cond.All cs) ≡ All (members_of (map (written fields) cs))
 written-All fields cs = ap (written fields) (sym (rolls-All cs)) ∙ fold-roll-Cond Written (written_step fields) (Cond-F.All cs)
 
-written-Any : (fields : List Field) (cs : List Cond) → written fields (cond.Any cs) ≡ Any (members_of (map (written fields) cs))
+pub written-Any : (fields : List Field) (cs : List Cond) → written fields (cond.Any cs) ≡ Any (members_of (map (written fields) cs))
 written-Any fields cs = ap (written fields) (sym (rolls-Any cs)) ∙ fold-roll-Cond Written (written_step fields) (Cond-F.Any cs)
 
 normals_are : (negated : Bool) (ws : List Written) → normals negated (members_of ws) ≡ map (normal negated) ws

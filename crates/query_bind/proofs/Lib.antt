@@ -8,3 +8,8 @@ pub mod RowLemmas
 pub mod WideLemmas
 mod WithinLemmas
 mod FitLemmas
+mod SpelledLemmas
+mod SeveralLemmas
+mod FunctionLemmas
+mod Truth
+mod TermLemmas

@@ -1,8 +1,7 @@
 -- Numbers of fields that stand for names are in range.
-use Rattle.std.proofs.Common.{◌≡◌, ℕ, suc, ◌+◌, ◌<◌, ◌==◌, nat_lt, Bool, true, false, ◌&&◌, cond, List, [], ◌∷◌, ◌++◌, length, map, flat_map, Option, Some, None, Ok, is_some, unwrap_or, if◌then◌else◌, refl, sym, ap, ◌∙◌, subst, arith, rules, tests}
-use Rattle.std.specs.List.{list_any, list_all}
+use Rattle.std.proofs.Common.{◌≡◌, ℕ, suc, ◌+◌, ◌<◌, ◌==◌, nat_lt, Bool, true, false, List, [], ◌∷◌, ◌++◌, length, map, flat_map, Option, Some, None, Ok, is_some, unwrap_or, if◌then◌else◌, refl, sym, ap, ◌∙◌, subst, arith, rules, tests}
+use Rattle.std.specs.List.{list_all}
 use Rattle.std.specs.Str.{bytes_eq}
-use Rattle.std.proofs.lemmas.Bool.{false≢true}
 use Rattle.std.proofs.lemmas.Option.{none-some}
 use Rattle.std.proofs.lemmas.List.{append-nil}
 use Rattle.std.proofs.lemmas.List.Concat.{flat_map-append}
@@ -24,8 +23,6 @@ use Rattle.query_parser.specs.declared.tree.Argument.{Argument}
 use Rattle.query_parser.specs.declared.tree.Argument.TheVariants as argument
 use Rattle.query_parser.specs.declared.tree.Term.{Term}
 use Rattle.query_parser.specs.declared.tree.Term.TheVariants as term
-use Rattle.query_parser.specs.declared.tree.QueryItem.{QueryItem}
-use Rattle.query_parser.specs.declared.tree.QueryKey.{QueryKey}
 use Rattle.query_parser.specs.declared.tree.Cond.{Cond}
 use Rattle.query_parser.specs.declared.tree.Cond.TheOpen.{Cond-F}
 use Rattle.query_parser.specs.declared.tree.Cond.TheFolds.{fold-roll-Cond, ind-Cond, map-Cond}
@@ -33,25 +30,17 @@ use Rattle.query_parser.specs.declared.tree.Cond.TheViews.{roll-Cond}
 use Rattle.query_parser.specs.declared.tree.Query.{Query}
 use Rattle.query_bind.specs.declared.fault.BindReason.TheVariants.{UnknownColumn}
 use Rattle.query_bind.specs.declared.fault.BindFault.TheVariants.{At}
-use Rattle.query_bind.specs.declared.terms.Meaning.{Meaning}
-use Rattle.query_bind.specs.declared.terms.Meaning.TheVariants as meaning
-use Rattle.query_bind.specs.declared.terms.TermAt.{TermAt}
 use Rattle.query_bind.specs.Faults.{Finding, fault_unless, or_else, first_of, first_in}
 use Rattle.query_bind.specs.Written.{Written, Compare, OneOf, Between, Not, All, Any, Members, no_members, member, members_of, field_number, written, written_step, where_written}
 use Rattle.query_bind.specs.Conjuncts.{opposite_if, members_of_all, members_of_any, conjoined, disjoined, all_of, any_of, normal, normals, fields_step, fields_of, only_field, conjunct_by, conjunct, where_conjuncts}
 use Rattle.query_bind.specs.Names.{meant, column_finding, argument_finding, term_finding, condition_step, condition_finding, where_finding, table_finding, names_finding}
-use Rattle.query_bind.specs.Terms.{meaning_of, term_at, key_at, column_at, agg_of, terms_of, with_new, with_column, columns_from, same_agg, with_agg, aggs_from}
+use Rattle.query_bind.specs.Terms.{meaning_of, column_at, agg_of, with_column, columns_from}
 use Rattle.query_bind.specs.Bound.{Bound, bound_of, bound, query_finding}
 use Rattle.query_bind.specs.Within.{is_in, column_in, conjunct_in, GroupsAreIn, AggsAreIn, ConjunctsAreIn}
+use Rattle.query_bind.proofs.Truth.{and_of, both, all_true}
 use Rattle.query_bind.proofs.PlaceLemmas.{none_first, none_later, answered}
 use Rattle.query_bind.proofs.WideLemmas.{fields_of-Leaf, fields_of-All, fields_of-Any}
-
-and_of : (a b : Bool) → a ≡ true → b ≡ true → (a && b) ≡ true
-and_of a b e f = ap (λ c. c && b) e ∙ f
-
-both : (a b : Bool) → (a && b) ≡ true → (a ≡ true) × (b ≡ true)
-both true b e = (refl, e)
-both false b e = absurd (false≢true e)
+use Rattle.query_bind.proofs.TermLemmas.{all_new, meaning_is, aggs_are}
 
 -- ---- names
 
@@ -74,14 +63,7 @@ known_by fields name at (Some m) e passes =
 known_in : (fields : List Field) (n : NameAt) → column_finding fields n ≡ None → is_in fields (field_number fields n) ≡ true
 known_in fields n passes = known_by fields n.name n.offset (number_of fields n.name) refl passes
 
--- ---- lists without repeats
-
-all_new_by : {A : Type 0} (p : A → Bool) (kept : List A) (x : A) (b : Bool) → list_all p kept ≡ true → p x ≡ true → list_all p (cond b kept (kept ++ x ∷ [])) ≡ true
-all_new_by p kept x true all own = all
-all_new_by p kept x false all own = list_all-append p kept (x ∷ []) ∙ and_of (list_all p kept) (p x && true) all (and_of (p x) true own refl)
-
-all_new : {A : Type 0} (same : A → A → Bool) (p : A → Bool) (kept : List A) (x : A) → list_all p kept ≡ true → p x ≡ true → list_all p (with_new same kept x) ≡ true
-all_new same p kept x all own = all_new_by p kept x (list_any (same x) kept) all own
+-- ---- group columns
 
 module _ (fields : List Field) where
   columns_in : (kept : List ℕ) (names : List NameAt) → list_all (is_in fields) kept ≡ true → first_in (column_finding fields) names ≡ None
@@ -97,10 +79,6 @@ module _ (fields : List Field) where
   abbrev agg_in : Agg → Bool
   agg_in a = column_in fields a.column
 
-  abbrev meaning_in : Meaning → Bool
-  meaning_in (meaning.Column c) = true
-  meaning_in (meaning.Agg a) = agg_in a
-
   call_in : (f : Func) (a : Argument) → argument_finding fields f a ≡ None → agg_in (agg_of fields f a) ≡ true
   call_in func.Count a passes = refl
   call_in func.Sum argument.Star passes = refl
@@ -112,35 +90,14 @@ module _ (fields : List Field) where
   call_in func.Avg argument.Star passes = refl
   call_in func.Avg (argument.Column n) passes = known_in fields n (none_first (column_finding fields n) _ passes)
 
-  term_in : (t : Term) → term_finding fields t ≡ None → meaning_in (meaning_of fields t) ≡ true
-  term_in (term.Column n) passes = refl
-  term_in (term.Call c) passes = call_in c.func c.argument passes
-
-  agg_kept_in : (kept : List Agg) (m : Meaning) → list_all agg_in kept ≡ true → meaning_in m ≡ true → list_all agg_in (with_agg kept m) ≡ true
-  agg_kept_in kept (meaning.Column c) all own = all
-  agg_kept_in kept (meaning.Agg a) all own = all_new same_agg agg_in kept a all own
-
-  aggs_in : (kept : List Agg) (ts : List TermAt) → list_all agg_in kept ≡ true → list_all (λ t. meaning_in t.meaning) ts ≡ true → list_all agg_in (aggs_from kept ts) ≡ true
-  aggs_in kept [] all own = all
-  aggs_in kept (t ∷ ts) all own =
-      let parts = both (meaning_in t.meaning) (list_all (λ t. meaning_in t.meaning) ts) own in
-      aggs_in (with_agg kept t.meaning) ts (agg_kept_in kept t.meaning all parts.0) parts.1
-
-  items_in : (items : List QueryItem) → first_in (λ i. term_finding fields i.term) items ≡ None → list_all (λ t. meaning_in t.meaning) (map (λ i. term_at fields i.term) items) ≡ true
-  items_in [] passes = refl
-  items_in (i ∷ is) passes = and_of (meaning_in (meaning_of fields i.term)) _ (term_in i.term (none_first (term_finding fields i.term) _ passes)) (items_in is (none_later (term_finding fields i.term) _ passes))
-
-  keys_in : (items : List QueryItem) (ks : List QueryKey) → first_in (λ k. term_finding fields (meant items k.term)) ks ≡ None
-      → list_all (λ t. meaning_in t.meaning) (map (λ k. k.term) (map (key_at fields items) ks)) ≡ true
-  keys_in items [] passes = refl
-  keys_in items (k ∷ ks) passes =
-      and_of (meaning_in (meaning_of fields (meant items k.term))) _ (term_in (meant items k.term) (none_first (term_finding fields (meant items k.term)) _ passes))
-      (keys_in items ks (none_later (term_finding fields (meant items k.term)) _ passes))
+  term_in : (t : Term) → term_finding fields t ≡ None → true ≡ true → meaning_is agg_in (meaning_of fields t) ≡ true
+  term_in (term.Column n) passes own = refl
+  term_in (term.Call c) passes own = call_in c.func c.argument passes
 
 -- ---- the normal form names the fields of the condition
 
 abbrev mutual
-  named_in : Written → List ℕ
+  pub named_in : Written → List ℕ
   named_in (Compare c op v) = c ∷ []
   named_in (OneOf c vs n) = c ∷ []
   named_in (Between c low high n) = c ∷ []
@@ -148,7 +105,7 @@ abbrev mutual
   named_in (All ws) = names_in ws
   named_in (Any ws) = names_in ws
 
-  names_in : Members → List ℕ
+  pub names_in : Members → List ℕ
   names_in no_members = []
   names_in (member w ws) = named_in w ++ names_in ws
 
@@ -193,7 +150,7 @@ join_any true ws e = all_of_fields (normals true ws) ∙ e
 join_any false ws e = any_of_fields (normals false ws) ∙ e
 
 mutual
-  normal_fields : (n : Bool) (w : Written) → fields_of (normal n w) ≡ named_in w
+  pub normal_fields : (n : Bool) (w : Written) → fields_of (normal n w) ≡ named_in w
   normal_fields n (Compare c op v) = fields_of-Leaf c (test.Compare (opposite_if n op) v)
   normal_fields n (OneOf c vs m) = fields_of-Leaf c (test.OneOf vs (negated_if n m))
   normal_fields n (Between c low high m) = fields_of-Leaf c (test.Between low high (negated_if n m))
@@ -289,13 +246,8 @@ module _ (table : Table) (any_table : Bool) (q : Query) (b : Bound) (is : bound 
   groups_in : list_all (is_in fields) b.groups ≡ true
   groups_in = subst (λ x. list_all (is_in fields) x.groups ≡ true) own.1 (columns_in fields [] q.groups refl (none_first (first_in (column_finding fields) q.groups) _ after_where))
 
-  keys : first_in (λ k. term_finding fields (meant q.items k.term)) q.order ≡ None
-  keys = none_first (first_in (λ k. term_finding fields (meant q.items k.term)) q.order) _ (none_later (first_in (column_finding fields) q.groups) _ after_where)
-
   all_aggs_in : list_all (agg_in fields) b.aggs ≡ true
-  all_aggs_in = subst (λ x. list_all (agg_in fields) x.aggs ≡ true) own.1
-      (aggs_in fields (aggs_from [] (terms_of fields q).items) (map (λ k. k.term) (terms_of fields q).keys)
-      (aggs_in fields [] (terms_of fields q).items refl (items_in fields q.items items)) (keys_in fields q.items q.order keys))
+  all_aggs_in = subst (λ x. list_all (agg_in fields) x.aggs ≡ true) own.1 (aggs_are fields (agg_in fields) (λ t. true) (term_in fields) q names (all_true q.items) (all_true q.order))
 
   all_conjuncts_in : list_all (conjunct_in fields) (where_conjuncts b.condition) ≡ true
   all_conjuncts_in = subst (λ x. list_all (conjunct_in fields) (where_conjuncts x.condition) ≡ true) own.1 (where_in fields q.condition (none_first (where_finding fields q.condition) _ after_items))

@@ -12,3 +12,5 @@ pub mod Firsts
 pub mod Once
 pub mod Within
 pub mod Fits
+pub mod Several
+pub mod Functions

@@ -9,7 +9,7 @@ use Rattle.query_bind.specs.declared.terms.Meaning.{Meaning}
 use Rattle.query_bind.specs.declared.terms.Meaning.TheVariants as meaning
 use Rattle.query_bind.specs.Names.{meant}
 use Rattle.query_bind.specs.Terms.{meaning_of}
-use Rattle.query_bind.specs.Bound.{Bound, bound}
+use Rattle.query_bind.specs.Bound.{Bound, bound, Spelled}
 
 -- the column or the aggregate at a place, if there is one
 abbrev pub at_place : Bound → Item → Option Meaning
@@ -19,6 +19,10 @@ at_place b (item.Agg place) = option_map meaning.Agg (slice_get b.aggs place)
 -- what every bound query has
 abbrev pub OfBound : (Table → Query → Bound → Type 0) → Type 0
 OfBound Has = (table : Table) (any_table : Bool) (q : Query) (b : Bound) → bound table any_table q ≡ Ok b → Has table q b
+
+-- what every bound query has that some text spells
+abbrev pub OfSpelled : (Table → Query → Bound → Type 0) → Type 0
+OfSpelled Has = OfBound (λ table q b. Spelled q → Has table q b)
 
 -- at the place of each item stands what its term is
 abbrev pub ItemsAreTerms : Type 0

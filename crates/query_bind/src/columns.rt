@@ -1,7 +1,6 @@
 //! Columns that a query names.
 
-ghost use Rattle.std.specs.Prelude.{◌≡◌, ◌<◌, ◌≤◌, length, IfOk, IfErr, IfSome, Some, None};
-ghost use Rattle.table_schema.specs.Columns as fields_spec;
+ghost use Rattle.std.specs.Prelude.{◌≡◌, ◌≤◌, length, IfOk, IfErr, Some, None};
 ghost use Rattle.query_bind.specs.Names as spec;
 ghost use Rattle.query_bind.specs.Written.{field_number};
 ghost use Rattle.query_bind.specs.Faults.{Resolves};
@@ -11,27 +10,13 @@ use query_parser::NameAt;
 use table_schema::Field;
 use values::FieldKind;
 
-/// The number of the field of that name.
-pub(crate) fn number_of(fields: &[Field], name: &[u8]) -> Option<u16>
-    requires { length fields.now ≤ 64 }
-    ensures number { result ≡ fields_spec.number_of fields.now name.now }
-    ensures within { IfSome result (λ number. number < length fields.now) }
-{
-    for (number, field) in fields.iter().enumerate() {
-        if field.name.as_slice() == name {
-            return Some(number as u16);
-        }
-    }
-    None
-}
-
 /// The number of the field that a column is.
 pub(crate) fn column(fields: &[Field], name: &NameAt) -> Result<u16, BindFault>
     requires { length fields.now ≤ 64 }
     ensures { Resolves (spec.column_finding fields.now name.now)
         (field_number fields.now name.now) result }
 {
-    match number_of(fields, name.name.as_slice()) {
+    match Field::number_of(fields, name.name.as_slice()) {
         Some(number) => Ok(number),
         None => Err(BindFault::At(BindReason::UnknownColumn, name.offset)),
     }
@@ -44,7 +29,7 @@ pub(crate) fn kind_of(fields: &[Field], name: &NameAt) -> Result<FieldKind, Bind
     ensures kind { IfOk result (λ kind. spec.kind_of fields.now name.now ≡ Some kind) }
     ensures err { IfErr result (λ fault. spec.column_finding fields.now name.now ≡ Some fault) }
 {
-    match number_of(fields, name.name.as_slice()) {
+    match Field::number_of(fields, name.name.as_slice()) {
         Some(number) => Ok(fields[number as usize].kind),
         None => Err(BindFault::At(BindReason::UnknownColumn, name.offset)),
     }

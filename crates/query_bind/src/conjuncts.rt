@@ -1,7 +1,8 @@
 //! The conjuncts of a condition.
 
-ghost use Rattle.std.specs.Prelude.{◌≡◌, ◌≤◌, ◌==◌, length, map, flat_map, IfOk};
+ghost use Rattle.std.specs.Prelude.{◌≡◌, ◌≤◌, ◌==◌, length, map, flat_map, None, IfOk};
 ghost use Rattle.std.specs.List.{list_all};
+ghost use Rattle.query_bind.specs.Names.{where_finding};
 ghost use Rattle.query_bind.specs.Written.{where_written};
 ghost use Rattle.query_bind.specs.Conjuncts as spec;
 ghost use Rattle.query_bind.specs.Conjuncts.{KeepRows};
@@ -122,7 +123,8 @@ pub(crate) fn conjuncts(
     fields: &[Field],
     condition: &Option<Cond>,
 ) -> Result<Seq<Conjunct>, NoMemory>
-    requires { length fields.now ≤ 64 }
+    requires few { length fields.now ≤ 64 }
+    requires checked { where_finding fields.now condition.now ≡ None }
     ensures form { IfOk result
         (λ cs. cs ≡ spec.where_conjuncts (where_written fields.now condition.now)) }
     ensures rows { IfOk result (λ cs. KeepRows cs (where_written fields.now condition.now)) }

@@ -2,14 +2,12 @@
 
 ghost use Rattle.std.specs.Prelude.{◌≡◌, ◌≢◌, ◌≤◌, ◌||◌, nat_le, nat_lt, length, map, [], Some, None, OnOk, IfOk, IfErr};
 ghost use Rattle.std.specs.List.{list_any};
-ghost use Rattle.table_schema.specs.Pairs as pairs;
 ghost use Rattle.query_bind.specs.Terms as spec;
 ghost use Rattle.query_bind.specs.Limits as limits;
 ghost use Rattle.query_bind.specs.Faults.{Gives, fault_if};
 
 use crate::terms::{ColumnAt, KeyAt, Meaning, TermAt, Terms};
 use crate::{BindFault, BindReason};
-use agg_laws::AggKind;
 use std::alloc::Global;
 use table_schema::Agg;
 use values::Seq;
@@ -126,31 +124,9 @@ fn is_among(aggs: &[Agg], agg: Agg) -> bool
     ensures { result ≡ list_any (spec.same_agg agg) aggs.now }
 {
     for other in aggs {
-        if same_agg(agg, *other) {
+        if agg == *other {
             return true;
         }
     }
     false
-}
-
-pub(crate) fn same_agg(a: Agg, b: Agg) -> bool
-    ensures { result ≡ spec.same_agg a b }
-{
-    same_function(a.kind, b.kind) && same_column(a.column, b.column)
-}
-
-fn same_function(a: AggKind, b: AggKind) -> bool
-    ensures { result ≡ pairs.same_function a b }
-{
-    a == b
-}
-
-fn same_column(a: Option<u16>, b: Option<u16>) -> bool
-    ensures { result ≡ pairs.same_column a b }
-{
-    match (a, b) {
-        (None, None) => true,
-        (Some(a), Some(b)) => a == b,
-        _ => false,
-    }
 }

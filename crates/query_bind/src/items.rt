@@ -5,7 +5,6 @@ ghost use Rattle.std.specs.List.{position_or_len};
 ghost use Rattle.query_bind.specs.Terms as terms_spec;
 ghost use Rattle.query_bind.specs.Bound as spec;
 
-use crate::distinct::same_agg;
 use crate::terms::{KeyAt, Meaning, TermAt};
 use std::alloc::Global;
 use table_schema::{Agg, Item, OrderKey};
@@ -30,7 +29,7 @@ fn agg_place(aggs: &[Agg], agg: Agg) -> u16
     ensures { result ≡ position_or_len (terms_spec.same_agg agg) aggs.now }
 {
     for (place, other) in aggs.iter().enumerate() {
-        if same_agg(agg, *other) {
+        if agg == *other {
             return place as u16;
         }
     }

@@ -4,6 +4,8 @@ ghost use Rattle.query_bind.specs.Places.{ItemsAreTerms, KeysAreTerms, ALabelAnI
 ghost use Rattle.query_bind.specs.Once.{GroupsStandOnce, GroupsAreNamed, AggsStandOnce, AggsAreWritten};
 ghost use Rattle.query_bind.specs.Within.{GroupsAreIn, AggsAreIn, ConjunctsAreIn};
 ghost use Rattle.query_bind.specs.Fits.{ConjunctsFit};
+ghost use Rattle.query_bind.specs.Several.{ManyNameSeveral};
+ghost use Rattle.query_bind.specs.Functions.{FunctionsFit};
 ghost use Rattle.query_bind.specs.Firsts.{LimitsAreKept, FewGroups, FewAggs, FewKeys, FirstGroup, FirstAgg, FirstKey};
 
 /// At the place of each item stands what its term is.
@@ -67,4 +69,14 @@ pub fn limits_law()
 /// Values in tests have the type of their field.
 pub fn values_law()
     ensures { ConjunctsFit }
+{}
+
+/// A conjunct is on one column, or names two of them at least.
+pub fn several_law()
+    ensures { ManyNameSeveral }
+{}
+
+/// COUNT has no column, and each other function has one of whole numbers.
+pub fn functions_law()
+    ensures { FunctionsFit }
 {}

@@ -1,13 +1,14 @@
 //! A condition with NOT pushed in, and nested ANDs and ORs flattened.
 
-ghost use Rattle.std.specs.Prelude.{◌≡◌, ◌≤◌, ◌++◌, length, map, IfOk, OnOk};
+ghost use Rattle.std.specs.Prelude.{◌≡◌, ◌≤◌, ◌++◌, length, map, None, IfOk, OnOk};
 ghost use Rattle.values.specs.declared.test.Test.TheVariants as test;
 ghost use Rattle.values.specs.Tests.{negated_if};
 ghost use Rattle.query_bind.specs.Written.{field_number, value_in};
 ghost use Rattle.query_bind.specs.Conjuncts.{opposite_if};
+ghost use Rattle.query_bind.specs.Faults.{first_of};
+ghost use Rattle.query_bind.specs.Names.{column_finding, condition_finding};
 ghost use Rattle.query_bind.specs.Joints as spec;
 
-use crate::columns::number_of;
 use query_parser::{Cond, LiteralAt, NameAt};
 use std::alloc::Global;
 use table_schema::{Field, Wide};
@@ -51,10 +52,14 @@ pub(crate) struct Scope<'a> {
 impl Scope<'_> {
     /// The number of the field of that name.
     fn field_number(&self, name: &NameAt) -> u16
-        requires { length self.now.fields.now ≤ 64 }
+        requires few { length self.now.fields.now ≤ 64 }
+        requires known { column_finding self.now.fields.now name.now ≡ None }
         ensures { result ≡ field_number self.now.fields.now name.now }
     {
-        number_of(self.fields, name.name.as_slice()).unwrap_or(0)
+        match Field::number_of(self.fields, name.name.as_slice()) {
+            Some(number) => number,
+            None => unreachable!(),
+        }
     }
 
     /// Puts the normal form of a condition among members that are joined so.
@@ -66,7 +71,8 @@ impl Scope<'_> {
         joint: Joint,
         members: &mut Seq<Wide>,
     ) -> Result<(), NoMemory>
-        requires { length self.now.fields.now ≤ 64 }
+        requires few { length self.now.fields.now ≤ 64 }
+        requires checked { condition_finding self.now.fields.now condition.now ≡ None }
         ensures { OnOk result (members.new
             ≡ members.old ++ spec.gathered joint negated self.now.fields.now condition.now) }
     {
@@ -105,7 +111,9 @@ impl Scope<'_> {
         joint: Joint,
         members: &mut Seq<Wide>,
     ) -> Result<(), NoMemory>
-        requires { length self.now.fields.now ≤ 64 }
+        requires few { length self.now.fields.now ≤ 64 }
+        requires checked { first_of (map (condition_finding self.now.fields.now) conditions.now)
+            ≡ None }
         ensures { OnOk result (members.new ≡ members.old ++ spec.parts joint
             (spec.join own (spec.all_gathered own negated self.now.fields.now conditions.now))) }
     {
@@ -126,7 +134,9 @@ impl Scope<'_> {
         joint: Joint,
         members: &mut Seq<Wide>,
     ) -> Result<(), NoMemory>
-        requires { length self.now.fields.now ≤ 64 }
+        requires few { length self.now.fields.now ≤ 64 }
+        requires checked { first_of (map (condition_finding self.now.fields.now) conditions.now)
+            ≡ None }
         ensures { OnOk result (members.new
             ≡ members.old ++ spec.all_gathered joint negated self.now.fields.now conditions.now) }
     {

@@ -1,5 +1,5 @@
 -- What the checks of settings accept is valid. What is not built yet is not accepted, so no column is looked up by its ids.
-use Rattle.std.proofs.Common.{◌≡◌, ℕ, zero, suc, ◌≤◌, Bool, true, false, not, ◌||◌, is_some, true≢false, codes, List, [], ◌∷◌, length, Option, Some, None, unwrap_or, refl, sym, ap, ◌∙◌, arith}
+use Rattle.std.proofs.Common.{◌≡◌, ℕ, zero, suc, ◌≤◌, Bool, true, false, not, ◌||◌, is_some, true≢false, codes, List, [], ◌∷◌, length, Option, Some, None, unwrap_or, Result, Ok, Err, IfOk, refl, sym, ap, ◌∙◌, subst, arith}
 use Rattle.std.specs.List.{slice_get, AllByRecursion}
 use Rattle.serde_json.specs.Data.{Data, null}
 use Rattle.table_schema.specs.declared.field.Field.{Field}
@@ -8,7 +8,8 @@ use Rattle.table_schema.specs.declared.settings.Settings.{Settings}
 use Rattle.table_schema.specs.declared.fault.KeyKind.TheVariants.{BadName, Unsupported}
 use Rattle.table_schema.specs.Json.{Text, key_of}
 use Rattle.table_schema.specs.Keys.{optional, object_finding, required_text, unused_key}
-use Rattle.table_schema.specs.Faults.{fault_unless}
+use Rattle.table_schema.specs.declared.fault.TextFault.{TextFault}
+use Rattle.table_schema.specs.Faults.{Gives, fault_unless}
 use Rattle.table_schema.specs.Names.{is_column_name}
 use Rattle.table_schema.specs.Columns.{named}
 use Rattle.table_schema.specs.Indexes.{INDEX_KEY, index_form, raw_finding, index_finding, indexed, is_the_number, is_set, is_split, is_set_anywhere, is_no_tree, names_unbuilt, unbuilt_finding, needs_ids}
@@ -130,3 +131,8 @@ settings_valid fields d none =
     let named = nones (required_text [] (codes "tableName") d ∷ fault_unless (is_column_name table) BadName (codes "tableName") ∷ []) head.1.0 in
     plain_valid fields table (unwrap_or (key_of INDEX_KEY d) null) (unless_none (is_column_name table) BadName (codes "tableName") named.1.0)
     (index_plain fields table (key_of INDEX_KEY d) all.1.0)
+
+-- a call that answers settings answers valid ones
+pub gives_valid : (fields : List Field) (d : Data) (r : Result Settings TextFault) → Gives (settings_finding fields d) (settings_of fields d) r → IfOk r (IsValidSettings fields)
+gives_valid fields d (Ok settings) g = subst (IsValidSettings fields) (sym g.1) (settings_valid fields d g.0)
+gives_valid fields d (Err fault) g = tt

@@ -1,6 +1,6 @@
 //! Columns that settings name.
 
-ghost use Rattle.std.specs.Prelude.{◌≡◌, ◌<◌, ◌≤◌, ◌==◌, length, IfOk, IfErr, IfSome, Some, None, map};
+ghost use Rattle.std.specs.Prelude.{◌≡◌, ◌≤◌, ◌==◌, length, IfOk, IfErr, Some, None, map};
 ghost use Rattle.serde_json.specs.Find.{as_str};
 ghost use Rattle.serde_json.specs.View.{view};
 ghost use Rattle.table_schema.specs.Columns as spec;
@@ -13,20 +13,6 @@ use crate::{Field, KeyKind, TextFault};
 use serde_json::Value as Json;
 use std::alloc::Global;
 use values::{NoMemory, Seq};
-
-/// The number of the field of that name.
-pub(crate) fn number_of(fields: &[Field], name: &[u8]) -> Option<u16>
-    requires { length fields.now ≤ 64 }
-    ensures number { result ≡ spec.number_of fields.now name.now }
-    ensures within { IfSome result (λ number. number < length fields.now) }
-{
-    for (number, field) in fields.iter().enumerate() {
-        if field.name.as_slice() == name {
-            return Some(number as u16);
-        }
-    }
-    None
-}
 
 /// The text that stands at a place of the array at `path`.
 pub(crate) fn text_at<'v>(
@@ -63,7 +49,7 @@ pub(crate) fn column_at(
         (Refuses (spec.column_finding fields.now (at_place path.now place) (view json.now))) }
 {
     let name = text_at(alloc, path, place, json)?;
-    match number_of(fields, name.as_bytes()) {
+    match Field::number_of(fields, name.as_bytes()) {
         Some(number) => Ok(number),
         None => Err(place_fault(alloc, KeyKind::UnknownColumn, path, place)),
     }

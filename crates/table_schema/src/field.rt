@@ -1,5 +1,8 @@
 //! The fields of a table.
 
+ghost use Rattle.std.specs.Prelude.{◌≡◌, ◌<◌, ◌≤◌, length, IfSome};
+ghost use Rattle.table_schema.specs.Columns as spec;
+
 use values::{FieldKind, Name, Seq, Value};
 
 /// What a field is for, as the list of the schema that names it says.
@@ -19,6 +22,22 @@ pub struct Field {
     pub role: Role,
     /// What stands in a row that has no value of the field.
     pub default: Value,
+}
+
+impl Field {
+    /// The number of the field of that name.
+    pub fn number_of(fields: &[Field], name: &[u8]) -> Option<u16>
+        requires { length fields.now ≤ 64 }
+        ensures number { result ≡ spec.number_of fields.now name.now }
+        ensures within { IfSome result (λ number. number < length fields.now) }
+    {
+        for (number, field) in fields.iter().enumerate() {
+            if field.name.as_slice() == name {
+                return Some(number as u16);
+            }
+        }
+        None
+    }
 }
 
 /// 1 to 64 fields with distinct names: dimensions, then metrics, then date-times.

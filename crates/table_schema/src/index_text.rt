@@ -7,7 +7,7 @@ ghost use Rattle.table_schema.specs.Keys.{items_at};
 ghost use Rattle.table_schema.specs.Indexes as spec;
 ghost use Rattle.table_schema.specs.Faults.{Gives, Passes, Refuses, at_place};
 
-use crate::columns::{columns, is_member, named, number_of};
+use crate::columns::{columns, is_member, named};
 use crate::keys::{check_not, check_object};
 use crate::path::{below, fault, place_fault};
 use crate::sorted::read_sorted;
@@ -108,7 +108,7 @@ fn check_raw_place(
         (view json.now)) result }
 {
     let name = json.as_str().unwrap_or("");
-    match number_of(fields, name.as_bytes()) {
+    match Field::number_of(fields, name.as_bytes()) {
         Some(number) if misfits(fields, settings, number) => {
             Err(place_fault(alloc, KeyKind::Unsupported, path, place))
         }

@@ -1,14 +1,13 @@
 //! The pairs of a star-tree: a function, `__` and a column.
 
 ghost use Rattle.std.specs.Prelude.{◌≡◌, ◌<◌, ◌≤◌, ◌+◌, length, IfOk, IfErr, IfSome, OnOk, Some, None, map};
-ghost use Rattle.std.specs.List.{list_any};
 ghost use Rattle.std.specs.Str.{str_eq_ignore_ascii_case};
 ghost use Rattle.serde_json.specs.View.{view};
 ghost use Rattle.table_schema.specs.Columns.{text_of};
 ghost use Rattle.table_schema.specs.Pairs as spec;
 ghost use Rattle.table_schema.specs.Faults.{Gives, Refuses, at_place};
 
-use crate::columns::{number_of, text_at};
+use crate::columns::text_at;
 use crate::path::{fault, place_fault};
 use crate::{Field, KeyKind, Pair, TextFault};
 use agg_laws::AggKind;
@@ -81,15 +80,14 @@ fn pair_by(fields: &[Field], function: AggKind, column: &[u8]) -> Option<Pair>
     ensures { result ≡ spec.pair_by fields.now function column.now }
 {
     match function {
-        AggKind::Count if column == b"*".as_slice() || number_of(fields, column).is_some() => Some(
-            Pair {
+        AggKind::Count if column == b"*".as_slice() || Field::number_of(fields, column).is_some() =>
+            Some(Pair {
                 kind: AggKind::Count,
                 column: None,
-            },
-        ),
+            }),
         AggKind::Count => None,
         AggKind::Sum | AggKind::Least | AggKind::Greatest | AggKind::Average => {
-            numeric_pair(fields, function, number_of(fields, column)?)
+            numeric_pair(fields, function, Field::number_of(fields, column)?)
         }
     }
 }
@@ -107,50 +105,10 @@ fn numeric_pair(fields: &[Field], function: AggKind, number: u16) -> Option<Pair
     }
 }
 
-fn same_function(a: AggKind, b: AggKind) -> bool
-    ensures { result ≡ spec.same_function a b }
-{
-    matches!(
-        (a, b),
-        (AggKind::Count, AggKind::Count)
-            | (AggKind::Sum, AggKind::Sum)
-            | (AggKind::Least, AggKind::Least)
-            | (AggKind::Greatest, AggKind::Greatest)
-            | (AggKind::Average, AggKind::Average)
-    )
-}
-
-fn same_column(a: Option<u16>, b: Option<u16>) -> bool
-    ensures { result ≡ spec.same_column a b }
-{
-    match (a, b) {
-        (None, None) => true,
-        (Some(a), Some(b)) => a == b,
-        _ => false,
-    }
-}
-
-fn same_pair(a: &Pair, b: &Pair) -> bool
-    ensures { result ≡ spec.same_pair a.now b.now }
-{
-    same_function(a.kind, b.kind) && same_column(a.column, b.column)
-}
-
-fn is_kept(kept: &[Pair], pair: &Pair) -> bool
-    ensures { result ≡ list_any (λ q. spec.same_pair q pair.now) kept.now }
-{
-    for other in kept {
-        if same_pair(other, pair) {
-            return true;
-        }
-    }
-    false
-}
-
 fn keep_pair(kept: &mut Seq<Pair>, pair: Pair) -> Result<(), NoMemory>
     ensures { OnOk result (kept.new ≡ spec.with_pair kept.old pair) }
 {
-    if is_kept(kept.as_slice(), &pair) {
+    if kept.as_slice().contains(&pair) {
         return Ok(());
     }
     kept.push(pair)

@@ -6,6 +6,7 @@ ghost use Rattle.table_schema.specs.TableTexts as spec;
 ghost use Rattle.table_schema.specs.Indexes.{indexed};
 ghost use Rattle.serde_json.specs.Data.{null};
 ghost use Rattle.table_schema.specs.Faults.{Gives, Passes, Refuses};
+ghost use Rattle.table_schema.specs.ValidSettings.{IsValidSettings};
 
 use crate::columns::named;
 use crate::index_text::{INDEX_KEY, read_indexes};
@@ -30,6 +31,7 @@ pub fn read_settings(alloc: Global, schema: &Schema, bytes: &[u8]) -> Result<Set
         (λ settings. spec.settings_read schema.now.fields bytes.now ≡ Ok settings) }
     ensures err { IfErr result (λ fault. fault ≢ TextFault.NoMemory
         → spec.settings_read schema.now.fields bytes.now ≡ Err fault) }
+    ensures valid { IfOk result (λ settings. IsValidSettings schema.now.fields settings) }
 {
     let json = read_json(alloc, bytes)?;
     settings_of(alloc, schema.fields.as_slice(), &json)

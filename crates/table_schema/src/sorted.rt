@@ -6,7 +6,6 @@ ghost use Rattle.serde_json.specs.View.{view};
 ghost use Rattle.table_schema.specs.Indexes as spec;
 ghost use Rattle.table_schema.specs.Faults.{Gives, Refuses};
 
-use crate::columns::number_of;
 use crate::json::{array_of, key_of};
 use crate::path::{below, fault};
 use crate::{Field, KeyKind, TextFault};
@@ -47,7 +46,7 @@ fn read_value(
     if name.is_empty() {
         return Ok(None);
     }
-    match number_of(fields, name.as_bytes()) {
+    match Field::number_of(fields, name.as_bytes()) {
         Some(number) => Ok(Some(number)),
         None => Err(fault(alloc, KeyKind::UnknownColumn, path)),
     }

@@ -7,7 +7,7 @@ ghost use Rattle.table_schema.specs.Keys.{items_at};
 ghost use Rattle.table_schema.specs.Trees as spec;
 ghost use Rattle.table_schema.specs.Faults.{Gives, Refuses, at_place};
 
-use crate::columns::{column_at, is_member, number_of, text_at};
+use crate::columns::{column_at, is_member, text_at};
 use crate::json::{array_of, key_of};
 use crate::keys::{check_object, check_unused, optional_array};
 use crate::pairs::read_pairs;
@@ -178,7 +178,7 @@ fn skip_place(
         (spec.skip_place fields.now (at_place path.now place) split.now (view json.now))) }
 {
     let name = text_at(alloc, path, place, json)?;
-    match number_of(fields, name.as_bytes()) {
+    match Field::number_of(fields, name.as_bytes()) {
         Some(number) if is_member(split, number) => Ok(number),
         _ => Err(place_fault(alloc, KeyKind::UnknownColumn, path, place)),
     }

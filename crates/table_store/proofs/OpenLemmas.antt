@@ -1,18 +1,12 @@
 -- What a file is told of where one of its texts is refused.
-use Rattle.std.proofs.Common.{◌≡◌, ◌≢◌, ◌∙◌, ℕ, List, Option, Some, None, Result, Ok, Err, IfErr, refl, sym, subst}
+use Rattle.std.proofs.Common.{◌≡◌, ◌≢◌, ◌∙◌, ℕ, List, Option, Some, None, Result, Ok, Err, IfErr, sym, subst}
 use Rattle.outside.specs.Files.{Files, OfFile}
 use Rattle.outside.specs.Whole.{IsWhole}
-use Rattle.serde_json.specs.Data.{Data}
-use Rattle.table_schema.proofs.SettingsLaw.{settings_valid}
-use Rattle.table_schema.specs.Faults.{Finding}
-use Rattle.table_schema.specs.Schemas.{answer, read_by, schema_read}
-use Rattle.table_schema.specs.TableTexts.{settings_finding, settings_of, settings_read}
-use Rattle.table_schema.specs.ValidSettings.{IsValidSettings}
-use Rattle.table_schema.specs.declared.field.Field.{Field}
+use Rattle.table_schema.specs.Schemas.{schema_read}
+use Rattle.table_schema.specs.TableTexts.{settings_read}
 use Rattle.table_schema.specs.declared.fault.TextFault.{TextFault}
 use Rattle.table_schema.specs.declared.fault.TextFault.TheVariants as text
 use Rattle.table_schema.specs.declared.field.Schema.{Schema}
-use Rattle.table_schema.specs.declared.settings.Settings.{Settings}
 use Rattle.table_schema.specs.declared.table.Table as read
 use Rattle.table_store.specs.State.{Table}
 use Rattle.table_store.specs.Accepted.{IsAccepted, IsNoTableFile, IsTableFile}
@@ -75,14 +69,3 @@ is_no_table (Ok x) file refused e = absurd cc
 is_no_table (Err fault) file refused e =
     let is : fault ≡ NotASegment part.Table = cc in
     (refused (λ same. let no : NotASegment part.Table ≡ NoMemory = sym is ∙ same in cc)).1
-
--- settings that were read are valid
-settings_by : (fields : List Field) (d : Data) (finding : Finding) (settings : Settings) → settings_finding fields d ≡ finding → answer finding (settings_of fields d) ≡ Ok settings → IsValidSettings fields settings
-settings_by fields d None settings found is =
-    let same : settings_of fields d ≡ settings = cc in
-    subst (IsValidSettings fields) same (settings_valid fields d found)
-settings_by fields d (Some fault) settings found is = absurd cc
-
-pub settings_are_valid : (fields : List Field) (o : Option Data) (settings : Settings) → read_by (settings_finding fields) (settings_of fields) o ≡ Ok settings → IsValidSettings fields settings
-settings_are_valid fields None settings is = absurd cc
-settings_are_valid fields (Some d) settings is = settings_by fields d (settings_finding fields d) settings refl is

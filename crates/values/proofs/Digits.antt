@@ -1,5 +1,5 @@
 -- A number that is read digit by digit is what its digits count by their places.
-use Rattle.std.proofs.Common.{◌≡◌, ℕ, suc, ◌+◌, ◌-◌, ◌*◌, ◌^◌, ◌<◌, ◌≤◌, ◌⊎◌, inl, inr, Bool, true, false, ◌&&◌, cond, List, [], ◌∷◌, length, drop, get_or, Option, Some, None, Ok, Err, refl, sym, ap, ◌∙◌, arith}
+use Rattle.std.proofs.Common.{◌≡◌, ℕ, zero, suc, ◌+◌, ◌-◌, ◌*◌, ◌^◌, ◌<◌, ◌≤◌, ◌⊎◌, inl, inr, Bool, true, false, ◌&&◌, cond, List, [], ◌∷◌, length, drop, get_or, Option, Some, None, Ok, Err, refl, sym, ap, subst, ◌∙◌, arith}
 use Rattle.std.proofs.Math.Nat.{pow-suc}
 use Rattle.std.proofs.lemmas.Bool.Decides.{nat_tests}
 use Rattle.std.proofs.lemmas.List.{at_drop_more, at_drop_all}
@@ -72,3 +72,22 @@ read_whole (x ∷ xs) i n some past e small =
     let whole : Some n ≡ unsigned_number (x ∷ xs) = sym (at_drop_all (number_after n) (x ∷ xs) i past) ∙ e ∙ number_after-whole x xs in
     let kept_is : kept (Some n) ≡ Ok n = grind (arith, nat_tests) in
     sym kept_is ∙ ap kept whole
+
+tens : (k i : ℕ) → 10 ^ i ≤ 10 ^ (k + i)
+tens zero i =
+    let same : i ≡ 0 + i = omega arith in
+    let reflexive : 10 ^ i ≤ 10 ^ i = omega arith in
+    subst (λ m. 10 ^ i ≤ 10 ^ m) same reflexive
+tens (suc k) i =
+    let same : suc (k + i) ≡ suc k + i = omega arith in
+    let fewer : 10 ^ i ≤ 10 ^ (k + i) = tens k i in
+    let more : 10 ^ suc (k + i) ≡ 10 ^ (k + i) * 10 = pow-suc 10 (k + i) in
+    let no_less : 10 ^ i ≤ 10 ^ suc (k + i) = omega (arith, fewer, more) in
+    subst (λ m. 10 ^ i ≤ 10 ^ m) same no_less
+
+-- what so many digits spell, or fewer
+pub few : (most i n : ℕ) → i ≤ most → n < 10 ^ i → n < 10 ^ most
+few most i n within small =
+    let all : most - i + i ≡ most = omega (arith, within) in
+    let no_less : 10 ^ i ≤ 10 ^ most = subst (λ k. 10 ^ i ≤ 10 ^ k) all (tens (most - i) i) in
+    omega (arith, small, no_less)

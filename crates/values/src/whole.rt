@@ -1,4 +1,4 @@
-ghost use Rattle.std.specs.Prelude.{◌≡◌, ◌-◌, ◌<◌, ◌≤◌, true, false};
+ghost use Rattle.std.specs.Prelude.{◌≡◌, ◌-◌, ◌<◌, ◌≤◌, true, false, length};
 ghost use Rattle.std.specs.List.{list_all};
 ghost use Rattle.values.specs.Numbers.{whole_of, is_digit};
 ghost use Rattle.values.specs.Magnitude.{magnitude_of, refusal_of, signed_of};
@@ -11,6 +11,9 @@ pub enum WholeFault {
     NotANumber,
     OutOfRange,
 }
+
+/// So many digits spell a number within every range of 64 bits.
+const FEW_DIGITS: usize = 18;
 
 /// The most that can stand before one more digit, so that the number fits in 64 bits and is at
 /// most one above the greatest distance from 0 of a signed 64-bit number.
@@ -37,6 +40,35 @@ fn read_magnitude(digits: &[u8]) -> Result<u64, WholeFault>
     if digits.is_empty() {
         return Err(WholeFault::NotANumber);
     }
+    if digits.len() <= FEW_DIGITS {
+        return read_few(digits);
+    }
+    read_many(digits)
+}
+
+/// The same of few digits, which need no look at the number between them.
+#[inline(always)]
+fn read_few(digits: &[u8]) -> Result<u64, WholeFault>
+    requires some { 0 < length digits.now }
+    requires few { length digits.now ≤ 18 }
+    ensures { result ≡ magnitude_of digits.now }
+{
+    let mut number: u64 = 0;
+    for byte in digits {
+        let digit = digit_of(*byte);
+        if digit > 9 {
+            return Err(refusal(digits));
+        }
+        number = number * 10 + digit as u64;
+    }
+    Ok(number)
+}
+
+#[inline(never)]
+fn read_many(digits: &[u8]) -> Result<u64, WholeFault>
+    requires { 0 < length digits.now }
+    ensures { result ≡ magnitude_of digits.now }
+{
     let mut number: u64 = 0;
     for byte in digits {
         let digit = digit_of(*byte);

@@ -1,6 +1,5 @@
-use Rattle.table_schema.specs.Json.{json_of}
 use Rattle.table_store.specs.State.{Table}
-use Rattle.table_store.proofs.OpenLemmas.{schema_refused, settings_are_valid, settings_refused}
+use Rattle.table_store.proofs.OpenLemmas.{schema_refused, settings_refused}
 use Rattle.table_store.proofs.open.read_table.Goals as goal
 
 pub returns-in-Err-clause-err : goal.returns-in-Err-clause-err
@@ -13,7 +12,3 @@ returns-in-Err-read_settings-clause-err c =
     let texts : Table = record { schema = c.in-Some.schema.now; settings = c.in-Some.settings.now } in
     settings_refused c.args.file.now texts c.in-Ok.schema c.in-Err-read_settings.fault c.of_text-in-Err-read_settings.result c.in-Some.ensures.0 c.in-Some.ensures.1 c.in-Ok.ensures.ok
     c.in-Err-read_settings.ensures.err c.of_text-in-Err-read_settings.ensures.text c.of_text-in-Err-read_settings.ensures.memory
-
-pub returns-in-Ok-read_settings-clause-valid : goal.returns-in-Ok-read_settings-clause-valid
-returns-in-Ok-read_settings-clause-valid c =
-    record { schema = c.in-Ok.ensures.valid; settings = settings_are_valid c.in-Ok.schema.fields (json_of c.in-Some.settings.now) c.in-Ok-read_settings.settings c.in-Ok-read_settings.ensures.ok }

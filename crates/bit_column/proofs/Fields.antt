@@ -1,0 +1,137 @@
+-- Numbers read out of bytes.
+use Rattle.std.proofs.Common.{◌≡◌, ◌≤◌, ◌<◌, All, ℕ, suc, ◌+◌, ◌-◌, ◌*◌, ◌/◌, ◌%◌, ◌^◌, List, [], ◌∷◌, ◌++◌, length, take, drop, get_or, sym, ap, ◌∙◌, subst, arith, append_assoc, append-nil, bit_or, length-take, length-drop}
+use Rattle.std.proofs.lemmas.List.{take_more, drop_more, drop_all, drop-drop, drop-take, take-take, take_rest}
+use Rattle.std.proofs.lemmas.List.FromFn.{map-range_with_len_more, length-map-range_with_len, get_or-map-range_with_len}
+use Rattle.std.proofs.lemmas.List.Elements.{All-get_or}
+use Rattle.std.proofs.lemmas.Nat.{mul-le}
+use Rattle.bit_column.specs.Bits.{bits, bits_of, number, field, pieces}
+use Rattle.bit_column.proofs.BitLemmas.{bits-join, bits_of-push, drop-bits_of, take-bits_of}
+use Rattle.bit_column.proofs.Windows.{joined, field-window}
+
+-- a window with one more byte
+pub window-more : (bytes : List ℕ) (i window : ℕ) → i < length bytes → length bytes ≤ 8 → get_or bytes i 0 < 2 ^ 8 → bits_of 8 (take i bytes) ≡ bits (i * 8) window
+    → bits_of 8 (take (i + 1) bytes) ≡ bits ((i + 1) * 8) (bit_or (window * 2 ^ 8 % 2 ^ 64) (get_or bytes i 0))
+window-more bytes i window within few small is =
+    let byte = get_or bytes i 0 in
+    let e : i * 8 + 8 ≡ (i + 1) * 8 = omega arith in
+    ap (bits_of 8) (take_more bytes i 0 within)
+    ∙ bits_of-push 8 byte (take i bytes)
+    ∙ ap (λ ds. ds ++ bits 8 byte) is
+    ∙ sym (joined window (i * 8) byte 8 (omega arith) small)
+    ∙ ap (λ k. bits k (bit_or (window * 2 ^ 8 % 2 ^ 64) byte)) e
+
+-- bytes behind a number, as one number in base 256
+behind : ℕ → List ℕ → ℕ
+behind n [] = n
+behind n (byte ∷ bytes) = behind (n * 2 ^ 8 + byte) bytes
+
+AreBytes : List ℕ → Type 0
+AreBytes [] = Unit {0}
+AreBytes (byte ∷ bytes) = (byte < 2 ^ 8) × AreBytes bytes
+
+bits-behind : (k n : ℕ) (bytes : List ℕ) → AreBytes bytes → bits (k * 8) n ++ bits_of 8 bytes ≡ bits ((k + length bytes) * 8) (behind n bytes)
+unfolding behind AreBytes
+bits-behind k n [] h = append-nil (bits (k * 8) n) ∙ ap (λ j. bits j n) (omega arith)
+bits-behind k n (byte ∷ bytes) h =
+    let e : k * 8 + 8 ≡ (k + 1) * 8 = omega arith in
+    let more : (k + 1 + length bytes) * 8 ≡ (k + suc (length bytes)) * 8 = omega arith in
+    sym (append_assoc (bits (k * 8) n) (bits 8 byte) (bits_of 8 bytes))
+    ∙ ap (λ ds. ds ++ bits_of 8 bytes) (sym (bits-join (k * 8) 8 n byte h.0))
+    ∙ ap (λ j. bits j (n * 2 ^ 8 + byte) ++ bits_of 8 bytes) e
+    ∙ bits-behind (k + 1) (n * 2 ^ 8 + byte) bytes h.1
+    ∙ ap (λ j. bits j (behind (n * 2 ^ 8 + byte) bytes)) more
+
+-- a list of eight
+eight_of : (xs : List ℕ) → length xs ≡ 8
+    → xs ≡ get_or xs 0 0 ∷ get_or xs 1 0 ∷ get_or xs 2 0 ∷ get_or xs 3 0 ∷ get_or xs 4 0 ∷ get_or xs 5 0 ∷ get_or xs 6 0 ∷ get_or xs 7 0 ∷ []
+eight_of xs e =
+    drop_more xs 0 0 (omega arith) ∙ ap (λ r. get_or xs 0 0 ∷ r)
+    (drop_more xs 1 0 (omega arith) ∙ ap (λ r. get_or xs 1 0 ∷ r)
+    (drop_more xs 2 0 (omega arith) ∙ ap (λ r. get_or xs 2 0 ∷ r)
+    (drop_more xs 3 0 (omega arith) ∙ ap (λ r. get_or xs 3 0 ∷ r)
+    (drop_more xs 4 0 (omega arith) ∙ ap (λ r. get_or xs 4 0 ∷ r)
+    (drop_more xs 5 0 (omega arith) ∙ ap (λ r. get_or xs 5 0 ∷ r)
+    (drop_more xs 6 0 (omega arith) ∙ ap (λ r. get_or xs 6 0 ∷ r)
+    (drop_more xs 7 0 (omega arith) ∙ ap (λ r. get_or xs 7 0 ∷ r) (drop_all 8 xs (omega arith)))))))))
+
+-- the number of eight bytes has their bits
+pub bits-eight : (n : ℕ) (xs : List ℕ) → length xs ≡ 8 → ((i : ℕ) → get_or xs i 0 < 2 ^ 8)
+    → n ≡ get_or xs 0 0 * 256 ^ 7 + get_or xs 1 0 * 256 ^ 6 + get_or xs 2 0 * 256 ^ 5 + get_or xs 3 0 * 256 ^ 4 + get_or xs 4 0 * 256 ^ 3 + get_or xs 5 0 * 256 ^ 2 + get_or xs 6 0 * 256 + get_or xs 7 0
+    → bits_of 8 xs ≡ bits 64 n
+unfolding behind AreBytes bits
+bits-eight n xs e small is =
+    let ys : List ℕ = get_or xs 0 0 ∷ get_or xs 1 0 ∷ get_or xs 2 0 ∷ get_or xs 3 0 ∷ get_or xs 4 0 ∷ get_or xs 5 0 ∷ get_or xs 6 0 ∷ get_or xs 7 0 ∷ [] in
+    let bytes : AreBytes ys = (small 0, (small 1, (small 2, (small 3, (small 4, (small 5, (small 6, (small 7, tt)))))))) in
+    let horner : behind 0 ys ≡ n = omega arith in
+    ap (bits_of 8) (eight_of xs e) ∙ bits-behind 0 0 ys bytes ∙ ap (bits 64) horner
+
+-- the digits behind a number's last one do not count
+field-front : (width first n : ℕ) (digits : List ℕ) → first + width ≤ n → field width first (take n digits) ≡ field width first digits
+unfolding field
+field-front width first n digits h =
+    let e : n ≡ first + (n - first) = omega arith in
+    ap (λ k. number (take width (drop first (take k digits)))) e
+    ∙ ap (λ ds. number (take width ds)) (drop-take first (n - first) digits)
+    ∙ ap number (take-take width (n - first) (drop first digits) (omega arith))
+
+field-behind : (width first n : ℕ) (digits : List ℕ) → field width first (drop n digits) ≡ field width (n + first) digits
+unfolding field
+field-behind width first n digits = ap (λ ds. number (take width ds)) (drop-drop first n digits)
+
+-- a number stands in the bytes that have its digits
+pub field-bytes : (width bit first count : ℕ) (bytes : List ℕ) → first * 8 ≤ bit → bit + width ≤ (first + count) * 8
+    → field width (bit - first * 8) (bits_of 8 (take count (drop first bytes))) ≡ field width bit (bits_of 8 bytes)
+field-bytes width bit first count bytes begins ends =
+    let at = bit - first * 8 in
+    let e : first * 8 + at ≡ bit = omega arith in
+    ap (field width at) (sym (take-bits_of count 8 (drop first bytes)))
+    ∙ field-front width at (count * 8) (bits_of 8 (drop first bytes)) (omega arith)
+    ∙ ap (field width at) (sym (drop-bits_of first 8 bytes))
+    ∙ field-behind width at (first * 8) (bits_of 8 bytes)
+    ∙ ap (λ b. field width b (bits_of 8 bytes)) e
+
+-- how many of the eight bytes there are
+pub head-long : (bytes : List ℕ) (bit width : ℕ) → width ≤ 32 → bit + width ≤ 8 * length bytes → bit % 8 + width ≤ 8 * length (take 8 (drop (bit / 8) bytes))
+head-long bytes bit width small held = omega (arith, length-take 8 (drop (bit / 8) bytes), length-drop (bit / 8) bytes)
+
+pub head-short : (bytes : List ℕ) → length (take 8 bytes) ≤ 8
+head-short bytes = omega (arith, length-take 8 bytes)
+
+-- a number in the window of the bytes from the one where it begins
+pub field-in : (bytes : List ℕ) (bit width window : ℕ) → width ≤ 32 → bit + width ≤ 8 * length bytes
+    → bits_of 8 (take 8 (drop (bit / 8) bytes)) ≡ bits (length (take 8 (drop (bit / 8) bytes)) * 8) window
+    → window / 2 ^ (8 * length (take 8 (drop (bit / 8) bytes)) - bit % 8 - width) % 2 ^ width ≡ field width bit (bits_of 8 bytes)
+field-in bytes bit width window small held is =
+    let head = take 8 (drop (bit / 8) bytes) in
+    let long : bit % 8 + width ≤ 8 * length head = head-long bytes bit width small held in
+    let rest = 8 * length head - bit % 8 - width in
+    let e : length head * 8 ≡ bit % 8 + width + rest = omega (arith, long) in
+    let first : bit - bit / 8 * 8 ≡ bit % 8 = omega arith in
+    sym (field-window width (bit % 8) rest window (bits_of 8 head) (is ∙ ap (λ k. bits k window) e))
+    ∙ ap (λ b. field width b (bits_of 8 head)) (sym first)
+    ∙ field-bytes width bit (bit / 8) 8 bytes (omega arith) (omega arith)
+
+pub field-found : (bytes head : List ℕ) (bit width window result : ℕ) → width ≤ 32 → bit + width ≤ 8 * length bytes
+    → head ≡ take 8 (take (length bytes - bit / 8) (drop (bit / 8) bytes))
+    → bits_of 8 head ≡ bits (length head * 8) window
+    → result ≡ window / 2 ^ (8 * length head - bit % 8 - width) % 2 ^ width
+    → result ≡ field width bit (bits_of 8 bytes)
+field-found bytes head bit width window result small held front is value =
+    let e : head ≡ take 8 (drop (bit / 8) bytes) = front ∙ ap (take 8) (take_rest bytes (bit / 8)) in
+    let there : bits_of 8 (take 8 (drop (bit / 8) bytes)) ≡ bits (length (take 8 (drop (bit / 8) bytes)) * 8) window = subst (λ xs. bits_of 8 xs ≡ bits (length xs * 8) window) e is in
+    value
+    ∙ ap (λ xs. window / 2 ^ (8 * length xs - bit % 8 - width) % 2 ^ width) e
+    ∙ field-in bytes bit width window small held there
+
+pub field-far : (i width number : ℕ) → i < number → number < 2 ^ 32 → width ≤ 32 → i * width ≤ 2 ^ 37
+field-far i width number within few small = omega (arith, mul-le i width (2 ^ 32) 32 (omega arith) small)
+
+-- one more piece
+pub pieces-more : (width first i : ℕ) (digits : List ℕ) → pieces width first (i + 1) digits ≡ pieces width first i digits ++ field width (first + i * width) digits ∷ []
+pieces-more width first i digits = map-range_with_len_more (λ piece. field width (first + piece * width) digits) 0 i i (omega arith)
+
+pub pieces-below : (width first count i limit : ℕ) (digits : List ℕ) → i < count → All (λ id. id < limit) (pieces width first count digits) → field width (first + i * width) digits < limit
+pieces-below width first count i limit digits within all =
+    let f : ℕ → ℕ = λ piece. field width (first + piece * width) digits in
+    let long : length (pieces width first count digits) ≡ count = length-map-range_with_len f 0 count in
+    subst (λ n. n < limit) (get_or-map-range_with_len f 0 count i i 0 within (omega arith)) (All-get_or (λ id. id < limit) (pieces width first count digits) i 0 (omega arith) all)

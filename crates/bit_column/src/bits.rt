@@ -1,0 +1,42 @@
+// Bits in a window of 64, of which each whole byte is written, and from which a number is read.
+ghost use Rattle.std.specs.Prelude.{◌≡◌, ◌≤◌, ◌<◌, ◌+◌, ◌-◌, ◌*◌, ◌/◌, ◌%◌, ◌^◌, ◌++◌, length, replicate};
+ghost use Rattle.bit_column.specs.Bits.{bits, bits_of, number};
+
+// The window with an id behind what it has.
+#[tactic(auto, using(crate::proofs::Windows::joined))]
+pub fn joined(window: u64, have: u32, id: u32, width: u32) -> u64
+    requires width { width ≤ 32 }
+    requires room { have + width ≤ 64 }
+    requires id { id < 2 ^ width }
+    ensures { bits (have + width) result ≡ bits have window ++ bits width id }
+{
+    window << width | id as u64
+}
+
+// The byte of the window that so many bits follow.
+#[tactic(auto, using(crate::proofs::Windows::whole_byte))]
+pub fn whole_byte(window: u64, behind: u32) -> u8
+    requires { behind < 56 }
+    ensures { bits (8 + behind) window ≡ bits 8 result ++ bits behind window }
+{
+    ((window >> behind) & 255) as u8
+}
+
+// The byte of the last few bits of the window, with zero bits behind them.
+#[tactic(auto, using(crate::proofs::Windows::last_byte))]
+pub fn last_byte(window: u64, have: u32) -> u8
+    requires { have < 8 }
+    ensures { bits 8 result ≡ bits have window ++ replicate (8 - have) 0 }
+{
+    ((window << (8 - have)) & 255) as u8
+}
+
+// So many bits of the window, which so many others follow.
+#[tactic(auto, using(crate::proofs::Windows::taken))]
+pub fn taken(window: u64, behind: u32, width: u32) -> u32
+    requires width { width ≤ 32 }
+    requires behind { behind < 64 }
+    ensures { result ≡ window / 2 ^ behind % 2 ^ width }
+{
+    ((window >> behind) & ((1u64 << width) - 1)) as u32
+}

@@ -1,0 +1,23 @@
+// Why ids are not read.
+use std::alloc::AllocError;
+
+/// Why a range of ids is not read.
+#[derive(Clone, Copy, Debug, PartialEq, Eq)]
+pub enum ColumnFault {
+    /// The shelf failed, and its count of faults rose.
+    ReadFault,
+    /// The section or its file ends before the range does, or an id is not below the count.
+    BadId,
+    NoMemory,
+}
+
+impl From<AllocError> for ColumnFault {
+    ghost use Rattle.std.specs.Prelude.{◌≡◌};
+    ghost use Rattle.bit_column.specs.declared.fault.ColumnFault.TheVariants.{NoMemory};
+
+    ghost from_gives = { λ _ fault. fault ≡ NoMemory };
+
+    fn from(_: AllocError) -> Self {
+        ColumnFault::NoMemory
+    }
+}

@@ -1,0 +1,22 @@
+//! The forward index of a column: the ids of its rows in a fixed number of bits each, written and
+//! read.
+#![tactic(auto)]
+
+mod bits;
+mod fault;
+mod laws;
+mod part;
+mod range;
+mod reading;
+mod width;
+mod writing;
+
+pub use fault::ColumnFault;
+pub use laws::{reads_back, widths_are_least};
+pub use range::read_range;
+pub use reading::at;
+pub use width::width_for;
+pub use writing::write;
+
+#[cfg(test)]
+mod tests;

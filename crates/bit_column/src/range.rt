@@ -1,0 +1,70 @@
+// A range of ids is read from a section of a file.
+ghost use Rattle.std.specs.Prelude.{◌≡◌, ◌≤◌, ◌<◌, ◌+◌, ◌-◌, All, IfOk, OnErr, IfSome, IsErrOf, length};
+ghost use Rattle.outside.specs.Counts.{Rose};
+ghost use Rattle.outside.specs.Reads.{LogsThrough};
+ghost use Rattle.bit_column.specs.Column.{ids_between};
+ghost use Rattle.bit_column.specs.Sections.{first_byte, end_byte, section, Readable, LogsUpTo};
+
+use crate::ColumnFault;
+use crate::part::read_part;
+use crate::reading::ids_from;
+use outside::{Place, Seq, Shelf};
+use std::alloc::Global;
+
+/// The ids of a section between two indexes, the second left out, in so many bits each. It reads
+/// their bytes and no others, each once. A range without ids is there in any section, and reads
+/// nothing.
+pub fn read_range<S: Shelf>(
+    alloc: Global,
+    shelf: &mut S,
+    place: &Place,
+    width: u32,
+    count: u32,
+    from: u32,
+    to: u32,
+) -> Result<Seq<u32>, ColumnFault>
+    requires width { 1 ≤ width }
+    requires bound { width ≤ 32 }
+    requires order { from ≤ to }
+    ensures ids { IfOk result (λ ids. IfSome (S.held shelf.old) (λ files.
+        Readable width count from to (section files place.now)
+        × (ids ≡ ids_between width from to (section files place.now)))) }
+    ensures number { IfOk result (λ ids. length ids ≡ to - from) }
+    ensures below { IfOk result (λ ids. All (λ id. id < count) ids) }
+    ensures held { S.held shelf.new ≡ S.held shelf.old }
+    ensures parts { S.parts shelf.new ≡ S.parts shelf.old }
+    ensures log { IfOk result (λ ids. LogsThrough place.now.file
+        (place.now.offset + first_byte width from) (place.now.offset + end_byte width from to)
+        (S.log shelf.old) (S.log shelf.new)) }
+    ensures log_of_fault { OnErr result (LogsUpTo place.now.file
+        (place.now.offset + first_byte width from) (place.now.offset + end_byte width from to)
+        (S.log shelf.old) (S.log shelf.new)) }
+    ensures writes { S.write_faults shelf.new ≡ S.write_faults shelf.old }
+    ensures later { S.read_faults shelf.old ≤ S.read_faults shelf.new }
+    ensures failed { IsErrOf result ColumnFault.ReadFault →
+        Rose (S.read_faults shelf.old) (S.read_faults shelf.new) }
+    ensures bad { IsErrOf result ColumnFault.BadId → IfSome (S.held shelf.old) (λ files.
+        ¬ Readable width count from to (section files place.now)) }
+{
+    if from == to {
+        return Ok(Seq::new(alloc));
+    }
+    let bit = from as u64 * width as u64;
+    let end = (to as u64 * width as u64 + 7) / 8;
+    if end > place.length {
+        return Err(ColumnFault::BadId);
+    }
+    let first = bit / 8;
+    let bytes = match read_part(alloc, shelf, place.file.as_str(), place.offset, first, end) {
+        Ok(bytes) => bytes,
+        Err(fault) => return Err(fault),
+    };
+    ids_from(
+        alloc,
+        &bytes,
+        (bit % 8) as usize,
+        width,
+        count,
+        (to - from) as usize,
+    )
+}

@@ -1,0 +1,97 @@
+// Ids are read out of bytes.
+ghost use Rattle.std.specs.Prelude.{◌≡◌, ◌≤◌, ◌<◌, ◌+◌, ◌*◌, ◌^◌, All, length, take, IfOk, IsErrOf};
+ghost use Rattle.bit_column.specs.Bits.{bits, bits_of, field, pieces};
+ghost use Rattle.bit_column.specs.Column.{id_at};
+
+use crate::ColumnFault;
+use crate::bits::taken;
+use outside::Seq;
+use std::alloc::Global;
+
+/// The id at an index of a section's bytes, which have all its bits.
+pub fn at(bytes: &[u8], width: u32, index: u32) -> u32
+    requires width { 1 ≤ width }
+    requires bound { width ≤ 32 }
+    requires held { (index + 1) * width ≤ 8 * length bytes.now }
+    ensures { result ≡ id_at width index bytes.now }
+{
+    field_at(bytes, index as usize * width as usize, width)
+}
+
+// The number of so many bits from one of them on.
+pub fn field_at(bytes: &[u8], bit: usize, width: u32) -> u32
+    requires width { 1 ≤ width }
+    requires bound { width ≤ 32 }
+    requires held { bit + width ≤ 8 * length bytes.now }
+    ensures { result ≡ field width bit (bits_of 8 bytes.now) }
+{
+    let head = front(&bytes[bit / 8..]);
+    let behind = 8 * head.len() - bit % 8 - width as usize;
+    taken(window(head), behind as u32, width)
+}
+
+// At most eight bytes.
+fn front(bytes: &[u8]) -> &[u8]
+    ensures { result.now ≡ take 8 bytes.now }
+{
+    if bytes.len() <= 8 {
+        return bytes;
+    }
+    &bytes[..8]
+}
+
+// The bits of at most eight bytes.
+fn window(bytes: &[u8]) -> u64
+    requires { length bytes.now ≤ 8 }
+    ensures { bits_of 8 bytes.now ≡ bits (length bytes.now * 8) result }
+{
+    if bytes.len() == 8 {
+        return eight(bytes);
+    }
+    let mut window = 0;
+    for byte in bytes {
+        window = window << 8 | *byte as u64;
+    }
+    window
+}
+
+// The bits of eight bytes.
+fn eight(bytes: &[u8]) -> u64
+    requires { length bytes.now ≡ 8 }
+    ensures { bits_of 8 bytes.now ≡ bits 64 result }
+{
+    u64::from_be_bytes([
+        bytes[0], bytes[1], bytes[2], bytes[3], bytes[4], bytes[5], bytes[6], bytes[7],
+    ])
+}
+
+/// So many ids from a bit on, each of which is to be below the count.
+pub fn ids_from(
+    alloc: Global,
+    bytes: &[u8],
+    bit: usize,
+    width: u32,
+    count: u32,
+    number: usize,
+) -> Result<Seq<u32>, ColumnFault>
+    requires width { 1 ≤ width }
+    requires bound { width ≤ 32 }
+    requires bit { bit < 8 }
+    requires number { number < 2 ^ 32 }
+    requires held { bit + number * width ≤ 8 * length bytes.now }
+    ensures ids { IfOk result (λ ids. ids ≡ pieces width bit number (bits_of 8 bytes.now)) }
+    ensures below { IfOk result (λ ids. All (λ id. id < count) ids) }
+    ensures bad { IsErrOf result ColumnFault.BadId →
+        ¬ All (λ id. id < count) (pieces width bit number (bits_of 8 bytes.now)) }
+    ensures read { ¬ IsErrOf result ColumnFault.ReadFault }
+{
+    let mut ids = Seq::from_vec(Vec::with_capacity(alloc, number)?);
+    for i in 0..number {
+        let id = field_at(bytes, bit + i * width as usize, width);
+        if id >= count {
+            return Err(ColumnFault::BadId);
+        }
+        ids.push(id)?;
+    }
+    Ok(ids)
+}

@@ -1,0 +1,64 @@
+// Ids are written.
+ghost use Rattle.std.specs.Prelude.{◌≡◌, ◌≤◌, ◌<◌, ◌^◌, ◌++◌, ℕ, All, length, take, replicate, OnOk, OnErr, IfOk};
+ghost use Rattle.bit_column.specs.Bits.{bits, bits_of};
+ghost use Rattle.bit_column.specs.Column.{spelled};
+
+use crate::bits::{joined, last_byte, whole_byte};
+use outside::NoMemory;
+
+/// Appends ids, each in so many bits with the most significant first, and zero bits to the end of
+/// the last byte.
+pub fn write(ids: &[u32], width: u32, out: &mut Vec<u8>) -> Result<(), NoMemory>
+    requires width { 1 ≤ width }
+    requires bound { width ≤ 32 }
+    requires ids { All (λ id. id < 2 ^ width) ids.now }
+    ensures ok { OnOk result (out.new.items ≡ out.old.items ++ spelled width ids.now) }
+    ensures err { OnErr result (out.new.items ≡ out.old.items) }
+{
+    let start = out.len();
+    if let Err(fault) = push_ids(ids, width, out) {
+        out.truncate(start);
+        return Err(fault);
+    }
+    Ok(())
+}
+
+// Appends ids and the zero bits. After want of memory some bytes are there.
+fn push_ids(ids: &[u32], width: u32, out: &mut Vec<u8>) -> Result<(), NoMemory>
+    requires bound { width ≤ 32 }
+    requires ids { All (λ id. id < 2 ^ width) ids.now }
+    ensures bits { OnOk result ((zeros : ℕ) × (zeros < 8) × (bits_of 8 out.new.items
+        ≡ bits_of 8 out.old.items ++ (bits_of width ids.now ++ replicate zeros 0))) }
+    ensures kept { take (length out.old.items) out.new.items ≡ out.old.items }
+{
+    out.reserve(ids.len().saturating_mul(width as usize).div_ceil(8))?;
+    let mut window = 0;
+    let mut have = 0;
+    for id in ids {
+        window = joined(window, have, *id, width);
+        match push_bytes(window, have + width, out) {
+            Ok(left) => have = left,
+            Err(fault) => return Err(fault),
+        }
+    }
+    if have > 0 {
+        out.push(last_byte(window, have))?;
+    }
+    Ok(())
+}
+
+// Appends the whole bytes of the window, and says how many bits are left.
+fn push_bytes(window: u64, have: u32, out: &mut Vec<u8>) -> Result<u32, NoMemory>
+    requires { have < 64 }
+    ensures left { IfOk result (λ left. left < 8) }
+    ensures bits { IfOk result (λ left. bits_of 8 out.new.items ++ bits left window
+        ≡ bits_of 8 out.old.items ++ bits have window) }
+    ensures kept { take (length out.old.items) out.new.items ≡ out.old.items }
+{
+    let mut left = have;
+    while left >= 8 {
+        left -= 8;
+        out.push(whole_byte(window, left))?;
+    }
+    Ok(left)
+}
