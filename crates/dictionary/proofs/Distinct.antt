@@ -195,6 +195,17 @@ sees_more column keys new i v d within is item one h = (
   subst (All IsUnicode) (sym is) (insert_unicode v keys (is_member keys v) h.2 one),
 )
 
+-- the same keys where that one is among them
+pub sees_again : (column keys : List Value) (i : ℕ) (v d : Value) → i < length column → is_member keys v ≡ true → v ≡ get_or column i d
+    → (length keys ≤ i) × ((q : Value) → is_member keys q ≡ is_member (take i column) q) × All IsUnicode keys
+    → (length keys ≤ i + 1) × ((q : Value) → is_member keys q ≡ is_member (take (i + 1) column) q) × All IsUnicode keys
+sees_again column keys i v d within seen item h = (
+  omega (arith, h.0),
+  (λ q. or_same (is_member keys q) (value_eq q v) (λ e. list_any_congr value_eq-equiv q v keys e ∙ seen) ∙ ap (λ b. b || value_eq q v) (h.1 q)
+      ∙ ap (λ x. is_member (take i column) q || value_eq q x) item ∙ sym (list_any_more (value_eq q) column i d within)),
+  h.2,
+)
+
 -- ---- the dictionary of sorted distinct values
 
 pub stands_so : (kind : FieldKind) (column firsts values : List Value) → length column ≤ most_values → All (Fits kind) column → length firsts ≤ length column

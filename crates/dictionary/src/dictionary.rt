@@ -135,6 +135,9 @@ fn first_sights(alloc: Global, column: &[Value]) -> Result<Vec<Value>, NoMemory>
 {
     let mut seen = IndexSet::new(alloc);
     for value in column {
+        if seen.contains(value) {
+            continue;
+        }
         seen.insert(shared(alloc, value)?)?;
     }
     listed(alloc, seen)
@@ -147,7 +150,7 @@ fn listed(alloc: Global, seen: IndexSet<Value>) -> Result<Vec<Value>, NoMemory>
     seen.into_iter().collect(alloc)
 }
 
-// An equal value, whose text is shared.
+// An equal value, whose text is shared. To look at a text tells that it is UTF-8.
 fn shared(alloc: Global, value: &Value) -> Result<Value, NoMemory>
     ensures same { IfOk result (λ copy. copy ≡ value.now) }
     ensures unicode { IfOk result IsUnicode }

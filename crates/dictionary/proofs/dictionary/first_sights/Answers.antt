@@ -1,6 +1,10 @@
-use Rattle.std.proofs.Common.{◌∙◌}
-use Rattle.dictionary.proofs.Distinct.{sees_more}
+use Rattle.std.proofs.Common.{◌∙◌, sym}
+use Rattle.dictionary.proofs.Distinct.{sees_again, sees_more}
 use Rattle.dictionary.proofs.dictionary.first_sights.Goals as goal
+
+pub loop-value-preserved-then-contains : goal.loop-value-preserved-then-contains
+loop-value-preserved-then-contains c =
+    sees_again c.args.column.now c.loop-value.seen.keys c.loop-value.value-index c.value-item.result _ c.loop-value-test.true (sym c.contains.ensures ∙ c.if-contains.true) c.value-item.is c.loop-value.invariant
 
 pub loop-value-preserved : goal.loop-value-preserved
 loop-value-preserved c =
