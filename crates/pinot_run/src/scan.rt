@@ -68,12 +68,7 @@ fn fold_reply(alloc: Global, bound: &BoundQuery, rows: Rows) -> Result<Reply, Al
 }
 
 // The reply to a query by its names and types.
-fn bound_reply(
-    alloc: Global,
-    query: &Query,
-    table: &Table,
-    rows: Rows,
-) -> Result<Reply, AllocError>
+fn bound_reply(alloc: Global, query: &Query, table: &Table, rows: Rows) -> Result<Reply, AllocError>
     requires few { length table.now.schema.fields ≤ 64 }
     requires spelled { Spelled query.now }
     ensures step { IfOk result (IsReply (bound_answer rows (bound table.now true query.now))) }
