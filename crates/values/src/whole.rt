@@ -22,6 +22,7 @@ const MOST_BEFORE_A_DIGIT: u64 = 922337203685477580;
 /// The whole number that a text spells in ASCII: an optional `+` or `-` and one digit or more.
 ///
 /// `Int` takes signed 32-bit numbers, and each other kind signed 64-bit ones. No memory is taken.
+#[inline(always)]
 pub fn read_whole(kind: FieldKind, text: &[u8]) -> Result<i64, WholeFault>
     ensures { result ≡ whole_of kind text.now }
 {
@@ -34,6 +35,7 @@ pub fn read_whole(kind: FieldKind, text: &[u8]) -> Result<i64, WholeFault>
     signed(kind, minus, magnitude)
 }
 
+#[inline(always)]
 fn read_magnitude(digits: &[u8]) -> Result<u64, WholeFault>
     ensures { result ≡ magnitude_of digits.now }
 {
@@ -113,6 +115,7 @@ fn refusal(digits: &[u8]) -> WholeFault
     }
 }
 
+#[inline(always)]
 fn signed(kind: FieldKind, minus: bool, magnitude: u64) -> Result<i64, WholeFault>
     ensures { result ≡ signed_of kind minus magnitude }
 {
