@@ -42,6 +42,3 @@ pub use tree_shape::TreeShape;
 
 /// A growth was refused.
 pub type NoMemory = std::alloc::AllocError;
-
-#[cfg(test)]
-mod tests;

@@ -15,6 +15,3 @@ mod texts;
 pub use fault::{CsvFault, CsvKind};
 pub use known::read_rows;
 pub use plain::read_plain;
-
-#[cfg(test)]
-mod tests;

@@ -12,6 +12,3 @@ pub use dictionary::{Dictionary, MOST_VALUES};
 pub use fault::DictFault;
 pub use id_set::IdSet;
 pub use laws::{distinct_law, spells_one_law};
-
-#[cfg(test)]
-mod tests;

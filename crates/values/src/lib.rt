@@ -20,6 +20,3 @@ pub use seq::Seq;
 pub use test::{CompareOp, Test, holds_value, may_hold};
 pub use value::{NoMemory, Value, compare, push_text};
 pub use whole::{WholeFault, read_whole};
-
-#[cfg(test)]
-mod tests;
