@@ -16,9 +16,8 @@ pub mod Order
 pub mod OrderLaws
 pub mod Merged
 pub mod Tree
-pub mod Picks
 pub mod Docs
-pub mod Reads
 pub mod Documents
+pub mod Picks
+pub mod Reads
 pub mod Worked
-pub mod Plain

@@ -12,8 +12,8 @@ ghost use Rattle.agg_laws.specs.Merged.{total, rekey, weights};
 ghost use Rattle.agg_laws.specs.Tree.{star, dims_order, set_star, CoversRows, merged_docs, tree_of, HaveNoStar, CoversTree, rows_at};
 ghost use Rattle.agg_laws.specs.Docs.{Doc, HaveIds, AreStored, FitShares, projected, states_of};
 ghost use Rattle.agg_laws.specs.Documents.{aggregated, one_document};
-ghost use Rattle.agg_laws.specs.Picks.{Task, picks, ArePartedBy, KeepGroups};
-ghost use Rattle.agg_laws.specs.Reads.{factor, read_of, bound};
+ghost use Rattle.agg_laws.specs.Picks.{Task, picks, read_of, ArePartedBy, KeepGroups, HaveDocs};
+ghost use Rattle.agg_laws.specs.Reads.{factor, bound};
 
 /// Merged documents are the one list whose combinations ascend, are those of the list, and have the merged states of their
 /// own entries. It does not matter in which order the list is, whether it was merged before a dimension is starred, and
@@ -50,16 +50,20 @@ pub fn covers_law()
 {}
 
 /// The documents that a query reads of a tree part the rows: each row that holds is in just one pick, whose remaining tests
-/// it passes; any other is in none, or in one whose remaining tests it fails. On each grouped dimension a pick has the rows' own ids.
+/// it passes; any other is in none, or in one whose remaining tests it fails. The documents of a pick are those that cover the
+/// rows of its path, or the one that stands for them. On each grouped dimension a pick has the rows' own ids.
 pub fn picks_law()
-    ensures parted { (t : Task) (shape : TreeShape) (k : ℕ) (docs : List Doc) → HaveNoStar k docs → ArePartedBy t k (picks t k (tree_of merged_rows shape k docs)) docs }
-    ensures grouped { (t : Task) (shape : TreeShape) (k : ℕ) (docs : List Doc) → KeepGroups t k (picks t k (tree_of merged_rows shape k docs)) }
+    ensures parted { (t : Task) (shape : TreeShape) (k : ℕ) (docs : List Doc) → HaveNoStar k docs → ArePartedBy t k (picks merged_rows t k (tree_of merged_rows shape k docs)) docs }
+    ensures documents { (t : Task) (shape : TreeShape) (k : ℕ) (docs : List Doc) → HaveIds k docs → HaveNoStar k docs
+        → HaveDocs merged_rows k docs (picks merged_rows t k (tree_of merged_rows shape k docs)) }
+    ensures grouped { (t : Task) (shape : TreeShape) (k : ℕ) (docs : List Doc) → KeepGroups t k (picks merged_rows t k (tree_of merged_rows shape k docs)) }
 {}
 
 /// A query reads at most the leaf size times one factor for each dimension, where no factor is 0.
 pub fn reads_law()
-    ensures { (t : Task) (shape : TreeShape) (k : ℕ) (docs : List Doc) → HaveNoStar k docs → 1 ≤ shape.leaf → ((d : ℕ) → d < k → 1 ≤ factor merged_rows t shape docs d)
-        → read_of t k (tree_of merged_rows shape k docs) ≤ bound merged_rows t shape docs k }
+    ensures { (t : Task) (shape : TreeShape) (k : ℕ) (docs : List Doc) → HaveIds k docs → HaveNoStar k docs → 1 ≤ shape.leaf
+        → ((d : ℕ) → d < k → 1 ≤ factor merged_rows t shape docs d)
+        → read_of (picks merged_rows t k (tree_of merged_rows shape k docs)) ≤ bound merged_rows t shape docs k }
 {}
 
 /// The aggregated document of a node has the ids of the node's path, and star on each further dimension. Its states are
