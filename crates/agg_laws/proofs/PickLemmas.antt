@@ -110,7 +110,7 @@ none_and : (a : Bool) → (a && false) ≡ false
 none_and true = refl
 none_and false = refl
 
-turn : (v w : ℕ) → (v == w) ≡ (w == v)
+pub turn : (v w : ℕ) → (v == w) ≡ (w == v)
 turn v w = grind (arith, nat_tests)
 
 none_plus : (n : ℕ) → 0 + n ≡ n
@@ -180,7 +180,7 @@ star_flag true docs kids = refl
 star_flag false docs kids = refl
 
 -- how often an id stands among some
-occurs : ℕ → List ℕ → ℕ
+unfoldable pub occurs : ℕ → List ℕ → ℕ
 occurs v [] = 0
 occurs v (w ∷ ws) = (if w == v then 1 else 0) + occurs v ws
 
@@ -238,7 +238,7 @@ module _ {S : Type 0} (join : S → S → S) (j : IsJoin join) where
     rows = before ++ (e ∷ after)
 
     -- its id is among the ids of its node
-    id_once : (d : ℕ) (path : List ℕ) (docs : List (List ℕ × S)) → d ≡ length path → docs ≡ merged_docs join (rekey (starred path) (rows_at path (before ++ (e ∷ after)))) → agrees path e.0 ≡ true → occurs (dim d e.0) (ids_at join d docs) ≡ 1
+    pub id_once : (d : ℕ) (path : List ℕ) (docs : List (List ℕ × S)) → d ≡ length path → docs ≡ merged_docs join (rekey (starred path) (rows_at path (before ++ (e ∷ after)))) → agrees path e.0 ≡ true → occurs (dim d e.0) (ids_at join d docs) ≡ 1
     id_once d path docs at is on =
         let x = e.0 in
         let v = dim d x in

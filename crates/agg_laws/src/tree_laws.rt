@@ -13,6 +13,7 @@ ghost use Rattle.agg_laws.specs.Tree.{star, dims_order, set_star, CoversRows, me
 ghost use Rattle.agg_laws.specs.Docs.{Doc, HaveIds, AreStored, FitShares, projected, states_of};
 ghost use Rattle.agg_laws.specs.Documents.{aggregated, one_document};
 ghost use Rattle.agg_laws.specs.Picks.{Task, picks, read_of, ArePartedBy, KeepGroups, HaveDocs};
+ghost use Rattle.agg_laws.specs.Shares.{ShareTree};
 ghost use Rattle.agg_laws.specs.Reads.{factor, bound};
 
 /// Merged documents are the one list whose combinations ascend, are those of the list, and have the merged states of their
@@ -47,6 +48,12 @@ pub fn shares_law()
 /// and its aggregated document has their states.
 pub fn covers_law()
     ensures { (shape : TreeShape) (k : ℕ) (docs : List Doc) → HaveNoStar k docs → CoversTree merged_rows docs (tree_of merged_rows shape k docs) }
+{}
+
+/// The ordinary children of each split node have the node's rows, each row under just one of them, and a star child has the same
+/// rows as the node.
+pub fn children_law()
+    ensures { (shape : TreeShape) (k : ℕ) (docs : List Doc) → HaveNoStar k docs → ShareTree docs (tree_of merged_rows shape k docs) }
 {}
 
 /// The documents that a query reads of a tree part the rows: each row that holds is in just one pick, whose remaining tests

@@ -1,15 +1,15 @@
 -- The laws of averages.
-use Rattle.std.proofs.Common.{◌≡◌, ℕ, ◌+◌, ◌<◌, List, [], ◌∷◌, ◌++◌, length, take, drop, get_or, subst, refl, sym, ap, ◌∙◌, arith}
+use Rattle.std.proofs.Common.{◌≡◌, ℕ, ◌+◌, ◌<◌, ◌≤◌, List, [], ◌∷◌, ◌++◌, length, take, drop, get_or, subst, refl, sym, ap, ◌∙◌, arith}
 use Rattle.std.specs.Prelude.{ℤ, pos, ◌+ℤ◌}
 use Rattle.std.specs.List.Sorted.{IsPermutation}
 use Rattle.agg_laws.specs.declared.averages.AverageState.{AverageState}
 use Rattle.agg_laws.specs.Numbers.{average_of, both_averages, AreWhole, AverageFits, AverageStored, most_stored, sum_bytes, count_bytes, average_bytes}
-use Rattle.agg_laws.specs.Permuted.{permuted}
+use Rattle.agg_laws.specs.laws.Permuted.{permuted}
 use Rattle.std.proofs.lemmas.List.{get_or-drop, length-take-le, length-drop, take-append-drop}
 use Rattle.std.specs.Int.{w64, w128, from_be_bytes, cast_signed}
-use Rattle.agg_laws.specs.ByteLaws.{small_take}
-use Rattle.agg_laws.specs.CountLaws as counts
-use Rattle.agg_laws.specs.SumLaws as sums
+use Rattle.agg_laws.specs.laws.Bytes.{small_take}
+use Rattle.agg_laws.specs.laws.Counts as counts
+use Rattle.agg_laws.specs.laws.Sums as sums
 
 same : (s t : ℤ) (c d : ℕ) → s ≡ t → c ≡ d → let a : AverageState = record { sum = s; count = c } in let b : AverageState = record { sum = t; count = d } in a ≡ b
 same s t c d p q = λ i. record { sum = p i; count = q i }
@@ -34,6 +34,9 @@ same_permuted xs ys h = permuted both_averages any_grouping any_order average_of
 
 pub fits_both : (v w : AverageState) (n m : ℕ) → AverageFits v n → AverageFits w m → AverageFits (both_averages v w) (n + m)
 fits_both v w n m p q = (omega (arith, p.0, q.0), sums.fits_both v.sum w.sum v.count w.count p.1 q.1)
+
+pub fits_more : (v : AverageState) (n m : ℕ) → AverageFits v n → n ≤ m → AverageFits v m
+fits_more v n m h le = (omega (arith, h.0, le), h.1)
 
 pub fits_of : (xs : List ℤ) → AreWhole xs → AverageFits (average_of xs) (length xs)
 fits_of xs h = (counts.fits_of xs h, sums.fits_of xs h)

@@ -6,8 +6,8 @@ use Rattle.std.specs.Int.{w128, to_be_bytes, from_be_bytes, cast_signed, cast_un
 use Rattle.std.specs.Int.RustNames.{FitsSigned}
 use Rattle.std.specs.List.Sorted.{IsPermutation}
 use Rattle.agg_laws.specs.Numbers.{sum_of, AreWhole, SumFits, SumStored, most_stored, sum_bytes}
-use Rattle.agg_laws.specs.Permuted.{permuted}
-use Rattle.agg_laws.specs.ByteLaws.{from_be_bytes-to_be_bytes_16, be_bytes_16, below_16}
+use Rattle.agg_laws.specs.laws.Permuted.{permuted}
+use Rattle.agg_laws.specs.laws.Bytes.{from_be_bytes-to_be_bytes_16, be_bytes_16, below_16}
 
 pub nothing_added : (v : ℤ) → v +ℤ pos 0 ≡ v
 nothing_added v = omega (arith, ints)
@@ -35,8 +35,8 @@ pub fits_of : (xs : List ℤ) → AreWhole xs → SumFits (sum_of xs) (length xs
 fits_of [] h = (omega (arith, ints), omega (arith, ints))
 fits_of (x ∷ xs) h = let more = fits_of xs h.1 in let own = h.0 in (omega (arith, ints), omega (arith, ints))
 
-pub fits_more : (v : ℤ) (n m : ℕ) → n ≤ m → SumFits v n → SumFits v m
-fits_more v n m lt h = (omega (arith, ints), omega (arith, ints))
+pub fits_more : (v : ℤ) (n m : ℕ) → SumFits v n → n ≤ m → SumFits v m
+fits_more v n m h le = (omega (arith, ints), omega (arith, ints))
 
 -- a stored sum is a number of 128 bits
 pub fits_128 : (v : ℤ) (n : ℕ) → n ≤ most_stored → SumFits v n → FitsSigned w128 v

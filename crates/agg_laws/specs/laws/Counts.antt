@@ -5,7 +5,7 @@ use Rattle.std.specs.Prelude.{ℤ}
 use Rattle.std.specs.Int.{w64, from_be_bytes}
 use Rattle.std.specs.List.Sorted.{IsPermutation}
 use Rattle.agg_laws.specs.Numbers.{AreWhole, CountStored, most_stored, count_bytes}
-use Rattle.agg_laws.specs.Permuted.{permuted}
+use Rattle.agg_laws.specs.laws.Permuted.{permuted}
 
 pub nothing_added : (v : ℕ) → v + 0 ≡ v
 nothing_added v = omega arith
@@ -24,6 +24,9 @@ same_permuted xs ys h = permuted (λ a b. a + b) add_assoc add_comm length (λ x
 
 pub fits_both : (v w n m : ℕ) → v ≤ n → w ≤ m → v + w ≤ n + m
 fits_both v w n m p q = omega arith
+
+pub fits_more : (v n m : ℕ) → v ≤ n → n ≤ m → v ≤ m
+fits_more v n m h le = omega (arith, h, le)
 
 pub spelled : (v : ℕ) → CountStored v → length (count_bytes v) ≡ 8
 unfolding count_bytes

@@ -5,7 +5,7 @@ use Rattle.std.proofs.lemmas.Int.{ints, clamps}
 use Rattle.std.specs.Int.{int_min}
 use Rattle.std.specs.List.Sorted.{IsPermutation}
 use Rattle.agg_laws.specs.Numbers.{lesser, least_of, IsWhole, AreWhole, NumberFits, NumberStored}
-use Rattle.agg_laws.specs.Permuted.{permuted}
+use Rattle.agg_laws.specs.laws.Permuted.{permuted}
 
 pub nothing_added : (v : Option ℤ) → lesser v None ≡ v
 nothing_added None = refl

@@ -10,11 +10,11 @@ use Rattle.agg_laws.specs.Numbers.{SumFits, most_stored}
 use Rattle.agg_laws.specs.States.{kind_of, rank_of, state_of, merged, Fits, IsStored}
 use Rattle.agg_laws.specs.Rows.{head_of, tail_of, row_of, units_of, kinds_of, merged_rows, RowFits, RowStored, sum_weight, weight_of, row_weight}
 use Rattle.std.specs.List.Sorted.{IsPermutation}
-use Rattle.agg_laws.specs.Permuted.{permuted}
-use Rattle.agg_laws.specs.SumLaws as sums
-use Rattle.agg_laws.specs.LeastLaws as leasts
-use Rattle.agg_laws.specs.GreatestLaws as greatests
-use Rattle.agg_laws.specs.StateLaws as states
+use Rattle.agg_laws.specs.laws.Permuted.{permuted}
+use Rattle.agg_laws.specs.laws.Sums as sums
+use Rattle.agg_laws.specs.laws.Leasts as leasts
+use Rattle.agg_laws.specs.laws.Greatests as greatests
+use Rattle.agg_laws.specs.laws.States as states
 
 pub of_none : (ks : List AggKind) → row_of ks [] ≡ units_of ks
 of_none [] = refl
@@ -53,9 +53,9 @@ fits_both [] ws n m p q = tt
 fits_both (v ∷ vs) [] n m p q = tt
 fits_both (v ∷ vs) (w ∷ ws) n m p q = (states.fits_both v w n m p.0 q.0, fits_both vs ws n m p.1 q.1)
 
-pub fits_more : (vs : List AggState) (n m : ℕ) → n ≤ m → RowFits vs n → RowFits vs m
-fits_more [] n m lt h = tt
-fits_more (v ∷ vs) n m lt h = (states.fits_more v n m lt h.0, fits_more vs n m lt h.1)
+pub fits_more : (vs : List AggState) (n m : ℕ) → RowFits vs n → n ≤ m → RowFits vs m
+fits_more [] n m h le = tt
+fits_more (v ∷ vs) n m h le = (states.fits_more v n m h.0 le, fits_more vs n m h.1 le)
 
 -- a sum that fits n values weighs at most n, and fits its own weight
 pub sum_weight_least : (s : ℤ) (n : ℕ) → SumFits s n → sum_weight s ≤ n
@@ -110,8 +110,8 @@ row_weight_least (v ∷ vs) n h = let own = weight_least v n h.0 in let more = r
 pub row_fits_weight : (vs : List AggState) (n : ℕ) → RowFits vs n → RowFits vs (row_weight vs)
 row_fits_weight [] n h = tt
 row_fits_weight (v ∷ vs) n h = (
-  states.fits_more v (weight_of v) (row_weight (v ∷ vs)) (omega arith) (fits_weight v n h.0),
-  fits_more vs (row_weight vs) (row_weight (v ∷ vs)) (omega arith) (row_fits_weight vs n h.1),
+  states.fits_more v (weight_of v) (row_weight (v ∷ vs)) (fits_weight v n h.0) (omega arith),
+  fits_more vs (row_weight vs) (row_weight (v ∷ vs)) (row_fits_weight vs n h.1) (omega arith),
 )
 
 -- either of two states
@@ -123,7 +123,7 @@ either_stored false v w p q = q
 pub stored_both : (v w : AggState) → IsStored v → IsStored w → weight_of v + weight_of w ≤ most_stored → IsStored (merged v w)
 stored_both (Count v) (Count w) p q few = (omega (arith, p.0), few)
 stored_both (Sum v) (Sum w) p q few =
-    sums.fits_more (v +ℤ w) (sum_weight v + sum_weight w) most_stored few (sums.fits_both v w (sum_weight v) (sum_weight w) (sum_fits_weight v) (sum_fits_weight w))
+    sums.fits_more (v +ℤ w) (sum_weight v + sum_weight w) most_stored (sums.fits_both v w (sum_weight v) (sum_weight w) (sum_fits_weight v) (sum_fits_weight w)) few
 stored_both (Least None) (Least w) p q few = absurd p
 stored_both (Least (Some v)) (Least None) p q few = absurd q
 stored_both (Least (Some v)) (Least (Some w)) p q few = leasts.fits_both (Some v) (Some w) p q

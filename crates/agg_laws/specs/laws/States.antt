@@ -9,12 +9,12 @@ use Rattle.agg_laws.specs.declared.states.AggState.TheVariants.{Count, Sum, Leas
 use Rattle.agg_laws.specs.Numbers.{AreWhole, most_stored}
 use Rattle.agg_laws.specs.States.{kind_of, rank_of, state_of, unit_of, merged, Fits, IsStored, spelling}
 use Rattle.agg_laws.specs.Kind.{width_of}
-use Rattle.agg_laws.specs.CountLaws as counts
-use Rattle.agg_laws.specs.SumLaws as sums
-use Rattle.agg_laws.specs.LeastLaws as leasts
-use Rattle.agg_laws.specs.GreatestLaws as greatests
-use Rattle.agg_laws.specs.NumberBytes as numbers
-use Rattle.agg_laws.specs.AverageLaws as averages
+use Rattle.agg_laws.specs.laws.Counts as counts
+use Rattle.agg_laws.specs.laws.Sums as sums
+use Rattle.agg_laws.specs.laws.Leasts as leasts
+use Rattle.agg_laws.specs.laws.Greatests as greatests
+use Rattle.agg_laws.specs.laws.NumberBytes as numbers
+use Rattle.agg_laws.specs.laws.Averages as averages
 
 pub of_none : (k : AggKind) → state_of k [] ≡ unit_of k
 of_none kinds.Count = refl
@@ -72,17 +72,17 @@ fits_of kinds.Least xs h = leasts.fits_of xs h
 fits_of kinds.Greatest xs h = greatests.fits_of xs h
 fits_of kinds.Average xs h = averages.fits_of xs h
 
-pub fits_more : (v : AggState) (n m : ℕ) → n ≤ m → Fits v n → Fits v m
-fits_more (Count c) n m lt h = omega (arith, h)
-fits_more (Sum s) n m lt h = sums.fits_more s n m lt h
-fits_more (Least x) n m lt h = h
-fits_more (Greatest x) n m lt h = h
-fits_more (Average a) n m lt h = (omega (arith, h.0), h.1)
+pub fits_more : (v : AggState) (n m : ℕ) → Fits v n → n ≤ m → Fits v m
+fits_more (Count c) n m h le = counts.fits_more c n m h le
+fits_more (Sum s) n m h le = sums.fits_more s n m h le
+fits_more (Least x) n m h le = h
+fits_more (Greatest x) n m h le = h
+fits_more (Average a) n m h le = averages.fits_more a n m h le
 
 -- either of two states
 either_fits : (b : Bool) (v w : AggState) (n m : ℕ) → Fits v n → Fits w m → Fits (if b then v else w) (n + m)
-either_fits true v w n m p q = fits_more v n (n + m) (omega arith) p
-either_fits false v w n m p q = fits_more w m (n + m) (omega arith) q
+either_fits true v w n m p q = fits_more v n (n + m) p (omega arith)
+either_fits false v w n m p q = fits_more w m (n + m) q (omega arith)
 
 pub fits_both : (v w : AggState) (n m : ℕ) → Fits v n → Fits w m → Fits (merged v w) (n + m)
 fits_both (Count v) (Count w) n m p q = counts.fits_both v w n m p q
