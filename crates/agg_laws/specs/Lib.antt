@@ -10,5 +10,6 @@ pub mod Docs
 pub mod Documents
 pub mod Picks
 pub mod Reads
+pub mod Groups
 pub mod Worked
 pub mod laws

@@ -34,7 +34,7 @@ pub use state_row::StateRow;
 pub use states::AggState;
 pub use sums::Sum;
 pub use tree_laws::{
-    aggregated_law, children_law, covers_law, merged_law, picks_law, projected_law, reads_law, shares_law,
+    aggregated_law, answer_law, children_law, covers_law, merged_law, picks_law, projected_law, reads_law, shares_law,
 };
 pub use tree_shape::TreeShape;
 

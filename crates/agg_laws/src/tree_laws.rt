@@ -1,6 +1,6 @@
 //! The laws of merged documents and of the star-tree. Each is the contract of a function that does nothing.
 
-ghost use Rattle.std.specs.Prelude.{◌≡◌, ℕ, ◌+◌, ◌-◌, ◌++◌, replicate, ◌<◌, ◌≤◌, Bool, true, ℤ, List, length, map, sum, IsTrue, IsPermutation};
+ghost use Rattle.std.specs.Prelude.{◌≡◌, ℕ, ◌+◌, ◌-◌, ◌++◌, replicate, ◌<◌, ◌≤◌, Bool, true, ℤ, List, length, map, sum, IsTrue, IsPermutation, None, [], ◌↔◌};
 ghost use Rattle.std.specs.List.{filter};
 ghost use Rattle.std.specs.FinMap.{is_sorted, find};
 ghost use Rattle.std.specs.Ordering.{eq_by_cmp};
@@ -14,6 +14,7 @@ ghost use Rattle.agg_laws.specs.Docs.{Doc, HaveIds, AreStored, FitShares, projec
 ghost use Rattle.agg_laws.specs.Documents.{aggregated, one_document};
 ghost use Rattle.agg_laws.specs.Picks.{Task, picks, read_of, ArePartedBy, KeepGroups, HaveDocs};
 ghost use Rattle.agg_laws.specs.Shares.{ShareTree};
+ghost use Rattle.agg_laws.specs.Groups.{groups_of, passing, rows_that_hold, rows_with_key};
 ghost use Rattle.agg_laws.specs.Reads.{factor, bound};
 
 /// Merged documents are the one list whose combinations ascend, are those of the list, and have the merged states of their
@@ -79,4 +80,21 @@ pub fn aggregated_law()
     ensures { (k : ℕ) (rows docs : List Doc) (path : List ℕ) → HaveIds k rows → length path ≤ k → CoversRows merged_rows rows path docs
         → aggregated merged_rows (length path) docs
         ≡ one_document (path ++ replicate (k - length path) star) (total merged_rows (λ _. true) (rows_at path rows)) }
+{}
+
+/// The answer from a tree is the fold of the rows that hold. The groups of what is read of the tree and passes its remaining
+/// tests are those of the rows that hold; the states of a key are those of the numbers of just the rows that hold and have it,
+/// pair by pair; and a key is among the groups exactly where such a row has it.
+pub fn answer_law()
+    ensures groups { (t : Task) (shape : TreeShape) (k : ℕ) (docs : List Doc) → HaveIds k docs → HaveNoStar k docs
+        → groups_of merged_rows t k (passing t k (picks merged_rows t k (tree_of merged_rows shape k docs)))
+        ≡ groups_of merged_rows t k (rows_that_hold t k docs) }
+    ensures states { (t : Task) (shape : TreeShape) (k : ℕ) (ks : List AggKind) (rows : List (List ℕ × List ℤ)) (key : List ℕ)
+        → HaveIds k rows → HaveNoStar k rows
+        → find dims_order key (groups_of merged_rows t k (passing t k (picks merged_rows t k (tree_of merged_rows shape k (projected ks rows)))))
+        ≡ states_of ks (map (λ row. row.1) (rows_with_key t k key rows)) }
+    ensures keys { (t : Task) (shape : TreeShape) (k : ℕ) (ks : List AggKind) (rows : List (List ℕ × List ℤ)) (key : List ℕ)
+        → HaveIds k rows → HaveNoStar k rows
+        → (find dims_order key (groups_of merged_rows t k (passing t k (picks merged_rows t k (tree_of merged_rows shape k (projected ks rows))))) ≡ None)
+        ↔ (rows_with_key t k key rows ≡ []) }
 {}
