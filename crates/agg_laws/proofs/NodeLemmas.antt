@@ -104,7 +104,7 @@ module _ {S : Type 0} (join : S → S → S) (j : IsJoin join) where
   docs_at k path rows docs short ids no_star is = subst (DocsAt k path) (sym is) (merged_docs_at k path (rekey (starred path) (rows_at path rows)) (rows_docs_at k path rows short ids no_star))
 
   -- the star child of some nodes alone matters
-  below_kids : (below : List (List ℕ × S) → Nodes S) (d : ℕ) (docs all : List (List ℕ × S)) (last : Nodes S) (vs : List ℕ) → Avoids vs → total_below join d all (kids_of below d docs last vs) ≡ total_below join d all last
+  pub below_kids : (below : List (List ℕ × S) → Nodes S) (d : ℕ) (docs all : List (List ℕ × S)) (last : Nodes S) (vs : List ℕ) → Avoids vs → total_below join d all (kids_of below d docs last vs) ≡ total_below join d all last
   below_kids below d docs all last [] av = refl
   below_kids below d docs all last (v ∷ vs) av =
       let own = docs_with d v docs in
@@ -112,7 +112,7 @@ module _ {S : Type 0} (join : S → S → S) (j : IsJoin join) where
       ∙ below_kids below d docs all last vs av.1
 
   module _ (k : ℕ) (shape : TreeShape) (rows : List (List ℕ × S)) (ids : HaveIds k rows) (no_star : HaveNoStar k rows) where
-    merged_total : (path : List ℕ) (docs : List (List ℕ × S)) → length path ≤ k → docs ≡ merged_docs join (rekey (starred path) (rows_at path rows)) → IsTotal join rows path (aggregated join (length path) docs)
+    pub merged_total : (path : List ℕ) (docs : List (List ℕ × S)) → length path ≤ k → docs ≡ merged_docs join (rekey (starred path) (rows_at path rows)) → IsTotal join rows path (aggregated join (length path) docs)
     merged_total path docs short is = record {
       ids = path ++ replicate (k - length path) star;
       path_is = take-own path (replicate (k - length path) star);

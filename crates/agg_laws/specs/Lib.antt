@@ -11,5 +11,7 @@ pub mod Documents
 pub mod Picks
 pub mod Reads
 pub mod Groups
+pub mod Flat
+pub mod FlatNodes
 pub mod Worked
 pub mod laws

@@ -10,6 +10,7 @@ mod extremes;
 mod id_list;
 mod kind_list;
 mod laws;
+mod node;
 mod numbers;
 mod star_row;
 mod star_table;
@@ -28,13 +29,14 @@ pub use extremes::{Greatest, Least};
 pub use id_list::{Ids, STAR};
 pub use kind_list::Kinds;
 pub use laws::{aggregates_law, extremes_law, order_law, rows_law, weights_law};
+pub use node::Node;
 pub use star_row::StarRow;
 pub use star_table::StarTable;
 pub use state_row::StateRow;
 pub use states::AggState;
 pub use sums::Sum;
 pub use tree_laws::{
-    aggregated_law, answer_law, children_law, covers_law, merged_law, picks_law, projected_law, reads_law, shares_law,
+    aggregated_law, answer_law, children_law, covers_law, flat_law, merged_law, picks_law, projected_law, reads_law, shares_law,
 };
 pub use tree_shape::TreeShape;
 

@@ -1,20 +1,23 @@
 //! The laws of merged documents and of the star-tree. Each is the contract of a function that does nothing.
 
-ghost use Rattle.std.specs.Prelude.{◌≡◌, ℕ, ◌+◌, ◌-◌, ◌++◌, replicate, ◌<◌, ◌≤◌, Bool, true, ℤ, List, length, map, sum, IsTrue, IsPermutation, None, [], ◌↔◌};
+ghost use Rattle.std.specs.Prelude.{◌≡◌, ℕ, ◌+◌, ◌-◌, ◌*◌, ◌++◌, replicate, ◌<◌, ◌≤◌, Bool, true, ℤ, List, length, map, sum, IsTrue, IsPermutation, None, [], ◌↔◌};
 ghost use Rattle.std.specs.List.{filter};
 ghost use Rattle.std.specs.FinMap.{is_sorted, find};
 ghost use Rattle.std.specs.Ordering.{eq_by_cmp};
 ghost use Rattle.agg_laws.specs.declared.aggregate_kind.AggKind.{AggKind};
+ghost use Rattle.agg_laws.specs.declared.states.AggState.{AggState};
 ghost use Rattle.agg_laws.specs.declared.tree_shape.TreeShape.{TreeShape};
 ghost use Rattle.agg_laws.specs.Numbers.{most_stored};
 ghost use Rattle.agg_laws.specs.Rows.{merged_rows, row_weight};
 ghost use Rattle.agg_laws.specs.Merged.{total, rekey, weights};
-ghost use Rattle.agg_laws.specs.Tree.{star, dims_order, set_star, CoversRows, merged_docs, tree_of, HaveNoStar, CoversTree, rows_at};
+ghost use Rattle.agg_laws.specs.Tree.{star, dims_order, set_star, CoversRows, merged_docs, tree_of, HaveNoStar, Nodes, CoversTree, rows_at};
 ghost use Rattle.agg_laws.specs.Docs.{Doc, HaveIds, AreStored, FitShares, projected, states_of};
-ghost use Rattle.agg_laws.specs.Documents.{aggregated, one_document};
+ghost use Rattle.agg_laws.specs.Documents.{aggregated, one_document, documents_of};
 ghost use Rattle.agg_laws.specs.Picks.{Task, picks, read_of, ArePartedBy, KeepGroups, HaveDocs};
 ghost use Rattle.agg_laws.specs.Shares.{ShareTree};
 ghost use Rattle.agg_laws.specs.Groups.{groups_of, passing, rows_that_hold, rows_with_key};
+ghost use Rattle.agg_laws.specs.Flat.{flat, nodes_in, tree_bytes, FlatAt};
+ghost use Rattle.agg_laws.specs.FlatNodes.{IsOfTree};
 ghost use Rattle.agg_laws.specs.Reads.{factor, bound};
 
 /// Merged documents are the one list whose combinations ascend, are those of the list, and have the merged states of their
@@ -97,4 +100,19 @@ pub fn answer_law()
         → HaveIds k rows → HaveNoStar k rows
         → (find dims_order key (groups_of merged_rows t k (passing t k (picks merged_rows t k (tree_of merged_rows shape k (projected ks rows))))) ≡ None)
         ↔ (rows_with_key t k key rows ≡ []) }
+{}
+
+/// The tree written flat. Its documents are those that the visits append, and its nodes are as many as the nested tree has.
+/// From the root on, the numbers lay out the nested tree; and each node of the flat tree is a node of the nested one.
+pub fn flat_law()
+    ensures documents { (tree : Nodes (List AggState)) → (flat merged_rows tree).1 ≡ documents_of merged_rows tree }
+    ensures count { (shape : TreeShape) (k : ℕ) (docs : List Doc)
+        → length (flat merged_rows (tree_of merged_rows shape k docs)).0 ≡ nodes_in (tree_of merged_rows shape k docs) }
+    ensures bytes { (width : ℕ) (shape : TreeShape) (k : ℕ) (docs : List Doc) → tree_bytes merged_rows width (tree_of merged_rows shape k docs)
+        ≡ width * length (documents_of merged_rows (tree_of merged_rows shape k docs)) + 28 * nodes_in (tree_of merged_rows shape k docs) }
+    ensures nested { (shape : TreeShape) (k : ℕ) (docs : List Doc) → HaveIds k docs → HaveNoStar k docs
+        → FlatAt merged_rows 0 0 (tree_of merged_rows shape k docs) (flat merged_rows (tree_of merged_rows shape k docs)) }
+    ensures each { (shape : TreeShape) (k : ℕ) (docs : List Doc) → HaveIds k docs → HaveNoStar k docs
+        → (at : ℕ) → at < length (flat merged_rows (tree_of merged_rows shape k docs)).0
+        → IsOfTree merged_rows shape k docs at (flat merged_rows (tree_of merged_rows shape k docs)) }
 {}
