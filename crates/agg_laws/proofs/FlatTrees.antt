@@ -32,7 +32,7 @@ module _ {S : Type 0} (join : S → S → S) (j : IsJoin join) (shape : TreeShap
   abbrev At : List ℕ → List (List ℕ × S) → Type 0
   At path docs = docs ≡ merged_docs join (rekey (starred path) (rows_at path rows))
 
-  sorted_at : (path : List ℕ) (docs : List (List ℕ × S)) → At path docs → is_sorted dims_order docs ≡ true
+  pub sorted_at : (path : List ℕ) (docs : List (List ℕ × S)) → At path docs → is_sorted dims_order docs ≡ true
   sorted_at path docs is = subst (λ l. is_sorted dims_order l ≡ true) (sym is) (as_true _ (is_sorted-Merged dims_order nat_list_cmp_total same_dims join j (rekey (starred path) (rows_at path rows))))
 
   one_aggregated : (path : List ℕ) (docs : List (List ℕ × S)) → length path ≤ k → At path docs → 0 < length docs → length (aggregated join (length path) docs) ≡ 1

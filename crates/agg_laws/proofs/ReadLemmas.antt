@@ -79,11 +79,11 @@ has v [] = false
 has v (w ∷ ws) = if w == v then true else has v ws
 
 -- ids that ascend, each once
-abbrev Above : ℕ → List ℕ → Type 0
+abbrev pub Above : ℕ → List ℕ → Type 0
 Above v [] = Unit {0}
 Above v (w ∷ ws) = (v < w) × Above v ws
 
-abbrev Ascending : List ℕ → Type 0
+abbrev pub Ascending : List ℕ → Type 0
 Ascending [] = Unit {0}
 Ascending (v ∷ vs) = Above v vs × Ascending vs
 
@@ -212,7 +212,7 @@ module _ {S : Type 0} (join : S → S → S) (j : IsJoin join) where
       ∙ total-rekey join j (dim d) (eq_by_cmp nat_cmp v) docs)
       ∙ some_total (λ x. eq_by_cmp nat_cmp v (dim d x)) docs
 
-  ids_ascend : (d : ℕ) (docs : List (List ℕ × S)) → Ascending (ids_at join d docs)
+  pub ids_ascend : (d : ℕ) (docs : List (List ℕ × S)) → Ascending (ids_at join d docs)
   ids_ascend d docs = keys_ascend (Merged nat_cmp join (rekey (dim d) docs)) (is_sorted-Merged nat_cmp nat_cmp_total nat_cmp-IsAntisymmetric join j (rekey (dim d) docs))
 
   -- the ids of a node's documents are ids of the rows

@@ -13,5 +13,6 @@ pub mod Reads
 pub mod Groups
 pub mod Flat
 pub mod FlatNodes
+pub mod NodeRules
 pub mod Worked
 pub mod laws

@@ -16,7 +16,9 @@ ghost use Rattle.agg_laws.specs.Documents.{aggregated, one_document, documents_o
 ghost use Rattle.agg_laws.specs.Picks.{Task, picks, read_of, ArePartedBy, KeepGroups, HaveDocs};
 ghost use Rattle.agg_laws.specs.Shares.{ShareTree};
 ghost use Rattle.agg_laws.specs.Groups.{groups_of, passing, rows_that_hold, rows_with_key};
-ghost use Rattle.agg_laws.specs.Flat.{flat, nodes_in, tree_bytes, FlatAt};
+ghost use Rattle.agg_laws.specs.Flat.{flat, nodes_in, tree_bytes, FlatAt, node_at};
+ghost use Rattle.agg_laws.specs.NodeRules.{count_at, AreCounted, KeepsRules, IsRoot};
+ghost use Rattle.agg_laws.specs.Worked.{views, views_shape, views_nodes, views_documents, with_leaf, leaf_of_seven, leaves_of_six, leaves_of_two, skips_countries, country_skipped, views_of_the_usa, one_country};
 ghost use Rattle.agg_laws.specs.FlatNodes.{IsOfTree};
 ghost use Rattle.agg_laws.specs.Reads.{factor, bound};
 
@@ -115,4 +117,29 @@ pub fn flat_law()
     ensures each { (shape : TreeShape) (k : ℕ) (docs : List Doc) → HaveIds k docs → HaveNoStar k docs
         → (at : ℕ) → at < length (flat merged_rows (tree_of merged_rows shape k docs)).0
         → IsOfTree merged_rows shape k docs at (flat merged_rows (tree_of merged_rows shape k docs)) }
+{}
+
+/// The nodes of the flat tree keep the rules by which the nodes of a file are checked, where each id of the rows is below its
+/// dimension's count. The root is the first node. There are no nodes, and no documents, just where there are no rows.
+pub fn node_rules_law()
+    ensures rules { (shape : TreeShape) (k : ℕ) (docs : List Doc) (counts : List ℕ) → HaveIds k docs → HaveNoStar k docs
+        → ((d : ℕ) → count_at counts d ≤ star) → AreCounted k counts docs
+        → (at : ℕ) → at < length (flat merged_rows (tree_of merged_rows shape k docs)).0
+        → KeepsRules shape k counts (length (flat merged_rows (tree_of merged_rows shape k docs)).1) (flat merged_rows (tree_of merged_rows shape k docs)).0 at }
+    ensures root { (shape : TreeShape) (k : ℕ) (docs : List Doc) → 0 < length (flat merged_rows (tree_of merged_rows shape k docs)).0
+        → IsRoot (node_at (flat merged_rows (tree_of merged_rows shape k docs)).0 0) }
+    ensures no_nodes { (shape : TreeShape) (k : ℕ) (docs : List Doc) → ((flat merged_rows (tree_of merged_rows shape k docs)).0 ≡ []) ↔ (docs ≡ []) }
+    ensures no_documents { (shape : TreeShape) (k : ℕ) (docs : List Doc) → ((flat merged_rows (tree_of merged_rows shape k docs)).1 ≡ []) ↔ (docs ≡ []) }
+{}
+
+/// The definition of the flat tree gives the nodes and documents that were worked by hand.
+pub fn worked_law()
+    ensures views { flat merged_rows (tree_of merged_rows views_shape 3 (projected views_shape.kinds views)) ≡ (views_nodes, views_documents) }
+    ensures ten { flat merged_rows (tree_of merged_rows (with_leaf 10) 3 (projected views_shape.kinds views)) ≡ leaf_of_seven }
+    ensures seven { flat merged_rows (tree_of merged_rows (with_leaf 7) 3 (projected views_shape.kinds views)) ≡ leaf_of_seven }
+    ensures six { flat merged_rows (tree_of merged_rows (with_leaf 6) 3 (projected views_shape.kinds views)) ≡ leaves_of_six }
+    ensures two { flat merged_rows (tree_of merged_rows (with_leaf 2) 3 (projected views_shape.kinds views)) ≡ leaves_of_two }
+    ensures skipped { flat merged_rows (tree_of merged_rows skips_countries 3 (projected views_shape.kinds views)) ≡ country_skipped }
+    ensures one_value { flat merged_rows (tree_of merged_rows (with_leaf 1) 3 (projected views_shape.kinds views_of_the_usa)) ≡ one_country }
+    ensures no_rows { flat merged_rows (tree_of merged_rows (with_leaf 1) 3 (projected views_shape.kinds [])) ≡ ([], []) }
 {}
