@@ -24,7 +24,7 @@ HaveShape k ks [] = Unit {0}
 HaveShape k ks (e ∷ es) = (length e.0 ≡ k) × (kinds_of e.1 ≡ ks) × HaveShape k ks es
 
 -- each document has k ids
-abbrev pub HaveIds : ℕ → List Doc → Type 0
+abbrev pub HaveIds : {S : Type 0} → ℕ → List (List ℕ × S) → Type 0
 HaveIds k [] = Unit {0}
 HaveIds k (e ∷ es) = (length e.0 ≡ k) × HaveIds k es
 
