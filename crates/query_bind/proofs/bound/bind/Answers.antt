@@ -1,4 +1,4 @@
-use Rattle.std.proofs.Common.{ap, ◌∙◌}
+use Rattle.std.proofs.Common.{Ok, ap, ◌∙◌}
 use Rattle.query_bind.specs.Written.{where_written}
 use Rattle.query_bind.specs.Conjuncts.{where_conjuncts}
 use Rattle.query_bind.proofs.BoundLemmas.{answers_bound}
@@ -13,4 +13,4 @@ returns-clause-bound c =
     checked.0 checked.1 form c.in_ok-bound.ensures
 
 pub returns-clause-valid : goal.returns-clause-valid
-returns-clause-valid c = binds_valid c.args.table.now c.args.any_table c.args.query.now _ c.requires.spelled (returns-clause-bound c)
+returns-clause-valid c = binds_valid c.args.table.now c.args.any_table c.args.query.now (Ok c.in_ok-bound.bound) c.requires.spelled (returns-clause-bound c)
