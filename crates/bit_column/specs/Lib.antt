@@ -1,3 +1,5 @@
 pub mod Bits
 pub mod Column
 pub mod Sections
+pub mod Postings
+pub mod SortedRuns

@@ -1,6 +1,5 @@
 -- Where there are too many.
 use Rattle.std.proofs.Common.{◌≡◌, ◌⊎◌, inl, inr, ℕ, suc, ◌+◌, ◌≤◌, ◌<◌, nat_lt, nat_le, ◌==◌, Bool, true, false, ◌||◌, cond, List, [], ◌∷◌, ◌++◌, length, length-append, map, Some, None, Ok, refl, sym, ap, ◌∙◌, subst, arith, rules, tests}
-use Rattle.table_schema.specs.declared.query.Agg.{Agg}
 use Rattle.query_bind.specs.declared.fault.BindReason.TheVariants.{TooMany}
 use Rattle.query_bind.specs.declared.fault.BindFault.TheVariants.{At}
 use Rattle.query_bind.specs.declared.terms.Meaning.{Meaning}
@@ -8,8 +7,8 @@ use Rattle.query_bind.specs.declared.terms.Meaning.TheVariants as meaning
 use Rattle.query_bind.specs.declared.terms.TermAt.{TermAt}
 use Rattle.query_bind.specs.declared.terms.KeyAt.{KeyAt}
 use Rattle.query_bind.specs.declared.terms.ColumnAt.{ColumnAt}
-use Rattle.query_bind.specs.Faults.{Finding, or_else, fault_if, first_of}
-use Rattle.query_bind.specs.Terms.{terms_of, with_new, with_column, columns_from, same_agg, with_agg, aggs_from, groups_of, aggs_of}
+use Rattle.query_bind.specs.Faults.{Finding, fault_if}
+use Rattle.query_bind.specs.Terms.{terms_of, with_new, with_column, columns_from, with_agg, aggs_from, groups_of, aggs_of}
 use Rattle.query_bind.specs.Limits.{aggs_finding, groups_finding, keys_finding, limits_finding}
 use Rattle.std.proofs.lemmas.Bool.{ltb-false, leb-false}
 use Rattle.std.proofs.lemmas.Option.{none-some}
@@ -19,8 +18,12 @@ use Rattle.query_bind.specs.declared.terms.Terms.{Terms}
 use Rattle.query_bind.specs.Names.{table_finding, names_finding}
 use Rattle.query_bind.specs.Grouped.{aggregate_finding, grouped_finding}
 use Rattle.query_bind.specs.Bound.{Bound, bound_of, bound, query_finding, keys_of}
-use Rattle.query_bind.proofs.PlaceLemmas.{none_first, none_later, answered}
-use Rattle.query_bind.specs.Firsts.{LimitsAreKept, FewGroups, FewAggs, FewKeys, FirstGroup, FirstAgg, FirstKey}
+use Rattle.query_bind.proofs.PlaceLemmas.{answered}
+use Rattle.query_bind.specs.Firsts.{FewGroups, FewAggs, FewKeys, FirstGroup, FirstAgg, FirstKey}
+use Rattle.table_schema.specs.declared.query.Agg.{Agg}
+use Rattle.table_schema.specs.Firsts.{or_else, first_of}
+use Rattle.table_schema.specs.Aggs.{same_agg}
+use Rattle.table_schema.proofs.FirstLaws.{first_none, rest_none}
 
 -- ---- lists without repeats only grow
 
@@ -35,11 +38,11 @@ columns_grow : (kept : List ℕ) (ns : List ColumnAt) → length kept ≤ length
 columns_grow kept [] = omega arith
 columns_grow kept (n ∷ ns) = omega (arith, grows (λ a b. b == a) kept n.column, columns_grow (with_column kept n.column) ns)
 
-agg_grows : (kept : List Agg) (m : Meaning) → length kept ≤ length (with_agg kept m)
+pub agg_grows : (kept : List Agg) (m : Meaning) → length kept ≤ length (with_agg kept m)
 agg_grows kept (meaning.Column c) = omega arith
 agg_grows kept (meaning.Agg a) = grows same_agg kept a
 
-aggs_grow : (kept : List Agg) (ts : List TermAt) → length kept ≤ length (aggs_from kept ts)
+pub aggs_grow : (kept : List Agg) (ts : List TermAt) → length kept ≤ length (aggs_from kept ts)
 aggs_grow kept [] = omega arith
 aggs_grow kept (t ∷ ts) = omega (arith, agg_grows kept t.meaning, aggs_grow (with_agg kept t.meaning) ts)
 
@@ -174,13 +177,13 @@ small_groups : (kept : List ℕ) (ns : List ColumnAt) → length kept ≤ 8 → 
 small_groups kept [] room passes = room
 small_groups kept (n ∷ ns) room passes =
     let here = fault_if (nat_lt 8 (length (with_column kept n.column))) TooMany n.offset in
-    small_groups (with_column kept n.column) ns (within 8 (length (with_column kept n.column)) n.offset (none_first here _ passes)) (none_later here _ passes)
+    small_groups (with_column kept n.column) ns (within 8 (length (with_column kept n.column)) n.offset (first_none here _ passes)) (rest_none here _ passes)
 
 small_aggs : (kept : List Agg) (ts : List TermAt) → length kept ≤ 16 → aggs_finding kept ts ≡ None → length (aggs_from kept ts) ≤ 16
 small_aggs kept [] room passes = room
 small_aggs kept (t ∷ ts) room passes =
     let here = fault_if (nat_lt 16 (length (with_agg kept t.meaning))) TooMany t.offset in
-    small_aggs (with_agg kept t.meaning) ts (within 16 (length (with_agg kept t.meaning)) t.offset (none_first here _ passes)) (none_later here _ passes)
+    small_aggs (with_agg kept t.meaning) ts (within 16 (length (with_agg kept t.meaning)) t.offset (first_none here _ passes)) (rest_none here _ passes)
 
 small_keys : (others : ℕ) (kept : List Agg) (ks : List KeyAt) → others ≤ 16 → length kept ≤ 16 → keys_finding others kept ks ≡ None
     → (length (aggs_from kept (map (λ k. k.term) ks)) ≤ 16) × (others + length ks ≤ 16)
@@ -188,8 +191,8 @@ small_keys others kept [] some room passes = (room, omega (arith, some))
 small_keys others kept (k ∷ ks) some room passes =
     let len = length (with_agg kept k.term.meaning) in
     let here = fault_if (nat_le 16 others || nat_lt 16 len) TooMany k.term.offset in
-    let parts = both_by others len k.term.offset (nat_le 16 others) (nat_lt 16 len) refl refl (none_first here _ passes) in
-    let rest = small_keys (others + 1) (with_agg kept k.term.meaning) ks (omega (arith, parts.0)) parts.1 (none_later here _ passes) in
+    let parts = both_by others len k.term.offset (nat_le 16 others) (nat_lt 16 len) refl refl (first_none here _ passes) in
+    let rest = small_keys (others + 1) (with_agg kept k.term.meaning) ks (omega (arith, parts.0)) parts.1 (rest_none here _ passes) in
     (rest.0, omega (arith, rest.1))
 
 as_many_keys : (groups : List ℕ) (aggs : List Agg) (ks : List KeyAt) → length (keys_of groups aggs ks) ≡ length ks
@@ -204,26 +207,23 @@ module _ (table : Table) (any_table : Bool) (q : Query) (b : Bound) (is : bound 
   own = answered (query_finding table any_table q) (bound_of table.schema.fields q) b is
 
   limits : limits_finding terms ≡ None
-  limits = none_first (limits_finding terms) _ (none_later (grouped_finding q) _ (none_later (aggregate_finding q) _
-      (none_later (names_finding table.schema.fields q) _ (none_later (table_finding table any_table q) _ own.0))))
+  limits = first_none (limits_finding terms) _ (rest_none (grouped_finding q) _ (rest_none (aggregate_finding q) _
+      (rest_none (names_finding table.schema.fields q) _ (rest_none (table_finding table any_table q) _ own.0))))
 
   behind_aggs : first_of (groups_finding [] terms.groups ∷ keys_finding 0 (aggs_from [] terms.items) terms.keys ∷ []) ≡ None
-  behind_aggs = none_later (aggs_finding [] terms.items) _ limits
+  behind_aggs = rest_none (aggs_finding [] terms.items) _ limits
 
   keys : (length (aggs_of terms) ≤ 16) × (0 + length terms.keys ≤ 16)
   keys = small_keys 0 (aggs_from [] terms.items) terms.keys (omega arith)
-      (small_aggs [] terms.items (omega arith) (none_first (aggs_finding [] terms.items) _ limits))
-      (none_first (keys_finding 0 (aggs_from [] terms.items) terms.keys) _ (none_later (groups_finding [] terms.groups) _ behind_aggs))
+      (small_aggs [] terms.items (omega arith) (first_none (aggs_finding [] terms.items) _ limits))
+      (first_none (keys_finding 0 (aggs_from [] terms.items) terms.keys) _ (rest_none (groups_finding [] terms.groups) _ behind_aggs))
 
   kept : (length (groups_of terms) ≤ 8) × (length (aggs_of terms) ≤ 16) × (length (keys_of (groups_of terms) (aggs_of terms) terms.keys) ≤ 16)
   kept = (
-    small_groups [] terms.groups (omega arith) (none_first (groups_finding [] terms.groups) _ behind_aggs),
+    small_groups [] terms.groups (omega arith) (first_none (groups_finding [] terms.groups) _ behind_aggs),
     keys.0,
     omega (arith, keys.1, as_many_keys (groups_of terms) (aggs_of terms) terms.keys),
   )
 
-  limits_kept : (length b.groups ≤ 8) × (length b.aggs ≤ 16) × (length b.order ≤ 16)
+  pub limits_kept : (length b.groups ≤ 8) × (length b.aggs ≤ 16) × (length b.order ≤ 16)
   limits_kept = subst (λ x. (length x.groups ≤ 8) × (length x.aggs ≤ 16) × (length x.order ≤ 16)) own.1 kept
-
-pub limits_are_kept : LimitsAreKept
-limits_are_kept = λ table any_table q b is. limits_kept table any_table q b is

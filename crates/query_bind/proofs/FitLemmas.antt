@@ -31,14 +31,16 @@ use Rattle.query_parser.specs.declared.tree.Query.{Query}
 use Rattle.query_bind.specs.declared.fault.BindReason.{BindReason}
 use Rattle.query_bind.specs.declared.fault.BindReason.TheVariants.{UnknownColumn, TypeMismatch}
 use Rattle.query_bind.specs.declared.fault.BindFault.TheVariants.{At}
-use Rattle.query_bind.specs.Faults.{Finding, fault_unless, or_else, first_of, first_in}
+use Rattle.query_bind.specs.Faults.{Finding, fault_unless}
 use Rattle.query_bind.specs.Written.{Written, Compare, OneOf, Between, Not, All, Any, Members, no_members, member, members_of, field_number, value_in, written, written_step, where_written}
-use Rattle.query_bind.specs.Conjuncts.{opposite_if, members_of_all, members_of_any, conjoined, disjoined, all_of, any_of, normal, normals, fields_step, fields_of, only_field, test_step, test_of, conjunct_by, conjunct, where_conjuncts}
-use Rattle.query_bind.specs.Names.{column_finding, kind_of, fits, literal_finding, term_finding, condition_step, condition_finding, where_finding, table_finding, names_finding}
+use Rattle.query_bind.specs.Conjuncts.{opposite_if, members_of_all, members_of_any, conjoined, disjoined, all_of, any_of, normal, normals, only_field, test_step, test_of, conjunct_by, conjunct, where_conjuncts}
+use Rattle.query_bind.specs.Names.{column_finding, kind_of, literal_finding, term_finding, condition_step, condition_finding, where_finding, table_finding, names_finding}
 use Rattle.query_bind.specs.Bound.{Bound, bound_of, bound, query_finding}
-use Rattle.query_bind.specs.Fits.{kind_at, fits_step, test_fits, wide_step, wide_fits, conjunct_fits, ConjunctsFit}
 use Rattle.query_bind.proofs.Truth.{and_of, both}
-use Rattle.query_bind.proofs.PlaceLemmas.{none_first, none_later, answered}
+use Rattle.query_bind.proofs.PlaceLemmas.{answered}
+use Rattle.table_schema.specs.Firsts.{or_else, first_of, first_in}
+use Rattle.table_schema.specs.ValidQuery.{fields_step, fields_of, is_typed, kind_at, fits_step, test_fits, wide_step, wide_fits, conjunct_fits}
+use Rattle.table_schema.proofs.FirstLaws.{first_none, rest_none}
 
 -- ---- truth
 
@@ -53,13 +55,13 @@ all_true-append (false ∷ bs) cs = refl
 
 -- ---- one test
 
-fits-Compare : (kind : Option FieldKind) (op : CompareOp) (v : Value) → test_fits kind (test.Compare op v) ≡ fits kind v
+fits-Compare : (kind : Option FieldKind) (op : CompareOp) (v : Value) → test_fits kind (test.Compare op v) ≡ is_typed kind v
 fits-Compare kind op v = ap (test_fits kind) (sym (test.rolls-Compare op v)) ∙ fold-roll-Test Bool (fits_step kind) (Test-F.Compare op v)
 
-fits-OneOf : (kind : Option FieldKind) (vs : List Value) (n : Bool) → test_fits kind (test.OneOf vs n) ≡ list_all (fits kind) vs
+fits-OneOf : (kind : Option FieldKind) (vs : List Value) (n : Bool) → test_fits kind (test.OneOf vs n) ≡ list_all (is_typed kind) vs
 fits-OneOf kind vs n = ap (test_fits kind) (sym (test.rolls-OneOf vs n)) ∙ fold-roll-Test Bool (fits_step kind) (Test-F.OneOf vs n)
 
-fits-Between : (kind : Option FieldKind) (low high : Value) (n : Bool) → test_fits kind (test.Between low high n) ≡ (fits kind low && fits kind high)
+fits-Between : (kind : Option FieldKind) (low high : Value) (n : Bool) → test_fits kind (test.Between low high n) ≡ (is_typed kind low && is_typed kind high)
 fits-Between kind low high n = ap (test_fits kind) (sym (test.rolls-Between low high n)) ∙ fold-roll-Test Bool (fits_step kind) (Test-F.Between low high n)
 
 fits-All : (kind : Option FieldKind) (ts : List Test) → test_fits kind (test.All ts) ≡ all_true (map (test_fits kind) ts)
@@ -114,9 +116,9 @@ module _ (fields : List Field) where
 
   abbrev mutual
     written_fits : Written → Bool
-    written_fits (Compare c op v) = fits (kind_at fields c) v
-    written_fits (OneOf c vs n) = list_all (fits (kind_at fields c)) vs
-    written_fits (Between c low high n) = fits (kind_at fields c) low && fits (kind_at fields c) high
+    written_fits (Compare c op v) = is_typed (kind_at fields c) v
+    written_fits (OneOf c vs n) = list_all (is_typed (kind_at fields c)) vs
+    written_fits (Between c low high n) = is_typed (kind_at fields c) low && is_typed (kind_at fields c) high
     written_fits (Not w) = written_fits w
     written_fits (All ws) = members_fit ws
     written_fits (Any ws) = members_fit ws
@@ -220,16 +222,16 @@ module _ (fields : List Field) where
   kind_by (Some m) at passes = refl
 
   kind_is : (n : NameAt) (rest : Finding) → or_else (column_finding fields n) rest ≡ None → kind_of fields n ≡ kind_at fields (field_number fields n)
-  kind_is n rest passes = kind_by (number_of fields n.name) n.offset (none_first (column_finding fields n) rest passes)
+  kind_is n rest passes = kind_by (number_of fields n.name) n.offset (first_none (column_finding fields n) rest passes)
 
-  literals_fit : (k : Option FieldKind) (ls : List LiteralAt) → first_in (literal_finding k) ls ≡ None → list_all (fits k) (map value_in ls) ≡ true
+  literals_fit : (k : Option FieldKind) (ls : List LiteralAt) → first_in (literal_finding k) ls ≡ None → list_all (is_typed k) (map value_in ls) ≡ true
   literals_fit k [] passes = refl
   literals_fit k (l ∷ ls) passes =
-      and_of (fits k l.value) _ (passes_by (fits k l.value) TypeMismatch l.offset (none_first (literal_finding k l) _ passes)) (literals_fit k ls (none_later (literal_finding k l) _ passes))
+      and_of (is_typed k l.value) _ (passes_by (is_typed k l.value) TypeMismatch l.offset (first_none (literal_finding k l) _ passes)) (literals_fit k ls (rest_none (literal_finding k l) _ passes))
 
   test_in : (n : NameAt) (ls : List LiteralAt) → or_else (column_finding fields n) (first_in (literal_finding (kind_of fields n)) ls) ≡ None
-      → list_all (fits (kind_at fields (field_number fields n))) (map value_in ls) ≡ true
-  test_in n ls passes = subst (λ k. list_all (fits k) (map value_in ls) ≡ true) (kind_is n _ passes) (literals_fit (kind_of fields n) ls (none_later (column_finding fields n) _ passes))
+      → list_all (is_typed (kind_at fields (field_number fields n))) (map value_in ls) ≡ true
+  test_in n ls passes = subst (λ k. list_all (is_typed k) (map value_in ls) ≡ true) (kind_is n _ passes) (literals_fit (kind_of fields n) ls (rest_none (column_finding fields n) _ passes))
 
   abbrev IsFit : Cond → Type 0
   IsFit c = condition_finding fields c ≡ None → written_fits (written fields c) ≡ true
@@ -238,16 +240,16 @@ module _ (fields : List Field) where
       → members_fit (members_of (map (written fields) (map (λ e. e.0) inner))) ≡ true
   inner_fit [] passes = refl
   inner_fit (c ∷ cs) passes =
-      and_of (written_fits (written fields c.0)) _ (c.1 (none_first (condition_finding fields c.0) _ passes)) (inner_fit cs (none_later (condition_finding fields c.0) _ passes))
+      and_of (written_fits (written fields c.0)) _ (c.1 (first_none (condition_finding fields c.0) _ passes)) (inner_fit cs (rest_none (condition_finding fields c.0) _ passes))
 
   layer_fits : (y : Cond-F ((c : Cond) × IsFit c)) → condition_step fields (map-Cond Cond Finding (condition_finding fields) (map-Cond ((c : Cond) × IsFit c) Cond (λ e. e.0) y)) ≡ None
       → written_fits (written_step fields (map-Cond Cond Written (written fields) (map-Cond ((c : Cond) × IsFit c) Cond (λ e. e.0) y))) ≡ true
-  layer_fits (Cond-F.Compare n op l) passes = (both (fits (kind_at fields (field_number fields n)) l.value) true (test_in n (l ∷ []) passes)).0
+  layer_fits (Cond-F.Compare n op l) passes = (both (is_typed (kind_at fields (field_number fields n)) l.value) true (test_in n (l ∷ []) passes)).0
   layer_fits (Cond-F.OneOf n ls m) passes = test_in n ls passes
   layer_fits (Cond-F.Between n low high m) passes =
       let k = kind_at fields (field_number fields n) in
-      let parts = both (fits k low.value) (fits k high.value && true) (test_in n (low ∷ high ∷ []) passes) in
-      and_of (fits k low.value) (fits k high.value) parts.0 (both (fits k high.value) true parts.1).0
+      let parts = both (is_typed k low.value) (is_typed k high.value && true) (test_in n (low ∷ high ∷ []) passes) in
+      and_of (is_typed k low.value) (is_typed k high.value) parts.0 (both (is_typed k high.value) true parts.1).0
   layer_fits (Cond-F.Not inner) passes = inner.1 passes
   layer_fits (Cond-F.All inner) passes = inner_fit inner passes
   layer_fits (Cond-F.Any inner) passes = inner_fit inner passes
@@ -272,13 +274,10 @@ module _ (table : Table) (any_table : Bool) (q : Query) (b : Bound) (is : bound 
   own = answered (query_finding table any_table q) (bound_of fields q) b is
 
   names : names_finding fields q ≡ None
-  names = none_first (names_finding fields q) _ (none_later (table_finding table any_table q) _ own.0)
+  names = first_none (names_finding fields q) _ (rest_none (table_finding table any_table q) _ own.0)
 
   condition : where_finding fields q.condition ≡ None
-  condition = none_first (where_finding fields q.condition) _ (none_later (first_in (λ i. term_finding fields i.term) q.items) _ names)
+  condition = first_none (where_finding fields q.condition) _ (rest_none (first_in (λ i. term_finding fields i.term) q.items) _ names)
 
-  all_fit : list_all (conjunct_fits fields) (where_conjuncts b.condition) ≡ true
+  pub all_fit : list_all (conjunct_fits fields) (where_conjuncts b.condition) ≡ true
   all_fit = subst (λ x. list_all (conjunct_fits fields) (where_conjuncts x.condition) ≡ true) own.1 (where_fits fields q.condition condition)
-
-pub values_fit : ConjunctsFit
-values_fit = λ table any_table q b is. all_fit table any_table q b is

@@ -28,11 +28,12 @@ use Rattle.query_bind.specs.Names as names
 use Rattle.query_bind.specs.Names.{kind_of, has_label, labelled, meant, takes, column_finding, argument_finding, term_finding, table_finding, names_finding}
 use Rattle.query_bind.specs.Terms.{meaning_of, agg_of}
 use Rattle.query_bind.specs.Bound.{Bound, Spelled, bound_of, bound, query_finding}
-use Rattle.query_bind.specs.Functions.{agg_fits, FunctionsFit}
 use Rattle.query_bind.proofs.Truth.{and_of, both}
-use Rattle.query_bind.proofs.PlaceLemmas.{none_first, none_later, answered}
+use Rattle.query_bind.proofs.PlaceLemmas.{answered}
 use Rattle.query_bind.proofs.TermLemmas.{meaning_is, aggs_are}
 use Rattle.query_bind.proofs.SpelledLemmas.{is_term, takes_argument, spelled_items, spelled_keys}
+use Rattle.table_schema.specs.ValidQuery.{agg_fits}
+use Rattle.table_schema.proofs.FirstLaws.{first_none, rest_none}
 
 -- ---- the term that a key stands for
 
@@ -76,10 +77,10 @@ module _ (fields : List Field) where
   on_numbers n known e = numbers_by (number_of fields n.name) known e
 
   known : (f : Func) (n : NameAt) → argument_finding fields f (argument.Column n) ≡ None → is_some (number_of fields n.name) ≡ true
-  known f n none = passes (is_some (number_of fields n.name)) UnknownColumn n.offset (none_first (column_finding fields n) _ none)
+  known f n none = passes (is_some (number_of fields n.name)) UnknownColumn n.offset (first_none (column_finding fields n) _ none)
 
   taken : (f : Func) (n : NameAt) → argument_finding fields f (argument.Column n) ≡ None → takes f (kind_of fields n) ≡ true
-  taken f n none = passes (takes f (kind_of fields n)) NotNumeric n.offset (none_first (fault_unless (takes f (kind_of fields n)) NotNumeric n.offset) _ (none_later (column_finding fields n) _ none))
+  taken f n none = passes (takes f (kind_of fields n)) NotNumeric n.offset (first_none (fault_unless (takes f (kind_of fields n)) NotNumeric n.offset) _ (rest_none (column_finding fields n) _ none))
 
   call_fits : (f : Func) (a : Argument) → argument_finding fields f a ≡ None → takes_argument f a ≡ true → agg_fits fields (agg_of fields f a) ≡ true
   call_fits func.Count a none star = refl
@@ -114,10 +115,7 @@ module _ (table : Table) (any_table : Bool) (q : Query) (b : Bound) (is : bound 
   items : list_all (λ i. is_term i.term) q.items ≡ true
   items = spelled_items _ q spelled.2
 
-  all_fit : list_all (agg_fits fields) b.aggs ≡ true
-  all_fit = subst (λ x. list_all (agg_fits fields) x.aggs ≡ true) own.1
-      (aggs_are fields (agg_fits fields) is_term (term_fits fields) q (none_first (names_finding fields q) _ (none_later (table_finding table any_table q) _ own.0)) items
+  pub functions_fit : list_all (agg_fits fields) b.aggs ≡ true
+  functions_fit = subst (λ x. list_all (agg_fits fields) x.aggs ≡ true) own.1
+      (aggs_are fields (agg_fits fields) is_term (term_fits fields) q (first_none (names_finding fields q) _ (rest_none (table_finding table any_table q) _ own.0)) items
       (keys_meant q.items q.order items (spelled_keys _ q spelled.2)))
-
-pub functions_fit : FunctionsFit
-functions_fit = λ table any_table q b is spelled. all_fit table any_table q b is spelled

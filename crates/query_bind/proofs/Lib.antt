@@ -13,3 +13,4 @@ mod SeveralLemmas
 mod FunctionLemmas
 mod Truth
 mod TermLemmas
+mod ValidLemmas

@@ -5,14 +5,15 @@ use Rattle.std.specs.Cmp.{IsEquivalence, nat_eq_equiv}
 use Rattle.std.proofs.lemmas.List.Folds.{list_any-append}
 use Rattle.std.proofs.lemmas.Map.Keys.{IsDistinct-push}
 use Rattle.std.proofs.lemmas.Bool.{eqb-true, eq-eqb}
-use Rattle.table_schema.specs.declared.query.Agg.{Agg}
 use Rattle.query_bind.specs.declared.terms.Meaning.{Meaning}
 use Rattle.query_bind.specs.declared.terms.Meaning.TheVariants as meaning
 use Rattle.query_bind.specs.declared.terms.TermAt.{TermAt}
 use Rattle.query_bind.specs.declared.terms.ColumnAt.{ColumnAt}
-use Rattle.query_bind.specs.Terms.{with_new, with_column, columns_from, same_agg, with_agg, aggs_from}
+use Rattle.query_bind.specs.Terms.{with_new, with_column, columns_from, with_agg, aggs_from}
 use Rattle.query_bind.specs.Once.{GroupsStandOnce, GroupsAreNamed, AggsStandOnce, is_agg, AggsAreWritten}
 use Rattle.query_bind.proofs.PlaceLemmas.{own_agg, agg_is}
+use Rattle.table_schema.specs.declared.query.Agg.{Agg}
+use Rattle.table_schema.specs.Aggs.{same_agg}
 
 or_false : (a : Bool) → (a || false) ≡ a
 or_false true = refl
@@ -89,7 +90,7 @@ agg_once : (kept : List Agg) (m : Meaning) → IsDistinct same_agg kept → IsDi
 agg_once kept (meaning.Column c) once = once
 agg_once kept (meaning.Agg a) once = once_by same_agg aggs_equal kept a (list_any (same_agg a) kept) refl once
 
-aggs_once : (kept : List Agg) (ts : List TermAt) → IsDistinct same_agg kept → IsDistinct same_agg (aggs_from kept ts)
+pub aggs_once : (kept : List Agg) (ts : List TermAt) → IsDistinct same_agg kept → IsDistinct same_agg (aggs_from kept ts)
 aggs_once kept [] once = once
 aggs_once kept (t ∷ ts) once = aggs_once (with_agg kept t.meaning) ts (agg_once kept t.meaning once)
 

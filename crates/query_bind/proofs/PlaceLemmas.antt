@@ -9,9 +9,7 @@ use Rattle.agg_laws.specs.declared.aggregate_kind.AggKind.{AggKind}
 use Rattle.agg_laws.specs.declared.aggregate_kind.AggKind.TheVariants.{Count, Sum, Least, Greatest, Average}
 use Rattle.table_schema.specs.declared.field.Field.{Field}
 use Rattle.table_schema.specs.declared.table.Table.{Table}
-use Rattle.table_schema.specs.declared.query.Agg.{Agg}
 use Rattle.table_schema.specs.Columns.{number_of}
-use Rattle.table_schema.specs.Pairs.{same_function, same_column}
 use Rattle.query_parser.specs.declared.tree.NameAt.{NameAt}
 use Rattle.query_parser.specs.declared.tree.Term.{Term}
 use Rattle.query_parser.specs.declared.tree.Term.TheVariants as term
@@ -24,13 +22,17 @@ use Rattle.query_bind.specs.declared.terms.Meaning.{Meaning}
 use Rattle.query_bind.specs.declared.terms.Meaning.TheVariants as meaning
 use Rattle.query_bind.specs.declared.terms.TermAt.{TermAt}
 use Rattle.query_bind.specs.declared.terms.ColumnAt.{ColumnAt}
-use Rattle.query_bind.specs.Faults.{Finding, or_else, first_in, fault_unless}
+use Rattle.query_bind.specs.Faults.{Finding, fault_unless}
 use Rattle.query_bind.specs.Written.{field_number}
 use Rattle.query_bind.specs.Names.{meant, table_finding, names_finding}
 use Rattle.query_bind.specs.Grouped.{is_grouped, term_grouped, aggregate_finding, grouped_finding}
-use Rattle.query_bind.specs.Terms.{meaning_of, term_at, key_at, column_at, terms_of, with_new, with_column, columns_from, same_agg, with_agg, aggs_from}
+use Rattle.query_bind.specs.Terms.{meaning_of, term_at, key_at, column_at, terms_of, with_new, with_column, columns_from, with_agg, aggs_from}
 use Rattle.query_bind.specs.Bound.{Bound, bound_of, bound, query_finding, answer, item_of, items_of, keys_of, label_of}
-use Rattle.query_bind.specs.Places.{at_place, ItemsAreTerms, KeysAreTerms, ALabelAnItem}
+use Rattle.query_bind.specs.Places.{at_place, ItemsAreTerms, KeysAreTerms}
+use Rattle.table_schema.specs.declared.query.Agg.{Agg}
+use Rattle.table_schema.specs.Aggs.{same_function, same_column, same_agg}
+use Rattle.table_schema.specs.Firsts.{or_else, first_in}
+use Rattle.table_schema.proofs.FirstLaws.{first_none, rest_none}
 
 -- ---- what is put into a list without repeats
 
@@ -195,15 +197,7 @@ item_stands : (b : Bound) (m : Meaning) → HasColumn b.groups m → Has b.aggs 
 item_stands b (meaning.Column c) column has = ap (option_map meaning.Column) (stands (λ g. g == c) b.groups c (λ y e. eqb-true y c e) column)
 item_stands b (meaning.Agg a) column has = ap (option_map meaning.Agg) (stands (same_agg a) b.aggs a (λ y e. sym (agg_is a y e)) has)
 
--- ---- checks that find nothing
-
-pub none_first : (f g : Finding) → or_else f g ≡ None → f ≡ None
-none_first None g e = refl
-none_first (Some x) g e = e
-
-pub none_later : (f g : Finding) → or_else f g ≡ None → g ≡ None
-none_later None g e = e
-none_later (Some x) g e = let no : Some x ≡ None = e in cc
+-- ---- columns that GROUP BY names
 
 is_grouped_by : (names : List NameAt) (n : NameAt) (b : Bool) → is_grouped names n ≡ b → fault_unless b NotGrouped n.offset ≡ None → is_grouped names n ≡ true
 is_grouped_by names n true e passes = e
@@ -220,8 +214,8 @@ module _ (fields : List Field) (names : List NameAt) (b : Bound) (columns : b.gr
   items_stand [] passes has = refl
   items_stand (i ∷ is) passes has =
       ap (λ m. m ∷ map (at_place b) (items_of b.groups b.aggs (map (λ i. term_at fields i.term) is)))
-      (item_stands b (meaning_of fields i.term) (term_column i.term (none_first (term_grouped names i.term) _ passes)) has.0)
-      ∙ ap (λ ms. Some (meaning_of fields i.term) ∷ ms) (items_stand is (none_later (term_grouped names i.term) _ passes) has.1)
+      (item_stands b (meaning_of fields i.term) (term_column i.term (first_none (term_grouped names i.term) _ passes)) has.0)
+      ∙ ap (λ ms. Some (meaning_of fields i.term) ∷ ms) (items_stand is (rest_none (term_grouped names i.term) _ passes) has.1)
 
   keys_stand : (items : List QueryItem) (keys : List QueryKey) → first_in (λ k. term_grouped names (meant items k.term)) keys ≡ None
       → HasAll b.aggs (map (λ k. k.term) (map (key_at fields items) keys))
@@ -229,8 +223,8 @@ module _ (fields : List Field) (names : List NameAt) (b : Bound) (columns : b.gr
   keys_stand items [] passes has = refl
   keys_stand items (k ∷ ks) passes has =
       ap (λ m. m ∷ map (λ k. at_place b k.item) (keys_of b.groups b.aggs (map (key_at fields items) ks)))
-      (item_stands b (meaning_of fields (meant items k.term)) (term_column (meant items k.term) (none_first (term_grouped names (meant items k.term)) _ passes)) has.0)
-      ∙ ap (λ ms. Some (meaning_of fields (meant items k.term)) ∷ ms) (keys_stand items ks (none_later (term_grouped names (meant items k.term)) _ passes) has.1)
+      (item_stands b (meaning_of fields (meant items k.term)) (term_column (meant items k.term) (first_none (term_grouped names (meant items k.term)) _ passes)) has.0)
+      ∙ ap (λ ms. Some (meaning_of fields (meant items k.term)) ∷ ms) (keys_stand items ks (rest_none (term_grouped names (meant items k.term)) _ passes) has.1)
 
 -- ---- the laws
 
@@ -249,18 +243,18 @@ module _ (table : Table) (any_table : Bool) (q : Query) (b : Bound) (is : bound 
   passes : grouped_finding q ≡ None
   passes =
       let none = own.0 in
-      none_first (grouped_finding q) _ (none_later (aggregate_finding q) _ (none_later (names_finding table.schema.fields q) _ (none_later (table_finding table any_table q) _ none)))
+      first_none (grouped_finding q) _ (rest_none (aggregate_finding q) _ (rest_none (names_finding table.schema.fields q) _ (rest_none (table_finding table any_table q) _ none)))
 
   pub items_are : map (at_place b) b.items ≡ map (λ i. Some (meaning_of table.schema.fields i.term)) q.items
   items_are = subst (λ x. map (at_place x) x.items ≡ map (λ i. Some (meaning_of table.schema.fields i.term)) q.items) own.1
       (items_stand table.schema.fields q.groups (bound_of table.schema.fields q) refl q.items
-      (none_first (first_in (λ i. term_grouped q.groups i.term) q.items) _ passes)
+      (first_none (first_in (λ i. term_grouped q.groups i.term) q.items) _ passes)
       (has_all [] (terms_of table.schema.fields q).items (map (λ k. k.term) (terms_of table.schema.fields q).keys)))
 
   pub keys_are : map (λ k. at_place b k.item) b.order ≡ map (λ k. Some (meaning_of table.schema.fields (meant q.items k.term))) q.order
   keys_are = subst (λ x. map (λ k. at_place x k.item) x.order ≡ map (λ k. Some (meaning_of table.schema.fields (meant q.items k.term))) q.order) own.1
       (keys_stand table.schema.fields q.groups (bound_of table.schema.fields q) refl q.items q.order
-      (none_first (first_in (λ k. term_grouped q.groups (meant q.items k.term)) q.order) _ (none_later (first_in (λ i. term_grouped q.groups i.term) q.items) _ passes))
+      (first_none (first_in (λ k. term_grouped q.groups (meant q.items k.term)) q.order) _ (rest_none (first_in (λ i. term_grouped q.groups i.term) q.items) _ passes))
       (has_all (aggs_from [] (terms_of table.schema.fields q).items) (map (λ k. k.term) (terms_of table.schema.fields q).keys) []))
 
   pub labels_are : length b.labels ≡ length b.items
@@ -271,6 +265,3 @@ items_hold = λ table any_table q b is. items_are table any_table q b is
 
 pub keys_hold : KeysAreTerms
 keys_hold = λ table any_table q b is. keys_are table any_table q b is
-
-pub labels_hold : ALabelAnItem
-labels_hold = λ table any_table q b is. labels_are table any_table q b is

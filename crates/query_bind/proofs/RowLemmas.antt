@@ -25,7 +25,8 @@ use Rattle.table_schema.specs.declared.query.Wide.TheFolds.{fold-roll-Wide, ind-
 use Rattle.table_schema.specs.declared.query.Wide.TheViews.{out-Wide, roll-Wide, roll-out-Wide}
 use Rattle.table_schema.specs.Conditions.{cell, wide_step, wide_holds, conjunct_holds}
 use Rattle.query_bind.specs.Written.{Written, Compare, OneOf, Between, Not, All, Any, Members, no_members, member, holds, each_holds, some_holds}
-use Rattle.query_bind.specs.Conjuncts.{opposite, opposite_if, members_of_all, members_of_any, conjoined, disjoined, all_of, any_of, normal, normals, fields_step, fields_of, only_field, test_step, test_of, conjunct_by, conjunct, where_conjuncts, KeepRows}
+use Rattle.query_bind.specs.Conjuncts.{opposite, opposite_if, members_of_all, members_of_any, conjoined, disjoined, all_of, any_of, normal, normals, only_field, test_step, test_of, conjunct_by, conjunct, where_conjuncts, KeepRows}
+use Rattle.table_schema.specs.ValidQuery.{fields_step, fields_of}
 
 -- ---- truth
 

@@ -12,14 +12,14 @@ use Rattle.table_schema.specs.declared.query.Wide.{Wide}
 use Rattle.table_schema.specs.declared.query.Wide.TheVariants as wide
 use Rattle.query_parser.specs.declared.tree.Query.{Query}
 use Rattle.query_bind.specs.Written.{Written, Compare, OneOf, Between, Not, All, Any, Members, no_members, member, where_written}
-use Rattle.query_bind.specs.Conjuncts.{opposite_if, conjoined, disjoined, normal, normals, fields_of, only_field, conjunct_by, conjunct, where_conjuncts}
+use Rattle.query_bind.specs.Conjuncts.{opposite_if, conjoined, disjoined, normal, normals, only_field, conjunct_by, conjunct, where_conjuncts}
 use Rattle.query_bind.specs.Bound.{Bound, Spelled, bound_of, bound, query_finding}
-use Rattle.query_bind.specs.Several.{some_differ, conjunct_names, ManyNameSeveral}
 use Rattle.query_bind.proofs.Truth.{and_of, both}
 use Rattle.query_bind.proofs.PlaceLemmas.{or_true, answered}
 use Rattle.query_bind.proofs.WideLemmas.{fields_of-Leaf, conjoined-Leaf, conjoined-All, conjoined-Any, disjoined-Leaf, disjoined-All, disjoined-Any}
 use Rattle.query_bind.proofs.WithinLemmas.{named_in, names_in, normal_fields}
 use Rattle.query_bind.proofs.SpelledLemmas.{is_full, some_full, all_full, WhereIsFull, where_full}
+use Rattle.table_schema.specs.ValidQuery.{fields_of, some_differ, conjunct_names}
 
 -- ---- a condition names a field
 
@@ -140,13 +140,10 @@ where_several None full = refl
 where_several (Some w) full = several (conjoined (normal false w)) (normal_parts false w full).0
 
 module _ (table : Table) (any_table : Bool) (q : Query) (b : Bound) (is : bound table any_table q ≡ Ok b) (spelled : Spelled q) where
-  all_several : list_all conjunct_names (where_conjuncts b.condition) ≡ true
+  pub all_several : list_all conjunct_names (where_conjuncts b.condition) ≡ true
   all_several =
       let fields = table.schema.fields in
       let own = answered (query_finding table any_table q) (bound_of fields q) b is in
       let s = spelled.2 in
       subst (λ x. list_all conjunct_names (where_conjuncts x.condition) ≡ true) own.1
       (where_several (where_written fields q.condition) (where_full fields q.condition s.after_table s.after_condition s.spells_condition))
-
-pub many_name_several : ManyNameSeveral
-many_name_several = λ table any_table q b is spelled. all_several table any_table q b is spelled

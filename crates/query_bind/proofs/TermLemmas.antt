@@ -3,7 +3,6 @@ use Rattle.std.proofs.Common.{◌≡◌, Bool, true, false, ◌&&◌, List, [], 
 use Rattle.std.specs.List.{list_any, list_all}
 use Rattle.std.proofs.lemmas.List.Folds.{list_all-append}
 use Rattle.table_schema.specs.declared.field.Field.{Field}
-use Rattle.table_schema.specs.declared.query.Agg.{Agg}
 use Rattle.query_parser.specs.declared.tree.Term.{Term}
 use Rattle.query_parser.specs.declared.tree.QueryItem.{QueryItem}
 use Rattle.query_parser.specs.declared.tree.QueryKey.{QueryKey}
@@ -11,11 +10,13 @@ use Rattle.query_parser.specs.declared.tree.Query.{Query}
 use Rattle.query_bind.specs.declared.terms.Meaning.{Meaning}
 use Rattle.query_bind.specs.declared.terms.Meaning.TheVariants as meaning
 use Rattle.query_bind.specs.declared.terms.TermAt.{TermAt}
-use Rattle.query_bind.specs.Faults.{first_in}
 use Rattle.query_bind.specs.Names.{meant, column_finding, term_finding, where_finding, names_finding}
-use Rattle.query_bind.specs.Terms.{meaning_of, term_at, key_at, terms_of, with_new, same_agg, with_agg, aggs_from, aggs_of}
+use Rattle.query_bind.specs.Terms.{meaning_of, term_at, key_at, terms_of, with_new, with_agg, aggs_from, aggs_of}
 use Rattle.query_bind.proofs.Truth.{and_of, both}
-use Rattle.query_bind.proofs.PlaceLemmas.{none_first, none_later}
+use Rattle.table_schema.specs.declared.query.Agg.{Agg}
+use Rattle.table_schema.specs.Firsts.{first_in}
+use Rattle.table_schema.specs.Aggs.{same_agg}
+use Rattle.table_schema.proofs.FirstLaws.{first_none, rest_none}
 
 -- ---- lists without repeats
 
@@ -51,8 +52,8 @@ module _ (fields : List Field) (p : Agg → Bool) (good : Term → Bool) (each :
   items_are [] passes own = refl
   items_are (i ∷ is) passes own =
       let parts = both (good i.term) (list_all (λ i. good i.term) is) own in
-      and_of (meaning_is p (meaning_of fields i.term)) _ (each i.term (none_first (term_finding fields i.term) _ passes) parts.0)
-      (items_are is (none_later (term_finding fields i.term) _ passes) parts.1)
+      and_of (meaning_is p (meaning_of fields i.term)) _ (each i.term (first_none (term_finding fields i.term) _ passes) parts.0)
+      (items_are is (rest_none (term_finding fields i.term) _ passes) parts.1)
 
   keys_are : (items : List QueryItem) (ks : List QueryKey) → first_in (λ k. term_finding fields (meant items k.term)) ks ≡ None → list_all (λ k. good (meant items k.term)) ks ≡ true
       → list_all (λ t. meaning_is p t.meaning) (map (λ k. k.term) (map (key_at fields items) ks)) ≡ true
@@ -60,16 +61,16 @@ module _ (fields : List Field) (p : Agg → Bool) (good : Term → Bool) (each :
   keys_are items (k ∷ ks) passes own =
       let t = meant items k.term in
       let parts = both (good t) (list_all (λ k. good (meant items k.term)) ks) own in
-      and_of (meaning_is p (meaning_of fields t)) _ (each t (none_first (term_finding fields t) _ passes) parts.0)
-      (keys_are items ks (none_later (term_finding fields t) _ passes) parts.1)
+      and_of (meaning_is p (meaning_of fields t)) _ (each t (first_none (term_finding fields t) _ passes) parts.0)
+      (keys_are items ks (rest_none (term_finding fields t) _ passes) parts.1)
 
   pub aggs_are : (q : Query) → names_finding fields q ≡ None → list_all (λ i. good i.term) q.items ≡ true → list_all (λ k. good (meant q.items k.term)) q.order ≡ true
       → list_all p (aggs_of (terms_of fields q)) ≡ true
   aggs_are q names items order =
-      let checked = none_first (first_in (λ i. term_finding fields i.term) q.items) _ names in
-      let after_items = none_later (first_in (λ i. term_finding fields i.term) q.items) _ names in
-      let after_where = none_later (where_finding fields q.condition) _ after_items in
-      let after_groups = none_later (first_in (column_finding fields) q.groups) _ after_where in
-      let keys = none_first (first_in (λ k. term_finding fields (meant q.items k.term)) q.order) _ after_groups in
+      let checked = first_none (first_in (λ i. term_finding fields i.term) q.items) _ names in
+      let after_items = rest_none (first_in (λ i. term_finding fields i.term) q.items) _ names in
+      let after_where = rest_none (where_finding fields q.condition) _ after_items in
+      let after_groups = rest_none (first_in (column_finding fields) q.groups) _ after_where in
+      let keys = first_none (first_in (λ k. term_finding fields (meant q.items k.term)) q.order) _ after_groups in
       aggs_kept p (aggs_from [] (terms_of fields q).items) (map (λ k. k.term) (terms_of fields q).keys)
       (aggs_kept p [] (terms_of fields q).items refl (items_are q.items checked items)) (keys_are q.items q.order keys order)

@@ -12,7 +12,8 @@ use Rattle.table_schema.specs.declared.query.Wide.TheVariants.{rolls-Leaf, rolls
 use Rattle.table_schema.specs.declared.query.Wide.TheOpen.{Wide-F}
 use Rattle.table_schema.specs.declared.query.Wide.TheFolds.{fold-roll-Wide}
 use Rattle.table_schema.specs.declared.query.Wide.TheViews.{out-Wide, out-roll-Wide}
-use Rattle.query_bind.specs.Conjuncts.{fields_step, fields_of, first, only_field, test_step, test_of, members_of_all, members_of_any, conjoined, disjoined}
+use Rattle.query_bind.specs.Conjuncts.{first, only_field, test_step, test_of, members_of_all, members_of_any, conjoined, disjoined}
+use Rattle.table_schema.specs.ValidQuery.{fields_step, fields_of}
 
 and_right : (a b : Bool) → a && b ≡ true → b ≡ true
 and_right true b e = e

@@ -8,7 +8,6 @@ use Rattle.std.proofs.lemmas.List.Concat.{flat_map-append}
 use Rattle.std.proofs.lemmas.List.Folds.{list_all-append, flat_map-map}
 use Rattle.table_schema.specs.declared.field.Field.{Field}
 use Rattle.table_schema.specs.declared.table.Table.{Table}
-use Rattle.table_schema.specs.declared.query.Agg.{Agg}
 use Rattle.table_schema.specs.declared.query.Wide.{Wide}
 use Rattle.table_schema.specs.declared.query.Wide.TheOpen.{Wide-F}
 use Rattle.table_schema.specs.declared.query.Wide.TheFolds.{fold-roll-Wide}
@@ -30,65 +29,58 @@ use Rattle.query_parser.specs.declared.tree.Cond.TheViews.{roll-Cond}
 use Rattle.query_parser.specs.declared.tree.Query.{Query}
 use Rattle.query_bind.specs.declared.fault.BindReason.TheVariants.{UnknownColumn}
 use Rattle.query_bind.specs.declared.fault.BindFault.TheVariants.{At}
-use Rattle.query_bind.specs.Faults.{Finding, fault_unless, or_else, first_of, first_in}
+use Rattle.query_bind.specs.Faults.{Finding, fault_unless}
 use Rattle.query_bind.specs.Written.{Written, Compare, OneOf, Between, Not, All, Any, Members, no_members, member, members_of, field_number, written, written_step, where_written}
-use Rattle.query_bind.specs.Conjuncts.{opposite_if, members_of_all, members_of_any, conjoined, disjoined, all_of, any_of, normal, normals, fields_step, fields_of, only_field, conjunct_by, conjunct, where_conjuncts}
+use Rattle.query_bind.specs.Conjuncts.{opposite_if, members_of_all, members_of_any, conjoined, disjoined, all_of, any_of, normal, normals, only_field, conjunct_by, conjunct, where_conjuncts}
 use Rattle.query_bind.specs.Names.{meant, column_finding, argument_finding, term_finding, condition_step, condition_finding, where_finding, table_finding, names_finding}
 use Rattle.query_bind.specs.Terms.{meaning_of, column_at, agg_of, with_column, columns_from}
 use Rattle.query_bind.specs.Bound.{Bound, bound_of, bound, query_finding}
-use Rattle.query_bind.specs.Within.{is_in, column_in, conjunct_in, GroupsAreIn, AggsAreIn, ConjunctsAreIn}
+use Rattle.table_schema.proofs.NumberLaw.{number_in}
 use Rattle.query_bind.proofs.Truth.{and_of, both, all_true}
-use Rattle.query_bind.proofs.PlaceLemmas.{none_first, none_later, answered}
+use Rattle.query_bind.proofs.PlaceLemmas.{answered}
 use Rattle.query_bind.proofs.WideLemmas.{fields_of-Leaf, fields_of-All, fields_of-Any}
 use Rattle.query_bind.proofs.TermLemmas.{all_new, meaning_is, aggs_are}
+use Rattle.table_schema.specs.declared.query.Agg.{Agg}
+use Rattle.table_schema.specs.Firsts.{or_else, first_of, first_in}
+use Rattle.table_schema.specs.ValidQuery.{fields_step, fields_of, conjunct_known}
+use Rattle.table_schema.specs.ValidSettings.{is_number_of, is_known_number}
+use Rattle.table_schema.proofs.FirstLaws.{first_none, rest_none}
 
 -- ---- names
 
-below_by : (i : ℕ) (f : Field) (fs : List Field) (name : List ℕ) (n : ℕ) (b : Bool)
-    → (number_from (i + 1) fs name ≡ Some n → n < i + 1 + length fs)
-    → (if b then Some i else number_from (i + 1) fs name) ≡ Some n → n < i + suc (length fs)
-below_by i f fs name n true later e = let same : i ≡ n = ap (λ o. unwrap_or o n) e in omega (arith, same)
-below_by i f fs name n false later e = omega (arith, later e)
-
-below : (i : ℕ) (fs : List Field) (name : List ℕ) (n : ℕ) → number_from i fs name ≡ Some n → n < i + length fs
-below i [] name n e = absurd (none-some n e)
-below i (f ∷ fs) name n e = below_by i f fs name n (bytes_eq f.name name) (below (i + 1) fs name n) e
-
 known_by : (fields : List Field) (name : List ℕ) (at : ℕ) (o : Option ℕ) → number_of fields name ≡ o → fault_unless (is_some o) UnknownColumn at ≡ None → nat_lt (unwrap_or o 0) (length fields) ≡ true
 known_by fields name at None e passes = absurd (none-some (At UnknownColumn at) (sym passes))
-known_by fields name at (Some m) e passes =
-    let lt : m < length fields = omega (arith, below 0 fields name m e) in
-    search (rules, tests)
+known_by fields name at (Some m) e passes = number_in fields name m e
 
-known_in : (fields : List Field) (n : NameAt) → column_finding fields n ≡ None → is_in fields (field_number fields n) ≡ true
+known_in : (fields : List Field) (n : NameAt) → column_finding fields n ≡ None → is_number_of fields (field_number fields n) ≡ true
 known_in fields n passes = known_by fields n.name n.offset (number_of fields n.name) refl passes
 
 -- ---- group columns
 
 module _ (fields : List Field) where
-  columns_in : (kept : List ℕ) (names : List NameAt) → list_all (is_in fields) kept ≡ true → first_in (column_finding fields) names ≡ None
-      → list_all (is_in fields) (columns_from kept (map (column_at fields) names)) ≡ true
+  columns_in : (kept : List ℕ) (names : List NameAt) → list_all (is_number_of fields) kept ≡ true → first_in (column_finding fields) names ≡ None
+      → list_all (is_number_of fields) (columns_from kept (map (column_at fields) names)) ≡ true
   columns_in kept [] all passes = all
   columns_in kept (n ∷ ns) all passes =
       columns_in (with_column kept (field_number fields n)) ns
-      (all_new (λ a b. b == a) (is_in fields) kept (field_number fields n) all (known_in fields n (none_first (column_finding fields n) _ passes)))
-      (none_later (column_finding fields n) _ passes)
+      (all_new (λ a b. b == a) (is_number_of fields) kept (field_number fields n) all (known_in fields n (first_none (column_finding fields n) _ passes)))
+      (rest_none (column_finding fields n) _ passes)
 
   -- ---- aggregates
 
   abbrev agg_in : Agg → Bool
-  agg_in a = column_in fields a.column
+  agg_in a = is_known_number fields a.column
 
   call_in : (f : Func) (a : Argument) → argument_finding fields f a ≡ None → agg_in (agg_of fields f a) ≡ true
   call_in func.Count a passes = refl
   call_in func.Sum argument.Star passes = refl
-  call_in func.Sum (argument.Column n) passes = known_in fields n (none_first (column_finding fields n) _ passes)
+  call_in func.Sum (argument.Column n) passes = known_in fields n (first_none (column_finding fields n) _ passes)
   call_in func.Min argument.Star passes = refl
-  call_in func.Min (argument.Column n) passes = known_in fields n (none_first (column_finding fields n) _ passes)
+  call_in func.Min (argument.Column n) passes = known_in fields n (first_none (column_finding fields n) _ passes)
   call_in func.Max argument.Star passes = refl
-  call_in func.Max (argument.Column n) passes = known_in fields n (none_first (column_finding fields n) _ passes)
+  call_in func.Max (argument.Column n) passes = known_in fields n (first_none (column_finding fields n) _ passes)
   call_in func.Avg argument.Star passes = refl
-  call_in func.Avg (argument.Column n) passes = known_in fields n (none_first (column_finding fields n) _ passes)
+  call_in func.Avg (argument.Column n) passes = known_in fields n (first_none (column_finding fields n) _ passes)
 
   term_in : (t : Term) → term_finding fields t ≡ None → true ≡ true → meaning_is agg_in (meaning_of fields t) ≡ true
   term_in (term.Column n) passes own = refl
@@ -165,27 +157,27 @@ mutual
 
 module _ (fields : List Field) where
   abbrev all_in : List ℕ → Bool
-  all_in cs = list_all (is_in fields) cs
+  all_in cs = list_all (is_number_of fields) cs
 
-  only_by : (x : ℕ) (xs : List ℕ) (field : ℕ) (b : Bool) → (if b then Some x else None) ≡ Some field → is_in fields x ≡ true → is_in fields field ≡ true
+  only_by : (x : ℕ) (xs : List ℕ) (field : ℕ) (b : Bool) → (if b then Some x else None) ≡ Some field → is_number_of fields x ≡ true → is_number_of fields field ≡ true
   only_by x xs field false e own = absurd (none-some field e)
-  only_by x xs field true e own = let same : x ≡ field = ap (λ o. unwrap_or o field) e in subst (λ f. is_in fields f ≡ true) same own
+  only_by x xs field true e own = let same : x ≡ field = ap (λ o. unwrap_or o field) e in subst (λ f. is_number_of fields f ≡ true) same own
 
-  only_in : (cs : List ℕ) (field : ℕ) → only_field cs ≡ Some field → all_in cs ≡ true → is_in fields field ≡ true
+  only_in : (cs : List ℕ) (field : ℕ) → only_field cs ≡ Some field → all_in cs ≡ true → is_number_of fields field ≡ true
   only_in [] field e all = absurd (none-some field e)
-  only_in (x ∷ xs) field e all = only_by x xs field (list_all (λ other. other == x) xs) e (both (is_in fields x) (all_in xs) all).0
+  only_in (x ∷ xs) field e all = only_by x xs field (list_all (λ other. other == x) xs) e (both (is_number_of fields x) (all_in xs) all).0
 
-  conjunct_by_in : (w : Wide) (o : Option ℕ) → only_field (fields_of w) ≡ o → all_in (fields_of w) ≡ true → conjunct_in fields (conjunct_by w o) ≡ true
+  conjunct_by_in : (w : Wide) (o : Option ℕ) → only_field (fields_of w) ≡ o → all_in (fields_of w) ≡ true → conjunct_known fields (conjunct_by w o) ≡ true
   conjunct_by_in w None e all = all
   conjunct_by_in w (Some field) e all = only_in (fields_of w) field e all
 
-  conjuncts_in : (ws : List Wide) → all_in (flat_map fields_of ws) ≡ true → list_all (conjunct_in fields) (map conjunct ws) ≡ true
+  conjuncts_in : (ws : List Wide) → all_in (flat_map fields_of ws) ≡ true → list_all (conjunct_known fields) (map conjunct ws) ≡ true
   conjuncts_in [] all = refl
   conjuncts_in (w ∷ ws) all =
-      let parts = both (all_in (fields_of w)) (all_in (flat_map fields_of ws)) (sym (list_all-append (is_in fields) (fields_of w) (flat_map fields_of ws)) ∙ all) in
-      and_of (conjunct_in fields (conjunct w)) _ (conjunct_by_in w (only_field (fields_of w)) refl parts.0) (conjuncts_in ws parts.1)
+      let parts = both (all_in (fields_of w)) (all_in (flat_map fields_of ws)) (sym (list_all-append (is_number_of fields) (fields_of w) (flat_map fields_of ws)) ∙ all) in
+      and_of (conjunct_known fields (conjunct w)) _ (conjunct_by_in w (only_field (fields_of w)) refl parts.0) (conjuncts_in ws parts.1)
 
-  written_in : (w : Written) → all_in (named_in w) ≡ true → list_all (conjunct_in fields) (where_conjuncts (Some w)) ≡ true
+  written_in : (w : Written) → all_in (named_in w) ≡ true → list_all (conjunct_known fields) (where_conjuncts (Some w)) ≡ true
   written_in w all = conjuncts_in (conjoined (normal false w)) (ap all_in (conjoined_fields (normal false w) ∙ normal_fields false w) ∙ all)
 
   -- ---- a condition whose names are in order
@@ -197,11 +189,11 @@ module _ (fields : List Field) where
       → all_in (names_in (members_of (map (written fields) (map (λ e. e.0) inner)))) ≡ true
   inner_in [] passes = refl
   inner_in (c ∷ cs) passes =
-      list_all-append (is_in fields) (named_in (written fields c.0)) _
-      ∙ and_of (all_in (named_in (written fields c.0))) _ (c.1 (none_first (condition_finding fields c.0) _ passes)) (inner_in cs (none_later (condition_finding fields c.0) _ passes))
+      list_all-append (is_number_of fields) (named_in (written fields c.0)) _
+      ∙ and_of (all_in (named_in (written fields c.0))) _ (c.1 (first_none (condition_finding fields c.0) _ passes)) (inner_in cs (rest_none (condition_finding fields c.0) _ passes))
 
   one_in : (n : NameAt) (rest : Finding) → or_else (column_finding fields n) rest ≡ None → all_in (field_number fields n ∷ []) ≡ true
-  one_in n rest passes = and_of (is_in fields (field_number fields n)) true (known_in fields n (none_first (column_finding fields n) rest passes)) refl
+  one_in n rest passes = and_of (is_number_of fields (field_number fields n)) true (known_in fields n (first_none (column_finding fields n) rest passes)) refl
 
   layer_in : (y : Cond-F ((c : Cond) × IsIn c)) → condition_step fields (map-Cond Cond Finding (condition_finding fields) (map-Cond ((c : Cond) × IsIn c) Cond (λ e. e.0) y)) ≡ None
       → all_in (named_in (written_step fields (map-Cond Cond Written (written fields) (map-Cond ((c : Cond) × IsIn c) Cond (λ e. e.0) y)))) ≡ true
@@ -218,7 +210,7 @@ module _ (fields : List Field) where
       ap (λ w. all_in (named_in w)) (fold-roll-Cond Written (written_step fields) z)
       ∙ layer_in y (sym (fold-roll-Cond Finding (condition_step fields) z) ∙ passes)))
 
-  where_in : (o : Option Cond) → where_finding fields o ≡ None → list_all (conjunct_in fields) (where_conjuncts (where_written fields o)) ≡ true
+  where_in : (o : Option Cond) → where_finding fields o ≡ None → list_all (conjunct_known fields) (where_conjuncts (where_written fields o)) ≡ true
   where_in None passes = refl
   where_in (Some c) passes = written_in (written fields c) (condition_in c passes)
 
@@ -232,31 +224,22 @@ module _ (table : Table) (any_table : Bool) (q : Query) (b : Bound) (is : bound 
   own = answered (query_finding table any_table q) (bound_of fields q) b is
 
   names : names_finding fields q ≡ None
-  names = none_first (names_finding fields q) _ (none_later (table_finding table any_table q) _ own.0)
+  names = first_none (names_finding fields q) _ (rest_none (table_finding table any_table q) _ own.0)
 
   items : first_in (λ i. term_finding fields i.term) q.items ≡ None
-  items = none_first (first_in (λ i. term_finding fields i.term) q.items) _ names
+  items = first_none (first_in (λ i. term_finding fields i.term) q.items) _ names
 
   after_items : first_of (where_finding fields q.condition ∷ first_in (column_finding fields) q.groups ∷ first_in (λ k. term_finding fields (meant q.items k.term)) q.order ∷ []) ≡ None
-  after_items = none_later (first_in (λ i. term_finding fields i.term) q.items) _ names
+  after_items = rest_none (first_in (λ i. term_finding fields i.term) q.items) _ names
 
   after_where : first_of (first_in (column_finding fields) q.groups ∷ first_in (λ k. term_finding fields (meant q.items k.term)) q.order ∷ []) ≡ None
-  after_where = none_later (where_finding fields q.condition) _ after_items
+  after_where = rest_none (where_finding fields q.condition) _ after_items
 
-  groups_in : list_all (is_in fields) b.groups ≡ true
-  groups_in = subst (λ x. list_all (is_in fields) x.groups ≡ true) own.1 (columns_in fields [] q.groups refl (none_first (first_in (column_finding fields) q.groups) _ after_where))
+  pub groups_in : list_all (is_number_of fields) b.groups ≡ true
+  groups_in = subst (λ x. list_all (is_number_of fields) x.groups ≡ true) own.1 (columns_in fields [] q.groups refl (first_none (first_in (column_finding fields) q.groups) _ after_where))
 
-  all_aggs_in : list_all (agg_in fields) b.aggs ≡ true
+  pub all_aggs_in : list_all (agg_in fields) b.aggs ≡ true
   all_aggs_in = subst (λ x. list_all (agg_in fields) x.aggs ≡ true) own.1 (aggs_are fields (agg_in fields) (λ t. true) (term_in fields) q names (all_true q.items) (all_true q.order))
 
-  all_conjuncts_in : list_all (conjunct_in fields) (where_conjuncts b.condition) ≡ true
-  all_conjuncts_in = subst (λ x. list_all (conjunct_in fields) (where_conjuncts x.condition) ≡ true) own.1 (where_in fields q.condition (none_first (where_finding fields q.condition) _ after_items))
-
-pub groups_within : GroupsAreIn
-groups_within = λ table any_table q b is. groups_in table any_table q b is
-
-pub aggs_within : AggsAreIn
-aggs_within = λ table any_table q b is. all_aggs_in table any_table q b is
-
-pub conjuncts_within : ConjunctsAreIn
-conjuncts_within = λ table any_table q b is. all_conjuncts_in table any_table q b is
+  pub all_conjuncts_in : list_all (conjunct_known fields) (where_conjuncts b.condition) ≡ true
+  all_conjuncts_in = subst (λ x. list_all (conjunct_known fields) (where_conjuncts x.condition) ≡ true) own.1 (where_in fields q.condition (first_none (where_finding fields q.condition) _ after_items))

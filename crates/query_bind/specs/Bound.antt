@@ -3,7 +3,6 @@ use Rattle.std.specs.Prelude.{◌≡◌, ◌≢◌, ◌≤◌, ℕ, Bool, ◌==�
 use Rattle.std.specs.List.{position_or_len}
 use Rattle.table_schema.specs.declared.field.Field.{Field}
 use Rattle.table_schema.specs.declared.table.Table.{Table}
-use Rattle.table_schema.specs.declared.query.Agg.{Agg}
 use Rattle.table_schema.specs.declared.query.Item.{Item}
 use Rattle.table_schema.specs.declared.query.Item.TheVariants as item
 use Rattle.table_schema.specs.declared.query.OrderKey.{OrderKey}
@@ -25,7 +24,7 @@ use Rattle.query_bind.specs.declared.fault.BindFault.{BindFault}
 use Rattle.query_bind.specs.declared.fault.BindFault.TheVariants.{NoMemory}
 use Rattle.query_bind.specs.Written.{Written, where_written}
 use Rattle.query_bind.specs.Conjuncts.{where_conjuncts}
-use Rattle.query_bind.specs.Faults.{Finding, first_of}
+use Rattle.query_bind.specs.Faults.{Finding}
 use Rattle.query_bind.specs.Names.{table_finding, names_finding}
 use Rattle.query_bind.specs.declared.terms.Meaning.{Meaning}
 use Rattle.query_bind.specs.declared.terms.Meaning.TheVariants as meaning
@@ -35,8 +34,11 @@ use Rattle.query_bind.specs.declared.distinct.Lists.{Lists}
 use Rattle.table_schema.specs.declared.query.Conjunct.{Conjunct}
 use Rattle.query_bind.specs.declared.terms.KeyAt.{KeyAt}
 use Rattle.query_bind.specs.Grouped.{aggregate_finding, grouped_finding}
-use Rattle.query_bind.specs.Terms.{same_agg, terms_of, lists_of, groups_of, aggs_of}
+use Rattle.query_bind.specs.Terms.{terms_of, lists_of, groups_of, aggs_of}
 use Rattle.query_bind.specs.Limits.{limits_finding, count_or}
+use Rattle.table_schema.specs.declared.query.Agg.{Agg}
+use Rattle.table_schema.specs.Firsts.{first_of}
+use Rattle.table_schema.specs.Aggs.{same_agg}
 
 -- ---- items and keys
 

@@ -16,6 +16,7 @@ use Rattle.table_schema.specs.declared.query.Wide.TheFolds.{fold-Wide}
 use Rattle.table_schema.specs.declared.query.Wide.TheViews.{out-Wide}
 use Rattle.table_schema.specs.Conditions.{all_hold}
 use Rattle.query_bind.specs.Written.{Written, Compare, OneOf, Between, Not, All, Any, Members, no_members, member, where_holds}
+use Rattle.table_schema.specs.ValidQuery.{fields_of}
 
 -- ---- NOT pushed in, and nested AND and OR flattened
 
@@ -70,15 +71,6 @@ abbrev mutual
   normals negated (member w ws) = normal negated w ∷ normals negated ws
 
 -- ---- conjuncts
-
-abbrev pub fields_step : Wide-F (List ℕ) → List ℕ
-fields_step (Wide-F.Leaf field test) = field ∷ []
-fields_step (Wide-F.All inner) = flat_map (λ fields. fields) inner
-fields_step (Wide-F.Any inner) = flat_map (λ fields. fields) inner
-
--- the fields that its tests name
-abbrev pub fields_of : Wide → List ℕ
-fields_of = fold-Wide (List ℕ) fields_step
 
 abbrev pub first : List ℕ → Option ℕ
 first [] = None

@@ -14,20 +14,6 @@ fault_unless passes reason place = if passes then None else Some (At reason plac
 abbrev pub fault_if : Bool → BindReason → ℕ → Finding
 fault_if fails reason place = if fails then Some (At reason place) else None
 
-abbrev pub or_else : Finding → Finding → Finding
-or_else (Some fault) later = Some fault
-or_else None later = later
-
--- the first fault of some checks
-abbrev pub first_of : List Finding → Finding
-first_of [] = None
-first_of (finding ∷ later) = or_else finding (first_of later)
-
--- the first fault that a check finds in a list
-abbrev pub first_in : {A : Type 0} → (A → Finding) → List A → Finding
-first_in check [] = None
-first_in check (x ∷ xs) = or_else (check x) (first_in check xs)
-
 -- what a check answers that takes no memory
 abbrev pub Passes : Finding → Result (Unit {0}) BindFault → Type 0
 Passes finding (Ok answer) = finding ≡ None

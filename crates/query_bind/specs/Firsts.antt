@@ -1,6 +1,5 @@
 -- Where a query has too many of something: laws of the definition of its limits.
 use Rattle.std.specs.Prelude.{◌≡◌, ◌⊎◌, ◌≤◌, ◌<◌, List, [], ◌∷◌, ◌++◌, length, map, Some, None}
-use Rattle.table_schema.specs.declared.query.Agg.{Agg}
 use Rattle.query_bind.specs.declared.fault.BindReason.TheVariants.{TooMany}
 use Rattle.query_bind.specs.declared.fault.BindFault.TheVariants.{At}
 use Rattle.query_bind.specs.declared.terms.TermAt.{TermAt}
@@ -9,6 +8,7 @@ use Rattle.query_bind.specs.declared.terms.ColumnAt.{ColumnAt}
 use Rattle.query_bind.specs.Terms.{columns_from, aggs_from}
 use Rattle.query_bind.specs.Places.{OfBound}
 use Rattle.query_bind.specs.Limits.{aggs_finding, groups_finding, keys_finding}
+use Rattle.table_schema.specs.declared.query.Agg.{Agg}
 
 -- ---- none of them is too many where all are few
 
@@ -42,7 +42,3 @@ FirstKey = (aggs : List Agg) (before : List KeyAt) (k : KeyAt) (after : List Key
     → (16 ≤ length before) ⊎ (16 < length (aggs_from aggs (map (λ k. k.term) (before ++ k ∷ []))))
     → keys_finding 0 aggs (before ++ k ∷ after) ≡ Some (At TooMany k.term.offset)
 
--- ---- no bound query has too many
-
-abbrev pub LimitsAreKept : Type 0
-LimitsAreKept = OfBound (λ table q b. (length b.groups ≤ 8) × (length b.aggs ≤ 16) × (length b.order ≤ 16))

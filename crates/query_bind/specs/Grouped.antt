@@ -7,8 +7,9 @@ use Rattle.query_parser.specs.declared.tree.Term.{Term}
 use Rattle.query_parser.specs.declared.tree.Term.TheVariants as term
 use Rattle.query_parser.specs.declared.tree.Query.{Query}
 use Rattle.query_bind.specs.declared.fault.BindReason.TheVariants.{NoAggregate, NotGrouped}
-use Rattle.query_bind.specs.Faults.{Finding, fault_unless, first_of, first_in}
+use Rattle.query_bind.specs.Faults.{Finding, fault_unless}
 use Rattle.query_bind.specs.Names.{meant}
+use Rattle.table_schema.specs.Firsts.{first_of, first_in}
 
 -- ---- an aggregate in the select list
 

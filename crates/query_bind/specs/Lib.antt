@@ -10,7 +10,3 @@ pub mod Bound
 pub mod Places
 pub mod Firsts
 pub mod Once
-pub mod Within
-pub mod Fits
-pub mod Several
-pub mod Functions

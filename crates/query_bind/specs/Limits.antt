@@ -2,7 +2,6 @@
 use Rattle.std.specs.Prelude.{ℕ, ℤ, pos, negsuc, ◌+◌, Bool, true, false, ◌||◌, nat_lt, nat_le, List, [], ◌∷◌, length, Option, Some, None}
 use Rattle.values.specs.declared.value.Value.{Value}
 use Rattle.values.specs.declared.value.Value.TheVariants as value
-use Rattle.table_schema.specs.declared.query.Agg.{Agg}
 use Rattle.query_parser.specs.declared.tree.LiteralAt.{LiteralAt}
 use Rattle.query_parser.specs.Query.{is_natural}
 use Rattle.query_bind.specs.declared.fault.BindReason.TheVariants.{TooMany}
@@ -10,8 +9,10 @@ use Rattle.query_bind.specs.declared.terms.TermAt.{TermAt}
 use Rattle.query_bind.specs.declared.terms.KeyAt.{KeyAt}
 use Rattle.query_bind.specs.declared.terms.ColumnAt.{ColumnAt}
 use Rattle.query_bind.specs.declared.terms.Terms.{Terms}
-use Rattle.query_bind.specs.Faults.{Finding, fault_if, or_else, first_of}
+use Rattle.query_bind.specs.Faults.{Finding, fault_if}
 use Rattle.query_bind.specs.Terms.{with_agg, with_column, aggs_from}
+use Rattle.table_schema.specs.declared.query.Agg.{Agg}
+use Rattle.table_schema.specs.Firsts.{or_else, first_of}
 
 -- the first term with which there are more than 16 aggregates, behind those that are kept
 abbrev pub aggs_finding : List Agg → List TermAt → Finding

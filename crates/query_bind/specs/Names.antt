@@ -24,7 +24,9 @@ use Rattle.query_parser.specs.declared.tree.Cond.TheOpen.{Cond-F}
 use Rattle.query_parser.specs.declared.tree.Cond.TheFolds.{fold-Cond}
 use Rattle.query_parser.specs.declared.tree.Query.{Query}
 use Rattle.query_bind.specs.declared.fault.BindReason.TheVariants.{UnknownTable, UnknownColumn, TypeMismatch, NotNumeric}
-use Rattle.query_bind.specs.Faults.{Finding, fault_unless, or_else, first_of, first_in}
+use Rattle.query_bind.specs.Faults.{Finding, fault_unless}
+use Rattle.table_schema.specs.Firsts.{or_else, first_of, first_in}
+use Rattle.table_schema.specs.ValidQuery.{is_typed}
 
 -- ---- the table
 
@@ -71,21 +73,8 @@ term_finding fields (term.Call c) = argument_finding fields c.func c.argument
 
 -- ---- conditions
 
--- a number for a field of numbers, a text for a field of texts
-abbrev pub is_of : FieldKind → Value → Bool
-is_of kind.Text (value.Text t) = true
-is_of kind.Text (value.Whole z) = false
-is_of kind.Int (value.Text t) = false
-is_of kind.Int (value.Whole z) = true
-is_of kind.Long (value.Text t) = false
-is_of kind.Long (value.Whole z) = true
-
-abbrev pub fits : Option FieldKind → Value → Bool
-fits None v = false
-fits (Some kind) v = is_of kind v
-
 abbrev pub literal_finding : Option FieldKind → LiteralAt → Finding
-literal_finding kind l = fault_unless (fits kind l.value) TypeMismatch l.offset
+literal_finding kind l = fault_unless (is_typed kind l.value) TypeMismatch l.offset
 
 -- a test of a column: its name, and then its literals as they come
 abbrev pub test_finding : List Field → NameAt → List LiteralAt → Finding

@@ -1,12 +1,13 @@
 -- Group columns and aggregates stand once: laws of the definition of their lists.
 use Rattle.std.specs.Prelude.{◌≡◌, ℕ, ◌==◌, nat_eq, Bool, false, List, []}
 use Rattle.std.specs.List.{list_any, IsDistinct}
-use Rattle.table_schema.specs.declared.query.Agg.{Agg}
 use Rattle.query_bind.specs.declared.terms.Meaning.{Meaning}
 use Rattle.query_bind.specs.declared.terms.Meaning.TheVariants as meaning
 use Rattle.query_bind.specs.declared.terms.TermAt.{TermAt}
 use Rattle.query_bind.specs.declared.terms.ColumnAt.{ColumnAt}
-use Rattle.query_bind.specs.Terms.{columns_from, aggs_from, same_agg}
+use Rattle.query_bind.specs.Terms.{columns_from, aggs_from}
+use Rattle.table_schema.specs.declared.query.Agg.{Agg}
+use Rattle.table_schema.specs.Aggs.{same_agg}
 
 abbrev pub GroupsStandOnce : Type 0
 GroupsStandOnce = (ns : List ColumnAt) → IsDistinct nat_eq (columns_from [] ns)

@@ -20,10 +20,6 @@ at_place b (item.Agg place) = option_map meaning.Agg (slice_get b.aggs place)
 abbrev pub OfBound : (Table → Query → Bound → Type 0) → Type 0
 OfBound Has = (table : Table) (any_table : Bool) (q : Query) (b : Bound) → bound table any_table q ≡ Ok b → Has table q b
 
--- what every bound query has that some text spells
-abbrev pub OfSpelled : (Table → Query → Bound → Type 0) → Type 0
-OfSpelled Has = OfBound (λ table q b. Spelled q → Has table q b)
-
 -- at the place of each item stands what its term is
 abbrev pub ItemsAreTerms : Type 0
 ItemsAreTerms = OfBound (λ table q b. map (at_place b) b.items ≡ map (λ i. Some (meaning_of table.schema.fields i.term)) q.items)
@@ -32,6 +28,3 @@ ItemsAreTerms = OfBound (λ table q b. map (at_place b) b.items ≡ map (λ i. S
 abbrev pub KeysAreTerms : Type 0
 KeysAreTerms = OfBound (λ table q b. map (λ k. at_place b k.item) b.order ≡ map (λ k. Some (meaning_of table.schema.fields (meant q.items k.term))) q.order)
 
--- one label an item
-abbrev pub ALabelAnItem : Type 0
-ALabelAnItem = OfBound (λ table q b. length b.labels ≡ length b.items)

@@ -4,8 +4,6 @@ use Rattle.std.specs.List.{list_any}
 use Rattle.agg_laws.specs.declared.aggregate_kind.AggKind.{AggKind}
 use Rattle.agg_laws.specs.declared.aggregate_kind.AggKind.TheVariants.{Count, Sum, Least, Greatest, Average}
 use Rattle.table_schema.specs.declared.field.Field.{Field}
-use Rattle.table_schema.specs.declared.query.Agg.{Agg}
-use Rattle.table_schema.specs.Pairs.{same_function, same_column}
 use Rattle.query_parser.specs.declared.tree.NameAt.{NameAt}
 use Rattle.query_parser.specs.declared.tree.Func.{Func}
 use Rattle.query_parser.specs.declared.tree.Func.TheVariants as func
@@ -25,6 +23,9 @@ use Rattle.query_bind.specs.declared.terms.Terms.{Terms}
 use Rattle.query_bind.specs.declared.distinct.Lists.{Lists}
 use Rattle.query_bind.specs.Written.{field_number}
 use Rattle.query_bind.specs.Names.{meant}
+use Rattle.table_schema.specs.declared.query.Agg.{Agg}
+use Rattle.table_schema.specs.Aggs.{same_function, same_column}
+use Rattle.table_schema.specs.Aggs.{same_agg}
 
 -- ---- terms
 
@@ -88,9 +89,6 @@ with_column = with_new (λ a b. b == a)
 abbrev pub columns_from : List ℕ → List ColumnAt → List ℕ
 columns_from kept [] = kept
 columns_from kept (n ∷ ns) = columns_from (with_column kept n.column) ns
-
-abbrev pub same_agg : Agg → Agg → Bool
-same_agg a b = same_function a.kind b.kind && same_column a.column b.column
 
 abbrev pub with_agg : List Agg → Meaning → List Agg
 with_agg kept (meaning.Column c) = kept

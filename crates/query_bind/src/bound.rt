@@ -6,6 +6,7 @@ ghost use Rattle.query_bind.specs.Conjuncts.{KeepRows};
 ghost use Rattle.query_bind.specs.Limits as limits;
 ghost use Rattle.query_bind.specs.Bound as spec;
 ghost use Rattle.query_bind.specs.Faults.{Gives};
+ghost use Rattle.table_schema.specs.ValidQuery.{IsValidQuery};
 
 use crate::BindFault;
 use crate::checks::{check_aggregate, check_grouped, check_table};
@@ -39,6 +40,7 @@ pub fn bind(
     // Every row satisfies all conjuncts exactly where it satisfies the condition as it is written.
     ensures rows { IfOk result (λ bound.
         KeepRows bound.conjuncts (where_written table.now.schema.fields query.now.condition)) }
+    ensures valid { IfOk result (IsValidQuery table.now) }
 {
     let (terms, lists) = check(alloc, query, table, any_table)?;
     let conjuncts = conjuncts(alloc, table.schema.fields.as_slice(), &query.condition)?;

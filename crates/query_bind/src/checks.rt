@@ -5,7 +5,8 @@ ghost use Rattle.std.specs.List.{list_any};
 ghost use Rattle.std.specs.Str.{bytes_eq};
 ghost use Rattle.query_bind.specs.Names as naming;
 ghost use Rattle.query_bind.specs.Grouped as spec;
-ghost use Rattle.query_bind.specs.Faults.{Passes, first_in};
+ghost use Rattle.query_bind.specs.Faults.{Passes};
+ghost use Rattle.table_schema.specs.Firsts.{first_in};
 
 use crate::condition::check_condition;
 use crate::labels::meant;

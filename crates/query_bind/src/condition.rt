@@ -2,7 +2,9 @@
 
 ghost use Rattle.std.specs.Prelude.{◌≡◌, ◌≤◌, length, Some};
 ghost use Rattle.query_bind.specs.Names as spec;
-ghost use Rattle.query_bind.specs.Faults.{Passes, first_in};
+ghost use Rattle.query_bind.specs.Faults.{Passes};
+ghost use Rattle.table_schema.specs.Firsts.{first_in};
+ghost use Rattle.values.specs.Kinds.{is_of};
 
 use crate::columns::kind_of;
 use crate::{BindFault, BindReason};
@@ -60,7 +62,7 @@ fn check_literal(kind: FieldKind, literal: &LiteralAt) -> Result<(), BindFault>
 
 /// A text for a field of texts, a number for any other.
 fn is_of(kind: FieldKind, value: &Value) -> bool
-    ensures { result ≡ spec.is_of kind value.now }
+    ensures { result ≡ is_of kind value.now }
 {
     match value {
         Value::Whole(_) => kind != FieldKind::Text,

@@ -6,6 +6,7 @@ ghost use Rattle.query_bind.specs.Names.{where_finding};
 ghost use Rattle.query_bind.specs.Written.{where_written};
 ghost use Rattle.query_bind.specs.Conjuncts as spec;
 ghost use Rattle.query_bind.specs.Conjuncts.{KeepRows};
+ghost use Rattle.table_schema.specs.ValidQuery.{fields_of};
 
 use crate::normal::{Joint, Scope};
 use query_parser::Cond;
@@ -16,7 +17,7 @@ use values::{NoMemory, Seq, Test};
 /// The field of the first test.
 #[cycle(first_field)]
 fn first_field(wide: &Wide) -> Option<u16>
-    ensures { result ≡ spec.first (spec.fields_of wide.now) }
+    ensures { result ≡ spec.first (fields_of wide.now) }
 {
     match wide {
         Wide::Leaf(field, _) => Some(*field),
@@ -27,7 +28,7 @@ fn first_field(wide: &Wide) -> Option<u16>
 
 #[cycle(first_field)]
 fn first_field_in(wides: &[Wide]) -> Option<u16>
-    ensures { result ≡ spec.first (flat_map spec.fields_of wides.now) }
+    ensures { result ≡ spec.first (flat_map fields_of wides.now) }
 {
     for wide in wides {
         if let Some(field) = first_field(wide) {
@@ -40,7 +41,7 @@ fn first_field_in(wides: &[Wide]) -> Option<u16>
 /// Whether no test names another field.
 #[cycle(names_only)]
 fn names_only(wide: &Wide, field: u16) -> bool
-    ensures { result ≡ list_all (λ other. other == field) (spec.fields_of wide.now) }
+    ensures { result ≡ list_all (λ other. other == field) (fields_of wide.now) }
 {
     match wide {
         Wide::Leaf(own, _) => *own == field,
@@ -51,7 +52,7 @@ fn names_only(wide: &Wide, field: u16) -> bool
 
 #[cycle(names_only)]
 fn all_name_only(wides: &[Wide], field: u16) -> bool
-    ensures { result ≡ list_all (λ other. other == field) (flat_map spec.fields_of wides.now) }
+    ensures { result ≡ list_all (λ other. other == field) (flat_map fields_of wides.now) }
 {
     for wide in wides {
         if !names_only(wide, field) {
@@ -63,7 +64,7 @@ fn all_name_only(wides: &[Wide], field: u16) -> bool
 
 /// The field that is named where no other one is.
 fn only_field(wide: &Wide) -> Option<u16>
-    ensures { result ≡ spec.only_field (spec.fields_of wide.now) }
+    ensures { result ≡ spec.only_field (fields_of wide.now) }
 {
     let Some(field) = first_field(wide) else {
         return None;

@@ -5,6 +5,7 @@ ghost use Rattle.std.specs.List.{list_any};
 ghost use Rattle.query_bind.specs.Terms as spec;
 ghost use Rattle.query_bind.specs.Limits as limits;
 ghost use Rattle.query_bind.specs.Faults.{Gives, fault_if};
+ghost use Rattle.table_schema.specs.Aggs.{same_agg};
 
 use crate::terms::{ColumnAt, KeyAt, Meaning, TermAt, Terms};
 use crate::{BindFault, BindReason};
@@ -121,7 +122,7 @@ fn push_agg(aggs: &mut Seq<Agg>, term: TermAt) -> Result<(), BindFault>
 }
 
 fn is_among(aggs: &[Agg], agg: Agg) -> bool
-    ensures { result ≡ list_any (spec.same_agg agg) aggs.now }
+    ensures { result ≡ list_any (same_agg agg) aggs.now }
 {
     for other in aggs {
         if agg == *other {

@@ -4,6 +4,7 @@ ghost use Rattle.std.specs.Prelude.{◌≡◌, ◌≤◌, ◌==◌, length, IfOk
 ghost use Rattle.std.specs.List.{position_or_len};
 ghost use Rattle.query_bind.specs.Terms as terms_spec;
 ghost use Rattle.query_bind.specs.Bound as spec;
+ghost use Rattle.table_schema.specs.Aggs.{same_agg};
 
 use crate::terms::{KeyAt, Meaning, TermAt};
 use std::alloc::Global;
@@ -26,7 +27,7 @@ fn column_place(groups: &[u16], column: u16) -> u16
 /// The place of an aggregate among these; their number where it is none of them.
 fn agg_place(aggs: &[Agg], agg: Agg) -> u16
     requires { length aggs.now ≤ 16 }
-    ensures { result ≡ position_or_len (terms_spec.same_agg agg) aggs.now }
+    ensures { result ≡ position_or_len (same_agg agg) aggs.now }
 {
     for (place, other) in aggs.iter().enumerate() {
         if agg == *other {

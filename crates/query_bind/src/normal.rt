@@ -5,9 +5,9 @@ ghost use Rattle.values.specs.declared.test.Test.TheVariants as test;
 ghost use Rattle.values.specs.Tests.{negated_if};
 ghost use Rattle.query_bind.specs.Written.{field_number, value_in};
 ghost use Rattle.query_bind.specs.Conjuncts.{opposite_if};
-ghost use Rattle.query_bind.specs.Faults.{first_of};
 ghost use Rattle.query_bind.specs.Names.{column_finding, condition_finding};
 ghost use Rattle.query_bind.specs.Joints as spec;
+ghost use Rattle.table_schema.specs.Firsts.{first_of};
 
 use query_parser::{Cond, LiteralAt, NameAt};
 use std::alloc::Global;

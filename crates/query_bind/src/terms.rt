@@ -3,7 +3,8 @@
 ghost use Rattle.std.specs.Prelude.{◌≡◌, ◌≤◌, length, map, option_map};
 ghost use Rattle.query_bind.specs.Names as naming;
 ghost use Rattle.query_bind.specs.Terms as spec;
-ghost use Rattle.query_bind.specs.Faults.{Resolves, Gives, first_in};
+ghost use Rattle.query_bind.specs.Faults.{Resolves, Gives};
+ghost use Rattle.table_schema.specs.Firsts.{first_in};
 
 use crate::checks::check_where;
 use crate::columns::{column, kind_of};

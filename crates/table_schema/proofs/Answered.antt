@@ -7,8 +7,9 @@ use Rattle.table_schema.specs.declared.fault.KeyKind.{KeyKind}
 use Rattle.table_schema.specs.declared.fault.TextFault.{TextFault}
 use Rattle.table_schema.specs.declared.fault.TextFault.TheVariants.{At}
 use Rattle.table_schema.specs.Json.{Text}
-use Rattle.table_schema.specs.Faults.{Finding, or_else, fault_unless, Gives, Refuses}
+use Rattle.table_schema.specs.Faults.{Finding, fault_unless, Gives, Refuses}
 use Rattle.table_schema.proofs.Places.{length-map}
+use Rattle.table_schema.specs.Firsts.{or_else}
 
 pub or_else-none : (f : Finding) → or_else f None ≡ f
 or_else-none None = refl

@@ -3,11 +3,12 @@ use Rattle.std.proofs.Common.{◌≡◌, ℕ, ◌+◌, ◌<◌, List, [], ◌∷
 use Rattle.table_schema.specs.declared.entry.Entry as code
 use Rattle.table_schema.specs.declared.field.Field.{Field}
 use Rattle.table_schema.specs.declared.fault.TextFault.{TextFault}
-use Rattle.table_schema.specs.Faults.{Finding, by_place, Refuses}
+use Rattle.table_schema.specs.Faults.{Finding, Refuses}
 use Rattle.table_schema.specs.Fields.{Entry, field_of, name_of, field_finding}
 use Rattle.table_schema.specs.Schemas.{fields_finding}
 use Rattle.table_schema.specs.Entries.{seen}
 use Rattle.table_schema.proofs.Places.{done_more, map-append, refused_here, passed_here}
+use Rattle.table_schema.specs.Firsts.{by_place}
 
 abbrev pub check : List Entry → Entry → Finding
 check before e = field_finding (map name_of before) e

@@ -1,3 +1,4 @@
+pub mod FirstLaws
 pub mod Items
 pub mod Read
 pub mod Places
@@ -6,3 +7,7 @@ pub mod Answered
 pub mod Numbers
 pub mod SchemaLaw
 pub mod SettingsLaw
+pub mod NumberLaw
+pub mod PairLaw
+pub mod TreeLaw
+pub mod RawLaw

@@ -6,16 +6,17 @@ use Rattle.serde_json.specs.View.{view}
 use Rattle.serde_json.specs.declared.value.Value.{Value}
 use Rattle.table_schema.specs.declared.field.Field.{Field}
 use Rattle.table_schema.specs.Json.{Text}
-use Rattle.table_schema.specs.Faults.{by_place, at_place}
+use Rattle.table_schema.specs.Faults.{at_place}
 use Rattle.table_schema.specs.Columns.{number_of, numbers_of, text_of}
 use Rattle.table_schema.specs.Trees.{split_place, split_places, skip_place, skip_places}
 use Rattle.table_schema.proofs.Places.{done_more, places_done, passed_here}
+use Rattle.table_schema.specs.Firsts.{by_place}
 
 cons_option-append : (o : Option ℕ) (ns ms : List ℕ) → cons_option o (ns ++ ms) ≡ cons_option o ns ++ ms
 cons_option-append None ns ms = refl
 cons_option-append (Some n) ns ms = refl
 
-numbers_of-append : (fields : List Field) (ds : List Data) (d : Data) → numbers_of fields (ds ++ d ∷ []) ≡ numbers_of fields ds ++ numbers_of fields (d ∷ [])
+pub numbers_of-append : (fields : List Field) (ds : List Data) (d : Data) → numbers_of fields (ds ++ d ∷ []) ≡ numbers_of fields ds ++ numbers_of fields (d ∷ [])
 numbers_of-append fields [] d = refl
 numbers_of-append fields (e ∷ ds) d =
     ap (cons_option (number_of fields (text_of e))) (numbers_of-append fields ds d)

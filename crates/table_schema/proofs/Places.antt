@@ -2,7 +2,8 @@
 use Rattle.std.proofs.Common.{◌≡◌, ℕ, suc, length-take, ◌+◌, ◌<◌, List, [], ◌∷◌, ◌++◌, length, get_or, take, drop, map, None, refl, sym, ap, ◌∙◌, arith}
 use Rattle.std.proofs.lemmas.List.{take_more, drop_more}
 use Rattle.table_schema.specs.declared.fault.TextFault.{TextFault}
-use Rattle.table_schema.specs.Faults.{Finding, or_else, by_place, Refuses}
+use Rattle.table_schema.specs.Faults.{Finding, Refuses}
+use Rattle.table_schema.specs.Firsts.{or_else, by_place}
 
 pub map-append : {X Y : Type 0} (f : X → Y) (xs ys : List X) → map f (xs ++ ys) ≡ map f xs ++ map f ys
 map-append f [] ys = refl

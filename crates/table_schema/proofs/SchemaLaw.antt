@@ -20,25 +20,19 @@ use Rattle.table_schema.specs.declared.fault.TextFault.{TextFault}
 use Rattle.table_schema.specs.declared.field.Schema.{Schema}
 use Rattle.table_schema.specs.declared.fault.KeyKind.TheVariants.{WrongKind, TooMany, BadName, UnknownType, Unsupported, DuplicateColumn, MissingKey}
 use Rattle.table_schema.specs.Json.{Text, key_of}
-use Rattle.table_schema.specs.Faults.{Finding, Gives, or_else, first_of, by_place, fault_unless, fault_if, below}
+use Rattle.table_schema.specs.Faults.{Finding, Gives, fault_unless, fault_if, below}
 use Rattle.table_schema.specs.Keys.{optional, object_finding, required_text, text_at, optional_array}
 use Rattle.table_schema.specs.Names.{is_column_name}
 use Rattle.table_schema.specs.Defaults.{DEFAULT_KEY, text_default, whole_default, number_default, given_default, default_finding, usual_default, default_of}
 use Rattle.table_schema.specs.Fields.{Entry, is_among, is_text_metric, kind_named, kind_of, name_of, path_of, list_key, name_finding, type_finding, support_finding, field_finding, field_of, all_entries}
 use Rattle.table_schema.specs.Schemas.{head_finding, lists_finding, fields_finding, is_none_listed, schema_finding, schema_of}
-use Rattle.table_schema.specs.Valid.{fits_kind, is_valid_field, no_repeat, IsValidSchema}
+use Rattle.table_schema.specs.Valid.{default_fits, is_valid_field, no_repeat, IsValidSchema}
 use Rattle.table_schema.proofs.FieldWalk.{check, names_of}
 use Rattle.table_schema.proofs.Places.{length-map, map-append}
+use Rattle.table_schema.specs.Firsts.{or_else, first_of, by_place}
+use Rattle.table_schema.proofs.FirstLaws.{first_none, rest_none, nones}
 
 -- ---- checks that found nothing
-
-pub first_none : (a b : Finding) → or_else a b ≡ None → a ≡ None
-first_none None b e = refl
-first_none (Some fault) b e = e
-
-pub rest_none : (a b : Finding) → or_else a b ≡ None → b ≡ None
-rest_none None b e = e
-rest_none (Some fault) b e = absurd (cc)
 
 pub unless_none : (b : Bool) (kind : KeyKind) (path : Text) → fault_unless b kind path ≡ None → b ≡ true
 unless_none true kind path e = refl
@@ -48,16 +42,18 @@ pub if_none : (b : Bool) (kind : KeyKind) (path : Text) → fault_if b kind path
 if_none true kind path e = absurd (cc)
 if_none false kind path e = refl
 
--- each of some checks found nothing
-abbrev pub Nones : List Finding → Type 0
-Nones [] = Unit {0}
-Nones (f ∷ fs) = (f ≡ None) × Nones fs
-
-pub nones : (fs : List Finding) → first_of fs ≡ None → Nones fs
-nones [] e = tt
-nones (f ∷ fs) e = (first_none f (first_of fs) e, nones fs (rest_none f (first_of fs) e))
-
 -- ---- defaults
+
+pub both_true : (a b : Bool) → a ≡ true → b ≡ true → (a && b) ≡ true
+both_true a b p q = ap (λ x. x && b) p ∙ q
+
+-- a short text is a value of a field of texts
+short_fits : (text : Text) → nat_le (length text) 64 ≡ true → default_fits kind.Text (value.Text text) ≡ true
+short_fits text short =
+    let few : length text ≤ 64 = search (rules, tests) in
+    let fit : nat_le (length text) 512 ≡ true = search (rules, tests) in
+    both_true (nat_le (length text) 512) (nat_le (length text) 64) fit short
+
 
 -- a whole number in range
 abbrev IsIn : FieldKind → Value → Type 0
@@ -75,23 +71,23 @@ whole_in : (kind : FieldKind) (o : Option ℤ) (w : Value) → option_and_then (
 whole_in kind None w e = absurd (cc)
 whole_in kind (Some z) w e = let p = cond_some (is_in_range kind z) (value.Whole z) w e in (z, p.1, p.0)
 
-int_fits : (w : Value) → IsIn kind.Int w → fits_kind kind.Int w ≡ true
-int_fits w h = subst (λ v. fits_kind kind.Int v ≡ true) h.1 h.2
+int_fits : (w : Value) → IsIn kind.Int w → default_fits kind.Int w ≡ true
+int_fits w h = subst (λ v. default_fits kind.Int v ≡ true) h.1 (both_true (is_in_range kind.Int h.0) true h.2 refl)
 
-long_fits : (w : Value) → IsIn kind.Long w → fits_kind kind.Long w ≡ true
-long_fits w h = subst (λ v. fits_kind kind.Long v ≡ true) h.1 h.2
+long_fits : (w : Value) → IsIn kind.Long w → default_fits kind.Long w ≡ true
+long_fits w h = subst (λ v. default_fits kind.Long v ≡ true) h.1 (both_true (is_in_range kind.Long h.0) true h.2 refl)
 
-text_fits : (k : FieldKind) (text : Text) (w : Value) → text_default k text ≡ Some w → fits_kind k w ≡ true
-text_fits kind.Text text w e = let p = cond_some (nat_le (length text) 64) (value.Text text) w e in subst (λ v. fits_kind kind.Text v ≡ true) p.1 p.0
+text_fits : (k : FieldKind) (text : Text) (w : Value) → text_default k text ≡ Some w → default_fits k w ≡ true
+text_fits kind.Text text w e = let p = cond_some (nat_le (length text) 64) (value.Text text) w e in subst (λ v. default_fits kind.Text v ≡ true) p.1 (short_fits text p.0)
 text_fits kind.Int text w e = int_fits w (spelled_in kind.Int (spelled_number text) w e)
 text_fits kind.Long text w e = long_fits w (spelled_in kind.Long (spelled_number text) w e)
 
-number_fits : (k : FieldKind) (n : Num) (w : Value) → number_default k n ≡ Some w → fits_kind k w ≡ true
+number_fits : (k : FieldKind) (n : Num) (w : Value) → number_default k n ≡ Some w → default_fits k w ≡ true
 number_fits kind.Text n w e = absurd (cc)
 number_fits kind.Int n w e = int_fits w (whole_in kind.Int (as_i64 n) w e)
 number_fits kind.Long n w e = long_fits w (whole_in kind.Long (as_i64 n) w e)
 
-given_fits : (k : FieldKind) (d : Data) (w : Value) → given_default k d ≡ Some w → fits_kind k w ≡ true
+given_fits : (k : FieldKind) (d : Data) (w : Value) → given_default k d ≡ Some w → default_fits k w ≡ true
 given_fits k null w e = absurd (cc)
 given_fits k (boolean b) w e = absurd (cc)
 given_fits k (number n) w e = number_fits k n w e
@@ -99,7 +95,7 @@ given_fits k (string text) w e = text_fits k text w e
 given_fits k (array ds) w e = absurd (cc)
 given_fits k (object ms) w e = absurd (cc)
 
-usual_fits : (role : Role) (k : FieldKind) → fits_kind k (usual_default role k) ≡ true
+usual_fits : (role : Role) (k : FieldKind) → default_fits k (usual_default role k) ≡ true
 usual_fits Dimension kind.Text = refl
 usual_fits Dimension kind.Int = refl
 usual_fits Dimension kind.Long = refl
@@ -110,19 +106,16 @@ usual_fits DateTime kind.Text = refl
 usual_fits DateTime kind.Int = refl
 usual_fits DateTime kind.Long = refl
 
-given_by : (role : Role) (k : FieldKind) (d : Data) (path : Text) (g : Option Value) → given_default k d ≡ g → fault_unless (is_some g) WrongKind path ≡ None → fits_kind k (unwrap_or g (usual_default role k)) ≡ true
+given_by : (role : Role) (k : FieldKind) (d : Data) (path : Text) (g : Option Value) → given_default k d ≡ g → fault_unless (is_some g) WrongKind path ≡ None → default_fits k (unwrap_or g (usual_default role k)) ≡ true
 given_by role k d path None is none = absurd (cc)
 given_by role k d path (Some w) is none = given_fits k d w is
 
 default_by : (role : Role) (k : FieldKind) (path : Text) (o : Option Data) → optional (λ v. fault_unless (is_some (given_default k v)) WrongKind path) o ≡ None
-    → fits_kind k (unwrap_or (option_and_then (given_default k) o) (usual_default role k)) ≡ true
+    → default_fits k (unwrap_or (option_and_then (given_default k) o) (usual_default role k)) ≡ true
 default_by role k path None none = usual_fits role k
 default_by role k path (Some d) none = given_by role k d path (given_default k d) refl none
 
 -- ---- fields
-
-both_true : (a b : Bool) → a ≡ true → b ≡ true → (a && b) ≡ true
-both_true a b p q = ap (λ x. x && b) p ∙ q
 
 -- what a place says where its checks found nothing
 pub field_checked : (names : List Text) (e : Entry) → field_finding names e ≡ None
@@ -148,7 +141,7 @@ field_checked names e none =
     ∷ []) all.1.1.1.0 in (
       unless_none (nat_lt (length names) 64) TooMany path all.0,
       if_none (is_among names (name_of e)) DuplicateColumn here all.1.1.1.1.1.1.0,
-      both_true (is_column_name (name_of e) && not (is_text_metric e.role (kind_of d))) (fits_kind (kind_of d) (default_of e.role (kind_of d) d))
+      both_true (is_column_name (name_of e) && not (is_text_metric e.role (kind_of d))) (default_fits (kind_of d) (default_of e.role (kind_of d) d))
           (both_true (is_column_name (name_of e)) (not (is_text_metric e.role (kind_of d)))
           (unless_none (is_column_name (name_of e)) BadName here named.1.0)
           (ap not (if_none (is_text_metric e.role (kind_of d)) Unsupported (below path (codes "dataType")) typed.1.1.0)))

@@ -7,8 +7,9 @@ use Rattle.serde_json.specs.Find.{as_str}
 use Rattle.table_schema.specs.declared.field.Field.{Field}
 use Rattle.table_schema.specs.declared.fault.KeyKind.TheVariants.{UnknownColumn}
 use Rattle.table_schema.specs.Json.{Text}
-use Rattle.table_schema.specs.Faults.{Finding, below, at_place, fault_unless, first_of, by_place}
+use Rattle.table_schema.specs.Faults.{Finding, below, at_place, fault_unless}
 use Rattle.table_schema.specs.Keys.{text_finding, optional_array, items_at}
+use Rattle.table_schema.specs.Firsts.{first_of, by_place}
 
 -- the number of the field of that name
 abbrev pub number_from : ℕ → List Field → Text → Option ℕ

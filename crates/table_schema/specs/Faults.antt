@@ -23,20 +23,6 @@ fault_unless passes kind path = if passes then None else Some (At kind path)
 abbrev pub fault_if : Bool → KeyKind → Text → Finding
 fault_if fails kind path = if fails then Some (At kind path) else None
 
-abbrev pub or_else : Finding → Finding → Finding
-or_else (Some fault) later = Some fault
-or_else None later = later
-
--- the first fault of some checks
-abbrev pub first_of : List Finding → Finding
-first_of [] = None
-first_of (finding ∷ later) = or_else finding (first_of later)
-
--- the first fault by place: `check` is given the items before a place, and the item there
-abbrev pub by_place : {A : Type 0} → (List A → A → Finding) → List A → List A → Finding
-by_place check before [] = None
-by_place check before (x ∷ xs) = or_else (check before x) (by_place check (before ++ x ∷ []) xs)
-
 -- A call that was refused says what the checks found, unless memory ran out.
 abbrev pub Refuses : Finding → TextFault → Type 0
 Refuses finding fault = fault ≢ NoMemory → finding ≡ Some fault

@@ -11,10 +11,11 @@ use Rattle.table_schema.specs.declared.field.Role.TheVariants.{Dimension, Metric
 use Rattle.table_schema.specs.declared.field.Field.{Field}
 use Rattle.table_schema.specs.declared.fault.KeyKind.TheVariants.{BadName, UnknownType, Unsupported, DuplicateColumn, TooMany}
 use Rattle.table_schema.specs.Json.{Text, key_of}
-use Rattle.table_schema.specs.Faults.{Finding, below, at_place, fault_unless, fault_if, first_of}
+use Rattle.table_schema.specs.Faults.{Finding, below, at_place, fault_unless, fault_if}
 use Rattle.table_schema.specs.Keys.{optional, object_finding, required_text, text_at, refused_bool, unused_key, items_at}
 use Rattle.table_schema.specs.Names.{is_column_name}
 use Rattle.table_schema.specs.Defaults.{default_finding, default_of}
+use Rattle.table_schema.specs.Firsts.{first_of}
 
 -- the key of the list of a role
 abbrev pub list_key : Role → Text

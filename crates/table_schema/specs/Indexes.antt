@@ -11,10 +11,11 @@ use Rattle.table_schema.specs.declared.settings.Settings.{Settings}
 use Rattle.table_schema.specs.declared.fault.KeyKind.TheVariants.{WrongKind, Unsupported, UnknownColumn, TooMany}
 use Rattle.table_schema.specs.declared.fault.TextFault.TheVariants.{At}
 use Rattle.table_schema.specs.Json.{Text, key_of, array_of}
-use Rattle.table_schema.specs.Faults.{Finding, below, at_place, fault_unless, fault_if, first_of, by_place}
+use Rattle.table_schema.specs.Faults.{Finding, below, at_place, fault_unless, fault_if}
 use Rattle.table_schema.specs.Keys.{optional, object_finding, refused_bool, items_at}
 use Rattle.table_schema.specs.Columns.{number_of, is_known, text_of, is_member, columns_finding, named}
 use Rattle.table_schema.specs.Trees.{trees_finding, trees_of}
+use Rattle.table_schema.specs.Firsts.{first_of, by_place}
 
 -- ---- the sorted column
 
@@ -142,6 +143,13 @@ raw_places fields s path ds = by_place (λ before d. raw_place fields s (at_plac
 abbrev pub raw_finding : List Field → Settings → Data → Finding
 raw_finding fields s d = raw_places fields s (below INDEX_KEY RAW_KEY) (items_at RAW_KEY d)
 
+-- the checks of what stands under `tableIndexConfig`
+abbrev pub index_checks : List Field → Text → Data → Finding
+index_checks fields table d = first_of (
+    index_form fields d
+    ∷ raw_finding fields (indexed fields table d) d
+    ∷ [])
+
 -- ---- what is not built yet
 
 abbrev pub is_set_anywhere : List Bool → Bool
@@ -157,6 +165,7 @@ names_unbuilt s = is_some s.sorted || is_set_anywhere s.inverted || is_set_anywh
 abbrev pub unbuilt_finding : Settings → Finding
 unbuilt_finding s = fault_if (names_unbuilt s) Unsupported INDEX_KEY
 
+-- the same checks, and the refusal of what is not built
 abbrev pub index_finding : List Field → Text → Data → Finding
 index_finding fields table d = first_of (
     index_form fields d

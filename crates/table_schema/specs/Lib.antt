@@ -1,4 +1,5 @@
 pub mod Json
+pub mod Firsts
 pub mod Faults
 pub mod Keys
 pub mod Names
@@ -7,10 +8,13 @@ pub mod Fields
 pub mod Schemas
 pub mod Entries
 pub mod Columns
+pub mod Aggs
 pub mod Pairs
 pub mod Trees
 pub mod Indexes
 pub mod TableTexts
 pub mod Valid
 pub mod ValidSettings
+pub mod ValidTable
 pub mod Conditions
+pub mod ValidQuery

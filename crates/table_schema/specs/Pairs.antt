@@ -1,4 +1,4 @@
--- The pairs of a star-tree: a function, `__` and a column.
+-- The pairs of a star-tree: a function, `__` and a column. A pair is an aggregate.
 use Rattle.std.specs.Prelude.{ℕ, ◌+◌, Bool, true, false, ◌&&◌, ◌||◌, ◌==◌, nat_le, List, [], ◌∷◌, ◌++◌, take, drop, length, codes, Option, Some, None, is_some, option_and_then, if◌then◌else◌}
 use Rattle.std.specs.List.{list_any, slice_get}
 use Rattle.std.specs.Str.{bytes_eq, str_eq_ignore_ascii_case}
@@ -8,12 +8,14 @@ use Rattle.values.specs.declared.kind.FieldKind.TheVariants as kind
 use Rattle.agg_laws.specs.declared.aggregate_kind.AggKind.{AggKind}
 use Rattle.agg_laws.specs.declared.aggregate_kind.AggKind.TheVariants.{Count, Sum, Least, Greatest, Average}
 use Rattle.table_schema.specs.declared.field.Field.{Field}
-use Rattle.table_schema.specs.declared.settings.Pair.{Pair}
+use Rattle.table_schema.specs.declared.query.Agg.{Agg}
+use Rattle.table_schema.specs.Aggs.{same_agg}
 use Rattle.table_schema.specs.declared.fault.KeyKind.TheVariants.{BadPair, TooMany}
 use Rattle.table_schema.specs.Json.{Text}
-use Rattle.table_schema.specs.Faults.{Finding, at_place, fault_unless, first_of, by_place}
+use Rattle.table_schema.specs.Faults.{Finding, at_place, fault_unless}
 use Rattle.table_schema.specs.Keys.{text_finding}
 use Rattle.table_schema.specs.Columns.{number_of, is_known, text_of}
+use Rattle.table_schema.specs.Firsts.{first_of, by_place}
 
 -- the function of a name, in any case
 abbrev pub function_named : Text → Option AggKind
@@ -40,52 +42,36 @@ abbrev pub is_numeric : Option Field → Bool
 is_numeric None = false
 is_numeric (Some f) = is_number f.kind
 
-abbrev pub numeric_pair : List Field → AggKind → ℕ → Option Pair
+abbrev pub numeric_pair : List Field → AggKind → ℕ → Option Agg
 numeric_pair fields function n = if is_numeric (slice_get fields n) then Some (record { kind = function; column = Some n }) else None
 
 -- COUNT takes `*` or any field, and counts; the others take a field of numbers
-abbrev pub pair_by : List Field → AggKind → Text → Option Pair
+abbrev pub pair_by : List Field → AggKind → Text → Option Agg
 pair_by fields Count column = if bytes_eq column (codes "*") || is_known fields column then Some (record { kind = Count; column = None }) else None
 pair_by fields function column = option_and_then (numeric_pair fields function) (number_of fields column)
 
-abbrev pub split_pair : List Field → Text → ℕ → Option Pair
+abbrev pub split_pair : List Field → Text → ℕ → Option Agg
 split_pair fields text at = option_and_then (λ function. pair_by fields function (drop (at + 2) text)) (function_named (take at text))
 
 -- the pair that a text is
-abbrev pub pair_of : List Field → Text → Option Pair
+abbrev pub pair_of : List Field → Text → Option Agg
 pair_of fields text = option_and_then (split_pair fields text) (mark_from 0 text)
 
 -- ---- lists of pairs
 
-abbrev pub same_function : AggKind → AggKind → Bool
-same_function Count Count = true
-same_function Sum Sum = true
-same_function Least Least = true
-same_function Greatest Greatest = true
-same_function Average Average = true
-same_function _ _ = false
+abbrev pub with_pair : List Agg → Agg → List Agg
+with_pair kept p = if list_any (λ q. same_agg q p) kept then kept else kept ++ p ∷ []
 
-abbrev pub same_column : Option ℕ → Option ℕ → Bool
-same_column None None = true
-same_column (Some m) (Some n) = m == n
-same_column _ _ = false
-
-abbrev pub same_pair : Pair → Pair → Bool
-same_pair a b = same_function a.kind b.kind && same_column a.column b.column
-
-abbrev pub with_pair : List Pair → Pair → List Pair
-with_pair kept p = if list_any (λ q. same_pair q p) kept then kept else kept ++ p ∷ []
-
-abbrev pub with_found : List Pair → Option Pair → List Pair
+abbrev pub with_found : List Agg → Option Agg → List Agg
 with_found kept None = kept
 with_found kept (Some p) = with_pair kept p
 
 -- the pairs that an array gives, without those that an earlier place gives
-abbrev pub pairs_from : List Field → List Pair → List Data → List Pair
+abbrev pub pairs_from : List Field → List Agg → List Data → List Agg
 pairs_from fields kept [] = kept
 pairs_from fields kept (d ∷ ds) = pairs_from fields (with_found kept (pair_of fields (text_of d))) ds
 
-abbrev pub pairs_of : List Field → List Data → List Pair
+abbrev pub pairs_of : List Field → List Data → List Agg
 pairs_of fields ds = pairs_from fields [] ds
 
 abbrev pub pair_finding : List Field → Text → Data → Finding

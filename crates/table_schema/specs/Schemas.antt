@@ -7,9 +7,10 @@ use Rattle.table_schema.specs.declared.fault.KeyKind.TheVariants.{NotJson, Missi
 use Rattle.table_schema.specs.declared.fault.TextFault.{TextFault}
 use Rattle.table_schema.specs.declared.fault.TextFault.TheVariants.{At}
 use Rattle.table_schema.specs.Json.{Text, json_of}
-use Rattle.table_schema.specs.Faults.{Finding, first_of, by_place, fault_if}
+use Rattle.table_schema.specs.Faults.{Finding, fault_if}
 use Rattle.table_schema.specs.Keys.{object_finding, required_text, optional_array, unused_key, refused_bool}
 use Rattle.table_schema.specs.Fields.{Entry, list_key, all_entries, name_of, field_finding, field_of}
+use Rattle.table_schema.specs.Firsts.{first_of, by_place}
 
 -- ---- texts
 

@@ -8,11 +8,12 @@ use Rattle.table_schema.specs.declared.settings.Settings.{Settings}
 use Rattle.table_schema.specs.declared.fault.KeyKind.TheVariants.{BadName, Unsupported}
 use Rattle.table_schema.specs.declared.fault.TextFault.{TextFault}
 use Rattle.table_schema.specs.Json.{Text, key_of, json_of}
-use Rattle.table_schema.specs.Faults.{Finding, fault_unless, first_of}
+use Rattle.table_schema.specs.Faults.{Finding, fault_unless}
 use Rattle.table_schema.specs.Keys.{optional, object_finding, required_text, text_at, unused_key}
 use Rattle.table_schema.specs.Names.{is_column_name}
 use Rattle.table_schema.specs.Schemas.{read_by}
-use Rattle.table_schema.specs.Indexes.{INDEX_KEY, index_finding, indexed}
+use Rattle.table_schema.specs.Indexes.{INDEX_KEY, index_checks, index_finding, indexed}
+use Rattle.table_schema.specs.Firsts.{first_of}
 
 -- without `_OFFLINE` at the end
 abbrev pub bare_name : Text → Text
@@ -67,6 +68,13 @@ abbrev pub settings_finding : List Field → Data → Finding
 settings_finding fields d = first_of (
     head_finding d
     ∷ optional (index_finding fields (table_name d)) (key_of INDEX_KEY d)
+    ∷ [])
+
+-- the same checks without the refusal of what is not built
+abbrev pub settings_checks : List Field → Data → Finding
+settings_checks fields d = first_of (
+    head_finding d
+    ∷ optional (index_checks fields (table_name d)) (key_of INDEX_KEY d)
     ∷ [])
 
 -- without `tableIndexConfig` no index is named

@@ -4,15 +4,16 @@ use Rattle.serde_json.specs.Data.{Data}
 use Rattle.serde_json.specs.Find.{as_number, as_u64}
 use Rattle.agg_laws.specs.declared.tree_shape.TreeShape.{TreeShape}
 use Rattle.table_schema.specs.declared.field.Field.{Field}
-use Rattle.table_schema.specs.declared.settings.Pair.{Pair}
+use Rattle.table_schema.specs.declared.query.Agg.{Agg}
 use Rattle.table_schema.specs.declared.settings.TreeSetting.{TreeSetting}
 use Rattle.table_schema.specs.declared.fault.KeyKind.TheVariants.{MissingKey, WrongKind, UnknownColumn, DuplicateColumn, TooMany}
 use Rattle.table_schema.specs.declared.fault.TextFault.TheVariants.{At}
 use Rattle.table_schema.specs.Json.{Text, key_of, array_of}
-use Rattle.table_schema.specs.Faults.{Finding, below, at_place, fault_unless, fault_if, first_of, by_place}
+use Rattle.table_schema.specs.Faults.{Finding, below, at_place, fault_unless, fault_if}
 use Rattle.table_schema.specs.Keys.{required, optional, object_finding, text_finding, unused_key, optional_array, items_at}
 use Rattle.table_schema.specs.Columns.{number_of, text_of, numbers_of, is_member, column_finding}
 use Rattle.table_schema.specs.Pairs.{pairs_of, pairs_finding}
+use Rattle.table_schema.specs.Firsts.{first_of, by_place}
 
 -- ---- arrays that are not empty
 
@@ -94,7 +95,7 @@ tree_pairs_finding fields base d = first_of (
     ∷ pairs_finding fields (below base PAIRS_KEY) (items_at PAIRS_KEY d)
     ∷ [])
 
-abbrev pub tree_pairs_of : List Field → Data → List Pair
+abbrev pub tree_pairs_of : List Field → Data → List Agg
 tree_pairs_of fields d = pairs_of fields (items_at PAIRS_KEY d)
 
 abbrev pub leaf_in_range : Option ℕ → Bool

@@ -60,7 +60,7 @@ fn read_name<'v>(alloc: Global, base: &str, json: &'v Json) -> Result<&'v str, T
     ensures err { IfErr result (Refuses (spec.name_finding base.now (view json.now))) }
 {
     let name = required_text(alloc, base, "name", json)?;
-    if is_column_name(name) {
+    if is_column_name(name.as_bytes()) {
         Ok(name)
     } else {
         Err(key_fault(alloc, KeyKind::BadName, base, "name"))

@@ -25,6 +25,7 @@ mod trees;
 pub use fault::{KeyKind, KeyPath, TextFault};
 pub use field::{Field, Role, Schema};
 pub use laws::{schema_law, settings_law};
+pub use names::is_column_name;
 pub use query::{Agg, BoundQuery, Conjunct, Item, OrderKey, Wide};
 pub use schema_text::read_schema;
 pub use settings::{Pair, Settings, TreeSetting};

@@ -8,10 +8,10 @@ ghost use Rattle.table_schema.specs.Names as spec;
 const MOST_NAME_BYTES: usize = 128;
 
 /// 1 to 128 printable ASCII characters, none of them a space, `"`, `,` or `*`.
-pub(crate) fn is_column_name(name: &str) -> bool
+pub fn is_column_name(name: &[u8]) -> bool
     ensures { result ≡ spec.is_column_name name.now }
 {
-    !name.is_empty() && name.len() <= MOST_NAME_BYTES && all_name_bytes(name.as_bytes())
+    !name.is_empty() && name.len() <= MOST_NAME_BYTES && all_name_bytes(name)
 }
 
 fn all_name_bytes(bytes: &[u8]) -> bool

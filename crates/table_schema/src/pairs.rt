@@ -1,7 +1,6 @@
 //! The pairs of a star-tree: a function, `__` and a column.
 
 ghost use Rattle.std.specs.Prelude.{◌≡◌, ◌<◌, ◌≤◌, ◌+◌, length, IfOk, IfErr, IfSome, OnOk, Some, None, map};
-ghost use Rattle.std.specs.Str.{str_eq_ignore_ascii_case};
 ghost use Rattle.serde_json.specs.View.{view};
 ghost use Rattle.table_schema.specs.Columns.{text_of};
 ghost use Rattle.table_schema.specs.Pairs as spec;
@@ -18,25 +17,19 @@ use values::{FieldKind, NoMemory, Seq};
 /// The most pairs of a star-tree.
 pub(crate) const MOST_PAIRS: usize = 16;
 
-fn same_word(a: &[u8], b: &[u8]) -> bool
-    ensures { result ≡ str_eq_ignore_ascii_case a.now b.now }
-{
-    a.eq_ignore_ascii_case(b)
-}
-
 /// The function of a name, in any case.
 fn function_named(name: &[u8]) -> Option<AggKind>
     ensures { result ≡ spec.function_named name.now }
 {
-    if same_word(name, b"COUNT") {
+    if name.eq_ignore_ascii_case(b"COUNT") {
         Some(AggKind::Count)
-    } else if same_word(name, b"SUM") {
+    } else if name.eq_ignore_ascii_case(b"SUM") {
         Some(AggKind::Sum)
-    } else if same_word(name, b"MIN") {
+    } else if name.eq_ignore_ascii_case(b"MIN") {
         Some(AggKind::Least)
-    } else if same_word(name, b"MAX") {
+    } else if name.eq_ignore_ascii_case(b"MAX") {
         Some(AggKind::Greatest)
-    } else if same_word(name, b"AVG") {
+    } else if name.eq_ignore_ascii_case(b"AVG") {
         Some(AggKind::Average)
     } else {
         None

@@ -1,14 +1,11 @@
 //! The settings of a table.
 
-use agg_laws::{AggKind, TreeShape};
+use crate::Agg;
+use agg_laws::TreeShape;
 use values::{Name, Seq};
 
-/// What a star-tree keeps of a group of rows: an aggregate of a field, or `None` for the count of rows.
-#[derive(Clone, Copy, Debug, PartialEq, Eq)]
-pub struct Pair {
-    pub kind: AggKind,
-    pub column: Option<u16>,
-}
+/// What a star-tree keeps of a group of rows.
+pub type Pair = Agg;
 
 /// The settings of one star-tree.
 #[derive(Drop)]

@@ -85,7 +85,7 @@ fn read_table_name<'v>(alloc: Global, json: &'v Json) -> Result<&'v str, TextFau
     ensures err { IfErr result (Refuses (spec.table_finding (view json.now))) }
 {
     let name = bare_name(required_text(alloc, "", "tableName", json)?);
-    if is_column_name(name) {
+    if is_column_name(name.as_bytes()) {
         Ok(name)
     } else {
         Err(fault(alloc, KeyKind::BadName, "tableName"))

@@ -1,3 +1,4 @@
+pub mod Kinds
 pub mod Magnitude
 pub mod Numbers
 pub mod Order

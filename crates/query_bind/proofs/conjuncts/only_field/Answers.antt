@@ -1,7 +1,7 @@
 use Rattle.std.proofs.Common.{sym, ◌∙◌}
-use Rattle.query_bind.specs.Conjuncts.{fields_of}
 use Rattle.query_bind.proofs.WideLemmas.{found_only, found_other}
 use Rattle.query_bind.proofs.conjuncts.only_field.Goals as goal
+use Rattle.table_schema.specs.ValidQuery.{fields_of}
 
 pub returns-then-names_only : goal.returns-then-names_only
 returns-then-names_only c = found_only (fields_of c.args.wide.now) c.in-Some.field

@@ -1,8 +1,8 @@
 use Rattle.std.proofs.Common.{◌≡◌, map, take, drop}
 use Rattle.query_bind.specs.Names.{column_finding}
 use Rattle.query_bind.specs.Terms.{column_at}
-use Rattle.query_bind.specs.Faults.{first_in}
 use Rattle.query_bind.proofs.terms.groups_at.Given as goal
+use Rattle.table_schema.specs.Firsts.{first_in}
 
 abbrev pub invariant-loop-name : goal.invariant-loop-name
 invariant-loop-name l =

@@ -1,8 +1,8 @@
 use Rattle.std.proofs.Common.{◌≡◌, map, take, drop}
 use Rattle.query_bind.specs.Names.{term_finding, meant}
 use Rattle.query_bind.specs.Terms.{key_at}
-use Rattle.query_bind.specs.Faults.{first_in}
 use Rattle.query_bind.proofs.terms.keys_at.Given as goal
+use Rattle.table_schema.specs.Firsts.{first_in}
 
 abbrev pub invariant-loop-key : goal.invariant-loop-key
 invariant-loop-key l =

@@ -1,8 +1,9 @@
 use Rattle.std.proofs.Common.{◌≡◌, map, take, drop, length}
 use Rattle.serde_json.specs.View.{view}
-use Rattle.table_schema.specs.Faults.{by_place, at_place}
+use Rattle.table_schema.specs.Faults.{at_place}
 use Rattle.table_schema.specs.Indexes.{raw_place, raw_places}
 use Rattle.table_schema.proofs.index_text.check_raw.Given as goal
+use Rattle.table_schema.specs.Firsts.{by_place}
 
 abbrev pub invariant-loop-place : goal.invariant-loop-place
 invariant-loop-place l =

@@ -1,8 +1,9 @@
 use Rattle.std.proofs.Common.{◌≡◌, map, take, drop, length}
 use Rattle.serde_json.specs.View.{view}
-use Rattle.table_schema.specs.Faults.{by_place, at_place}
+use Rattle.table_schema.specs.Faults.{at_place}
 use Rattle.table_schema.specs.Pairs.{pair_finding, pair_places, pairs_from, pairs_of}
 use Rattle.table_schema.proofs.pairs.kept_pairs.Given as goal
+use Rattle.table_schema.specs.Firsts.{by_place}
 
 abbrev pub invariant-loop-place : goal.invariant-loop-place
 invariant-loop-place l =

@@ -1,9 +1,9 @@
 use Rattle.std.proofs.Common.{◌≡◌, map, take, drop}
-use Rattle.table_schema.specs.Faults.{by_place}
 use Rattle.table_schema.specs.Fields.{field_of, name_of, field_finding}
 use Rattle.table_schema.specs.Schemas.{fields_finding}
 use Rattle.table_schema.specs.Entries.{seen}
 use Rattle.table_schema.proofs.schema_text.read_fields.Given as goal
+use Rattle.table_schema.specs.Firsts.{by_place}
 
 abbrev pub invariant-loop-entry : goal.invariant-loop-entry
 invariant-loop-entry l =

@@ -1,9 +1,10 @@
 use Rattle.std.proofs.Common.{◌≡◌, map, take, drop, length}
 use Rattle.serde_json.specs.View.{view}
-use Rattle.table_schema.specs.Faults.{by_place, at_place}
+use Rattle.table_schema.specs.Faults.{at_place}
 use Rattle.table_schema.specs.Columns.{numbers_of}
 use Rattle.table_schema.specs.Trees.{skip_place, skip_places}
 use Rattle.table_schema.proofs.trees.skip_places.Given as goal
+use Rattle.table_schema.specs.Firsts.{by_place}
 
 abbrev pub invariant-loop-place : goal.invariant-loop-place
 invariant-loop-place l =
