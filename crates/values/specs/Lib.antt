@@ -1,3 +1,5 @@
+pub mod Cells
+pub mod Columns
 pub mod Magnitude
 pub mod Numbers
 pub mod Order
@@ -5,4 +7,5 @@ pub mod Printed
 pub mod Reading
 pub mod Shared
 pub mod Tests
+pub mod Texts
 pub mod formers
