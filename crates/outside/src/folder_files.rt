@@ -140,6 +140,7 @@ pub fn count_read<T>(faults: &mut u64, answer: Result<T, ShelfFault>) -> Result<
     ensures answer { result ≡ answer }
     ensures later { faults.old ≤ faults.new }
     ensures rose { IsErrOf answer Failed → Rose faults.old faults.new }
+    ensures still { ¬ IsErrOf answer Failed → faults.new ≡ faults.old }
 {
     if let Err(ShelfFault::Failed) = answer {
         *faults = faults.saturating_add(1);
