@@ -7,6 +7,7 @@ pub mod Merged
 pub mod Tree
 pub mod Shares
 pub mod Docs
+pub mod Region
 pub mod Documents
 pub mod Picks
 pub mod Reads
