@@ -6,3 +6,5 @@ pub mod Ranges
 pub mod Spelling
 pub mod Widths
 pub mod Windows
+pub mod PostingLaws
+pub mod SortedLaws

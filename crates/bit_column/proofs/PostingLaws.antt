@@ -1,7 +1,8 @@
 -- Postings are as long as their offsets and their entries, and give the places of each key.
-use Rattle.std.proofs.Common.{◌≡◌, ℕ, zero, suc, ◌+◌, ◌-◌, ◌*◌, ◌/◌, ◌^◌, ◌<◌, ◌≤◌, ◌==◌, nat_lt, Bool, true, false, cond, List, [], ◌∷◌, ◌++◌, length, map, take, drop, get_or, refl, sym, ap, ◌∙◌, subst, arith, rules, tests, length-append, length-drop, append_assoc, take-append-le, drop-append-le, get_or_append_left}
+use Rattle.std.proofs.Common.{◌≡◌, ℕ, zero, suc, ◌+◌, ◌-◌, ◌*◌, ◌/◌, ◌^◌, ◌<◌, ◌≤◌, ◌==◌, nat_lt, Bool, true, false, cond, List, [], ◌∷◌, ◌++◌, length, map, take, drop, get_or, refl, sym, ap, ◌∙◌, subst, arith, rules, tests, length-append, length-drop, append_assoc}
 use Rattle.std.specs.List.{All, filter, enumerate_from, range_with_len}
 use Rattle.std.proofs.lemmas.Bool.{eqb-true, eqb-false, ltb-true, ltb-false}
+use Rattle.std.proofs.lemmas.List.{append-nil, get_or_append_left}
 use Rattle.std.proofs.lemmas.List.Elements.{All-nil, All-cons, All-head, All-tail, All-append}
 use Rattle.std.proofs.lemmas.List.FromFn.{length-map-range_with_len, get_or-map-range_with_len}
 use Rattle.bit_column.specs.Column.{bytes_for, spelled, id_at, ids_between}
@@ -58,7 +59,7 @@ few_by : (b : Bool) (k : ℕ) (rest : List ℕ) (n : ℕ) → length rest ≤ n 
 few_by true k rest n le = omega (arith, le)
 few_by false k rest n le = omega (arith, le)
 
-less_few : (n : ℕ) (keys : List ℕ) → less n keys ≤ length keys
+pub less_few : (n : ℕ) (keys : List ℕ) → less n keys ≤ length keys
 less_few n [] = omega arith
 less_few n (k ∷ ks) = few_by (nat_lt k n) k (filter (λ k. nat_lt k n) ks) (length ks) (less_few n ks)
 
@@ -114,7 +115,9 @@ tail key zero keys = []
 tail key (suc more) keys = tail key more keys ++ places_of (key + more) keys
 
 split : (key more : ℕ) (keys : List ℕ) → entries (key + more) keys ≡ entries key keys ++ tail key more keys
-split key zero keys = grind (arith)
+split key zero keys =
+    let same : key + 0 ≡ key = omega arith in
+    ap (λ n. entries n keys) same ∙ sym (append-nil (entries key keys))
 split key (suc more) keys =
     let up : key + suc more ≡ suc (key + more) = omega arith in
     ap (λ n. entries n keys) up ∙ ap (λ es. es ++ places_of (key + more) keys) (split key more keys) ∙ append_assoc (entries key keys) (tail key more keys) (places_of (key + more) keys)

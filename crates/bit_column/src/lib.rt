@@ -1,5 +1,5 @@
 //! The forward index of a column: the ids of its rows in a fixed number of bits each, written and
-//! read.
+//! read; and how the places of each id stand in the sections of its other indexes.
 #![tactic(auto)]
 
 mod bits;
@@ -12,7 +12,7 @@ mod width;
 mod writing;
 
 pub use fault::ColumnFault;
-pub use laws::{reads_back, widths_are_least};
+pub use laws::{postings_read_back, reads_back, sorted_reads_back, widths_are_least};
 pub use range::read_range;
 pub use reading::at;
 pub use width::width_for;
