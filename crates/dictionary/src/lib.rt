@@ -2,10 +2,12 @@
 #![tactic(auto)]
 
 mod check;
+mod coded;
 mod dictionary;
 mod fault;
 mod id_set;
 mod laws;
+mod number_index;
 mod spelling;
 
 pub use dictionary::{Dictionary, MOST_VALUES};
