@@ -28,7 +28,7 @@ stored_at [] i h lt = absurd (omega arith)
 stored_at (e ∷ es) zero h lt = h.0
 stored_at (e ∷ es) (suc i) h lt = stored_at es i h.1 (omega arith)
 
-shape_front : (k : ℕ) (ks : List AggKind) (docs more : List Doc) → HaveShape k ks (docs ++ more) → HaveShape k ks docs
+pub shape_front : (k : ℕ) (ks : List AggKind) (docs more : List Doc) → HaveShape k ks (docs ++ more) → HaveShape k ks docs
 shape_front k ks [] more h = tt
 shape_front k ks (e ∷ es) more h = (h.0, h.1, shape_front k ks es more h.2)
 

@@ -3,8 +3,11 @@
 ghost use Rattle.std.specs.Prelude.{◌≡◌, ◌+◌, ◌-◌, ◌<◌, ◌≤◌, ◌==◌, max, [], ◌∷◌, ◌++◌, length, take, drop, List, slice_get, Some, OnOk, OnErr, IfOk, vec_len, vec_capacity};
 ghost use Rattle.agg_laws.specs.Numbers.{most_stored, most_values};
 ghost use Rattle.agg_laws.specs.Rows.{kinds_of, merged_rows, row_weight, RowFits, RowStored};
+ghost use Rattle.agg_laws.specs.Merged.{weights};
 ghost use Rattle.agg_laws.specs.Tree.{dim, set_star};
 ghost use Rattle.agg_laws.specs.Docs.{Doc, doc_of, doc_at, HaveShape, AreStored};
+ghost use Rattle.agg_laws.specs.Documents.{aggregated, AreAlike};
+ghost use Rattle.agg_laws.specs.Flat.{range};
 
 use crate::NoMemory;
 use crate::kind_list::Kinds;
@@ -194,5 +197,25 @@ impl StarTable {
     {
         let width = self.kinds.len();
         merge_into_last(self.states.as_mut_slice(), from as usize * width, width);
+    }
+
+    /// Adds the aggregated document of a range, whose documents have the same ids below the level. There is room for it, and it
+    /// takes no memory.
+    pub fn append_total(&mut self, start: u32, end: u32, level: u8)
+        requires order { start < end }
+        requires within { end ≤ length self.old.docs }
+        requires level { level ≤ self.old.dims }
+        requires alike { AreAlike level (range start end self.old.docs) }
+        requires spare { 1 ≤ self.old.spare }
+        requires light { weights row_weight (range start end self.old.docs) ≤ most_stored }
+        ensures { self.new ≡ record self.old { docs = self.old.docs ++ aggregated merged_rows level (range start end self.old.docs); spare = self.old.spare - 1 } }
+    {
+        self.repeat(start);
+        for at in level..self.dims {
+            self.star_last(at as usize);
+        }
+        for from in start + 1..end {
+            self.merge_last(from);
+        }
     }
 }
