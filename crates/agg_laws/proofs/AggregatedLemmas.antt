@@ -49,7 +49,7 @@ on_path (p ∷ ps) (x ∷ xs) h on =
 
 module _ {S : Type 0} (join : S → S → S) (j : IsJoin join) where
   -- entries of one key
-  abbrev AllAt : (List ℕ → List ℕ) → List ℕ → List (List ℕ × S) → Type 0
+  abbrev pub AllAt : (List ℕ → List ℕ) → List ℕ → List (List ℕ × S) → Type 0
   AllAt f key [] = Unit {0}
   AllAt f key (e ∷ es) = (f e.0 ≡ key) × AllAt f key es
 
@@ -57,7 +57,7 @@ module _ {S : Type 0} (join : S → S → S) (j : IsJoin join) where
   put_one key s None = refl
   put_one key s (Some u) = ap (λ r. by_order r ((key, s) ∷ (key, u) ∷ []) ((key, join s u) ∷ []) ((key, u) ∷ (key, s) ∷ [])) (tied_itself nat_list_cmp_total key)
 
-  one_key : (f : List ℕ → List ℕ) (key : List ℕ) (es : List (List ℕ × S)) → AllAt f key es → merged_docs join (rekey f es) ≡ one_document key (total join (λ _. true) es)
+  pub one_key : (f : List ℕ → List ℕ) (key : List ℕ) (es : List (List ℕ × S)) → AllAt f key es → merged_docs join (rekey f es) ≡ one_document key (total join (λ _. true) es)
   one_key f key [] h = refl
   one_key f key (e ∷ es) h =
       (λ i. add dims_order join (h.0 i) e.1 (one_key f key es h.1 i)) ∙ put_one key e.1 (total join (λ _. true) es)

@@ -1,5 +1,5 @@
 -- All documents of a tree, in the order in which its nodes are visited.
-use Rattle.std.specs.Prelude.{ℕ, zero, suc, if◌then◌else◌, ◌==◌, Option, Some, None, List, [], ◌∷◌, ◌++◌, length}
+use Rattle.std.specs.Prelude.{◌≡◌, ℕ, zero, suc, if◌then◌else◌, ◌==◌, Option, Some, None, List, [], ◌∷◌, ◌++◌, length, take}
 use Rattle.agg_laws.specs.Merged.{rekey}
 use Rattle.agg_laws.specs.Tree.{star, merged_docs, Nodes, none, node, has_star}
 
@@ -53,3 +53,12 @@ module _ {S : Type 0} (join : S → S → S) where
 abbrev pub one_document : {S : Type 0} → List ℕ → Option S → List (List ℕ × S)
 one_document dims None = []
 one_document dims (Some states) = (dims, states) ∷ []
+
+-- the documents have the same first ids, up to a level
+abbrev pub BeginWith : {S : Type 0} → ℕ → List ℕ → List (List ℕ × S) → Type 0
+BeginWith d path [] = Unit {0}
+BeginWith d path (e ∷ es) = (take d e.0 ≡ path) × BeginWith d path es
+
+abbrev pub AreAlike : {S : Type 0} → ℕ → List (List ℕ × S) → Type 0
+AreAlike d [] = Unit {0}
+AreAlike d (e ∷ es) = BeginWith d (take d e.0) es

@@ -1,13 +1,19 @@
 //! Tables of documents.
 
-ghost use Rattle.std.specs.Prelude.{◌≡◌, ◌+◌, ◌-◌, ◌<◌, ◌≤◌, ◌==◌, max, [], ◌∷◌, ◌++◌, length, slice_get, Some, OnOk, OnErr, IfOk, vec_len, vec_capacity};
-ghost use Rattle.agg_laws.specs.Rows.{kinds_of, RowStored};
-ghost use Rattle.agg_laws.specs.Tree.{dim};
-ghost use Rattle.agg_laws.specs.Docs.{doc_of, doc_at, HaveShape, AreStored};
+ghost use Rattle.std.specs.Prelude.{◌≡◌, ◌+◌, ◌-◌, ◌<◌, ◌≤◌, ◌==◌, max, [], ◌∷◌, ◌++◌, length, take, drop, List, slice_get, Some, OnOk, OnErr, IfOk, vec_len, vec_capacity};
+ghost use Rattle.agg_laws.specs.Numbers.{most_stored, most_values};
+ghost use Rattle.agg_laws.specs.Rows.{kinds_of, merged_rows, row_weight, RowFits, RowStored};
+ghost use Rattle.agg_laws.specs.Merged.{weights};
+ghost use Rattle.agg_laws.specs.Tree.{dim, set_star};
+ghost use Rattle.agg_laws.specs.Docs.{Doc, doc_of, doc_at, HaveShape, AreStored};
+ghost use Rattle.agg_laws.specs.Documents.{aggregated, AreAlike};
+ghost use Rattle.agg_laws.specs.Flat.{range};
 
 use crate::NoMemory;
 use crate::kind_list::Kinds;
+use crate::id_list::STAR;
 use crate::star_row::StarRow;
+use crate::state_row::merge_states;
 use crate::states::AggState;
 use crate::tree_shape::TreeShape;
 use std::alloc::{AllocError, Global};
@@ -48,6 +54,33 @@ fn put_all<T: Copy>(out: &mut Vec<T>, items: &[T])
             unreachable!();
         }
     }
+}
+
+/// Adds a copy of items that are there already, and for which there is room.
+fn put_again<T: Copy>(out: &mut Vec<T>, from: usize, count: usize)
+    requires there { from + count ≤ length out.old.items }
+    requires room { length out.old.items + count ≤ vec_capacity out.old }
+    ensures items { out.new.items ≡ out.old.items ++ take count (drop from out.old.items) }
+    ensures capacity { vec_capacity out.old ≤ vec_capacity out.new }
+{
+    for i in 0..count {
+        let item = out[from + i];
+        if let Err(_) = out.push(item) {
+            unreachable!();
+        }
+    }
+}
+
+/// Merges the states in a place into the last ones, which are as many.
+fn merge_into_last(states: &mut [AggState], from: usize, count: usize)
+    requires there { from + count + count ≤ length states.old }
+    requires kinds { kinds_of (drop (length states.old - count) states.old) ≡ kinds_of (take count (drop from states.old)) }
+    requires fits { RowFits (merged_rows (drop (length states.old - count) states.old) (take count (drop from states.old))) most_values }
+    ensures { states.new ≡ take (length states.old - count) states.old ++ merged_rows (drop (length states.old - count) states.old) (take count (drop from states.old)) }
+{
+    let end = states.len() - count;
+    let (front, last) = states.split_at_mut(end);
+    merge_states(last, &front[from..from + count]);
 }
 
 impl StarTable {
@@ -130,5 +163,59 @@ impl StarTable {
         put_all(&mut self.states, row.states.as_slice());
         self.count += 1;
         self.spare -= 1;
+    }
+
+    /// Adds a document that is there already once more.
+    fn repeat(&mut self, from: u32)
+        requires from { from < length self.old.docs }
+        requires spare { 1 ≤ self.old.spare }
+        ensures { self.new ≡ record self.old { docs = self.old.docs ++ doc_at self.old.docs from ∷ []; spare = self.old.spare - 1 } }
+    {
+        let dims = self.dims as usize;
+        let width = self.kinds.len();
+        put_again(&mut self.ids, from as usize * dims, dims);
+        put_again(&mut self.states, from as usize * width, width);
+        self.count += 1;
+        self.spare -= 1;
+    }
+
+    /// Sets a dimension of the last document to star.
+    fn star_last(&mut self, level: usize)
+        requires level { level < self.old.dims }
+        requires some { 0 < length self.old.docs }
+        ensures { (front : List Doc) (e : Doc) → self.old.docs ≡ front ++ e ∷ [] → self.new ≡ record self.old { docs = front ++ (set_star level e.0, e.1) ∷ [] } }
+    {
+        let place = (self.count - 1) * self.dims as usize + level;
+        self.ids[place] = STAR;
+    }
+
+    /// Merges the states of a document into those of the last one.
+    fn merge_last(&mut self, from: u32)
+        requires from { from + 1 < length self.old.docs }
+        requires light { (front : List Doc) (e : Doc) → self.old.docs ≡ front ++ e ∷ [] → row_weight e.1 + row_weight (doc_at self.old.docs from).1 ≤ most_stored }
+        ensures { (front : List Doc) (e : Doc) → self.old.docs ≡ front ++ e ∷ [] → self.new ≡ record self.old { docs = front ++ (e.0, merged_rows e.1 (doc_at self.old.docs from).1) ∷ [] } }
+    {
+        let width = self.kinds.len();
+        merge_into_last(self.states.as_mut_slice(), from as usize * width, width);
+    }
+
+    /// Adds the aggregated document of a range, whose documents have the same ids below the level. There is room for it, and it
+    /// takes no memory.
+    pub fn append_total(&mut self, start: u32, end: u32, level: u8)
+        requires order { start < end }
+        requires within { end ≤ length self.old.docs }
+        requires level { level ≤ self.old.dims }
+        requires alike { AreAlike level (range start end self.old.docs) }
+        requires spare { 1 ≤ self.old.spare }
+        requires light { weights row_weight (range start end self.old.docs) ≤ most_stored }
+        ensures { self.new ≡ record self.old { docs = self.old.docs ++ aggregated merged_rows level (range start end self.old.docs); spare = self.old.spare - 1 } }
+    {
+        self.repeat(start);
+        for at in level..self.dims {
+            self.star_last(at as usize);
+        }
+        for from in start + 1..end {
+            self.merge_last(from);
+        }
     }
 }

@@ -27,7 +27,7 @@ impl Model for StateRow {
 }
 
 /// Merges states place by place.
-fn merge_states(into: &mut [AggState], from: &[AggState])
+pub(crate) fn merge_states(into: &mut [AggState], from: &[AggState])
     requires kinds { kinds_of into.old ≡ kinds_of from.now }
     requires fits { RowFits (merged_rows into.old from.now) most_values }
     ensures { into.new ≡ merged_rows into.old from.now }
