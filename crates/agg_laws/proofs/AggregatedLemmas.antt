@@ -3,15 +3,12 @@ use Rattle.std.proofs.Common.{◌≡◌, ℕ, suc, ◌-◌, ◌≤◌, Bool, tru
 use Rattle.std.proofs.lemmas.Bool.{eqb-true}
 use Rattle.std.specs.FinMap.Entries.{by_order}
 use Rattle.std.proofs.lemmas.Cmp.{nat_list_cmp_total, tied_itself}
-use Rattle.agg_laws.specs.declared.states.AggState.{AggState}
-use Rattle.agg_laws.specs.Rows.{merged_rows}
-use Rattle.agg_laws.specs.Merged.{join_some, total, add, rekey}
+use Rattle.agg_laws.specs.Merged.{IsJoin, join_some, total, add, rekey}
 use Rattle.agg_laws.specs.Tree.{star, dims_order, merged_docs, agrees, starred, rows_at}
-use Rattle.agg_laws.specs.Docs.{Doc, HaveIds}
+use Rattle.agg_laws.specs.Docs.{HaveIds}
 use Rattle.agg_laws.specs.Documents.{star_from, aggregated, one_document}
 use Rattle.agg_laws.proofs.MergedLemmas.{Merged-rekey}
 use Rattle.agg_laws.proofs.TreeLemmas.{same_dims}
-use Rattle.agg_laws.proofs.DocLemmas.{rows_join}
 
 -- all ids starred
 all_star : (xs : List ℕ) → star_from 0 xs ≡ replicate (length xs) star
@@ -50,39 +47,40 @@ on_path (p ∷ ps) (x ∷ xs) h on =
     less : (m n : ℕ) → m - n ≡ suc m - suc n
     less m n = omega arith
 
--- entries of one key
-abbrev AllAt : (List ℕ → List ℕ) → List ℕ → List Doc → Type 0
-AllAt f key [] = Unit {0}
-AllAt f key (e ∷ es) = (f e.0 ≡ key) × AllAt f key es
+module _ {S : Type 0} (join : S → S → S) (j : IsJoin join) where
+  -- entries of one key
+  abbrev AllAt : (List ℕ → List ℕ) → List ℕ → List (List ℕ × S) → Type 0
+  AllAt f key [] = Unit {0}
+  AllAt f key (e ∷ es) = (f e.0 ≡ key) × AllAt f key es
 
-put_one : (key : List ℕ) (s : List AggState) (o : Option (List AggState)) → add dims_order merged_rows key s (one_document key o) ≡ one_document key (join_some merged_rows (Some s) o)
-put_one key s None = refl
-put_one key s (Some u) = ap (λ r. by_order r ((key, s) ∷ (key, u) ∷ []) ((key, merged_rows s u) ∷ []) ((key, u) ∷ (key, s) ∷ [])) (tied_itself nat_list_cmp_total key)
+  put_one : (key : List ℕ) (s : S) (o : Option S) → add dims_order join key s (one_document key o) ≡ one_document key (join_some join (Some s) o)
+  put_one key s None = refl
+  put_one key s (Some u) = ap (λ r. by_order r ((key, s) ∷ (key, u) ∷ []) ((key, join s u) ∷ []) ((key, u) ∷ (key, s) ∷ [])) (tied_itself nat_list_cmp_total key)
 
-one_key : (f : List ℕ → List ℕ) (key : List ℕ) (es : List Doc) → AllAt f key es → merged_docs merged_rows (rekey f es) ≡ one_document key (total merged_rows (λ _. true) es)
-one_key f key [] h = refl
-one_key f key (e ∷ es) h =
-    (λ i. add dims_order merged_rows (h.0 i) e.1 (one_key f key es h.1 i)) ∙ put_one key e.1 (total merged_rows (λ _. true) es)
+  one_key : (f : List ℕ → List ℕ) (key : List ℕ) (es : List (List ℕ × S)) → AllAt f key es → merged_docs join (rekey f es) ≡ one_document key (total join (λ _. true) es)
+  one_key f key [] h = refl
+  one_key f key (e ∷ es) h =
+      (λ i. add dims_order join (h.0 i) e.1 (one_key f key es h.1 i)) ∙ put_one key e.1 (total join (λ _. true) es)
 
--- the rows that agree with a path
-all_at : (k : ℕ) (path : List ℕ) (rows : List Doc) → HaveIds k rows → length path ≤ k → AllAt (λ x. star_from (length path) (starred path x)) (path ++ replicate (k - length path) star) (rows_at path rows)
-all_at k path [] ids short = tt
-all_at k path (e ∷ es) ids short =
-    let more = all_at k path es ids.1 short in
-    elim (agrees path e.0) as (λ b. agrees path e.0 ≡ b → AllAt (λ x. star_from (length path) (starred path x)) (path ++ replicate (k - length path) star) (cond b (e ∷ rows_at path es) (rows_at path es))) [
-      | true ↦ λ on. (on_path path e.0 (omega (arith, ids.0, short)) on ∙ ap (λ n. path ++ replicate (n - length path) star) ids.0, more)
-      | false ↦ λ _. more
-    ] refl
+  -- the rows that agree with a path
+  all_at : (k : ℕ) (path : List ℕ) (rows : List (List ℕ × S)) → HaveIds k rows → length path ≤ k → AllAt (λ x. star_from (length path) (starred path x)) (path ++ replicate (k - length path) star) (rows_at path rows)
+  all_at k path [] ids short = tt
+  all_at k path (e ∷ es) ids short =
+      let more = all_at k path es ids.1 short in
+      elim (agrees path e.0) as (λ b. agrees path e.0 ≡ b → AllAt (λ x. star_from (length path) (starred path x)) (path ++ replicate (k - length path) star) (cond b (e ∷ rows_at path es) (rows_at path es))) [
+        | true ↦ λ on. (on_path path e.0 (omega (arith, ids.0, short)) on ∙ ap (λ n. path ++ replicate (n - length path) star) ids.0, more)
+        | false ↦ λ _. more
+      ] refl
 
-twice : (f g : List ℕ → List ℕ) (es : List Doc) → rekey g (rekey f es) ≡ rekey (λ x. g (f x)) es
-twice f g [] = refl
-twice f g (e ∷ es) = ap (λ t. (g (f e.0), e.1) ∷ t) (twice f g es)
+  twice : (f g : List ℕ → List ℕ) (es : List (List ℕ × S)) → rekey g (rekey f es) ≡ rekey (λ x. g (f x)) es
+  twice f g [] = refl
+  twice f g (e ∷ es) = ap (λ t. (g (f e.0), e.1) ∷ t) (twice f g es)
 
-pub aggregated_is : (k : ℕ) (rows docs : List Doc) (path : List ℕ) → HaveIds k rows → length path ≤ k → docs ≡ merged_docs merged_rows (rekey (starred path) (rows_at path rows))
-    → aggregated merged_rows (length path) docs ≡ one_document (path ++ replicate (k - length path) star) (total merged_rows (λ _. true) (rows_at path rows))
-aggregated_is k rows docs path ids short is =
-    let d = length path in
-    ap (aggregated merged_rows d) is
-    ∙ Merged-rekey dims_order nat_list_cmp_total same_dims dims_order nat_list_cmp_total same_dims merged_rows rows_join (star_from d) (rekey (starred path) (rows_at path rows))
-    ∙ ap (merged_docs merged_rows) (twice (starred path) (star_from d) (rows_at path rows))
-    ∙ one_key (λ x. star_from d (starred path x)) (path ++ replicate (k - d) star) (rows_at path rows) (all_at k path rows ids short)
+  pub aggregated_is : (k : ℕ) (rows docs : List (List ℕ × S)) (path : List ℕ) → HaveIds k rows → length path ≤ k → docs ≡ merged_docs join (rekey (starred path) (rows_at path rows))
+      → aggregated join (length path) docs ≡ one_document (path ++ replicate (k - length path) star) (total join (λ _. true) (rows_at path rows))
+  aggregated_is k rows docs path ids short is =
+      let d = length path in
+      ap (aggregated join d) is
+      ∙ Merged-rekey dims_order nat_list_cmp_total same_dims dims_order nat_list_cmp_total same_dims join j (star_from d) (rekey (starred path) (rows_at path rows))
+      ∙ ap (merged_docs join) (twice (starred path) (star_from d) (rows_at path rows))
+      ∙ one_key (λ x. star_from d (starred path x)) (path ++ replicate (k - d) star) (rows_at path rows) (all_at k path rows ids short)

@@ -11,7 +11,7 @@ use Rattle.agg_laws.specs.declared.aggregate_kind.AggKind.{AggKind}
 use Rattle.agg_laws.specs.declared.states.AggState.{AggState}
 use Rattle.agg_laws.specs.Numbers.{most_stored}
 use Rattle.agg_laws.specs.Rows.{row_of, merged_rows, row_weight, RowStored}
-use Rattle.agg_laws.specs.RowLaws as rows
+use Rattle.agg_laws.specs.laws.Rows as rows
 use Rattle.agg_laws.specs.Merged.{IsJoin, join_some, total, add, weights}
 use Rattle.agg_laws.specs.Tree.{dims_order, merged_docs}
 use Rattle.agg_laws.specs.Docs.{Doc, AreStored, FitShares, projected, states_of}

@@ -13,12 +13,65 @@ use Rattle.std.specs.FinMap.Entries.{below_all}
 use Rattle.std.proofs.lemmas.Cmp.{nat_list_cmp_total, nat_cmp_total, ranked}
 use Rattle.agg_laws.specs.declared.tree_shape.TreeShape.{TreeShape}
 use Rattle.agg_laws.specs.Merged.{IsJoin, join_some, total, rekey, Merged}
-use Rattle.agg_laws.specs.Tree.{star, dims_order, dim, set_star, merged_docs, Nodes, none, node, skips, ids_at, docs_with, kids_of, star_kid, under, agrees, starred, rows_at, HaveNoStar, root_of, tree_of}
-use Rattle.agg_laws.specs.Picks.{Task, quiet, has_star}
-use Rattle.agg_laws.specs.Reads.{read_here, reads_of, read_of, cardinality, matched, factor, factors_from, bound}
+use Rattle.agg_laws.specs.Tree.{star, dims_order, dim, set_star, merged_docs, Nodes, none, node, has_star, skips, ids_at, docs_with, kids_of, star_kid, under, agrees, starred, rows_at, HaveNoStar, root_of, tree_of}
+use Rattle.agg_laws.specs.Docs.{HaveIds}
+use Rattle.agg_laws.specs.Documents.{total_doc, one_document}
+use Rattle.agg_laws.specs.Picks.{Task, Pick, quiet, is_taken, picks_here, picks_of, picks, IsTotal, read_of}
+use Rattle.agg_laws.specs.Reads.{cardinality, matched, factor, factors_from, bound}
 use Rattle.agg_laws.proofs.MergedLemmas.{total-rekey, total-Merged, total_agree, find_total, is_sorted-Merged}
 use Rattle.agg_laws.proofs.TreeLemmas.{same_dims, dim-starred, total_rows, Avoids, own_docs, star_docs, Avoids-ids, length_more, all_rows}
+use Rattle.agg_laws.proofs.NodeLemmas.{total_is}
 use Rattle.agg_laws.proofs.PickLemmas.{key_eq, has_star-kids, star_flag}
+
+-- what is read, without the paths
+module _ {S : Type 0} (join : S → S → S) where
+  abbrev read_here : Task → ℕ → ℕ → List (List ℕ × S) → Nodes S → ℕ → ℕ
+  read_here t k d docs none below = cond (quiet t (k - d) d) (length (total_doc join d docs none)) (length docs)
+  read_here t k d docs (node id own kids rest) below = cond (quiet t (k - d) d) (length (total_doc join d docs (node id own kids rest))) below
+
+  abbrev reads_of : Task → ℕ → Bool → ℕ → Nodes S → ℕ
+  reads_of t k starred d none = 0
+  reads_of t k starred d (node id docs kids rest) =
+      cond (is_taken t starred d id) (read_here t k (suc d) docs kids (reads_of t k (has_star kids) (suc d) kids)) 0 + reads_of t k starred d rest
+
+  read_of-append : (ps qs : List (Pick S)) → read_of (ps ++ qs) ≡ read_of ps + read_of qs
+  read_of-append [] qs = omega arith
+  read_of-append (p ∷ ps) qs = let more = read_of-append ps qs in omega (arith, more)
+
+  one_read : (n : ℕ) → n + 0 ≡ n
+  one_read n = omega arith
+
+  module _ (t : Task) (k : ℕ) where
+    here_read : (d : ℕ) (path : List ℕ) (docs : List (List ℕ × S)) (kids : Nodes S) (below : List (Pick S)) (n : ℕ) → read_of below ≡ n → read_of (picks_here join t k d path docs kids below) ≡ read_here t k d docs kids n
+    here_read d path docs none below n e =
+        elim (quiet t (k - d) d) as (λ b. read_of (cond b (record { path = path; level = k; docs = total_doc join d docs none } ∷ []) (record { path = path; level = d; docs = docs } ∷ []))
+        ≡ cond b (length (total_doc join d docs none)) (length docs)) [ true ↦ one_read (length (total_doc join d docs none)) | false ↦ one_read (length docs) ]
+    here_read d path docs (node id own kids rest) below n e =
+        let whole = total_doc join d docs (node id own kids rest) in
+        elim (quiet t (k - d) d) as (λ b. read_of (cond b (record { path = path; level = k; docs = whole } ∷ []) below) ≡ cond b (length whole) n) [ true ↦ one_read (length whole) | false ↦ e ]
+
+    taken_read : (b : Bool) (ps : List (Pick S)) (n : ℕ) → read_of ps ≡ n → read_of (cond b ps []) ≡ cond b n 0
+    taken_read true ps n e = e
+    taken_read false ps n e = refl
+
+    kids_are_read : (b : Bool) (d : ℕ) (path : List ℕ) (kids : Nodes S) → read_of (picks_of join t k b d path kids) ≡ reads_of t k b d kids
+    kids_are_read b d path none = refl
+    kids_are_read b d path (node id docs kids rest) =
+        let here = picks_here join t k (suc d) (path ++ (id ∷ [])) docs kids (picks_of join t k (has_star kids) (suc d) (path ++ (id ∷ [])) kids) in
+        let n = read_here t k (suc d) docs kids (reads_of t k (has_star kids) (suc d) kids) in
+        read_of-append (cond (is_taken t b d id) here []) (picks_of join t k b d path rest)
+        ∙ (λ i. taken_read (is_taken t b d id) here n (here_read (suc d) (path ++ (id ∷ [])) docs kids _ _ (kids_are_read (has_star kids) (suc d) (path ++ (id ∷ [])) kids)) i + kids_are_read b d path rest i)
+
+    node_is_read : (docs : List (List ℕ × S)) (kids : Nodes S) → read_of (picks_here join t k 0 [] docs kids (picks_of join t k (has_star kids) 0 [] kids)) ≡ read_here t k 0 docs kids (reads_of t k (has_star kids) 0 kids)
+    node_is_read docs kids = here_read 0 [] docs kids _ _ (kids_are_read (has_star kids) 0 [] kids)
+
+    -- a document that stands for rows is one at most
+    few_documents : (ids : List ℕ) (o : Option S) → length (one_document ids o) ≤ 1
+    few_documents ids None = omega arith
+    few_documents ids (Some s) = omega arith
+
+    pub one_whole : (rows : List (List ℕ × S)) (path : List ℕ) (docs : List (List ℕ × S)) → IsTotal join rows path docs → length docs ≤ 1
+    one_whole rows path docs h = subst (λ l. length l ≤ 1) (sym h.docs_are) (few_documents h.ids (total join (λ _. true) (rows_at path rows)))
 
 -- an id is among some
 abbrev has : ℕ → List ℕ → Bool
@@ -26,11 +79,11 @@ has v [] = false
 has v (w ∷ ws) = if w == v then true else has v ws
 
 -- ids that ascend, each once
-abbrev Above : ℕ → List ℕ → Type 0
+abbrev pub Above : ℕ → List ℕ → Type 0
 Above v [] = Unit {0}
 Above v (w ∷ ws) = (v < w) × Above v ws
 
-abbrev Ascending : List ℕ → Type 0
+abbrev pub Ascending : List ℕ → Type 0
 Ascending [] = Unit {0}
 Ascending (v ∷ vs) = Above v vs × Ascending vs
 
@@ -159,7 +212,7 @@ module _ {S : Type 0} (join : S → S → S) (j : IsJoin join) where
       ∙ total-rekey join j (dim d) (eq_by_cmp nat_cmp v) docs)
       ∙ some_total (λ x. eq_by_cmp nat_cmp v (dim d x)) docs
 
-  ids_ascend : (d : ℕ) (docs : List (List ℕ × S)) → Ascending (ids_at join d docs)
+  pub ids_ascend : (d : ℕ) (docs : List (List ℕ × S)) → Ascending (ids_at join d docs)
   ids_ascend d docs = keys_ascend (Merged nat_cmp join (rekey (dim d) docs)) (is_sorted-Merged nat_cmp nat_cmp_total nat_cmp-IsAntisymmetric join j (rekey (dim d) docs))
 
   -- the ids of a node's documents are ids of the rows
@@ -238,19 +291,19 @@ no_docs join j d (e ∷ es) h =
     let no : has v (ids_at join d (e ∷ es)) ≡ false = ap (has v) h in
     cc
 
-module _ {S : Type 0} (join : S → S → S) (j : IsJoin join) (t : Task) (k : ℕ) (shape : TreeShape) (rows : List (List ℕ × S)) (no_star : HaveNoStar k rows) (some_leaf : 1 ≤ shape.leaf)
+module _ {S : Type 0} (join : S → S → S) (j : IsJoin join) (t : Task) (k : ℕ) (shape : TreeShape) (rows : List (List ℕ × S)) (ids : HaveIds k rows) (no_star : HaveNoStar k rows) (some_leaf : 1 ≤ shape.leaf)
     (some : (i : ℕ) → i < k → 1 ≤ factor join t shape rows i) where
   -- what the ordinary children read
   kids_read : (s : Bool) (d n : ℕ) (docs : List (List ℕ × S)) (below : List (List ℕ × S) → Nodes S) (last : Nodes S)
-      → ((v : ℕ) → (v == star) ≡ false → read_here t k (suc d) (docs_with d v docs) (below (docs_with d v docs)) (reads_of t k (has_star (below (docs_with d v docs))) (suc d) (below (docs_with d v docs))) ≤ n)
+      → ((v : ℕ) → (v == star) ≡ false → read_here join t k (suc d) (docs_with d v docs) (below (docs_with d v docs)) (reads_of join t k (has_star (below (docs_with d v docs))) (suc d) (below (docs_with d v docs))) ≤ n)
       → (vs : List ℕ) → Avoids vs
-      → reads_of t k s d (kids_of below d docs last vs) ≤ taken_of (t.filtered d) (t.grouped d) s (length (filter (t.passes d) vs)) (length vs) * n + reads_of t k s d last
+      → reads_of join t k s d (kids_of below d docs last vs) ≤ taken_of (t.filtered d) (t.grouped d) s (length (filter (t.passes d) vs)) (length vs) * n + reads_of join t k s d last
   kids_read s d n docs below last each [] av = omega arith
   kids_read s d n docs below last each (v ∷ vs) av =
       let own = below (docs_with d v docs) in
-      let r = read_here t k (suc d) (docs_with d v docs) own (reads_of t k (has_star own) (suc d) own) in
-      let rest = reads_of t k s d (kids_of below d docs last vs) in
-      let end = reads_of t k s d last in
+      let r = read_here join t k (suc d) (docs_with d v docs) own (reads_of join t k (has_star own) (suc d) own) in
+      let rest = reads_of join t k s d (kids_of below d docs last vs) in
+      let end = reads_of join t k s d last in
       let passing = filter (t.passes d) vs in
       let step = one_kid (t.filtered d) (t.grouped d) s (t.passes d v) r (length passing) (length vs) n rest end (each v av.0) (kids_read s d n docs below last each vs av.1) in
       subst (λ b. cond (cond (t.filtered d) (not b && t.passes d v) (cond (t.grouped d) (not b) (cond s b true))) r 0 + rest
@@ -259,9 +312,9 @@ module _ {S : Type 0} (join : S → S → S) (j : IsJoin join) (t : Task) (k : �
       ≤ taken_of (t.filtered d) (t.grouped d) s m (suc (length vs)) * n + end) (sym (pass_length (t.passes d v) v passing)) step)
 
   -- what the star child reads
-  star_kid_read : (s : Bool) (d n : ℕ) (docs : List (List ℕ × S)) (kids : Nodes S) → read_here t k (suc d) docs kids (reads_of t k (has_star kids) (suc d) kids) ≤ n
-      → reads_of t k s d (cond s (node star docs kids none) none) ≤ cond s (cond (t.filtered d) 0 (cond (t.grouped d) 0 n)) 0
-  star_kid_read true d n docs kids h = star_read (t.filtered d) (t.grouped d) true (t.passes d star) (read_here t k (suc d) docs kids (reads_of t k (has_star kids) (suc d) kids)) n h
+  star_kid_read : (s : Bool) (d n : ℕ) (docs : List (List ℕ × S)) (kids : Nodes S) → read_here join t k (suc d) docs kids (reads_of join t k (has_star kids) (suc d) kids) ≤ n
+      → reads_of join t k s d (cond s (node star docs kids none) none) ≤ cond s (cond (t.filtered d) 0 (cond (t.grouped d) 0 n)) 0
+  star_kid_read true d n docs kids h = star_read (t.filtered d) (t.grouped d) true (t.passes d star) (read_here join t k (suc d) docs kids (reads_of join t k (has_star kids) (suc d) kids)) n h
   star_kid_read false d n docs kids h = omega arith
 
   -- the factors that are left come to one at least
@@ -278,17 +331,18 @@ module _ {S : Type 0} (join : S → S → S) (j : IsJoin join) (t : Task) (k : �
   at_least : (more d : ℕ) → d + more ≡ k → shape.leaf ≤ shape.leaf * factors_from join t shape rows more d
   at_least more d sum = let le = mul-le-mul_left shape.leaf (some_left more d sum) in omega (arith, le)
 
-  here_bound : (more d : ℕ) (docs : List (List ℕ × S)) (kids : Nodes S) (below n : ℕ) → 1 ≤ n → (kids ≡ none → quiet t (k - d) d ≡ false → length docs ≤ n) → below ≤ n → read_here t k d docs kids below ≤ n
-  here_bound more d docs none below n p q r = elim (quiet t (k - d) d) as (λ b. quiet t (k - d) d ≡ b → cond b 1 (length docs) ≤ n) [ true ↦ λ _. p | false ↦ λ e. q refl e ] refl
-  here_bound more d docs (node id own kids rest) below n p q r = elim (quiet t (k - d) d) as (λ b. cond b 1 below ≤ n) [ true ↦ p | false ↦ r ]
+  here_bound : (d : ℕ) (docs : List (List ℕ × S)) (kids : Nodes S) (below n : ℕ) → 1 ≤ n → length (total_doc join d docs kids) ≤ 1 → (kids ≡ none → quiet t (k - d) d ≡ false → length docs ≤ n) → below ≤ n → read_here join t k d docs kids below ≤ n
+  here_bound d docs none below n p w q r = elim (quiet t (k - d) d) as (λ b. quiet t (k - d) d ≡ b → cond b (length (total_doc join d docs none)) (length docs) ≤ n) [ true ↦ λ _. omega (arith, p, w) | false ↦ λ e. q refl e ] refl
+  here_bound d docs (node id own kids rest) below n p w q r = elim (quiet t (k - d) d) as (λ b. cond b (length (total_doc join d docs (node id own kids rest))) below ≤ n) [ true ↦ omega (arith, p, w) | false ↦ r ]
 
   -- what a node of level d reads
   pub node_read : (more d : ℕ) (path : List ℕ) (docs : List (List ℕ × S)) → d ≡ length path → d + more ≡ k → docs ≡ merged_docs join (rekey (starred path) (rows_at path rows))
-      → read_here t k d docs (under join shape more d docs) (reads_of t k (has_star (under join shape more d docs)) d (under join shape more d docs)) ≤ shape.leaf * factors_from join t shape rows more d
+      → read_here join t k d docs (under join shape more d docs) (reads_of join t k (has_star (under join shape more d docs)) d (under join shape more d docs)) ≤ shape.leaf * factors_from join t shape rows more d
   node_read zero d path docs at sum is =
       let z : k - d ≡ 0 = omega arith in
       let le : 1 ≤ shape.leaf * 1 = omega (arith, some_leaf) in
-      subst (λ m. cond (quiet t m d) 1 (length docs) ≤ shape.leaf * 1) (sym z) le
+      let w : length (total_doc join d docs none) ≤ 1 = one_whole join t k rows path (total_doc join d docs none) (total_is join j k shape rows ids no_star zero d path docs at sum is) in
+      subst (λ m. cond (quiet t m d) (length (total_doc join d docs none)) (length docs) ≤ shape.leaf * 1) (sym z) (omega (arith, le, w))
   node_read (suc more) d path docs at sum is =
       let below = under join shape more (suc d) in
       let sd = merged_docs join (rekey (set_star d) docs) in
@@ -311,23 +365,26 @@ module _ {S : Type 0} (join : S → S → S) (j : IsJoin join) (t : Task) (k : �
       let passing = subst (λ m. length (filter (t.passes d) (ids_at join m docs)) ≤ length (filter (t.passes d) (ids_at join m rows))) (sym at) (pass_within join j (t.passes d) path rows docs is) in
       let every = subst (λ m. length (filter (λ _. true) (ids_at join m docs)) ≤ length (filter (λ _. true) (ids_at join m rows))) (sym at) (pass_within join j (λ _. true) path rows docs is) in
       let most : length vs ≤ cardinality join t shape rows d = omega (arith, every, filter_all vs, filter_all (ids_at join d rows)) in
-      let all : reads_of t k s d kids ≤ factor join t shape rows d * n =
-      by_factor (t.filtered d) (t.grouped d) (skips shape d) (nat_lt 1 (length vs)) (length (filter (t.passes d) vs)) (length vs) (matched join t shape rows d) (cardinality join t shape rows d) n (reads_of t k s d kids)
+      let all : reads_of join t k s d kids ≤ factor join t shape rows d * n =
+      by_factor (t.filtered d) (t.grouped d) (skips shape d) (nat_lt 1 (length vs)) (length (filter (t.passes d) vs)) (length vs) (matched join t shape rows d) (cardinality join t shape rows d) n (reads_of join t k s d kids)
       passing most (few (length vs)) (omega (arith, ordinary, star_part)) in
-      let whole : reads_of t k (has_star kids) d kids ≤ shape.leaf * (factor join t shape rows d * q) =
-      subst (λ b. reads_of t k b d kids ≤ shape.leaf * (factor join t shape rows d * q)) (sym flag) (subst (λ m. reads_of t k s d kids ≤ m) (turned shape.leaf (factor join t shape rows d) q) all) in
+      let whole : reads_of join t k (has_star kids) d kids ≤ shape.leaf * (factor join t shape rows d * q) =
+      subst (λ b. reads_of join t k b d kids ≤ shape.leaf * (factor join t shape rows d * q)) (sym flag) (subst (λ m. reads_of join t k s d kids ≤ m) (turned shape.leaf (factor join t shape rows d) q) all) in
       let enough : shape.leaf ≤ shape.leaf * (factor join t shape rows d * q) = at_least (suc more) d sum in
       let one : 1 ≤ shape.leaf * (factor join t shape rows d * q) = omega (arith, enough, some_leaf) in
-      elim (nat_le (length docs) shape.leaf) as (λ b. nat_le (length docs) shape.leaf ≡ b → read_here t k d docs (cond b none kids) (reads_of t k (has_star (cond b none kids)) d (cond b none kids)) ≤ shape.leaf * (factor join t shape rows d * q)) [
-        | true ↦ λ e. here_bound (suc more) d docs none 0 (shape.leaf * (factor join t shape rows d * q)) one (λ _ _. fits (length docs) shape.leaf (shape.leaf * (factor join t shape rows d * q)) e enough) (omega arith)
-        | false ↦ λ e. here_bound (suc more) d docs kids (reads_of t k (has_star kids) d kids) (shape.leaf * (factor join t shape rows d * q)) one
+      let w : length (total_doc join d docs (under join shape (suc more) d docs)) ≤ 1 = one_whole join t k rows path _ (total_is join j k shape rows ids no_star (suc more) d path docs at sum is) in
+      elim (nat_le (length docs) shape.leaf) as (λ b. nat_le (length docs) shape.leaf ≡ b → length (total_doc join d docs (cond b none kids)) ≤ 1 → read_here join t k d docs (cond b none kids) (reads_of join t k (has_star (cond b none kids)) d (cond b none kids)) ≤ shape.leaf * (factor join t shape rows d * q)) [
+        | true ↦ λ e w. here_bound d docs none 0 (shape.leaf * (factor join t shape rows d * q)) one w (λ _ _. fits (length docs) shape.leaf (shape.leaf * (factor join t shape rows d * q)) e enough) (omega arith)
+        | false ↦ λ e w. here_bound d docs kids (reads_of join t k (has_star kids) d kids) (shape.leaf * (factor join t shape rows d * q)) one w
             (λ h _. let empty = ap length (no_docs join j d docs (no_kids below d docs last vs h)) in omega (arith, empty)) whole
-      ] refl
+      ] refl w
 
   -- what a tree reads
-  root_read : (docs : List (List ℕ × S)) → docs ≡ merged_docs join rows → read_of t k (root_of join shape k docs) ≤ bound join t shape rows k
+  root_read : (docs : List (List ℕ × S)) → docs ≡ merged_docs join rows → read_of (picks join t k (root_of join shape k docs)) ≤ bound join t shape rows k
   root_read [] is = omega arith
-  root_read (e ∷ es) is = node_read k 0 [] (e ∷ es) refl (omega arith) (is ∙ ap (merged_docs join) (sym (all_rows join j rows)))
+  root_read (e ∷ es) is =
+      subst (λ n. n ≤ bound join t shape rows k) (sym (node_is_read join t k (e ∷ es) (under join shape k 0 (e ∷ es))))
+      (node_read k 0 [] (e ∷ es) refl (omega arith) (is ∙ ap (merged_docs join) (sym (all_rows join j rows))))
 
-  pub tree_read : read_of t k (tree_of join shape k rows) ≤ bound join t shape rows k
+  pub tree_read : read_of (picks join t k (tree_of join shape k rows)) ≤ bound join t shape rows k
   tree_read = root_read (merged_docs join rows) refl

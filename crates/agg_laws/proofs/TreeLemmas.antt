@@ -99,7 +99,7 @@ module _ {S : Type 0} (join : S → S → S) (j : IsJoin join) where
   total_rows q path rows = total-rekey join j (starred path) q (rows_at path rows) ∙ total-filter join j (λ x. q (starred path x)) (agrees path) rows
 
   module _ (path : List ℕ) (rows docs : List (List ℕ × S)) (is : docs ≡ merged_docs join (rekey (starred path) (rows_at path rows))) where
-    covers_rows : CoversRows join rows path docs
+    pub covers_rows : CoversRows join rows path docs
     covers_rows = record {
       docs_are = is;
       total_is = ap (total join (λ _. true)) is ∙ total-Merged dims_order nat_list_cmp_total same_dims join j (λ _. true) (rekey (starred path) (rows_at path rows)) ∙ total-rekey join j (starred path) (λ _. true) (rows_at path rows);

@@ -12,11 +12,12 @@ Doc = List ℕ × List AggState
 abbrev pub doc_of : StarRow → Doc
 doc_of row = (row.dims, row.states)
 
--- a table of documents, and the shape that they all have
+-- a table of documents, the shape that they all have, and how many more there is room for
 pub record Docs : Type 0 where
   pub dims : ℕ
   pub kinds : List AggKind
   pub docs : List Doc
+  pub spare : ℕ
 
 -- each document has an id for each of k dimensions and a state of each kind
 abbrev pub HaveShape : ℕ → List AggKind → List Doc → Type 0
@@ -24,7 +25,7 @@ HaveShape k ks [] = Unit {0}
 HaveShape k ks (e ∷ es) = (length e.0 ≡ k) × (kinds_of e.1 ≡ ks) × HaveShape k ks es
 
 -- each document has k ids
-abbrev pub HaveIds : ℕ → List Doc → Type 0
+abbrev pub HaveIds : {S : Type 0} → ℕ → List (List ℕ × S) → Type 0
 HaveIds k [] = Unit {0}
 HaveIds k (e ∷ es) = (length e.0 ≡ k) × HaveIds k es
 

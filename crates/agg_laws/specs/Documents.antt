@@ -1,8 +1,7 @@
 -- All documents of a tree, in the order in which its nodes are visited.
 use Rattle.std.specs.Prelude.{ℕ, zero, suc, if◌then◌else◌, ◌==◌, Option, Some, None, List, [], ◌∷◌, ◌++◌, length}
 use Rattle.agg_laws.specs.Merged.{rekey}
-use Rattle.agg_laws.specs.Tree.{star, merged_docs, Nodes, none, node}
-use Rattle.agg_laws.specs.Picks.{has_star}
+use Rattle.agg_laws.specs.Tree.{star, merged_docs, Nodes, none, node, has_star}
 
 -- the ids from a level on set to star
 abbrev pub star_from : ℕ → List ℕ → List ℕ
@@ -19,6 +18,19 @@ module _ {S : Type 0} (join : S → S → S) where
   -- the aggregated document of a node of level d
   abbrev pub aggregated : ℕ → List (List ℕ × S) → List (List ℕ × S)
   aggregated d docs = merged_docs join (rekey (star_from d) docs)
+
+  -- the one document that stands for all documents of a node of level d: its own at a leaf of one document, else that of its star child, else the
+  -- aggregated document
+  abbrev pub total_here : ℕ → List (List ℕ × S) → Nodes S → List (List ℕ × S) → List (List ℕ × S)
+  total_here d docs none below = if length docs == 1 then docs else aggregated d docs
+  total_here d docs (node id own kids rest) below = below
+
+  abbrev pub total_below : ℕ → List (List ℕ × S) → Nodes S → List (List ℕ × S)
+  total_below d docs none = aggregated d docs
+  total_below d docs (node id own kids rest) = if id == star then total_here (suc d) own kids (total_below (suc d) own kids) else total_below d docs rest
+
+  abbrev pub total_doc : ℕ → List (List ℕ × S) → Nodes S → List (List ℕ × S)
+  total_doc d docs kids = total_here d docs kids (total_below d docs kids)
 
   -- what the visit of a node of level d appends, with what the visits of its children append: an aggregated document at a leaf of several documents;
   -- else the documents of the star child, those of the children's visits, and where there is no star child the aggregated document

@@ -1,5 +1,5 @@
 -- The nested tree of a list of rows, and what each of its nodes covers.
-use Rattle.std.specs.Prelude.{◌≡◌, ◌≢◌, ℕ, zero, suc, ◌<◌, ◌/◌, ◌%◌, ◌^◌, Bool, true, if◌then◌else◌, ◌==◌, nat_le, nat_lt, not, ◌&&◌, ◌||◌, List, [], ◌∷◌, ◌++◌, map, length, slice_index_or, slice_set}
+use Rattle.std.specs.Prelude.{◌≡◌, ◌≢◌, ℕ, zero, suc, ◌<◌, ◌/◌, ◌%◌, ◌^◌, Bool, true, false, if◌then◌else◌, ◌==◌, nat_le, nat_lt, not, ◌&&◌, ◌||◌, List, [], ◌∷◌, ◌++◌, map, length, slice_index_or, slice_set}
 use Rattle.std.specs.List.{filter}
 use Rattle.std.specs.declared.cmp.Ordering.{Ordering}
 use Rattle.std.specs.Ordering.{nat_cmp}
@@ -31,6 +31,11 @@ merged_docs join rows = Merged dims_order join rows
 pub data Nodes (S : Type 0) : Type 0 where
   none : Nodes S
   node : ℕ → List (List ℕ × S) → Nodes S → Nodes S → Nodes S
+
+-- nodes of which one is a star child
+abbrev pub has_star : {S : Type 0} → Nodes S → Bool
+has_star none = false
+has_star (node id docs kids rest) = if id == star then true else has_star rest
 
 -- no star child is made for this split dimension
 abbrev pub skips : TreeShape → ℕ → Bool

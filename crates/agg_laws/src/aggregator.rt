@@ -83,6 +83,8 @@ pub trait Aggregator {
 
     ghost fits_both: { (v w : Self.State) (n m : ℕ) → fits v n → fits w m → fits (merged v w) (n + m) };
 
+    ghost fits_more: { (v : Self.State) (n m : ℕ) → fits v n → n ≤ m → fits v m };
+
     ghost stored_fits: { (v : Self.State) → stored v → fits v most_stored };
 
     /// Each stored state has one spelling, and each spelling belongs to one such state.

@@ -27,7 +27,7 @@ fn is_stored(state: AverageState) -> bool
 impl Aggregator for Average {
     ghost use Rattle.std.specs.Prelude.{pos, refl};
     ghost use Rattle.agg_laws.specs.Numbers.{average_of, both_averages, AverageFits, AverageStored, average_bytes};
-    ghost use Rattle.agg_laws.specs.AverageLaws as laws;
+    ghost use Rattle.agg_laws.specs.laws.Averages as laws;
 
     type State = AverageState;
 
@@ -62,6 +62,8 @@ impl Aggregator for Average {
     ghost fits_of = { laws.fits_of };
 
     ghost fits_both = { laws.fits_both };
+
+    ghost fits_more = { laws.fits_more };
 
     ghost stored_fits = { laws.stored_fits };
 

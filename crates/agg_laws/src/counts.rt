@@ -11,7 +11,7 @@ pub struct Count;
 impl Aggregator for Count {
     ghost use Rattle.std.specs.Prelude.{◌+◌, ◌≤◌, length, refl};
     ghost use Rattle.agg_laws.specs.Numbers.{CountStored, count_bytes};
-    ghost use Rattle.agg_laws.specs.CountLaws as laws;
+    ghost use Rattle.agg_laws.specs.laws.Counts as laws;
 
     type State = u64;
 
@@ -46,6 +46,8 @@ impl Aggregator for Count {
     ghost fits_of = { laws.fits_of };
 
     ghost fits_both = { laws.fits_both };
+
+    ghost fits_more = { laws.fits_more };
 
     ghost stored_fits = { laws.stored_fits };
 

@@ -12,8 +12,8 @@ pub struct Greatest;
 impl Aggregator for Least {
     ghost use Rattle.std.specs.Prelude.{None, refl};
     ghost use Rattle.agg_laws.specs.Numbers.{least_of, lesser, NumberFits, NumberStored, number_bytes};
-    ghost use Rattle.agg_laws.specs.LeastLaws as laws;
-    ghost use Rattle.agg_laws.specs.NumberBytes as bytes;
+    ghost use Rattle.agg_laws.specs.laws.Leasts as laws;
+    ghost use Rattle.agg_laws.specs.laws.NumberBytes as bytes;
 
     type State = Option<i64>;
 
@@ -48,6 +48,8 @@ impl Aggregator for Least {
     ghost fits_of = { laws.fits_of };
 
     ghost fits_both = { λ v w n m. laws.fits_both v w };
+
+    ghost fits_more = { λ v n m h le. h };
 
     ghost stored_fits = { laws.stored_fits };
 
@@ -88,8 +90,8 @@ impl Aggregator for Least {
 impl Aggregator for Greatest {
     ghost use Rattle.std.specs.Prelude.{None, refl};
     ghost use Rattle.agg_laws.specs.Numbers.{greatest_of, greater, NumberFits, NumberStored, number_bytes};
-    ghost use Rattle.agg_laws.specs.GreatestLaws as laws;
-    ghost use Rattle.agg_laws.specs.NumberBytes as bytes;
+    ghost use Rattle.agg_laws.specs.laws.Greatests as laws;
+    ghost use Rattle.agg_laws.specs.laws.NumberBytes as bytes;
 
     type State = Option<i64>;
 
@@ -124,6 +126,8 @@ impl Aggregator for Greatest {
     ghost fits_of = { laws.fits_of };
 
     ghost fits_both = { λ v w n m. laws.fits_both v w };
+
+    ghost fits_more = { λ v n m h le. h };
 
     ghost stored_fits = { laws.stored_fits };
 

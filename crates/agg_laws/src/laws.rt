@@ -21,6 +21,7 @@ pub fn aggregates_law()
     ensures permuted { (k : AggKind) (xs ys : List ℤ) → IsPermutation xs ys → state_of k ys ≡ state_of k xs }
     ensures fits_of { (k : AggKind) (xs : List ℤ) → AreWhole xs → Fits (state_of k xs) (length xs) }
     ensures fits_both { (v w : AggState) (n m : ℕ) → Fits v n → Fits w m → Fits (merged v w) (n + m) }
+    ensures fits_more { (v : AggState) (n m : ℕ) → Fits v n → n ≤ m → Fits v m }
     ensures stored_fits { (v : AggState) → IsStored v → Fits v most_stored }
     ensures spelled { (v : AggState) → IsStored v → length (spelling v) ≡ width_of (kind_of v) }
     ensures one_spelling { (v w : AggState) → kind_of v ≡ kind_of w → IsStored v → IsStored w → spelling v ≡ spelling w → v ≡ w }
@@ -35,6 +36,7 @@ pub fn rows_law()
     ensures any_order { (vs ws : List AggState) → merged_rows vs ws ≡ merged_rows ws vs }
     ensures permuted { (ks : List AggKind) (xs ys : List (List ℤ)) → IsPermutation xs ys → row_of ks ys ≡ row_of ks xs }
     ensures fits_both { (vs ws : List AggState) (n m : ℕ) → RowFits vs n → RowFits ws m → RowFits (merged_rows vs ws) (n + m) }
+    ensures fits_more { (vs : List AggState) (n m : ℕ) → RowFits vs n → n ≤ m → RowFits vs m }
 {}
 
 /// The weight of states is the least number of values that they can come from. Weights add up when states are merged,

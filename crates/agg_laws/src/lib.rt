@@ -10,8 +10,8 @@ mod extremes;
 mod id_list;
 mod kind_list;
 mod laws;
+mod node;
 mod numbers;
-mod plain_tree;
 mod star_row;
 mod star_table;
 mod state_row;
@@ -29,19 +29,17 @@ pub use extremes::{Greatest, Least};
 pub use id_list::{Ids, STAR};
 pub use kind_list::Kinds;
 pub use laws::{aggregates_law, extremes_law, order_law, rows_law, weights_law};
-pub use plain_tree::tree_documents;
+pub use node::Node;
 pub use star_row::StarRow;
 pub use star_table::StarTable;
 pub use state_row::StateRow;
 pub use states::AggState;
 pub use sums::Sum;
 pub use tree_laws::{
-    aggregated_law, covers_law, merged_law, picks_law, projected_law, reads_law, shares_law,
+    aggregated_law, answer_law, children_law, covers_law, flat_law, merged_law, node_rules_law, picks_law,
+    projected_law, reads_law, shares_law, worked_law,
 };
 pub use tree_shape::TreeShape;
 
 /// A growth was refused.
 pub type NoMemory = std::alloc::AllocError;
-
-#[cfg(test)]
-mod tests;

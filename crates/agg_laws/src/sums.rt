@@ -21,7 +21,7 @@ pub fn sum_fits(sum: i128, count: u64) -> bool
 impl Aggregator for Sum {
     ghost use Rattle.std.specs.Prelude.{◌+ℤ◌, pos, refl};
     ghost use Rattle.agg_laws.specs.Numbers.{sum_of, SumFits, SumStored, sum_bytes};
-    ghost use Rattle.agg_laws.specs.SumLaws as laws;
+    ghost use Rattle.agg_laws.specs.laws.Sums as laws;
 
     type State = i128;
 
@@ -56,6 +56,8 @@ impl Aggregator for Sum {
     ghost fits_of = { laws.fits_of };
 
     ghost fits_both = { laws.fits_both };
+
+    ghost fits_more = { laws.fits_more };
 
     ghost stored_fits = { λ v h. h };
 

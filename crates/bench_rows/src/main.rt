@@ -1,7 +1,8 @@
-//! Reads a schema and a CSV file over it, and prints how many rows it has: what the benchmark of reading rows runs.
+//! Reads a schema and a CSV file over it into columns, and prints how many rows they are: what the benchmark of
+//! reading runs.
 #![tactic(auto)]
 
-use csv_ingest::read_rows;
+use csv_ingest::read_columns;
 use outside::{FolderShelf, read_all};
 use std::process::ExitCode;
 use std::{env, io};
@@ -24,8 +25,8 @@ fn count_rows(rt: &HostRuntime, schema: &str, rows: &str) -> io::Result<Option<u
     let Ok(text) = read_all(alloc, &mut files, rows, CSV_LIMIT) else {
         return Ok(None);
     };
-    match read_rows(alloc, &schema, text.as_slice()) {
-        Ok(rows) => Ok(Some(rows.len())),
+    match read_columns(alloc, &schema, text.as_slice()) {
+        Ok(columns) => Ok(Some(columns.len())),
         Err(_) => Ok(None),
     }
 }

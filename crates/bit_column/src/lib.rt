@@ -17,6 +17,3 @@ pub use range::read_range;
 pub use reading::at;
 pub use width::width_for;
 pub use writing::write;
-
-#[cfg(test)]
-mod tests;

@@ -1,4 +1,5 @@
 mod CellLemmas
+mod ColumnLemmas
 mod CountLemmas
 mod Fields
 mod HeaderLemmas
@@ -10,3 +11,4 @@ mod PlainLemmas
 mod ReadingLemmas
 mod RowLemmas
 mod RowsLemmas
+pub mod ValidLemmas

@@ -19,6 +19,7 @@ use Rattle.csv_ingest.specs.declared.fault.CsvKind.{CsvKind}
 use Rattle.csv_ingest.specs.declared.fault.CsvKind.TheVariants.{NotUtf8, BadHeader, DuplicateHeader, WrongLength}
 use Rattle.csv_ingest.specs.declared.fault.CsvFault.{CsvFault}
 use Rattle.csv_ingest.specs.declared.fault.CsvFault.TheVariants.{At, TooManyRows, TooManyColumns}
+use Rattle.csv_ingest.specs.Columns.{DefaultFits, DefaultsFit}
 use Rattle.csv_ingest.specs.Names.{is_among, is_column_name, plain_field, plain_name}
 use Rattle.csv_ingest.specs.Rows.{all_or_first, cell_value, csv_limits, header_of, is_number, IsNumbers, joined, kinded, Limits, name_at, placed, place_of, plain_in, row_at, rows_of, under, value_at, values_of, with_schema}
 
@@ -119,6 +120,17 @@ header_plain header fields is =
     each (λ x. ⊤) IsPlain (name_at plain_name header)
     (λ (column, name) field _ ok. name_plain (not (is_utf8 name)) (not (is_column_name name)) (is_among name (take (column - 1) header)) name field (placed_ok 0 column (plain_name (take (column - 1) header) name) field ok))
     (enumerate_from 1 header) fields (anything (enumerate_from 1 header)) is
+
+plain_default : (field : Field) → IsPlain field → DefaultFits field
+plain_default field (name, is) = subst DefaultFits (sym is) refl
+
+plain_defaults : (fields : List Field) → AllByRecursion IsPlain fields → AllByRecursion DefaultFits fields
+plain_defaults [] q = tt
+plain_defaults (field ∷ fields) q = (plain_default field q.0, plain_defaults fields q.1)
+
+-- the defaults of columns of whole numbers are numbers
+pub plain-defaults : (header : List (List ℕ)) (fields : List Field) → header_of plain_name header ≡ Ok fields → DefaultsFit fields
+plain-defaults header fields is = All-from_recursion DefaultFits fields (plain_defaults fields (header_plain header fields is))
 
 -- each row of this table has a number for each column
 abbrev Holds : Schema × List (List Value) → Type 0

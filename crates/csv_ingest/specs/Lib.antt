@@ -1,3 +1,5 @@
+pub mod Columns
+pub mod Layouts
 pub mod Names
-pub mod Rows
 pub mod Reading
+pub mod Rows

@@ -2,13 +2,12 @@
 ghost use Rattle.std.specs.Prelude.{◌≡◌, ◌≢◌, ◌≤◌, ◌<◌, ◌^◌, true, false, length, IfOk, IfErr, IfSome, MatchOption, Ok, Err};
 ghost use Rattle.std.specs.Str.{is_utf8};
 ghost use Rattle.csv.specs.Records.{fields_of};
-ghost use Rattle.values.specs.Reading.{value_of};
 ghost use Rattle.csv_ingest.specs.Rows.{cell_value, placed, value_at, value_in};
 
 use crate::records::field as cell;
-use crate::texts::Texts;
 use crate::{CsvFault, CsvKind};
 use csv::ByteRecord;
+use std::alloc::Global;
 use table_schema::Field;
 use values::{FieldKind, MOST_TEXT_BYTES, Value, ValueFault, read_value, read_whole};
 
@@ -23,25 +22,10 @@ pub fn text_of(bytes: &[u8]) -> Option<&str>
     }
 }
 
-// The value of a text, which shares its bytes with an equal one that was met of late.
-fn shared_value(texts: &mut Texts, kind: FieldKind, text: &str) -> Result<Value, ValueFault>
-    ensures ok { IfOk result (λ value. value_of kind text.now ≡ Ok value) }
-    ensures err { IfErr result (λ fault. fault ≢ ValueFault.NoMemory
-        → value_of kind text.now ≡ Err fault) }
-{
-    if let FieldKind::Text = kind {
-        if text.len() > MOST_TEXT_BYTES {
-            return Err(ValueFault::TooLong);
-        }
-        return Ok(Value::Text(texts.name(text)?));
-    }
-    read_value(texts.alloc(), kind, text)
-}
-
 // The value of a text.
 #[inline(never)]
 fn read_text(
-    texts: &mut Texts,
+    alloc: Global,
     kind: FieldKind,
     bytes: &[u8],
     row: u32,
@@ -54,7 +38,7 @@ fn read_text(
     let Some(text) = text_of(bytes) else {
         return Err(CsvFault::At(CsvKind::NotUtf8, row, column));
     };
-    match shared_value(texts, kind, text) {
+    match read_value(alloc, kind, text) {
         Ok(value) => Ok(value),
         Err(ValueFault::NotANumber) => Err(CsvFault::At(CsvKind::NotANumber, row, column)),
         Err(ValueFault::OutOfRange) => Err(CsvFault::At(CsvKind::OutOfRange, row, column)),
@@ -63,8 +47,9 @@ fn read_text(
     }
 }
 
-// The number that some bytes spell, where the field takes numbers: such bytes are UTF-8.
-fn number_in(kind: FieldKind, bytes: &[u8]) -> Option<i64>
+/// The number that some bytes spell, where the field takes numbers: such bytes are UTF-8.
+#[inline(always)]
+pub fn number_in(kind: FieldKind, bytes: &[u8]) -> Option<i64>
     ensures { IfSome result (λ number. value_in kind bytes.now ≡ Ok (Value.Whole number)) }
 {
     match kind {
@@ -74,21 +59,9 @@ fn number_in(kind: FieldKind, bytes: &[u8]) -> Option<i64>
     }
 }
 
-/// The 64-bit number that a cell spells, if it has characters and spells one.
-#[inline(always)]
-pub fn long_in(bytes: &[u8]) -> Option<i64>
-    ensures { IfSome result (λ number. (field : Field) → field.kind ≡ FieldKind.Long
-        → cell_value field bytes.now ≡ Ok (Value.Whole number)) }
-{
-    if bytes.is_empty() {
-        return None;
-    }
-    read_whole(FieldKind::Long, bytes).ok()
-}
-
 // The value of a field in its cell.
 fn read_cell(
-    texts: &mut Texts,
+    alloc: Global,
     field: &Field,
     bytes: &[u8],
     row: u32,
@@ -100,17 +73,17 @@ fn read_cell(
         → placed row column (cell_value field.now bytes.now) ≡ Err fault) }
 {
     if bytes.is_empty() {
-        return Ok(field.default.copy(texts.alloc())?);
+        return Ok(field.default.copy(alloc)?);
     }
     if let Some(number) = number_in(field.kind, bytes) {
         return Ok(Value::Whole(number));
     }
-    read_text(texts, field.kind, bytes, row, column)
+    read_text(alloc, field.kind, bytes, row, column)
 }
 
 /// The value of a field in a record of that number, by its place in the header.
 pub fn read_field(
-    texts: &mut Texts,
+    alloc: Global,
     field: &Field,
     place: Option<usize>,
     cells: &ByteRecord,
@@ -125,7 +98,7 @@ pub fn read_field(
         → value_at row (fields_of cells.now) field.now place ≡ Err fault) }
 {
     match place {
-        None => Ok(field.default.copy(texts.alloc())?),
-        Some(column) => read_cell(texts, field, cell(cells, column - 1), row, column as u32),
+        None => Ok(field.default.copy(alloc)?),
+        Some(column) => read_cell(alloc, field, cell(cells, column - 1), row, column as u32),
     }
 }

@@ -2,19 +2,27 @@
 #![tactic(auto)]
 
 mod cells;
+mod defaults;
 mod fault;
 mod header;
 mod known;
-mod numbers;
+mod laws;
+mod layout;
 mod plain;
 mod records;
 mod row;
 mod rows;
-mod texts;
 
+pub use defaults::defaults_fit;
 pub use fault::{CsvFault, CsvKind};
+<<<<<<< HEAD
 pub use known::read_rows;
 pub use plain::read_plain;
+=======
+pub use known::{read_columns, read_rows};
+pub use laws::defaults_law;
+pub use plain::{read_plain, read_plain_columns};
 
 #[cfg(test)]
 mod tests;
+>>>>>>> 5fa2d6314536ce549f9b35ee27b95d9b623762c0

@@ -1,113 +1,169 @@
-// One record as a row of a table.
-ghost use Rattle.std.specs.Prelude.{◌≡◌, ◌≢◌, ◌≤◌, ◌<◌, ◌^◌, map, length, IfOk, IfErr, IfSome, true, Ok, Err};
-ghost use Rattle.std.specs.List.{position_from};
-ghost use Rattle.std.specs.Str.{bytes_eq};
+// The values of a record at the ends of columns.
+ghost use Rattle.std.specs.Prelude.{◌≡◌, ◌≢◌, ◌≤◌, ◌<◌, ◌^◌, length, OnOk, IfOk, IfErr, IfSome, MatchBool, true, Ok, Err};
+ghost use Rattle.std.specs.Str.{is_utf8};
 ghost use Rattle.csv.specs.Records.{fields_of};
-ghost use Rattle.csv_ingest.specs.Rows.{csv_limits, InOrder, most_rows, place_of, row_at, values_of};
+ghost use Rattle.values.specs.declared.value.Value.TheVariants as value;
+ghost use Rattle.csv_ingest.specs.Rows.{csv_limits, row_at, value_at, value_in, values_of};
+ghost use Rattle.csv_ingest.specs.Columns.{DefaultFits, OfSorts, Pushes, PushesCell, PushesRow, is_text_kind};
+ghost use Rattle.csv_ingest.specs.Layouts.{IsLayout, header_of};
 
-use crate::cells::read_field;
-use crate::numbers::read_numbers;
-use crate::texts::Texts;
+use crate::cells::{number_in, read_field};
+use crate::layout::Layout;
+use crate::records::field as cell;
 use crate::{CsvFault, CsvKind};
 use csv::ByteRecord;
 use std::alloc::{AllocError, Global};
 use table_schema::Field;
-use values::{Row, Seq};
+use values::{Column, FieldKind, MOST_TEXT_BYTES};
 
-// The place of a name in a header, from 1.
-fn place_in(names: &[&[u8]], name: &[u8]) -> Option<usize>
-    ensures { result ≡ position_from (bytes_eq name.now) 1 (map (λ f. f.now) names.now) }
+// Whether some bytes are few enough for a text.
+#[inline(always)]
+fn is_short(bytes: &[u8]) -> bool
+    ensures { result ≡ true → is_utf8 bytes.now ≡ true
+        → value_in FieldKind.Text bytes.now ≡ Ok (value.Text bytes.now) }
 {
-    'names: for i in 0..names.len() {
-        if name == names[i] {
-            return Some(i + 1);
+    bytes.len() <= MOST_TEXT_BYTES
+}
+
+// Adds the value of a cell that has characters, if it is a number or a short text as the kind wants.
+#[inline(always)]
+fn push_cell(column: &mut Column, kind: FieldKind, bytes: &[u8]) -> Result<bool, AllocError>
+    requires { column.old.are_texts ≡ is_text_kind kind }
+    ensures { IfOk result (λ done. MatchBool done
+        (PushesCell kind bytes.now column.old column.new)
+        (column.new ≡ column.old)) }
+{
+    if bytes.is_empty() {
+        return Ok(false);
+    }
+    if let FieldKind::Text = kind {
+        if !is_short(bytes) {
+            return Ok(false);
         }
+        if !column.push_bytes(bytes)? {
+            return Ok(false);
+        }
+        return Ok(true);
     }
-    None
+    let Some(number) = number_in(kind, bytes) else {
+        return Ok(false);
+    };
+    column.push_whole(number)?;
+    Ok(true)
 }
 
-/// Where each field stands in a header.
-pub fn places_of(
-    alloc: Global,
-    fields: &[Field],
-    names: &[&[u8]],
-) -> Result<Vec<Option<usize>>, AllocError>
-    ensures { IfOk result (λ places. places.items ≡ map (place_of
-        (map (λ f. f.now) names.now)) fields.now) }
-{
-    let mut places = Vec::with_capacity(alloc, fields.len())?;
-    for i in 0..fields.len() {
-        places.push(place_in(names, fields[i].name.as_slice()))?;
-    }
-    Ok(places)
-}
-
-// How many rows of so many fields are the most.
-fn most_rows(fields: usize) -> u32
-    ensures { result ≡ most_rows fields }
-{
-    (16_777_216 / fields.max(1)).min(1_048_576) as u32
-}
-
-// The values of a record, field by field.
+// Adds the value of a field that has to be looked at more closely.
 #[inline(never)]
-fn read_values(
+fn push_field_slowly(
     alloc: Global,
-    texts: &mut Texts,
-    fields: &[Field],
-    names: &[&[u8]],
-    places: &[Option<usize>],
+    column: &mut Column,
+    field: &Field,
+    place: Option<usize>,
     cells: &ByteRecord,
     row: u32,
-) -> Result<Row, CsvFault>
-    requires places { places.now ≡ map (place_of (map (λ f. f.now) names.now)) fields.now }
-    requires width { length (fields_of cells.now) ≡ length names.now }
-    requires few { length names.now < 2 ^ 32 }
-    ensures ok { IfOk result (λ values.
-        values_of fields.now (map (λ f. f.now) names.now) row (fields_of cells.now) ≡ Ok values) }
+) -> Result<(), CsvFault>
+    requires first { IfSome place (λ n. 1 ≤ n) }
+    requires within { IfSome place (λ n. n ≤ length (fields_of cells.now)) }
+    requires few { length (fields_of cells.now) < 2 ^ 32 }
+    requires sort { column.old.are_texts ≡ is_text_kind field.now.kind }
+    requires default { DefaultFits field.now }
+    ensures ok { OnOk result (Pushes (value_at row (fields_of cells.now) field.now place)
+        column.old column.new) }
     ensures err { IfErr result (λ fault. fault ≢ CsvFault.NoMemory
-        → values_of fields.now (map (λ f. f.now) names.now) row (fields_of cells.now) ≡ Err fault) }
+        → value_at row (fields_of cells.now) field.now place ≡ Err fault) }
 {
-    let mut values = Seq::with_capacity(alloc, fields.len())?;
-    'values: for i in 0..fields.len() {
-        match read_field(texts, &fields[i], places[i], cells, row) {
-            Ok(value) => values.push(value)?,
-            Err(fault) => return Err(fault),
+    match read_field(alloc, field, place, cells, row) {
+        Ok(value) => {
+            column.push(&value)?;
+            Ok(())
         }
+        Err(fault) => Err(fault),
     }
-    Ok(values)
 }
 
-/// The row of a number, from 1, that a record is under these names.
-pub fn read_row(
+// Adds the value of a field in a record of that number to its column.
+#[inline(always)]
+fn push_field(
     alloc: Global,
-    texts: &mut Texts,
-    fields: &[Field],
-    names: &[&[u8]],
-    places: &[Option<usize>],
-    in_order: bool,
+    column: &mut Column,
+    field: &Field,
+    place: Option<usize>,
     cells: &ByteRecord,
     row: u32,
-) -> Result<Row, CsvFault>
-    requires places { places.now ≡ map (place_of (map (λ f. f.now) names.now)) fields.now }
-    requires few { length names.now < 2 ^ 32 }
-    requires order { in_order ≡ true → InOrder fields.now places.now }
-    ensures ok { IfOk result (λ values.
-        row_at csv_limits fields.now (map (λ f. f.now) names.now) (row, fields_of cells.now)
-        ≡ Ok values) }
+) -> Result<(), CsvFault>
+    requires first { IfSome place (λ n. 1 ≤ n) }
+    requires within { IfSome place (λ n. n ≤ length (fields_of cells.now)) }
+    requires few { length (fields_of cells.now) < 2 ^ 32 }
+    requires sort { column.old.are_texts ≡ is_text_kind field.now.kind }
+    requires default { DefaultFits field.now }
+    ensures ok { OnOk result (Pushes (value_at row (fields_of cells.now) field.now place)
+        column.old column.new) }
     ensures err { IfErr result (λ fault. fault ≢ CsvFault.NoMemory
-        → row_at csv_limits fields.now (map (λ f. f.now) names.now) (row, fields_of cells.now)
-        ≡ Err fault) }
+        → value_at row (fields_of cells.now) field.now place ≡ Err fault) }
 {
-    let most = most_rows(fields.len());
-    if row > most {
-        return Err(CsvFault::TooManyRows(most));
+    if let Some(at) = place {
+        if push_cell(column, field.kind, cell(cells, at - 1))? {
+            return Ok(());
+        }
     }
-    if cells.len() != names.len() {
-        return Err(CsvFault::At(CsvKind::WrongLength, row, 0));
+    push_field_slowly(alloc, column, field, place, cells, row)
+}
+
+impl Layout<'_> {
+    // Adds the values of a record, field by field.
+    #[inline(never)]
+    fn push_values(
+        &self,
+        alloc: Global,
+        columns: &mut Vec<Column>,
+        cells: &ByteRecord,
+        row: u32,
+    ) -> Result<(), CsvFault>
+        requires layout { IsLayout self.now }
+        requires width { length (fields_of cells.now) ≡ length self.now.names.now }
+        requires sorts { OfSorts self.now.fields.now columns.old.items }
+        ensures ok { OnOk result (PushesRow
+            (values_of self.now.fields.now (header_of self.now) row (fields_of cells.now))
+            columns.old.items columns.new.items) }
+        ensures err { IfErr result (λ fault. fault ≢ CsvFault.NoMemory
+            → values_of self.now.fields.now (header_of self.now) row (fields_of cells.now)
+            ≡ Err fault) }
+    {
+        let fields = self.fields;
+        let places = self.places.as_slice();
+        'values: for i in 0..fields.len() {
+            let column = &mut columns[i];
+            match push_field(alloc, column, &fields[i], places[i], cells, row) {
+                Ok(()) => {}
+                Err(fault) => return Err(fault),
+            }
+        }
+        Ok(())
     }
-    if in_order {
-        return read_numbers(alloc, texts, fields, names, places, cells, row);
+
+    /// Adds the row of a number, from 1, that a record is.
+    pub fn push_row(
+        &self,
+        alloc: Global,
+        columns: &mut Vec<Column>,
+        cells: &ByteRecord,
+        row: u32,
+    ) -> Result<(), CsvFault>
+        requires layout { IsLayout self.now }
+        requires sorts { OfSorts self.now.fields.now columns.old.items }
+        ensures ok { OnOk result (PushesRow
+            (row_at csv_limits self.now.fields.now (header_of self.now) (row, fields_of cells.now))
+            columns.old.items columns.new.items) }
+        ensures err { IfErr result (λ fault. fault ≢ CsvFault.NoMemory
+            → row_at csv_limits self.now.fields.now (header_of self.now) (row, fields_of cells.now)
+            ≡ Err fault) }
+    {
+        if row > self.most {
+            return Err(CsvFault::TooManyRows(self.most));
+        }
+        if cells.len() != self.names.len() {
+            return Err(CsvFault::At(CsvKind::WrongLength, row, 0));
+        }
+        self.push_values(alloc, columns, cells, row)
     }
-    read_values(alloc, texts, fields, names, places, cells, row)
 }

@@ -1,79 +1,90 @@
-// The records of a CSV text as rows of a table.
-ghost use Rattle.std.specs.Prelude.{◌≡◌, ◌≢◌, ◌≤◌, ◌<◌, ◌^◌, ℕ, List, map, length, IfOk, IfErr, Ok, Err};
+// The records of a CSV text as columns of a table.
+ghost use Rattle.std.specs.Prelude.{◌≡◌, ◌≢◌, ◌≤◌, ◌<◌, ◌^◌, ℕ, List, map, length, IfOk, IfErr, Ok, Err, []};
+ghost use Rattle.std.specs.List.{All};
+ghost use Rattle.values.specs.Columns.{Counts, rows_of as rows_of_columns};
 ghost use Rattle.csv_ingest.specs.Reading.{Reads, records_left};
-ghost use Rattle.csv_ingest.specs.Rows.{csv_limits, place_of, rows_of};
+ghost use Rattle.csv_ingest.specs.Rows.{csv_limits, rows_of};
+ghost use Rattle.csv_ingest.specs.Columns.{DefaultsFit, OfSorts, is_text_kind};
+ghost use Rattle.csv_ingest.specs.Layouts.{IsLayout, header_of};
 
 use crate::CsvFault;
-use crate::numbers::are_in_order;
+use crate::layout::Layout;
 use crate::records::next_record;
-use crate::row::{places_of, read_row};
-use crate::texts::Texts;
 use csv::{ByteRecord, Reader};
-use std::alloc::Global;
+use std::alloc::{AllocError, Global};
 use table_schema::Field;
-use values::{Rows, Seq};
+use values::{Column, Columns, FieldKind};
 
-// The rows of at most `most` records that are left, whose fields stand at these places.
-fn rows_by(
+fn empty_column(alloc: Global, kind: FieldKind) -> Column
+    ensures { result ≡ record { are_texts = is_text_kind kind; values = [] } }
+{
+    match kind {
+        FieldKind::Int => Column::numbers(alloc),
+        FieldKind::Long => Column::numbers(alloc),
+        FieldKind::Text => Column::texts(alloc),
+    }
+}
+
+// A column with no value for each field.
+fn empty_columns(alloc: Global, fields: &[Field]) -> Result<Vec<Column>, AllocError>
+    ensures sorts { IfOk result (λ columns. OfSorts fields.now columns.items) }
+    ensures empty { IfOk result (λ columns. All (Counts 0) columns.items) }
+{
+    let mut columns = Vec::with_capacity(alloc, fields.len())?;
+    for field in fields {
+        columns.push(empty_column(alloc, field.kind))?;
+    }
+    Ok(columns)
+}
+
+// The rows of at most `most` records that are left, in this layout.
+fn columns_by(
     alloc: Global,
     reader: &mut Reader<&[u8]>,
     most: usize,
-    fields: &[Field],
-    names: &[&[u8]],
-    places: &[Option<usize>],
-) -> Result<Rows, CsvFault>
-    requires places { places.now ≡ map (place_of (map (λ f. f.now) names.now)) fields.now }
+    layout: &Layout,
+) -> Result<Columns, CsvFault>
     requires most { most < 2 ^ 31 }
-    requires few { length names.now < 2 ^ 32 }
-    ensures ok { IfOk result (λ rows. (rest : List ℕ) → Reads reader.old rest
-        → rows_of csv_limits fields.now (map (λ f. f.now) names.now)
-        (records_left most reader.old rest) ≡ Ok rows) }
+    requires layout { IsLayout layout.now }
+    ensures ok { IfOk result (λ table. (rest : List ℕ) → Reads reader.old rest
+        → rows_of csv_limits layout.now.fields.now (header_of layout.now)
+        (records_left most reader.old rest) ≡ Ok (rows_of_columns table)) }
     ensures err { IfErr result (λ fault. fault ≢ CsvFault.NoMemory → (rest : List ℕ)
-        → Reads reader.old rest → rows_of csv_limits fields.now (map (λ f. f.now) names.now)
+        → Reads reader.old rest → rows_of csv_limits layout.now.fields.now (header_of layout.now)
         (records_left most reader.old rest) ≡ Err fault) }
 {
-    let in_order = are_in_order(fields, places);
     let mut record = ByteRecord::new(alloc);
-    let mut texts = Texts::new(alloc);
-    let mut rows = Seq::new(alloc);
+    let mut columns = empty_columns(alloc, layout.fields)?;
     'rows: for i in 0..most {
         if !next_record(reader, &mut record)? {
-            return Ok(rows);
+            return Ok(Columns::new(columns, i));
         }
-        match read_row(
-            alloc,
-            &mut texts,
-            fields,
-            names,
-            places,
-            in_order,
-            &record,
-            i as u32 + 1,
-        ) {
-            Ok(row) => rows.push(row)?,
+        match layout.push_row(alloc, &mut columns, &record, i as u32 + 1) {
+            Ok(()) => {}
             Err(fault) => return Err(fault),
         }
     }
-    Ok(rows)
+    Ok(Columns::new(columns, most))
 }
 
 /// The rows of at most `most` records that are left, below a header of these names.
-pub fn rows_below(
+pub fn columns_below(
     alloc: Global,
     reader: &mut Reader<&[u8]>,
     most: usize,
     fields: &[Field],
     names: &[&[u8]],
-) -> Result<Rows, CsvFault>
+) -> Result<Columns, CsvFault>
     requires most { most < 2 ^ 31 }
     requires few { length names.now < 2 ^ 32 }
-    ensures ok { IfOk result (λ rows. (rest : List ℕ) → Reads reader.old rest
+    requires defaults { DefaultsFit fields.now }
+    ensures ok { IfOk result (λ table. (rest : List ℕ) → Reads reader.old rest
         → rows_of csv_limits fields.now (map (λ f. f.now) names.now)
-        (records_left most reader.old rest) ≡ Ok rows) }
+        (records_left most reader.old rest) ≡ Ok (rows_of_columns table)) }
     ensures err { IfErr result (λ fault. fault ≢ CsvFault.NoMemory → (rest : List ℕ)
         → Reads reader.old rest → rows_of csv_limits fields.now (map (λ f. f.now) names.now)
         (records_left most reader.old rest) ≡ Err fault) }
 {
-    let places = places_of(alloc, fields, names)?;
-    rows_by(alloc, reader, most, fields, names, &places)
+    let layout = Layout::new(alloc, fields, names)?;
+    columns_by(alloc, reader, most, &layout)
 }

@@ -6,7 +6,7 @@ use Rattle.std.proofs.lemmas.Map.Keys.{sorted_head, sorted_tail, apart_from_dist
 use Rattle.std.proofs.lemmas.List.{length-append}
 use Rattle.std.proofs.lemmas.List.Elements.{All-contains, All-push}
 use Rattle.std.proofs.lemmas.List.Folds.{list_any-append, list_any_more}
-use Rattle.std.proofs.lemmas.List.Sorted.{list_any-IsPermutation, All-permutation, length_permutation}
+use Rattle.std.proofs.lemmas.List.Sorted.{list_any-IsPermutation, All-permutation}
 use Rattle.std.proofs.lemmas.Map.Keys.{IsDistinct-IsPermutation}
 use Rattle.std.proofs.lemmas.Map.Steps.{list_any_congr}
 use Rattle.std.proofs.lemmas.Map.Views.{All-from_any, Contains-from_any}
@@ -208,14 +208,42 @@ sees_again column keys i v d within seen item h = (
 
 -- ---- the dictionary of sorted distinct values
 
-pub stands_so : (kind : FieldKind) (column firsts values : List Value) → length column ≤ most_values → All (Fits kind) column → length firsts ≤ length column
-    → ((q : Value) → is_member firsts q ≡ is_member column q) → All IsUnicode firsts → IsDistinct value_eq firsts → IsPermutation firsts values → IsSorted value_order values
-    → (values ≡ distinct column) × ((q : Value) → is_member values q ≡ is_member column q) × IsDictionary (record { kind = kind; values = values })
-stands_so kind column firsts values few fit less members unicode apart moved sorted =
-    let same : (q : Value) → is_member values q ≡ is_member column q = λ q. sym (list_any-IsPermutation (value_eq q) firsts values moved) ∙ members q in
+put_length : (v : Value) (vs : List Value) → length (put_in v vs) ≤ length vs + 1
+put_length v [] = omega arith
+put_length v (w ∷ ws) =
+    elim (value_order v w) as (λ o. length (match_ordering o (v ∷ w ∷ ws) (w ∷ ws) (w ∷ put_in v ws)) ≤ length (w ∷ ws) + 1) [
+      | order.Less ↦ omega arith
+      | order.Equal ↦ omega arith
+      | order.Greater ↦ let more = put_length v ws in omega (arith, more)
+    ]
+
+distinct_length : (vs : List Value) → length (distinct vs) ≤ length vs
+distinct_length [] = omega arith
+distinct_length (v ∷ vs) =
+    let one = put_length v (distinct vs) in
+    let rest = distinct_length vs in
+    omega (arith, one, rest)
+
+-- those at first sight, put in order
+pub sorted_firsts : (column firsts values : List Value) → ((q : Value) → is_member firsts q ≡ is_member column q) → IsDistinct value_eq firsts → IsPermutation firsts values → IsSorted value_order values → values ≡ distinct column
+sorted_firsts column firsts values members apart moved sorted =
     let up : Ascends values = sorted_apart values sorted (IsDistinct-IsPermutation value_eq value_eq-equiv.symm firsts values moved apart) in
-    let all : All (Fits kind) values = All-from_any value_eq-equiv (Fits kind) values (λ q e. All-contains (Fits kind) column q fit (Contains-from_any same_value q column (sym (same q) ∙ e))) in (
-      same_ascending values (distinct column) up (distinct_ascends column) (λ q. same q ∙ sym (distinct_members q column)),
-      same,
-      record { few = omega (arith, length_permutation firsts values moved); fit = all; unicode = All-permutation IsUnicode firsts values moved unicode; ascends = up },
-    )
+    same_ascending values (distinct column) up (distinct_ascends column)
+    (λ q. sym (list_any-IsPermutation (value_eq q) firsts values moved) ∙ members q ∙ sym (distinct_members q column))
+
+-- the distinct values of values that have the members of a column are the column's dictionary
+pub distinct_so : (column seen values : List Value) → ((q : Value) → is_member seen q ≡ is_member column q) → values ≡ distinct seen → values ≡ distinct column
+distinct_so column seen values members is =
+    is ∙ same_ascending (distinct seen) (distinct column) (distinct_ascends seen) (distinct_ascends column)
+    (λ q. distinct_members q seen ∙ members q ∙ sym (distinct_members q column))
+
+pub members_so : (column values : List Value) → values ≡ distinct column → (q : Value) → is_member values q ≡ is_member column q
+members_so column values is q = ap (λ vs. is_member vs q) is ∙ distinct_members q column
+
+pub stands_so : (kind : FieldKind) (column values : List Value) → length column ≤ most_values → All (Fits kind) column → values ≡ distinct column → All IsUnicode values → IsDictionary (record { kind = kind; values = values })
+stands_so kind column values few fit is unicode = record {
+  few = let count = distinct_length column in let same = ap length is in omega (arith, count, same);
+  fit = All-from_any value_eq-equiv (Fits kind) values (λ q e. All-contains (Fits kind) column q fit (Contains-from_any same_value q column (sym (members_so column values is q) ∙ e)));
+  unicode = unicode;
+  ascends = subst Ascends (sym is) (distinct_ascends column);
+}

@@ -1,3 +1,5 @@
+pub mod CodedLemmas
+pub mod CodingLemmas
 pub mod Ascending
 pub mod Distinct
 pub mod Found

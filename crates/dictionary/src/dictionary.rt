@@ -4,14 +4,16 @@ ghost use Rattle.std.specs.Prelude.{◌≡◌, ◌<◌, ◌≤◌, ℕ, false, l
 ghost use Rattle.std.specs.List.{All, IsDistinct};
 ghost use Rattle.values.specs.Order.{value_eq};
 ghost use Rattle.values.specs.Tests.{is_member};
+ghost use Rattle.dictionary.specs.Coding.{Codes};
 ghost use Rattle.dictionary.specs.Dictionary.{Fits, Distinct, IsDictionary, IsUnicode, distinct, most_values};
 ghost use Rattle.dictionary.specs.Ids.{has_id, matching, satisfies};
 
 use crate::IdSet;
+use crate::coded::{Coded, code_column, ranked, ranks};
 use indexmap::IndexSet;
 use std::alloc::Global;
 use std::marker::Model;
-use values::{FieldKind, NoMemory, Seq, Test, Value, holds_value};
+use values::{Column, FieldKind, NoMemory, Seq, Test, Value, holds_value};
 
 /// The most values that a column has.
 pub const MOST_VALUES: usize = 1_048_576;
@@ -48,8 +50,31 @@ impl Dictionary {
             is_member d.values value ≡ is_member column.now value) }
         ensures stands { IfOk result IsDictionary }
     {
-        let values = distinct_values(alloc, kind, column.as_slice())?;
+        let values = distinct_values(alloc, column.as_slice())?;
         Ok(Dictionary { kind, values })
+    }
+
+    /// The dictionary of a column of that kind, and the id of each row's value. Texts are shared with
+    /// the column.
+    pub fn of_column(
+        alloc: Global,
+        kind: FieldKind,
+        column: &Column,
+    ) -> Result<(Dictionary, Vec<u32>), NoMemory>
+        requires few { length column.now.values ≤ most_values }
+        requires fit { All (Fits kind) column.now.values }
+        ensures kind { IfOk result (λ r. r.0.kind ≡ kind) }
+        ensures distinct { IfOk result (λ r. r.0.values ≡ distinct column.now.values) }
+        ensures members { IfOk result (λ r. (value : _) →
+            is_member r.0.values value ≡ is_member column.now.values value) }
+        ensures stands { IfOk result (λ r. IsDictionary r.0) }
+        ensures ids { IfOk result (λ r. Codes r.0.values r.1.items column.now.values) }
+    {
+        let Coded { values: seen, ids } = code_column(alloc, column)?;
+        let values = distinct_values(alloc, &seen)?;
+        let ranks = ranks(alloc, &values, &seen)?;
+        let row_ids = ranked(alloc, &ids, &ranks)?;
+        Ok((Dictionary { kind, values }, row_ids))
     }
 
     pub fn kind(&self) -> FieldKind
@@ -111,14 +136,9 @@ fn satisfying(alloc: Global, test: &Test, values: &[Value]) -> Result<IdSet, NoM
 }
 
 // The distinct values: those at first sight, put in order.
-fn distinct_values(alloc: Global, kind: FieldKind, column: &[Value]) -> Result<Vec<Value>, NoMemory>
-    requires few { length column.now ≤ most_values }
-    requires fit { All (Fits kind) column.now }
+fn distinct_values(alloc: Global, column: &[Value]) -> Result<Vec<Value>, NoMemory>
     ensures distinct { IfOk result (λ values. values.items ≡ distinct column.now) }
-    ensures members { IfOk result (λ values. (value : _) →
-        is_member values.items value ≡ is_member column.now value) }
-    ensures stands { IfOk result (λ values.
-        IsDictionary (record { kind = kind; values = values.items })) }
+    ensures unicode { IfOk result (λ values. All IsUnicode values.items) }
 {
     let mut values = first_sights(alloc, column)?;
     values.sort_unstable();

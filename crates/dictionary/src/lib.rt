@@ -2,16 +2,15 @@
 #![tactic(auto)]
 
 mod check;
+mod coded;
 mod dictionary;
 mod fault;
 mod id_set;
 mod laws;
+mod number_index;
 mod spelling;
 
 pub use dictionary::{Dictionary, MOST_VALUES};
 pub use fault::DictFault;
 pub use id_set::IdSet;
 pub use laws::{distinct_law, spells_one_law};
-
-#[cfg(test)]
-mod tests;

@@ -1,4 +1,5 @@
 pub mod CountLemmas
 mod Held
 pub mod ReadLemmas
+pub mod SeenLemmas
 mod StreamLemmas

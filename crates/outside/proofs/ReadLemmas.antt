@@ -1,5 +1,5 @@
 -- Reads that go back to back, and how many bytes they give.
-use Rattle.std.proofs.Common.{All, ◌≡◌, ◌≢◌, ◌≤◌, ◌+◌, ◌-◌, ℕ, Bool, true, false, List, [], ◌∷◌, ◌++◌, length, take, drop, Option, Some, None, refl, sym, ap, ◌∙◌, subst, arith, append_assoc, append-nil, option_map, length-drop, ◌⊎◌, inl, inr, if◌then◌else◌}
+use Rattle.std.proofs.Common.{All, IfSome, ◌≡◌, ◌≢◌, ◌≤◌, ◌<◌, min, ◌+◌, ◌-◌, ℕ, Bool, true, false, List, [], ◌∷◌, ◌++◌, length, take, drop, Option, Some, None, refl, sym, ap, ◌∙◌, subst, arith, append_assoc, append-nil, option_map, length-drop, ◌⊎◌, inl, inr, if◌then◌else◌}
 use Rattle.std.proofs.lemmas.List.{length-take, take_at}
 use Rattle.std.proofs.Math.Seq.{take-add, take-append-add}
 use borrow.Rule.Slice.PartMut.{mid_of, put_mid, post_of, same_len_mid}
@@ -11,7 +11,9 @@ use Rattle.std.specs.FinMap as map
 use Rattle.std.specs.Ordering.{eq_by_cmp, is_eq}
 use Rattle.std.specs.declared.cmp.Ordering.TheVariants.{Less, Equal, Greater}
 use Rattle.outside.specs.Files.{Files, Has, OfFile, name_order}
-use Rattle.outside.specs.Reads.{Entry, entry_of, logged, overlap, read_by, read_in, Consecutive, LogsThrough, ReadsAt}
+use Rattle.outside.specs.Files.{IsLengthOf}
+use Rattle.outside.specs.Reads.{AllGive, Entry, entry_of, logged, overlap, read_by, read_in, Consecutive, LogsFilled, LogsOn, LogsThrough, ReadsAt}
+use Rattle.outside.specs.Whole.{LogsFront}
 
 -- one more read after reads that go back to back
 pub Consecutive-push : (file : List ℕ) (from to n : ℕ) (entries : List Entry) → Consecutive file from to entries → Consecutive file from (to + n) (entries ++ entry_of file to n ∷ [])
@@ -152,3 +154,52 @@ read_in-through_other (entry ∷ entries) file other a b from to h ne =
 pub LogsThrough-append : (file : List ℕ) (a b c : ℕ) (first between last : Option (List Entry)) → LogsThrough file a b first between → LogsThrough file b c between last → LogsThrough file a c first last
 LogsThrough-append file a b c first between last (entries, is, through) (more, after, on) =
     (entries ++ more, after ∙ ap (λ log. option_map (λ before. before ++ more) log) is ∙ some_append first entries more, Consecutive-append file a b c entries more through on)
+
+-- ---- reads that each give bytes
+
+AllGive-push : (file : List ℕ) (from to n : ℕ) (entries : List Entry) → 0 < n → AllGive file from to entries → AllGive file from (to + n) (entries ++ entry_of file to n ∷ [])
+AllGive-push file from to n [] some e = (refl, sym e, some, ap (λ k. k + n) e)
+AllGive-push file from to n (entry ∷ entries) some h = (h.0, h.1, h.2, AllGive-push file (from + entry.count) to n entries some h.3)
+
+AllGive-back : (file : List ℕ) (from to : ℕ) (entries : List Entry) → AllGive file from to entries → Consecutive file from to entries
+AllGive-back file from to [] e = e
+AllGive-back file from to (entry ∷ entries) h = (h.0, h.1, AllGive-back file (from + entry.count) to entries h.3)
+
+-- no reads
+pub LogsOn-none : (file : List ℕ) (from : ℕ) (log : Option (List Entry)) → LogsOn file from from log log
+LogsOn-none file from None = ([], refl, refl)
+LogsOn-none file from (Some before) = ([], ap (λ x. Some x) (sym (append-nil before)), refl)
+
+-- one more read
+pub LogsOn-push : (file : List ℕ) (from to n : ℕ) (first log now : Option (List Entry)) → LogsOn file from to first log → now ≡ logged file to n log → 0 < n → LogsOn file from (to + n) first now
+LogsOn-push file from to n first log now (entries, is, on) e some =
+    (entries ++ entry_of file to n ∷ [], e ∙ ap (logged file to n) is ∙ some_append first entries (entry_of file to n ∷ []), AllGive-push file from to n entries some on)
+
+-- reads that each give bytes go back to back
+pub LogsOn-through : (file : List ℕ) (from to : ℕ) (first now : Option (List Entry)) → LogsOn file from to first now → LogsThrough file from to first now
+LogsOn-through file from to first now (entries, is, on) = (entries, is, AllGive-back file from to entries on)
+
+-- a read that failed leaves the log of those before it
+pub LogsOn-front : (file : List ℕ) (limit to : ℕ) (first log now : Option (List Entry)) → to ≤ limit → LogsOn file 0 to first log → now ≡ log → LogsFront file limit first now
+LogsOn-front file limit to first log now within on same = (to, within, subst (LogsThrough file 0 to first) (sym same) (LogsOn-through file 0 to first log on))
+
+-- the last read gave nothing
+pub LogsFilled-short : (file : List ℕ) (from to n end : ℕ) (first log now : Option (List Entry)) → LogsOn file from to first log → now ≡ logged file to n log → n ≡ 0 → to < end → LogsFilled file from to end first now
+LogsFilled-short file from to n end first log now on e none short = inr (log, short, on, e ∙ ap (λ k. logged file to k log) none)
+
+-- reads up to an end, or up to where one gave nothing, go back to back
+pub LogsFilled-through : (file : List ℕ) (from to end : ℕ) (first now : Option (List Entry)) → LogsFilled file from to end first now → LogsThrough file from to first now
+LogsFilled-through file from to end first now (inl (reached, on)) = LogsOn-through file from to first now on
+LogsFilled-through file from to end first now (inr (between, short, on, e)) = LogsThrough-end file from to 0 first between now (LogsOn-through file from to first between on) e refl
+
+same_bytes : {b file : List ℕ} → Some b ≡ Some file → b ≡ file
+same_bytes e = cc
+
+-- of a told file as many bytes are read as it has
+pub LogsFilled-told : (held : Option Files) (name into : List ℕ) (to end : ℕ) (first now : Option (List Entry)) → IsLengthOf held name end → OfFile held name (λ file. (to ≡ min (length file) end) × (take to into ≡ take to file))
+    → LogsFilled name 0 to end first now → IfSome held (λ _. LogsOn name 0 to first now)
+LogsFilled-told None name into to end first now long front filled = tt
+LogsFilled-told (Some files) name into to end first now (file, got, is) (other, got', (count, bytes)) (inl (reached, on)) = on
+LogsFilled-told (Some files) name into to end first now (file, got, is) (other, got', (count, bytes)) (inr (between, short, on, e)) =
+    let same : length file ≡ length other = ap length (same_bytes (sym got ∙ got')) in
+    absurd (omega (arith, is, count, same, short))

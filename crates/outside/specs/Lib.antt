@@ -2,6 +2,7 @@ pub mod Counts
 pub mod Files
 pub mod FileMap
 pub mod Reads
+pub mod Seen
 pub mod ReadLog
 pub mod Sink
 pub mod Stream

@@ -1,5 +1,5 @@
 -- The reads that a shelf tells, and how many bytes of a file they gave.
-use Rattle.std.specs.Prelude.{◌≡◌, ◌+◌, ◌-◌, ℕ, min, max, List, [], ◌∷◌, ◌++◌, length, take, drop, Option, option_map, sum_by, if◌then◌else◌}
+use Rattle.std.specs.Prelude.{◌≡◌, ◌≤◌, ◌<◌, ◌⊎◌, ◌+◌, ◌-◌, ℕ, min, max, List, [], ◌∷◌, ◌++◌, length, take, drop, Option, option_map, sum_by, if◌then◌else◌}
 use Rattle.std.specs.Ordering.{eq_by_cmp}
 use Rattle.outside.specs.Files.{Files, OfFile, name_order}
 
@@ -43,3 +43,20 @@ Consecutive file from to (entry ∷ entries) =
 abbrev pub LogsThrough : List ℕ → ℕ → ℕ → Option (List Entry) → Option (List Entry) → Type 0
 LogsThrough file from to old new =
     (entries : List Entry) × (new ≡ option_map (λ before. before ++ entries) old) × Consecutive file from to entries
+
+-- these reads are of this file, go back to back from one offset to another, and each gave bytes
+abbrev pub AllGive : List ℕ → ℕ → ℕ → List Entry → Type 0
+AllGive file from to [] = from ≡ to
+AllGive file from to (entry ∷ entries) =
+    (entry.file ≡ file) × (entry.offset ≡ from) × (0 < entry.count) × AllGive file (from + entry.count) to entries
+
+-- the told log grew by such reads
+abbrev pub LogsOn : List ℕ → ℕ → ℕ → Option (List Entry) → Option (List Entry) → Type 0
+LogsOn file from to old new =
+    (entries : List Entry) × (new ≡ option_map (λ before. before ++ entries) old) × AllGive file from to entries
+
+-- the told log grew by such reads, which reach the end that is wanted, or by one more, which gave nothing
+abbrev pub LogsFilled : List ℕ → ℕ → ℕ → ℕ → Option (List Entry) → Option (List Entry) → Type 0
+LogsFilled file from to end old new =
+    ((end ≤ to) × LogsOn file from to old new)
+    ⊎ ((between : Option (List Entry)) × (to < end) × LogsOn file from to old between × (new ≡ logged file to 0 between))

@@ -43,6 +43,8 @@ pub trait Depot: Shelf {
         ensures later { Self.write_faults self.old ≤ Self.write_faults self.new }
         ensures failed { IsErrOf result Failed →
             Rose (Self.write_faults self.old) (Self.write_faults self.new) }
+        ensures still { ¬ IsErrOf result Failed →
+            Self.write_faults self.new ≡ Self.write_faults self.old }
         ensures never_missing { ¬ IsErrOf result Missing };
 
     /// Adds bytes at the end of a part. One that was not begun counts as empty.
@@ -59,6 +61,8 @@ pub trait Depot: Shelf {
         ensures later { Self.write_faults self.old ≤ Self.write_faults self.new }
         ensures failed { IsErrOf result Failed →
             Rose (Self.write_faults self.old) (Self.write_faults self.new) }
+        ensures still { ¬ IsErrOf result Failed →
+            Self.write_faults self.new ≡ Self.write_faults self.old }
         ensures never_missing { ¬ IsErrOf result Missing };
 
     /// Puts the bytes of a part under a name, in place of what was there. The part is gone. One that
@@ -77,6 +81,8 @@ pub trait Depot: Shelf {
         ensures later { Self.write_faults self.old ≤ Self.write_faults self.new }
         ensures failed { IsErrOf result Failed →
             Rose (Self.write_faults self.old) (Self.write_faults self.new) }
+        ensures still { ¬ IsErrOf result Failed →
+            Self.write_faults self.new ≡ Self.write_faults self.old }
         ensures never_missing { ¬ IsErrOf result Missing };
 
     /// Takes a published file away.
@@ -90,6 +96,8 @@ pub trait Depot: Shelf {
         ensures later { Self.write_faults self.old ≤ Self.write_faults self.new }
         ensures failed { IsErrOf result Failed →
             Rose (Self.write_faults self.old) (Self.write_faults self.new) }
+        ensures still { ¬ IsErrOf result Failed →
+            Self.write_faults self.new ≡ Self.write_faults self.old }
         ensures missing { IsErrOf result Missing → Lacks (Self.held self.old) name.now }
         ensures there { OnOk result (Has (Self.held self.old) name.now) }
         ensures present { IsErrOf result NoMemory → Has (Self.held self.old) name.now };

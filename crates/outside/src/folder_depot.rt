@@ -36,6 +36,7 @@ fn count_write(faults: &mut u64, answer: Result<(), DepotFault>) -> Result<(), D
     ensures answer { result ≡ answer }
     ensures later { faults.old ≤ faults.new }
     ensures rose { IsErrOf answer DepotFault.Failed → Rose faults.old faults.new }
+    ensures still { ¬ IsErrOf answer DepotFault.Failed → faults.new ≡ faults.old }
 {
     if let Err(DepotFault::Failed) = answer {
         *faults = faults.saturating_add(1);

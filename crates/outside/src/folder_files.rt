@@ -1,11 +1,11 @@
-// The files of a real folder.
-ghost use Rattle.std.specs.Prelude.{◌≡◌, ◌≢◌, ◌≤◌, IfOk, IsErrOf, length};
+//! The files of a real folder.
+ghost use Rattle.std.specs.Prelude.{◌≡◌, ◌≢◌, ◌≤◌, IfOk, IsErrOf, length, string_bytes};
 ghost use Rattle.outside.specs.Counts.{Rose};
 ghost use Rattle.outside.specs.declared.shelf.ShelfFault.TheVariants.{Missing, Failed};
 
 use crate::{Name, ShelfFault};
 use std::alloc::{AllocError, Global};
-use std::fs::OpenFile;
+use std::fs::{Metadata, OpenFile};
 use std::io::{ErrorKind, Read, Seek, SeekFrom};
 use std::rt::Files;
 use std::{fs, io};
@@ -78,7 +78,9 @@ impl<R: Files + AllocGlobal + Clone + Drop> FolderFiles<R> {
     }
 
     // The file of this name: the one that is kept open, or else one that is opened.
-    fn take(&mut self, alloc: Global, name: &str) -> Result<NamedFile<R::File>, ShelfFault> {
+    fn take(&mut self, alloc: Global, name: &str) -> Result<NamedFile<R::File>, ShelfFault>
+        ensures { IfOk result (λ found. string_bytes found.name ≡ name.now) }
+    {
         if let Some(kept) = self.kept.take() {
             if kept.name.as_str() == name {
                 return Ok(kept);
@@ -89,7 +91,9 @@ impl<R: Files + AllocGlobal + Clone + Drop> FolderFiles<R> {
     }
 
     // Opens a plain file, and says how long it is.
-    fn open(&self, alloc: Global, name: &str) -> Result<(NamedFile<R::File>, u64), ShelfFault> {
+    fn open(&self, alloc: Global, name: &str) -> Result<(NamedFile<R::File>, u64), ShelfFault>
+        ensures { IfOk result (λ found. string_bytes found.0.name ≡ name.now) }
+    {
         if name.is_empty() {
             return Err(ShelfFault::Missing);
         }
@@ -97,8 +101,16 @@ impl<R: Files + AllocGlobal + Clone + Drop> FolderFiles<R> {
         let name = String::from_str(alloc, name)?;
         match open_plain(&self.rt, path.as_str()) {
             Ok((file, length)) => Ok((NamedFile { name, file }, length)),
-            Err(e) if names_nothing(&e) => Err(ShelfFault::Missing),
+            Err(e) if names_nothing(&e) && self.is_there() => Err(ShelfFault::Missing),
             Err(e) => Err(read_fault(&e)),
+        }
+    }
+
+    /// Whether the folder is there. Where it is not, a call that needs it fails.
+    pub fn is_there(&self) -> bool {
+        match fs::metadata(&self.rt, self.folder.as_str()) {
+            Ok(metadata) => metadata.is_dir(),
+            Err(_) => false,
         }
     }
 }
@@ -140,6 +152,7 @@ pub fn count_read<T>(faults: &mut u64, answer: Result<T, ShelfFault>) -> Result<
     ensures answer { result ≡ answer }
     ensures later { faults.old ≤ faults.new }
     ensures rose { IsErrOf answer Failed → Rose faults.old faults.new }
+    ensures still { ¬ IsErrOf answer Failed → faults.new ≡ faults.old }
 {
     if let Err(ShelfFault::Failed) = answer {
         *faults = faults.saturating_add(1);
@@ -147,14 +160,23 @@ pub fn count_read<T>(faults: &mut u64, answer: Result<T, ShelfFault>) -> Result<
     answer
 }
 
-// Opens a file that is no folder and no device, and says how long it is.
+// Opens a plain file, and says how long it is. What is no plain file, as a folder, a device or a pipe,
+// is not opened, since opening a pipe may wait for another program.
 fn open_plain<R: Files>(rt: &R, path: &str) -> io::Result<(R::File, u64)> {
+    require_plain(&fs::metadata(rt, path)?)?;
     let file = fs::open(rt, path)?;
     let metadata = file.metadata()?;
-    if !metadata.is_file() {
-        return Err(io::Error::from(ErrorKind::IsADirectory));
-    }
+    require_plain(&metadata)?;
     Ok((file, metadata.len()))
+}
+
+// Refuses what is no plain file.
+fn require_plain(metadata: &Metadata) -> io::Result<()> {
+    if metadata.is_file() {
+        Ok(())
+    } else {
+        Err(io::Error::from(ErrorKind::IsADirectory))
+    }
 }
 
 // Reads from an offset on. No file is longer than a signed 64-bit number says.

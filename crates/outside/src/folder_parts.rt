@@ -1,10 +1,10 @@
-// The parts of a real folder, and what becomes of them.
+//! The parts of a real folder, and what becomes of them.
 ghost use Rattle.std.specs.Prelude.{◌≡◌, ◌≢◌, IsErrOf};
 
 use crate::DepotFault;
 use crate::folder_files::{FolderFiles, NamedFile, names_nothing, path_of};
 use std::alloc::Global;
-use std::fs::{File, OpenOptions};
+use std::fs::{File, OpenFile, OpenOptions};
 use std::io::{ErrorKind, Write};
 use std::rt::Files;
 use std::{fs, io};
@@ -95,18 +95,20 @@ impl<R: Files + AllocGlobal + Clone + Drop> FolderParts<R> {
         }
     }
 
-    /// Gives the file of a part its name. One that is not there is made first.
+    /// Gives the file of a part its name, once its bytes are on the disk. One that is not there is made
+    /// first.
     pub fn publish(&mut self, alloc: Global, part: &str, name: &str) -> Result<(), DepotFault>
         ensures { ¬ IsErrOf result DepotFault.Missing }
     {
-        self.part = None;
         self.files.forget();
         if !is_published_name(name) {
             return Err(DepotFault::Failed);
         }
         let from = self.part_path(alloc, part)?;
         let to = path_of(alloc, self.files.folder.as_str(), name)?;
-        match rename_or_make(&self.files.rt, from.as_str(), to.as_str()) {
+        let open = self.take_part(alloc, part)?;
+        let folder = self.files.folder.as_str();
+        match replace(&self.files.rt, &open.file, folder, from.as_str(), to.as_str()) {
             Ok(()) => Ok(()),
             Err(e) => Err(write_fault(&e)),
         }
@@ -119,23 +121,30 @@ impl<R: Files + AllocGlobal + Clone + Drop> FolderParts<R> {
             return Err(DepotFault::Missing);
         }
         let path = path_of(alloc, self.files.folder.as_str(), name)?;
-        match fs::remove_file(&self.files.rt, path.as_str()) {
+        match erase(&self.files.rt, self.files.folder.as_str(), path.as_str()) {
             Ok(()) => Ok(()),
-            Err(e) if names_nothing(&e) => Err(DepotFault::Missing),
+            Err(e) if names_nothing(&e) && self.files.is_there() => Err(DepotFault::Missing),
             Err(e) => Err(write_fault(&e)),
         }
     }
 }
 
-// Renames a file, which is made empty first where it is not there.
-fn rename_or_make<R: Files>(rt: &R, from: &str, to: &str) -> io::Result<()> {
-    match fs::rename(rt, from, to) {
-        Err(e) if e.kind() == ErrorKind::NotFound => {
-            fs::create(rt, from)?;
-            fs::rename(rt, from, to)
-        }
-        answer => answer,
-    }
+// Renames a file whose bytes are put on the disk first. The folder is put there last: the file has its
+// new name by then, so that a failure of this is none of the rename.
+fn replace<R: Files>(rt: &R, file: &R::File, folder: &str, from: &str, to: &str) -> io::Result<()> {
+    file.sync_all()?;
+    let folder = fs::open(rt, folder)?;
+    fs::rename(rt, from, to)?;
+    let _ = folder.sync_all();
+    Ok(())
+}
+
+// Takes a file away, and then puts the folder on the disk.
+fn erase<R: Files>(rt: &R, folder: &str, path: &str) -> io::Result<()> {
+    let folder = fs::open(rt, folder)?;
+    fs::remove_file(rt, path)?;
+    let _ = folder.sync_all();
+    Ok(())
 }
 
 // Whether a text can name a file right in a folder.

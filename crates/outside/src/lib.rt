@@ -36,6 +36,3 @@ pub use shelf::{Shelf, ShelfFault};
 pub use sink::{Sink, SinkFault};
 pub use stream_sink::StreamSink;
 pub use whole::{ReadAllFault, read_all};
-
-#[cfg(test)]
-mod tests;

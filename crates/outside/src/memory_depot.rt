@@ -70,6 +70,8 @@ impl Shelf for MemoryDepot {
         ensures later { self.old.read_faults ≤ self.new.read_faults }
         ensures failed { IsErrOf result ShelfFault.Failed →
             Rose self.old.read_faults self.new.read_faults }
+        ensures still { ¬ IsErrOf result ShelfFault.Failed →
+            self.new.read_faults ≡ self.old.read_faults }
         ensures never_missing { ¬ IsErrOf result ShelfFault.Missing }
     {
         self.shelf.names(alloc)
@@ -86,6 +88,8 @@ impl Shelf for MemoryDepot {
         ensures later { self.old.read_faults ≤ self.new.read_faults }
         ensures failed { IsErrOf result ShelfFault.Failed →
             Rose self.old.read_faults self.new.read_faults }
+        ensures still { ¬ IsErrOf result ShelfFault.Failed →
+            self.new.read_faults ≡ self.old.read_faults }
         ensures missing { IsErrOf result ShelfFault.Missing → Lacks (Some self.old.held) name.now }
         ensures present { IsErrOf result ShelfFault.NoMemory → Has (Some self.old.held) name.now }
         ensures no_memory { ¬ IsErrOf result ShelfFault.NoMemory }
@@ -116,6 +120,8 @@ impl Shelf for MemoryDepot {
         ensures later { self.old.read_faults ≤ self.new.read_faults }
         ensures failed { IsErrOf result ShelfFault.Failed →
             Rose self.old.read_faults self.new.read_faults }
+        ensures still { ¬ IsErrOf result ShelfFault.Failed →
+            self.new.read_faults ≡ self.old.read_faults }
         ensures missing { IsErrOf result ShelfFault.Missing → Lacks (Some self.old.held) name.now }
         ensures present { IsErrOf result ShelfFault.NoMemory → Has (Some self.old.held) name.now }
     {
@@ -142,6 +148,8 @@ impl Depot for MemoryDepot {
         ensures later { self.old.write_faults ≤ self.new.write_faults }
         ensures failed { IsErrOf result DepotFault.Failed →
             Rose self.old.write_faults self.new.write_faults }
+        ensures still { ¬ IsErrOf result DepotFault.Failed →
+            self.new.write_faults ≡ self.old.write_faults }
         ensures never_missing { ¬ IsErrOf result DepotFault.Missing }
     {
         if self.shelf.fails_counted(&mut self.faults) {
@@ -170,6 +178,8 @@ impl Depot for MemoryDepot {
         ensures later { self.old.write_faults ≤ self.new.write_faults }
         ensures failed { IsErrOf result DepotFault.Failed →
             Rose self.old.write_faults self.new.write_faults }
+        ensures still { ¬ IsErrOf result DepotFault.Failed →
+            self.new.write_faults ≡ self.old.write_faults }
         ensures never_missing { ¬ IsErrOf result DepotFault.Missing }
     {
         if self.shelf.fails_counted(&mut self.faults) {
@@ -199,6 +209,8 @@ impl Depot for MemoryDepot {
         ensures later { self.old.write_faults ≤ self.new.write_faults }
         ensures failed { IsErrOf result DepotFault.Failed →
             Rose self.old.write_faults self.new.write_faults }
+        ensures still { ¬ IsErrOf result DepotFault.Failed →
+            self.new.write_faults ≡ self.old.write_faults }
         ensures never_missing { ¬ IsErrOf result DepotFault.Missing }
     {
         if self.shelf.fails_counted(&mut self.faults) {
@@ -223,6 +235,8 @@ impl Depot for MemoryDepot {
         ensures later { self.old.write_faults ≤ self.new.write_faults }
         ensures failed { IsErrOf result DepotFault.Failed →
             Rose self.old.write_faults self.new.write_faults }
+        ensures still { ¬ IsErrOf result DepotFault.Failed →
+            self.new.write_faults ≡ self.old.write_faults }
         ensures missing { IsErrOf result DepotFault.Missing → Lacks (Some self.old.held) name.now }
         ensures there { OnOk result (Has (Some self.old.held) name.now) }
         ensures present { IsErrOf result DepotFault.NoMemory → Has (Some self.old.held) name.now }

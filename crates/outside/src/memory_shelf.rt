@@ -124,6 +124,7 @@ impl Shelf for MemoryShelf {
         ensures writes { self.new.write_faults ≡ self.old.write_faults }
         ensures later { self.old.read_faults ≤ self.new.read_faults }
         ensures failed { IsErrOf result Failed → Rose self.old.read_faults self.new.read_faults }
+        ensures still { ¬ IsErrOf result Failed → self.new.read_faults ≡ self.old.read_faults }
         ensures never_missing { ¬ IsErrOf result Missing }
     {
         if self.calls.fails_counted(&mut self.faults) {
@@ -142,6 +143,7 @@ impl Shelf for MemoryShelf {
         ensures writes { self.new.write_faults ≡ self.old.write_faults }
         ensures later { self.old.read_faults ≤ self.new.read_faults }
         ensures failed { IsErrOf result Failed → Rose self.old.read_faults self.new.read_faults }
+        ensures still { ¬ IsErrOf result Failed → self.new.read_faults ≡ self.old.read_faults }
         ensures missing { IsErrOf result Missing → Lacks (Some self.old.held) name.now }
         ensures present { IsErrOf result NoMemory → Has (Some self.old.held) name.now }
         ensures no_memory { ¬ IsErrOf result NoMemory }
@@ -178,6 +180,7 @@ impl Shelf for MemoryShelf {
         ensures writes { self.new.write_faults ≡ self.old.write_faults }
         ensures later { self.old.read_faults ≤ self.new.read_faults }
         ensures failed { IsErrOf result Failed → Rose self.old.read_faults self.new.read_faults }
+        ensures still { ¬ IsErrOf result Failed → self.new.read_faults ≡ self.old.read_faults }
         ensures missing { IsErrOf result Missing → Lacks (Some self.old.held) name.now }
         ensures present { IsErrOf result NoMemory → Has (Some self.old.held) name.now }
     {

@@ -55,6 +55,7 @@ pub trait Shelf {
         ensures writes { write_faults self.new ≡ write_faults self.old }
         ensures later { read_faults self.old ≤ read_faults self.new }
         ensures failed { IsErrOf result Failed → Rose (read_faults self.old) (read_faults self.new) }
+        ensures still { ¬ IsErrOf result Failed → read_faults self.new ≡ read_faults self.old }
         ensures never_missing { ¬ IsErrOf result Missing };
 
     /// The length of a file in bytes.
@@ -66,6 +67,7 @@ pub trait Shelf {
         ensures writes { write_faults self.new ≡ write_faults self.old }
         ensures later { read_faults self.old ≤ read_faults self.new }
         ensures failed { IsErrOf result Failed → Rose (read_faults self.old) (read_faults self.new) }
+        ensures still { ¬ IsErrOf result Failed → read_faults self.new ≡ read_faults self.old }
         ensures missing { IsErrOf result Missing → Lacks (held self.old) name.now }
         ensures present { IsErrOf result NoMemory → Has (held self.old) name.now };
 
@@ -87,6 +89,7 @@ pub trait Shelf {
         ensures writes { write_faults self.new ≡ write_faults self.old }
         ensures later { read_faults self.old ≤ read_faults self.new }
         ensures failed { IsErrOf result Failed → Rose (read_faults self.old) (read_faults self.new) }
+        ensures still { ¬ IsErrOf result Failed → read_faults self.new ≡ read_faults self.old }
         ensures missing { IsErrOf result Missing → Lacks (held self.old) name.now }
         ensures present { IsErrOf result NoMemory → Has (held self.old) name.now };
 }

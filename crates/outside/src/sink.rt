@@ -25,5 +25,6 @@ pub trait Sink {
         ensures all { OnOk result (written self.new ≡ appended bytes.now (written self.old)) }
         ensures prefix { OnErr result (AppendsPrefix bytes.now (written self.old) (written self.new)) }
         ensures later { faults self.old ≤ faults self.new }
-        ensures failed { OnErr result (Rose (faults self.old) (faults self.new)) };
+        ensures failed { OnErr result (Rose (faults self.old) (faults self.new)) }
+        ensures still { OnOk result (faults self.new ≡ faults self.old) };
 }

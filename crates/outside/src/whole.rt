@@ -1,9 +1,9 @@
-// Reading whole files.
-ghost use Rattle.std.specs.Prelude.{◌≡◌, ◌≤◌, ◌↔◌, ℕ, IfOk, OnErr, IsErrOf, length, vec_len, min, take};
-ghost use Rattle.outside.specs.Counts.{Rose};
+//! Reading whole files.
+ghost use Rattle.std.specs.Prelude.{◌≡◌, ◌≤◌, ◌↔◌, ℕ, IfOk, IfSome, OnErr, IsErrOf, length, vec_len, min, take};
 ghost use Rattle.outside.specs.Files.{Has, Lacks, OfFile};
-ghost use Rattle.outside.specs.Reads.{LogsThrough};
-ghost use Rattle.outside.specs.Whole.{IsWhole, IsTooLong, LogsFront};
+ghost use Rattle.outside.specs.Reads.{LogsFilled, LogsOn, LogsThrough};
+ghost use Rattle.outside.specs.Seen.{OnlyReads, seen};
+ghost use Rattle.outside.specs.Whole.{IsWhole, IsTooLong, LogsEnd, LogsFront};
 
 use crate::{Bytes, NoMemory, Seq, Shelf, ShelfFault};
 use std::alloc::{AllocError, Global};
@@ -63,16 +63,18 @@ pub fn read_all<S: Shelf>(
 ) -> Result<Bytes, ReadAllFault>
     ensures whole { IfOk result (IsWhole (S.held shelf.old) name.now limit) }
     ensures bound { IfOk result (λ bytes. length bytes ≤ limit) }
-    ensures held { S.held shelf.new ≡ S.held shelf.old }
-    ensures parts { S.parts shelf.new ≡ S.parts shelf.old }
+    ensures only_reads { OnlyReads (IsErrOf result ReadAllFault.Failed)
+        (seen S.Shelf shelf.old) (seen S.Shelf shelf.new) }
     ensures log { IfOk result (λ bytes.
         LogsThrough name.now 0 (length bytes) (S.log shelf.old) (S.log shelf.new)) }
+    // A file ends where a read gives nothing, and nowhere else.
+    ensures log_to_end { IfOk result (λ bytes.
+        LogsEnd name.now limit (length bytes) (S.log shelf.old) (S.log shelf.new)) }
+    // Of a told file each read gives bytes.
+    ensures log_of_told { IfOk result (λ bytes. IfSome (S.held shelf.old) (λ _.
+        LogsOn name.now 0 (length bytes) (S.log shelf.old) (S.log shelf.new))) }
     ensures log_of_fault { OnErr result
         (LogsFront name.now limit (S.log shelf.old) (S.log shelf.new)) }
-    ensures writes { S.write_faults shelf.new ≡ S.write_faults shelf.old }
-    ensures later { S.read_faults shelf.old ≤ S.read_faults shelf.new }
-    ensures failed { IsErrOf result ReadAllFault.Failed →
-        Rose (S.read_faults shelf.old) (S.read_faults shelf.new) }
     ensures missing { IsErrOf result ReadAllFault.Missing → Lacks (S.held shelf.old) name.now }
     ensures long { IsErrOf result ReadAllFault.TooLong →
         IsTooLong (S.held shelf.old) name.now limit }
@@ -104,15 +106,12 @@ fn fill<S: Shelf>(
         OfFile (S.held shelf.old) name.now (λ file. (n
         ≡ min (length file) (length into.old)) × (take n into.new ≡ take n file))) }
     ensures bound { IfOk result (λ n. n ≤ length into.old) }
-    ensures held { S.held shelf.new ≡ S.held shelf.old }
-    ensures parts { S.parts shelf.new ≡ S.parts shelf.old }
-    ensures log { IfOk result (λ n. LogsThrough name.now 0 n (S.log shelf.old) (S.log shelf.new)) }
+    ensures only_reads { OnlyReads (IsErrOf result ReadAllFault.Failed)
+        (seen S.Shelf shelf.old) (seen S.Shelf shelf.new) }
+    ensures log { IfOk result (λ n.
+        LogsFilled name.now 0 n (length into.old) (S.log shelf.old) (S.log shelf.new)) }
     ensures log_of_fault { OnErr result
         (LogsFront name.now (length into.old) (S.log shelf.old) (S.log shelf.new)) }
-    ensures writes { S.write_faults shelf.new ≡ S.write_faults shelf.old }
-    ensures later { S.read_faults shelf.old ≤ S.read_faults shelf.new }
-    ensures failed { IsErrOf result ReadAllFault.Failed →
-        Rose (S.read_faults shelf.old) (S.read_faults shelf.new) }
     ensures missing { IsErrOf result ReadAllFault.Missing → Lacks (S.held shelf.old) name.now }
     ensures long { ¬ IsErrOf result ReadAllFault.TooLong }
     ensures present { IsErrOf result ReadAllFault.NoMemory → Has (S.held shelf.old) name.now }

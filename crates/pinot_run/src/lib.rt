@@ -17,6 +17,3 @@ mod tally;
 
 pub use run::run_command;
 pub use status::Status;
-
-#[cfg(test)]
-mod tests;

@@ -16,6 +16,3 @@ mod terms;
 
 pub use bound::bind;
 pub use fault::{BindFault, BindReason};
-
-#[cfg(test)]
-mod tests;

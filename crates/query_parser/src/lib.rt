@@ -16,6 +16,3 @@ mod where_clause;
 pub use fault::{QueryFault, Reason};
 pub use query::parse;
 pub use tree::{Argument, Call, Cond, Func, LiteralAt, NameAt, Query, QueryItem, QueryKey, Term};
-
-#[cfg(test)]
-mod tests;

@@ -31,6 +31,3 @@ pub use schema_text::read_schema;
 pub use settings::{Pair, Settings, TreeSetting};
 pub use settings_text::read_settings;
 pub use table::Table;
-
-#[cfg(test)]
-mod tests;

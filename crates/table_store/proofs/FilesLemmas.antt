@@ -1,5 +1,9 @@
 -- Told files after a part was written and published.
-use Rattle.std.proofs.Common.{◌≡◌, ◌≢◌, ◌∙◌, ◌↔◌, ℕ, Bool, true, false, List, [], ◌++◌, Option, Some, None, cond, refl, sym, ap, subst, unwrap_or, Result, Ok, Err, OnOk, OnErr}
+use Rattle.std.proofs.Common.{◌≡◌, ◌≢◌, ◌∙◌, ◌↔◌, ℕ, Bool, true, false, List, [], ◌++◌, Option, Some, None, cond, refl, sym, ap, subst, unwrap_or, Result, Ok, Err, OnOk, OnErr, IsErrAnd, IsErrOf, arith}
+use Rattle.outside.specs.Counts.{Rose}
+use Rattle.outside.specs.Seen.{OnlyWrites, Seen}
+use Rattle.outside.specs.declared.depot.DepotFault.{DepotFault}
+use Rattle.outside.specs.declared.depot.DepotFault.TheVariants.{Failed}
 use Rattle.std.specs.FinMap as map
 use Rattle.std.specs.Ordering.{eq_by_cmp, is_eq}
 use Rattle.std.specs.Cmp.{eq_by_cmp_equiv}
@@ -41,11 +45,11 @@ bytes_written parts name bytes =
     ap (λ o. unwrap_or o []) (get_put begun name (bytes_of (Some begun) name ++ bytes)) ∙ ap (λ front. front ++ bytes) empty
 
 -- what is published is what was written
-pub published : (held parts : Option Files) (name bytes : List ℕ) → (held ≡ None) ↔ (parts ≡ None)
-    → with_file name (bytes_of (with_file name (bytes_of (with_file name [] parts) name ++ bytes) (with_file name [] parts)) name) held ≡ with_file name bytes held
-published None parts name bytes both = refl
-published (Some files) None name bytes both = absurd (let e : Some files ≡ None = both.1 refl in cc)
-published (Some files) (Some told) name bytes both = ap (λ written. Some (map.insert files name written)) (bytes_written told name bytes)
+pub published : (held parts : Option Files) (part name bytes : List ℕ) → (held ≡ None) ↔ (parts ≡ None)
+    → with_file name (bytes_of (with_file part (bytes_of (with_file part [] parts) part ++ bytes) (with_file part [] parts)) part) held ≡ with_file name bytes held
+published None parts part name bytes both = refl
+published (Some files) None part name bytes both = absurd (let e : Some files ≡ None = both.1 refl in cc)
+published (Some files) (Some told) part name bytes both = ap (λ written. Some (map.insert files name written)) (bytes_written told part bytes)
 
 -- the part is gone
 pub parts_gone : (parts : Option Files) (name some all : List ℕ) → without_file name (with_file name all (with_file name some parts)) ≡ without_file name parts
@@ -74,11 +78,11 @@ pub record IsWritten (name bytes : List ℕ) (held0 held1 held2 parts0 parts1 pa
   pub held_first : held1 ≡ held0
   pub held_then : held2 ≡ held1
 
-pub published_after : (name bytes : List ℕ) (held0 held1 held2 held3 parts0 parts1 parts2 : Option Files) → (held0 ≡ None) ↔ (parts0 ≡ None)
-    → IsWritten name bytes held0 held1 held2 parts0 parts1 parts2 → held3 ≡ with_file name (bytes_of parts2 name) held2 → held3 ≡ with_file name bytes held0
-published_after name bytes held0 held1 held2 held3 parts0 parts1 parts2 both is e =
-    let first : with_file name (bytes_of parts1 name ++ bytes) parts1 ≡ with_file name (bytes_of (with_file name [] parts0) name ++ bytes) (with_file name [] parts0) = ap (λ p. with_file name (bytes_of p name ++ bytes) p) is.begun in
-    e ∙ ap (with_file name (bytes_of parts2 name)) (is.held_then ∙ is.held_first) ∙ ap (λ p. with_file name (bytes_of p name) held0) (is.grown ∙ first) ∙ published held0 parts0 name bytes both
+pub published_after : (part name bytes : List ℕ) (held0 held1 held2 held3 parts0 parts1 parts2 : Option Files) → (held0 ≡ None) ↔ (parts0 ≡ None)
+    → IsWritten part bytes held0 held1 held2 parts0 parts1 parts2 → held3 ≡ with_file name (bytes_of parts2 part) held2 → held3 ≡ with_file name bytes held0
+published_after part name bytes held0 held1 held2 held3 parts0 parts1 parts2 both is e =
+    let first : with_file part (bytes_of parts1 part ++ bytes) parts1 ≡ with_file part (bytes_of (with_file part [] parts0) part ++ bytes) (with_file part [] parts0) = ap (λ p. with_file part (bytes_of p part ++ bytes) p) is.begun in
+    e ∙ ap (with_file name (bytes_of parts2 part)) (is.held_then ∙ is.held_first) ∙ ap (λ p. with_file name (bytes_of p part) held0) (is.grown ∙ first) ∙ published held0 parts0 part name bytes both
 
 pub gone_after : (name bytes : List ℕ) (held0 held1 held2 parts0 parts1 parts2 parts3 : Option Files)
     → IsWritten name bytes held0 held1 held2 parts0 parts1 parts2 → parts3 ≡ without_file name parts2 → parts3 ≡ without_file name parts0
@@ -105,3 +109,32 @@ same_but_gone name (Some files) (Some new) gone = λ q ne.
 pub after_publish : {A E : Type 0} (r : Result A E) (name : List ℕ) (parts now : Option Files) → OnOk r (now ≡ without_file name parts) → OnErr r (SameBut name parts now) → SameBut name parts now
 after_publish (Ok x) name parts now gone unknown = same_but_gone name parts now gone
 after_publish (Err e) name parts now gone unknown = unknown
+
+-- ---- what calls that write one part leave, one after another
+
+-- a part that was put is the only one that changed
+pub same_but_new : (name bytes : List ℕ) (told now : Option Files) → now ≡ with_file name bytes told → SameBut name told now
+same_but_new name bytes told now is = same_but_put name bytes told now (subst (λ t. SameBut name t now) is (same_but name now))
+
+same_but_then : (name : List ℕ) (first between last : Option Files) → SameBut name first between → SameBut name between last → SameBut name first last
+same_but_then name None between last a b = subst (λ t. SameBut name t last) a b
+same_but_then name (Some files) None last a b = absurd a
+same_but_then name (Some files) (Some new) None a b = b
+same_but_then name (Some files) (Some new) (Some now) a b = λ q ne. b q ne ∙ a q ne
+
+pub writes_after : (Fails : Type 0) (part : List ℕ) (first between last : Seen) → OnlyWrites ⊥ part first between → OnlyWrites Fails part between last → OnlyWrites Fails part first last
+writes_after Fails part first between last before now =
+    let same : between.write_faults ≡ first.write_faults = before.still (λ fails. fails) in
+    record {
+      parts = same_but_then part first.parts between.parts last.parts before.parts now.parts;
+      log = now.log ∙ before.log;
+      reads = now.reads ∙ before.reads;
+      later = omega (arith, before.later, now.later);
+      rose = λ fails. subst (λ n. Rose n last.write_faults) same (now.rose fails);
+      still = λ fine. now.still fine ∙ same;
+    }
+
+-- a fault that is handed on
+pub writes_handed : {A : Type 0} (r : Result A DepotFault) (fault : DepotFault) (part : List ℕ) (old new : Seen) → IsErrAnd r (λ f. f ≡ fault) → OnlyWrites (◌≡◌ {A = Result A DepotFault} (Err fault) (Err Failed)) part old new → OnlyWrites (IsErrOf r Failed) part old new
+writes_handed (Ok x) fault part old new is writes = absurd is
+writes_handed {A = A} (Err f) fault part old new is writes = subst (λ e. OnlyWrites (◌≡◌ {A = Result A DepotFault} (Err e) (Err Failed)) part old new) (sym is) writes

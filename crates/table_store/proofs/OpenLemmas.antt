@@ -8,7 +8,7 @@ use Rattle.table_schema.specs.declared.fault.TextFault.{TextFault}
 use Rattle.table_schema.specs.declared.fault.TextFault.TheVariants as text
 use Rattle.table_schema.specs.declared.field.Schema.{Schema}
 use Rattle.table_schema.specs.declared.table.Table as read
-use Rattle.table_store.specs.State.{Table}
+use Rattle.table_store.specs.State.{Texts}
 use Rattle.table_store.specs.Accepted.{IsAccepted, IsNoTableFile, IsTableFile}
 use Rattle.table_store.specs.TableFile.{FitsTable, table_file}
 use Rattle.table_store.specs.declared.fault.Part.TheVariants as part
@@ -23,17 +23,17 @@ refused_and_read : {A B : Type 0} (r : Result A TextFault) (a : A) (fault : Text
 refused_and_read r a fault x y = cc
 
 -- the texts of a file are those that it is spelled of
-same_texts : (file : List ℕ) (texts : Table) (table : read.Table) → FitsTable texts → file ≡ table_file texts → (is : IsTableFile file table) → texts ≡ is.texts
+same_texts : (file : List ℕ) (texts : Texts) (table : read.Table) → FitsTable texts → file ≡ table_file texts → (is : IsTableFile file table) → texts ≡ is.texts
 same_texts file texts table fits spelled is = same_table texts is.texts fits is.accepted.fits (sym spelled ∙ is.spelled)
 
-accepted_texts : (file : List ℕ) (texts : Table) (table : read.Table) → FitsTable texts → file ≡ table_file texts → IsTableFile file table → IsAccepted texts table
+accepted_texts : (file : List ℕ) (texts : Texts) (table : read.Table) → FitsTable texts → file ≡ table_file texts → IsTableFile file table → IsAccepted texts table
 accepted_texts file texts table fits spelled is = subst (λ t. IsAccepted t table) (sym (same_texts file texts table fits spelled is)) is.accepted
 
-no_schema : (file : List ℕ) (texts : Table) (fault : TextFault) → FitsTable texts → file ≡ table_file texts → schema_read texts.schema ≡ Err fault → IsNoTableFile file
+no_schema : (file : List ℕ) (texts : Texts) (fault : TextFault) → FitsTable texts → file ≡ table_file texts → schema_read texts.schema ≡ Err fault → IsNoTableFile file
 no_schema file texts fault fits spelled refused = λ table is.
     refused_and_read (schema_read texts.schema) table.schema fault refused (accepted_texts file texts table fits spelled is).schema
 
-no_settings : (file : List ℕ) (texts : Table) (schema : Schema) (fault : TextFault) → FitsTable texts → file ≡ table_file texts → schema_read texts.schema ≡ Ok schema
+no_settings : (file : List ℕ) (texts : Texts) (schema : Schema) (fault : TextFault) → FitsTable texts → file ≡ table_file texts → schema_read texts.schema ≡ Ok schema
     → settings_read schema.fields texts.settings ≡ Err fault → IsNoTableFile file
 no_settings file texts schema fault fits spelled accepted refused = λ table is.
     let all = accepted_texts file texts table fits spelled is in
@@ -44,14 +44,14 @@ no_settings file texts schema fault fits spelled accepted refused = λ table is.
 for_its_text : (fault : TextFault) (store : StoreFault) → (fault ≡ text.NoMemory → store ≡ NoMemory) → store ≢ NoMemory → fault ≢ text.NoMemory
 for_its_text fault store memory other same = other (memory same)
 
-pub schema_refused : (file : List ℕ) (texts : Table) (fault : TextFault) (store : StoreFault) → FitsTable texts → file ≡ table_file texts
+pub schema_refused : (file : List ℕ) (texts : Texts) (fault : TextFault) (store : StoreFault) → FitsTable texts → file ≡ table_file texts
     → (fault ≢ text.NoMemory → schema_read texts.schema ≡ Err fault) → (fault ≢ text.NoMemory → store ≡ NotASegment part.Table) → (fault ≡ text.NoMemory → store ≡ NoMemory)
     → store ≢ NoMemory → (store ≡ NotASegment part.Table) × IsNoTableFile file
 schema_refused file texts fault store fits spelled refused other memory free =
     let cause = for_its_text fault store memory free in
     (other cause, no_schema file texts fault fits spelled (refused cause))
 
-pub settings_refused : (file : List ℕ) (texts : Table) (schema : Schema) (fault : TextFault) (store : StoreFault) → FitsTable texts → file ≡ table_file texts → schema_read texts.schema ≡ Ok schema
+pub settings_refused : (file : List ℕ) (texts : Texts) (schema : Schema) (fault : TextFault) (store : StoreFault) → FitsTable texts → file ≡ table_file texts → schema_read texts.schema ≡ Ok schema
     → (fault ≢ text.NoMemory → settings_read schema.fields texts.settings ≡ Err fault) → (fault ≢ text.NoMemory → store ≡ NotASegment part.Table) → (fault ≡ text.NoMemory → store ≡ NoMemory)
     → store ≢ NoMemory → (store ≡ NotASegment part.Table) × IsNoTableFile file
 settings_refused file texts schema fault store fits spelled accepted refused other memory free =

@@ -9,7 +9,7 @@ use Rattle.std.specs.Int.{w32, from_be_bytes, to_be_bytes}
 use Rattle.std.specs.List.{IsSplitAt}
 use Rattle.std.specs.Prelude.{codes, MatchOption}
 use Rattle.std.specs.Borrow.{Bor}
-use Rattle.table_store.specs.State.{Table}
+use Rattle.table_store.specs.State.{Texts}
 use Rattle.table_store.specs.TableFile.{FitsTable, counted, table_file}
 
 -- the length that a text stands behind
@@ -42,7 +42,7 @@ counted_once : (a b : List ℕ) → length a ≤ 1048576 → length b ≤ 104857
 counted_once a b la lb e = (texts_cancel a b [] [] la lb (append-nil (counted a) ∙ e ∙ sym (append-nil (counted b)))).0
 
 -- files of tables within the limit are equal only of equal tables
-pub same_table : (a b : Table) → FitsTable a → FitsTable b → table_file a ≡ table_file b → a ≡ b
+pub same_table : (a b : Texts) → FitsTable a → FitsTable b → table_file a ≡ table_file b → a ≡ b
 same_table a b fa fb e =
     let texts = append_cancel_left (codes "PINOTTB1") (counted a.schema ++ counted a.settings) (counted b.schema ++ counted b.settings) e in
     let both = texts_cancel a.schema b.schema (counted a.settings) (counted b.settings) fa.schema fb.schema texts in
@@ -94,17 +94,17 @@ splits first second bytes n (Some x) small long is within (mid, front, back, len
 -- ---- reading a file
 
 -- the bytes of a file behind its first eight
-abbrev pub body : Table → List ℕ
+abbrev pub body : Texts → List ℕ
 body t = counted t.schema ++ counted t.settings
 
-pub no_settings : (file rest settings schema : List ℕ) (t : Table) → FitsTable t → file ≡ codes "PINOTTB1" ++ rest → length schema ≤ 1048576 → rest ≡ counted schema ++ settings
+pub no_settings : (file rest settings schema : List ℕ) (t : Texts) → FitsTable t → file ≡ codes "PINOTTB1" ++ rest → length schema ≤ 1048576 → rest ≡ counted schema ++ settings
     → ((text more : List ℕ) → length text ≤ 1048576 → settings ≢ counted text ++ more) → file ≢ table_file t
 no_settings file rest settings schema t fits head short first none same =
     let bodies : rest ≡ body t = append_cancel_left (codes "PINOTTB1") rest (body t) (sym head ∙ same) in
     let both = texts_cancel schema t.schema settings (counted t.settings) short fits.schema (sym first ∙ bodies) in
     none t.settings [] fits.settings (both.1 ∙ sym (append-nil (counted t.settings)))
 
-pub more_behind : (file rest settings schema text more : List ℕ) (t : Table) → FitsTable t → file ≡ codes "PINOTTB1" ++ rest → length schema ≤ 1048576 → rest ≡ counted schema ++ settings
+pub more_behind : (file rest settings schema text more : List ℕ) (t : Texts) → FitsTable t → file ≡ codes "PINOTTB1" ++ rest → length schema ≤ 1048576 → rest ≡ counted schema ++ settings
     → length text ≤ 1048576 → settings ≡ counted text ++ more → more ≢ [] → file ≢ table_file t
 more_behind file rest settings schema text more t fits head short first short_text second some same =
     let bodies : rest ≡ body t = append_cancel_left (codes "PINOTTB1") rest (body t) (sym head ∙ same) in
@@ -118,7 +118,7 @@ spelled_so file rest settings schema text more head first second none =
     head ∙ ap (λ r. codes "PINOTTB1" ++ r) (first ∙ ap (λ s. counted schema ++ s) (second ∙ ap (λ m. counted text ++ m) none ∙ append-nil (counted text)))
 
 -- what does not begin so is no such file
-pub no_head : (file : List ℕ) (t : Table) → take 8 file ≢ codes "PINOTTB1" → file ≢ table_file t
+pub no_head : (file : List ℕ) (t : Texts) → take 8 file ≢ codes "PINOTTB1" → file ≢ table_file t
 no_head file t other same = other (ap (take 8) same)
 
 -- bytes that begin so
@@ -134,7 +134,7 @@ none_left [] e = refl
 none_left (b ∷ bs) e = absurd (let le = eqb-true (length (b ∷ bs)) 0 (sym e) in omega arith)
 
 -- what a file without such texts is told of
-pub not_spelled : (file : List ℕ) (r : Option (Bor (List ℕ) × Bor (List ℕ))) → r ≡ None → ((t : Table) → FitsTable t → file ≢ table_file t)
-    → MatchOption r ((t : Table) → FitsTable t → file ≢ table_file t) (λ t. let texts : Table = record { schema = t.0.now; settings = t.1.now } in FitsTable texts × (file ≡ table_file texts))
+pub not_spelled : (file : List ℕ) (r : Option (Bor (List ℕ) × Bor (List ℕ))) → r ≡ None → ((t : Texts) → FitsTable t → file ≢ table_file t)
+    → MatchOption r ((t : Texts) → FitsTable t → file ≢ table_file t) (λ t. let texts : Texts = record { schema = t.0.now; settings = t.1.now } in FitsTable texts × (file ≡ table_file texts))
 not_spelled file None e none = none
 not_spelled file (Some t) e none = absurd cc

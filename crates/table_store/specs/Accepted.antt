@@ -9,7 +9,7 @@ use Rattle.table_store.specs.State as state
 use Rattle.table_store.specs.TableFile.{FitsTable, table_file}
 
 -- the checks accept these texts, as this schema and these settings of its fields
-pub record IsAccepted (texts : state.Table) (table : Table) : Type 0 where
+pub record IsAccepted (texts : state.Texts) (table : Table) : Type 0 where
   pub fits : FitsTable texts
   pub schema : schema_read texts.schema ≡ Ok table.schema
   pub settings : settings_read table.schema.fields texts.settings ≡ Ok table.settings
@@ -21,7 +21,7 @@ pub record IsValidTable (table : Table) : Type 0 where
 
 -- these bytes are the file of this table
 pub record IsTableFile (bytes : List ℕ) (table : Table) : Type 0 where
-  pub texts : state.Table
+  pub texts : state.Texts
   pub accepted : IsAccepted texts table
   pub spelled : bytes ≡ table_file texts
 

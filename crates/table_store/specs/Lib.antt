@@ -1,4 +1,5 @@
 pub mod State
 pub mod TableFile
 pub mod Accepted
+pub mod Faults
 pub mod Stands

@@ -4,8 +4,8 @@ use Rattle.std.specs.FinMap as map
 use Rattle.outside.specs.Files.{name_order}
 use Rattle.values.specs.declared.value.Value.{Value}
 
--- a table: the texts of its schema and of its settings
-pub record Table : Type 0 where
+-- what a table is kept as: the texts of its schema and of its settings
+pub record Texts : Type 0 where
   pub schema : List ℕ
   pub settings : List ℕ
 
@@ -21,4 +21,4 @@ Segments = map.FinMap name_order Segment
 -- no table, or a table with its segments
 pub data State : Type 0 where
   NoTable : State
-  HasTable : (table : Table) (segments : Segments) → State
+  HasTable : (texts : Texts) (segments : Segments) → State

@@ -1,18 +1,22 @@
 -- The file that a table is kept in.
 use Rattle.std.specs.Prelude.{◌≤◌, ◌++◌, ℕ, List, length, codes}
 use Rattle.std.specs.Int.{w32, to_be_bytes}
-use Rattle.table_store.specs.State.{Table}
+use Rattle.table_store.specs.State.{Texts}
 
 -- the name of the file
 abbrev pub table_name : List ℕ
 table_name = codes "table"
+
+-- the part that each file is written as before it is published
+abbrev pub incoming : List ℕ
+incoming = codes "incoming"
 
 -- a text behind its length, which is four bytes with the most significant first
 abbrev pub counted : List ℕ → List ℕ
 counted text = to_be_bytes w32 (length text) ++ text
 
 -- the bytes of the file: eight that say what it is, and the two texts
-abbrev pub table_file : Table → List ℕ
+abbrev pub table_file : Texts → List ℕ
 table_file texts = codes "PINOTTB1" ++ (counted texts.schema ++ counted texts.settings)
 
 -- the most bytes that a text of a table has
@@ -24,6 +28,6 @@ abbrev pub file_limit : ℕ
 file_limit = 2097168
 
 -- both texts are within the limit
-pub record FitsTable (texts : Table) : Type 0 where
+pub record FitsTable (texts : Texts) : Type 0 where
   pub schema : length texts.schema ≤ text_limit
   pub settings : length texts.settings ≤ text_limit

@@ -3,32 +3,28 @@
 ghost use Rattle.std.specs.Prelude.{◌≡◌, ◌≤◌, ◌⊎◌, true, false, Ok, OnOk, OnErr, IsErrOf};
 ghost use Rattle.outside.specs.Counts.{Rose};
 ghost use Rattle.outside.specs.Files.{Has, Lacks, SameBut, with_file, without_file};
-ghost use Rattle.table_store.specs.TableFile.{FitsTable, table_file, table_name};
+ghost use Rattle.outside.specs.Seen.{OnlyReads, OnlyWrites, seen};
+ghost use Rattle.table_store.specs.TableFile.{FitsTable, incoming, table_file, table_name};
 
 use crate::StoreFault;
-use crate::table_file::{NAME, file_of};
+use crate::table_file::{INCOMING, NAME, file_of};
 use outside::{Depot, DepotFault, ShelfFault};
 use std::alloc::Global;
 
 /// Whether there is a table.
-pub fn has_table<D: Depot>(alloc: Global, depot: &mut D) -> Result<bool, StoreFault>
+pub fn has_table<D: Depot>(alloc: Global, depot: &mut D) -> Result<bool, ShelfFault>
     ensures yes { result ≡ Ok true → Has (D.held depot.old) table_name }
     ensures no { result ≡ Ok false → Lacks (D.held depot.old) table_name }
-    ensures failed { IsErrOf result StoreFault.ReadFault →
-        Rose (D.read_faults depot.old) (D.read_faults depot.new) }
-    ensures only { OnErr result
-        (IsErrOf result StoreFault.ReadFault ⊎ IsErrOf result StoreFault.NoMemory) }
-    ensures held { D.held depot.new ≡ D.held depot.old }
-    ensures parts { D.parts depot.new ≡ D.parts depot.old }
+    ensures never_missing { ¬ IsErrOf result ShelfFault.Missing }
+    ensures only_reads { OnlyReads (IsErrOf result ShelfFault.Failed)
+        (seen D.Shelf depot.old) (seen D.Shelf depot.new) }
     ensures log { D.log depot.new ≡ D.log depot.old }
-    ensures writes { D.write_faults depot.new ≡ D.write_faults depot.old }
-    ensures later { D.read_faults depot.old ≤ D.read_faults depot.new }
 {
     match depot.length(alloc, NAME) {
         Ok(_) => Ok(true),
         Err(ShelfFault::Missing) => Ok(false),
-        Err(ShelfFault::Failed) => Err(StoreFault::ReadFault),
-        Err(ShelfFault::NoMemory) => Err(StoreFault::NoMemory),
+        Err(ShelfFault::Failed) => Err(ShelfFault::Failed),
+        Err(ShelfFault::NoMemory) => Err(ShelfFault::NoMemory),
     }
 }
 
@@ -49,17 +45,20 @@ pub fn create_table<D: Depot>(
     ensures exists { IsErrOf result StoreFault.TableExists → Has (D.held depot.old) table_name }
     ensures read_failed { IsErrOf result StoreFault.ReadFault →
         Rose (D.read_faults depot.old) (D.read_faults depot.new) }
+    ensures reads_still { ¬ IsErrOf result StoreFault.ReadFault →
+        D.read_faults depot.new ≡ D.read_faults depot.old }
     ensures write_failed { IsErrOf result StoreFault.WriteFault →
         Rose (D.write_faults depot.old) (D.write_faults depot.new) }
+    ensures writes_still { ¬ IsErrOf result StoreFault.WriteFault →
+        D.write_faults depot.new ≡ D.write_faults depot.old }
     ensures only { OnErr result
         (IsErrOf result StoreFault.TableExists ⊎ IsErrOf result StoreFault.ReadFault
         ⊎ IsErrOf result StoreFault.WriteFault ⊎ IsErrOf result StoreFault.NoMemory) }
     ensures part_gone { OnOk result
-        (D.parts depot.new ≡ without_file table_name (D.parts depot.old)) }
-    ensures other_parts { SameBut table_name (D.parts depot.old) (D.parts depot.new) }
+        (D.parts depot.new ≡ without_file incoming (D.parts depot.old)) }
+    ensures other_parts { SameBut incoming (D.parts depot.old) (D.parts depot.new) }
     ensures untouched { IsErrOf result StoreFault.TableExists ⊎ IsErrOf result StoreFault.ReadFault
-        → (D.parts depot.new ≡ D.parts depot.old)
-        × (D.write_faults depot.new ≡ D.write_faults depot.old) }
+        → D.parts depot.new ≡ D.parts depot.old }
     ensures log { D.log depot.new ≡ D.log depot.old }
     ensures reads_later { D.read_faults depot.old ≤ D.read_faults depot.new }
     ensures writes_later { D.write_faults depot.old ≤ D.write_faults depot.new }
@@ -76,21 +75,17 @@ pub fn create_table<D: Depot>(
     }
 }
 
-// Writes the file of the table, as a part of the same name that is published.
+// Writes the file of the table, as the one part that files are published by.
 fn publish_file<D: Depot>(alloc: Global, depot: &mut D, file: &[u8]) -> Result<(), DepotFault>
     ensures published { OnOk result
         (D.held depot.new ≡ with_file table_name file.now (D.held depot.old)) }
     ensures kept { OnErr result (D.held depot.new ≡ D.held depot.old) }
-    ensures gone { OnOk result (D.parts depot.new ≡ without_file table_name (D.parts depot.old)) }
-    ensures other_parts { SameBut table_name (D.parts depot.old) (D.parts depot.new) }
-    ensures failed { IsErrOf result DepotFault.Failed →
-        Rose (D.write_faults depot.old) (D.write_faults depot.new) }
+    ensures gone { OnOk result (D.parts depot.new ≡ without_file incoming (D.parts depot.old)) }
+    ensures only_writes { OnlyWrites (IsErrOf result DepotFault.Failed) incoming
+        (seen D.Shelf depot.old) (seen D.Shelf depot.new) }
     ensures never_missing { ¬ IsErrOf result DepotFault.Missing }
-    ensures log { D.log depot.new ≡ D.log depot.old }
-    ensures reads { D.read_faults depot.new ≡ D.read_faults depot.old }
-    ensures later { D.write_faults depot.old ≤ D.write_faults depot.new }
 {
-    depot.begin(alloc, NAME)?;
-    depot.append(alloc, NAME, file)?;
-    depot.publish(alloc, NAME, NAME)
+    depot.begin(alloc, INCOMING)?;
+    depot.append(alloc, INCOMING, file)?;
+    depot.publish(alloc, INCOMING, NAME)
 }

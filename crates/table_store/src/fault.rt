@@ -1,5 +1,6 @@
 //! Why a call on a store is refused.
 
+use outside::ShelfFault;
 use std::alloc::AllocError;
 
 /// The part of a stored file that is wrong. There is one so far, since no command makes a segment.
@@ -29,5 +30,20 @@ impl From<AllocError> for StoreFault {
 
     fn from(_: AllocError) -> Self {
         StoreFault::NoMemory
+    }
+}
+
+impl From<ShelfFault> for StoreFault {
+    ghost use Rattle.table_store.specs.Faults.{of_shelf};
+    ghost use Rattle.std.specs.Prelude.{◌≡◌};
+
+    ghost from_gives = { λ fault own. own ≡ of_shelf fault };
+
+    fn from(fault: ShelfFault) -> Self {
+        match fault {
+            ShelfFault::Missing => StoreFault::NoTable,
+            ShelfFault::Failed => StoreFault::ReadFault,
+            ShelfFault::NoMemory => StoreFault::NoMemory,
+        }
     }
 }

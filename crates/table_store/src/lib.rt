@@ -12,6 +12,3 @@ pub use fault::{Part, StoreFault};
 pub use laws::{create_stands_law, empty_stands_law, one_state_law, table_stands_law};
 pub use open::open_table;
 pub use table_file::TEXT_LIMIT;
-
-#[cfg(test)]
-mod tests;

@@ -1,8 +1,8 @@
 //! The table of a store.
 
-ghost use Rattle.std.specs.Prelude.{◌≡◌, ◌≢◌, ◌≤◌, IfOk, IfErr, IsErrOf};
-ghost use Rattle.outside.specs.Counts.{Rose};
+ghost use Rattle.std.specs.Prelude.{◌≡◌, ◌≢◌, IfOk, IfErr, IsErrOf};
 ghost use Rattle.outside.specs.Files.{Has, Lacks, OfFile};
+ghost use Rattle.outside.specs.Seen.{OnlyReads, seen};
 ghost use Rattle.outside.specs.Whole.{LogsFront};
 ghost use Rattle.table_store.specs.Accepted.{IsNoTableFile, IsTableFile, IsValidTable};
 ghost use Rattle.table_store.specs.TableFile.{file_limit, table_name};
@@ -56,15 +56,11 @@ pub fn open_table<D: Depot>(alloc: Global, depot: &mut D) -> Result<Table, Store
     ensures other { IsErrOf result (StoreFault.NotASegment Part.Table) →
         OfFile (D.held depot.old) table_name IsNoTableFile }
     ensures present { IsErrOf result StoreFault.NoMemory → Has (D.held depot.old) table_name }
-    ensures failed { IsErrOf result StoreFault.ReadFault →
-        Rose (D.read_faults depot.old) (D.read_faults depot.new) }
+    ensures only_reads { OnlyReads (IsErrOf result StoreFault.ReadFault)
+        (seen D.Shelf depot.old) (seen D.Shelf depot.new) }
     ensures no_write { ¬ IsErrOf result StoreFault.WriteFault }
     ensures never_exists { ¬ IsErrOf result StoreFault.TableExists }
-    ensures held { D.held depot.new ≡ D.held depot.old }
-    ensures parts { D.parts depot.new ≡ D.parts depot.old }
     ensures log { LogsFront table_name file_limit (D.log depot.old) (D.log depot.new) }
-    ensures writes { D.write_faults depot.new ≡ D.write_faults depot.old }
-    ensures later { D.read_faults depot.old ≤ D.read_faults depot.new }
 {
     match read_all(alloc, depot, NAME, FILE_LIMIT) {
         Ok(file) => read_table(alloc, file.as_slice()),

@@ -10,6 +10,9 @@ use std::alloc::{AllocError, Global};
 /// The name of the file.
 pub const NAME: &str = "table";
 
+/// The part that each file is written as before it is published.
+pub const INCOMING: &str = "incoming";
+
 /// The most bytes that a text of a table has.
 pub const TEXT_LIMIT: u64 = 1_048_576;
 
@@ -43,8 +46,8 @@ fn push_text(file: &mut Vec<u8>, text: &[u8]) -> Result<(), AllocError>
 /// The texts that a file is spelled of, if it is.
 pub fn texts_of(file: &[u8]) -> Option<(&[u8], &[u8])>
     ensures { MatchOption result
-        ((texts : state.Table) → FitsTable texts → file.now ≢ table_file texts)
-        (λ t. let texts : state.Table = record { schema = t.0.now; settings = t.1.now } in
+        ((texts : state.Texts) → FitsTable texts → file.now ≢ table_file texts)
+        (λ t. let texts : state.Texts = record { schema = t.0.now; settings = t.1.now } in
         FitsTable texts × (file.now ≡ table_file texts)) }
 {
     let rest = file.strip_prefix(MAGIC)?;

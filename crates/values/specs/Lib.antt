@@ -1,4 +1,6 @@
 pub mod Kinds
+pub mod Cells
+pub mod Columns
 pub mod Magnitude
 pub mod Numbers
 pub mod Order
@@ -6,4 +8,5 @@ pub mod Printed
 pub mod Reading
 pub mod Shared
 pub mod Tests
+pub mod Texts
 pub mod formers

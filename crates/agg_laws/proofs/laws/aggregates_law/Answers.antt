@@ -1,4 +1,4 @@
-use Rattle.agg_laws.specs.StateLaws as states
+use Rattle.agg_laws.specs.laws.States as states
 use Rattle.agg_laws.proofs.laws.aggregates_law.Goals as goal
 
 pub returns : goal.returns
@@ -11,6 +11,7 @@ returns c = record {
   permuted = states.same_permuted;
   fits_of = states.fits_of;
   fits_both = states.fits_both;
+  fits_more = states.fits_more;
   stored_fits = states.stored_fits;
   spelled = states.spelled;
   one_spelling = states.one_spelling;

@@ -1,4 +1,4 @@
-use Rattle.agg_laws.specs.RowLaws as rows
+use Rattle.agg_laws.specs.laws.Rows as rows
 use Rattle.agg_laws.proofs.laws.rows_law.Goals as goal
 
 pub returns : goal.returns
@@ -10,4 +10,5 @@ returns c = record {
   any_order = rows.any_order;
   permuted = rows.same_permuted;
   fits_both = rows.fits_both;
+  fits_more = rows.fits_more;
 }

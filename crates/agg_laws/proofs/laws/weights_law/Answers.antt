@@ -1,4 +1,4 @@
-use Rattle.agg_laws.specs.RowLaws as rows
+use Rattle.agg_laws.specs.laws.Rows as rows
 use Rattle.agg_laws.proofs.laws.weights_law.Goals as goal
 
 pub returns : goal.returns

@@ -1,13 +1,13 @@
-use Rattle.std.proofs.Common.{List}
-use Rattle.agg_laws.specs.declared.states.AggState.{AggState}
 use Rattle.agg_laws.specs.Rows.{merged_rows}
 use Rattle.agg_laws.specs.Tree.{tree_of}
 use Rattle.agg_laws.proofs.GroupLemmas.{rows_parted, groups_kept}
+use Rattle.agg_laws.proofs.PickDocs.{tree_docs}
 use Rattle.agg_laws.proofs.DocLemmas.{rows_join}
 use Rattle.agg_laws.proofs.tree_laws.picks_law.Goals as goal
 
 pub returns : goal.returns
 returns c = record {
   parted = λ t shape k docs. rows_parted merged_rows rows_join t k shape docs;
-  grouped = λ t shape k docs. groups_kept t k (List AggState) (tree_of merged_rows shape k docs);
+  documents = λ t shape k docs. tree_docs merged_rows rows_join t k shape docs;
+  grouped = λ t shape k docs. groups_kept t k merged_rows (tree_of merged_rows shape k docs);
 }

@@ -1,5 +1,5 @@
 use Rattle.agg_laws.specs.Rows.{merged_rows, row_weight}
-use Rattle.agg_laws.specs.RowLaws as rows
+use Rattle.agg_laws.specs.laws.Rows as rows
 use Rattle.agg_laws.specs.Tree.{dims_order}
 use Rattle.agg_laws.proofs.WeightLemmas.{weights-Merged}
 use Rattle.agg_laws.proofs.DocLemmas.{weights_least, weights_reached, stored-merged}

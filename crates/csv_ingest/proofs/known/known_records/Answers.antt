@@ -12,19 +12,19 @@ returns-then-not-branch-clause-err c = λ _ rest r.
     let none = rw c.if-not-branch.true at (c.in_ok-next_record.ensures rest r) in
     ap (rows_in csv_limits c.args.fields.now) (none c.args.most) ∙ no-names c.args.fields.now
 
-pub known_rows-requires-clause-few : goal.known_rows-requires-clause-few
-known_rows-requires-clause-few c =
+pub known_columns-requires-clause-few : goal.known_columns-requires-clause-few
+known_columns-requires-clause-few c =
     let (rest, reads, within) = c.requires.left in
     let (after, reads_on, next) = rw c.if-not-branch.false at (c.in_ok-next_record.ensures rest reads) in
     let few = cells-count c.args.reader.now rest (fields_of c.next_record.new.row) (records_left 0 c.next_record.new.reader after) (next 0) in
     omega (arith, few, within)
 
 pub returns-clause-ok : goal.returns-clause-ok
-returns-clause-ok c = ok-at c.known_rows.result _ _ (λ rows so rest r.
+returns-clause-ok c = ok-at c.known_columns.result _ _ (λ rows so rest r.
     let (after, reads, next) = rw c.if-not-branch.false at (c.in_ok-next_record.ensures rest r) in
-    ap (rows_in csv_limits c.args.fields.now) (next c.args.most) ∙ so after reads) c.known_rows.ensures.ok
+    ap (rows_in csv_limits c.args.fields.now) (next c.args.most) ∙ so after reads) c.known_columns.ensures.ok
 
 pub returns-clause-err : goal.returns-clause-err
-returns-clause-err c = err-at c.known_rows.result _ _ (λ fault so real rest r.
+returns-clause-err c = err-at c.known_columns.result _ _ (λ fault so real rest r.
     let (after, reads, next) = rw c.if-not-branch.false at (c.in_ok-next_record.ensures rest r) in
-    ap (rows_in csv_limits c.args.fields.now) (next c.args.most) ∙ so real after reads) c.known_rows.ensures.err
+    ap (rows_in csv_limits c.args.fields.now) (next c.args.most) ∙ so real after reads) c.known_columns.ensures.err

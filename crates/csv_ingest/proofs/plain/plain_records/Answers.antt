@@ -9,11 +9,11 @@ returns-then-not-branch-clause-err c = λ _ rest r.
     ap (plain_in csv_limits) (none c.args.most) ∙ no-record
 
 pub returns-clause-ok : goal.returns-clause-ok
-returns-clause-ok c = ok-at c.plain_rows.result _ _ (λ table so rest r.
+returns-clause-ok c = ok-at c.plain_columns_of.result _ _ (λ table so rest r.
     let (after, reads, next) = rw c.if-not-branch.false at (c.in_ok-next_record.ensures rest r) in
-    ap (plain_in csv_limits) (next c.args.most) ∙ so after reads) c.plain_rows.ensures.ok
+    ap (plain_in csv_limits) (next c.args.most) ∙ so after reads) c.plain_columns_of.ensures.ok
 
 pub returns-clause-err : goal.returns-clause-err
-returns-clause-err c = err-at c.plain_rows.result _ _ (λ fault so real rest r.
+returns-clause-err c = err-at c.plain_columns_of.result _ _ (λ fault so real rest r.
     let (after, reads, next) = rw c.if-not-branch.false at (c.in_ok-next_record.ensures rest r) in
-    ap (plain_in csv_limits) (next c.args.most) ∙ so real after reads) c.plain_rows.ensures.err
+    ap (plain_in csv_limits) (next c.args.most) ∙ so real after reads) c.plain_columns_of.ensures.err

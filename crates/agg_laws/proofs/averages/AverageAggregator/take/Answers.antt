@@ -2,7 +2,7 @@ use Rattle.std.proofs.Common.{◌≡◌, Ok, ap, ◌∙◌, sym, subst, arith}
 use Rattle.std.specs.Int.{w64, w128, from_be_bytes, cast_signed, cast_unsigned}
 use Rattle.std.proofs.lemmas.Int.{to_z-of_z}
 use Rattle.agg_laws.specs.Numbers.{AverageStored}
-use Rattle.agg_laws.specs.AverageLaws as laws
+use Rattle.agg_laws.specs.laws.Averages as laws
 use Rattle.agg_laws.proofs.averages.AverageAggregator.take.Goals as goal
 
 pub returns-then-is_stored-clause-found : goal.returns-then-is_stored-clause-found

@@ -1,7 +1,7 @@
 use Rattle.std.proofs.Common.{◌≡◌, Ok, ap, ◌∙◌, sym, arith}
 use Rattle.std.specs.Int.{w64, from_be_bytes}
 use Rattle.agg_laws.specs.Numbers.{count_bytes}
-use Rattle.agg_laws.specs.CountLaws as laws
+use Rattle.agg_laws.specs.laws.Counts as laws
 use Rattle.agg_laws.proofs.counts.CountAggregator.take.Goals as goal
 use Rattle.agg_laws.proofs.counts.CountAggregator.take.Goals.{then-count-eq0-via-then-count-eq0, then-count-eq0-via-else-count-eq0+then-count-gt-MOST_STORED}
 

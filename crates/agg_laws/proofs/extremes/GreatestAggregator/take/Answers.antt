@@ -1,5 +1,5 @@
 use Rattle.std.proofs.Common.{Ok, ap, arith}
-use Rattle.agg_laws.specs.NumberBytes as bytes
+use Rattle.agg_laws.specs.laws.NumberBytes as bytes
 use Rattle.agg_laws.proofs.extremes.GreatestAggregator.take.Goals as goal
 
 pub returns-clause-found : goal.returns-clause-found

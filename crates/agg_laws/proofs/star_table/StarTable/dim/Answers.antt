@@ -1,19 +1,24 @@
-use Rattle.std.proofs.Common.{◌<◌, ap, ◌∙◌, arith, length}
+use Rattle.std.proofs.Common.{◌≡◌, ℕ, ◌+◌, ◌*◌, ◌<◌, length, get_or, take, drop, sym, ap, ◌∙◌, arith, rules}
 use Rattle.agg_laws.specs.Tree.{star, dim}
 use Rattle.agg_laws.specs.Docs.{doc_at}
-use Rattle.agg_laws.proofs.Tables.{dims_at, doc_there, length-docs, got}
+use Rattle.agg_laws.proofs.RegionLemmas.{length-docs_in, doc_in, place_in, item_in, any_default}
 use Rattle.agg_laws.proofs.star_table.StarTable.dim.Goals as goal
 
-pub at-requires : goal.at-requires
-at-requires c =
-    let rows = c.self.inside.rows.items in
-    let within : c.args.at < length rows = omega (arith, c.requires.at, ap (λ t. length t.docs) c.self.view_is, length-docs rows) in
-    omega (arith, c.requires.level, ap (λ t. t.dims) c.self.view_is, dims_at c.self.inside.dims c.self.inside.kinds rows c.args.at c.index-row.result.now c.self.invariant within c.index-row.ensures)
+pub index-requires : goal.index-requires
+index-requires c =
+    let t = c.self.inside in
+    let n : c.args.at < t.count = omega (arith, c.requires.at, ap (λ v. length v.docs) c.self.view_is, length-docs_in t.count t.dims (length t.kinds) t.ids.items t.states.items) in
+    let l : c.args.level < t.dims = omega (arith, c.requires.level, ap (λ v. v.dims) c.self.view_is) in
+    let p = place_in t.count c.args.at t.dims c.args.level (length t.ids.items) c.self.invariant.ids_are n l in
+    omega (arith, p, t.ids.ok.0)
 
 pub returns : goal.returns
 returns c =
-    let rows = c.self.inside.rows.items in
-    let within : c.args.at < length rows = omega (arith, c.requires.at, ap (λ t. length t.docs) c.self.view_is, length-docs rows) in
-    got c.index-row.result.now.dims c.args.level c.at.result.now star c.at.ensures
-    ∙ ap (λ e. dim c.args.level e.0) (doc_there rows c.args.at c.index-row.result.now within c.index-row.ensures)
-    ∙ ap (λ t. dim c.args.level (doc_at t.docs c.args.at).0) c.self.view_is
+    let t = c.self.inside in
+    let n : c.args.at < t.count = omega (arith, c.requires.at, ap (λ v. length v.docs) c.self.view_is, length-docs_in t.count t.dims (length t.kinds) t.ids.items t.states.items) in
+    let l : c.args.level < t.dims = omega (arith, c.requires.level, ap (λ v. v.dims) c.self.view_is) in
+    let p = place_in t.count c.args.at t.dims c.args.level (length t.ids.items) c.self.invariant.ids_are n l in
+    let own : c.index.result.now ≡ get_or t.ids.items (c.args.at * t.dims + c.args.level) star = c.index.ensures ∙ any_default t.ids.items (c.args.at * t.dims + c.args.level) c.index.result.now star p in
+    own ∙ item_in t.dims c.args.at c.args.level t.ids.items star l
+    ∙ ap (λ e. dim c.args.level e.0) (sym (doc_in t.count t.dims (length t.kinds) t.ids.items t.states.items c.args.at n))
+    ∙ ap (λ v. dim c.args.level (doc_at v.docs c.args.at).0) c.self.view_is

@@ -2,7 +2,7 @@ use Rattle.std.proofs.Common.{◌≡◌, Ok, ap, ◌∙◌, sym, subst, arith}
 use Rattle.std.specs.Int.{w128, from_be_bytes, cast_signed, cast_unsigned}
 use Rattle.std.proofs.lemmas.Int.{to_z-of_z}
 use Rattle.agg_laws.specs.Numbers.{sum_bytes, SumFits, most_stored}
-use Rattle.agg_laws.specs.SumLaws as laws
+use Rattle.agg_laws.specs.laws.Sums as laws
 use Rattle.agg_laws.proofs.sums.SumAggregator.take.Goals as goal
 
 pub returns-then-sum_fits-clause-found : goal.returns-then-sum_fits-clause-found

@@ -1,0 +1,72 @@
+//! Worked values and calls of the crates that the others are built on: devices, values, aggregates, dictionaries and
+//! forward indexes. It prints a line for each table, and each expectation that does not hold.
+#![tactic(auto)]
+
+mod aggregates;
+mod depots;
+mod dictionaries;
+mod expect;
+mod folders;
+mod forward_indexes;
+mod shelves;
+mod sinks;
+mod tests_of_values;
+mod values_in_order;
+
+use expect::{Expectations, TestFault};
+use std::io;
+
+fn print(rt: &HostRuntime, name: &str, held: Result<Expectations, TestFault>) -> io::Result<()> {
+    let Ok(expectations) = held else {
+        return println!(rt; "{name}: ended early");
+    };
+    for what in &expectations.broken {
+        println!(rt; "{name}: not so: {what}")?;
+    }
+    println!(rt;
+        "{name}: {}",
+        if expectations.count > 0 {
+            "ran"
+        } else {
+            "nothing was run"
+        }
+    )
+}
+
+fn main(rt: HostRuntime) -> io::Result<()> {
+    let alloc = rt.alloc();
+    print(&rt, "lists and names", shelves::lists_and_names(alloc))?;
+    print(&rt, "shelf in memory", shelves::shelf_in_memory(alloc))?;
+    print(&rt, "depot in memory", depots::depot_in_memory(alloc))?;
+    print(&rt, "sinks", sinks::sinks(alloc))?;
+    print(
+        &rt,
+        "shelf over a folder",
+        folders::shelf_over_a_folder(&rt),
+    )?;
+    print(
+        &rt,
+        "depot over a folder",
+        folders::depot_over_a_folder(&rt),
+    )?;
+    print(&rt, "texts of values", values_in_order::texts(alloc))?;
+    print(
+        &rt,
+        "order of values",
+        values_in_order::order_of_values(alloc),
+    )?;
+    print(&rt, "order of rows", values_in_order::order_of_rows(alloc))?;
+    print(&rt, "comparisons", tests_of_values::comparisons(alloc))?;
+    print(
+        &rt,
+        "lists of tests",
+        tests_of_values::lists_of_tests(alloc),
+    )?;
+    print(&rt, "dictionaries", dictionaries::spelled(alloc))?;
+    print(&rt, "refused dictionaries", dictionaries::refused(alloc))?;
+    print(&rt, "look-ups", dictionaries::look_ups(alloc))?;
+    print(&rt, "spelled columns", forward_indexes::spelled(alloc))?;
+    print(&rt, "ranges", forward_indexes::ranges(alloc))?;
+    print(&rt, "aggregates", aggregates::states_of_values(alloc))?;
+    print(&rt, "stored states", aggregates::stored_states(alloc))
+}

@@ -1,0 +1,107 @@
+//! Lists, names and the shelf in memory.
+
+use crate::expect::{Expectations, TestFault};
+use outside::{Bytes, MemoryShelf, Name, ReadAllFault, Seq, Shelf, ShelfFault, read_all};
+use std::alloc::{AllocError, Global};
+use std::cmp::Ordering;
+
+pub fn name(alloc: Global, text: &str) -> Result<Name, AllocError> {
+    let mut name = Name::new(alloc);
+    name.push_str(text)?;
+    Ok(name)
+}
+
+pub fn bytes(alloc: Global, text: &[u8]) -> Result<Bytes, AllocError> {
+    Ok(Seq::from_vec(text.to_vec(alloc)?))
+}
+
+pub fn files(alloc: Global, named: &[(&str, &str)]) -> Result<Seq<(Name, Bytes)>, AllocError> {
+    let mut files = Seq::new(alloc);
+    for (file, text) in named {
+        files.push((name(alloc, file)?, bytes(alloc, text.as_bytes())?))?;
+    }
+    Ok(files)
+}
+
+/// The numbers of calls that fail.
+pub fn calls(alloc: Global, numbers: &[u64]) -> Result<Seq<u64>, AllocError> {
+    Ok(Seq::from_vec(numbers.to_vec(alloc)?))
+}
+
+/// Whether the names of a shelf are these, each followed by a space.
+pub fn lists<S: Shelf>(alloc: Global, shelf: &mut S, names: &str) -> Result<bool, TestFault> {
+    let mut text = String::new(alloc);
+    let Ok(all) = shelf.names(alloc) else {
+        return Ok(false);
+    };
+    for name in all.as_slice() {
+        text.push_str(name.as_str())?;
+        text.push_str(" ")?;
+    }
+    Ok(text.as_str() == names)
+}
+
+/// Whether the whole of a file is this.
+pub fn reads<S: Shelf>(alloc: Global, shelf: &mut S, name: &str, limit: u64, text: &[u8]) -> bool {
+    match read_all(alloc, shelf, name, limit) {
+        Ok(bytes) => bytes.as_slice() == text,
+        Err(_) => false,
+    }
+}
+
+/// Whether the whole of a file is refused so.
+pub fn refuses<S: Shelf>(
+    alloc: Global,
+    shelf: &mut S,
+    name: &str,
+    limit: u64,
+    fault: ReadAllFault,
+) -> bool {
+    read_all(alloc, shelf, name, limit).err() == Some(fault)
+}
+
+pub fn lists_and_names(alloc: Global) -> Result<Expectations, TestFault> {
+    let mut all = Expectations::new(alloc);
+    let ab = name(alloc, "ab")?;
+    all.expect(ab == name(alloc, "ab")?, "equal names")?;
+    all.expect(ab < name(alloc, "b")?, "a lesser name")?;
+    let is_greater = matches!(ab.cmp(&Name::new(alloc)), Ordering::Greater);
+    all.expect(is_greater, "a greater name")?;
+    all.expect(
+        ab.len() == 2 && ab.as_str() == "ab" && !ab.is_empty(),
+        "a name",
+    )?;
+    all.expect(ab.as_slice() == b"ab".as_slice(), "its bytes")?;
+    let list = bytes(alloc, b"xy")?;
+    all.expect(list != bytes(alloc, b"x")?, "unequal lists")?;
+    all.expect(list > bytes(alloc, b"x")?, "a greater list")?;
+    all.expect(
+        list.len() == 2 && list.as_slice() == b"xy".as_slice(),
+        "a list",
+    )?;
+    Ok(all)
+}
+
+pub fn shelf_in_memory(alloc: Global) -> Result<Expectations, TestFault> {
+    let mut all = Expectations::new(alloc);
+    let held = files(alloc, &[("b", "old"), ("a", "12345"), ("b", "new")])?;
+    let mut shelf = MemoryShelf::new(alloc, held, calls(alloc, &[5, 7])?)?;
+    all.expect(lists(alloc, &mut shelf, "a b ")?, "names once, ascending")?;
+    all.expect(
+        reads(alloc, &mut shelf, "b", 3, b"new"),
+        "the last file of a name",
+    )?;
+    let is_missing = refuses(alloc, &mut shelf, "c", 9, ReadAllFault::Missing);
+    all.expect(is_missing, "no file")?;
+    let is_long = refuses(alloc, &mut shelf, "a", 4, ReadAllFault::TooLong);
+    all.expect(is_long, "a file over the limit")?;
+    let length = shelf.length(alloc, "a");
+    all.expect(length == Err(ShelfFault::Failed), "call 5 fails")?;
+    let mut into = [0u8; 4];
+    let read = shelf.read_at(alloc, "a", 3, &mut into);
+    all.expect(read == Ok(2), "a read at the end")?;
+    all.expect(into == [b'4', b'5', 0, 0], "its bytes")?;
+    let failed = matches!(shelf.names(alloc), Err(ShelfFault::Failed));
+    all.expect(failed, "call 7 fails")?;
+    Ok(all)
+}

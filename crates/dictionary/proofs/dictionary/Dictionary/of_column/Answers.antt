@@ -1,0 +1,62 @@
+use Rattle.std.proofs.Common.{◌≡◌, ◌∙◌, ◌≤◌, ℕ, List, ap, ap₂, length, subst, sym}
+use Rattle.values.specs.declared.value.Value.{Value}
+use Rattle.dictionary.specs.Coding.{AreAmong, AreBelow, Codes, renumbered}
+use Rattle.dictionary.specs.Dictionary.{Ascends, distinct, most_values}
+use Rattle.dictionary.proofs.CodedLemmas.{column_so, ranks_all, renumbered_codes, seen_among}
+use Rattle.dictionary.proofs.Distinct.{members_so, stands_so}
+use Rattle.dictionary.proofs.dictionary.Dictionary.of_column.Goals as goal
+
+pub ranks-requires-clause-few : goal.ranks-requires-clause-few
+ranks-requires-clause-few c =
+    let so = column_so c.args.column.now.values c.in_ok-seen.field-0.values.items c.deref.result.now c.in_ok-values.values.items c.in_ok-seen.field-0.ids.items c.in_ok-seen.ensures c.deref.ensures.value c.in_ok-values.ensures.distinct in
+    let stands = stands_so c.args.kind c.args.column.now.values c.in_ok-values.values.items c.requires.few c.requires.fit so c.in_ok-values.ensures.unicode in
+    subst (λ (vs : List Value). length vs ≤ most_values) (sym c.deref-2.ensures.value) stands.few
+
+pub ranks-requires-clause-ascends : goal.ranks-requires-clause-ascends
+ranks-requires-clause-ascends c =
+    let so = column_so c.args.column.now.values c.in_ok-seen.field-0.values.items c.deref.result.now c.in_ok-values.values.items c.in_ok-seen.field-0.ids.items c.in_ok-seen.ensures c.deref.ensures.value c.in_ok-values.ensures.distinct in
+    let stands = stands_so c.args.kind c.args.column.now.values c.in_ok-values.values.items c.requires.few c.requires.fit so c.in_ok-values.ensures.unicode in
+    subst Ascends (sym c.deref-2.ensures.value) stands.ascends
+
+pub ranks-requires-clause-among : goal.ranks-requires-clause-among
+ranks-requires-clause-among c =
+    let is : c.in_ok-values.values.items ≡ distinct c.deref-3.result.now = c.in_ok-values.ensures.distinct ∙ ap distinct (c.deref.ensures.value ∙ sym c.deref-3.ensures.value) in
+    subst (λ (vs : List Value). AreAmong vs c.deref-3.result.now) (sym c.deref-2.ensures.value) (seen_among c.deref-3.result.now c.in_ok-values.values.items is)
+
+pub invariant_of-result : goal.invariant_of-result
+invariant_of-result c =
+    let so = column_so c.args.column.now.values c.in_ok-seen.field-0.values.items c.deref.result.now c.in_ok-values.values.items c.in_ok-seen.field-0.ids.items c.in_ok-seen.ensures c.deref.ensures.value c.in_ok-values.ensures.distinct in
+    stands_so c.args.kind c.args.column.now.values c.in_ok-values.values.items c.requires.few c.requires.fit so c.in_ok-values.ensures.unicode
+
+pub returns-clause-distinct : goal.returns-clause-distinct
+returns-clause-distinct c =
+    let so = column_so c.args.column.now.values c.in_ok-seen.field-0.values.items c.deref.result.now c.in_ok-values.values.items c.in_ok-seen.field-0.ids.items c.in_ok-seen.ensures c.deref.ensures.value c.in_ok-values.ensures.distinct in
+    so
+
+pub returns-clause-members : goal.returns-clause-members
+returns-clause-members c =
+    let so = column_so c.args.column.now.values c.in_ok-seen.field-0.values.items c.deref.result.now c.in_ok-values.values.items c.in_ok-seen.field-0.ids.items c.in_ok-seen.ensures c.deref.ensures.value c.in_ok-values.ensures.distinct in
+    members_so c.args.column.now.values c.in_ok-values.values.items so
+
+pub returns-clause-stands : goal.returns-clause-stands
+returns-clause-stands c =
+    let so = column_so c.args.column.now.values c.in_ok-seen.field-0.values.items c.deref.result.now c.in_ok-values.values.items c.in_ok-seen.field-0.ids.items c.in_ok-seen.ensures c.deref.ensures.value c.in_ok-values.ensures.distinct in
+    stands_so c.args.kind c.args.column.now.values c.in_ok-values.values.items c.requires.few c.requires.fit so c.in_ok-values.ensures.unicode
+
+pub returns-clause-ids : goal.returns-clause-ids
+returns-clause-ids c =
+    let seen : List Value = c.in_ok-seen.field-0.values.items in
+    let ranks : List ℕ = c.in_ok-ranks.ranks.items in
+    let ranked : Codes c.in_ok-values.values.items ranks seen =
+    subst (λ (vs : List Value). Codes vs ranks seen) c.deref-2.ensures.value (subst (λ (vs : List Value). Codes c.deref-2.result.now ranks vs) c.deref-3.ensures.value c.in_ok-ranks.ensures) in
+    renumbered_codes c.in_ok-values.values.items seen c.args.column.now.values ranks c.in_ok-seen.field-0.ids.items c.in_ok-row_ids.row_ids.items ranked c.in_ok-seen.ensures.codes
+    (c.in_ok-row_ids.ensures ∙ ap₂ renumbered c.deref-5.ensures.value c.deref-4.ensures.value)
+
+pub ranked-requires : goal.ranked-requires
+ranked-requires c =
+    let seen : List Value = c.in_ok-seen.field-0.values.items in
+    let ranks : List ℕ = c.in_ok-ranks.ranks.items in
+    let ranked : Codes c.in_ok-values.values.items ranks seen =
+    subst (λ (vs : List Value). Codes vs ranks seen) c.deref-2.ensures.value (subst (λ (vs : List Value). Codes c.deref-2.result.now ranks vs) c.deref-3.ensures.value c.in_ok-ranks.ensures) in
+    subst (λ (xs : List ℕ). AreBelow (length xs) c.deref-4.result.now) (sym c.deref-5.ensures.value)
+    (subst (AreBelow (length ranks)) (sym c.deref-4.ensures.value) (ranks_all c.in_ok-values.values.items seen c.args.column.now.values ranks c.in_ok-seen.field-0.ids.items ranked c.in_ok-seen.ensures.codes))

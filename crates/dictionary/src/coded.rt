@@ -1,0 +1,106 @@
+// The values of a column at first sight, and the ids of its rows.
+ghost use Rattle.std.specs.Prelude.{◌≡◌, ◌≤◌, map, length, IfOk};
+ghost use Rattle.values.specs.declared.value.Value.TheVariants as value;
+ghost use Rattle.dictionary.specs.Coding.{AreAmong, AreBelow, Codes, Sees, renumbered, values_at};
+ghost use Rattle.dictionary.specs.Dictionary.{Ascends, most_values};
+
+use crate::number_index::code_numbers;
+use std::alloc::{AllocError, Global};
+use values::{Column, Name, NoMemory, Texts, Value};
+
+/// Values of a column, as a rule each once, and for each row the place of its own among them.
+#[derive(Drop)]
+pub struct Coded {
+    pub values: Vec<Value>,
+    pub ids: Vec<u32>,
+}
+
+fn wholes(alloc: Global, numbers: &[i64]) -> Result<Vec<Value>, NoMemory>
+    ensures { IfOk result (λ values. values.items ≡ map value.Whole numbers.now) }
+{
+    numbers
+        .iter()
+        .map(|number| Value::Whole(*number))
+        .collect(alloc)
+}
+
+// The texts as values, which share them.
+fn shared_texts(alloc: Global, names: &[Name]) -> Result<Vec<Value>, NoMemory>
+    ensures { IfOk result (λ values. values.items ≡ map value.Text names.now) }
+{
+    let mut values = Vec::with_capacity(alloc, names.len())?;
+    for name in names {
+        values.push(Value::Text(name.copy()?))?;
+    }
+    Ok(values)
+}
+
+fn coded_numbers(alloc: Global, numbers: &[i64]) -> Result<Coded, NoMemory>
+    ensures { IfOk result (λ coded. Sees (map value.Whole numbers.now) coded.values.items
+        coded.ids.items) }
+{
+    let coded = code_numbers(alloc, numbers)?;
+    let values = wholes(alloc, &coded.seen)?;
+    Ok(Coded {
+        values,
+        ids: coded.ids,
+    })
+}
+
+fn coded_texts(alloc: Global, texts: &Texts) -> Result<Coded, NoMemory>
+    ensures { IfOk result (λ coded. Sees (map value.Text texts.now) coded.values.items
+        coded.ids.items) }
+{
+    let (names, ids) = texts.parts();
+    let values = shared_texts(alloc, names)?;
+    let ids = copied(alloc, ids)?;
+    Ok(Coded { values, ids })
+}
+
+/// The values of a column at first sight.
+pub fn code_column(alloc: Global, column: &Column) -> Result<Coded, NoMemory>
+    ensures { IfOk result (λ coded. Sees column.now.values coded.values.items coded.ids.items) }
+{
+    if let Some(numbers) = column.as_numbers() {
+        return coded_numbers(alloc, numbers);
+    }
+    match column.as_texts() {
+        Some(texts) => coded_texts(alloc, texts),
+        None => unreachable!(),
+    }
+}
+
+/// For each of these values its place among ascending ones, which have them all.
+pub fn ranks(alloc: Global, values: &[Value], seen: &[Value]) -> Result<Vec<u32>, NoMemory>
+    requires few { length values.now ≤ most_values }
+    requires ascends { Ascends values.now }
+    requires among { AreAmong values.now seen.now }
+    ensures { IfOk result (λ ranks. Codes values.now ranks.items seen.now) }
+{
+    let mut ranks = Vec::with_capacity(alloc, seen.len())?;
+    for value in seen {
+        match values.binary_search(value) {
+            Ok(place) => ranks.push(place as u32)?,
+            Err(_) => unreachable!(),
+        }
+    }
+    Ok(ranks)
+}
+
+/// The rank of each of these places.
+pub fn ranked(alloc: Global, ids: &[u32], ranks: &[u32]) -> Result<Vec<u32>, NoMemory>
+    requires { AreBelow (length ranks.now) ids.now }
+    ensures { IfOk result (λ new. new.items ≡ renumbered ranks.now ids.now) }
+{
+    let mut new = Vec::with_capacity(alloc, ids.len())?;
+    for id in ids {
+        new.push(ranks[*id as usize])?;
+    }
+    Ok(new)
+}
+
+fn copied(alloc: Global, ids: &[u32]) -> Result<Vec<u32>, NoMemory>
+    ensures { IfOk result (λ copy. copy.items ≡ ids.now) }
+{
+    ids.iter().copied().collect(alloc)
+}

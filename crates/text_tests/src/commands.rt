@@ -1,0 +1,184 @@
+//! Cases of commands: what has to come, the calls that fail, and the words, with bars between them.
+//!
+//! `file NAME TEXT` and `ones NAME COUNT` give a file to be read by the commands after it, that text or a column of so
+//! many ones; `stored NAME TEXT` gives a published file of the store. The calls that fail are `DEVICE:NUMBER`, with
+//! blanks between them; in their place `then` keeps the devices of the command before, and `long` makes every input file
+//! too long. A word `pad COUNT TEXT` is the text with so many bytes, by blanks at its end. The word `open?` opens the
+//! table.
+
+use crate::cases::{Report, compared};
+use crate::devices::{Devices, Failing, Files, run_over_long_files};
+use crate::escapes::unescaped;
+use outside::{Name, Seq};
+use std::alloc::{AllocError, Global};
+
+// A named file, as a line gives it.
+#[derive(Drop)]
+struct FileLine<'a> {
+    is_stored: bool,
+    name: &'a str,
+    bytes: Vec<u8>,
+}
+
+fn ones(alloc: Global, count: u32) -> Result<Vec<u8>, AllocError> {
+    let mut text = Vec::from_slice(alloc, b"k\n")?;
+    for _ in 0..count {
+        text.extend_from_slice(b"1\n")?;
+    }
+    Ok(text)
+}
+
+fn number(text: &str) -> u32 {
+    text.parse::<u32>().unwrap_or(0)
+}
+
+// The file that a line gives, if it gives one.
+fn file_line<'a>(alloc: Global, line: &'a str) -> Result<Option<FileLine<'a>>, AllocError> {
+    let Some((word, rest)) = line.split_once(' ') else {
+        return Ok(None);
+    };
+    let Some((name, text)) = rest.split_once(' ') else {
+        return Ok(None);
+    };
+    let bytes = match word {
+        "file" | "stored" => unescaped(alloc, text)?,
+        "ones" => ones(alloc, number(text))?,
+        _ => return Ok(None),
+    };
+    let is_stored = word == "stored";
+    Ok(Some(FileLine {
+        is_stored,
+        name,
+        bytes,
+    }))
+}
+
+// The numbers of the calls of a device that fail.
+fn failing_calls(alloc: Global, calls: &str, device: &str) -> Result<Vec<u64>, AllocError> {
+    let mut numbers = Vec::new(alloc);
+    for call in calls.split(' ') {
+        if let Some((name, at)) = call.split_once(':') {
+            if name == device {
+                numbers.push(u64::from(number(at)))?;
+            }
+        }
+    }
+    Ok(numbers)
+}
+
+fn failing(alloc: Global, calls: &str) -> Result<Failing, AllocError> {
+    Ok(Failing {
+        inputs: failing_calls(alloc, calls, "inputs")?,
+        depot: failing_calls(alloc, calls, "depot")?,
+        out: failing_calls(alloc, calls, "out")?,
+        notes: failing_calls(alloc, calls, "notes")?,
+    })
+}
+
+fn padded(alloc: Global, text: &str, size: u32) -> Result<String, AllocError> {
+    let mut word = String::from_str(alloc, text)?;
+    for _ in word.len()..size as usize {
+        word.push(' ')?;
+    }
+    Ok(word)
+}
+
+fn word(alloc: Global, text: &str) -> Result<String, AllocError> {
+    match text.strip_prefix("pad ") {
+        Some(rest) => match rest.split_once(' ') {
+            Some((size, text)) => padded(alloc, text, number(size)),
+            None => String::from_str(alloc, rest),
+        },
+        None => String::from_str(alloc, text),
+    }
+}
+
+fn words_of(alloc: Global, text: &str) -> Result<Vec<String>, AllocError> {
+    let mut words = Vec::new(alloc);
+    if !text.is_empty() {
+        for part in text.split('|') {
+            words.push(word(alloc, part)?)?;
+        }
+    }
+    Ok(words)
+}
+
+// The files of the commands to come.
+#[derive(Drop)]
+struct Given {
+    files: Vec<(String, Vec<u8>)>,
+    stored: Vec<(String, Vec<u8>)>,
+}
+
+fn copies(alloc: Global, files: &[(String, Vec<u8>)]) -> Result<Files, AllocError> {
+    let mut all = Seq::new(alloc);
+    for (name, bytes) in files {
+        let name = Name::from_string(String::from_str(alloc, name.as_str())?);
+        all.push((name, Seq::from_vec(bytes.as_slice().to_vec(alloc)?)))?;
+    }
+    Ok(all)
+}
+
+impl Given {
+    fn add(&mut self, alloc: Global, line: FileLine) -> Result<(), AllocError> {
+        let name = String::from_str(alloc, line.name)?;
+        let files = if line.is_stored {
+            &mut self.stored
+        } else {
+            &mut self.files
+        };
+        files.push((name, line.bytes))?;
+        Ok(())
+    }
+
+    fn devices(&self, alloc: Global, calls: &str) -> Result<Devices, AllocError> {
+        let files = copies(alloc, self.files.as_slice())?;
+        let stored = copies(alloc, self.stored.as_slice())?;
+        Devices::new(alloc, files, stored, failing(alloc, calls)?)
+    }
+}
+
+// What comes of the words.
+fn found(
+    alloc: Global,
+    devices: &mut Devices,
+    calls: &str,
+    words: &str,
+) -> Result<String, AllocError> {
+    if words == "open?" {
+        return devices.open(alloc);
+    }
+    let words = words_of(alloc, words)?;
+    if calls == "long" {
+        run_over_long_files(alloc, &words)
+    } else {
+        devices.run(alloc, &words)
+    }
+}
+
+/// Runs the cases of a file, in their order.
+pub fn run_commands(alloc: Global, file: &str) -> Result<Report, AllocError> {
+    let mut report = Report::new(alloc);
+    let mut given = Given {
+        files: Vec::new(alloc),
+        stored: Vec::new(alloc),
+    };
+    let mut devices = given.devices(alloc, "")?;
+    for line in file.lines() {
+        if line.starts_with('#') {
+            continue;
+        }
+        if let Some(file) = file_line(alloc, line)? {
+            given.add(alloc, file)?;
+            continue;
+        }
+        let (expected, rest) = line.split_once('|').unwrap_or((line, ""));
+        let (calls, words) = rest.split_once('|').unwrap_or((rest, ""));
+        if calls != "then" {
+            devices = given.devices(alloc, calls)?;
+        }
+        let found = found(alloc, &mut devices, calls, words)?;
+        report.add(compared(alloc, found.as_str(), expected, line)?)?;
+    }
+    Ok(report)
+}

@@ -1,0 +1,194 @@
+// Where a text may be found among those that are kept.
+ghost use Rattle.std.specs.Prelude.{◌≡◌, true, false, MatchOption, IfSome, Some, slice_get};
+ghost use Rattle.std.specs.Str.{is_utf8};
+
+use crate::Name;
+use std::alloc::{AllocError, Global};
+use std::collections::BTreeMap;
+use std::mem;
+
+// A free slot. Any other has the place of a text in its lower half, and the text's hash in its upper.
+const FREE: u64 = u64::MAX;
+
+// How many slots are looked at for a text, from the slot of its hash on.
+const MOST_PROBES: usize = 32;
+
+/// Where a text may be found: slots by its hash, and an ordered map of the texts for which no slot
+/// near their own was free. So a look-up takes few steps whatever the texts are.
+///
+/// What it holds is a guess: each text that it names is compared before its place is used, and a text
+/// that it misses is kept once more.
+#[derive(Drop)]
+pub struct TextIndex {
+    alloc: Global,
+    slots: Vec<u64>,
+    crowded: BTreeMap<String, u32>,
+}
+
+/// Any number will do: it is only where the search for a text begins.
+#[inline(always)]
+pub fn hash_of(bytes: &[u8]) -> u64 {
+    let mut hash: u64 = 0;
+    for byte in bytes {
+        hash = (hash ^ u64::from(*byte)).wrapping_mul(0x9E37_79B9_7F4A_7C15);
+    }
+    hash >> 32
+}
+
+/// The text of some bytes, if they are UTF-8.
+pub fn text_of(bytes: &[u8]) -> Option<&str>
+    ensures { MatchOption result (is_utf8 bytes.now ≡ false)
+        (λ text. (text.now ≡ bytes.now) × (is_utf8 bytes.now ≡ true)) }
+{
+    match str::from_utf8(bytes) {
+        Ok(text) => Some(text),
+        Err(_) => None,
+    }
+}
+
+#[inline(always)]
+fn are_same(a: &[u8], b: &[u8]) -> bool
+    ensures { result ≡ true → a.now ≡ b.now }
+{
+    a == b
+}
+
+// Whether these are the bytes of a name, which are UTF-8.
+#[inline(always)]
+fn is_name(name: &Name, bytes: &[u8]) -> bool
+    ensures same { result ≡ true → name.now ≡ bytes.now }
+    ensures text { result ≡ true → is_utf8 bytes.now ≡ true }
+{
+    are_same(name.as_str().as_bytes(), bytes)
+}
+
+// The place of a text, if it is this one.
+fn checked(names: &[Name], id: u32, bytes: &[u8]) -> Option<u32>
+    ensures place { IfSome result (λ id. slice_get names.now id ≡ Some bytes.now) }
+    ensures text { IfSome result (λ _. is_utf8 bytes.now ≡ true) }
+{
+    let Some(name) = names.get(id as usize) else {
+        return None;
+    };
+    if is_name(name, bytes) { Some(id) } else { None }
+}
+
+// Puts a content into the first free slot from that of its hash on, if one of the first is free.
+fn put(slots: &mut [u64], content: u64) -> bool {
+    let size = slots.len();
+    if size == 0 {
+        return false;
+    }
+    let mut at = (content >> 32) as usize & (size - 1);
+    for _ in 0..MOST_PROBES {
+        let Some(slot) = slots.get_mut(at) else {
+            return false;
+        };
+        if *slot == FREE {
+            *slot = content;
+            return true;
+        }
+        at = at.wrapping_add(1) & (size - 1);
+    }
+    false
+}
+
+fn free_slots(alloc: Global, size: usize) -> Result<Vec<u64>, AllocError> {
+    let mut slots = Vec::with_capacity(alloc, size)?;
+    for _ in 0..size {
+        slots.push(FREE)?;
+    }
+    Ok(slots)
+}
+
+impl TextIndex {
+    pub fn new(alloc: Global) -> Self {
+        TextIndex {
+            alloc,
+            slots: Vec::new(alloc),
+            crowded: BTreeMap::new(alloc),
+        }
+    }
+
+    /// The place of a text of that hash, if it is found.
+    #[inline(always)]
+    pub fn find(&self, names: &[Name], hash: u64, bytes: &[u8]) -> Option<u32>
+        ensures place { IfSome result (λ id. slice_get names.now id ≡ Some bytes.now) }
+        ensures text { IfSome result (λ _. is_utf8 bytes.now ≡ true) }
+    {
+        let size = self.slots.len();
+        if size == 0 {
+            return None;
+        }
+        let mut at = hash as usize & (size - 1);
+        for _ in 0..MOST_PROBES {
+            let Some(slot) = self.slots.get(at) else {
+                return None;
+            };
+            if *slot == FREE {
+                return None;
+            }
+            if *slot >> 32 == hash {
+                let found = checked(names, (*slot & 0xFFFF_FFFF) as u32, bytes);
+                if found.is_some() {
+                    return found;
+                }
+            }
+            at = at.wrapping_add(1) & (size - 1);
+        }
+        self.find_crowded(names, bytes)
+    }
+
+    #[inline(never)]
+    fn find_crowded(&self, names: &[Name], bytes: &[u8]) -> Option<u32>
+        ensures place { IfSome result (λ id. slice_get names.now id ≡ Some bytes.now) }
+        ensures text { IfSome result (λ _. is_utf8 bytes.now ≡ true) }
+    {
+        let Some(text) = text_of(bytes) else {
+            return None;
+        };
+        let Some(id) = self.crowded.get(text) else {
+            return None;
+        };
+        checked(names, *id, bytes)
+    }
+
+    /// Notes the place of a text of that hash.
+    pub fn note(
+        &mut self,
+        names: &[Name],
+        hash: u64,
+        id: u32,
+        text: &str,
+    ) -> Result<(), AllocError> {
+        if id as usize >= self.slots.len() / 2 {
+            self.widen(names)?;
+        }
+        if !put(&mut self.slots, (hash << 32) | u64::from(id)) {
+            self.crowd(text, id)?;
+        }
+        Ok(())
+    }
+
+    fn crowd(&mut self, text: &str, id: u32) -> Result<(), AllocError> {
+        self.crowded
+            .insert(String::from_str(self.alloc, text)?, id)?;
+        Ok(())
+    }
+
+    // Makes twice as many slots, of the same contents.
+    fn widen(&mut self, names: &[Name]) -> Result<(), AllocError> {
+        let size = self.slots.len().max(32).saturating_mul(2);
+        let wider = free_slots(self.alloc, size)?;
+        let slots = mem::replace(&mut self.slots, wider);
+        for slot in &slots {
+            if *slot != FREE && !put(&mut self.slots, *slot) {
+                let id = (*slot & 0xFFFF_FFFF) as u32;
+                if let Some(name) = names.get(id as usize) {
+                    self.crowd(name.as_str(), id)?;
+                }
+            }
+        }
+        Ok(())
+    }
+}
