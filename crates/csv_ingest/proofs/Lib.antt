@@ -12,3 +12,4 @@ mod ReadingLemmas
 mod RowLemmas
 mod RowsLemmas
 pub mod ValidLemmas
+pub mod ValidRows

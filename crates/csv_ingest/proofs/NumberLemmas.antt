@@ -20,17 +20,18 @@ use Rattle.csv_ingest.specs.declared.fault.CsvKind.TheVariants.{NotUtf8, BadHead
 use Rattle.csv_ingest.specs.declared.fault.CsvFault.{CsvFault}
 use Rattle.csv_ingest.specs.declared.fault.CsvFault.TheVariants.{At, TooManyRows, TooManyColumns}
 use Rattle.csv_ingest.specs.Columns.{DefaultFits, DefaultsFit}
-use Rattle.csv_ingest.specs.Names.{is_among, is_column_name, plain_field, plain_name}
+use Rattle.csv_ingest.specs.Names.{is_among, plain_field, plain_name}
+use Rattle.table_schema.specs.Names.{is_column_name}
 use Rattle.csv_ingest.specs.Rows.{all_or_first, cell_value, csv_limits, header_of, is_number, IsNumbers, joined, kinded, Limits, name_at, placed, place_of, plain_in, row_at, rows_of, under, value_at, values_of, with_schema}
 
 -- what joins two results
-joins : {A E : Type 0} (r : Result A E) (rest : Result (List A) E) (all : List A) → joined r rest ≡ Ok all → (a : A) × (more : List A) × (r ≡ Ok a) × (rest ≡ Ok more) × (all ≡ a ∷ more)
+pub joins : {A E : Type 0} (r : Result A E) (rest : Result (List A) E) (all : List A) → joined r rest ≡ Ok all → (a : A) × (more : List A) × (r ≡ Ok a) × (rest ≡ Ok more) × (all ≡ a ∷ more)
 joins (Err e) rest all is = absurd cc
 joins (Ok a) (Err e) all is = absurd cc
 joins (Ok a) (Ok more) all is = (a, more, refl, refl, cc)
 
 -- what a rule gives of each item holds of all that it gives
-each : {A B E : Type 0} (Q : A → Type 0) (P : B → Type 0) (f : A → Result B E) → ((a : A) (b : B) → Q a → f a ≡ Ok b → P b)
+pub each : {A B E : Type 0} (Q : A → Type 0) (P : B → Type 0) (f : A → Result B E) → ((a : A) (b : B) → Q a → f a ≡ Ok b → P b)
     → (xs : List A) (ys : List B) → AllByRecursion Q xs → all_or_first (map f xs) ≡ Ok ys → AllByRecursion P ys
 each Q P f rule [] ys q is =
     let none : [] ≡ ys = cc in
@@ -48,7 +49,7 @@ as_many f (x ∷ xs) ys is =
     ap length all ∙ ap suc (as_many f xs bs rest)
 
 -- a column of whole numbers
-abbrev IsPlain : Field → Type 0
+abbrev pub IsPlain : Field → Type 0
 IsPlain field = (name : List ℕ) × (field ≡ plain_field name)
 
 whole_number : (r : Result ℤ WholeFault) (v : Value) → kinded (number_value r) ≡ Ok v → is_number v ≡ true
@@ -68,7 +69,7 @@ cell_number name [] v is =
     subst (λ w. is_number w ≡ true) same refl
 cell_number name (b ∷ bytes) v is = utf8_number (is_utf8 (b ∷ bytes)) (b ∷ bytes) v is
 
-placed_ok : {A : Type 0} (row column : ℕ) (r : Result A CsvKind) (a : A) → placed row column r ≡ Ok a → r ≡ Ok a
+pub placed_ok : {A : Type 0} (row column : ℕ) (r : Result A CsvKind) (a : A) → placed row column r ≡ Ok a → r ≡ Ok a
 placed_ok row column (Ok b) a is = ap Ok cc
 placed_ok row column (Err kind) a is = absurd cc
 
@@ -98,7 +99,7 @@ row_numbers true short much wrong header n cells fields row plain is = absurd cc
 row_numbers false true much wrong header n cells fields row plain is = absurd cc
 row_numbers false false much wrong header n cells fields row plain is = values_numbers header n cells fields row plain is
 
-anything : {A : Type 0} (xs : List A) → AllByRecursion (λ x. ⊤) xs
+pub anything : {A : Type 0} (xs : List A) → AllByRecursion (λ x. ⊤) xs
 anything [] = tt
 anything (x ∷ xs) = (tt, anything xs)
 
@@ -115,7 +116,7 @@ name_plain false true twice name field is = absurd cc
 name_plain false false true name field is = absurd cc
 name_plain false false false name field is = (name, cc)
 
-header_plain : (header : List (List ℕ)) (fields : List Field) → header_of plain_name header ≡ Ok fields → AllByRecursion IsPlain fields
+pub header_plain : (header : List (List ℕ)) (fields : List Field) → header_of plain_name header ≡ Ok fields → AllByRecursion IsPlain fields
 header_plain header fields is =
     each (λ x. ⊤) IsPlain (name_at plain_name header)
     (λ (column, name) field _ ok. name_plain (not (is_utf8 name)) (not (is_column_name name)) (is_among name (take (column - 1) header)) name field (placed_ok 0 column (plain_name (take (column - 1) header) name) field ok))

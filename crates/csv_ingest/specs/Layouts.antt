@@ -2,7 +2,8 @@
 use Rattle.std.specs.Prelude.{◌≡◌, ◌<◌, ◌^◌, ℕ, List, map, length}
 use Rattle.csv_ingest.specs.declared.layout.Layout.{Layout}
 use Rattle.csv_ingest.specs.Columns.{DefaultsFit}
-use Rattle.csv_ingest.specs.Rows.{most_rows, place_of}
+use Rattle.csv_ingest.specs.Rows.{place_of}
+use Rattle.table_schema.specs.ValidTable.{most_rows}
 
 -- the names of the header
 abbrev pub header_of : Layout → List (List ℕ)

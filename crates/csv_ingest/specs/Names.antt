@@ -1,23 +1,14 @@
 -- The names in the header of a CSV text.
-use Rattle.std.specs.Prelude.{ℕ, pos, nat_le, Bool, not, ◌&&◌, ◌==◌, List, length, map, Result, Ok, Err, if◌then◌else◌}
-use Rattle.std.specs.List.{list_all, list_any}
+use Rattle.std.specs.Prelude.{ℕ, pos, Bool, not, ◌&&◌, List, map, Result, Ok, Err, if◌then◌else◌}
+use Rattle.std.specs.List.{list_any}
 use Rattle.std.specs.Str.{bytes_eq, is_utf8}
 use Rattle.values.specs.declared.kind.FieldKind.TheVariants.{Long}
 use Rattle.values.specs.declared.value.Value.TheVariants.{Whole}
 use Rattle.table_schema.specs.declared.field.Field.{Field}
 use Rattle.table_schema.specs.declared.field.Role.TheVariants.{Metric}
+use Rattle.table_schema.specs.Names.{is_column_name}
 use Rattle.csv_ingest.specs.declared.fault.CsvKind.{CsvKind}
 use Rattle.csv_ingest.specs.declared.fault.CsvKind.TheVariants.{NotUtf8, BadHeader, DuplicateHeader}
-
--- a column's name has 1 to 128 visible ASCII characters without `"` (34), `,` (44) and `*` (42)
-abbrev pub is_column_byte : ℕ → Bool
-is_column_byte b = nat_le 33 b && nat_le b 126 && not (b == 34) && not (b == 44) && not (b == 42)
-
-abbrev pub fits_name : ℕ → Bool
-fits_name n = nat_le 1 n && nat_le n 128
-
-abbrev pub is_column_name : List ℕ → Bool
-is_column_name name = fits_name (length name) && list_all is_column_byte name
 
 -- whether one of these is that name
 abbrev pub is_among : List ℕ → List (List ℕ) → Bool

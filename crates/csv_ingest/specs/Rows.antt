@@ -1,5 +1,5 @@
 -- The rows of a CSV text, or the first thing that is wrong with it: functions of the whole list of its records.
-use Rattle.std.specs.Prelude.{◌≡◌, ◌<◌, ◌+◌, ℕ, ◌-◌, ◌/◌, max, min, nat_lt, Bool, true, false, not, ◌==◌, List, [], ◌∷◌, length, take, map, slice_index_or, get_or, Option, Some, None, Result, Ok, Err, if◌then◌else◌}
+use Rattle.std.specs.Prelude.{◌≡◌, ◌<◌, ◌+◌, ℕ, ◌-◌, nat_lt, Bool, true, false, not, ◌==◌, List, [], ◌∷◌, length, take, map, slice_index_or, get_or, Option, Some, None, Result, Ok, Err, if◌then◌else◌}
 use Rattle.std.specs.List.{enumerate_from, list_all, position_from}
 use Rattle.std.specs.Str.{bytes_eq, is_utf8}
 use Rattle.csv.specs.Reading.{default_config, records, strip_bom}
@@ -12,6 +12,7 @@ use Rattle.values.specs.declared.read.ValueFault.{ValueFault}
 use Rattle.values.specs.declared.read.ValueFault.TheVariants as refused
 use Rattle.table_schema.specs.declared.field.Field.{Field}
 use Rattle.table_schema.specs.declared.field.Schema.{Schema}
+use Rattle.table_schema.specs.ValidTable.{most_rows}
 use Rattle.csv_ingest.specs.declared.fault.CsvKind.{CsvKind}
 use Rattle.csv_ingest.specs.declared.fault.CsvKind.TheVariants.{NoHeader, NotUtf8, WrongLength, NotANumber, OutOfRange, TooLong}
 use Rattle.csv_ingest.specs.declared.fault.CsvFault.{CsvFault}
@@ -25,10 +26,6 @@ pub record Limits : Type 0 where
 
 abbrev pub most_columns : ℕ
 most_columns = 64
-
--- 2^20 rows, and 2^24 values in all of them
-abbrev pub most_rows : ℕ → ℕ
-most_rows fields = min 1048576 (16777216 / max 1 fields)
 
 abbrev pub csv_limits : Limits
 csv_limits = record { many_columns = λ n. nat_lt most_columns n; most_rows = most_rows }

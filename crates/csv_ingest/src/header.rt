@@ -1,8 +1,7 @@
 // The header of a CSV text.
 ghost use Rattle.std.specs.Prelude.{◌≡◌, ◌≢◌, ◌≤◌, true, false, map, take, length, ◌<◌, ◌^◌, IfOk, IfErr, IsOk, Ok, Err};
-ghost use Rattle.std.specs.List.{list_all};
 ghost use Rattle.csv.specs.Records.{fields_of};
-ghost use Rattle.csv_ingest.specs.Names.{is_among, is_column_byte, fits_name, is_column_name, known_name, names_of, plain_field, plain_name};
+ghost use Rattle.csv_ingest.specs.Names.{is_among, known_name, names_of, plain_field, plain_name};
 ghost use Rattle.csv_ingest.specs.Rows.{header_of};
 
 use crate::cells::text_of;
@@ -10,32 +9,8 @@ use crate::records::field;
 use crate::{CsvFault, CsvKind};
 use csv::ByteRecord;
 use std::alloc::{AllocError, Global};
-use table_schema::{Field, Role};
+use table_schema::{Field, Role, is_column_name};
 use values::{FieldKind, Name, Seq, Value};
-
-fn is_column_byte(b: u8) -> bool
-    ensures { result ≡ is_column_byte b }
-{
-    33 <= b && b <= 126 && b != b'"' && b != b',' && b != b'*'
-}
-
-fn fits_name(n: usize) -> bool
-    ensures { result ≡ fits_name n }
-{
-    1 <= n && n <= 128
-}
-
-fn are_column_bytes(name: &[u8]) -> bool
-    ensures { result ≡ list_all is_column_byte name.now }
-{
-    name.iter().all(|b| is_column_byte(*b))
-}
-
-fn is_column_name(name: &[u8]) -> bool
-    ensures { result ≡ is_column_name name.now }
-{
-    fits_name(name.len()) && are_column_bytes(name)
-}
 
 fn is_among(name: &[u8], names: &[&[u8]]) -> bool
     ensures { result ≡ is_among name.now (map (λ f. f.now) names.now) }

@@ -5,6 +5,8 @@ ghost use Rattle.values.specs.Columns.{rows_of as rows_of_columns};
 ghost use Rattle.csv_ingest.specs.Columns.{DefaultsFit};
 ghost use Rattle.csv_ingest.specs.Reading.{Reads, records_left};
 ghost use Rattle.csv_ingest.specs.Rows.{csv_limits, records_of, rows_in};
+ghost use Rattle.table_schema.specs.Valid.{IsValidSchema};
+ghost use Rattle.table_schema.specs.ValidTable.{AreRows};
 
 use crate::header::{check_names, names_in};
 use crate::records::{next_record, text_reader, unmarked_len};
@@ -80,6 +82,8 @@ pub fn read_columns(alloc: Global, schema: &Schema, bytes: &[u8]) -> Result<Colu
         ≡ Ok (rows_of_columns table)) }
     ensures err { IfErr result (λ fault. fault ≢ CsvFault.NoMemory
         → rows_in csv_limits schema.now.fields (records_of bytes.now) ≡ Err fault) }
+    ensures valid { IsValidSchema schema.now
+        → IfOk result (λ table. AreRows schema.now.fields (rows_of_columns table)) }
 {
     let mut reader = text_reader(alloc, bytes);
     known_records(
@@ -98,6 +102,7 @@ pub fn read_rows(alloc: Global, schema: &Schema, bytes: &[u8]) -> Result<Rows, C
         ≡ Ok rows) }
     ensures err { IfErr result (λ fault. fault ≢ CsvFault.NoMemory
         → rows_in csv_limits schema.now.fields (records_of bytes.now) ≡ Err fault) }
+    ensures valid { IsValidSchema schema.now → IfOk result (AreRows schema.now.fields) }
 {
     match read_columns(alloc, schema, bytes) {
         Ok(table) => Ok(table.rows(alloc)?),

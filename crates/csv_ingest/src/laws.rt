@@ -2,8 +2,22 @@
 ghost use Rattle.table_schema.specs.declared.field.Schema.{Schema};
 ghost use Rattle.table_schema.specs.Valid.{IsValidSchema};
 ghost use Rattle.csv_ingest.specs.Columns.{DefaultsFit};
+ghost use Rattle.csv_ingest.specs.Rows.{csv_limits, plain_in, rows_in};
+ghost use Rattle.std.specs.Prelude.{◌≡◌, ℕ, List, Ok};
+ghost use Rattle.table_schema.specs.ValidTable.{AreRows};
+ghost use Rattle.values.specs.declared.value.Value.{Value};
 
 /// The default of each field of a valid schema is of the field's kind.
 pub fn defaults_law()
     ensures { (schema : Schema) → IsValidSchema schema → DefaultsFit schema.fields }
+{}
+
+/// What a text is read as, by a valid schema or by its own header, are rows of the table, and no more than
+/// there may be.
+pub fn rows_law()
+    ensures known { (schema : Schema) (records : List (List (List ℕ))) (rows : List (List Value))
+        → IsValidSchema schema → rows_in csv_limits schema.fields records ≡ Ok rows
+        → AreRows schema.fields rows }
+    ensures plain { (records : List (List (List ℕ))) (table : Schema × List (List Value))
+        → plain_in csv_limits records ≡ Ok table → AreRows table.0.fields table.1 }
 {}

@@ -4,7 +4,8 @@ ghost use Rattle.std.specs.List.{position_from};
 ghost use Rattle.std.specs.Str.{bytes_eq};
 ghost use Rattle.csv_ingest.specs.Columns.{DefaultsFit};
 ghost use Rattle.csv_ingest.specs.Layouts.{IsLayout, header_of};
-ghost use Rattle.csv_ingest.specs.Rows.{most_rows, place_of};
+ghost use Rattle.csv_ingest.specs.Rows.{place_of};
+ghost use Rattle.table_schema.specs.ValidTable.{most_rows};
 
 use std::alloc::{AllocError, Global};
 use table_schema::Field;

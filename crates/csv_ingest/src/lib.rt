@@ -15,14 +15,6 @@ mod rows;
 
 pub use defaults::defaults_fit;
 pub use fault::{CsvFault, CsvKind};
-<<<<<<< HEAD
-pub use known::read_rows;
-pub use plain::read_plain;
-=======
 pub use known::{read_columns, read_rows};
-pub use laws::defaults_law;
+pub use laws::{defaults_law, rows_law};
 pub use plain::{read_plain, read_plain_columns};
-
-#[cfg(test)]
-mod tests;
->>>>>>> 5fa2d6314536ce549f9b35ee27b95d9b623762c0

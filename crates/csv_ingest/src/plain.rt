@@ -5,6 +5,7 @@ ghost use Rattle.csv.specs.Records.{fields_of};
 ghost use Rattle.values.specs.Columns.{rows_of as rows_of_columns};
 ghost use Rattle.csv_ingest.specs.Reading.{Reads, records_left};
 ghost use Rattle.csv_ingest.specs.Rows.{csv_limits, IsNumbers, plain_in, records_of};
+ghost use Rattle.table_schema.specs.ValidTable.{AreRows};
 
 use crate::header::{names_in, plain_columns};
 use crate::records::{next_record, text_reader, unmarked_len};
@@ -84,6 +85,7 @@ pub fn read_plain_columns(alloc: Global, bytes: &[u8]) -> Result<(Schema, Column
     ensures few { IfOk result (λ table. length table.0.fields ≤ 64) }
     ensures numbers { IfOk result (λ table.
         All (IsNumbers (length table.0.fields)) (rows_of_columns table.1)) }
+    ensures valid { IfOk result (λ table. AreRows table.0.fields (rows_of_columns table.1)) }
 {
     let mut reader = text_reader(alloc, bytes);
     plain_records(alloc, &mut reader, unmarked_len(bytes))
@@ -97,6 +99,7 @@ pub fn read_plain(alloc: Global, bytes: &[u8]) -> Result<(Schema, Rows), CsvFaul
         → plain_in csv_limits (records_of bytes.now) ≡ Err fault) }
     ensures few { IfOk result (λ table. length table.0.fields ≤ 64) }
     ensures numbers { IfOk result (λ table. All (IsNumbers (length table.0.fields)) table.1) }
+    ensures valid { IfOk result (λ table. AreRows table.0.fields table.1) }
 {
     match read_plain_columns(alloc, bytes) {
         Ok((schema, table)) => Ok((schema, table.rows(alloc)?)),

@@ -11,13 +11,14 @@ use Rattle.values.specs.declared.kind.FieldKind.{FieldKind}
 use Rattle.values.specs.declared.kind.FieldKind.TheVariants as kind
 use Rattle.values.specs.declared.value.Value.{Value}
 use Rattle.values.specs.declared.value.Value.TheVariants as value
-use Rattle.dictionary.specs.Dictionary.{Fits, fits, most_values}
+use Rattle.dictionary.specs.Dictionary.{Fits, most_values}
 use Rattle.dictionary.specs.Reading.{is_above_last, IsBody, NoBody}
 use Rattle.dictionary.proofs.Progress.{IsRead, Whole, none_read, read_more, not_whole, body_read}
 use Rattle.dictionary.specs.Spelling.{number_bytes, numbers, body}
 use Rattle.dictionary.proofs.Bytes.{AreBytes, same_fronts, same_rests}
 use Rattle.std.specs.List.{All}
 use Rattle.std.proofs.lemmas.List.Elements.{All-head, All-tail}
+use Rattle.values.specs.Kinds.{fits}
 use borrow.Author.Tests.{ltb-true, lt-ltb}
 use lib.Signed.{mag}
 

@@ -1,29 +1,20 @@
 -- The dictionary of a column: its distinct values, each before all those behind it in the order of values.
-use Rattle.std.specs.Prelude.{◌≡◌, ◌≤◌, ℕ, Bool, true, false, nat_le, List, [], ◌∷◌, length}
+use Rattle.std.specs.Prelude.{◌≡◌, ◌≤◌, ℕ, true, List, [], ◌∷◌, length}
 use Rattle.std.specs.List.{All}
 use Rattle.std.specs.List.Sorted.{IsStrictlySortedBy}
 use Rattle.std.specs.Ordering.{match_ordering}
 use Rattle.std.specs.Str.{IsUtf8}
 use Rattle.values.specs.declared.kind.FieldKind.{FieldKind}
-use Rattle.values.specs.declared.kind.FieldKind.TheVariants as kind
 use Rattle.values.specs.declared.value.Value.{Value}
 use Rattle.values.specs.declared.value.Value.TheVariants.{Whole, Text}
-use Rattle.values.specs.Numbers.{is_in_range}
 use Rattle.values.specs.Order.{value_order}
+use Rattle.values.specs.Kinds.{fits}
 
 -- the most values that a column has
 abbrev pub most_values : ℕ
 most_values = 1048576
 
--- a value that a field of the kind may have: a number in its range, or a text of at most 512 bytes
-abbrev pub fits : FieldKind → Value → Bool
-fits kind.Int (Whole number) = is_in_range kind.Int number
-fits kind.Int (Text text) = false
-fits kind.Long (Whole number) = is_in_range kind.Long number
-fits kind.Long (Text text) = false
-fits kind.Text (Whole number) = false
-fits kind.Text (Text text) = nat_le (length text) 512
-
+-- a value that a field of the kind may have
 abbrev pub Fits : FieldKind → Value → Type 0
 Fits kind value = fits kind value ≡ true
 

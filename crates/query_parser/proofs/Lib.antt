@@ -9,3 +9,6 @@ pub mod Streams
 pub mod Takes
 pub mod Turns
 pub mod Whole
+pub mod Seen
+pub mod SeenQuery
+pub mod FinalLaws

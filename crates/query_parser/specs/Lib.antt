@@ -7,3 +7,4 @@ pub mod Shrinks
 pub mod Spells
 pub mod SpellsQuery
 pub mod Stream
+pub mod Final

@@ -1,6 +1,7 @@
 //! What holds of the definitions.
 
 ghost use Rattle.query_parser.specs.SpellsQuery.{OneQuery, WhatIsParsedIsSpelled, WhatIsSpelledIsParsed};
+ghost use Rattle.query_parser.specs.Final.{FaultsAreFinal};
 ghost use Rattle.query_parser.specs.Spells.{WhatIsReadIsSpelled, WhatIsSpelledIsRead};
 
 /// A condition that the tokens spell is the one that is read, where no AND or OR follows.
@@ -26,4 +27,10 @@ pub fn parsed_is_spelled()
 /// A text spells one query at most.
 pub fn one_query()
     ensures { OneQuery }
+{}
+
+/// No text that agrees with a refused one up to and with the faulty token is a query, but for the fault of
+/// too deep a condition.
+pub fn faults_are_final()
+    ensures { FaultsAreFinal }
 {}

@@ -1,5 +1,6 @@
 -- Valid tables, and their rows: what each call that takes them may rely on.
-use Rattle.std.specs.Prelude.{◌≡◌, ℕ, ◌/◌, max, min, Bool, true, false, ◌&&◌, List, [], ◌∷◌}
+use Rattle.std.specs.Prelude.{◌≡◌, ℕ, ◌≤◌, ◌/◌, max, min, Bool, true, false, ◌&&◌, List, [], ◌∷◌, length}
+use Rattle.std.specs.List.{All}
 use Rattle.values.specs.declared.value.Value.{Value}
 use Rattle.values.specs.Kinds.{fits}
 use Rattle.table_schema.specs.declared.field.Field.{Field}
@@ -25,3 +26,8 @@ IsRow fields row = is_row fields row ≡ true
 -- the most rows of so many fields: 2^20 rows, and 2^24 values in all of them
 abbrev pub most_rows : ℕ → ℕ
 most_rows fields = min 1048576 (16777216 / max 1 fields)
+
+-- rows of a table of these fields, no more than there may be
+pub record AreRows (columns : List Field) (rows : List (List Value)) : Type 0 where
+  pub each : All (IsRow columns) rows
+  pub few : length rows ≤ most_rows (length columns)

@@ -2,8 +2,6 @@
 use Rattle.std.specs.Prelude.{◌≡◌, ℕ, List, Ok}
 use Rattle.table_schema.specs.Schemas.{schema_read}
 use Rattle.table_schema.specs.TableTexts.{settings_read}
-use Rattle.table_schema.specs.Valid.{IsValidSchema}
-use Rattle.table_schema.specs.ValidSettings.{IsValidSettings}
 use Rattle.table_schema.specs.declared.table.Table.{Table}
 use Rattle.table_store.specs.State as state
 use Rattle.table_store.specs.TableFile.{FitsTable, table_file}
@@ -13,11 +11,6 @@ pub record IsAccepted (texts : state.Texts) (table : Table) : Type 0 where
   pub fits : FitsTable texts
   pub schema : schema_read texts.schema ≡ Ok table.schema
   pub settings : settings_read table.schema.fields texts.settings ≡ Ok table.settings
-
--- what each call that takes a table may rely on
-pub record IsValidTable (table : Table) : Type 0 where
-  pub schema : IsValidSchema table.schema
-  pub settings : IsValidSettings table.schema.fields table.settings
 
 -- these bytes are the file of this table
 pub record IsTableFile (bytes : List ℕ) (table : Table) : Type 0 where

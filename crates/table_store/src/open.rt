@@ -4,10 +4,11 @@ ghost use Rattle.std.specs.Prelude.{◌≡◌, ◌≢◌, IfOk, IfErr, IsErrOf};
 ghost use Rattle.outside.specs.Files.{Has, Lacks, OfFile};
 ghost use Rattle.outside.specs.Seen.{OnlyReads, seen};
 ghost use Rattle.outside.specs.Whole.{LogsFront};
-ghost use Rattle.table_store.specs.Accepted.{IsNoTableFile, IsTableFile, IsValidTable};
+ghost use Rattle.table_store.specs.Accepted.{IsNoTableFile, IsTableFile};
 ghost use Rattle.table_store.specs.TableFile.{file_limit, table_name};
 ghost use Rattle.table_store.specs.declared.fault.Part.TheVariants as part;
 ghost use Rattle.table_store.specs.declared.fault.StoreFault.TheVariants.{NoMemory, NotASegment};
+ghost use Rattle.table_schema.specs.ValidTable.{IsValidTable};
 
 use crate::table_file::{FILE_LIMIT, NAME, texts_of};
 use crate::{Part, StoreFault};

@@ -6,6 +6,8 @@ use Rattle.csv_ingest.specs.Reading.{Reads, records_left}
 use Rattle.csv_ingest.specs.Rows.{csv_limits, IsNumbers, plain_in}
 use Rattle.csv_ingest.proofs.NumberLemmas.{few-plain, numbers-plain}
 use Rattle.csv_ingest.proofs.PlainLemmas.{ok-at}
+use Rattle.csv_ingest.proofs.ValidRows.{plain_rows}
+use Rattle.table_schema.specs.ValidTable.{AreRows}
 use Rattle.csv_ingest.proofs.plain.read_plain_columns.Goals as goal
 
 pub returns-clause-numbers : goal.returns-clause-numbers
@@ -22,4 +24,12 @@ returns-clause-few c =
     (λ table. (rest : List ℕ) → Reads c.text_reader-reader.result rest → plain_in csv_limits (records_left (c.unmarked_len.result + 1) c.text_reader-reader.result rest) ≡ Ok (table.0, rows_of_columns table.1))
     (λ table. length table.0.fields ≤ 64)
     (λ table is. few-plain (records_left (c.unmarked_len.result + 1) c.text_reader-reader.result (strip_bom c.args.bytes.now)) (table.0, rows_of_columns table.1) (is (strip_bom c.args.bytes.now) c.text_reader-reader.ensures.reads))
+    c.plain_records.ensures.ok
+
+pub returns-clause-valid : goal.returns-clause-valid
+returns-clause-valid c =
+    ok-at c.plain_records.result
+    (λ table. (rest : List ℕ) → Reads c.text_reader-reader.result rest → plain_in csv_limits (records_left (c.unmarked_len.result + 1) c.text_reader-reader.result rest) ≡ Ok (table.0, rows_of_columns table.1))
+    (λ table. AreRows table.0.fields (rows_of_columns table.1))
+    (λ table is. plain_rows (records_left (c.unmarked_len.result + 1) c.text_reader-reader.result (strip_bom c.args.bytes.now)) (table.0, rows_of_columns table.1) (is (strip_bom c.args.bytes.now) c.text_reader-reader.ensures.reads))
     c.plain_records.ensures.ok
