@@ -1,3 +1,4 @@
+mod BlockLemmas
 mod CellLemmas
 mod ColumnLemmas
 mod CountLemmas
@@ -10,5 +11,4 @@ mod NumberLemmas
 mod PlainLemmas
 mod ReadingLemmas
 mod RowLemmas
-mod RowsLemmas
 pub mod ValidLemmas
