@@ -3,12 +3,8 @@ use Rattle.std.proofs.Common.{◌≡◌, ◌∙◌, ◌<◌, ◌≤◌, ◌+◌,
 use Rattle.std.proofs.Math.Seq.{drop-cons}
 use Rattle.std.proofs.lemmas.List.{nil_from_length, length-drop}
 use Rattle.std.specs.List.{enumerate_from}
+use Rattle.csv_ingest.specs.Blocks.{after}
 use Rattle.csv_ingest.specs.Rows.{all_or_first, joined}
-
--- what the first ones gave, before what the others give
-abbrev pub after : {A E : Type 0} → List A → Result (List A) E → Result (List A) E
-after front (Ok rest) = Ok (front ++ rest)
-after front (Err e) = Err e
 
 pub after-none : {A E : Type 0} (r : Result (List A) E) → r ≡ after [] r
 after-none (Ok rest) = refl

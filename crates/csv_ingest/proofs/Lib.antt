@@ -1,3 +1,4 @@
+mod BlockLemmas
 mod CellLemmas
 mod ColumnLemmas
 mod CountLemmas
@@ -10,6 +11,5 @@ mod NumberLemmas
 mod PlainLemmas
 mod ReadingLemmas
 mod RowLemmas
-mod RowsLemmas
 pub mod ValidLemmas
 pub mod ValidRows

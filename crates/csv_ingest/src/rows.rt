@@ -1,7 +1,8 @@
 // The records of a CSV text as columns of a table.
-ghost use Rattle.std.specs.Prelude.{◌≡◌, ◌≢◌, ◌≤◌, ◌<◌, ◌^◌, ℕ, List, map, length, IfOk, IfErr, Ok, Err, []};
+ghost use Rattle.std.specs.Prelude.{◌≡◌, ◌≢◌, ◌≤◌, ◌<◌, ◌+◌, ◌^◌, ℕ, List, map, length, IfOk, IfErr, MatchBool, Ok, Err, []};
 ghost use Rattle.std.specs.List.{All};
 ghost use Rattle.values.specs.Columns.{Counts, rows_of as rows_of_columns};
+ghost use Rattle.csv_ingest.specs.Blocks.{IsFullBlock, IsLastBlock, rows_from};
 ghost use Rattle.csv_ingest.specs.Reading.{Reads, records_left};
 ghost use Rattle.csv_ingest.specs.Rows.{csv_limits, rows_of};
 ghost use Rattle.csv_ingest.specs.Columns.{DefaultsFit, OfSorts, is_text_kind};
@@ -37,34 +38,53 @@ fn empty_columns(alloc: Global, fields: &[Field]) -> Result<Vec<Column>, AllocEr
     Ok(columns)
 }
 
-// The rows of at most `most` records that are left, in this layout.
-fn columns_by(
+/// Some rows of a text, and whether they are the last.
+#[derive(Drop)]
+pub struct Block {
+    pub columns: Columns,
+    pub last: bool,
+}
+
+/// The next rows of a text, of which `before` were read: as many as there is room for, or else the last.
+pub fn read_block(
     alloc: Global,
     reader: &mut Reader<&[u8]>,
-    most: usize,
     layout: &Layout,
-) -> Result<Columns, CsvFault>
-    requires most { most < 2 ^ 31 }
+    before: usize,
+    room: usize,
+) -> Result<Block, CsvFault>
+    requires few { before + room < 2 ^ 31 }
     requires layout { IsLayout layout.now }
-    ensures ok { IfOk result (λ table. (rest : List ℕ) → Reads reader.old rest
-        → rows_of csv_limits layout.now.fields.now (header_of layout.now)
-        (records_left most reader.old rest) ≡ Ok (rows_of_columns table)) }
+    ensures ok { IfOk result (λ b. (rest : List ℕ) → Reads reader.old rest → MatchBool b.last
+        (IsLastBlock layout.now.fields.now (header_of layout.now) before room reader.old rest b.columns)
+        (IsFullBlock layout.now.fields.now (header_of layout.now) before room reader.old reader.new
+        rest b.columns)) }
     ensures err { IfErr result (λ fault. fault ≢ CsvFault.NoMemory → (rest : List ℕ)
-        → Reads reader.old rest → rows_of csv_limits layout.now.fields.now (header_of layout.now)
-        (records_left most reader.old rest) ≡ Err fault) }
+        → Reads reader.old rest → (n : ℕ) → room ≤ n
+        → rows_from before layout.now.fields.now (header_of layout.now)
+        (records_left n reader.old rest) ≡ Err fault) }
 {
     let mut record = ByteRecord::new(alloc);
     let mut columns = empty_columns(alloc, layout.fields)?;
-    'rows: for i in 0..most {
+    'rows: for i in 0..room {
         if !next_record(reader, &mut record)? {
-            return Ok(Columns::new(columns, i));
+            let columns = Columns::new(columns, i);
+            return Ok(Block {
+                columns,
+                last: true,
+            });
         }
-        match layout.push_row(alloc, &mut columns, &record, i as u32 + 1) {
+        let row = (before + i) as u32 + 1;
+        match layout.push_row(alloc, &mut columns, &record, row) {
             Ok(()) => {}
             Err(fault) => return Err(fault),
         }
     }
-    Ok(Columns::new(columns, most))
+    let columns = Columns::new(columns, room);
+    Ok(Block {
+        columns,
+        last: false,
+    })
 }
 
 /// The rows of at most `most` records that are left, below a header of these names.
@@ -86,5 +106,8 @@ pub fn columns_below(
         (records_left most reader.old rest) ≡ Err fault) }
 {
     let layout = Layout::new(alloc, fields, names)?;
-    columns_by(alloc, reader, most, &layout)
+    match read_block(alloc, reader, &layout, 0, most) {
+        Ok(Block { columns, last: _ }) => Ok(columns),
+        Err(fault) => Err(fault),
+    }
 }

@@ -3,7 +3,7 @@ use Rattle.csv.specs.Records.{fields_of}
 use Rattle.values.specs.declared.value.Value.{Value}
 use Rattle.values.specs.Columns.{row_pushed}
 use Rattle.csv_ingest.specs.Rows.{all_or_first, place_of, value_at, values_of}
-use Rattle.csv_ingest.proofs.InOrder.{after}
+use Rattle.csv_ingest.specs.Blocks.{after}
 use Rattle.csv_ingest.proofs.layout.Layout.push_values.Given as goal
 
 abbrev pub invariant-values : goal.invariant-values

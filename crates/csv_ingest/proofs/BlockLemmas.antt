@@ -1,0 +1,72 @@
+-- The records of a text as rows, one more at a time, after rows that were read before.
+use Rattle.std.proofs.Common.{◌≡◌, ◌∙◌, ◌+◌, ◌-◌, ◌<◌, ◌≤◌, ◌++◌, ℕ, zero, Bool, true, false, List, [], ◌∷◌, map, Result, Ok, Err, MatchBool, refl, ap, sym, subst, arith}
+use Rattle.std.specs.List.{enumerate_from}
+use Rattle.csv.specs.Reading.{records_from}
+use Rattle.values.specs.Columns.{ListedColumns, rows_of as rows_of_columns}
+use Rattle.values.specs.declared.value.Value.{Value}
+use Rattle.table_schema.specs.declared.field.Field.{Field}
+use Rattle.csv_ingest.specs.declared.fault.CsvFault.{CsvFault}
+use Rattle.csv_ingest.specs.Blocks.{after, IsBlock, IsFullBlock, IsLastBlock, rows_from}
+use Rattle.csv_ingest.specs.Reading.{Reads, TextReader, records_left}
+use Rattle.csv_ingest.specs.Rows.{all_or_first, csv_limits, row_at, rows_of}
+use Rattle.csv_ingest.proofs.InOrder.{after-none, after-one, after-fault, after-all}
+
+no_more : (n : ℕ) → n + 0 ≡ n
+no_more n = omega arith
+
+pub begins : (fields : List Field) (header : List (List ℕ)) (before : ℕ) (reader : TextReader) (rest : List ℕ) → Reads reader rest → IsBlock fields header before 0 reader reader rest []
+begins fields header before reader rest reads = record {
+  left = rest;
+  reads = reads;
+  each = λ n. ap (λ k. rows_from before fields header (records_left k reader rest)) (no_more n)
+      ∙ after-none (rows_from before fields header (records_left n reader rest))
+      ∙ ap (λ k. after [] (rows_from k fields header (records_left n reader rest))) (sym (no_more before));
+}
+
+module _ (fields : List Field) (header : List (List ℕ)) (before i : ℕ) (old reader : TextReader) (rest : List ℕ) (done : List (List Value)) (b : IsBlock fields header before i old reader rest done) where
+  split : (n : ℕ) → i < n → n ≡ n - (i + 1) + 1 + i
+  split n lt = omega arith
+
+  shown : (n : ℕ) → i < n → rows_from before fields header (records_left n old rest) ≡ after done (rows_from (before + i) fields header (records_left (n - (i + 1) + 1) reader b.left))
+  shown n lt = ap (λ k. rows_from before fields header (records_left k old rest)) (split n lt) ∙ b.each (n - (i + 1) + 1)
+
+  -- no record is left
+  pub ends-all : ((n : ℕ) → records_left (n + 1) reader b.left ≡ []) → (n : ℕ) → i < n → rows_from before fields header (records_left n old rest) ≡ Ok done
+  ends-all none n lt = shown n lt ∙ ap (λ records. after done (rows_from (before + i) fields header records)) (none (n - (i + 1))) ∙ after-all done
+
+  module _ (new : TextReader) (left : List ℕ) (cells : List (List ℕ)) (next : (n : ℕ) → records_left (n + 1) reader b.left ≡ cells ∷ records_left n new left) where
+    pub one-more : Reads new left → (row : List Value) → row_at csv_limits fields header (1 + (before + i), cells) ≡ Ok row → IsBlock fields header before (i + 1) old new rest (done ++ row ∷ [])
+    one-more reads row ok = record {
+      left = left;
+      reads = reads;
+      each = λ n.
+          let count : n + (i + 1) ≡ n + 1 + i = omega arith in
+          let number : 1 + (before + i) + 1 ≡ 1 + (before + (i + 1)) = omega arith in
+          ap (λ k. rows_from before fields header (records_left k old rest)) count
+          ∙ b.each (n + 1)
+          ∙ ap (λ records. after done (rows_from (before + i) fields header records)) (next n)
+          ∙ after-one done row (row_at csv_limits fields header (1 + (before + i), cells)) (all_or_first (map (row_at csv_limits fields header) (enumerate_from (1 + (before + i) + 1) (records_left n new left)))) ok
+          ∙ ap (λ k. after (done ++ row ∷ []) (all_or_first (map (row_at csv_limits fields header) (enumerate_from k (records_left n new left))))) number;
+    }
+
+    pub one-fault : (fault : CsvFault) → row_at csv_limits fields header (1 + (before + i), cells) ≡ Err fault → (n : ℕ) → i < n → rows_from before fields header (records_left n old rest) ≡ Err fault
+    one-fault fault bad n lt =
+        shown n lt
+        ∙ ap (λ records. after done (rows_from (before + i) fields header records)) (next (n - (i + 1)))
+        ∙ after-fault done (row_at csv_limits fields header (1 + (before + i), cells)) (all_or_first (map (row_at csv_limits fields header) (enumerate_from (1 + (before + i) + 1) (records_left (n - (i + 1)) new left)))) fault bad
+
+none_left : (n : ℕ) (reader : TextReader) (rest : List ℕ) → n ≡ 0 → records_left n reader rest ≡ []
+unfolding records_from
+none_left n reader rest e = ap (λ k. records_left k reader rest) e
+
+-- a block with room for all records has all rows
+pub whole-block : (fields : List Field) (header : List (List ℕ)) (most : ℕ) (old new : TextReader) (rest : List ℕ) (columns : ListedColumns) (last : Bool)
+    → MatchBool last (IsLastBlock fields header 0 most old rest columns) (IsFullBlock fields header 0 most old new rest columns)
+    → rows_of csv_limits fields header (records_left most old rest) ≡ Ok (rows_of_columns columns)
+whole-block fields header most old new rest columns true b = b.all most b.few
+whole-block fields header most old new rest columns false b =
+    let all : 0 + columns.count ≡ most = omega (arith, b.full) in
+    ap (λ k. rows_from 0 fields header (records_left k old rest)) (sym all)
+    ∙ b.block.each 0
+    ∙ ap (λ records. after (rows_of_columns columns) (rows_from (0 + columns.count) fields header records)) (none_left 0 new b.block.left refl)
+    ∙ after-all (rows_of_columns columns)

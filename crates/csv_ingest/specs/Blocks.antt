@@ -1,0 +1,34 @@
+-- The rows of a text, read block by block.
+use Rattle.std.specs.Prelude.{◌≡◌, ◌<◌, ◌≤◌, ◌+◌, ◌++◌, ℕ, List, map, Result, Ok, Err}
+use Rattle.std.specs.List.{enumerate_from}
+use Rattle.values.specs.Columns.{ListedColumns, rows_of}
+use Rattle.values.specs.declared.value.Value.{Value}
+use Rattle.table_schema.specs.declared.field.Field.{Field}
+use Rattle.csv_ingest.specs.declared.fault.CsvFault.{CsvFault}
+use Rattle.csv_ingest.specs.Reading.{Reads, TextReader, records_left}
+use Rattle.csv_ingest.specs.Rows.{all_or_first, csv_limits, row_at}
+
+-- these, before what others give
+abbrev pub after : {A E : Type 0} → List A → Result (List A) E → Result (List A) E
+after front (Ok rest) = Ok (front ++ rest)
+after front (Err e) = Err e
+
+-- what records give that come after so many rows
+abbrev pub rows_from : ℕ → List Field → List (List ℕ) → List (List (List ℕ)) → Result (List (List Value)) CsvFault
+rows_from before fields header records = all_or_first (map (row_at csv_limits fields header) (enumerate_from (1 + before) records))
+
+-- so many rows were read, before those that the records give that are left now
+pub record IsBlock (fields : List Field) (header : List (List ℕ)) (before count : ℕ) (old new : TextReader) (rest : List ℕ) (rows : List (List Value)) : Type 0 where
+  pub left : List ℕ
+  pub reads : Reads new left
+  pub each : (n : ℕ) → rows_from before fields header (records_left (n + count) old rest) ≡ after rows (rows_from (before + count) fields header (records_left n new left))
+
+-- these are all rows that were left, and fewer than there was room for
+pub record IsLastBlock (fields : List Field) (header : List (List ℕ)) (before room : ℕ) (old : TextReader) (rest : List ℕ) (columns : ListedColumns) : Type 0 where
+  pub few : columns.count < room
+  pub all : (n : ℕ) → columns.count < n → rows_from before fields header (records_left n old rest) ≡ Ok (rows_of columns)
+
+-- the block is as long as there was room for
+pub record IsFullBlock (fields : List Field) (header : List (List ℕ)) (before room : ℕ) (old new : TextReader) (rest : List ℕ) (columns : ListedColumns) : Type 0 where
+  pub full : columns.count ≡ room
+  pub block : IsBlock fields header before columns.count old new rest (rows_of columns)
