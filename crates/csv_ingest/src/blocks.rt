@@ -15,7 +15,7 @@ use crate::rows::{Block, read_block};
 use crate::{CsvFault, CsvKind};
 use csv::{ByteRecord, Reader};
 use std::alloc::Global;
-use table_schema::Field;
+use table_schema::{Field, Schema};
 use values::{Columns, Seq};
 
 // How many rows a block has.
@@ -43,8 +43,8 @@ pub struct PlainBlocks<'a> {
 }
 
 impl PlainHeader {
-    // The header that a record is.
-    fn of_record(alloc: Global, names: ByteRecord) -> Result<PlainHeader, CsvFault>
+    /// The header that a record is.
+    pub fn of_record(alloc: Global, names: ByteRecord) -> Result<PlainHeader, CsvFault>
         ensures header { IfOk result IsPlainHeader }
         ensures names { IfOk result (λ h. h.names ≡ names) }
         ensures err { IfErr result (λ fault. fault ≢ CsvFault.NoMemory → (records : List (List (List ℕ)))
@@ -59,8 +59,17 @@ impl PlainHeader {
         }
     }
 
-    // The next rows of a text, of which `before` were read.
-    fn next_block(
+    /// The table's schema.
+    pub fn into_schema(self) -> Schema
+        ensures { result ≡ record { fields = self.fields } }
+    {
+        Schema {
+            fields: self.fields,
+        }
+    }
+
+    /// The next rows of a text, of which `before` were read.
+    pub fn next_block(
         &self,
         alloc: Global,
         reader: &mut Reader<&[u8]>,
