@@ -1,12 +1,14 @@
 -- The records of a text as rows, one more at a time, after rows that were read before.
-use Rattle.std.proofs.Common.{◌≡◌, ◌∙◌, ◌+◌, ◌-◌, ◌<◌, ◌≤◌, ◌++◌, ℕ, zero, Bool, true, false, List, [], ◌∷◌, map, Result, Ok, Err, MatchBool, refl, ap, sym, subst, arith}
+use Rattle.std.proofs.Common.{◌≡◌, ◌≢◌, ◌∙◌, ◌+◌, ◌-◌, ◌<◌, ◌≤◌, ◌++◌, ℕ, Bool, true, false, List, [], ◌∷◌, map, Result, Ok, Err, IfOk, IfErr, MatchBool, refl, ap, sym, subst, arith}
 use Rattle.std.specs.List.{enumerate_from}
 use Rattle.csv.specs.Reading.{records_from}
 use Rattle.values.specs.Columns.{ListedColumns, rows_of as rows_of_columns}
 use Rattle.values.specs.declared.value.Value.{Value}
 use Rattle.table_schema.specs.declared.field.Field.{Field}
 use Rattle.csv_ingest.specs.declared.fault.CsvFault.{CsvFault}
-use Rattle.csv_ingest.specs.Blocks.{after, IsBlock, IsFullBlock, IsLastBlock, rows_from}
+use Rattle.csv_ingest.specs.declared.fault.CsvFault.TheVariants.{NoMemory}
+use Rattle.csv_ingest.specs.declared.rows.Block.{Block}
+use Rattle.csv_ingest.specs.Blocks.{after, IsBlock, IsFullBlock, IsLastBlock, RowsOrFault, rows_from}
 use Rattle.csv_ingest.specs.Reading.{Reads, TextReader, records_left}
 use Rattle.csv_ingest.specs.Rows.{all_or_first, csv_limits, row_at, rows_of}
 use Rattle.csv_ingest.proofs.InOrder.{after-none, after-one, after-fault, after-all}
@@ -70,3 +72,55 @@ whole-block fields header most old new rest columns false b =
     ∙ b.block.each 0
     ∙ ap (λ records. after (rows_of_columns columns) (rows_from (0 + columns.count) fields header records)) (none_left 0 new b.block.left refl)
     ∙ after-all (rows_of_columns columns)
+
+-- ---- the same under other names for the fields and the header
+
+-- what the reading of a block gives
+abbrev pub ReadsBlock : List Field → List (List ℕ) → ℕ → ℕ → TextReader → TextReader → Result Block CsvFault → Type 0
+ReadsBlock fields header before room old new result =
+    IfOk result (λ b. (rest : List ℕ) → Reads old rest → MatchBool b.last (IsLastBlock fields header before room old rest b.columns) (IsFullBlock fields header before room old new rest b.columns))
+
+abbrev pub RefusesBlock : List Field → List (List ℕ) → ℕ → ℕ → TextReader → Result Block CsvFault → Type 0
+RefusesBlock fields header before room old result =
+    IfErr result (λ fault. fault ≢ NoMemory → (rest : List ℕ) → Reads old rest → (n : ℕ) → room ≤ n → rows_from before fields header (records_left n old rest) ≡ Err fault)
+
+pub block-under : (fields fields' : List Field) (header header' : List (List ℕ)) (before room : ℕ) (old new : TextReader) (result : Result Block CsvFault) → fields ≡ fields' → header ≡ header'
+    → ReadsBlock fields header before room old new result → ReadsBlock fields' header' before room old new result
+block-under fields fields' header header' before room old new result f h b =
+    subst (λ (hs : List (List ℕ)). ReadsBlock fields' hs before room old new result) h (subst (λ (fs : List Field). ReadsBlock fs header before room old new result) f b)
+
+pub fault-under : (fields fields' : List Field) (header header' : List (List ℕ)) (before room : ℕ) (old : TextReader) (result : Result Block CsvFault) → fields ≡ fields' → header ≡ header'
+    → RefusesBlock fields header before room old result → RefusesBlock fields' header' before room old result
+fault-under fields fields' header header' before room old result f h b =
+    subst (λ (hs : List (List ℕ)). RefusesBlock fields' hs before room old result) h (subst (λ (fs : List Field). RefusesBlock fs header before room old result) f b)
+
+-- ---- block after block
+
+-- the last rows, where whole is what all records give
+pub next-last : (fields : List Field) (header : List (List ℕ)) (before room left : ℕ) (old : TextReader) (rest : List ℕ) (columns : ListedColumns) (whole : RowsOrFault) → room ≤ left
+    → IsLastBlock fields header before room old rest columns → whole ≡ rows_from before fields header (records_left left old rest) → whole ≡ after (rows_of_columns columns) (Ok [])
+next-last fields header before room left old rest columns whole le b is =
+    let few : columns.count < left = omega (arith, b.few, le) in
+    is ∙ b.all left few ∙ sym (after-all (rows_of_columns columns))
+
+-- more rows
+pub next-full : (fields : List Field) (header : List (List ℕ)) (before room left : ℕ) (old new : TextReader) (rest : List ℕ) (columns : ListedColumns) (whole : RowsOrFault) → room ≤ left
+    → (b : IsFullBlock fields header before room old new rest columns) → whole ≡ rows_from before fields header (records_left left old rest)
+    → whole ≡ after (rows_of_columns columns) (rows_from (before + room) fields header (records_left (left - room) new b.block.left))
+next-full fields header before room left old new rest columns whole le b is =
+    let split : left ≡ left - room + columns.count = omega (arith, b.full, le) in
+    is ∙ ap (λ k. rows_from before fields header (records_left k old rest)) split
+    ∙ b.block.each (left - room)
+    ∙ ap (λ k. after (rows_of_columns columns) (rows_from (before + k) fields header (records_left (left - room) new b.block.left))) b.full
+
+-- where no record may be left
+pub nothing-left : (fields : List Field) (header : List (List ℕ)) (before left : ℕ) (reader : TextReader) (rest : List ℕ) → left ≡ 0 → rows_from before fields header (records_left left reader rest) ≡ Ok []
+nothing-left fields header before left reader rest e = ap (rows_from before fields header) (none_left left reader rest e)
+
+pub at-last : (last : Bool) (P Q : Type 0) → last ≡ true → MatchBool last P Q → P
+at-last true P Q e m = m
+at-last false P Q e m = absurd cc
+
+pub at-full : (last : Bool) (P Q : Type 0) → last ≡ false → MatchBool last P Q → Q
+at-full true P Q e m = absurd cc
+at-full false P Q e m = m

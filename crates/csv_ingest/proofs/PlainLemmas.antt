@@ -38,10 +38,6 @@ module _ (header : List (List ℕ)) (rows : List (List (List ℕ))) where
   pub bad-header : (fault : CsvFault) → length header ≤ 64 → header_of plain_name header ≡ Err fault → plain_in csv_limits (header ∷ rows) ≡ Err fault
   bad-header fault le bad = few_columns le ∙ ap (λ h. under h (λ fields. with_schema fields (rows_of csv_limits fields header rows))) bad
 
-  pub bad-rows : (fields : List Field) (fault : CsvFault) → length header ≤ 64 → header_of plain_name header ≡ Ok fields → rows_of csv_limits fields header rows ≡ Err fault → plain_in csv_limits (header ∷ rows) ≡ Err fault
-  bad-rows fields fault le ok bad =
-      few_columns le ∙ ap (λ h. under h (λ fs. with_schema fs (rows_of csv_limits fs header rows))) ok ∙ ap (with_schema fields) bad
-
-  pub all-rows : (fields : List Field) (all : List (List Value)) → length header ≤ 64 → header_of plain_name header ≡ Ok fields → rows_of csv_limits fields header rows ≡ Ok all → plain_in csv_limits (header ∷ rows) ≡ Ok (record { fields = fields }, all)
-  all-rows fields all le ok is =
-      few_columns le ∙ ap (λ h. under h (λ fs. with_schema fs (rows_of csv_limits fs header rows))) ok ∙ ap (with_schema fields) is
+  -- what a good header's records give
+  pub below-header : (fields : List Field) → length header ≤ 64 → header_of plain_name header ≡ Ok fields → plain_in csv_limits (header ∷ rows) ≡ with_schema fields (rows_of csv_limits fields header rows)
+  below-header fields le ok = few_columns le ∙ ap (λ h. under h (λ fs. with_schema fs (rows_of csv_limits fs header rows))) ok

@@ -13,8 +13,11 @@ abbrev pub after : {A E : Type 0} → List A → Result (List A) E → Result (L
 after front (Ok rest) = Ok (front ++ rest)
 after front (Err e) = Err e
 
+abbrev pub RowsOrFault : Type 0
+RowsOrFault = Result (List (List Value)) CsvFault
+
 -- what records give that come after so many rows
-abbrev pub rows_from : ℕ → List Field → List (List ℕ) → List (List (List ℕ)) → Result (List (List Value)) CsvFault
+abbrev pub rows_from : ℕ → List Field → List (List ℕ) → List (List (List ℕ)) → RowsOrFault
 rows_from before fields header records = all_or_first (map (row_at csv_limits fields header) (enumerate_from (1 + before) records))
 
 -- so many rows were read, before those that the records give that are left now

@@ -2,5 +2,6 @@ pub mod Blocks
 pub mod Columns
 pub mod Layouts
 pub mod Names
+pub mod PlainBlocks
 pub mod Reading
 pub mod Rows

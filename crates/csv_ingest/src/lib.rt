@@ -1,6 +1,7 @@
 //! The rows of a CSV text, or the first thing that is wrong with it.
 #![tactic(auto)]
 
+mod blocks;
 mod cells;
 mod defaults;
 mod fault;
@@ -13,6 +14,7 @@ mod records;
 mod row;
 mod rows;
 
+pub use blocks::{PlainBlocks, PlainHeader, plain_blocks};
 pub use defaults::defaults_fit;
 pub use fault::{CsvFault, CsvKind};
 pub use known::{read_columns, read_rows};

@@ -1,54 +1,21 @@
 // The rows of a CSV text of whole numbers.
-ghost use Rattle.std.specs.Prelude.{◌≡◌, ◌≢◌, ◌≤◌, ◌<◌, ◌+◌, ◌^◌, ◌∷◌, ℕ, List, length, IfOk, IfErr, Ok, Err};
+ghost use Rattle.std.specs.Prelude.{◌≡◌, ◌≢◌, ◌≤◌, ◌<◌, ◌+◌, ◌^◌, ℕ, List, length, IfOk, IfErr, Ok, Err};
 ghost use Rattle.std.specs.List.{All};
-ghost use Rattle.csv.specs.Records.{fields_of};
 ghost use Rattle.values.specs.Columns.{rows_of as rows_of_columns};
 ghost use Rattle.csv_ingest.specs.Reading.{Reads, records_left};
 ghost use Rattle.csv_ingest.specs.Rows.{csv_limits, IsNumbers, plain_in, records_of};
 ghost use Rattle.table_schema.specs.ValidTable.{AreRows};
 
-use crate::header::{names_in, plain_columns};
+use crate::blocks::PlainHeader;
 use crate::records::{next_record, text_reader, unmarked_len};
-use crate::rows::columns_below;
+use crate::rows::Block;
 use crate::{CsvFault, CsvKind};
 use csv::{ByteRecord, Reader};
 use std::alloc::Global;
 use table_schema::Schema;
 use values::{Columns, Rows};
 
-/// The most columns that a text of whole numbers may have.
-const MOST_COLUMNS: usize = 64;
-
 // The columns of a header, and the rows of at most `most` records that are left.
-fn plain_columns_of(
-    alloc: Global,
-    reader: &mut Reader<&[u8]>,
-    most: usize,
-    header: &ByteRecord,
-) -> Result<(Schema, Columns), CsvFault>
-    requires { most < 2 ^ 31 }
-    ensures ok { IfOk result (λ table. (rest : List ℕ) → Reads reader.old rest
-        → plain_in csv_limits (fields_of header.now ∷ records_left most reader.old rest)
-        ≡ Ok (table.0, rows_of_columns table.1)) }
-    ensures err { IfErr result (λ fault. fault ≢ CsvFault.NoMemory → (rest : List ℕ)
-        → Reads reader.old rest → plain_in csv_limits (fields_of header.now
-        ∷ records_left most reader.old rest) ≡ Err fault) }
-{
-    if header.len() > MOST_COLUMNS {
-        return Err(CsvFault::TooManyColumns);
-    }
-    let names = names_in(alloc, header)?;
-    let fields = match plain_columns(alloc, &names) {
-        Ok(fields) => fields,
-        Err(fault) => return Err(fault),
-    };
-    match columns_below(alloc, reader, most, fields.as_slice(), &names) {
-        Ok(table) => Ok((Schema { fields }, table)),
-        Err(fault) => Err(fault),
-    }
-}
-
-// The same of a header and at most `most` records that are left.
 fn plain_records(
     alloc: Global,
     reader: &mut Reader<&[u8]>,
@@ -61,11 +28,18 @@ fn plain_records(
         → Reads reader.old rest → plain_in csv_limits (records_left (most + 1) reader.old rest)
         ≡ Err fault) }
 {
-    let mut header = ByteRecord::new(alloc);
-    if !next_record(reader, &mut header)? {
+    let mut names = ByteRecord::new(alloc);
+    if !next_record(reader, &mut names)? {
         return Err(CsvFault::At(CsvKind::NoHeader, 0, 0));
     }
-    plain_columns_of(alloc, reader, most, &header)
+    let header = match PlainHeader::of_record(alloc, names) {
+        Ok(header) => header,
+        Err(fault) => return Err(fault),
+    };
+    match header.next_block(alloc, reader, 0, most) {
+        Ok(Block { columns, last: _ }) => Ok((header.into_schema(), columns)),
+        Err(fault) => Err(fault),
+    }
 }
 
 /// The columns of a CSV text as RFC 4180 has it, and its rows kept column by column, where each cell

@@ -1,6 +1,10 @@
-use Rattle.std.proofs.Common.{◌∙◌, ap}
-use Rattle.csv_ingest.specs.Rows.{csv_limits, plain_in}
-use Rattle.csv_ingest.proofs.PlainLemmas.{err-at, no-record, ok-at}
+use Rattle.std.proofs.Common.{◌≡◌, ◌∙◌, ◌∷◌, ℕ, List, Ok, ap, sym, arith}
+use Rattle.csv.specs.Records.{fields_of}
+use Rattle.values.specs.Columns.{rows_of as rows_of_columns}
+use Rattle.csv_ingest.specs.Reading.{records_left}
+use Rattle.csv_ingest.specs.Rows.{csv_limits, plain_in, with_schema}
+use Rattle.csv_ingest.proofs.BlockLemmas.{whole-block}
+use Rattle.csv_ingest.proofs.PlainLemmas.{below-header, no-record}
 use Rattle.csv_ingest.proofs.plain.plain_records.Goals as goal
 
 pub returns-then-not-branch-clause-err : goal.returns-then-not-branch-clause-err
@@ -8,12 +12,35 @@ returns-then-not-branch-clause-err c = λ _ rest r.
     let none = rw c.if-not-branch.true at (c.in_ok-next_record.ensures rest r) in
     ap (plain_in csv_limits) (none c.args.most) ∙ no-record
 
-pub returns-clause-ok : goal.returns-clause-ok
-returns-clause-ok c = ok-at c.plain_columns_of.result _ _ (λ table so rest r.
-    let (after, reads, next) = rw c.if-not-branch.false at (c.in_ok-next_record.ensures rest r) in
-    ap (plain_in csv_limits) (next c.args.most) ∙ so after reads) c.plain_columns_of.ensures.ok
+pub returns-in-Err-clause-err : goal.returns-in-Err-clause-err
+returns-in-Err-clause-err c = λ real rest r.
+    let (left, reads, next) = rw c.if-not-branch.false at (c.in_ok-next_record.ensures rest r) in
+    ap (plain_in csv_limits) (next c.args.most) ∙ c.in-Err.ensures.err real (records_left c.args.most c.next_record.new.reader left)
 
-pub returns-clause-err : goal.returns-clause-err
-returns-clause-err c = err-at c.plain_columns_of.result _ _ (λ fault so real rest r.
-    let (after, reads, next) = rw c.if-not-branch.false at (c.in_ok-next_record.ensures rest r) in
-    ap (plain_in csv_limits) (next c.args.most) ∙ so real after reads) c.plain_columns_of.ensures.err
+pub returns-in-Ok-next_block-clause-ok : goal.returns-in-Ok-next_block-clause-ok
+returns-in-Ok-next_block-clause-ok c = λ rest r.
+    let (left, reads, next) = rw c.if-not-branch.false at (c.in_ok-next_record.ensures rest r) in
+    let new = c.next_record.new.reader in
+    let h = c.in-Ok.ensures.header in
+    let fields = c.in-Ok.header.fields in
+    let names : List (List ℕ) = fields_of c.in-Ok.header.names in
+    let same : names ≡ fields_of c.next_record.new.row = ap fields_of c.in-Ok.ensures.names in
+    let block = c.in-Ok-next_block.field-0 in
+    ap (plain_in csv_limits) (next c.args.most)
+    ∙ ap (λ row. plain_in csv_limits (row ∷ records_left c.args.most new left)) (sym same)
+    ∙ below-header names (records_left c.args.most new left) fields h.few h.fields
+    ∙ ap (with_schema fields) (whole-block fields names c.args.most new c.next_block.new.reader left block.columns block.last (c.in-Ok-next_block.ensures.ok left reads))
+    ∙ ap (λ schema. Ok (schema, rows_of_columns block.columns)) (sym c.into_schema.ensures)
+
+pub returns-in-Err-next_block-clause-err : goal.returns-in-Err-next_block-clause-err
+returns-in-Err-next_block-clause-err c = λ real rest r.
+    let (left, reads, next) = rw c.if-not-branch.false at (c.in_ok-next_record.ensures rest r) in
+    let new = c.next_record.new.reader in
+    let h = c.in-Ok.ensures.header in
+    let fields = c.in-Ok.header.fields in
+    let names : List (List ℕ) = fields_of c.in-Ok.header.names in
+    let same : names ≡ fields_of c.next_record.new.row = ap fields_of c.in-Ok.ensures.names in
+    ap (plain_in csv_limits) (next c.args.most)
+    ∙ ap (λ row. plain_in csv_limits (row ∷ records_left c.args.most new left)) (sym same)
+    ∙ below-header names (records_left c.args.most new left) fields h.few h.fields
+    ∙ ap (with_schema fields) (c.in-Err-next_block.ensures.err real left reads c.args.most (omega arith))

@@ -1,0 +1,40 @@
+-- A text of whole numbers, whose rows are read block by block.
+use Rattle.std.specs.Prelude.{◌≡◌, ◌<◌, ◌≤◌, ◌+◌, ◌^◌, ℕ, List, [], length, Result, Ok}
+use Rattle.csv.specs.Records.{fields_of}
+use Rattle.values.specs.declared.value.Value.{Value}
+use Rattle.table_schema.specs.declared.field.Field.{Field}
+use Rattle.table_schema.specs.declared.field.Schema.{Schema}
+use Rattle.csv_ingest.specs.declared.blocks.PlainBlocks.{PlainBlocks}
+use Rattle.csv_ingest.specs.declared.blocks.PlainHeader.{PlainHeader}
+use Rattle.csv_ingest.specs.declared.fault.CsvFault.{CsvFault}
+use Rattle.csv_ingest.specs.Blocks.{RowsOrFault, rows_from}
+use Rattle.csv_ingest.specs.Names.{plain_name}
+use Rattle.csv_ingest.specs.Reading.{Reads, TextReader, records_left}
+use Rattle.csv_ingest.specs.Rows.{header_of, with_schema}
+
+-- the fields are the columns that the names make
+pub record IsPlainHeader (header : PlainHeader) : Type 0 where
+  pub few : length (fields_of header.names) ≤ 64
+  pub fields : header_of plain_name (fields_of header.names) ≡ Ok header.fields
+
+-- the header is one, and rows can be counted by 32-bit numbers
+pub record IsPlainBlocks (blocks : PlainBlocks) : Type 0 where
+  pub header : IsPlainHeader blocks.header
+  pub few : blocks.before + blocks.left < 2 ^ 31
+
+-- what the records that are left give, where some may be left
+pub record HasRows (fields : List Field) (header : List (List ℕ)) (reader : TextReader) (before left : ℕ) (whole : RowsOrFault) : Type 0 where
+  pub rest : List ℕ
+  pub reads : Reads reader rest
+  pub is : whole ≡ rows_from before fields header (records_left left reader rest)
+
+-- the text gives these rows from here on, or this fault
+pub record Gives (blocks : PlainBlocks) (whole : RowsOrFault) : Type 0 where
+  pub none : blocks.left ≡ 0 → whole ≡ Ok []
+  pub some : 0 < blocks.left → HasRows blocks.header.fields (fields_of blocks.header.names) blocks.reader blocks.before blocks.left whole
+
+-- and with the fields this table, or this fault
+pub record GivesTable (blocks : PlainBlocks) (table : Result (Schema × List (List Value)) CsvFault) : Type 0 where
+  pub rows : RowsOrFault
+  pub gives : Gives blocks rows
+  pub is : table ≡ with_schema blocks.header.fields rows

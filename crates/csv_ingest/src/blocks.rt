@@ -1,0 +1,165 @@
+// The rows of a text of whole numbers, block by block.
+ghost use Rattle.std.specs.Prelude.{◌≡◌, ◌≢◌, ◌≤◌, ◌<◌, ◌+◌, ◌^◌, ◌∷◌, ℕ, List, length, IfOk, IfErr, MatchBool, MatchOption, Ok, Err, []};
+ghost use Rattle.csv.specs.Records.{fields_of};
+ghost use Rattle.values.specs.Columns.{rows_of as rows_of_columns};
+ghost use Rattle.csv_ingest.specs.Blocks.{IsFullBlock, IsLastBlock, RowsOrFault, after, rows_from};
+ghost use Rattle.csv_ingest.specs.Names.{plain_name};
+ghost use Rattle.csv_ingest.specs.PlainBlocks.{Gives, GivesTable, IsPlainBlocks, IsPlainHeader};
+ghost use Rattle.csv_ingest.specs.Reading.{Reads, records_left};
+ghost use Rattle.csv_ingest.specs.Rows.{csv_limits, header_of, plain_in, records_of};
+
+use crate::header::{names_in, plain_columns};
+use crate::layout::Layout;
+use crate::records::{next_record, text_reader, unmarked_len};
+use crate::rows::{Block, read_block};
+use crate::{CsvFault, CsvKind};
+use csv::{ByteRecord, Reader};
+use std::alloc::Global;
+use table_schema::{Field, Schema};
+use values::{Columns, Seq};
+
+// How many rows a block has.
+const BLOCK_ROWS: usize = 4_096;
+
+// The most columns that a text of whole numbers may have.
+const MOST_COLUMNS: usize = 64;
+
+/// The header of a text of whole numbers.
+#[derive(Drop)]
+pub struct PlainHeader {
+    pub names: ByteRecord,
+    pub fields: Seq<Field>,
+}
+
+/// A text of whole numbers, of which some rows were read.
+#[derive(Drop)]
+pub struct PlainBlocks<'a> {
+    pub header: PlainHeader,
+    pub reader: Reader<&'a [u8]>,
+    /// How many rows were read.
+    pub before: usize,
+    /// How many records are left at most.
+    pub left: usize,
+}
+
+impl PlainHeader {
+    /// The header that a record is.
+    pub fn of_record(alloc: Global, names: ByteRecord) -> Result<PlainHeader, CsvFault>
+        ensures header { IfOk result IsPlainHeader }
+        ensures names { IfOk result (λ h. h.names ≡ names) }
+        ensures err { IfErr result (λ fault. fault ≢ CsvFault.NoMemory → (records : List (List (List ℕ)))
+            → plain_in csv_limits (fields_of names ∷ records) ≡ Err fault) }
+    {
+        if names.len() > MOST_COLUMNS {
+            return Err(CsvFault::TooManyColumns);
+        }
+        match fields_in(alloc, &names) {
+            Ok(fields) => Ok(PlainHeader { names, fields }),
+            Err(fault) => Err(fault),
+        }
+    }
+
+    /// The table's schema.
+    pub fn into_schema(self) -> Schema
+        ensures { result ≡ record { fields = self.fields } }
+    {
+        Schema {
+            fields: self.fields,
+        }
+    }
+
+    /// The next rows of a text, of which `before` were read.
+    pub fn next_block(
+        &self,
+        alloc: Global,
+        reader: &mut Reader<&[u8]>,
+        before: usize,
+        room: usize,
+    ) -> Result<Block, CsvFault>
+        requires header { IsPlainHeader self.now }
+        requires few { before + room < 2 ^ 31 }
+        ensures ok { IfOk result (λ b. (rest : List ℕ) → Reads reader.old rest → MatchBool b.last
+            (IsLastBlock self.now.fields (fields_of self.now.names) before room reader.old rest b.columns)
+            (IsFullBlock self.now.fields (fields_of self.now.names) before room reader.old reader.new
+            rest b.columns)) }
+        ensures err { IfErr result (λ fault. fault ≢ CsvFault.NoMemory → (rest : List ℕ)
+            → Reads reader.old rest → (n : ℕ) → room ≤ n
+            → rows_from before self.now.fields (fields_of self.now.names)
+            (records_left n reader.old rest) ≡ Err fault) }
+    {
+        let names = names_in(alloc, &self.names)?;
+        let layout = Layout::new(alloc, self.fields.as_slice(), &names)?;
+        read_block(alloc, reader, &layout, before, room)
+    }
+}
+
+// The columns of whole numbers that the cells of a record name.
+fn fields_in(alloc: Global, names: &ByteRecord) -> Result<Seq<Field>, CsvFault>
+    requires { length (fields_of names.now) ≤ 64 }
+    ensures ok { IfOk result (λ fields. header_of plain_name (fields_of names.now) ≡ Ok fields) }
+    ensures err { IfErr result (λ fault. fault ≢ CsvFault.NoMemory
+        → header_of plain_name (fields_of names.now) ≡ Err fault) }
+{
+    let names = names_in(alloc, names)?;
+    plain_columns(alloc, &names)
+}
+
+/// The text of whole numbers that some bytes are, with its header read. The fields and the rows, or the
+/// first fault, are those of `read_plain_columns`.
+pub fn plain_blocks<'a>(alloc: Global, bytes: &'a [u8]) -> Result<PlainBlocks<'a>, CsvFault>
+    requires { length bytes.now ≤ 134217728 }
+    ensures blocks { IfOk result IsPlainBlocks }
+    ensures ok { IfOk result (λ b. GivesTable b (plain_in csv_limits (records_of bytes.now))) }
+    ensures err { IfErr result (λ fault. fault ≢ CsvFault.NoMemory
+        → plain_in csv_limits (records_of bytes.now) ≡ Err fault) }
+{
+    let mut reader = text_reader(alloc, bytes);
+    let mut names = ByteRecord::new(alloc);
+    if !next_record(&mut reader, &mut names)? {
+        return Err(CsvFault::At(CsvKind::NoHeader, 0, 0));
+    }
+    let left = unmarked_len(bytes);
+    match PlainHeader::of_record(alloc, names) {
+        Ok(header) => Ok(PlainBlocks {
+            header,
+            reader,
+            before: 0,
+            left,
+        }),
+        Err(fault) => Err(fault),
+    }
+}
+
+impl PlainBlocks<'_> {
+    /// The next rows, if any are left: a few thousand, or else the last.
+    pub fn next(&mut self, alloc: Global) -> Result<Option<Columns>, CsvFault>
+        requires { IsPlainBlocks self.old }
+        ensures blocks { IsPlainBlocks self.new }
+        ensures header { self.new.header ≡ self.old.header }
+        ensures ok { IfOk result (λ block. (whole : RowsOrFault) → Gives self.old whole
+            → MatchOption block (whole ≡ Ok []) (λ columns. (more : RowsOrFault) × Gives self.new more
+            × (whole ≡ after (rows_of_columns columns) more))) }
+        ensures err { IfErr result (λ fault. fault ≢ CsvFault.NoMemory → (whole : RowsOrFault)
+            → Gives self.old whole → whole ≡ Err fault) }
+    {
+        let room = self.left.min(BLOCK_ROWS);
+        if room == 0 {
+            return Ok(None);
+        }
+        match self
+            .header
+            .next_block(alloc, &mut self.reader, self.before, room)
+        {
+            Ok(Block { columns, last }) => {
+                if last {
+                    self.left = 0;
+                    return Ok(Some(columns));
+                }
+                self.left -= room;
+                self.before += room;
+                Ok(Some(columns))
+            }
+            Err(fault) => Err(fault),
+        }
+    }
+}
