@@ -1,5 +1,5 @@
 -- What `create` did, by what its parts did.
-use Rattle.std.proofs.Common.{◌≡◌, ◌≢◌, ◌⊎◌, ◌∙◌, ◌≤◌, ◌<◌, inl, inr, ℕ, Bool, true, false, List, [], ◌∷◌, ◌++◌, append-nil, length, nat_lt, Option, Some, None, option_map, Result, Ok, Err, IfSome, IsSomeAnd, IsErrAnd, refl, sym, ap, subst, arith, le_refl, le_trans, cond}
+use Rattle.std.proofs.Common.{◌≡◌, ◌≢◌, ◌∙◌, ◌≤◌, inl, inr, ℕ, Bool, true, false, List, [], ◌∷◌, ◌++◌, append-nil, length, nat_lt, Option, Some, None, option_map, Result, Ok, Err, IfSome, IsErrAnd, refl, sym, ap, subst, arith, le_refl, cond}
 use Rattle.std.specs.FinMap as map
 use Rattle.std.specs.Ordering.{eq_by_cmp, is_eq}
 use Rattle.std.specs.declared.cmp.Ordering.TheVariants.{Less, Equal, Greater}
@@ -17,15 +17,15 @@ use Rattle.table_schema.specs.declared.settings.Settings.{Settings}
 use Rattle.table_schema.specs.declared.table.Table.{Table}
 use Rattle.table_store.specs.State as state
 use Rattle.table_store.specs.TableFile.{incoming, table_file, table_name, text_limit}
-use Rattle.pinot_run.specs.Command.{Command, Create}
+use Rattle.pinot_run.specs.Command.{Create}
 use Rattle.pinot_run.specs.Create.{Made, beside, json_bytes, json_in, new_table, read_by, schema_in, settings_in, table_of, with_settings}
 use Rattle.pinot_run.specs.Gives.{Makes, StopsBy, StopsLook}
 use Rattle.pinot_run.specs.Profile.{NoFile, create_refuses, texts_refuse}
-use Rattle.pinot_run.specs.Ran.{Acted, Caused, Counts, Creates, Ended, Failed, HasCause, IsAllowed, IsStepped, NoFaults, Over, Ran, WhereStands, files_after}
-use Rattle.pinot_run.specs.Step.{Answer, Refuses, Replies, create_answer, step_of}
+use Rattle.pinot_run.specs.Ran.{Acted, Caused, Counts, Creates, Ended, HasCause, IsAllowed, IsStepped, Looked, NoFaults, Over, Ran, WhereStands}
+use Rattle.pinot_run.specs.Step.{Answer, Refuses, Replies, step_of}
 use Rattle.pinot_run.specs.Touched.{OnlyLooks, WritesThese, Reads, ReadsFront}
 use Rattle.outside.specs.Seen.{Seen}
-use Rattle.pinot_run.specs.World.{Devices, IsOther, SameButThese}
+use Rattle.pinot_run.specs.World.{Devices, SameButThese}
 use Rattle.pinot_run.specs.declared.fault.Fault.{Fault}
 use Rattle.pinot_run.specs.declared.fault.Fault.TheVariants as fault
 use Rattle.pinot_run.specs.declared.note.Note.{Note}
@@ -101,6 +101,24 @@ caused_line schema settings inputs stored (note.BadCsv wrong row column) e told 
 caused_line schema settings inputs stored (note.TooLarge what limit) e told = told
 caused_line schema settings inputs stored (note.BadQuery wrong place) e told = absurd cc
 
+-- how far the files were looked at
+looked_line : (schema settings : List ℕ) (old new : Devices) (line : Note) → texts_refuse line ≡ true → ((wrong : KeyKind) (path : List ℕ) → line ≡ note.BadSchema wrong path → ReadsFront schema text_limit old.inputs new.inputs)
+    → Looked (Some (Create schema settings)) line old new
+looked_line schema settings old new note.BadWords e alone = tt
+looked_line schema settings old new (note.NoInput file) e alone = tt
+looked_line schema settings old new (note.BadSchema wrong path) e alone = alone wrong path refl
+looked_line schema settings old new (note.BadSettings wrong path) e alone = tt
+looked_line schema settings old new note.TableExists e alone = absurd cc
+looked_line schema settings old new note.NoTable e alone = tt
+looked_line schema settings old new (note.BadCsv wrong row column) e alone = tt
+looked_line schema settings old new (note.TooLarge what limit) e alone = tt
+looked_line schema settings old new (note.BadQuery wrong place) e alone = tt
+
+-- there is no table where there is one
+both_told : (held : Option Files) (P : Type 0) → Has held table_name → Lacks held table_name → IfSome held (λ _. P)
+both_told None P has lacks = tt
+both_told (Some files) P (bytes, got) lacks = let e : Some bytes ≡ None = sym got ∙ lacks in absurd cc
+
 -- nothing was written
 names_same : (names : List (List ℕ)) (told : Option Files) → SameButThese names told told
 names_same names None = refl
@@ -125,37 +143,39 @@ module _ (schema settings : List ℕ) (inputs inputs_new depot : Seen) (reads : 
       record { step = steps_over (Some (Create schema settings)) inputs.held depot.held answer depot_new.held over; over = over; allowed = allowed }
 
   -- the files were not read, or refused
-  pub ran_stopped : (why : Stop) → Lacks depot.held table_name → StopsBy (option_map (new_table schema settings) inputs.held) (Rose inputs.read_faults inputs_new.read_faults) why → (why ≢ stop.Fault fault.Read → inputs_new.read_faults ≡ inputs.read_faults) → Of schema settings inputs inputs_new depot depot (Err why)
-  ran_stopped (stop.Refused line) lacks by still =
+  pub ran_stopped : (why : Stop) → Lacks depot.held table_name → StopsBy (option_map (new_table schema settings) inputs.held) (Rose inputs.read_faults inputs_new.read_faults) why → (why ≢ stop.Fault fault.Read → inputs_new.read_faults ≡ inputs.read_faults)
+      → ((wrong : KeyKind) (path : List ℕ) → why ≡ stop.Refused (note.BadSchema wrong path) → ReadsFront schema text_limit inputs inputs_new) → Of schema settings inputs inputs_new depot depot (Err why)
+  ran_stopped (stop.Refused line) lacks by still alone =
       let told = told_out inputs.held schema settings line by.1 in
       record {
         touched = record { inputs = reads; depot = unwritten depot };
         counted = record { inputs = still (λ e. cc); depot_reads = refl; depot_writes = refl };
-        ended = acted (Err line) (Refuses line) depot (record { there = false; known = lacks; answers = refl; leaves = refl }) told (allowed_line line by.0, caused_line schema settings inputs.held depot.held line by.0 told, refl);
+        ended = acted (Err line) (Refuses line) depot (record { there = false; known = lacks; answers = refl; leaves = refl }) told (allowed_line line by.0, caused_line schema settings inputs.held depot.held line by.0 told, refl,
+            looked_line schema settings (record { inputs = inputs; depot = depot }) (record { inputs = inputs_new; depot = depot }) line by.0 (λ wrong path is. alone wrong path (ap stop.Refused is)));
       }
-  ran_stopped (stop.Fault fault.Read) lacks by still = record { touched = record { inputs = reads; depot = unwritten depot }; counted = refl; ended = record { kept = refl; cause = (refl, inl by) } }
-  ran_stopped (stop.Fault fault.Write) lacks by still = absurd by
-  ran_stopped (stop.Fault fault.Memory) lacks by still = record { touched = record { inputs = reads; depot = unwritten depot }; counted = record { inputs = still (λ e. cc); depot_reads = refl; depot_writes = refl }; ended = record { kept = refl; cause = tt } }
+  ran_stopped (stop.Fault fault.Read) lacks by still alone = record { touched = record { inputs = reads; depot = unwritten depot }; counted = refl; ended = record { kept = refl; cause = (refl, inl by) } }
+  ran_stopped (stop.Fault fault.Write) lacks by still alone = absurd by
+  ran_stopped (stop.Fault fault.Memory) lacks by still alone = record { touched = record { inputs = reads; depot = unwritten depot }; counted = record { inputs = still (λ e. cc); depot_reads = refl; depot_writes = refl }; ended = record { kept = refl; cause = tt } }
 
   -- the table was made, or not
   pub ran_made : (texts : state.Texts) (table : Table) (depot_new : Seen) (result : Result (List ℕ) Stop) → NewTable (Ok (texts, table)) → WritesThese NoFile (table_name ∷ []) depot depot_new
-      → inputs_new.read_faults ≡ inputs.read_faults → (result ≢ Err (stop.Fault fault.Read) → depot_new.read_faults ≡ depot.read_faults) → (result ≢ Err (stop.Fault fault.Write) → depot_new.write_faults ≡ depot.write_faults)
+      → Lacks depot.held table_name → inputs_new.read_faults ≡ inputs.read_faults → (result ≢ Err (stop.Fault fault.Read) → depot_new.read_faults ≡ depot.read_faults) → (result ≢ Err (stop.Fault fault.Write) → depot_new.write_faults ≡ depot.write_faults)
       → Makes texts table depot depot_new result → Of schema settings inputs inputs_new depot depot_new result
-  ran_made texts table depot_new (Ok text) told writes fine no_read no_write (lacks, published, is) = record {
+  ran_made texts table depot_new (Ok text) told writes none fine no_read no_write (lacks, published, is) = record {
     touched = record { inputs = reads; depot = writes };
     counted = record { inputs = fine; depot_reads = no_read (λ e. cc); depot_writes = no_write (λ e. cc) };
     ended = acted (Ok (texts, table)) (Replies text) depot_new (record { there = false; known = lacks; answers = ap Replies is; leaves = published }) told refl;
   }
-  ran_made texts table depot_new (Err (stop.Refused line)) told writes fine no_read no_write (is, has, kept) =
+  ran_made texts table depot_new (Err (stop.Refused line)) told writes none fine no_read no_write (is, has, kept) =
       let exists : Of schema settings inputs inputs_new depot depot_new (Err (stop.Refused note.TableExists)) = record {
         touched = record { inputs = reads; depot = writes };
         counted = record { inputs = fine; depot_reads = no_read (λ e. cc); depot_writes = no_write (λ e. cc) };
-        ended = acted (Ok (texts, table)) (Refuses note.TableExists) depot_new (record { there = true; known = has; answers = refl; leaves = kept }) told (refl, has, kept);
+        ended = acted (Ok (texts, table)) (Refuses note.TableExists) depot_new (record { there = true; known = has; answers = refl; leaves = kept }) told (refl, has, kept, both_told depot.held (inputs_new ≡ inputs) has none);
       } in
       subst (λ l. Of schema settings inputs inputs_new depot depot_new (Err (stop.Refused l))) (sym is) exists
-  ran_made texts table depot_new (Err (stop.Fault fault.Read)) told writes fine no_read no_write (kept, rose) = record { touched = record { inputs = reads; depot = writes }; counted = no_write (λ e. cc); ended = record { kept = kept; cause = (refl, inr rose) } }
-  ran_made texts table depot_new (Err (stop.Fault fault.Write)) told writes fine no_read no_write (kept, rose) = record { touched = record { inputs = reads; depot = writes }; counted = (fine, no_read (λ e. cc)); ended = record { kept = kept; cause = rose } }
-  ran_made texts table depot_new (Err (stop.Fault fault.Memory)) told writes fine no_read no_write kept = record { touched = record { inputs = reads; depot = writes }; counted = record { inputs = fine; depot_reads = no_read (λ e. cc); depot_writes = no_write (λ e. cc) }; ended = record { kept = kept; cause = tt } }
+  ran_made texts table depot_new (Err (stop.Fault fault.Read)) told writes none fine no_read no_write (kept, rose) = record { touched = record { inputs = reads; depot = writes }; counted = no_write (λ e. cc); ended = record { kept = kept; cause = (refl, inr rose) } }
+  ran_made texts table depot_new (Err (stop.Fault fault.Write)) told writes none fine no_read no_write (kept, rose) = record { touched = record { inputs = reads; depot = writes }; counted = (fine, no_read (λ e. cc)); ended = record { kept = kept; cause = rose } }
+  ran_made texts table depot_new (Err (stop.Fault fault.Memory)) told writes none fine no_read no_write kept = record { touched = record { inputs = reads; depot = writes }; counted = record { inputs = fine; depot_reads = no_read (λ e. cc); depot_writes = no_write (λ e. cc) }; ended = record { kept = kept; cause = tt } }
 
 pub earlier : (a b c : ℕ) → a ≤ b → Rose b c → Rose a c
 earlier a b c le (inl lt) = inl (omega arith)
@@ -173,9 +193,20 @@ module _ (schema settings : List ℕ) (inputs inputs_new depot looked depot_new 
   moved_caused : (line : Note) → Caused (Some (Create schema settings)) inputs.held looked.held line → Caused (Some (Create schema settings)) inputs.held depot.held line
   moved_caused line is = subst (λ h. Caused (Some (Create schema settings)) inputs.held h line) looks.held is
 
+  moved_looked : (line : Note) → Looked (Some (Create schema settings)) line (Before looked) Now → Looked (Some (Create schema settings)) line (Before depot) Now
+  moved_looked note.BadWords is = is
+  moved_looked (note.NoInput file) is = is
+  moved_looked (note.BadSchema wrong path) is = is
+  moved_looked (note.BadSettings wrong path) is = is
+  moved_looked note.TableExists is = subst (λ h. IfSome h (λ _. inputs_new ≡ inputs)) looks.held is
+  moved_looked note.NoTable is = is
+  moved_looked (note.BadCsv wrong row column) is = is
+  moved_looked (note.TooLarge what limit) is = is
+  moved_looked (note.BadQuery wrong place) is = is
+
   moved_allowed : (answer : Answer) → IsAllowed (Some (Create schema settings)) (Before looked) Now answer → IsAllowed (Some (Create schema settings)) (Before depot) Now answer
   moved_allowed (Replies text) is = is
-  moved_allowed (Refuses line) is = (is.0, moved_caused line is.1, is.2 ∙ looks.held)
+  moved_allowed (Refuses line) is = (is.0, moved_caused line is.1, is.2 ∙ looks.held, moved_looked line is.3)
 
   moved_acted : (answer : Answer) → Acted (Some (Create schema settings)) (Before looked) Now answer → Acted (Some (Create schema settings)) (Before depot) Now answer
   moved_acted answer acted = record {
@@ -260,7 +291,7 @@ ran_exists schema settings inputs depot has =
     record {
       touched = record { inputs = no_files schema settings inputs; depot = unwritten depot };
       counted = record { inputs = refl; depot_reads = refl; depot_writes = refl };
-      ended = record { step = steps_over (Some (Create schema settings)) inputs.held depot.held (Refuses note.TableExists) depot.held over; over = over; allowed = (refl, has, refl) };
+      ended = record { step = steps_over (Some (Create schema settings)) inputs.held depot.held (Refuses note.TableExists) depot.held over; over = over; allowed = (refl, has, refl, told_all depot.held (λ _. inputs ≡ inputs) (λ files. refl)) };
     }
 
 -- a look failed
@@ -324,3 +355,7 @@ not_read (Err s) why is other e = other (ap Err (is ∙ e))
 
 pub other_err : {A : Type 0} (why : Stop) → why ≢ stop.Fault fault.Read → ◌≢◌ {A = Result A Stop} (Err why) (Err (stop.Fault fault.Read))
 other_err why other e = other cc
+
+pub handed_err : {A B : Type 0} (r : Result A Stop) (why other : Stop) → IsErrAnd r (λ s. s ≡ why) → r ≡ Err other → ◌≡◌ {A = Result B Stop} (Err why) (Err other)
+handed_err (Ok x) why other is e = absurd is
+handed_err (Err s) why other is e = let same : s ≡ other = cc in ap Err (sym is ∙ same)

@@ -1,8 +1,8 @@
 -- What a command does to stored files is its step on the state that they stand for.
-use Rattle.std.proofs.Common.{◌≡◌, ◌≤◌, ◌∙◌, ℕ, Bool, true, false, List, length, nat_lt, Option, Some, None, Result, Ok, Err, IfSome, IsSomeAnd, refl, sym, ap, subst, arith, cond}
+use Rattle.std.proofs.Common.{◌≡◌, ◌≤◌, ℕ, Bool, true, false, List, length, nat_lt, Option, Some, None, Result, Ok, Err, IfSome, IsSomeAnd, refl, sym, ap, subst, arith, cond}
 use Rattle.std.proofs.lemmas.Bool.Decides.{nat_tests}
 use Rattle.std.specs.FinMap as map
-use Rattle.outside.specs.Files.{Files, Has, Lacks}
+use Rattle.outside.specs.Files.{Files}
 use Rattle.table_schema.specs.Schemas.{schema_read}
 use Rattle.table_schema.specs.TableTexts.{settings_read}
 use Rattle.table_schema.specs.declared.fault.KeyKind.{KeyKind}

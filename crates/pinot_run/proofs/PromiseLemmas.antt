@@ -1,15 +1,14 @@
 -- What a command did, once its reply was given, is what the top call promises.
-use Rattle.std.proofs.Common.{◌≡◌, ◌≢◌, ◌⊎◌, ◌∙◌, ◌≤◌, inl, inr, ℕ, Bool, true, false, List, [], ◌++◌, length, take, Option, Some, None, option_map, Ok, Err, IfSome, refl, sym, ap, subst, append-nil, arith, le_refl}
+use Rattle.std.proofs.Common.{◌≡◌, ◌≢◌, ◌⊎◌, ◌∙◌, ◌≤◌, inl, inr, ℕ, true, false, List, [], Option, Some, None, Ok, Err, refl, sym, ap, subst, append-nil, arith, le_refl}
 use Rattle.outside.specs.Counts.{Rose}
 use Rattle.outside.specs.Files.{Files}
 use Rattle.outside.specs.Sink.{appended, AppendsPrefix}
 use Rattle.table_store.specs.State.{State}
-use Rattle.table_store.specs.Stands.{Stands}
 use Rattle.pinot_run.specs.Command.{Command}
-use Rattle.pinot_run.specs.Notes.{is_fault, note_text, status_of, status_of_fault}
-use Rattle.pinot_run.specs.Promise.{Counted, IsAnswered, IsCut, IsGiven, IsQuiet, IsStep, Leaves, Noted, Promise}
-use Rattle.pinot_run.specs.Ran.{Acted, Failed, IsStepped, NoFaults, Ran, WhereStands}
-use Rattle.pinot_run.specs.Step.{Answer, Refuses, Replies, line_of, status_after, step_of, text_of}
+use Rattle.pinot_run.specs.Notes.{note_text, status_of, status_of_fault}
+use Rattle.pinot_run.specs.Promise.{Counted, IsAnswered, IsGiven, IsStep, Leaves, Noted, Promise}
+use Rattle.pinot_run.specs.Ran.{Acted, IsStepped, NoFaults, Ran, WhereStands}
+use Rattle.pinot_run.specs.Step.{Answer, Refuses, Replies, status_after, step_of}
 use Rattle.outside.specs.Seen.{Heard}
 use Rattle.pinot_run.specs.World.{Devices, World}
 use Rattle.pinot_run.specs.declared.fault.Fault.{Fault}

@@ -1,5 +1,5 @@
 -- The answer of a query by its conjuncts is the one by its condition as it is written.
-use Rattle.std.proofs.Common.{◌≡◌, ◌≤◌, ℕ, List, length, filter, Bool, true, false, nat_lt, cond, arith, Option, Some, None, Result, Ok, refl, sym, ap, subst}
+use Rattle.std.proofs.Common.{◌≡◌, ◌≤◌, ℕ, List, length, Bool, true, false, nat_lt, cond, arith, Some, None, Result, Ok, sym, ap, subst}
 use Rattle.std.proofs.lemmas.List.Elements.{filter_agree}
 use Rattle.values.specs.declared.value.Value.{Value}
 use Rattle.table_schema.specs.Conditions.{all_hold}

@@ -1,5 +1,5 @@
 -- What `scan` did, by what its parts did.
-use Rattle.std.proofs.Common.{◌≡◌, ◌≢◌, ◌≤◌, ◌<◌, ◌∙◌, inl, inr, IsErrAnd, ℕ, Bool, List, [], ◌∷◌, length, true, false, nat_lt, cond, Option, Some, None, Result, Ok, Err, IfSome, refl, sym, ap, subst, arith}
+use Rattle.std.proofs.Common.{◌≡◌, ◌≢◌, ◌≤◌, ◌<◌, ◌∙◌, inl, inr, IsErrAnd, ℕ, Bool, List, length, true, false, nat_lt, cond, Option, Some, None, Result, Ok, Err, IfSome, refl, sym, ap, subst, arith}
 use Rattle.std.proofs.lemmas.Bool.Decides.{nat_tests}
 use Rattle.std.specs.FinMap as map
 use Rattle.outside.specs.Counts.{Rose}
@@ -17,16 +17,15 @@ use Rattle.query_parser.specs.declared.fault.QueryFault.{QueryFault}
 use Rattle.query_parser.specs.declared.fault.QueryFault.TheVariants as parse
 use Rattle.table_schema.specs.declared.field.Schema.{Schema}
 use Rattle.values.specs.declared.value.Value.{Value}
-use Rattle.pinot_run.specs.Command.{Command, Scan}
+use Rattle.pinot_run.specs.Command.{Scan}
 use Rattle.pinot_run.specs.Form.{is_answered}
 use Rattle.pinot_run.specs.Gives.{Gives, StopsRead}
 use Rattle.pinot_run.specs.Profile.{csv_limit, scan_refuses}
 use Rattle.pinot_run.specs.Ran.{Acted, Caused, Counts, Ended, IsAllowed, NoFaults, Over, Ran}
-use Rattle.pinot_run.specs.Step.{Answer, Refuses, Replies, bare_table, bound_answer, formed_answer, parsed_answer, query_answer, scan_answer, sql_answer}
-use Rattle.pinot_run.specs.Touched.{Reads, ReadsFront}
+use Rattle.pinot_run.specs.Step.{Answer, Refuses, Replies, bare_table, bound_answer, parsed_answer, query_answer, scan_answer}
+use Rattle.pinot_run.specs.Touched.{ReadsFront}
 use Rattle.outside.specs.Seen.{Seen}
 use Rattle.pinot_run.specs.World.{Devices}
-use Rattle.pinot_run.specs.declared.fault.Fault.{Fault}
 use Rattle.pinot_run.specs.declared.fault.Fault.TheVariants as fault
 use Rattle.pinot_run.specs.declared.note.Counted.TheVariants as counted
 use Rattle.pinot_run.specs.declared.note.Note.{Note}
@@ -154,12 +153,12 @@ module _ (file sql : List ℕ) (inputs inputs_new depot : Seen) (reads : ReadsFr
   none still = record { inputs = still; depot_reads = refl; depot_writes = refl }
 
   ran_missing : inputs_new.read_faults ≡ inputs.read_faults → Lacks inputs.held file → Of (Err (stop.Refused (note.NoInput file)))
-  ran_missing still lacks = ran _ (none still) (acted (Refuses (note.NoInput file)) (of_missing inputs.held file sql lacks) (refl, lacks, refl))
+  ran_missing still lacks = ran _ (none still) (acted (Refuses (note.NoInput file)) (of_missing inputs.held file sql lacks) (refl, lacks, refl, tt))
 
   ran_long : inputs_new.read_faults ≡ inputs.read_faults → IsTooLong inputs.held file 134217728 → Of (Err (stop.Refused (note.TooLarge counted.CsvBytes csv_limit)))
   ran_long still long =
       let told = of_long inputs.held file sql long in
-      ran _ (none still) (acted (Refuses (note.TooLarge counted.CsvBytes csv_limit)) told (refl, few_caused file sql inputs.held depot.held (note.TooLarge counted.CsvBytes csv_limit) refl told, refl))
+      ran _ (none still) (acted (Refuses (note.TooLarge counted.CsvBytes csv_limit)) told (refl, few_caused file sql inputs.held depot.held (note.TooLarge counted.CsvBytes csv_limit) refl told, refl, tt))
 
   -- the file was not read
   pub ran_unread : (why : Stop) → StopsRead file counted.CsvBytes csv_limit inputs.held (Rose inputs.read_faults inputs_new.read_faults) why → (why ≢ stop.Fault fault.Read → inputs_new.read_faults ≡ inputs.read_faults) → Of (Err why)
@@ -175,7 +174,7 @@ module _ (file sql : List ℕ) (inputs inputs_new depot : Seen) (reads : ReadsFr
   ran_whole bytes (Err (stop.Refused line)) still whole gives =
       let told = subst (λ a. IfSome inputs.held (IsOf file sql a)) gives (of_whole inputs.held file sql bytes whole) in
       let few : rows_refuse line ≡ true = subst RefusesFew gives (few_query sql (plain_in csv_limits (records_of bytes))) in
-      ran _ (none still) (acted (Refuses line) told (few_line line few, few_caused file sql inputs.held depot.held line few told, refl))
+      ran _ (none still) (acted (Refuses line) told (few_line line few, few_caused file sql inputs.held depot.held line few told, refl, tt))
   ran_whole bytes (Err (stop.Fault why)) still whole gives =
       subst (λ f. Of (Err (stop.Fault f))) (sym gives) (ran (Err (stop.Fault fault.Memory)) (none still) (record { kept = refl; cause = tt }))
 

@@ -1,15 +1,13 @@
 -- What stops the reading of the files of `create` is what is found first in them.
-use Rattle.std.proofs.Common.{◌≡◌, ◌∙◌, ◌≤◌, ◌<◌, inl, inr, ℕ, List, [], ◌++◌, length, nat_lt, true, false, IfOk, Option, Some, None, option_map, Result, Ok, Err, IfSome, refl, sym, ap, subst, append-nil, arith}
+use Rattle.std.proofs.Common.{◌≡◌, ◌∙◌, ◌≤◌, ◌<◌, inl, inr, ℕ, List, length, nat_lt, true, false, IfOk, Option, Some, None, option_map, Result, Ok, Err, IfSome, refl, sym, ap, subst, arith}
 use Rattle.std.specs.Prelude.{IfErr, IsErrAnd}
 use Rattle.std.proofs.lemmas.Bool.Decides.{nat_tests}
 use Rattle.outside.specs.Files.{Files, Lacks}
 use Rattle.outside.specs.Whole.{IsTooLong, IsWhole}
 use Rattle.table_store.specs.TableFile.{text_limit}
-use Rattle.table_schema.specs.declared.fault.KeyKind.{KeyKind}
-use Rattle.table_schema.specs.declared.fault.TextFault.{TextFault}
 use Rattle.table_schema.specs.declared.field.Schema.{Schema}
 use Rattle.table_schema.specs.declared.settings.Settings.{Settings}
-use Rattle.pinot_run.specs.Create.{beside, json_bytes, json_in, new_table, read_by, schema_in, settings_in, table_of, with_settings}
+use Rattle.pinot_run.specs.Create.{json_bytes, json_in, new_table, schema_in, settings_in, table_of, with_settings}
 use Rattle.pinot_run.specs.Gives.{StopsBy, StopsRead}
 use Rattle.pinot_run.specs.declared.fault.Fault.TheVariants.{Memory, Read, Write}
 use Rattle.pinot_run.specs.declared.note.Counted.TheVariants.{JsonBytes}

@@ -1,9 +1,7 @@
 -- What the top call promises of a command.
-use Rattle.std.specs.Prelude.{◌≡◌, ◌≢◌, ◌⊎◌, ◌≤◌, ℕ, Bool, true, false, List, Option, IfSome}
+use Rattle.std.specs.Prelude.{◌≡◌, ◌≢◌, ◌⊎◌, ◌≤◌, ℕ, true, false, List, Option}
 use Rattle.outside.specs.Counts.{Rose}
-use Rattle.outside.specs.Files.{Files}
 use Rattle.outside.specs.Sink.{appended, AppendsPrefix}
-use Rattle.table_store.specs.State.{State}
 use Rattle.pinot_run.specs.Command.{Command}
 use Rattle.pinot_run.specs.Notes.{fault_line, is_fault}
 use Rattle.pinot_run.specs.Profile.{may_read, profile}
@@ -11,7 +9,7 @@ use Rattle.pinot_run.specs.Ran.{Acted, IsStepped, WhereStands}
 use Rattle.pinot_run.specs.Step.{After, Answer, line_of, status_after, step_of, text_of}
 use Rattle.pinot_run.specs.Touched.{Touched}
 use Rattle.outside.specs.Seen.{Heard}
-use Rattle.pinot_run.specs.World.{Devices, World}
+use Rattle.pinot_run.specs.World.{World}
 use Rattle.pinot_run.specs.declared.status.Status.{Status}
 use Rattle.pinot_run.specs.declared.status.Status.TheVariants as status
 

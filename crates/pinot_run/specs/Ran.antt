@@ -5,13 +5,12 @@ use Rattle.outside.specs.Counts.{Rose}
 use Rattle.outside.specs.Files.{Files, Has, Lacks, with_file}
 use Rattle.table_store.specs.State.{State}
 use Rattle.table_store.specs.Stands.{Stands}
-use Rattle.table_store.specs.TableFile.{table_file, table_name}
+use Rattle.table_store.specs.TableFile.{table_file, table_name, text_limit}
 use Rattle.pinot_run.specs.Command.{Command, Create, Scan}
 use Rattle.pinot_run.specs.Create.{Made, new_table}
 use Rattle.pinot_run.specs.Profile.{may_read, profile}
 use Rattle.pinot_run.specs.Step.{After, Answer, Refuses, Replies, create_answer, scan_answer, step_of}
-use Rattle.pinot_run.specs.Touched.{Touched}
-use Rattle.outside.specs.Seen.{Seen}
+use Rattle.pinot_run.specs.Touched.{ReadsFront, Touched}
 use Rattle.pinot_run.specs.World.{Devices}
 use Rattle.pinot_run.specs.declared.fault.Fault.{Fault}
 use Rattle.pinot_run.specs.declared.fault.Fault.TheVariants as fault
@@ -68,9 +67,15 @@ Caused command inputs stored note.NoTable = Lacks stored table_name
 Caused command inputs stored (note.NoInput file) = Lacks inputs file
 Caused command inputs stored line = IfSome inputs (λ files. Finds command files stored line)
 
+-- how far the inputs were looked at where a command is refused so: at none where there is a table, and at the schema alone where it is refused
+abbrev pub Looked : Option Command → Note → Devices → Devices → Type 0
+Looked (Some (Create schema settings)) note.TableExists old new = IfSome old.depot.held (λ _. new.inputs ≡ old.inputs)
+Looked (Some (Create schema settings)) (note.BadSchema wrong path) old new = ReadsFront schema text_limit old.inputs new.inputs
+Looked command line old new = Unit {0}
+
 abbrev pub IsAllowed : Option Command → Devices → Devices → Answer → Type 0
 IsAllowed command old new (Replies text) = (profile command).replies ≡ true
-IsAllowed command old new (Refuses line) = ((profile command).refuses line ≡ true) × Caused command old.inputs.held old.depot.held line × (new.depot.held ≡ old.depot.held)
+IsAllowed command old new (Refuses line) = ((profile command).refuses line ≡ true) × Caused command old.inputs.held old.depot.held line × (new.depot.held ≡ old.depot.held) × Looked command line old new
 
 -- a command came to an answer, and left the store as it does with that answer
 pub record Acted (command : Option Command) (old new : Devices) (answer : Answer) : Type 0 where

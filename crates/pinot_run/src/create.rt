@@ -1,8 +1,9 @@
 //! The command `create`: a table from the files of its schema and of its settings.
-ghost use Rattle.std.specs.Prelude.{◌≡◌, ◌≤◌, true, false, [], ◌∷◌, Some, None, option_map, IfOk, IfErr, IfSome, IsErrOf, Ok, length, codes, ◌++◌};
+ghost use Rattle.std.specs.Prelude.{◌≡◌, ◌≤◌, ℕ, List, true, false, [], ◌∷◌, Some, None, option_map, IfOk, IfErr, IfSome, IsErrOf, Ok, length, codes, ◌++◌};
 ghost use Rattle.outside.specs.Counts.{Rose};
 ghost use Rattle.outside.specs.Files.{Has, Lacks};
 ghost use Rattle.table_schema.specs.Schemas.{schema_read};
+ghost use Rattle.table_schema.specs.declared.fault.KeyKind.{KeyKind};
 ghost use Rattle.table_schema.specs.TableTexts.{settings_read};
 ghost use Rattle.table_schema.specs.Valid.{IsValidSchema};
 ghost use Rattle.table_store.specs.TableFile.{FitsTable, table_name, text_limit};
@@ -37,6 +38,8 @@ fn read_json<I: Shelf>(alloc: Global, file: &str, inputs: &mut I) -> Result<Byte
     ensures bytes { IfOk result (λ bytes.
         IfSome (I.held inputs.old) (λ files. json_in file.now files ≡ Ok bytes)) }
     ensures short { IfOk result (λ bytes. length bytes ≤ text_limit) }
+    ensures no_schema { (wrong : KeyKind) (path : List ℕ) →
+        ¬ IsErrOf result (Stop.Refused (Note.BadSchema wrong path)) }
     ensures stops { IfErr result (StopsBy (option_map (json_in file.now) (I.held inputs.old))
         (Rose (I.read_faults inputs.old) (I.read_faults inputs.new))) }
     ensures still { ¬ IsErrOf result (Stop.Fault Fault.Read) →
@@ -65,6 +68,8 @@ fn settings_of(alloc: Global, schema: &Schema, text: &[u8]) -> Result<Settings, 
     requires { length schema.now.fields ≤ 64 }
     ensures read { IfOk result (λ settings.
         settings_read schema.now.fields text.now ≡ Ok settings) }
+    ensures no_schema { (wrong : KeyKind) (path : List ℕ) →
+        ¬ IsErrOf result (Stop.Refused (Note.BadSchema wrong path)) }
     ensures stops { IfErr result
         (StopsBy (Some (beside Note.BadSettings text.now (settings_read schema.now.fields text.now))) ⊥) }
 {
@@ -107,6 +112,8 @@ fn read_settings_file<I: Shelf>(
     ensures read { IfOk result (λ r. IfSome (I.held inputs.old) (λ files.
         settings_in schema.now file.now files ≡ Ok (r.0, r.1))) }
     ensures short { IfOk result (λ r. length r.0 ≤ text_limit) }
+    ensures no_schema { (wrong : KeyKind) (path : List ℕ) →
+        ¬ IsErrOf result (Stop.Refused (Note.BadSchema wrong path)) }
     ensures stops { IfErr result (StopsBy (option_map (settings_in schema.now file.now) (I.held inputs.old))
         (Rose (I.read_faults inputs.old) (I.read_faults inputs.new))) }
     ensures still { ¬ IsErrOf result (Stop.Fault Fault.Read) →
@@ -135,6 +142,9 @@ fn read_table<I: Shelf>(
         (Rose (I.read_faults inputs.old) (I.read_faults inputs.new))) }
     ensures still { ¬ IsErrOf result (Stop.Fault Fault.Read) →
         I.read_faults inputs.new ≡ I.read_faults inputs.old }
+    ensures schema_alone { (wrong : KeyKind) (path : List ℕ) →
+        IsErrOf result (Stop.Refused (Note.BadSchema wrong path)) →
+        ReadsFront schema.now text_limit (seen I.Shelf inputs.old) (seen I.Shelf inputs.new) }
     ensures reads { Reads ((schema.now, text_limit) ∷ (settings.now, text_limit) ∷ []) (seen I.Shelf inputs.old) (seen I.Shelf inputs.new) }
 {
     let (schema_text, schema) = read_schema_file(alloc, schema, inputs)?;

@@ -1,8 +1,9 @@
 //! Input files, which are read whole.
-ghost use Rattle.std.specs.Prelude.{◌≡◌, ◌≤◌, IfOk, IfErr, IsErrOf, length};
+ghost use Rattle.std.specs.Prelude.{◌≡◌, ◌≤◌, ℕ, List, IfOk, IfErr, IsErrOf, length};
 ghost use Rattle.outside.specs.Counts.{Rose};
 ghost use Rattle.outside.specs.Seen.{seen};
 ghost use Rattle.outside.specs.Whole.{IsWhole};
+ghost use Rattle.table_schema.specs.declared.fault.KeyKind.{KeyKind};
 ghost use Rattle.pinot_run.specs.Gives.{StopsRead};
 ghost use Rattle.pinot_run.specs.Touched.{ReadsFront};
 
@@ -34,6 +35,8 @@ pub fn read_input<I: Shelf>(
     ensures short { IfOk result (λ bytes. length bytes ≤ limit) }
     ensures stops { IfErr result (StopsRead file.now what limit (I.held inputs.old)
         (Rose (I.read_faults inputs.old) (I.read_faults inputs.new))) }
+    ensures no_schema { (wrong : KeyKind) (path : List ℕ) →
+        ¬ IsErrOf result (Stop.Refused (Note.BadSchema wrong path)) }
     ensures still { ¬ IsErrOf result (Stop.Fault Fault.Read) →
         I.read_faults inputs.new ≡ I.read_faults inputs.old }
     ensures reads { ReadsFront file.now limit (seen I.Shelf inputs.old) (seen I.Shelf inputs.new) }

@@ -19,7 +19,7 @@ mod status;
 mod stop;
 mod tally;
 
-pub use laws::{no_less_law, script_law};
+pub use laws::promises_compose_law;
 pub use run::run_command;
 pub use status::Status;
 

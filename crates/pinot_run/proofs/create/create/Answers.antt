@@ -1,4 +1,4 @@
-use Rattle.std.proofs.Common.{◌∙◌, Ok, ap, subst, sym}
+use Rattle.std.proofs.Common.{Err, Ok, ap, subst, sym}
 use Rattle.outside.specs.Files.{Has, Lacks}
 use Rattle.outside.specs.Seen.{seen}
 use Rattle.table_store.specs.TableFile.{table_name}
@@ -30,7 +30,7 @@ returns-in_err-new g c =
     let lacks : Lacks (g.D.Shelf.held c.args.depot.now) table_name = c.in_ok-finds_table.ensures.no (ap Ok c.if-branch.false) in
     ran_looked c.args.schema.now c.args.settings.now inputs inputs_new (seen g.D.Shelf c.args.depot.now) looked looked looks (c.in_ok-finds_table.ensures.still (λ e. cc)) _
     (ran_halted c.args.schema.now c.args.settings.now inputs inputs_new looked looked c.from_residual-in_err-new.result why c.from_residual-in_err-new.ensures.1
-    (ran_stopped c.args.schema.now c.args.settings.now inputs inputs_new looked c.in_err-new.ensures.reads why (subst (λ h. Lacks h table_name) (sym looks.held) lacks) c.in_err-new.ensures.stops (λ other. c.in_err-new.ensures.still (other_err why other))))
+    (ran_stopped c.args.schema.now c.args.settings.now inputs inputs_new looked c.in_err-new.ensures.reads why (subst (λ h. Lacks h table_name) (sym looks.held) lacks) c.in_err-new.ensures.stops (λ other. c.in_err-new.ensures.still (other_err why other)) (λ wrong path is. c.in_err-new.ensures.schema_alone wrong path (ap Err is))))
 
 pub returns : goal.returns
 returns g c =
@@ -42,4 +42,4 @@ returns g c =
     let lacks : Lacks (g.D.Shelf.held c.args.depot.now) table_name = c.in_ok-finds_table.ensures.no (ap Ok c.if-branch.false) in
     ran_looked c.args.schema.now c.args.settings.now inputs inputs_new (seen g.D.Shelf c.args.depot.now) looked (seen g.D.Shelf c.make.new.depot) looks (c.in_ok-finds_table.ensures.still (λ e. cc)) _
     (ran_made c.args.schema.now c.args.settings.now inputs inputs_new looked made.reads
-    _ _ (seen g.D.Shelf c.make.new.depot) c.make.result made.made c.make.ensures.writes (made.still (λ e. cc)) c.make.ensures.reads_still c.make.ensures.writes_still c.make.ensures.makes)
+    _ _ (seen g.D.Shelf c.make.new.depot) c.make.result made.made c.make.ensures.writes (subst (λ h. Lacks h table_name) (sym looks.held) lacks) (made.still (λ e. cc)) c.make.ensures.reads_still c.make.ensures.writes_still c.make.ensures.makes)

@@ -1,5 +1,4 @@
 use Rattle.std.proofs.Common.{◌≡◌, ◌∷◌, [], ◌++◌, codes, subst, sym}
-use Rattle.outside.specs.Files.{with_file}
 use Rattle.table_store.specs.TableFile.{incoming, table_file, table_name}
 use Rattle.pinot_run.specs.World.{SameButThese}
 use Rattle.pinot_run.proofs.CreateLemmas.{made_file, one_of_these, put_these}

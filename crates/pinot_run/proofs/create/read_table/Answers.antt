@@ -3,7 +3,7 @@ use Rattle.outside.specs.Counts.{Rose}
 use Rattle.pinot_run.specs.Create.{new_table, settings_in}
 use Rattle.pinot_run.specs.Gives.{StopsBy}
 use Rattle.outside.specs.Seen.{seen}
-use Rattle.pinot_run.proofs.CreateLemmas.{earlier, first_alone, not_read, other_err}
+use Rattle.pinot_run.proofs.CreateLemmas.{earlier, first_alone, handed_err, not_read, other_err}
 use Rattle.pinot_run.proofs.StopsLemmas.{both_read, failed_later, handed_on, no_schema, no_settings}
 use Rattle.pinot_run.proofs.create.read_table.Goals as goal
 
@@ -37,3 +37,7 @@ pub returns-in_err-settings_text-clause-still : goal.returns-in_err-settings_tex
 returns-in_err-settings_text-clause-still g c = λ other.
     c.in_err-settings_text.ensures.still (other_err c.in_err-settings_text.field-0.0 (not_read c.from_residual-in_err-settings_text.result c.in_err-settings_text.field-0.0 c.from_residual-in_err-settings_text.ensures.1 other))
     ∙ c.in_ok-schema_text.ensures.still (λ e. cc)
+
+pub returns-in_err-settings_text-clause-schema_alone : goal.returns-in_err-settings_text-clause-schema_alone
+returns-in_err-settings_text-clause-schema_alone g c = λ wrong path e.
+    absurd (c.in_err-settings_text.ensures.no_schema wrong path (handed_err c.from_residual-in_err-settings_text.result c.in_err-settings_text.field-0.0 _ c.from_residual-in_err-settings_text.ensures.1 e))
