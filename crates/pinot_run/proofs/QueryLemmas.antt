@@ -1,5 +1,5 @@
 -- The answer of a query by its conjuncts is the one by its condition as it is written.
-use Rattle.std.proofs.Common.{◌≡◌, List, filter, Bool, true, Option, Some, None, Result, Ok, IfOk, refl, sym, ap, subst}
+use Rattle.std.proofs.Common.{◌≡◌, ◌≤◌, ℕ, List, length, Bool, true, false, nat_lt, cond, arith, Some, None, Result, Ok, sym, ap, subst}
 use Rattle.std.proofs.lemmas.List.Elements.{filter_agree}
 use Rattle.values.specs.declared.value.Value.{Value}
 use Rattle.table_schema.specs.Conditions.{all_hold}
@@ -11,10 +11,18 @@ use Rattle.query_bind.specs.Conjuncts.{KeepRows}
 use Rattle.query_bind.specs.Faults.{Finding}
 use Rattle.query_bind.specs.Written.{where_holds, where_written}
 use Rattle.pinot_run.specs.Reply.{answer_text, folded, label_of, reply_of, summed}
-use Rattle.pinot_run.specs.Outcome.{IsReply}
-use Rattle.pinot_run.specs.Step.{Replies, bound_answer}
+use Rattle.pinot_run.specs.Form.{is_answered}
+use Rattle.pinot_run.specs.Gives.{Gives, IsAnswered, IsBound}
+use Rattle.csv_ingest.specs.Rows.{csv_limits, plain_in, records_of}
+use Rattle.pinot_run.specs.declared.bad_query.QueryReason.TheVariants.{NotYet}
+use Rattle.pinot_run.specs.Step.{Refuses, Replies, bare_table, bound_answer, formed_answer, parsed_answer, query_answer, sql_answer, sql_limit}
+use Rattle.pinot_run.specs.declared.note.Counted.TheVariants.{SqlBytes}
+use Rattle.pinot_run.specs.declared.note.Note.TheVariants.{BadQuery, TooLarge}
+use Rattle.query_parser.specs.Query.{parsed}
+use Rattle.std.proofs.lemmas.Bool.Decides.{nat_tests}
+use Rattle.table_schema.specs.declared.field.Schema.{Schema}
 use Rattle.pinot_run.specs.Tally.{fold_text}
-use Rattle.pinot_run.specs.declared.reply.Reply.{Reply}
+use Rattle.pinot_run.specs.declared.stop.Stop.{Stop}
 
 answered : {A : Type 0} (finding : Finding) (value other : A) → answer finding value ≡ Ok other → value ≡ other
 answered None value other is = cc
@@ -33,8 +41,27 @@ same_reply table any_table q b found rows ok is keeps =
     subst (λ f. fold_text f rows ≡ reply_of b rows) (sym is) (same_text b rows (subst (λ f. KeepRows f.conjuncts b.condition) is own))
 
 -- a reply by the conjuncts is the reply to the query
-pub replies : {E : Type 0} (table : Table) (q : Query) (b : Bound) (found : BoundQuery) (rows : List (List Value)) (r : Result Reply E) → bound table true q ≡ Ok b → found ≡ in_normal_form b
-    → KeepRows found.conjuncts (where_written table.schema.fields q.condition) → IfOk r (IsReply (Replies (fold_text found rows))) → IfOk r (IsReply (bound_answer rows (bound table true q)))
-replies table q b found rows r ok is keeps reply =
-    subst (λ o. IfOk r (IsReply (bound_answer rows o))) (sym ok)
-    (subst (λ text. IfOk r (IsReply (Replies text))) (same_reply table true q b found rows ok is keeps) reply)
+pub replies : (table : Table) (q : Query) (found : BoundQuery) (rows : List (List Value)) (r : Result (List ℕ) Stop) → IsBound table q found → Gives (Replies (fold_text found rows)) r → Gives (bound_answer rows (bound table true q)) r
+replies table q found rows r is gives =
+    subst (λ o. Gives (bound_answer rows o) r) (sym is.bound_so)
+    (subst (λ text. Gives (Replies text) r) (same_reply table true q is.meaning found rows is.bound_so is.normal is.keeps) gives)
+
+-- the answer to a query whose form is answered
+formed_so : (schema : Schema) (rows : List (List Value)) (q : Query) (r : Result (List ℕ) Stop) → is_answered q ≡ true → Gives (bound_answer rows (bound (bare_table schema) true q)) r → Gives (formed_answer schema rows q) r
+formed_so schema rows q r form gives =
+    subst (λ t. Gives (cond t (bound_answer rows (bound (bare_table schema) true q)) (Refuses (BadQuery NotYet 0))) r) (sym form) gives
+
+read_so : (sql : List ℕ) (schema : Schema) (rows : List (List Value)) (q : Query) (r : Result (List ℕ) Stop) → length sql ≤ 65536 → parsed sql ≡ Ok q → Gives (formed_answer schema rows q) r → Gives (sql_answer sql schema rows) r
+read_so sql schema rows q r le ok gives =
+    let test : nat_lt 65536 (length sql) ≡ false = grind (arith, nat_tests) in
+    subst (λ t. Gives (cond t (Refuses (TooLarge SqlBytes sql_limit)) (parsed_answer schema rows (parsed sql))) r) (sym test)
+    (subst (λ p. Gives (parsed_answer schema rows p) r) (sym ok) gives)
+
+-- a query's text within the limit, read as a query
+pub query_so : (sql : List ℕ) (schema : Schema) (rows : List (List Value)) (q : Query) (r : Result (List ℕ) Stop) → IsAnswered sql q → Gives (bound_answer rows (bound (bare_table schema) true q)) r → Gives (sql_answer sql schema rows) r
+query_so sql schema rows q r is gives = read_so sql schema rows q r is.short is.parsed_so (formed_so schema rows q r is.form gives)
+
+-- a CSV text's rows
+pub rows_so : (sql text : List ℕ) (schema : Schema) (rows : List (List Value)) (r : Result (List ℕ) Stop) → plain_in csv_limits (records_of text) ≡ Ok (schema, rows) → Gives (sql_answer sql schema rows) r
+    → Gives (query_answer sql (plain_in csv_limits (records_of text))) r
+rows_so sql text schema rows r is gives = subst (λ p. Gives (query_answer sql p) r) (sym is) gives

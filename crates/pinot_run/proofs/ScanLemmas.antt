@@ -1,19 +1,44 @@
--- The answer to `scan` by what is told of the input files.
-use Rattle.std.proofs.Common.{◌≡◌, ◌≤◌, ◌<◌, ℕ, List, length, true, false, nat_lt, Option, Some, None, IfSome, refl, sym, subst, arith}
+-- What `scan` did, by what its parts did.
+use Rattle.std.proofs.Common.{◌≡◌, ◌≢◌, ◌≤◌, ◌<◌, ◌∙◌, inl, inr, IsErrAnd, ℕ, Bool, List, length, true, false, nat_lt, cond, Option, Some, None, Result, Ok, Err, IfSome, refl, sym, ap, subst, arith}
 use Rattle.std.proofs.lemmas.Bool.Decides.{nat_tests}
 use Rattle.std.specs.FinMap as map
+use Rattle.outside.specs.Counts.{Rose}
 use Rattle.outside.specs.Files.{Files, Lacks}
 use Rattle.outside.specs.Whole.{IsTooLong, IsWhole}
 use Rattle.csv_ingest.specs.Rows.{csv_limits, plain_in, records_of}
-use Rattle.pinot_run.specs.Notes as note
-use Rattle.pinot_run.specs.Outcome.{IsReply}
-use Rattle.pinot_run.specs.Step.{Refuses, csv_limit, query_answer, scan_answer}
-use Rattle.pinot_run.specs.declared.reply.Reply.{Reply}
-use Rattle.std.specs.Prelude.{codes}
+use Rattle.csv_ingest.specs.declared.fault.CsvFault.{CsvFault}
+use Rattle.csv_ingest.specs.declared.fault.CsvFault.TheVariants as csv
+use Rattle.query_bind.specs.Bound.{Bound, bound}
+use Rattle.query_bind.specs.declared.fault.BindFault.{BindFault}
+use Rattle.query_bind.specs.declared.fault.BindFault.TheVariants as bind
+use Rattle.query_parser.specs.Query.{parsed}
+use Rattle.query_parser.specs.declared.tree.Query.{Query}
+use Rattle.query_parser.specs.declared.fault.QueryFault.{QueryFault}
+use Rattle.query_parser.specs.declared.fault.QueryFault.TheVariants as parse
+use Rattle.table_schema.specs.declared.field.Schema.{Schema}
+use Rattle.values.specs.declared.value.Value.{Value}
+use Rattle.pinot_run.specs.Command.{Scan}
+use Rattle.pinot_run.specs.Form.{is_answered}
+use Rattle.pinot_run.specs.Gives.{Gives, StopsRead}
+use Rattle.pinot_run.specs.Profile.{csv_limit, scan_refuses}
+use Rattle.pinot_run.specs.Ran.{Acted, Caused, Counts, Ended, IsAllowed, NoFaults, Over, Ran}
+use Rattle.pinot_run.specs.Step.{Answer, Refuses, Replies, bare_table, bound_answer, parsed_answer, query_answer, scan_answer}
+use Rattle.pinot_run.specs.Touched.{ReadsFront}
+use Rattle.outside.specs.Seen.{Seen}
+use Rattle.pinot_run.specs.World.{Devices}
+use Rattle.pinot_run.specs.declared.fault.Fault.TheVariants as fault
+use Rattle.pinot_run.specs.declared.note.Counted.TheVariants as counted
+use Rattle.pinot_run.specs.declared.note.Note.{Note}
+use Rattle.pinot_run.specs.declared.note.Note.TheVariants as note
+use Rattle.pinot_run.specs.declared.stop.Stop.{Stop}
+use Rattle.pinot_run.specs.declared.stop.Stop.TheVariants as stop
+use Rattle.pinot_run.proofs.MachineLemmas.{steps_over}
 
--- the answer over the files that are told, where any are
-abbrev pub Answers : Option Files → List ℕ → List ℕ → Reply → Type 0
-Answers held file sql reply = IfSome held (λ files. IsReply (scan_answer file sql (map.get files file)) reply)
+told_each : (held : Option Files) (P Q : Files → Type 0) → ((files : Files) → P files → Q files) → IfSome held P → IfSome held Q
+told_each None P Q f h = tt
+told_each (Some files) P Q f h = f files h
+
+-- ---- the answer by what is told of the file
 
 within_limit : (file sql bytes : List ℕ) → length bytes ≤ 134217728 → query_answer sql (plain_in csv_limits (records_of bytes)) ≡ scan_answer file sql (Some bytes)
 unfolding scan_answer
@@ -21,7 +46,7 @@ within_limit file sql bytes le =
     let test : nat_lt 134217728 (length bytes) ≡ false = grind (arith, nat_tests) in
     rw test refl
 
-past_limit : (file sql bytes : List ℕ) → 134217728 < length bytes → Refuses (note.TooLarge (codes "csv bytes") csv_limit) ≡ scan_answer file sql (Some bytes)
+past_limit : (file sql bytes : List ℕ) → 134217728 < length bytes → Refuses (note.TooLarge counted.CsvBytes csv_limit) ≡ scan_answer file sql (Some bytes)
 unfolding scan_answer
 past_limit file sql bytes lt =
     let test : nat_lt 134217728 (length bytes) ≡ true = grind (arith, nat_tests) in
@@ -31,20 +56,129 @@ not_there : (file sql : List ℕ) → Refuses (note.NoInput file) ≡ scan_answe
 unfolding scan_answer
 not_there file sql = refl
 
-pub answers-whole : (held : Option Files) (file sql bytes : List ℕ) (reply : Reply) → IsWhole held file 134217728 bytes
-    → IsReply (query_answer sql (plain_in csv_limits (records_of bytes))) reply → Answers held file sql reply
-answers-whole None file sql bytes reply whole is = tt
-answers-whole (Some files) file sql bytes reply (told, got, (same, le)) is =
-    subst (λ o. IsReply (scan_answer file sql o) reply) (sym got)
-    (subst (λ bs. IsReply (scan_answer file sql (Some bs)) reply) same
-    (subst (λ a. IsReply a reply) (within_limit file sql bytes (subst (λ bs. length bs ≤ 134217728) (sym same) le)) is))
+abbrev IsOf : List ℕ → List ℕ → Answer → Files → Type 0
+IsOf file sql answer files = answer ≡ scan_answer file sql (map.get files file)
 
-pub answers-missing : (held : Option Files) (file sql : List ℕ) (reply : Reply) → Lacks held file → IsReply (Refuses (note.NoInput file)) reply → Answers held file sql reply
-answers-missing None file sql reply lacks is = tt
-answers-missing (Some files) file sql reply lacks is =
-    subst (λ o. IsReply (scan_answer file sql o) reply) (sym lacks) (subst (λ a. IsReply a reply) (not_there file sql) is)
+of_whole : (held : Option Files) (file sql bytes : List ℕ) → IsWhole held file 134217728 bytes → IfSome held (IsOf file sql (query_answer sql (plain_in csv_limits (records_of bytes))))
+of_whole None file sql bytes whole = tt
+of_whole (Some files) file sql bytes (told, got, (same, le)) =
+    within_limit file sql bytes (subst (λ bs. length bs ≤ 134217728) (sym same) le) ∙ ap (λ bs. scan_answer file sql (Some bs)) same ∙ ap (scan_answer file sql) (sym got)
 
-pub answers-long : (held : Option Files) (file sql : List ℕ) (reply : Reply) → IsTooLong held file 134217728 → IsReply (Refuses (note.TooLarge (codes "csv bytes") csv_limit)) reply → Answers held file sql reply
-answers-long None file sql reply long is = tt
-answers-long (Some files) file sql reply (told, got, lt) is =
-    subst (λ o. IsReply (scan_answer file sql o) reply) (sym got) (subst (λ a. IsReply a reply) (past_limit file sql told lt) is)
+of_missing : (held : Option Files) (file sql : List ℕ) → Lacks held file → IfSome held (IsOf file sql (Refuses (note.NoInput file)))
+of_missing None file sql lacks = tt
+of_missing (Some files) file sql lacks = not_there file sql ∙ ap (scan_answer file sql) (sym lacks)
+
+of_long : (held : Option Files) (file sql : List ℕ) → IsTooLong held file 134217728 → IfSome held (IsOf file sql (Refuses (note.TooLarge counted.CsvBytes csv_limit)))
+of_long None file sql long = tt
+of_long (Some files) file sql (told, got, lt) = past_limit file sql told lt ∙ ap (scan_answer file sql) (sym got)
+
+-- ---- which refusals the bytes of the file and of the query have
+
+abbrev rows_refuse : Note → Bool
+rows_refuse (note.NoInput file) = false
+rows_refuse line = scan_refuses line
+
+abbrev RefusesFew : Answer → Type 0
+RefusesFew (Replies text) = Unit {0}
+RefusesFew (Refuses line) = rows_refuse line ≡ true
+
+few_bound : (rows : List (List Value)) (r : Result Bound BindFault) → RefusesFew (bound_answer rows r)
+few_bound rows (Ok b) = tt
+few_bound rows (Err (bind.At wrong place)) = refl
+few_bound rows (Err bind.NoMemory) = refl
+
+few_formed : (t : Bool) (answer : Answer) (line : Note) → RefusesFew answer → rows_refuse line ≡ true → RefusesFew (cond t answer (Refuses line))
+few_formed true answer line few other = few
+few_formed false answer line few other = other
+
+few_parsed : (schema : Schema) (rows : List (List Value)) (r : Result Query QueryFault) → RefusesFew (parsed_answer schema rows r)
+few_parsed schema rows (Ok q) = few_formed (is_answered q) _ _ (few_bound rows (bound (bare_table schema) true q)) refl
+few_parsed schema rows (Err (parse.At wrong place)) = refl
+few_parsed schema rows (Err parse.NoMemory) = refl
+
+few_sql : (t : Bool) (answer : Answer) (line : Note) → RefusesFew answer → rows_refuse line ≡ true → RefusesFew (cond t (Refuses line) answer)
+few_sql true answer line few other = other
+few_sql false answer line few other = few
+
+few_query : (sql : List ℕ) (r : Result (Schema × List (List Value)) CsvFault) → RefusesFew (query_answer sql r)
+few_query sql (Ok (schema, rows)) = few_sql (nat_lt 65536 (length sql)) _ _ (few_parsed schema rows (parsed sql)) refl
+few_query sql (Err (csv.At wrong row column)) = refl
+few_query sql (Err (csv.TooManyRows most)) = refl
+few_query sql (Err csv.TooManyColumns) = refl
+few_query sql (Err csv.NoMemory) = refl
+
+few_line : (line : Note) → rows_refuse line ≡ true → scan_refuses line ≡ true
+few_line note.BadWords e = absurd cc
+few_line (note.NoInput file) e = refl
+few_line (note.BadSchema wrong path) e = absurd cc
+few_line (note.BadSettings wrong path) e = absurd cc
+few_line note.TableExists e = absurd cc
+few_line note.NoTable e = absurd cc
+few_line (note.BadCsv wrong row column) e = refl
+few_line (note.TooLarge what limit) e = e
+few_line (note.BadQuery wrong place) e = refl
+
+few_caused : (file sql : List ℕ) (inputs stored : Option Files) (line : Note) → rows_refuse line ≡ true → IfSome inputs (IsOf file sql (Refuses line)) → Caused (Some (Scan file sql)) inputs stored line
+few_caused file sql inputs stored note.BadWords e told = absurd cc
+few_caused file sql inputs stored (note.NoInput missing) e told = absurd cc
+few_caused file sql inputs stored (note.BadSchema wrong path) e told = absurd cc
+few_caused file sql inputs stored (note.BadSettings wrong path) e told = absurd cc
+few_caused file sql inputs stored note.TableExists e told = absurd cc
+few_caused file sql inputs stored note.NoTable e told = absurd cc
+few_caused file sql inputs stored (note.BadCsv wrong row column) e told = told_each inputs _ _ (λ files is. sym is) told
+few_caused file sql inputs stored (note.TooLarge what limit) e told = told_each inputs _ _ (λ files is. sym is) told
+few_caused file sql inputs stored (note.BadQuery wrong place) e told = told_each inputs _ _ (λ files is. sym is) told
+
+-- ---- the clause of `scan`
+
+module _ (file sql : List ℕ) (inputs inputs_new depot : Seen) (reads : ReadsFront file csv_limit inputs inputs_new) where
+  abbrev Old : Devices
+  Old = record { inputs = inputs; depot = depot }
+
+  abbrev New : Devices
+  New = record { inputs = inputs_new; depot = depot }
+
+  abbrev Of : Result (List ℕ) Stop → Type 0
+  Of result = Ran (Some (Scan file sql)) Old New result
+
+  acted : (answer : Answer) → IfSome inputs.held (IsOf file sql answer) → IsAllowed (Some (Scan file sql)) Old New answer → Acted (Some (Scan file sql)) Old New answer
+  acted answer told allowed =
+      let over = told_each inputs.held (IsOf file sql answer) (λ files. Over (Some (Scan file sql)) files depot.held answer depot.held) (λ files is. (is, refl)) told in
+      record { step = steps_over (Some (Scan file sql)) inputs.held depot.held answer depot.held over; over = over; allowed = allowed }
+
+  ran : (result : Result (List ℕ) Stop) → Counts result Old New → Ended (Some (Scan file sql)) Old New result → Of result
+  ran result counted ended = record { touched = record { inputs = (inputs_new, reads, refl); depot = refl }; counted = counted; ended = ended }
+
+  none : inputs_new.read_faults ≡ inputs.read_faults → NoFaults Old New
+  none still = record { inputs = still; depot_reads = refl; depot_writes = refl }
+
+  ran_missing : inputs_new.read_faults ≡ inputs.read_faults → Lacks inputs.held file → Of (Err (stop.Refused (note.NoInput file)))
+  ran_missing still lacks = ran _ (none still) (acted (Refuses (note.NoInput file)) (of_missing inputs.held file sql lacks) (refl, lacks, refl, tt))
+
+  ran_long : inputs_new.read_faults ≡ inputs.read_faults → IsTooLong inputs.held file 134217728 → Of (Err (stop.Refused (note.TooLarge counted.CsvBytes csv_limit)))
+  ran_long still long =
+      let told = of_long inputs.held file sql long in
+      ran _ (none still) (acted (Refuses (note.TooLarge counted.CsvBytes csv_limit)) told (refl, few_caused file sql inputs.held depot.held (note.TooLarge counted.CsvBytes csv_limit) refl told, refl, tt))
+
+  -- the file was not read
+  pub ran_unread : (why : Stop) → StopsRead file counted.CsvBytes csv_limit inputs.held (Rose inputs.read_faults inputs_new.read_faults) why → (why ≢ stop.Fault fault.Read → inputs_new.read_faults ≡ inputs.read_faults) → Of (Err why)
+  ran_unread (stop.Refused line) (inl (is, lacks)) still = subst (λ l. Of (Err (stop.Refused l))) (sym is) (ran_missing (still (λ e. cc)) lacks)
+  ran_unread (stop.Refused line) (inr (is, long)) still = subst (λ l. Of (Err (stop.Refused l))) (sym is) (ran_long (still (λ e. cc)) long)
+  ran_unread (stop.Fault fault.Read) rose still = ran (Err (stop.Fault fault.Read)) refl (record { kept = refl; cause = (refl, inl rose) })
+  ran_unread (stop.Fault fault.Write) by still = absurd by
+  ran_unread (stop.Fault fault.Memory) by still = ran (Err (stop.Fault fault.Memory)) (none (still (λ e. cc))) (record { kept = refl; cause = tt })
+
+  pub ran_whole : (bytes : List ℕ) (result : Result (List ℕ) Stop) → inputs_new.read_faults ≡ inputs.read_faults → IsWhole inputs.held file 134217728 bytes → Gives (query_answer sql (plain_in csv_limits (records_of bytes))) result → Of result
+  ran_whole bytes (Ok text) still whole gives =
+      ran _ (none still) (acted (Replies text) (subst (λ a. IfSome inputs.held (IsOf file sql a)) gives (of_whole inputs.held file sql bytes whole)) refl)
+  ran_whole bytes (Err (stop.Refused line)) still whole gives =
+      let told = subst (λ a. IfSome inputs.held (IsOf file sql a)) gives (of_whole inputs.held file sql bytes whole) in
+      let few : rows_refuse line ≡ true = subst RefusesFew gives (few_query sql (plain_in csv_limits (records_of bytes))) in
+      ran _ (none still) (acted (Refuses line) told (few_line line few, few_caused file sql inputs.held depot.held line few told, refl, tt))
+  ran_whole bytes (Err (stop.Fault why)) still whole gives =
+      subst (λ f. Of (Err (stop.Fault f))) (sym gives) (ran (Err (stop.Fault fault.Memory)) (none still) (record { kept = refl; cause = tt }))
+
+  -- a stop on the way is the one of the whole
+  pub ran_halted : (result : Result (List ℕ) Stop) (why : Stop) → IsErrAnd result (λ s. s ≡ why) → Of (Err why) → Of result
+  ran_halted (Ok text) why is by = absurd is
+  ran_halted (Err other) why is by = subst (λ s. Of (Err s)) (sym is) by

@@ -1,10 +1,11 @@
 -- What the two files of `create` make.
-use Rattle.std.specs.Prelude.{ℕ, nat_lt, List, length, codes, Option, Some, None, Result, Ok, Err, if◌then◌else◌}
+use Rattle.std.specs.Prelude.{ℕ, nat_lt, List, [], length, Option, Some, None, Result, Ok, Err, if◌then◌else◌}
 use Rattle.std.specs.FinMap as map
 use Rattle.outside.specs.Files.{Files}
 use Rattle.table_schema.specs.Schemas.{schema_read}
 use Rattle.table_schema.specs.TableTexts.{settings_read}
 use Rattle.table_schema.specs.declared.fault.KeyKind.{KeyKind}
+use Rattle.table_schema.specs.declared.fault.KeyKind.TheVariants as key
 use Rattle.table_schema.specs.declared.fault.TextFault.{TextFault}
 use Rattle.table_schema.specs.declared.fault.TextFault.TheVariants as fault
 use Rattle.table_schema.specs.declared.field.Schema.{Schema}
@@ -12,16 +13,18 @@ use Rattle.table_schema.specs.declared.settings.Settings.{Settings}
 use Rattle.table_schema.specs.declared.table.Table.{Table}
 use Rattle.table_store.specs.State as state
 use Rattle.table_store.specs.TableFile.{text_limit}
-use Rattle.pinot_run.specs.Notes.{Note, BadSchema, BadSettings, NoInput, NoMemory, TooLarge}
+use Rattle.pinot_run.specs.declared.note.Counted.TheVariants.{JsonBytes}
+use Rattle.pinot_run.specs.declared.note.Note.{Note}
+use Rattle.pinot_run.specs.declared.note.Note.TheVariants.{BadSchema, BadSettings, NoInput, TooLarge}
 
 -- the texts of a table and what they are read as, or the first thing that is wrong with them
 abbrev pub Made : Type 0
-Made = Result (state.Table × Table) Note
+Made = Result (state.Texts × Table) Note
 
 -- the bytes of a file, if it is there and within the limit
 abbrev pub json_bytes : List ℕ → Option (List ℕ) → Result (List ℕ) Note
 json_bytes file None = Err (NoInput file)
-json_bytes file (Some bytes) = if nat_lt text_limit (length bytes) then Err (TooLarge (codes "json bytes") text_limit) else Ok bytes
+json_bytes file (Some bytes) = if nat_lt text_limit (length bytes) then Err (TooLarge JsonBytes text_limit) else Ok bytes
 
 abbrev pub json_in : List ℕ → Files → Result (List ℕ) Note
 json_in file inputs = json_bytes file (map.get inputs file)
@@ -30,7 +33,7 @@ json_in file inputs = json_bytes file (map.get inputs file)
 abbrev pub beside : {A : Type 0} → (KeyKind → List ℕ → Note) → List ℕ → Result A TextFault → Result (List ℕ × A) Note
 beside refused bytes (Ok value) = Ok (bytes, value)
 beside refused bytes (Err (fault.At wrong path)) = Err (refused wrong path)
-beside refused bytes (Err fault.NoMemory) = Err NoMemory
+beside refused bytes (Err fault.NoMemory) = Err (refused key.NotJson [])
 
 abbrev pub read_by : {A : Type 0} → (KeyKind → List ℕ → Note) → (List ℕ → Result A TextFault) → Result (List ℕ) Note → Result (List ℕ × A) Note
 read_by refused read (Err line) = Err line

@@ -2,12 +2,16 @@
 ghost use Rattle.std.specs.Prelude.{◌≡◌, ◌≢◌, ◌⊎◌, ◌≤◌, true, false};
 ghost use Rattle.outside.specs.Counts.{Rose};
 ghost use Rattle.outside.specs.Sink.{appended, AppendsPrefix};
-ghost use Rattle.pinot_run.specs.Notes.{IsLineOf, fault_line, is_fault};
-ghost use Rattle.pinot_run.specs.Outcome.{GrewByLine, GrewByPart};
+ghost use Rattle.pinot_run.specs.Notes.{fault_line, is_fault, note_text, status_of, status_of_fault};
+ghost use Rattle.pinot_run.specs.Promise.{Noted};
+ghost use Rattle.outside.specs.Seen.{heard};
 
 use crate::Status;
-use crate::reply::Reply;
-use outside::Sink;
+use crate::fault::Fault;
+use crate::line::{note_line, status_of};
+use crate::note::Note;
+use outside::{Bytes, Sink};
+use std::alloc::Global;
 
 // The note line of a fault.
 fn fault_line(status: Status) -> &'static [u8]
@@ -20,12 +24,24 @@ fn fault_line(status: Status) -> &'static [u8]
     }
 }
 
+// The status of a fault.
+pub fn status_of_fault(fault: Fault) -> Status
+    ensures { result ≡ status_of_fault fault }
+{
+    match fault {
+        Fault::Read => Status::ReadFault,
+        Fault::Write => Status::WriteFault,
+        Fault::Memory => Status::NoMemory,
+    }
+}
+
 // Writes what is not empty, and says whether all of it was written.
 fn put_some<S: Sink>(bytes: &[u8], sink: &mut S) -> bool
     ensures all { result ≡ true → S.written sink.new ≡ appended bytes.now (S.written sink.old) }
     ensures prefix { AppendsPrefix bytes.now (S.written sink.old) (S.written sink.new) }
     ensures later { S.faults sink.old ≤ S.faults sink.new }
     ensures failed { result ≡ false → Rose (S.faults sink.old) (S.faults sink.new) }
+    ensures still { result ≡ true → S.faults sink.new ≡ S.faults sink.old }
 {
     bytes.is_empty() || sink.put(bytes).is_ok()
 }
@@ -34,36 +50,42 @@ fn put_some<S: Sink>(bytes: &[u8], sink: &mut S) -> bool
 pub fn note_fault<N: Sink>(status: Status, notes: &mut N) -> Status
     requires { is_fault status ≡ true }
     ensures status { result ≡ status }
-    ensures line { ¬ Rose (N.faults notes.old) (N.faults notes.new) → GrewByLine status (N.written notes.old) (N.written notes.new) }
-    ensures part { GrewByPart (N.written notes.old) (N.written notes.new) }
-    ensures later { N.faults notes.old ≤ N.faults notes.new }
+    ensures noted { Noted status (heard N.Sink notes.old) (heard N.Sink notes.new) }
 {
     let _ = put_some(fault_line(status), notes);
     status
 }
 
-/// Writes a reply and then its note line, and says how the command ended: as the reply says, or with a
-/// write fault where one of the two was not written whole. A reply that was not written whole has the
-/// fault's line in place of its own.
-pub fn give<O: Sink, N: Sink>(reply: &Reply, out: &mut O, notes: &mut N) -> Status
-    requires met { is_fault reply.now.status ≡ false }
-    requires line { IsLineOf reply.now.status reply.now.note.items }
-    ensures status { (result ≡ reply.now.status) ⊎ (result ≡ Status.WriteFault) }
-    ensures failed { result ≢ reply.now.status → Rose (O.faults out.old) (O.faults out.new) ⊎ Rose (N.faults notes.old) (N.faults notes.new) }
-    ensures out { result ≡ reply.now.status → O.written out.new ≡ appended reply.now.text.items (O.written out.old) }
-    ensures out_all { ¬ Rose (O.faults out.old) (O.faults out.new) → O.written out.new ≡ appended reply.now.text.items (O.written out.old) }
-    ensures out_prefix { AppendsPrefix reply.now.text.items (O.written out.old) (O.written out.new) }
-    ensures notes { result ≡ reply.now.status → N.written notes.new ≡ appended reply.now.note.items (N.written notes.old) }
-    ensures line { ¬ Rose (N.faults notes.old) (N.faults notes.new) → GrewByLine result (N.written notes.old) (N.written notes.new) }
-    ensures part { GrewByPart (N.written notes.old) (N.written notes.new) }
-    ensures out_later { O.faults out.old ≤ O.faults out.new }
-    ensures notes_later { N.faults notes.old ≤ N.faults notes.new }
+/// Gives the text of a reply.
+pub fn give_text<O: Sink, N: Sink>(text: &Bytes, out: &mut O, notes: &mut N) -> Status
+    ensures status { (result ≡ Status.Done) ⊎ (result ≡ Status.WriteFault) }
+    ensures done { result ≡ Status.Done → (O.written out.new ≡ appended text.now (O.written out.old)) × (N.written notes.new ≡ N.written notes.old) }
+    ensures cut { result ≡ Status.WriteFault → Rose (O.faults out.old) (O.faults out.new) }
+    ensures prefix { AppendsPrefix text.now (O.written out.old) (O.written out.new) }
+    ensures later { O.faults out.old ≤ O.faults out.new }
+    ensures still { result ≡ Status.Done → O.faults out.new ≡ O.faults out.old }
+    ensures noted { Noted result (heard N.Sink notes.old) (heard N.Sink notes.new) }
 {
-    if !put_some(&reply.text, out) {
-        return note_fault(Status::WriteFault, notes);
+    if put_some(text.as_slice(), out) {
+        Status::Done
+    } else {
+        note_fault(Status::WriteFault, notes)
     }
-    if !put_some(&reply.note, notes) {
-        return Status::WriteFault;
+}
+
+/// Gives the note line of a refusal.
+pub fn give_note<N: Sink>(alloc: Global, note: &Note, notes: &mut N) -> Status
+    ensures status { (result ≡ status_of note.now) ⊎ (result ≡ Status.WriteFault) ⊎ (result ≡ Status.NoMemory) }
+    ensures done { result ≡ status_of note.now → N.written notes.new ≡ appended (note_text note.now) (N.written notes.old) }
+    ensures cut { result ≡ Status.WriteFault → Rose (N.faults notes.old) (N.faults notes.new) }
+    ensures noted { Noted result (heard N.Sink notes.old) (heard N.Sink notes.new) }
+{
+    let Ok(line) = note_line(alloc, note) else {
+        return note_fault(Status::NoMemory, notes);
+    };
+    if put_some(&line, notes) {
+        status_of(note)
+    } else {
+        Status::WriteFault
     }
-    reply.status
 }

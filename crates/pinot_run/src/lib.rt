@@ -9,11 +9,16 @@ mod fault;
 mod finish;
 mod form;
 mod holds;
-mod reply;
+mod input;
+mod laws;
+mod line;
+mod note;
 mod run;
 mod scan;
 mod status;
+mod stop;
 mod tally;
 
+pub use laws::promises_compose_law;
 pub use run::run_command;
 pub use status::Status;

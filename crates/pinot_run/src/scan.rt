@@ -1,24 +1,27 @@
-// The command `scan`: a query over one CSV file of whole numbers.
-ghost use Rattle.std.specs.Prelude.{◌≡◌, ◌≤◌, true, false, List, IfOk, IfSome, IsErrOf, length, replicate, string_bytes};
-ghost use Rattle.std.specs.FinMap.{get};
+//! The command `scan`: a query over one CSV file of whole numbers.
+ghost use Rattle.std.specs.Prelude.{◌≡◌, ◌≢◌, ◌≤◌, true, false, ℕ, List, Some, Ok, Err, IfOk, IfErr, length, replicate, string_bytes};
 ghost use Rattle.values.specs.declared.value.Value.{Value};
-ghost use Rattle.outside.specs.Counts.{Rose};
-ghost use Rattle.outside.specs.Whole.{LogsFront};
 ghost use Rattle.csv_ingest.specs.Rows.{csv_limits, plain_in, records_of};
-ghost use Rattle.query_bind.specs.Bound.{bound, Spelled};
-ghost use Rattle.pinot_run.specs.Outcome.{IsReply, MayReply, TellsNoStore};
+ghost use Rattle.query_bind.specs.Bound.{Spelled, bound};
+ghost use Rattle.outside.specs.Seen.{Seen, seen};
+ghost use Rattle.pinot_run.specs.Command.{Scan};
+ghost use Rattle.pinot_run.specs.Gives.{Gives, IsAnswered, IsBound};
+ghost use Rattle.pinot_run.specs.Notes.{csv_note};
+ghost use Rattle.pinot_run.specs.Ran.{Ran};
 ghost use Rattle.pinot_run.specs.Reply.{folded, label_of, summed};
-ghost use Rattle.pinot_run.specs.Step.{Replies, bare_settings, bound_answer, formed_answer, query_answer, scan_answer, sql_answer};
+ghost use Rattle.pinot_run.specs.Step.{Replies, bare_settings, bare_table, bound_answer, query_answer, sql_answer};
 ghost use Rattle.pinot_run.specs.Tally.{fold_text, sum_of};
 
 use crate::answer::answer_text;
 use crate::bad_query::QueryReason;
 use crate::fault::Fault;
 use crate::form::is_answered;
-use crate::reply::Reply;
+use crate::input::{CSV_LIMIT, read_input};
+use crate::note::{Counted, Note};
+use crate::stop::Stop;
 use crate::tally::{Tally, tally_rows};
-use csv_ingest::read_plain;
-use outside::{Bytes, ReadAllFault, Shelf, read_all};
+use csv_ingest::{CsvFault, read_plain};
+use outside::{Bytes, Shelf};
 use query_bind::{BindFault, bind};
 use query_parser::{Query, QueryFault, parse};
 use std::alloc::{AllocError, Global};
@@ -56,32 +59,15 @@ fn folded(alloc: Global, sums: Option<u16>, tally: &Tally) -> Result<String, All
     }
 }
 
-// The reply of a fold of the rows that satisfy the conjuncts.
-fn fold_reply(alloc: Global, bound: &BoundQuery, rows: Rows) -> Result<Reply, AllocError>
-    ensures { IfOk result (IsReply (Replies (fold_text bound.now rows))) }
+// The reply to a query: the fold of the rows that satisfy its conjuncts.
+fn answer(alloc: Global, bound: &BoundQuery, rows: Rows) -> Result<Bytes, Stop>
+    ensures { Gives (Replies (fold_text bound.now rows)) result }
 {
     let sums = summed(bound.aggs.as_slice());
     let tally = tally_rows(rows, bound.conjuncts.as_slice(), sums);
     let cell = folded(alloc, sums, &tally)?;
     let text = answer_text(alloc, label_of(bound.labels.as_slice()), cell.as_bytes())?;
-    Ok(Reply::done(alloc, text))
-}
-
-// The reply to a query by its names and types.
-fn bound_reply(alloc: Global, query: &Query, table: &Table, rows: Rows) -> Result<Reply, AllocError>
-    requires few { length table.now.schema.fields ≤ 64 }
-    requires spelled { Spelled query.now }
-    ensures step { IfOk result (IsReply (bound_answer rows (bound table.now true query.now))) }
-    ensures line { IfOk result MayReply }
-    ensures apart { IfOk result TellsNoStore }
-{
-    match bind(alloc, query, table, true) {
-        Ok(bound) => fold_reply(alloc, &bound, rows),
-        Err(BindFault::At(reason, place)) => {
-            Reply::bad_query(alloc, QueryReason::Bind(reason), place)
-        }
-        Err(BindFault::NoMemory) => Err(AllocError),
-    }
+    Ok(outside::Seq::from_vec(text))
 }
 
 // No mark for each of so many fields.
@@ -106,85 +92,93 @@ fn bare_settings(alloc: Global, schema: &Schema) -> Result<Settings, AllocError>
     })
 }
 
-// The reply to a query by its form.
-fn formed_reply(
-    alloc: Global,
-    query: &Query,
-    schema: Schema,
-    rows: Rows,
-) -> Result<Reply, AllocError>
+// A query by its names and types; any name stands for the table.
+fn bind_to(alloc: Global, query: &Query, schema: Schema) -> Result<BoundQuery, Stop>
     requires few { length schema.fields ≤ 64 }
     requires spelled { Spelled query.now }
-    ensures step { IfOk result (IsReply (formed_answer schema rows query.now)) }
-    ensures line { IfOk result MayReply }
-    ensures apart { IfOk result TellsNoStore }
+    ensures bound { IfOk result (IsBound (bare_table schema) query.now) }
+    ensures stops { (rows : List (List Value)) → IfErr result (λ why.
+        Gives (bound_answer rows (bound (bare_table schema) true query.now)) (Err why)) }
 {
-    if !is_answered(query) {
-        return Reply::bad_query(alloc, QueryReason::NotYet, 0);
-    }
     let settings = bare_settings(alloc, &schema)?;
-    bound_reply(alloc, query, &Table { schema, settings }, rows)
+    match bind(alloc, query, &Table { schema, settings }, true) {
+        Ok(bound) => Ok(bound),
+        Err(BindFault::At(reason, place)) => {
+            Err(Stop::Refused(Note::BadQuery(QueryReason::Bind(reason), place)))
+        }
+        Err(BindFault::NoMemory) => Err(Stop::Fault(Fault::Memory)),
+    }
 }
 
 // The most bytes that a query may have.
 const SQL_LIMIT: usize = 65_536;
 
-// The reply to a query's text over rows of these fields.
-fn sql_reply(alloc: Global, sql: &str, schema: Schema, rows: Rows) -> Result<Reply, AllocError>
-    requires { length schema.fields ≤ 64 }
-    ensures step { IfOk result (IsReply (sql_answer sql.now schema rows)) }
-    ensures line { IfOk result MayReply }
-    ensures apart { IfOk result TellsNoStore }
+// The query that a text is, where its form is answered.
+fn query_of(alloc: Global, sql: &str) -> Result<Query, Stop>
+    ensures query { IfOk result (IsAnswered sql.now) }
+    ensures spelled { IfOk result (λ query. Spelled query) }
+    ensures stops { (schema : Schema) (rows : List (List Value)) → IfErr result (λ why.
+        Gives (sql_answer sql.now schema rows) (Err why)) }
 {
     if sql.len() > SQL_LIMIT {
-        return Reply::too_large(alloc, b"sql bytes", SQL_LIMIT as u64);
+        return Err(Stop::Refused(Note::TooLarge(Counted::SqlBytes, SQL_LIMIT as u64)));
     }
-    match parse(alloc, sql) {
-        Ok(query) => formed_reply(alloc, &query, schema, rows),
+    let query = match parse(alloc, sql) {
+        Ok(query) => query,
         Err(QueryFault::At(reason, place)) => {
-            Reply::bad_query(alloc, QueryReason::Parse(reason), place)
+            return Err(Stop::Refused(Note::BadQuery(QueryReason::Parse(reason), place)));
         }
-        Err(QueryFault::NoMemory) => Err(AllocError),
+        Err(QueryFault::NoMemory) => return Err(Stop::Fault(Fault::Memory)),
+    };
+    if is_answered(&query) {
+        Ok(query)
+    } else {
+        Err(Stop::Refused(Note::BadQuery(QueryReason::NotYet, 0)))
     }
 }
 
-// The reply to a query over the bytes of a file, which are let go before the rows are looked at.
-fn scan_text(alloc: Global, sql: &str, text: Bytes) -> Result<Reply, AllocError>
+// The most columns that a CSV text of whole numbers may have.
+const MOST_COLUMNS: u64 = 64;
+
+// What a CSV text without rows is refused for.
+fn stop_of(fault: CsvFault) -> Stop
+    ensures refused { fault ≢ CsvFault.NoMemory → result ≡ Stop.Refused (csv_note fault) }
+    ensures memory { fault ≡ CsvFault.NoMemory → result ≡ Stop.Fault Fault.Memory }
+{
+    match fault {
+        CsvFault::At(kind, row, column) => Stop::Refused(Note::BadCsv(kind, row, column)),
+        CsvFault::TooManyRows(most) => Stop::Refused(Note::TooLarge(Counted::Rows, u64::from(most))),
+        CsvFault::TooManyColumns => Stop::Refused(Note::TooLarge(Counted::Columns, MOST_COLUMNS)),
+        CsvFault::NoMemory => Stop::Fault(Fault::Memory),
+    }
+}
+
+// The fields and the rows of a CSV text, which is let go before they are looked at.
+fn rows_of(alloc: Global, text: Bytes) -> Result<(Schema, Rows), Stop>
     requires { length text ≤ 134217728 }
-    ensures step { IfOk result
-        (IsReply (query_answer sql.now (plain_in csv_limits (records_of text)))) }
-    ensures line { IfOk result MayReply }
-    ensures apart { IfOk result TellsNoStore }
+    ensures rows { IfOk result (λ table.
+        plain_in csv_limits (records_of text) ≡ Ok (table.0, table.1)) }
+    ensures few { IfOk result (λ table. length table.0.fields ≤ 64) }
+    ensures stops { (sql : List ℕ) → IfErr result (λ why.
+        Gives (query_answer sql (plain_in csv_limits (records_of text))) (Err why)) }
 {
     let table = read_plain(alloc, text.as_slice());
     drop(text);
     match table {
-        Ok((schema, rows)) => sql_reply(alloc, sql, schema, rows),
-        Err(fault) => Reply::no_rows(alloc, fault),
+        Ok((schema, rows)) => Ok((schema, rows)),
+        Err(fault) => Err(stop_of(fault)),
     }
 }
 
-// The most bytes that a CSV file may have.
-const CSV_LIMIT: u64 = 134_217_728;
-
 /// The reply to `scan`.
-pub fn scan<I: Shelf>(alloc: Global, file: &str, sql: &str, inputs: &mut I) -> Result<Reply, Fault>
-    ensures step { IfOk result (λ r. IfSome (I.held inputs.old) (λ files. IsReply (scan_answer file.now sql.now (get files file.now)) r)) }
-    ensures line { IfOk result (λ r. MayReply r) }
-    ensures apart { IfOk result (λ r. TellsNoStore r) }
-    ensures held { I.held inputs.new ≡ I.held inputs.old }
-    ensures parts { I.parts inputs.new ≡ I.parts inputs.old }
-    ensures log { LogsFront file.now 134217728 (I.log inputs.old) (I.log inputs.new) }
-    ensures writes { I.write_faults inputs.new ≡ I.write_faults inputs.old }
-    ensures later { I.read_faults inputs.old ≤ I.read_faults inputs.new }
-    ensures failed { IsErrOf result Fault.Read → Rose (I.read_faults inputs.old) (I.read_faults inputs.new) }
-    ensures no_write { ¬ IsErrOf result Fault.Write }
+pub fn scan<I: Shelf>(alloc: Global, file: &str, sql: &str, inputs: &mut I) -> Result<Bytes, Stop>
+    ensures { (depot : Seen) → Ran (Some (Scan file.now sql.now))
+        (record { inputs = seen I.Shelf inputs.old; depot = depot })
+        (record { inputs = seen I.Shelf inputs.new; depot = depot }) result }
 {
-    match read_all(alloc, inputs, file, CSV_LIMIT) {
-        Ok(bytes) => Ok(scan_text(alloc, sql, bytes)?),
-        Err(ReadAllFault::Missing) => Ok(Reply::no_input(alloc, file)?),
-        Err(ReadAllFault::TooLong) => Ok(Reply::too_large(alloc, b"csv bytes", CSV_LIMIT)?),
-        Err(ReadAllFault::Failed) => Err(Fault::Read),
-        Err(ReadAllFault::NoMemory) => Err(Fault::Memory),
-    }
+    let text = read_input(alloc, file, Counted::CsvBytes, CSV_LIMIT, inputs)?;
+    let (schema, rows) = rows_of(alloc, text)?;
+    let query = query_of(alloc, sql)?;
+    let bound = bind_to(alloc, &query, schema)?;
+    answer(alloc, &bound, rows)
 }

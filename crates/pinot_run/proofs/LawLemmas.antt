@@ -1,0 +1,40 @@
+-- Commands one after another do on a state what their steps do.
+use Rattle.std.proofs.Common.{◌≡◌, ◌∙◌, ℕ, List, [], ◌∷◌, Option, Some, None, IsSomeAnd, refl, ap, subst}
+use Rattle.outside.specs.Files.{Files}
+use Rattle.outside.specs.Seen.{Seen}
+use Rattle.table_store.specs.State.{State}
+use Rattle.table_store.specs.Stands.{Stands}
+use Rattle.pinot_run.specs.Laws.{PromisesCompose}
+use Rattle.pinot_run.specs.Profile.{profile}
+use Rattle.pinot_run.specs.Promise.{IsStep}
+use Rattle.pinot_run.specs.Ran.{WhereStands}
+use Rattle.pinot_run.specs.Step.{step_of}
+use Rattle.pinot_run.specs.Touched.{Reads}
+
+by_told : (held stored : Option Files) (Q : State → Files → Type 0) → ((state : State) (files kept : Files) → held ≡ Some files → stored ≡ Some kept → Stands kept state → Q state files) → WhereStands held stored Q
+by_told None stored Q f = tt
+by_told (Some files) None Q f = tt
+by_told (Some files) (Some kept) Q f = λ state stands. f state files kept refl refl stands
+
+at : (held stored : Option Files) (Q : State → Files → Type 0) (state : State) (files kept : Files) → held ≡ Some files → stored ≡ Some kept → Stands kept state → WhereStands held stored Q → Q state files
+at held stored Q state files kept h s stands all =
+    let both : WhereStands (Some files) (Some kept) Q = subst (λ d. WhereStands (Some files) d Q) s (subst (λ d. WhereStands d stored Q) h all) in
+    both state stands
+
+told_one : (o : Option Files) (P : Files → Type 0) → IsSomeAnd o P → (x : Files) × (o ≡ Some x) × P x
+told_one None P h = absurd h
+told_one (Some x) P h = (x, refl, h)
+
+same_held : (files : List (List ℕ × ℕ)) (old new : Seen) → Reads files old new → new.held ≡ old.held
+same_held [] old new same = ap (λ s. s.held) same
+same_held (file ∷ others) old new (mid, front, rest) = same_held others mid new rest ∙ front.held
+
+pub compose : PromisesCompose
+compose first second old mid new ended later one two fine still =
+    by_told old.devices.inputs.held old.devices.depot.held (λ state files. IsSomeAnd new.devices.depot.held (λ kept. Stands kept (step_of (step_of state first files).state second files).state))
+    (λ state files kept told stored stands.
+    let stepped = at old.devices.inputs.held old.devices.depot.held (λ state files. IsStep (step_of state first files) ended old mid) state files kept told stored stands (one.step fine) in
+    let (between, there, stood) = told_one mid.devices.depot.held (λ files'. Stands files' (step_of state first files).state) stepped.stepped.stands in
+    let told_on : mid.devices.inputs.held ≡ Some files = same_held (profile first).files old.devices.inputs mid.devices.inputs one.touched.inputs ∙ told in
+    let then = at mid.devices.inputs.held mid.devices.depot.held (λ state files. IsStep (step_of state second files) later mid new) (step_of state first files).state files between told_on there stood (two.step still) in
+    then.stepped.stands)

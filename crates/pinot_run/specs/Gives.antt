@@ -1,0 +1,74 @@
+-- What the functions below a command's own answer.
+use Rattle.std.specs.Prelude.{◌≡◌, ◌≤◌, ◌⊎◌, ◌++◌, true, ℕ, List, length, codes, Option, Result, Ok, Err, IfSome}
+use Rattle.outside.specs.Counts.{Rose}
+use Rattle.outside.specs.Files.{Files, Has, Lacks, with_file}
+use Rattle.outside.specs.Whole.{IsTooLong}
+use Rattle.table_schema.specs.declared.table.Table.{Table}
+use Rattle.table_store.specs.State as state
+use Rattle.table_store.specs.TableFile.{table_file, table_name}
+use Rattle.pinot_run.specs.Profile.{texts_refuse}
+use Rattle.table_schema.specs.declared.query.BoundQuery.{BoundQuery}
+use Rattle.query_parser.specs.Query.{parsed}
+use Rattle.query_parser.specs.declared.tree.Query.{Query}
+use Rattle.query_bind.specs.Bound.{Bound, bound, in_normal_form}
+use Rattle.query_bind.specs.Conjuncts.{KeepRows}
+use Rattle.query_bind.specs.Written.{where_written}
+use Rattle.pinot_run.specs.Form.{is_answered}
+use Rattle.pinot_run.specs.Step.{Answer, Refuses, Replies, sql_limit}
+use Rattle.outside.specs.Seen.{Seen}
+use Rattle.pinot_run.specs.declared.fault.Fault.TheVariants as fault
+use Rattle.pinot_run.specs.declared.note.Counted.{Counted}
+use Rattle.pinot_run.specs.declared.note.Note.{Note}
+use Rattle.pinot_run.specs.declared.note.Note.TheVariants as note
+use Rattle.pinot_run.specs.declared.stop.Stop.{Stop}
+use Rattle.pinot_run.specs.declared.stop.Stop.TheVariants as stop
+
+-- a function over texts gives this answer, unless memory runs out
+abbrev pub Gives : Answer → Result (List ℕ) Stop → Type 0
+Gives answer (Ok text) = answer ≡ Replies text
+Gives answer (Err (stop.Refused line)) = answer ≡ Refuses line
+Gives answer (Err (stop.Fault why)) = why ≡ fault.Memory
+
+-- a text within the limit is this query, whose form is answered
+pub record IsAnswered (sql : List ℕ) (query : Query) : Type 0 where
+  pub short : length sql ≤ sql_limit
+  pub parsed_so : parsed sql ≡ Ok query
+  pub form : is_answered query ≡ true
+
+-- a query of a table has a meaning by its names and types, and this is its normal form
+pub record IsBound (table : Table) (query : Query) (found : BoundQuery) : Type 0 where
+  pub meaning : Bound
+  pub bound_so : bound table true query ≡ Ok meaning
+  pub normal : found ≡ in_normal_form meaning
+  pub keeps : KeepRows found.conjuncts (where_written table.schema.fields query.condition)
+
+-- a text is refused for what was found first in it; or, where it can be, a read failed; or memory ran out
+abbrev pub StopsBy : {A : Type 0} → Option (Result A Note) → Type 0 → Stop → Type 0
+StopsBy found Failing (stop.Refused line) = (texts_refuse line ≡ true) × IfSome found (λ r. r ≡ Err line)
+StopsBy found Failing (stop.Fault fault.Read) = Failing
+StopsBy found Failing (stop.Fault fault.Write) = ⊥
+StopsBy found Failing (stop.Fault fault.Memory) = Unit {0}
+
+-- an input file was not read whole: it is not there, or too long, or a read failed, or memory ran out
+abbrev pub StopsRead : List ℕ → Counted → ℕ → Option Files → Type 0 → Stop → Type 0
+StopsRead file what limit held Failing (stop.Refused line) =
+    ((line ≡ note.NoInput file) × Lacks held file) ⊎ ((line ≡ note.TooLarge what limit) × IsTooLong held file limit)
+StopsRead file what limit held Failing (stop.Fault fault.Read) = Failing
+StopsRead file what limit held Failing (stop.Fault fault.Write) = ⊥
+StopsRead file what limit held Failing (stop.Fault fault.Memory) = Unit {0}
+
+-- it is not known whether there is a table: a look failed, or memory ran out
+abbrev pub StopsLook : Type 0 → Stop → Type 0
+StopsLook Failing (stop.Refused line) = ⊥
+StopsLook Failing (stop.Fault fault.Read) = Failing
+StopsLook Failing (stop.Fault fault.Write) = ⊥
+StopsLook Failing (stop.Fault fault.Memory) = Unit {0}
+
+-- a table was made of these texts, or there was one, or a device failed, or memory ran out
+abbrev pub Makes : state.Texts → Table → Seen → Seen → Result (List ℕ) Stop → Type 0
+Makes texts table old new (Ok text) =
+    Lacks old.held table_name × (new.held ≡ with_file table_name (table_file texts) old.held) × (text ≡ codes "created " ++ table.settings.table ++ codes "\n")
+Makes texts table old new (Err (stop.Refused line)) = (line ≡ note.TableExists) × Has old.held table_name × (new.held ≡ old.held)
+Makes texts table old new (Err (stop.Fault fault.Read)) = (new.held ≡ old.held) × Rose old.read_faults new.read_faults
+Makes texts table old new (Err (stop.Fault fault.Write)) = (new.held ≡ old.held) × Rose old.write_faults new.write_faults
+Makes texts table old new (Err (stop.Fault fault.Memory)) = new.held ≡ old.held

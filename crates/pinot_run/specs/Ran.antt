@@ -1,0 +1,119 @@
+-- What a command did before anything is given to a stream.
+use Rattle.std.specs.Prelude.{◌≡◌, ◌⊎◌, ℕ, Bool, true, false, List, Option, Some, None, Result, Ok, Err, IfSome, IsSomeAnd}
+use Rattle.std.specs.FinMap as map
+use Rattle.outside.specs.Counts.{Rose}
+use Rattle.outside.specs.Files.{Files, Has, Lacks, with_file}
+use Rattle.table_store.specs.State.{State}
+use Rattle.table_store.specs.Stands.{Stands}
+use Rattle.table_store.specs.TableFile.{table_file, table_name, text_limit}
+use Rattle.pinot_run.specs.Command.{Command, Create, Scan}
+use Rattle.pinot_run.specs.Create.{Made, new_table}
+use Rattle.pinot_run.specs.Profile.{may_read, profile}
+use Rattle.pinot_run.specs.Step.{After, Answer, Refuses, Replies, create_answer, scan_answer, step_of}
+use Rattle.pinot_run.specs.Touched.{ReadsFront, Touched}
+use Rattle.pinot_run.specs.World.{Devices}
+use Rattle.pinot_run.specs.declared.fault.Fault.{Fault}
+use Rattle.pinot_run.specs.declared.fault.Fault.TheVariants as fault
+use Rattle.pinot_run.specs.declared.note.Note.{Note}
+use Rattle.pinot_run.specs.declared.note.Note.TheVariants as note
+use Rattle.pinot_run.specs.declared.stop.Stop.{Stop}
+use Rattle.pinot_run.specs.declared.stop.Stop.TheVariants as stop
+
+-- what holds wherever the input files are told, and the stored files too, and these stand for a state
+abbrev pub WhereStands : Option Files → Option Files → (State → Files → Type 0) → Type 0
+WhereStands inputs stored P = IfSome inputs (λ files. IfSome stored (λ kept. (state : State) → Stands kept state → P state files))
+
+-- the answer is that of a step, and the stored files, which go on being told, stand for its state
+pub record IsStepped (after : After) (answer : Answer) (stored : Option Files) : Type 0 where
+  pub answers : answer ≡ after.answer
+  pub stands : IsSomeAnd stored (λ files. Stands files after.state)
+
+-- ---- over any store: what a command does whether the files stand for a state or not, where that is known
+
+-- where the stored files are told, whether there is a table's among them
+abbrev pub TableIsThere : Option Files → Bool → Type 0
+TableIsThere stored true = Has stored table_name
+TableIsThere stored false = Lacks stored table_name
+
+-- the stored files after `create`, by whether there is a table
+abbrev pub files_after : Bool → Made → Option Files → Option Files
+files_after true made stored = stored
+files_after false (Err line) stored = stored
+files_after false (Ok (texts, table)) stored = with_file table_name (table_file texts) stored
+
+pub record Creates (made : Made) (old : Option Files) (answer : Answer) (new : Option Files) : Type 0 where
+  pub there : Bool
+  pub known : TableIsThere old there
+  pub answers : answer ≡ create_answer there made
+  pub leaves : new ≡ files_after there made old
+
+abbrev pub Over : Option Command → Files → Option Files → Answer → Option Files → Type 0
+Over None inputs old answer new = (answer ≡ Refuses note.BadWords) × (new ≡ old)
+Over (Some (Scan file sql)) inputs old answer new = (answer ≡ scan_answer file sql (map.get inputs file)) × (new ≡ old)
+Over (Some (Create schema settings)) inputs old answer new = Creates (new_table schema settings inputs) old answer new
+
+-- ---- refusals
+
+-- the bytes of the input files and of the table's file are refused so
+abbrev pub Finds : Option Command → Files → Option Files → Note → Type 0
+Finds None inputs stored line = Unit {0}
+Finds (Some (Scan file sql)) inputs stored line = scan_answer file sql (map.get inputs file) ≡ Refuses line
+Finds (Some (Create schema settings)) inputs stored line = new_table schema settings inputs ≡ Err line
+
+-- what is told of the devices where a command is refused so: of the store, or of the bytes of files
+abbrev pub Caused : Option Command → Option Files → Option Files → Note → Type 0
+Caused command inputs stored note.TableExists = Has stored table_name
+Caused command inputs stored note.NoTable = Lacks stored table_name
+Caused command inputs stored (note.NoInput file) = Lacks inputs file
+Caused command inputs stored line = IfSome inputs (λ files. Finds command files stored line)
+
+-- how far the inputs were looked at where a command is refused so: at none where there is a table, and at the schema alone where it is refused
+abbrev pub Looked : Option Command → Note → Devices → Devices → Type 0
+Looked (Some (Create schema settings)) note.TableExists old new = IfSome old.depot.held (λ _. new.inputs ≡ old.inputs)
+Looked (Some (Create schema settings)) (note.BadSchema wrong path) old new = ReadsFront schema text_limit old.inputs new.inputs
+Looked command line old new = Unit {0}
+
+abbrev pub IsAllowed : Option Command → Devices → Devices → Answer → Type 0
+IsAllowed command old new (Replies text) = (profile command).replies ≡ true
+IsAllowed command old new (Refuses line) = ((profile command).refuses line ≡ true) × Caused command old.inputs.held old.depot.held line × (new.depot.held ≡ old.depot.held) × Looked command line old new
+
+-- a command came to an answer, and left the store as it does with that answer
+pub record Acted (command : Option Command) (old new : Devices) (answer : Answer) : Type 0 where
+  pub step : WhereStands old.inputs.held old.depot.held (λ state files. IsStepped (step_of state command files) answer new.depot.held)
+  pub over : IfSome old.inputs.held (λ files. Over command files old.depot.held answer new.depot.held)
+  pub allowed : IsAllowed command old new answer
+
+-- ---- faults
+
+abbrev pub HasCause : Option Command → Devices → Devices → Fault → Type 0
+HasCause command old new fault.Read = (may_read (profile command) ≡ true) × (Rose old.inputs.read_faults new.inputs.read_faults ⊎ Rose old.depot.read_faults new.depot.read_faults)
+HasCause command old new fault.Write = Rose old.depot.write_faults new.depot.write_faults
+HasCause command old new fault.Memory = Unit {0}
+
+-- a fault came before the store was written
+pub record Failed (command : Option Command) (old new : Devices) (why : Fault) : Type 0 where
+  pub kept : new.depot.held ≡ old.depot.held
+  pub cause : HasCause command old new why
+
+abbrev pub Ended : Option Command → Devices → Devices → Result (List ℕ) Stop → Type 0
+Ended command old new (Ok text) = Acted command old new (Replies text)
+Ended command old new (Err (stop.Refused line)) = Acted command old new (Refuses line)
+Ended command old new (Err (stop.Fault why)) = Failed command old new why
+
+-- no device failed
+pub record NoFaults (old new : Devices) : Type 0 where
+  pub inputs : new.inputs.read_faults ≡ old.inputs.read_faults
+  pub depot_reads : new.depot.read_faults ≡ old.depot.read_faults
+  pub depot_writes : new.depot.write_faults ≡ old.depot.write_faults
+
+-- a count of faults rose only where a call that it counts failed
+abbrev pub Counts : Result (List ℕ) Stop → Devices → Devices → Type 0
+Counts (Err (stop.Fault fault.Read)) old new = new.depot.write_faults ≡ old.depot.write_faults
+Counts (Err (stop.Fault fault.Write)) old new = (new.inputs.read_faults ≡ old.inputs.read_faults) × (new.depot.read_faults ≡ old.depot.read_faults)
+Counts result old new = NoFaults old new
+
+-- the one clause of a command's function
+pub record Ran (command : Option Command) (old new : Devices) (result : Result (List ℕ) Stop) : Type 0 where
+  pub touched : Touched command old new
+  pub counted : Counts result old new
+  pub ended : Ended command old new result
