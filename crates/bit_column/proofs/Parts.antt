@@ -6,8 +6,8 @@ use Rattle.std.specs.FinMap as map
 use Rattle.std.specs.Option.{option_and_then}
 use borrow.Rule.Slice.PartMut.{mid_of, put_mid, post_of}
 use Rattle.outside.specs.Files.{Files, Lacks, IsLengthOf, bytes_of}
-use Rattle.outside.specs.Reads.{Entry, ReadsAt}
-use Rattle.outside.proofs.ReadLemmas.{LogsThrough-none}
+use Rattle.outside.specs.Reads.{Entry, LogsOn, LogsThrough, ReadsAt}
+use Rattle.outside.proofs.ReadLemmas.{LogsOn-through, LogsThrough-none}
 use Rattle.bit_column.specs.Sections.{EndsBefore, LogsUpTo}
 
 -- the bytes that are told under a name, where there is such a file and where there is none
@@ -69,6 +69,10 @@ front-grows (Some files) name offset done n k into new within (file, got, (count
 -- no reads
 pub logs-none : (file : List ℕ) (from limit : ℕ) (log now : Option (List Entry)) → from ≤ limit → now ≡ log → LogsUpTo file from limit log now
 logs-none file from limit log now within same = subst (LogsUpTo file from limit log) (sym same) (from, within, LogsThrough-none file from log)
+
+-- reads that each give bytes, up to some offset that is within a limit
+pub logs-up : (file : List ℕ) (from to limit : ℕ) (first log now : Option (List Entry)) → to ≤ limit → LogsOn file from to first log → now ≡ log → LogsUpTo file from limit first now
+logs-up file from to limit first log now within on same = (to, within, subst (LogsThrough file from to first) (sym same) (LogsOn-through file from to first log on))
 
 pub on-err : {A E : Type 0} (result : Result A E) (P : Type 0) → P → OnErr result P
 on-err (Ok x) P h = tt

@@ -1,7 +1,8 @@
-// A part of a file is read.
+//! A part of a file is read.
 ghost use Rattle.std.specs.Prelude.{◌≡◌, ◌≤◌, ◌<◌, ◌+◌, ◌-◌, ◌^◌, IfOk, OnErr, IsErrOf, length, vec_len};
-ghost use Rattle.outside.specs.Counts.{Rose};
-ghost use Rattle.outside.specs.Reads.{LogsThrough};
+ghost use Rattle.outside.specs.Files.{Lacks};
+ghost use Rattle.outside.specs.Reads.{LogsFilled, LogsOn};
+ghost use Rattle.outside.specs.Seen.{OnlyReads, seen};
 ghost use Rattle.bit_column.specs.Sections.{IsPart, EndsBefore, Fills, LogsUpTo};
 
 use crate::ColumnFault;
@@ -29,16 +30,12 @@ pub fn read_part<S: Shelf>(
     ensures part { IfOk result (λ bytes.
         IsPart (S.held shelf.old) name.now (offset + from) (offset + to) bytes.items) }
     ensures size { IfOk result (λ bytes. vec_len bytes ≡ to - from) }
-    ensures held { S.held shelf.new ≡ S.held shelf.old }
-    ensures parts { S.parts shelf.new ≡ S.parts shelf.old }
+    ensures only_reads { OnlyReads (IsErrOf result ColumnFault.ReadFault)
+        (seen S.Shelf shelf.old) (seen S.Shelf shelf.new) }
     ensures log { IfOk result (λ bytes.
-        LogsThrough name.now (offset + from) (offset + to) (S.log shelf.old) (S.log shelf.new)) }
+        LogsOn name.now (offset + from) (offset + to) (S.log shelf.old) (S.log shelf.new)) }
     ensures log_of_fault { OnErr result
         (LogsUpTo name.now (offset + from) (offset + to) (S.log shelf.old) (S.log shelf.new)) }
-    ensures writes { S.write_faults shelf.new ≡ S.write_faults shelf.old }
-    ensures later { S.read_faults shelf.old ≤ S.read_faults shelf.new }
-    ensures failed { IsErrOf result ColumnFault.ReadFault →
-        Rose (S.read_faults shelf.old) (S.read_faults shelf.new) }
     ensures short { IsErrOf result ColumnFault.BadId →
         EndsBefore (S.held shelf.old) name.now (offset + to) }
 {
@@ -56,13 +53,9 @@ pub fn read_part<S: Shelf>(
 // What comes of bytes past the greatest offset: no file has them, if the shelf says how long it
 // is.
 fn past_all<S: Shelf>(alloc: Global, shelf: &mut S, name: &str) -> ColumnFault
-    ensures held { S.held shelf.new ≡ S.held shelf.old }
-    ensures parts { S.parts shelf.new ≡ S.parts shelf.old }
+    ensures only_reads { OnlyReads (result ≡ ColumnFault.ReadFault)
+        (seen S.Shelf shelf.old) (seen S.Shelf shelf.new) }
     ensures log { S.log shelf.new ≡ S.log shelf.old }
-    ensures writes { S.write_faults shelf.new ≡ S.write_faults shelf.old }
-    ensures later { S.read_faults shelf.old ≤ S.read_faults shelf.new }
-    ensures failed { result ≡ ColumnFault.ReadFault →
-        Rose (S.read_faults shelf.old) (S.read_faults shelf.new) }
     ensures short { result ≡ ColumnFault.BadId → EndsBefore (S.held shelf.old) name.now (2 ^ 64) }
 {
     match shelf.length(alloc, name) {
@@ -74,7 +67,7 @@ fn past_all<S: Shelf>(alloc: Global, shelf: &mut S, name: &str) -> ColumnFault
 }
 
 // Reads the bytes of a file from an offset on into `into`, as many as fit or until the file ends,
-// and says how many.
+// and says how many. A file that is not there has none.
 fn fill<S: Shelf>(
     alloc: Global,
     shelf: &mut S,
@@ -85,23 +78,20 @@ fn fill<S: Shelf>(
     requires { offset + length into.old < 2 ^ 64 }
     ensures front { IfOk result (λ n. Fills (S.held shelf.old) name.now offset n into.new) }
     ensures bound { IfOk result (λ n. n ≤ length into.old) }
-    ensures held { S.held shelf.new ≡ S.held shelf.old }
-    ensures parts { S.parts shelf.new ≡ S.parts shelf.old }
-    ensures log { IfOk result (λ n.
-        LogsThrough name.now offset (offset + n) (S.log shelf.old) (S.log shelf.new)) }
+    ensures only_reads { OnlyReads (IsErrOf result ColumnFault.ReadFault)
+        (seen S.Shelf shelf.old) (seen S.Shelf shelf.new) }
+    // The file ends where a read gives nothing, and nowhere else.
+    ensures log { IfOk result (λ n. LogsFilled name.now offset (offset + n)
+        (offset + length into.old) (S.log shelf.old) (S.log shelf.new)) }
     ensures log_of_fault { OnErr result
         (LogsUpTo name.now offset (offset + length into.old) (S.log shelf.old) (S.log shelf.new)) }
-    ensures writes { S.write_faults shelf.new ≡ S.write_faults shelf.old }
-    ensures later { S.read_faults shelf.old ≤ S.read_faults shelf.new }
-    ensures failed { IsErrOf result ColumnFault.ReadFault →
-        Rose (S.read_faults shelf.old) (S.read_faults shelf.new) }
-    ensures short { ¬ IsErrOf result ColumnFault.BadId }
+    ensures short { IsErrOf result ColumnFault.BadId → Lacks (S.held shelf.old) name.now }
 {
     let mut done = 0;
     'pieces: while done < into.len() {
         let n = match shelf.read_at(alloc, name, offset + done as u64, &mut into[done..]) {
             Ok(n) => n,
-            Err(ShelfFault::Missing) => return Ok(done),
+            Err(ShelfFault::Missing) => return Err(ColumnFault::BadId),
             Err(ShelfFault::Failed) => return Err(ColumnFault::ReadFault),
             Err(ShelfFault::NoMemory) => return Err(ColumnFault::NoMemory),
         };

@@ -1,7 +1,7 @@
-// A range of ids is read from a section of a file.
+//! A range of ids is read from a section of a file.
 ghost use Rattle.std.specs.Prelude.{◌≡◌, ◌≤◌, ◌<◌, ◌+◌, ◌-◌, All, IfOk, OnErr, IfSome, IsErrOf, length};
-ghost use Rattle.outside.specs.Counts.{Rose};
-ghost use Rattle.outside.specs.Reads.{LogsThrough};
+ghost use Rattle.outside.specs.Reads.{LogsOn};
+ghost use Rattle.outside.specs.Seen.{OnlyReads, seen};
 ghost use Rattle.bit_column.specs.Column.{ids_between};
 ghost use Rattle.bit_column.specs.Sections.{first_byte, end_byte, section, Readable, LogsUpTo};
 
@@ -31,18 +31,17 @@ pub fn read_range<S: Shelf>(
         × (ids ≡ ids_between width from to (section files place.now)))) }
     ensures number { IfOk result (λ ids. length ids ≡ to - from) }
     ensures below { IfOk result (λ ids. All (λ id. id < count) ids) }
-    ensures held { S.held shelf.new ≡ S.held shelf.old }
-    ensures parts { S.parts shelf.new ≡ S.parts shelf.old }
-    ensures log { IfOk result (λ ids. LogsThrough place.now.file
+    ensures only_reads { OnlyReads (IsErrOf result ColumnFault.ReadFault)
+        (seen S.Shelf shelf.old) (seen S.Shelf shelf.new) }
+    ensures log { IfOk result (λ ids. LogsOn place.now.file
         (place.now.offset + first_byte width from) (place.now.offset + end_byte width from to)
         (S.log shelf.old) (S.log shelf.new)) }
     ensures log_of_fault { OnErr result (LogsUpTo place.now.file
         (place.now.offset + first_byte width from) (place.now.offset + end_byte width from to)
         (S.log shelf.old) (S.log shelf.new)) }
-    ensures writes { S.write_faults shelf.new ≡ S.write_faults shelf.old }
-    ensures later { S.read_faults shelf.old ≤ S.read_faults shelf.new }
-    ensures failed { IsErrOf result ColumnFault.ReadFault →
-        Rose (S.read_faults shelf.old) (S.read_faults shelf.new) }
+    // A range past the end of its section is refused before anything is read.
+    ensures past { place.now.length < end_byte width from to → from < to →
+        S.log shelf.new ≡ S.log shelf.old }
     ensures bad { IsErrOf result ColumnFault.BadId → IfSome (S.held shelf.old) (λ files.
         ¬ Readable width count from to (section files place.now)) }
 {

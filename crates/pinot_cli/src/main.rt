@@ -1,8 +1,9 @@
 //! The program: a folder, and the words of one command.
 #![tactic(auto)]
 
-use outside::{FolderDepot, FolderShelf, StreamSink};
-use pinot_run::run_command;
+use outside::{FolderDepot, FolderShelf, Sink, StreamSink};
+use pinot_run::{Status, run_command};
+use std::io::ErrorKind;
 use std::process::ExitCode;
 use std::{env, io};
 
@@ -18,19 +19,38 @@ fn arguments(rt: &HostRuntime) -> io::Result<(String, Vec<String>)> {
     Ok((folder, words))
 }
 
-fn main(rt: HostRuntime) -> io::Result<ExitCode> {
-    let (folder, words) = arguments(&rt)?;
+// Runs the command over the folder that the program is run in, and the folder of the store.
+fn run(rt: &HostRuntime) -> io::Result<Status> {
+    let (folder, words) = arguments(rt)?;
     let mut inputs = FolderShelf::new(rt.clone()?, String::from_str(rt.alloc(), ".")?);
     let mut depot = FolderDepot::new(rt.clone()?, folder);
     let mut out = StreamSink::new(rt.stdout());
     let mut notes = StreamSink::new(rt.stderr());
-    let status = run_command(
+    Ok(run_command(
         rt.alloc(),
         &words,
         &mut inputs,
         &mut depot,
         &mut out,
         &mut notes,
-    );
-    Ok(ExitCode::from(status.code()))
+    ))
+}
+
+// Notes why a command was not begun.
+fn refuse(rt: &HostRuntime, status: Status, line: &[u8]) -> Status {
+    match StreamSink::new(rt.stderr()).put(line) {
+        Ok(()) => status,
+        Err(_) => Status::WriteFault,
+    }
+}
+
+fn main(rt: HostRuntime) -> ExitCode {
+    let status = match run(&rt) {
+        Ok(status) => status,
+        Err(e) if e.kind() == ErrorKind::InvalidData => {
+            refuse(&rt, Status::BadWords, b"bad words\n")
+        }
+        Err(_) => refuse(&rt, Status::NoMemory, b"no memory\n"),
+    };
+    ExitCode::from(status.code())
 }

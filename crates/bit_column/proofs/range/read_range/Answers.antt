@@ -1,8 +1,9 @@
-use Rattle.std.proofs.Common.{◌≡◌, ◌<◌, ◌+◌, ◌-◌, ◌*◌, ◌/◌, ◌%◌, All, IfSome, length, arith, refl, ap, ◌∙◌}
+use Rattle.std.proofs.Common.{◌≡◌, ◌<◌, ◌+◌, ◌-◌, ◌*◌, ◌/◌, ◌%◌, All, IfSome, length, arith, le_refl, refl, subst, sym, ap, ◌∙◌}
+use Rattle.outside.specs.Reads.{LogsOn}
 use Rattle.bit_column.specs.Bits.{bits_of, pieces}
 use Rattle.bit_column.specs.Column.{ids_between}
-use Rattle.bit_column.specs.Sections.{first_byte, end_byte, section, Readable}
-use Rattle.bit_column.proofs.Parts.{logs-none}
+use Rattle.bit_column.specs.Sections.{LogsUpTo, first_byte, end_byte, section, Readable}
+use Rattle.bit_column.proofs.Parts.{logs-none, logs-up, on-err}
 use Rattle.bit_column.proofs.Ranges.{range-order, end-of, range-held, range-read, range-bad, part-read, pieces-long, if-ok}
 use Rattle.std.proofs.lemmas.Result.{IfOk-weaker}
 use Rattle.bit_column.proofs.range.read_range.Goals as goal
@@ -56,3 +57,18 @@ returns-clause-bad g c =
     let bytes = c.deref.result.now in
     let part = part-read held c.as_str.result.now place.file (place.offset + from * width / 8) (place.offset + (to * width + 7) / 8) c.in-Ok.bytes.items bytes c.as_str.ensures c.deref.ensures.value c.in-Ok.ensures.part in
     λ bad. range-bad held place width c.args.count from to bytes c.requires.width (omega arith) (omega arith) part (c.ids_from.ensures.bad bad)
+
+pub returns-clause-log_of_fault : goal.returns-clause-log_of_fault
+returns-clause-log_of_fault g c =
+    let place = c.args.place.now in
+    let width = c.args.width in
+    let from = c.args.from in
+    let to = c.args.to in
+    let first = place.offset + from * width / 8 in
+    let end = place.offset + (to * width + 7) / 8 in
+    let old = g.S.Shelf.log c.args.shelf.now in
+    let new = g.S.Shelf.log c.read_part.new.shelf in
+    let same : end ≡ place.offset + end_byte width from to = ap (λ n. place.offset + n) (sym (end-of width from to (omega arith))) in
+    on-err c.ids_from.result (LogsUpTo place.file (place.offset + first_byte width from) (place.offset + end_byte width from to) old new)
+    (logs-up place.file first (place.offset + end_byte width from to) (place.offset + end_byte width from to) old new new (le_refl _)
+    (subst (λ n. LogsOn place.file first n old new) same (subst (λ name. LogsOn name first end old new) c.as_str.ensures c.in-Ok.ensures.log)) refl)
