@@ -59,6 +59,7 @@ pub fn read_block(
         (IsLastBlock layout.now.fields.now (header_of layout.now) before room reader.old rest b.columns)
         (IsFullBlock layout.now.fields.now (header_of layout.now) before room reader.old reader.new
         rest b.columns)) }
+    ensures sorts { IfOk result (λ b. OfSorts layout.now.fields.now b.columns.columns) }
     ensures err { IfErr result (λ fault. fault ≢ CsvFault.NoMemory → (rest : List ℕ)
         → Reads reader.old rest → (n : ℕ) → room ≤ n
         → rows_from before layout.now.fields.now (header_of layout.now)
