@@ -19,7 +19,10 @@ use Rattle.csv_ingest.specs.declared.fault.CsvKind.{CsvKind}
 use Rattle.csv_ingest.specs.declared.fault.CsvKind.TheVariants.{NotUtf8, BadHeader, DuplicateHeader, WrongLength}
 use Rattle.csv_ingest.specs.declared.fault.CsvFault.{CsvFault}
 use Rattle.csv_ingest.specs.declared.fault.CsvFault.TheVariants.{At, TooManyRows, TooManyColumns}
-use Rattle.csv_ingest.specs.Columns.{DefaultFits, DefaultsFit}
+use Rattle.csv_ingest.specs.Columns.{DefaultFits, DefaultsFit, OfSorts, is_text_kind}
+use Rattle.csv_ingest.specs.PlainBlocks.{AreNumbers}
+use Rattle.csv_ingest.proofs.ColumnLemmas.{widths}
+use Rattle.values.specs.Columns.{Listed}
 use Rattle.csv_ingest.specs.Names.{is_among, plain_field, plain_name}
 use Rattle.table_schema.specs.Names.{is_column_name}
 use Rattle.csv_ingest.specs.Rows.{all_or_first, cell_value, csv_limits, header_of, is_number, IsNumbers, joined, kinded, Limits, name_at, placed, place_of, plain_in, row_at, rows_of, under, value_at, values_of, with_schema}
@@ -132,6 +135,24 @@ plain_defaults (field ∷ fields) q = (plain_default field q.0, plain_defaults f
 -- the defaults of columns of whole numbers are numbers
 pub plain-defaults : (header : List (List ℕ)) (fields : List Field) → header_of plain_name header ≡ Ok fields → DefaultsFit fields
 plain-defaults header fields is = All-from_recursion DefaultFits fields (plain_defaults fields (header_plain header fields is))
+
+number_kind : (field : Field) → IsPlain field → is_text_kind field.kind ≡ false
+number_kind field (name, is) = subst (λ f. is_text_kind f.kind ≡ false) (sym is) refl
+
+number_columns : (fields : List Field) (columns : List Listed) → AllByRecursion IsPlain fields → map (λ c. c.are_texts) columns ≡ map (λ f. is_text_kind f.kind) fields → AllByRecursion (λ c. c.are_texts ≡ false) columns
+number_columns fields [] q s = tt
+number_columns [] (c ∷ cs) q s = absurd cc
+number_columns (f ∷ fs) (c ∷ cs) q s =
+    let one : c.are_texts ≡ is_text_kind f.kind = cc in
+    let rest : map (λ x. x.are_texts) cs ≡ map (λ x. is_text_kind x.kind) fs = cc in
+    (one ∙ number_kind f q.0, number_columns fs cs q.1 rest)
+
+-- the columns of such fields are of numbers
+pub plain-columns : (header : List (List ℕ)) (fields : List Field) (columns : List Listed) → header_of plain_name header ≡ Ok fields → OfSorts fields columns → AreNumbers fields columns
+plain-columns header fields columns is sorts = record {
+  width = widths fields columns sorts;
+  numbers = All-from_recursion (λ c. c.are_texts ≡ false) columns (number_columns fields columns (header_plain header fields is) sorts);
+}
 
 -- each row of this table has a number for each column
 abbrev Holds : Schema × List (List Value) → Type 0

@@ -1,6 +1,8 @@
 -- A text of whole numbers, whose rows are read block by block.
-use Rattle.std.specs.Prelude.{◌≡◌, ◌<◌, ◌≤◌, ◌+◌, ◌^◌, ℕ, List, [], length, Result, Ok}
+use Rattle.std.specs.Prelude.{◌≡◌, ◌<◌, ◌≤◌, ◌+◌, ◌^◌, ℕ, List, [], length, false, Result, Ok}
+use Rattle.std.specs.List.{All}
 use Rattle.csv.specs.Records.{fields_of}
+use Rattle.values.specs.Columns.{Listed}
 use Rattle.values.specs.declared.value.Value.{Value}
 use Rattle.table_schema.specs.declared.field.Field.{Field}
 use Rattle.table_schema.specs.declared.field.Schema.{Schema}
@@ -38,3 +40,8 @@ pub record GivesTable (blocks : PlainBlocks) (table : Result (Schema × List (Li
   pub rows : RowsOrFault
   pub gives : Gives blocks rows
   pub is : table ≡ with_schema blocks.header.fields rows
+
+-- a column of numbers for each field
+pub record AreNumbers (fields : List Field) (columns : List Listed) : Type 0 where
+  pub width : length columns ≡ length fields
+  pub numbers : All (λ column. column.are_texts ≡ false) columns

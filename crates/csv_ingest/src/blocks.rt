@@ -1,10 +1,11 @@
 // The rows of a text of whole numbers, block by block.
-ghost use Rattle.std.specs.Prelude.{◌≡◌, ◌≢◌, ◌≤◌, ◌<◌, ◌+◌, ◌^◌, ◌∷◌, ℕ, List, length, IfOk, IfErr, MatchBool, MatchOption, Ok, Err, []};
+ghost use Rattle.std.specs.Prelude.{◌≡◌, ◌≢◌, ◌≤◌, ◌<◌, ◌+◌, ◌^◌, ◌∷◌, ℕ, List, length, IfOk, IfErr, IfSome, MatchBool, MatchOption, Ok, Err, []};
 ghost use Rattle.csv.specs.Records.{fields_of};
 ghost use Rattle.values.specs.Columns.{rows_of as rows_of_columns};
 ghost use Rattle.csv_ingest.specs.Blocks.{IsFullBlock, IsLastBlock, RowsOrFault, after, rows_from};
+ghost use Rattle.csv_ingest.specs.Columns.{OfSorts};
 ghost use Rattle.csv_ingest.specs.Names.{plain_name};
-ghost use Rattle.csv_ingest.specs.PlainBlocks.{Gives, GivesTable, IsPlainBlocks, IsPlainHeader};
+ghost use Rattle.csv_ingest.specs.PlainBlocks.{AreNumbers, Gives, GivesTable, IsPlainBlocks, IsPlainHeader};
 ghost use Rattle.csv_ingest.specs.Reading.{Reads, records_left};
 ghost use Rattle.csv_ingest.specs.Rows.{csv_limits, header_of, plain_in, records_of};
 
@@ -82,6 +83,7 @@ impl PlainHeader {
             (IsLastBlock self.now.fields (fields_of self.now.names) before room reader.old rest b.columns)
             (IsFullBlock self.now.fields (fields_of self.now.names) before room reader.old reader.new
             rest b.columns)) }
+        ensures sorts { IfOk result (λ b. OfSorts self.now.fields b.columns.columns) }
         ensures err { IfErr result (λ fault. fault ≢ CsvFault.NoMemory → (rest : List ℕ)
             → Reads reader.old rest → (n : ℕ) → room ≤ n
             → rows_from before self.now.fields (fields_of self.now.names)
@@ -139,6 +141,9 @@ impl PlainBlocks<'_> {
         ensures ok { IfOk result (λ block. (whole : RowsOrFault) → Gives self.old whole
             → MatchOption block (whole ≡ Ok []) (λ columns. (more : RowsOrFault) × Gives self.new more
             × (whole ≡ after (rows_of_columns columns) more))) }
+        ensures numbers { IfOk result (λ block. IfSome block (λ columns.
+            AreNumbers self.old.header.fields columns.columns)) }
+        ensures fewer { IfOk result (λ block. IfSome block (λ _. self.new.left < self.old.left)) }
         ensures err { IfErr result (λ fault. fault ≢ CsvFault.NoMemory → (whole : RowsOrFault)
             → Gives self.old whole → whole ≡ Err fault) }
     {

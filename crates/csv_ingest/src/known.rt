@@ -2,7 +2,7 @@
 ghost use Rattle.std.specs.Prelude.{◌≡◌, ◌≢◌, ◌≤◌, ◌<◌, ◌+◌, ◌^◌, ◌∷◌, ℕ, List, length, IfOk, IfErr, Ok, Err};
 ghost use Rattle.csv.specs.Records.{fields_of};
 ghost use Rattle.values.specs.Columns.{rows_of as rows_of_columns};
-ghost use Rattle.csv_ingest.specs.Columns.{DefaultsFit};
+ghost use Rattle.csv_ingest.specs.Columns.{DefaultsFit, OfSorts};
 ghost use Rattle.csv_ingest.specs.Reading.{Reads, records_left};
 ghost use Rattle.csv_ingest.specs.Rows.{csv_limits, records_of, rows_in};
 ghost use Rattle.table_schema.specs.Valid.{IsValidSchema};
@@ -31,6 +31,7 @@ fn known_columns(
     ensures ok { IfOk result (λ table. (rest : List ℕ) → Reads reader.old rest
         → rows_in csv_limits fields.now (fields_of header.now ∷ records_left most reader.old rest)
         ≡ Ok (rows_of_columns table)) }
+    ensures sorts { IfOk result (λ table. OfSorts fields.now table.columns) }
     ensures err { IfErr result (λ fault. fault ≢ CsvFault.NoMemory → (rest : List ℕ)
         → Reads reader.old rest → rows_in csv_limits fields.now (fields_of header.now
         ∷ records_left most reader.old rest) ≡ Err fault) }
@@ -54,6 +55,7 @@ fn known_records(
     requires left { (rest : List ℕ) × Reads reader.old rest × (length rest ≤ 134217728) }
     ensures ok { IfOk result (λ table. (rest : List ℕ) → Reads reader.old rest
         → rows_in csv_limits fields.now (records_left (most + 1) reader.old rest) ≡ Ok (rows_of_columns table)) }
+    ensures sorts { IfOk result (λ table. OfSorts fields.now table.columns) }
     ensures err { IfErr result (λ fault. fault ≢ CsvFault.NoMemory → (rest : List ℕ)
         → Reads reader.old rest
         → rows_in csv_limits fields.now (records_left (most + 1) reader.old rest) ≡ Err fault) }
@@ -80,6 +82,7 @@ pub fn read_columns(alloc: Global, schema: &Schema, bytes: &[u8]) -> Result<Colu
     requires defaults { DefaultsFit schema.now.fields }
     ensures ok { IfOk result (λ table. rows_in csv_limits schema.now.fields (records_of bytes.now)
         ≡ Ok (rows_of_columns table)) }
+    ensures sorts { IfOk result (λ table. OfSorts schema.now.fields table.columns) }
     ensures err { IfErr result (λ fault. fault ≢ CsvFault.NoMemory
         → rows_in csv_limits schema.now.fields (records_of bytes.now) ≡ Err fault) }
     ensures valid { IsValidSchema schema.now

@@ -59,6 +59,7 @@ pub fn read_block(
         (IsLastBlock layout.now.fields.now (header_of layout.now) before room reader.old rest b.columns)
         (IsFullBlock layout.now.fields.now (header_of layout.now) before room reader.old reader.new
         rest b.columns)) }
+    ensures sorts { IfOk result (λ b. OfSorts layout.now.fields.now b.columns.columns) }
     ensures err { IfErr result (λ fault. fault ≢ CsvFault.NoMemory → (rest : List ℕ)
         → Reads reader.old rest → (n : ℕ) → room ≤ n
         → rows_from before layout.now.fields.now (header_of layout.now)
@@ -101,6 +102,7 @@ pub fn columns_below(
     ensures ok { IfOk result (λ table. (rest : List ℕ) → Reads reader.old rest
         → rows_of csv_limits fields.now (map (λ f. f.now) names.now)
         (records_left most reader.old rest) ≡ Ok (rows_of_columns table)) }
+    ensures sorts { IfOk result (λ table. OfSorts fields.now table.columns) }
     ensures err { IfErr result (λ fault. fault ≢ CsvFault.NoMemory → (rest : List ℕ)
         → Reads reader.old rest → rows_of csv_limits fields.now (map (λ f. f.now) names.now)
         (records_left most reader.old rest) ≡ Err fault) }

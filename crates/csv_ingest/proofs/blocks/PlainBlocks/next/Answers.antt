@@ -3,6 +3,7 @@ use Rattle.csv.specs.Records.{fields_of}
 use Rattle.csv_ingest.specs.Blocks.{IsFullBlock, IsLastBlock, rows_from}
 use Rattle.csv_ingest.specs.Reading.{records_left}
 use Rattle.csv_ingest.proofs.BlockLemmas.{at-full, at-last, next-full, next-last, nothing-left}
+use Rattle.csv_ingest.proofs.NumberLemmas.{plain-columns}
 use Rattle.csv_ingest.proofs.blocks.PlainBlocks.next.Goals as goal
 
 pub returns-then-last-clause-ok : goal.returns-then-last-clause-ok
@@ -35,3 +36,9 @@ returns-else-last-clause-ok c = λ whole h.
       },
       next-full me.header.fields (fields_of me.header.names) me.before c.min-room.result me.left me.reader c.next_block.new.reader r.rest c.in-Ok.field-0.columns whole le b r.is,
     )
+
+pub returns-then-last-clause-numbers : goal.returns-then-last-clause-numbers
+returns-then-last-clause-numbers c = plain-columns (fields_of c.args.self.now.header.names) c.args.self.now.header.fields c.in-Ok.field-0.columns.columns c.requires.header.fields c.in-Ok.ensures.sorts
+
+pub returns-else-last-clause-numbers : goal.returns-else-last-clause-numbers
+returns-else-last-clause-numbers c = plain-columns (fields_of c.args.self.now.header.names) c.args.self.now.header.fields c.in-Ok.field-0.columns.columns c.requires.header.fields c.in-Ok.ensures.sorts
