@@ -11,6 +11,9 @@ use Rattle.query_bind.specs.declared.fault.BindFault.TheVariants.{NoMemory}
 use Rattle.query_bind.specs.Written.{where_written}
 use Rattle.query_bind.specs.Conjuncts.{where_conjuncts}
 use Rattle.query_bind.specs.Bound.{parts_of, assembled, bound_of, query_finding, answer, bound, Binds}
+use Rattle.query_bind.specs.Names.{term_finding, where_finding, table_finding, names_finding}
+use Rattle.table_schema.specs.Firsts.{first_in}
+use Rattle.table_schema.proofs.FirstLaws.{first_none, rest_none}
 
 pub answers_bound : (table : Table) (any_table : Bool) (q : Query) (parts : Terms × Lists) (conjuncts : List Conjunct) (b : BoundQuery)
     → query_finding table any_table q ≡ None
@@ -28,3 +31,10 @@ pub answers_fault : (table : Table) (any_table : Bool) (q : Query) (fault : Bind
     → (fault ≢ NoMemory → query_finding table any_table q ≡ Some fault)
     → Binds (bound table any_table q) (Err fault)
 answers_fault table any_table q fault found = λ other. ap (λ f. answer f (bound_of table.schema.fields q)) (found other)
+
+-- where no check fails, the names and types of the condition are in order
+pub where_passes : (table : Table) (any_table : Bool) (q : Query) → query_finding table any_table q ≡ None → where_finding table.schema.fields q.condition ≡ None
+where_passes table any_table q none =
+    let fields = table.schema.fields in
+    let names = first_none (names_finding fields q) _ (rest_none (table_finding table any_table q) _ none) in
+    first_none (where_finding fields q.condition) _ (rest_none (first_in (λ i. term_finding fields i.term) q.items) _ names)

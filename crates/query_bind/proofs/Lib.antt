@@ -14,3 +14,4 @@ mod FunctionLemmas
 mod Truth
 mod TermLemmas
 mod ValidLemmas
+mod LookUpLemmas

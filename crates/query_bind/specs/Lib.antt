@@ -10,3 +10,4 @@ pub mod Bound
 pub mod Places
 pub mod Firsts
 pub mod Once
+pub mod LookUps

@@ -14,6 +14,7 @@ use crate::conjuncts::conjuncts;
 use crate::distinct::{Lists, without_repeats};
 use crate::items::{items_of, keys_of};
 use crate::labels::labels;
+use crate::lookups::QueryNames;
 use crate::terms::{Terms, resolve};
 use query_parser::{LiteralAt, Query};
 use std::alloc::Global;
@@ -42,7 +43,8 @@ pub fn bind(
         KeepRows bound.conjuncts (where_written table.now.schema.fields query.now.condition)) }
     ensures valid { IfOk result (IsValidQuery table.now) }
 {
-    let (terms, lists) = check(alloc, query, table, any_table)?;
+    let names = QueryNames::new(alloc, query)?;
+    let (terms, lists) = check(alloc, &names, table, any_table)?;
     let conjuncts = conjuncts(alloc, table.schema.fields.as_slice(), &query.condition)?;
     let bound = assemble(alloc, query, &terms, lists, conjuncts)?;
     Ok(bound)
@@ -51,20 +53,20 @@ pub fn bind(
 /// What the terms of a query are, and the lists of them, where no check fails.
 fn check(
     alloc: Global,
-    query: &Query,
+    names: &QueryNames<'_>,
     table: &Table,
     any_table: bool,
 ) -> Result<(Terms, Lists), BindFault>
     requires { length table.now.schema.fields ≤ 64 }
-    ensures checked { Gives (spec.query_finding table.now any_table query.now)
-        (spec.parts_of table.now.schema.fields query.now) result }
+    ensures checked { Gives (spec.query_finding table.now any_table names.now.query.now)
+        (spec.parts_of table.now.schema.fields names.now.query.now) result }
     ensures few { IfOk result
         (λ parts. (length parts.1.groups ≤ 8) × (length parts.1.aggs ≤ 16)) }
 {
-    check_table(table, any_table, query)?;
-    let terms = resolve(alloc, table.schema.fields.as_slice(), query)?;
-    check_aggregate(query)?;
-    check_grouped(query)?;
+    check_table(table, any_table, names.query)?;
+    let terms = resolve(alloc, table.schema.fields.as_slice(), names)?;
+    check_aggregate(names.query)?;
+    check_grouped(names)?;
     let lists = without_repeats(alloc, &terms)?;
     Ok((terms, lists))
 }

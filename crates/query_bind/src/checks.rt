@@ -9,9 +9,9 @@ ghost use Rattle.query_bind.specs.Faults.{Passes};
 ghost use Rattle.table_schema.specs.Firsts.{first_in};
 
 use crate::condition::check_condition;
-use crate::labels::meant;
+use crate::lookups::QueryNames;
 use crate::{BindFault, BindReason};
-use query_parser::{Cond, NameAt, Query, QueryItem, QueryKey, Term};
+use query_parser::{Cond, Query, QueryItem, QueryKey, Term};
 use table_schema::{Field, Table};
 
 /// What the name of a table may end with.
@@ -71,54 +71,41 @@ fn has_call(items: &[QueryItem]) -> bool
     items.iter().any(|item| matches!(item.term, Term::Call(_)))
 }
 
-pub(crate) fn check_grouped(query: &Query) -> Result<(), BindFault>
-    ensures { Passes (spec.grouped_finding query.now) result }
+pub(crate) fn check_grouped(names: &QueryNames<'_>) -> Result<(), BindFault>
+    ensures { Passes (spec.grouped_finding names.now.query.now) result }
 {
-    let groups = query.groups.as_slice();
-    let items = query.items.as_slice();
-    check_items(groups, items)?;
-    check_keys(groups, items, query.order.as_slice())
+    check_items(names, names.query.items.as_slice())?;
+    check_keys(names, names.query.order.as_slice())
 }
 
-fn check_items(groups: &[NameAt], items: &[QueryItem]) -> Result<(), BindFault>
-    ensures { Passes (first_in (λ i. spec.term_grouped groups.now i.term) items.now) result }
+fn check_items(names: &QueryNames<'_>, items: &[QueryItem]) -> Result<(), BindFault>
+    ensures { Passes
+        (first_in (λ i. spec.term_grouped names.now.query.now.groups i.term) items.now) result }
 {
     for item in items {
-        check_term(groups, &item.term)?;
+        check_term(names, &item.term)?;
     }
     Ok(())
 }
 
-fn check_keys(groups: &[NameAt], items: &[QueryItem], keys: &[QueryKey]) -> Result<(), BindFault>
-    ensures { Passes
-        (first_in (λ k. spec.term_grouped groups.now (naming.meant items.now k.term)) keys.now)
-        result }
+fn check_keys<'q>(names: &QueryNames<'q>, keys: &'q [QueryKey]) -> Result<(), BindFault>
+    ensures { Passes (first_in (λ k. spec.term_grouped names.now.query.now.groups
+        (naming.meant names.now.query.now.items k.term)) keys.now) result }
 {
     for key in keys {
-        check_term(groups, meant(items, &key.term))?;
+        check_term(names, names.meant(&key.term))?;
     }
     Ok(())
 }
 
 /// A column has to be one of GROUP BY.
-fn check_term(groups: &[NameAt], term: &Term) -> Result<(), BindFault>
-    ensures { Passes (spec.term_grouped groups.now term.now) result }
+fn check_term(names: &QueryNames<'_>, term: &Term) -> Result<(), BindFault>
+    ensures { Passes (spec.term_grouped names.now.query.now.groups term.now) result }
 {
     match term {
-        Term::Column(name) if !is_grouped(groups, name) => {
+        Term::Column(name) if !names.is_grouped(name) => {
             Err(BindFault::At(BindReason::NotGrouped, name.offset))
         }
         _ => Ok(()),
     }
-}
-
-fn is_grouped(groups: &[NameAt], name: &NameAt) -> bool
-    ensures { result ≡ spec.is_grouped groups.now name.now }
-{
-    for group in groups {
-        if group.name.as_slice() == name.name.as_slice() {
-            return true;
-        }
-    }
-    false
 }

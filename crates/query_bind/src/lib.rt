@@ -10,6 +10,7 @@ mod distinct;
 mod fault;
 mod items;
 mod labels;
+pub mod lookups;
 pub mod laws;
 mod normal;
 mod terms;

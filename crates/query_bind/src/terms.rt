@@ -8,10 +8,10 @@ ghost use Rattle.table_schema.specs.Firsts.{first_in};
 
 use crate::checks::check_where;
 use crate::columns::{column, kind_of};
-use crate::labels::meant;
+use crate::lookups::QueryNames;
 use crate::{BindFault, BindReason};
 use agg_laws::AggKind;
-use query_parser::{Argument, Func, NameAt, Query, QueryItem, QueryKey, Term};
+use query_parser::{Argument, Func, NameAt, QueryItem, QueryKey, Term};
 use std::alloc::Global;
 use table_schema::{Agg, Field};
 use values::{FieldKind, Seq};
@@ -155,20 +155,20 @@ pub(crate) fn groups_at(
 }
 
 /// What the keys are.
-pub(crate) fn keys_at(
+pub(crate) fn keys_at<'q>(
     alloc: Global,
     fields: &[Field],
-    items: &[QueryItem],
-    order: &[QueryKey],
+    names: &QueryNames<'q>,
+    order: &'q [QueryKey],
 ) -> Result<Seq<KeyAt>, BindFault>
     requires { length fields.now ≤ 64 }
-    ensures { Gives
-        (first_in (λ k. naming.term_finding fields.now (naming.meant items.now k.term)) order.now)
-        (map (spec.key_at fields.now items.now) order.now) result }
+    ensures { Gives (first_in (λ k. naming.term_finding fields.now
+            (naming.meant names.now.query.now.items k.term)) order.now)
+        (map (spec.key_at fields.now names.now.query.now.items) order.now) result }
 {
     let mut keys = Seq::with_capacity(alloc, order.len())?;
     for key in order {
-        let meaning = resolve_term(fields, meant(items, &key.term))?;
+        let meaning = resolve_term(fields, names.meant(&key.term))?;
         let term = TermAt {
             meaning,
             offset: place(&key.term),
@@ -182,16 +182,21 @@ pub(crate) fn keys_at(
 }
 
 /// What the terms of a query are, whose names and types are in order.
-pub(crate) fn resolve(alloc: Global, fields: &[Field], query: &Query) -> Result<Terms, BindFault>
+pub(crate) fn resolve(
+    alloc: Global,
+    fields: &[Field],
+    names: &QueryNames<'_>,
+) -> Result<Terms, BindFault>
     requires { length fields.now ≤ 64 }
-    ensures { Gives (naming.names_finding fields.now query.now)
-        (spec.terms_of fields.now query.now) result }
+    ensures { Gives (naming.names_finding fields.now names.now.query.now)
+        (spec.terms_of fields.now names.now.query.now) result }
 {
+    let query = names.query;
     let items = items_at(alloc, fields, query.items.as_slice())?;
     check_where(fields, &query.condition)?;
     let groups = groups_at(alloc, fields, query.groups.as_slice())?;
     let order = query.order.as_slice();
-    let keys = keys_at(alloc, fields, query.items.as_slice(), order)?;
+    let keys = keys_at(alloc, fields, names, order)?;
     Ok(Terms {
         items,
         groups,

@@ -6,5 +6,5 @@ use Rattle.table_schema.specs.Firsts.{first_in}
 
 abbrev pub invariant-loop-key : goal.invariant-loop-key
 invariant-loop-key l =
-    (first_in (λ k. term_finding l.fields (meant l.items k.term)) (drop l.key-index l.order) ≡ first_in (λ k. term_finding l.fields (meant l.items k.term)) l.order)
-    × (l.keys ≡ map (key_at l.fields l.items) (take l.key-index l.order))
+    (first_in (λ k. term_finding l.fields (meant l.names.query.now.items k.term)) (drop l.key-index l.order) ≡ first_in (λ k. term_finding l.fields (meant l.names.query.now.items k.term)) l.order)
+    × (l.keys ≡ map (key_at l.fields l.names.query.now.items) (take l.key-index l.order))
