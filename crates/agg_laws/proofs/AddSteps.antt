@@ -1,6 +1,6 @@
 -- One more document at the end of ascending ones.
 use Rattle.std.proofs.Common.{◌≡◌, ◌≢◌, ℕ, zero, suc, ◌+◌, ◌-◌, ◌<◌, ◌≤◌, List, [], ◌∷◌, ◌++◌, length, take, drop, get_or, set, refl, sym, ap, subst, ◌∙◌, arith, append_assoc, length-append, length-drop, Equal, None, true}
-use Rattle.std.proofs.lemmas.List.{take-append-drop, get_or_at, get_or-drop}
+use Rattle.std.proofs.lemmas.List.{take-append-drop, get_or-drop}
 use Rattle.std.proofs.lemmas.Cmp.{nat_list_cmp_total}
 use Rattle.std.specs.Ordering.{is_gt}
 use Rattle.std.specs.FinMap.{is_sorted}
@@ -12,7 +12,6 @@ use Rattle.agg_laws.specs.Docs.{Doc, doc_at}
 use Rattle.agg_laws.proofs.TreeLemmas.{same_dims}
 use Rattle.agg_laws.proofs.WeightLemmas.{weight_at}
 use Rattle.agg_laws.proofs.DocLemmas.{rows_join}
-use Rattle.agg_laws.proofs.RegionSteps.{last_same, front_same}
 use Rattle.agg_laws.proofs.MergeSteps.{put_at_last, put_at_end}
 
 -- the last of some documents

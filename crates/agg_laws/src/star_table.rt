@@ -1,6 +1,8 @@
 //! Tables of documents.
 
-ghost use Rattle.std.specs.Prelude.{◌≡◌, ◌+◌, ◌-◌, ◌<◌, ◌≤◌, ◌==◌, max, [], ◌∷◌, ◌++◌, length, take, drop, List, slice_get, Some, None, IsTrue, OnOk, OnErr, IfOk, vec_len, vec_capacity};
+ghost use Rattle.std.specs.Prelude.{◌≡◌, ◌+◌, ◌-◌, ◌<◌, ◌≤◌, ◌==◌, max, [], ◌∷◌, ◌++◌, length};
+ghost use Rattle.std.specs.Prelude.{take, drop, List, slice_get, Some, None, IsTrue, OnOk, OnErr};
+ghost use Rattle.std.specs.Prelude.{IfOk, vec_len, vec_capacity};
 ghost use Rattle.std.specs.List.Sorted.{IsSortedBy, IsPermutation};
 ghost use Rattle.std.specs.Ordering.{is_lt, is_gt};
 ghost use Rattle.std.specs.FinMap.{is_sorted};
@@ -14,8 +16,8 @@ ghost use Rattle.agg_laws.specs.Flat.{range};
 ghost use Rattle.agg_laws.specs.Region.{numbers};
 
 use crate::NoMemory;
-use crate::kind_list::Kinds;
 use crate::id_list::STAR;
+use crate::kind_list::Kinds;
 use crate::star_row::StarRow;
 use crate::state_row::merge_states;
 use crate::states::AggState;
@@ -24,8 +26,8 @@ use std::alloc::{AllocError, Global};
 use std::cmp::Ordering;
 use std::marker::Model;
 
-/// Documents of one shape: each has one id for each split dimension, and one state of each kind. They are one after the other,
-/// their ids apart from their states.
+/// Documents of one shape: each has one id for each split dimension, and one state of each kind.
+/// They are one after the other, their ids apart from their states.
 #[derive(Drop)]
 pub struct StarTable {
     dims: u8,
@@ -43,9 +45,16 @@ impl Model for StarTable {
 
     ghost Value = { Docs };
 
-    ghost view = { λ t. record { dims = t.dims; kinds = t.kinds; docs = docs_in t.count t.dims (length t.kinds) t.ids.items t.states.items; spare = t.spare } };
+    ghost view = { λ t. record {
+      dims = t.dims;
+      kinds = t.kinds;
+      docs = docs_in t.count t.dims
+          (length t.kinds) t.ids.items t.states.items;
+      spare = t.spare;
+    } };
 
-    ghost invariant = { λ t. IsRegion t.count t.dims t.kinds t.ids.items t.states.items t.spare (vec_capacity t.ids) (vec_capacity t.states) };
+    ghost invariant = { λ t. IsRegion t.count t.dims t.kinds t.ids.items t.states.items t.spare
+        (vec_capacity t.ids) (vec_capacity t.states) };
 }
 
 /// Adds items, for which there is room.
@@ -79,9 +88,13 @@ fn put_again<T: Copy>(out: &mut Vec<T>, from: usize, count: usize)
 /// Merges the states in a place into the last ones, which are as many.
 fn merge_into_last(states: &mut [AggState], from: usize, count: usize)
     requires there { from + count + count ≤ length states.old }
-    requires kinds { kinds_of (drop (length states.old - count) states.old) ≡ kinds_of (take count (drop from states.old)) }
-    requires fits { RowFits (merged_rows (drop (length states.old - count) states.old) (take count (drop from states.old))) most_values }
-    ensures { states.new ≡ take (length states.old - count) states.old ++ merged_rows (drop (length states.old - count) states.old) (take count (drop from states.old)) }
+    requires kinds { kinds_of (drop (length states.old - count) states.old)
+        ≡ kinds_of (take count (drop from states.old)) }
+    requires fits { RowFits (merged_rows (drop (length states.old - count) states.old) (take count
+        (drop from states.old))) most_values }
+    ensures { states.new ≡ take (length states.old - count) states.old
+        ++ merged_rows (drop (length states.old - count) states.old) (take count (drop from
+        states.old)) }
 {
     let end = states.len() - count;
     let (front, last) = states.split_at_mut(end);
@@ -132,7 +145,8 @@ impl StarTable {
     /// No documents, of the shape.
     pub fn new(alloc: Global, shape: &TreeShape) -> Result<StarTable, NoMemory>
         requires { length shape.now.kinds ≤ 16 }
-        ensures { IfOk result (λ table. table ≡ record { dims = shape.now.dims; kinds = shape.now.kinds; docs = []; spare = 0 }) }
+        ensures { IfOk result (λ table. table
+            ≡ record { dims = shape.now.dims; kinds = shape.now.kinds; docs = []; spare = 0 }) }
     {
         Ok(StarTable {
             dims: shape.dims,
@@ -202,7 +216,11 @@ impl StarTable {
         requires dims { length row.now.dims ≡ self.old.dims }
         requires kinds { kinds_of row.now.states ≡ self.old.kinds }
         requires stored { RowStored row.now.states }
-        ensures { self.new ≡ record self.old { docs = self.old.docs ++ doc_of row.now ∷ []; spare = self.old.spare - 1 } }
+        ensures { self.new ≡ record self.old {
+          docs = self.old.docs
+              ++ doc_of row.now ∷ [];
+          spare = self.old.spare - 1;
+        } }
     {
         put_all(&mut self.ids, row.dims.as_slice());
         put_all(&mut self.states, row.states.as_slice());
@@ -214,7 +232,11 @@ impl StarTable {
     fn repeat(&mut self, from: u32)
         requires from { from < length self.old.docs }
         requires spare { 1 ≤ self.old.spare }
-        ensures { self.new ≡ record self.old { docs = self.old.docs ++ doc_at self.old.docs from ∷ []; spare = self.old.spare - 1 } }
+        ensures { self.new ≡ record self.old {
+          docs = self.old.docs
+              ++ doc_at self.old.docs from ∷ [];
+          spare = self.old.spare - 1;
+        } }
     {
         let dims = self.dims as usize;
         let width = self.kinds.len();
@@ -228,7 +250,8 @@ impl StarTable {
     fn star_last(&mut self, level: usize)
         requires level { level < self.old.dims }
         requires some { 0 < length self.old.docs }
-        ensures { (front : List Doc) (e : Doc) → self.old.docs ≡ front ++ e ∷ [] → self.new ≡ record self.old { docs = front ++ (set_star level e.0, e.1) ∷ [] } }
+        ensures { (front : List Doc) (e : Doc) → self.old.docs ≡ front ++ e ∷ []
+            → self.new ≡ record self.old { docs = front ++ (set_star level e.0, e.1) ∷ [] } }
     {
         let place = (self.count - 1) * self.dims as usize + level;
         self.ids[place] = STAR;
@@ -237,15 +260,20 @@ impl StarTable {
     /// Merges the states of a document into those of the last one.
     fn merge_last(&mut self, from: u32)
         requires from { from + 1 < length self.old.docs }
-        requires light { (front : List Doc) (e : Doc) → self.old.docs ≡ front ++ e ∷ [] → row_weight e.1 + row_weight (doc_at self.old.docs from).1 ≤ most_stored }
-        ensures { (front : List Doc) (e : Doc) → self.old.docs ≡ front ++ e ∷ [] → self.new ≡ record self.old { docs = front ++ (e.0, merged_rows e.1 (doc_at self.old.docs from).1) ∷ [] } }
+        requires light { (front : List Doc) (e : Doc) → self.old.docs ≡ front ++ e ∷ []
+            → row_weight e.1 + row_weight (doc_at self.old.docs from).1 ≤ most_stored }
+        ensures { (front : List Doc) (e : Doc) → self.old.docs ≡ front ++ e ∷ []
+            → self.new ≡ record self.old {
+              docs = front
+                  ++ (e.0, merged_rows e.1 (doc_at self.old.docs from).1) ∷ [];
+            } }
     {
         let width = self.kinds.len();
         merge_into_last(self.states.as_mut_slice(), from as usize * width, width);
     }
 
-    /// Adds the aggregated document of a range, whose documents have the same ids below the level. There is room for it, and it
-    /// takes no memory.
+    /// Adds the aggregated document of a range, whose documents have the same ids below the level.
+    /// There is room for it, and it takes no memory.
     pub fn append_total(&mut self, start: u32, end: u32, level: u8)
         requires order { start < end }
         requires within { end ≤ length self.old.docs }
@@ -253,7 +281,12 @@ impl StarTable {
         requires alike { AreAlike level (range start end self.old.docs) }
         requires spare { 1 ≤ self.old.spare }
         requires light { weights row_weight (range start end self.old.docs) ≤ most_stored }
-        ensures { self.new ≡ record self.old { docs = self.old.docs ++ aggregated merged_rows level (range start end self.old.docs); spare = self.old.spare - 1 } }
+        ensures { self.new ≡ record self.old {
+          docs = self.old.docs
+              ++ aggregated merged_rows level (range start end self.old.docs);
+          spare = self.old.spare
+              - 1;
+        } }
     {
         self.repeat(start);
         for at in level..self.dims {
@@ -277,19 +310,26 @@ impl StarTable {
 
     /// The order of two documents, where a dimension is starred in both.
     fn starred_cmp(&self, a: &u32, b: &u32, level: u8) -> Ordering
-        ensures { result ≡ dims_order (set_star level (doc_at self.now.docs a.now).0) (set_star level (doc_at self.now.docs b.now).0) }
+        ensures { result ≡ dims_order (set_star level (doc_at self.now.docs a.now).0) (set_star
+            level (doc_at self.now.docs b.now).0) }
     {
         let a = self.ids_of(*a as usize);
         let b = self.ids_of(*b as usize);
         compare_starred(a, b, level as usize)
     }
 
-    /// The numbers of a range, in the ascending order of their documents once a dimension is starred.
+    /// The numbers of a range, in the ascending order of their documents once a dimension is
+    /// starred.
     fn starred_order(&self, start: u32, end: u32, level: u8) -> Result<Vec<u32>, NoMemory>
         requires { start ≤ end }
-        ensures { IfOk result (λ order. IsPermutation (numbers start end) order.items × IsSortedBy (λ a b. is_lt (dims_order (set_star level (doc_at self.now.docs a).0) (set_star level (doc_at self.now.docs b).0))) order.items) }
+        ensures { IfOk result (λ order. IsPermutation (numbers start end) order.items
+            × IsSortedBy (λ a b. is_lt (dims_order (set_star level (doc_at self.now.docs a).0)
+            (set_star level (doc_at self.now.docs b).0))) order.items) }
     {
-        let mut order: Vec<u32> = Vec::with_capacity(*self.ids.allocator(), (end - start) as usize)?;
+        let mut order: Vec<u32> = Vec::with_capacity(
+            *self.ids.allocator(),
+            (end - start) as usize,
+        )?;
         for at in start..end {
             order.push(at)?;
         }
@@ -297,18 +337,23 @@ impl StarTable {
         Ok(order)
     }
 
-    /// Adds a document with a dimension starred: its states to the last document, where that is not one of the first `before`
-    /// and has the same ids; else at the end.
+    /// Adds a document with a dimension starred: its states to the last document, where that is not
+    /// one of the first `before` and has the same ids; else at the end.
     fn add_starred(&mut self, before: usize, from: u32, level: u8)
         requires from { from < before }
         requires before { before ≤ length self.old.docs }
         requires level { level < self.old.dims }
         requires spare { 1 ≤ self.old.spare }
-        requires light { weights row_weight (drop before self.old.docs) + row_weight (doc_at self.old.docs from).1 ≤ most_stored }
+        requires light { weights row_weight (drop before self.old.docs) + row_weight (doc_at
+            self.old.docs from).1 ≤ most_stored }
         requires ascending { IsTrue (is_sorted dims_order (drop before self.old.docs)) }
-        requires none_above { total merged_rows (λ x. is_gt (dims_order x (set_star level (doc_at self.old.docs from).0))) (drop before self.old.docs) ≡ None }
-        ensures docs { self.new.docs ≡ take before self.old.docs ++ add dims_order merged_rows (set_star level (doc_at self.old.docs from).0) (doc_at self.old.docs from).1 (drop before self.old.docs) }
-        ensures room { self.new.spare + length self.new.docs ≡ self.old.spare + length self.old.docs }
+        requires none_above { total merged_rows (λ x. is_gt (dims_order x (set_star level (doc_at
+            self.old.docs from).0))) (drop before self.old.docs) ≡ None }
+        ensures docs { self.new.docs ≡ take before self.old.docs
+            ++ add dims_order merged_rows (set_star level (doc_at self.old.docs from).0) (doc_at
+            self.old.docs from).1 (drop before self.old.docs) }
+        ensures room { self.new.spare + length self.new.docs
+            ≡ self.old.spare + length self.old.docs }
         ensures dims { self.new.dims ≡ self.old.dims }
         ensures kinds { self.new.kinds ≡ self.old.kinds }
     {
@@ -323,8 +368,8 @@ impl StarTable {
         self.star_last(level as usize);
     }
 
-    /// Adds the documents of a range with a dimension starred, merged and ascending, and answers how many they are. There is
-    /// room for as many as the range has.
+    /// Adds the documents of a range with a dimension starred, merged and ascending, and answers
+    /// how many they are. There is room for as many as the range has.
     pub fn append_starred(&mut self, start: u32, end: u32, level: u8) -> Result<u32, NoMemory>
         requires order { start < end }
         requires within { end ≤ length self.old.docs }
@@ -332,9 +377,14 @@ impl StarTable {
         requires spare { end - start ≤ self.old.spare }
         requires light { weights row_weight (range start end self.old.docs) ≤ most_stored }
         ensures ok { OnOk result (self.new ≡ record self.old {
-            docs = self.old.docs ++ merged_docs merged_rows (rekey (set_star level) (range start end self.old.docs));
-            spare = self.old.spare - length (merged_docs merged_rows (rekey (set_star level) (range start end self.old.docs))) }) }
-        ensures count { IfOk result (λ n. n ≡ length (merged_docs merged_rows (rekey (set_star level) (range start end self.old.docs)))) }
+          docs = self.old.docs ++ merged_docs merged_rows (rekey (set_star level) (range start
+              end self.old.docs));
+          spare = self.old.spare - length (merged_docs merged_rows (rekey (set_star level) (range
+              start end self.old.docs)));
+        }) }
+        ensures count { IfOk result (λ n. n
+            ≡ length (merged_docs merged_rows (rekey (set_star level) (range start end
+            self.old.docs)))) }
         ensures err { OnErr result (self.new ≡ self.old) }
     {
         let before = self.count;

@@ -1,7 +1,6 @@
-use Rattle.std.proofs.Common.{◌≡◌, ℕ, zero, suc, ◌<◌, ◌≤◌, List, [], ◌∷◌, length, drop, refl, sym, ap, ◌∙◌, arith, length-set, Less, Equal, Greater}
+use Rattle.std.proofs.Common.{sym, ◌∙◌, arith, length-set}
 use Rattle.std.specs.Ordering.{nat_cmp}
-use Rattle.std.specs.Cmp.Lexicographic.{slice_cmp}
-use Rattle.agg_laws.specs.Tree.{star, dims_order, set_star}
+use Rattle.agg_laws.specs.Tree.{star, set_star}
 use Rattle.agg_laws.proofs.CompareSteps.{longer, ended}
 use Rattle.agg_laws.proofs.star_table.compare_starred.Goals as goal
 

@@ -1,8 +1,7 @@
-use Rattle.std.proofs.Common.{◌≡◌, ◌≢◌, ℕ, ◌+◌, ◌-◌, ◌<◌, ◌≤◌, ◌++◌, ◌∷◌, [], Bool, true, false, List, length, take, drop, sym, ap, subst, ◌∙◌, arith, length-append, Equal}
+use Rattle.std.proofs.Common.{◌≡◌, ◌≢◌, ◌-◌, ◌<◌, ◌++◌, ◌∷◌, [], true, false, length, take, sym, ap, ◌∙◌, arith, length-append, Equal}
 use Rattle.std.specs.declared.cmp.Ordering.{Ordering}
 use Rattle.std.specs.declared.cmp.Ordering.TheVariants as orders
 use Rattle.std.specs.Ordering.{is_eq}
-use Rattle.agg_laws.specs.Numbers.{most_stored}
 use Rattle.agg_laws.specs.Rows.{merged_rows, row_weight}
 use Rattle.agg_laws.specs.Tree.{dims_order, set_star}
 use Rattle.agg_laws.specs.Docs.{Doc, doc_at}

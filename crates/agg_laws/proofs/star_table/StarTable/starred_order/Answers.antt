@@ -1,4 +1,4 @@
-use Rattle.std.proofs.Common.{◌≡◌, ℕ, zero, suc, ◌+◌, ◌-◌, ◌≤◌, List, [], ◌∷◌, ◌++◌, refl, sym, ap, subst, ◌∙◌, arith, rules}
+use Rattle.std.proofs.Common.{◌≡◌, ℕ, zero, suc, ◌+◌, ◌-◌, List, [], ◌∷◌, ◌++◌, sym, ap, subst, ◌∙◌, arith, rules}
 use Rattle.std.specs.Ordering.{is_lt}
 use Rattle.std.specs.List.Sorted.{IsPermutation}
 use Rattle.std.proofs.lemmas.Cmp.{nat_list_cmp_total}
@@ -25,8 +25,7 @@ loop-at-preserved c =
 pub returns : goal.returns
 returns c =
     let start = c.args.start in
-    let end : c.loop-at.at ≡ c.args.end = omega (arith, c.loop-at.auto.at, c.loop-at.auto.at-end, c.loop-at-test.false, c.requires) in
-    (
+    let end : c.loop-at.at ≡ c.args.end = omega (arith, c.loop-at.auto.at, c.loop-at.auto.at-end, c.loop-at-test.false, c.requires) in (
       subst (λ (l : List ℕ). IsPermutation l c.sort_by.new.self.items) (c.loop-at.invariant ∙ ap (numbers start) end) c.sort_by.ensures.permutation,
       c.in_ok-sort_by.ensures.sorted (λ a b. is_lt (dims_order (set_star c.args.level (doc_at c.args.self.now.docs a).0) (set_star c.args.level (doc_at c.args.self.now.docs b).0)))
           (ranks_by nat_list_cmp_total (λ (x : ℕ). set_star c.args.level (doc_at c.args.self.now.docs x).0)) (always_returns_same _ _ _ (λ a r f h. (search rules, search rules))),
