@@ -1,18 +1,16 @@
 -- The groups of what is read of a tree are those of the rows that hold.
-use Rattle.std.proofs.Common.{◌≡◌, ◌≢◌, ℕ, zero, suc, ◌+◌, ◌-◌, ◌<◌, ◌≤◌, Bool, true, false, cond, MatchBool, ◌&&◌, ◌||◌, ◌==◌, nat_lt, List, [], ◌∷◌, ◌++◌, map, length, take, Option, Some, None, inl, inr, ◌⊎◌, refl, sym, ap, subst, ◌∙◌, arith}
-use Rattle.std.specs.Prelude.{ℤ}
+use Rattle.std.proofs.Common.{◌≡◌, ◌≢◌, ℕ, zero, suc, ◌+◌, ◌-◌, ◌<◌, ◌≤◌, Bool, true, false, cond, MatchBool, ◌&&◌, ◌||◌, ◌==◌, nat_lt, List, [], ◌∷◌, length, take, Option, Some, None, inl, inr, refl, sym, ap, ◌∙◌, arith}
 use Rattle.std.specs.List.{filter}
-use Rattle.std.specs.FinMap.{find}
 use Rattle.std.specs.Ordering.{eq_by_cmp}
 use Rattle.std.proofs.lemmas.Bool.{eqb-true}
 use Rattle.std.proofs.lemmas.Bool.Decides.{nat_tests}
 use Rattle.std.proofs.lemmas.Cmp.{nat_list_cmp_total}
 use Rattle.agg_laws.specs.declared.tree_shape.TreeShape.{TreeShape}
 use Rattle.agg_laws.specs.Merged.{IsJoin, join_some, part, total, rekey}
-use Rattle.agg_laws.specs.Tree.{star, dims_order, dim, merged_docs, Nodes, tree_of, agrees, starred, rows_at, HaveNoStar, CoversRows}
+use Rattle.agg_laws.specs.Tree.{star, dims_order, dim, tree_of, agrees, starred, rows_at, HaveNoStar}
 use Rattle.agg_laws.specs.Docs.{HaveIds}
 use Rattle.agg_laws.specs.Documents.{one_document}
-use Rattle.agg_laws.specs.Picks.{Task, Pick, holds_from, picks, times, times_counted, IsTotal, HasDocs, HaveDocs, KeepGroups, IsPartedBy, ArePartedBy}
+use Rattle.agg_laws.specs.Picks.{Task, Pick, holds_from, picks, times, HasDocs, HaveDocs, KeepGroups, ArePartedBy}
 use Rattle.agg_laws.specs.Groups.{key_from, groups_of, rows_that_hold, passing}
 use Rattle.agg_laws.proofs.MergedLemmas.{join_none, join_assoc, join_swap, total-append, total-filter, total-rekey, total-Merged, total_agree, Merged_same}
 use Rattle.agg_laws.proofs.TreeLemmas.{same_dims, total_rows}

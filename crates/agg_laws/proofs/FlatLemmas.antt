@@ -1,5 +1,5 @@
 -- What a visit changes: documents and nodes are only added, and of the nodes only those visited change.
-use Rattle.std.proofs.Common.{◌≡◌, ◌≢◌, ℕ, zero, suc, ◌+◌, ◌-◌, ◌<◌, ◌≤◌, Bool, true, false, cond, ◌==◌, List, [], ◌∷◌, ◌++◌, map, length, take, drop, set, inl, inr, ◌⊎◌, refl, sym, ap, subst, ◌∙◌, arith, append_assoc, length-append, length-drop}
+use Rattle.std.proofs.Common.{◌≡◌, ◌≢◌, ℕ, zero, suc, ◌+◌, ◌-◌, ◌<◌, ◌≤◌, Bool, true, false, cond, ◌==◌, List, [], ◌∷◌, ◌++◌, map, length, take, drop, set, inl, inr, ◌⊎◌, refl, sym, ap, ◌∙◌, arith, append_assoc, length-append, length-drop}
 use Rattle.agg_laws.specs.declared.node.Node.{Node}
 use Rattle.agg_laws.specs.Tree.{star, Nodes, none, node, has_star}
 use Rattle.agg_laws.specs.Documents.{aggregated, star_docs, visit_of, visits_of, documents_of}

@@ -1,30 +1,23 @@
 -- Each node of the flat tree is a node of the nested one.
-use Rattle.std.proofs.Common.{◌≡◌, ◌≢◌, ℕ, zero, suc, ◌+◌, ◌-◌, ◌<◌, ◌≤◌, Bool, true, false, cond, ◌&&◌, ◌||◌, ◌==◌, not, nat_lt, nat_le, T, List, [], ◌∷◌, ◌++◌, map, length, take, drop, replicate, Option, Some, None, inl, inr, ◌⊎◌, refl, sym, ap, subst, ◌∙◌, arith, append_assoc, length-append, length-drop}
+use Rattle.std.proofs.Common.{◌≡◌, ℕ, zero, suc, ◌+◌, ◌-◌, ◌<◌, ◌≤◌, Bool, true, false, cond, ◌&&◌, ◌==◌, T, List, [], ◌∷◌, ◌++◌, map, length, take, drop, Option, Some, None, inl, inr, refl, sym, ap, subst, ◌∙◌, arith, append_assoc, length-append, length-drop}
 use Rattle.std.specs.declared.cmp.Ordering.{Ordering}
 use Rattle.std.specs.declared.cmp.Ordering.TheVariants.{Less, Equal, Greater}
 use Rattle.std.specs.Ordering.{nat_cmp, is_lt, ordering_then}
 use Rattle.std.specs.Cmp.Lexicographic.{slice_cmp}
 use Rattle.std.specs.FinMap.{is_sorted}
 use Rattle.std.specs.FinMap.Entries.{below_all, by_order}
-use Rattle.std.proofs.lemmas.Cmp.{nat_list_cmp_total}
 use Rattle.std.proofs.lemmas.Bool.{cases_order, eqb-true}
 use Rattle.std.proofs.lemmas.List.{get_or_at, get_or-set_same, length-map, length-take-le}
-use Rattle.std.proofs.Math.Seq.{take-append_seam, drop-append_seam, take-length}
+use Rattle.std.proofs.Math.Seq.{take-append_seam, drop-append_seam}
 use Rattle.agg_laws.specs.declared.node.Node.{Node}
-use Rattle.agg_laws.specs.declared.tree_shape.TreeShape.{TreeShape}
-use Rattle.agg_laws.specs.Merged.{IsJoin, join_some, total, add, rekey}
-use Rattle.agg_laws.specs.Tree.{star, dims_order, dim, set_star, merged_docs, Nodes, none, node, has_star, skips, ids_at, docs_with, kids_of, star_kid, under, root_of, tree_of, agrees, starred, rows_at, HaveNoStar}
-use Rattle.agg_laws.specs.Docs.{HaveIds}
-use Rattle.agg_laws.specs.Documents.{aggregated, star_docs, total_here, total_below, total_doc, one_document}
-use Rattle.agg_laws.specs.Picks.{IsTotal}
-use Rattle.agg_laws.specs.Flat.{range, blank, unvisited, node_at, count, kid_nodes, Flat, opened, filled, with_total, closed, visited, visited_one, flat, HasDocs, KidsHaveDocs, IsNode, FlatAt}
-use Rattle.agg_laws.proofs.MergedLemmas.{is_sorted-Merged}
-use Rattle.agg_laws.proofs.TreeLemmas as trees
-use Rattle.agg_laws.proofs.TreeLemmas.{same_dims, Avoids, Avoids-ids, own_docs, length_more, covers_rows, none_merged, all_rows}
-use Rattle.agg_laws.proofs.NodeLemmas.{DocAt, DocsAt, docs_at, below_kids, merged_total}
-use Rattle.agg_laws.proofs.Runs.{AtLeast, Rising, equal_is, greater_is, joined, joined_all, Filled, all_filled}
-use Rattle.agg_laws.proofs.PickLemmas.{has_star-kids, star_flag}
-use Rattle.agg_laws.proofs.FlatLemmas.{Outside, Grows, Grows-none, Grows-trans, append_none, range-append, unvisited_at, same_unvisited, more_docs, opened_grows, opened_length, closed_grows, closed_length, visit_step, visited_grows, visit_grows, length-kid_nodes}
+use Rattle.agg_laws.specs.Merged.{join_some, total, add, rekey}
+use Rattle.agg_laws.specs.Tree.{star, dims_order, dim, merged_docs, Nodes, none, node, has_star, docs_with, kids_of}
+use Rattle.agg_laws.specs.Documents.{aggregated, star_docs, total_here, total_below, total_doc}
+use Rattle.agg_laws.specs.Flat.{range, blank, unvisited, node_at, count, kid_nodes, Flat, filled, with_total, closed, HasDocs, KidsHaveDocs, IsNode}
+use Rattle.agg_laws.proofs.TreeLemmas.{Avoids, length_more}
+use Rattle.agg_laws.proofs.NodeLemmas.{DocsAt}
+use Rattle.agg_laws.proofs.Runs.{AtLeast, Rising, equal_is, greater_is, joined, Filled}
+use Rattle.agg_laws.proofs.FlatLemmas.{Outside, Grows, append_none, range-append, same_unvisited, more_docs, closed_grows}
 
 pub as_true : (b : Bool) → T b → b ≡ true
 as_true true h = refl
@@ -236,8 +229,7 @@ module _ {S : Type 0} (join : S → S → S) where
         let n : length (pre ++ (here ∷ [])) ≡ suc (length pre) = length-append pre (here ∷ []) ∙ (let k : length pre + 1 ≡ suc (length pre) = omega arith in k) in
         let after = joined join d docs vs ++ back in
         let ds' : g.1 ≡ front ++ (own ++ after) = ds ∙ ap (λ l. front ++ l) (append_assoc own (joined join d docs vs) back) in
-        let total : length g.1 ≡ length front + (length own + length after) = ap length ds' ∙ length-append front (own ++ after) ∙ ap (λ m. length front + m) (length-append own after) in
-        (
+        let total : length g.1 ≡ length front + (length own + length after) = ap length ds' ∙ length-append front (own ++ after) ∙ ap (λ m. length front + m) (length-append own after) in (
           record {
             within = omega (arith, ap length is', length-append pre (here ∷ next));
             level_is = ap (λ m. m.level) at;
@@ -247,7 +239,7 @@ module _ {S : Type 0} (join : S → S → S) where
             docs_are = ap (λ m. range m.start m.end g.1) at ∙ range_is from (from + length own) front own after g.1 f refl ds';
           },
           subst (λ m. KidsHaveDocs (suc d) m rest g) n (kids_opened vs av.1 fill.1 (pre ++ (here ∷ [])) (from + length own) (front ++ own) back
-          (is' ∙ sym (append_assoc pre (here ∷ []) next)) (length-append front own ∙ ap (λ m. m + length own) f) (ds' ∙ sym (append_assoc front own after)) end),
+              (is' ∙ sym (append_assoc pre (here ∷ []) next)) (length-append front own ∙ ap (λ m. m + length own) f) (ds' ∙ sym (append_assoc front own after)) end),
         )
 
   pub last_opened : (s : Bool) (d to : ℕ) (sd : List (List ℕ × S)) (kids : Nodes S) (g : Flat S) (front : List (List ℕ × S)) → 0 < length sd → (s ≡ true → g.1 ≡ front ++ sd) → length front ≡ to
@@ -257,8 +249,7 @@ module _ {S : Type 0} (join : S → S → S) where
       let here = blank (suc d) star to (to + length sd) in
       let at : node_at g.0 (length pre) ≡ here = ap (λ l. node_at l (length pre)) is ∙ get_or_at pre here [] (blank 0 0 0 0) (length pre) refl in
       let ds' : g.1 ≡ front ++ (sd ++ []) = ds refl ∙ ap (λ l. front ++ l) (sym (append_none sd)) in
-      let total : length g.1 ≡ length front + length sd = ap length (ds refl) ∙ length-append front sd in
-      (
+      let total : length g.1 ≡ length front + length sd = ap length (ds refl) ∙ length-append front sd in (
         record {
           within = omega (arith, ap length is, length-append pre (here ∷ []));
           level_is = ap (λ m. m.level) at;

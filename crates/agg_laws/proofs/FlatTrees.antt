@@ -1,13 +1,12 @@
 -- The flat tree of some rows is their nested tree.
-use Rattle.std.proofs.Common.{◌≡◌, ℕ, zero, suc, ◌+◌, ◌-◌, ◌<◌, ◌≤◌, Bool, true, false, cond, ◌&&◌, ◌==◌, not, nat_lt, nat_le, List, [], ◌∷◌, ◌++◌, map, length, take, drop, Option, Some, None, inl, inr, ◌⊎◌, refl, sym, ap, subst, ◌∙◌, arith, append_assoc, length-append}
+use Rattle.std.proofs.Common.{◌≡◌, ℕ, zero, suc, ◌+◌, ◌-◌, ◌<◌, ◌≤◌, Bool, true, false, cond, ◌&&◌, ◌==◌, not, nat_lt, nat_le, List, [], ◌∷◌, ◌++◌, map, length, take, drop, inl, inr, refl, sym, ap, subst, ◌∙◌, arith, append_assoc}
 use Rattle.std.proofs.lemmas.List.{take-append-drop, length-take-le, length-map, map-append}
 use Rattle.std.proofs.lemmas.Bool.Decides.{nat_tests}
 use Rattle.std.proofs.lemmas.Cmp.{nat_list_cmp_total}
-use Rattle.std.proofs.Math.Seq.{take-length, drop-append_seam, take-append_seam}
-use Rattle.agg_laws.specs.declared.node.Node.{Node}
+use Rattle.std.proofs.Math.Seq.{take-length}
 use Rattle.agg_laws.specs.declared.tree_shape.TreeShape.{TreeShape}
-use Rattle.agg_laws.specs.Merged.{IsJoin, total, rekey}
-use Rattle.agg_laws.specs.Tree.{star, dims_order, dim, set_star, merged_docs, Nodes, none, node, has_star, skips, ids_at, docs_with, kids_of, star_kid, under, root_of, tree_of, starred, rows_at, HaveNoStar, CoversRows}
+use Rattle.agg_laws.specs.Merged.{IsJoin, rekey}
+use Rattle.agg_laws.specs.Tree.{star, dims_order, dim, set_star, merged_docs, Nodes, none, node, skips, ids_at, docs_with, kids_of, star_kid, under, root_of, tree_of, starred, rows_at, HaveNoStar}
 use Rattle.agg_laws.specs.Docs.{HaveIds}
 use Rattle.agg_laws.specs.Documents.{aggregated, star_docs, total_doc, total_below, one_document}
 use Rattle.agg_laws.specs.Flat.{range, blank, unvisited, node_at, count, kid_nodes, Flat, opened, closed, visited, visited_one, flat, HasDocs, KidsHaveDocs, IsNode, FlatAt}
@@ -18,10 +17,9 @@ use Rattle.agg_laws.proofs.TreeLemmas.{same_dims, Avoids, Avoids-ids, own_docs, 
 use Rattle.agg_laws.proofs.NodeLemmas.{docs_at, below_kids, merged_total}
 use Rattle.agg_laws.proofs.Runs.{joined, joined_all, all_filled}
 use Rattle.agg_laws.proofs.PickLemmas.{has_star-kids, star_flag}
-use Rattle.agg_laws.proofs.FlatLemmas.{Outside, Grows, Grows-none, Grows-trans, append_none, range-append, same_unvisited, opened_grows, opened_length, closed_grows, closed_length, visited_grows, visit_grows, visit_step, length-kid_nodes, unvisited_kids}
+use Rattle.agg_laws.proofs.FlatLemmas.{Outside, Grows, Grows-trans, append_none, same_unvisited, opened_grows, opened_length, closed_grows, closed_length, visited_grows, visit_grows, length-kid_nodes, unvisited_kids}
 use Rattle.agg_laws.proofs.FlatNodes.{as_true, rising_docs, range_is, last_id, HasDocs-grows, KidsHaveDocs-grows, kids_range_grows, IsNode-grows, StarTotal, split_total, close_is, kids_opened, last_opened, star_docs_kids, count_kids, star_kid_docs, last_has, merged_some, length-rekey, some_total, range_length}
 use Rattle.std.specs.FinMap.{is_sorted}
-use Rattle.std.proofs.Common.{T}
 
 KidsHaveDocs-none : {S : Type 0} (s : Bool) (d at : ℕ) (docs : List (List ℕ × S)) (kids : Nodes S) (f : Flat S) → s ≡ true → KidsHaveDocs d at (cond s (node star docs kids none) none) f → HasDocs d at star docs f
 KidsHaveDocs-none true d at docs kids f e h = h.0
@@ -107,7 +105,6 @@ module _ {S : Type 0} (join : S → S → S) (j : IsJoin join) (shape : TreeShap
     itself : IsOfTree join shape k rows at (visited_one join d at docs kids f)
     added : (i : ℕ) → length f.0 ≤ i → i < length (visited_one join d at docs kids f).0 → IsOfTree join shape k rows i (visited_one join d at docs kids f)
 
-
   is_node_at : (d levels at id : ℕ) (path : List ℕ) (docs : List (List ℕ × S)) (f : Flat S) → d ≡ length path → d + levels ≡ k → dim (length path - 1) path ≡ id → HasDocs d at id docs f → IsOfTree join shape k rows at f
       → IsNode join d at id docs (under join shape levels d docs) f
   is_node_at d levels at id path docs f e sum last h o =
@@ -143,8 +140,7 @@ module _ {S : Type 0} (join : S → S → S) (j : IsJoin join) (shape : TreeShap
       let grows = visit_grows join d at own (below own) f lt in
       let room : suc at + count rest ≤ length c.0 = omega (arith, in', grows.longer) in
       let more = kids_visited d e docs below last each end vs av.1 (suc at) c room (KidsHaveDocs-grows (Outside at 1) d (suc at) rest f c grows has.1) in
-      let rest_grows = visited_grows join d (suc at) rest c room in
-      (
+      let rest_grows = visited_grows join d (suc at) rest c room in (
         λ i le l. by_number (λ n. IsOfTree join shape k rows n g) at i le (OfTree-grows (Outside (suc at) (count rest)) at c g rest_grows (inl (omega arith)) one.itself) (λ h. more.0 i h (omega (arith, l))),
         λ i le l. elim (nat_lt i (length c.0)) as (λ b. nat_lt i (length c.0) ≡ b → IsOfTree join shape k rows i g) [
           | true ↦ λ q. OfTree-grows (Outside (suc at) (count rest)) i c g rest_grows (inr (omega (arith, in', le))) (one.added i le (above (length c.0) i q))
@@ -253,20 +249,19 @@ module _ {S : Type 0} (join : S → S → S) (j : IsJoin join) (shape : TreeShap
             (last_visited s (suc d) sd (below sd) (λ a g l hd. visit star sd star_is a g l hd)) vs av n f1 (omega (arith, len1)) o in
             let visits = visited_grows join (suc d) n kids f1 (omega (arith, len1)) in
             let star_total : StarTotal join d n docs kids h = λ q.
-                let yes : s ≡ true = sym (has_star-kids below d docs end vs av ∙ star_flag s sd (below sd)) ∙ q in
-                let c = count_kids join below d docs end vs in
-                let one = last_count s sd (below sd) yes in
-                let i : n + length vs ≡ n + (count kids - 1) = omega (arith, c, one) in
-                let hd : HasDocs (suc d) (n + length vs) star sd h =
-                HasDocs-grows (Outside n (count kids)) (suc d) (n + length vs) star sd f1 h visits (KidsHaveDocs-none s (suc d) (n + length vs) sd (below sd) f1 yes (last_has join d (suc d) docs below end f1 vs n o)) in
-                let of_tree = done.0 (n + length vs) (omega arith) (omega (arith, c, one)) in
-                let w = is_node_at (suc d) m (n + length vs) star (path ++ (star ∷ [])) sd h (sym (next star)) (omega (arith, sum)) (last_id path star) hd of_tree in
-                let same : total_doc join (suc d) sd (below sd) ≡ total_doc join d docs kids =
-                sym (split_total join d docs kids q ∙ below_kids join j below d docs docs end vs av ∙ last_total s d docs sd (below sd) yes) in
-                (
-                  subst (λ x. (node_at h.0 x).total < length h.1) i w.total_in,
-                  subst (λ x. range (node_at h.0 x).total (suc (node_at h.0 x).total) h.1 ≡ total_doc join d docs kids) i (w.total_is ∙ same),
-                ) in
+            let yes : s ≡ true = sym (has_star-kids below d docs end vs av ∙ star_flag s sd (below sd)) ∙ q in
+            let c = count_kids join below d docs end vs in
+            let one = last_count s sd (below sd) yes in
+            let i : n + length vs ≡ n + (count kids - 1) = omega (arith, c, one) in
+            let hd : HasDocs (suc d) (n + length vs) star sd h =
+            HasDocs-grows (Outside n (count kids)) (suc d) (n + length vs) star sd f1 h visits (KidsHaveDocs-none s (suc d) (n + length vs) sd (below sd) f1 yes (last_has join d (suc d) docs below end f1 vs n o)) in
+            let of_tree = done.0 (n + length vs) (omega arith) (omega (arith, c, one)) in
+            let w = is_node_at (suc d) m (n + length vs) star (path ++ (star ∷ [])) sd h (sym (next star)) (omega (arith, sum)) (last_id path star) hd of_tree in
+            let same : total_doc join (suc d) sd (below sd) ≡ total_doc join d docs kids =
+            sym (split_total join d docs kids q ∙ below_kids join j below d docs docs end vs av ∙ last_total s d docs sd (below sd) yes) in (
+              subst (λ x. (node_at h.0 x).total < length h.1) i w.total_in,
+              subst (λ x. range (node_at h.0 x).total (suc (node_at h.0 x).total) h.1 ≡ total_doc join d docs kids) i (w.total_is ∙ same),
+            ) in
             node_closed (suc m) at path docs f kids sum is lt has' (ap (λ b. cond b none kids) (sym e)) o done star_total
       ] refl opened_docs
 
@@ -324,8 +319,7 @@ module _ {S : Type 0} (join : S → S → S) (j : IsJoin join) (shape : TreeShap
         let next : (v : ℕ) → suc d ≡ length (path ++ (v ∷ [])) = λ v. ap suc e ∙ sym (length_more path v) in
         let here = is_node_at d (suc m) at id path docs f e sum last has (all at has.within) in
         let first = (node_at f.0 at).first in
-        let star_is : At (path ++ (star ∷ [])) sd = ap (λ n. merged_docs join (rekey (set_star n) docs)) e ∙ trees.star_docs join j path rows docs is in
-        (
+        let star_is : At (path ++ (star ∷ [])) sd = ap (λ n. merged_docs join (rekey (set_star n) docs)) e ∙ trees.star_docs join j path rows docs is in (
           here,
           elim (nat_le (length docs) shape.leaf) as (λ b. KidsHaveDocs (suc d) first (cond b none kids) f → FlatAt join (suc d) first (cond b none kids) f) [
             | true ↦ λ _. tt

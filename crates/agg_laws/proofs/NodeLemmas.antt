@@ -1,15 +1,15 @@
 -- The documents of a node: their ids, and the one that stands for all of them.
-use Rattle.std.proofs.Common.{◌≡◌, ◌≢◌, ℕ, zero, suc, ◌+◌, ◌-◌, ◌<◌, ◌≤◌, Bool, true, false, cond, ◌&&◌, ◌||◌, ◌==◌, not, nat_lt, nat_le, List, [], ◌∷◌, ◌++◌, map, length, replicate, take, Option, Some, None, refl, sym, ap, subst, ◌∙◌, arith}
+use Rattle.std.proofs.Common.{◌≡◌, ◌≢◌, ℕ, zero, suc, ◌+◌, ◌-◌, ◌<◌, ◌≤◌, Bool, true, false, cond, ◌&&◌, ◌||◌, ◌==◌, not, nat_lt, nat_le, List, [], ◌∷◌, ◌++◌, length, replicate, take, refl, sym, ap, subst, ◌∙◌, arith}
 use Rattle.std.specs.declared.cmp.Ordering.TheVariants.{Less, Equal, Greater}
 use Rattle.std.specs.FinMap.Entries.{by_order}
 use Rattle.std.proofs.lemmas.Bool.{eqb-true}
 use Rattle.agg_laws.specs.declared.tree_shape.TreeShape.{TreeShape}
 use Rattle.agg_laws.specs.Merged.{IsJoin, total, add, rekey}
-use Rattle.agg_laws.specs.Tree.{star, dims_order, dim, set_star, merged_docs, Nodes, none, node, skips, ids_at, docs_with, kids_of, star_kid, under, agrees, starred, rows_at, HaveNoStar, CoversRows}
+use Rattle.agg_laws.specs.Tree.{star, dims_order, dim, set_star, merged_docs, Nodes, none, node, skips, ids_at, docs_with, kids_of, star_kid, under, agrees, starred, rows_at, HaveNoStar}
 use Rattle.agg_laws.specs.Docs.{HaveIds}
 use Rattle.agg_laws.specs.Documents.{aggregated, total_here, total_below, total_doc, one_document}
 use Rattle.agg_laws.specs.Picks.{IsTotal}
-use Rattle.agg_laws.proofs.TreeLemmas.{Avoids, Avoids-ids, own_docs, star_docs, length_more, agrees_star, dim-starred, covers_rows}
+use Rattle.agg_laws.proofs.TreeLemmas.{Avoids, Avoids-ids, star_docs, length_more, agrees_star, covers_rows}
 use Rattle.agg_laws.proofs.AggregatedLemmas.{aggregated_is}
 
 -- what is known of the ids of each document at a path: there are k, which begin as the path, and none further on is a star
@@ -62,6 +62,7 @@ take-prefix (p ∷ ps) v (x ∷ xs) h = λ i. first x p (take (length (ps ++ (v 
   where
     first : (a b : ℕ) (xs ys : List ℕ) → a ∷ xs ≡ b ∷ ys → a ≡ b
     first a b xs ys e = cc
+
     rest : (a b : ℕ) (xs ys : List ℕ) → a ∷ xs ≡ b ∷ ys → xs ≡ ys
     rest a b xs ys e = cc
 
@@ -89,13 +90,13 @@ module _ {S : Type 0} (join : S → S → S) (j : IsJoin join) where
       let more = rows_docs_at k path es short ids.1 no_star.1 in
       elim (agrees path e.0) as (λ b. agrees path e.0 ≡ b → DocsAt k path (rekey (starred path) (cond b (e ∷ rows_at path es) (rows_at path es)))) [
         | true ↦ λ on. (
-            (
-              length-starred path e.0 (omega (arith, ids.0)) ∙ ids.0,
-              take-starred path e.0 (omega (arith, ids.0)) on,
-              λ i le lt is. no_star.0 i lt (sym (dim-after path e.0 i le) ∙ is),
-            ),
-            more,
-          )
+          (
+            length-starred path e.0 (omega (arith, ids.0)) ∙ ids.0,
+            take-starred path e.0 (omega (arith, ids.0)) on,
+            λ i le lt is. no_star.0 i lt (sym (dim-after path e.0 i le) ∙ is),
+          ),
+          more,
+        )
         | false ↦ λ _. more
       ] refl
 

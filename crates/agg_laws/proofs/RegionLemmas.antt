@@ -1,6 +1,6 @@
 -- Documents one after the other.
-use Rattle.std.proofs.Common.{◌≡◌, ℕ, zero, suc, ◌+◌, ◌*◌, ◌-◌, ◌<◌, ◌≤◌, List, [], ◌∷◌, ◌++◌, map, length, take, drop, get_or, refl, sym, ap, subst, ◌∙◌, arith, append_assoc, length-append, length-drop, length-take}
-use Rattle.std.proofs.lemmas.List.{get_or-take, get_or-drop, drop-drop, take-append-le, drop-append-le, length-take-le, length-map}
+use Rattle.std.proofs.Common.{◌≡◌, ℕ, zero, suc, ◌+◌, ◌*◌, ◌-◌, ◌<◌, ◌≤◌, List, [], ◌∷◌, ◌++◌, length, take, drop, get_or, refl, sym, ap, subst, ◌∙◌, arith, length-append, length-drop, length-take}
+use Rattle.std.proofs.lemmas.List.{get_or-take, get_or-drop, drop-drop, take-append-le, drop-append-le, length-map}
 use Rattle.std.proofs.Math.Seq.{take-length}
 use Rattle.std.proofs.Math.Nat.{mul-le-mul_right}
 use Rattle.std.specs.Prelude.{slice_get, Some}

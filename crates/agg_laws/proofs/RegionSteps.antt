@@ -1,6 +1,6 @@
 -- Changes of the last document of a region.
-use Rattle.std.proofs.Common.{◌≡◌, ℕ, zero, suc, ◌+◌, ◌*◌, ◌-◌, ◌<◌, ◌≤◌, Bool, true, false, cond, nat_le, if◌then◌else◌, List, [], ◌∷◌, ◌++◌, length, take, drop, set, refl, sym, ap, subst, ◌∙◌, arith, append_assoc, length-append, length-drop, length-take, length-set}
-use Rattle.std.proofs.lemmas.List.{take-append-drop, length-take-le, length-map}
+use Rattle.std.proofs.Common.{◌≡◌, ℕ, zero, suc, ◌+◌, ◌*◌, ◌-◌, ◌<◌, ◌≤◌, Bool, true, false, nat_le, if◌then◌else◌, List, [], ◌∷◌, ◌++◌, length, take, drop, set, refl, sym, ap, subst, ◌∙◌, arith, length-append, length-drop, length-set}
+use Rattle.std.proofs.lemmas.List.{take-append-drop, length-take-le}
 use Rattle.std.proofs.Math.Seq.{take-length}
 use Rattle.std.proofs.Math.Nat.{mul-le-mul_right}
 use Rattle.agg_laws.specs.declared.aggregate_kind.AggKind.{AggKind}
@@ -46,6 +46,7 @@ front_same (a ∷ xs) (b ∷ ys) x y h = λ i. head a b (xs ++ (x ∷ [])) (ys +
   where
     head : (a b : Doc) (xs ys : List Doc) → a ∷ xs ≡ b ∷ ys → a ≡ b
     head a b xs ys h = cc
+
     tail : (a b : Doc) (xs ys : List Doc) → a ∷ xs ≡ b ∷ ys → xs ≡ ys
     tail a b xs ys h = cc
 

@@ -1,28 +1,24 @@
 -- The nodes of the flat tree keep the rules.
-use Rattle.std.proofs.Common.{◌≡◌, ◌≢◌, ℕ, zero, suc, ◌+◌, ◌-◌, ◌<◌, ◌≤◌, Bool, true, false, cond, ◌&&◌, ◌==◌, not, nat_lt, nat_le, List, [], ◌∷◌, ◌++◌, map, length, take, drop, inl, inr, ◌⊎◌, refl, sym, ap, subst, ◌∙◌, arith, append_assoc, length-append, MatchBool}
+use Rattle.std.proofs.Common.{◌≡◌, ℕ, zero, suc, ◌+◌, ◌-◌, ◌<◌, ◌≤◌, Bool, true, false, cond, ◌&&◌, ◌==◌, not, nat_lt, nat_le, List, [], ◌∷◌, map, length, take, drop, inl, inr, ◌⊎◌, refl, sym, ap, subst, ◌∙◌, arith, length-append, MatchBool}
 use Rattle.std.specs.Ordering.{nat_cmp, is_lt}
 use Rattle.std.specs.declared.cmp.Ordering.{Ordering}
 use Rattle.std.specs.declared.cmp.Ordering.TheVariants.{Less, Equal, Greater}
-use Rattle.std.specs.FinMap.{is_sorted}
 use Rattle.std.specs.FinMap.Entries.{by_order}
 use Rattle.std.proofs.lemmas.Bool.{eq-eqb}
-use Rattle.std.proofs.lemmas.List.{length-map}
 use Rattle.std.proofs.lemmas.Bool.Decides.{nat_tests}
 use Rattle.std.proofs.lemmas.Cmp.{nat_list_cmp_total, tied_itself}
 use Rattle.std.proofs.Math.Seq.{take-length}
 use Rattle.agg_laws.specs.declared.node.Node.{Node}
 use Rattle.agg_laws.specs.declared.tree_shape.TreeShape.{TreeShape}
 use Rattle.agg_laws.specs.Merged.{IsJoin, rekey, add, Merged}
-use Rattle.agg_laws.specs.Tree.{star, dims_order, dim, set_star, merged_docs, Nodes, none, node, skips, ids_at, docs_with, kids_of, star_kid, under, root_of, tree_of, agrees, starred, rows_at, HaveNoStar}
+use Rattle.agg_laws.specs.Tree.{star, dims_order, dim, set_star, merged_docs, Nodes, none, node, skips, ids_at, docs_with, kids_of, star_kid, under, tree_of, agrees, starred, rows_at, HaveNoStar}
 use Rattle.agg_laws.specs.Docs.{HaveIds}
 use Rattle.agg_laws.specs.Flat.{range, blank, unvisited, node_at, count, kid_nodes, Flat, flat, IsNode}
-use Rattle.agg_laws.specs.FlatNodes.{IsOfTree}
 use Rattle.agg_laws.specs.NodeRules.{count_at, AreCounted, HaveLevel, AreAbove, Ascend, AreKnown, StarIsLast, Cover, KeepKidsRules, KeepsRules}
 use Rattle.agg_laws.proofs.TreeLemmas.{Avoids, Avoids-ids}
 use Rattle.agg_laws.proofs.NodeLemmas.{docs_at, dim-after}
 use Rattle.agg_laws.proofs.ReadLemmas.{Above, Ascending, ids_ascend}
 use Rattle.agg_laws.proofs.Runs.{joined, joined_all}
-use Rattle.agg_laws.proofs.FlatLemmas.{unvisited_at}
 use Rattle.agg_laws.proofs.FlatNodes.{rising_docs, merged_fewer, length-rekey, count_kids, range_length}
 use Rattle.agg_laws.proofs.FlatTrees.{sorted_at, nodes_of_tree}
 

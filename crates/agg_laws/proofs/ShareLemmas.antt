@@ -1,5 +1,5 @@
 -- The children of a split node share its rows.
-use Rattle.std.proofs.Common.{◌≡◌, ℕ, zero, suc, ◌+◌, ◌<◌, ◌≤◌, Bool, true, false, cond, ◌&&◌, ◌==◌, not, nat_lt, nat_le, List, [], ◌∷◌, ◌++◌, length, refl, sym, ap, subst, ◌∙◌, arith, append_assoc}
+use Rattle.std.proofs.Common.{◌≡◌, ℕ, zero, suc, ◌+◌, ◌<◌, Bool, true, false, cond, ◌&&◌, ◌==◌, not, nat_lt, nat_le, List, [], ◌∷◌, ◌++◌, length, refl, sym, ap, subst, ◌∙◌, arith, append_assoc}
 use Rattle.agg_laws.specs.declared.tree_shape.TreeShape.{TreeShape}
 use Rattle.agg_laws.specs.Merged.{IsJoin, rekey}
 use Rattle.agg_laws.specs.Tree.{star, dim, set_star, merged_docs, Nodes, none, node, skips, ids_at, docs_with, kids_of, star_kid, under, root_of, tree_of, agrees, starred, rows_at, HaveNoStar}
@@ -65,7 +65,7 @@ module _ {S : Type 0} where
         let same = append_assoc before (e ∷ []) es in
         let av : Avoids vs = subst (λ n. Avoids (ids_at join n docs)) (sym at) (Avoids-ids join j path all docs is k (omega (arith, at, lt)) no_star) in (
           kids_with d path e.0 docs below last at vs av
-          ∙ by_agrees (agrees path e.0) (occurs (dim d e.0) vs) (ordinary_with path e.0 last) (λ on. id_once join j no_task k shape before es e no_star d path docs at is on) (no_more s path e.0 sd (below sd)),
+              ∙ by_agrees (agrees path e.0) (occurs (dim d e.0) vs) (ordinary_with path e.0 last) (λ on. id_once join j no_task k shape before es e no_star d path docs at is on) (no_more s path e.0 sd (below sd)),
           rows_shared more d path docs (before ++ (e ∷ [])) es at lt (subst (HaveNoStar k) (sym same) no_star) (is ∙ ap (λ r. merged_docs join (rekey (starred path) (rows_at path r))) (sym same)),
         )
 

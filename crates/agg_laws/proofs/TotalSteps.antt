@@ -1,13 +1,13 @@
 -- The aggregated document, made step by step.
-use Rattle.std.proofs.Common.{◌≡◌, ℕ, zero, suc, ◌+◌, ◌-◌, ◌<◌, ◌≤◌, true, false, cond, List, [], ◌∷◌, ◌++◌, length, take, drop, replicate, get_or, Option, Some, None, refl, sym, ap, subst, ◌∙◌, arith, length-append, length-drop}
-use Rattle.std.proofs.lemmas.List.{get_or_append_left, get_or-drop, get_or-take}
+use Rattle.std.proofs.Common.{◌≡◌, ℕ, zero, suc, ◌+◌, ◌-◌, ◌<◌, ◌≤◌, true, List, [], ◌∷◌, ◌++◌, length, take, drop, replicate, Some, refl, sym, ap, subst, ◌∙◌, arith, length-drop}
+use Rattle.std.proofs.lemmas.List.{get_or_append_left, get_or-drop}
 use Rattle.std.proofs.Math.Seq.{take-suc}
 use Rattle.agg_laws.specs.declared.aggregate_kind.AggKind.{AggKind}
 use Rattle.agg_laws.specs.declared.states.AggState.{AggState}
 use Rattle.agg_laws.specs.Rows.{merged_rows, row_weight}
 use Rattle.agg_laws.specs.laws.Rows as rows
-use Rattle.agg_laws.specs.Merged.{IsJoin, join_some, part, total, rekey, weights}
-use Rattle.agg_laws.specs.Tree.{star, set_star, merged_docs}
+use Rattle.agg_laws.specs.Merged.{join_some, total, weights}
+use Rattle.agg_laws.specs.Tree.{star, set_star}
 use Rattle.agg_laws.specs.Docs.{Doc, doc_at, HaveShape}
 use Rattle.agg_laws.specs.Documents.{star_from, aggregated, one_document, BeginWith, AreAlike}
 use Rattle.agg_laws.specs.Flat.{range}

@@ -2,7 +2,7 @@
 use Rattle.std.specs.Prelude.{◌≡◌, ℕ, suc, ◌+◌, ◌-◌, ◌*◌, ◌<◌, ◌≤◌, if◌then◌else◌, ◌==◌, List, [], ◌∷◌, ◌++◌, map, length, take, drop, slice_index_or, slice_set}
 use Rattle.agg_laws.specs.declared.node.Node.{Node}
 use Rattle.agg_laws.specs.Tree.{star, Nodes, none, node, has_star}
-use Rattle.agg_laws.specs.Documents.{aggregated, star_docs, documents_of, total_doc}
+use Rattle.agg_laws.specs.Documents.{aggregated, star_docs, total_doc}
 
 -- the items from one number up to another
 abbrev pub range : {X : Type 0} → ℕ → ℕ → List X → List X

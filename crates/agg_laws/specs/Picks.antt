@@ -1,5 +1,5 @@
 -- What a walk reads of a nested tree.
-use Rattle.std.specs.Prelude.{◌≡◌, ◌≢◌, ℕ, zero, suc, ◌+◌, ◌-◌, ◌<◌, ◌≤◌, MatchBool, Bool, true, false, if◌then◌else◌, ◌==◌, not, ◌&&◌, List, [], ◌∷◌, ◌++◌, length, take, ◌⊎◌}
+use Rattle.std.specs.Prelude.{◌≡◌, ◌≢◌, ℕ, zero, suc, ◌+◌, ◌-◌, ◌<◌, ◌≤◌, MatchBool, Bool, true, if◌then◌else◌, ◌==◌, not, ◌&&◌, List, [], ◌∷◌, ◌++◌, length, take, ◌⊎◌}
 use Rattle.agg_laws.specs.Merged.{total}
 use Rattle.agg_laws.specs.Tree.{star, dim, Nodes, none, node, has_star, agrees, rows_at, CoversRows}
 use Rattle.agg_laws.specs.Documents.{total_doc, one_document}

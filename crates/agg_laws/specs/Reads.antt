@@ -1,5 +1,5 @@
 -- The product that bounds how many documents a query reads of a tree.
-use Rattle.std.specs.Prelude.{ℕ, zero, suc, ◌*◌, Bool, if◌then◌else◌, ◌||◌, List, length}
+use Rattle.std.specs.Prelude.{ℕ, zero, suc, ◌*◌, if◌then◌else◌, ◌||◌, List, length}
 use Rattle.std.specs.List.{filter}
 use Rattle.agg_laws.specs.declared.tree_shape.TreeShape.{TreeShape}
 use Rattle.agg_laws.specs.Tree.{skips, ids_at}

@@ -1,5 +1,5 @@
 -- Documents one after the other, with their ids apart from their states.
-use Rattle.std.specs.Prelude.{◌≡◌, ℕ, zero, suc, ◌+◌, ◌*◌, ◌^◌, ◌<◌, ◌≤◌, List, [], ◌∷◌, length, take, drop}
+use Rattle.std.specs.Prelude.{◌≡◌, ℕ, zero, suc, ◌+◌, ◌-◌, ◌*◌, ◌^◌, ◌<◌, ◌≤◌, List, [], ◌∷◌, length, take, drop}
 use Rattle.agg_laws.specs.declared.aggregate_kind.AggKind.{AggKind}
 use Rattle.agg_laws.specs.declared.states.AggState.{AggState}
 use Rattle.agg_laws.specs.Docs.{Doc, HaveShape, AreStored}
@@ -19,3 +19,11 @@ pub record IsRegion (n k : ℕ) (kinds : List AggKind) (ids : List ℕ) (states 
   pub stored : AreStored (docs_in n k (length kinds) ids states)
   pub ids_fit : length ids + spare * k ≤ ids_room
   pub states_fit : length states + spare * length kinds ≤ states_room
+
+-- the numbers from one up to another
+abbrev pub numbers_from : ℕ → ℕ → List ℕ
+numbers_from from zero = []
+numbers_from from (suc n) = from ∷ numbers_from (suc from) n
+
+abbrev pub numbers : ℕ → ℕ → List ℕ
+numbers from to = numbers_from from (to - from)

@@ -72,36 +72,36 @@ abbrev pub leaf_of_seven : Flat (List AggState)
 leaf_of_seven = (
   at 0 star 0 7 7 0 0 ∷ [],
   doc 0 0 0 400 1 ∷ doc 0 1 2 200 1 ∷ doc 1 2 0 100 1 ∷ doc 1 2 1 300 1 ∷ doc 2 0 0 600 1 ∷
-  doc 2 1 0 400 1 ∷ doc 2 1 1 200 1 ∷ doc star star star 2200 7 ∷ [],
+      doc 2 1 0 400 1 ∷ doc 2 1 1 200 1 ∷ doc star star star 2200 7 ∷ [],
 )
 
 -- leaves of six: the root is split, and each of its children is a leaf
 abbrev pub leaves_of_six : Flat (List AggState)
 leaves_of_six = (
   at 0 star 0 7 16 1 4 ∷ at 1 0 0 2 13 0 0 ∷ at 1 1 2 4 14 0 0 ∷ at 1 2 4 7 15 0 0 ∷
-  at 1 star 7 13 16 0 0 ∷ [],
+      at 1 star 7 13 16 0 0 ∷ [],
   doc 0 0 0 400 1 ∷ doc 0 1 2 200 1 ∷ doc 1 2 0 100 1 ∷ doc 1 2 1 300 1 ∷ doc 2 0 0 600 1 ∷
-  doc 2 1 0 400 1 ∷ doc 2 1 1 200 1 ∷ doc star 0 0 1000 2 ∷ doc star 1 0 400 1 ∷
-  doc star 1 1 200 1 ∷ doc star 1 2 200 1 ∷ doc star 2 0 100 1 ∷ doc star 2 1 300 1 ∷
-  doc 0 star star 600 2 ∷ doc 1 star star 400 2 ∷ doc 2 star star 1200 3 ∷
-  doc star star star 2200 7 ∷ [],
+      doc 2 1 0 400 1 ∷ doc 2 1 1 200 1 ∷ doc star 0 0 1000 2 ∷ doc star 1 0 400 1 ∷
+      doc star 1 1 200 1 ∷ doc star 1 2 200 1 ∷ doc star 2 0 100 1 ∷ doc star 2 1 300 1 ∷
+      doc 0 star star 600 2 ∷ doc 1 star star 400 2 ∷ doc 2 star star 1200 3 ∷
+      doc star star star 2200 7 ∷ [],
 )
 
 -- leaves of two
 abbrev pub leaves_of_two : Flat (List AggState)
 leaves_of_two = (
   at 0 star 0 7 24 1 4 ∷ at 1 0 0 2 13 0 0 ∷ at 1 1 2 4 14 0 0 ∷ at 1 2 4 7 18 5 3 ∷
-  at 1 star 7 13 24 8 4 ∷ at 2 0 4 5 4 0 0 ∷ at 2 1 5 7 17 0 0 ∷ at 2 star 15 17 18 0 0 ∷
-  at 2 0 7 8 7 0 0 ∷ at 2 1 8 11 22 12 4 ∷ at 2 2 11 13 23 0 0 ∷ at 2 star 19 22 24 16 4 ∷
-  at 3 0 8 9 8 0 0 ∷ at 3 1 9 10 9 0 0 ∷ at 3 2 10 11 10 0 0 ∷ at 3 star 22 23 22 0 0 ∷
-  at 3 0 19 20 19 0 0 ∷ at 3 1 20 21 20 0 0 ∷ at 3 2 21 22 21 0 0 ∷ at 3 star 24 25 24 0 0 ∷ [],
+      at 1 star 7 13 24 8 4 ∷ at 2 0 4 5 4 0 0 ∷ at 2 1 5 7 17 0 0 ∷ at 2 star 15 17 18 0 0 ∷
+      at 2 0 7 8 7 0 0 ∷ at 2 1 8 11 22 12 4 ∷ at 2 2 11 13 23 0 0 ∷ at 2 star 19 22 24 16 4 ∷
+      at 3 0 8 9 8 0 0 ∷ at 3 1 9 10 9 0 0 ∷ at 3 2 10 11 10 0 0 ∷ at 3 star 22 23 22 0 0 ∷
+      at 3 0 19 20 19 0 0 ∷ at 3 1 20 21 20 0 0 ∷ at 3 2 21 22 21 0 0 ∷ at 3 star 24 25 24 0 0 ∷ [],
   doc 0 0 0 400 1 ∷ doc 0 1 2 200 1 ∷ doc 1 2 0 100 1 ∷ doc 1 2 1 300 1 ∷ doc 2 0 0 600 1 ∷
-  doc 2 1 0 400 1 ∷ doc 2 1 1 200 1 ∷ doc star 0 0 1000 2 ∷ doc star 1 0 400 1 ∷
-  doc star 1 1 200 1 ∷ doc star 1 2 200 1 ∷ doc star 2 0 100 1 ∷ doc star 2 1 300 1 ∷
-  doc 0 star star 600 2 ∷ doc 1 star star 400 2 ∷ doc 2 star 0 1000 2 ∷ doc 2 star 1 200 1 ∷
-  doc 2 1 star 600 2 ∷ doc 2 star star 1200 3 ∷ doc star star 0 1500 4 ∷ doc star star 1 500 2 ∷
-  doc star star 2 200 1 ∷ doc star 1 star 800 3 ∷ doc star 2 star 400 2 ∷
-  doc star star star 2200 7 ∷ [],
+      doc 2 1 0 400 1 ∷ doc 2 1 1 200 1 ∷ doc star 0 0 1000 2 ∷ doc star 1 0 400 1 ∷
+      doc star 1 1 200 1 ∷ doc star 1 2 200 1 ∷ doc star 2 0 100 1 ∷ doc star 2 1 300 1 ∷
+      doc 0 star star 600 2 ∷ doc 1 star star 400 2 ∷ doc 2 star 0 1000 2 ∷ doc 2 star 1 200 1 ∷
+      doc 2 1 star 600 2 ∷ doc 2 star star 1200 3 ∷ doc star star 0 1500 4 ∷ doc star star 1 500 2 ∷
+      doc star star 2 200 1 ∷ doc star 1 star 800 3 ∷ doc star 2 star 400 2 ∷
+      doc star star star 2200 7 ∷ [],
 )
 
 -- the same, and no star child is made for countries
@@ -111,11 +111,11 @@ skips_countries = record { dims = 3; skipped = 1; leaf = 2; kinds = kinds.Sum �
 abbrev pub country_skipped : Flat (List AggState)
 country_skipped = (
   at 0 star 0 7 13 1 3 ∷ at 1 0 0 2 7 0 0 ∷ at 1 1 2 4 8 0 0 ∷ at 1 2 4 7 12 4 3 ∷
-  at 2 0 4 5 4 0 0 ∷ at 2 1 5 7 11 0 0 ∷ at 2 star 9 11 12 0 0 ∷ [],
+      at 2 0 4 5 4 0 0 ∷ at 2 1 5 7 11 0 0 ∷ at 2 star 9 11 12 0 0 ∷ [],
   doc 0 0 0 400 1 ∷ doc 0 1 2 200 1 ∷ doc 1 2 0 100 1 ∷ doc 1 2 1 300 1 ∷ doc 2 0 0 600 1 ∷
-  doc 2 1 0 400 1 ∷ doc 2 1 1 200 1 ∷ doc 0 star star 600 2 ∷ doc 1 star star 400 2 ∷
-  doc 2 star 0 1000 2 ∷ doc 2 star 1 200 1 ∷ doc 2 1 star 600 2 ∷ doc 2 star star 1200 3 ∷
-  doc star star star 2200 7 ∷ [],
+      doc 2 1 0 400 1 ∷ doc 2 1 1 200 1 ∷ doc 0 star star 600 2 ∷ doc 1 star star 400 2 ∷
+      doc 2 star 0 1000 2 ∷ doc 2 star 1 200 1 ∷ doc 2 1 star 600 2 ∷ doc 2 star star 1200 3 ∷
+      doc star star star 2200 7 ∷ [],
 )
 
 -- rows of one country
@@ -126,8 +126,8 @@ views_of_the_usa = view 2 0 0 600 ∷ view 2 1 1 200 ∷ view 2 1 0 400 ∷ []
 abbrev pub one_country : Flat (List AggState)
 one_country = (
   at 0 star 0 3 7 1 1 ∷ at 1 2 0 3 6 2 3 ∷ at 2 0 0 1 0 0 0 ∷ at 2 1 1 3 5 5 3 ∷
-  at 2 star 3 5 6 8 3 ∷ at 3 0 1 2 1 0 0 ∷ at 3 1 2 3 2 0 0 ∷ at 3 star 5 6 5 0 0 ∷
-  at 3 0 3 4 3 0 0 ∷ at 3 1 4 5 4 0 0 ∷ at 3 star 6 7 6 0 0 ∷ [],
+      at 2 star 3 5 6 8 3 ∷ at 3 0 1 2 1 0 0 ∷ at 3 1 2 3 2 0 0 ∷ at 3 star 5 6 5 0 0 ∷
+      at 3 0 3 4 3 0 0 ∷ at 3 1 4 5 4 0 0 ∷ at 3 star 6 7 6 0 0 ∷ [],
   doc 2 0 0 600 1 ∷ doc 2 1 0 400 1 ∷ doc 2 1 1 200 1 ∷ doc 2 star 0 1000 2 ∷
-  doc 2 star 1 200 1 ∷ doc 2 1 star 600 2 ∷ doc 2 star star 1200 3 ∷ doc star star star 1200 3 ∷ [],
+      doc 2 star 1 200 1 ∷ doc 2 1 star 600 2 ∷ doc 2 star star 1200 3 ∷ doc star star star 1200 3 ∷ [],
 )

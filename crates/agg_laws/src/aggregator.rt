@@ -1,6 +1,7 @@
 //! What each aggregate promises.
 
-ghost use Rattle.std.specs.Prelude.{◌≡◌, ◌≢◌, ℕ, ◌+◌, ◌≤◌, ◌^◌, ℤ, List, [], ◌∷◌, ◌++◌, length, IfOk, Ok, IsPermutation};
+ghost use Rattle.std.specs.Prelude.{◌≡◌, ◌≢◌, ℕ, ◌+◌, ◌≤◌, ◌^◌, ℤ, List, [], ◌∷◌, ◌++◌, length};
+ghost use Rattle.std.specs.Prelude.{IfOk, Ok, IsPermutation};
 ghost use Rattle.agg_laws.specs.Numbers.{most_stored, most_values, AreWhole};
 
 /// A segment has at most so many rows, so a stored state stands for at most so many values.
@@ -32,7 +33,8 @@ pub trait Aggregator {
     /// The state can come from at most so many signed 64-bit numbers.
     ghost fits: { Self.State → ℕ → Type 0 };
 
-    /// The state can be stored: it stands for one value at least, and for no more than a segment has.
+    /// The state can be stored: it stands for one value at least, and for no more than a segment
+    /// has.
     ghost stored: { Self.State → Type 0 };
 
     /// The bytes of a stored state.
@@ -81,7 +83,8 @@ pub trait Aggregator {
     /// How many values a state can come from adds up.
     ghost fits_of: { (xs : List ℤ) → AreWhole xs → fits (of xs) (length xs) };
 
-    ghost fits_both: { (v w : Self.State) (n m : ℕ) → fits v n → fits w m → fits (merged v w) (n + m) };
+    ghost fits_both: { (v w : Self.State) (n m : ℕ) → fits v n → fits w m
+        → fits (merged v w) (n + m) };
 
     ghost fits_more: { (v : Self.State) (n m : ℕ) → fits v n → n ≤ m → fits v m };
 
@@ -90,5 +93,6 @@ pub trait Aggregator {
     /// Each stored state has one spelling, and each spelling belongs to one such state.
     ghost spelled: { (v : Self.State) → stored v → length (spelling v) ≡ WIDTH };
 
-    ghost one_spelling: { (v w : Self.State) → stored v → stored w → spelling v ≡ spelling w → v ≡ w };
+    ghost one_spelling: { (v w : Self.State) → stored v → stored w → spelling v ≡ spelling w
+        → v ≡ w };
 }

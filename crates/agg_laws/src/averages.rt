@@ -26,7 +26,8 @@ fn is_stored(state: AverageState) -> bool
 
 impl Aggregator for Average {
     ghost use Rattle.std.specs.Prelude.{pos, refl};
-    ghost use Rattle.agg_laws.specs.Numbers.{average_of, both_averages, AverageFits, AverageStored, average_bytes};
+    ghost use Rattle.agg_laws.specs.Numbers.{average_of, both_averages, AverageFits, AverageStored};
+    ghost use Rattle.agg_laws.specs.Numbers.{average_bytes};
     ghost use Rattle.agg_laws.specs.laws.Averages as laws;
 
     type State = AverageState;

@@ -11,7 +11,8 @@ pub struct Greatest;
 
 impl Aggregator for Least {
     ghost use Rattle.std.specs.Prelude.{None, refl};
-    ghost use Rattle.agg_laws.specs.Numbers.{least_of, lesser, NumberFits, NumberStored, number_bytes};
+    ghost use Rattle.agg_laws.specs.Numbers.{least_of, lesser, NumberFits, NumberStored};
+    ghost use Rattle.agg_laws.specs.Numbers.{number_bytes};
     ghost use Rattle.agg_laws.specs.laws.Leasts as laws;
     ghost use Rattle.agg_laws.specs.laws.NumberBytes as bytes;
 
@@ -89,7 +90,8 @@ impl Aggregator for Least {
 
 impl Aggregator for Greatest {
     ghost use Rattle.std.specs.Prelude.{None, refl};
-    ghost use Rattle.agg_laws.specs.Numbers.{greatest_of, greater, NumberFits, NumberStored, number_bytes};
+    ghost use Rattle.agg_laws.specs.Numbers.{greatest_of, greater, NumberFits, NumberStored};
+    ghost use Rattle.agg_laws.specs.Numbers.{number_bytes};
     ghost use Rattle.agg_laws.specs.laws.Greatests as laws;
     ghost use Rattle.agg_laws.specs.laws.NumberBytes as bytes;
 

@@ -1,6 +1,7 @@
 //! Lists of dictionary ids.
 
-ghost use Rattle.std.specs.Prelude.{◌≡◌, ◌<◌, ◌==◌, [], ◌∷◌, ◌++◌, length, slice_get, Some, OnOk, OnErr, IfOk};
+ghost use Rattle.std.specs.Prelude.{◌≡◌, ◌<◌, ◌==◌, [], ◌∷◌, ◌++◌, length, slice_get, Some, OnOk};
+ghost use Rattle.std.specs.Prelude.{OnErr, IfOk};
 
 use crate::NoMemory;
 use std::alloc::Global;

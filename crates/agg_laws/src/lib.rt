@@ -36,8 +36,8 @@ pub use state_row::StateRow;
 pub use states::AggState;
 pub use sums::Sum;
 pub use tree_laws::{
-    aggregated_law, answer_law, children_law, covers_law, flat_law, merged_law, node_rules_law, picks_law,
-    projected_law, reads_law, shares_law, worked_law,
+    aggregated_law, answer_law, children_law, covers_law, flat_law, merged_law, node_rules_law,
+    picks_law, projected_law, reads_law, shares_law, worked_law,
 };
 pub use tree_shape::TreeShape;
 

@@ -1,26 +1,33 @@
 //! Tables of documents.
 
-ghost use Rattle.std.specs.Prelude.{◌≡◌, ◌+◌, ◌-◌, ◌<◌, ◌≤◌, ◌==◌, max, [], ◌∷◌, ◌++◌, length, take, drop, List, slice_get, Some, OnOk, OnErr, IfOk, vec_len, vec_capacity};
+ghost use Rattle.std.specs.Prelude.{◌≡◌, ◌+◌, ◌-◌, ◌<◌, ◌≤◌, ◌==◌, max, [], ◌∷◌, ◌++◌, length};
+ghost use Rattle.std.specs.Prelude.{take, drop, List, slice_get, Some, None, IsTrue, OnOk, OnErr};
+ghost use Rattle.std.specs.Prelude.{IfOk, vec_len, vec_capacity};
+ghost use Rattle.std.specs.List.Sorted.{IsSortedBy, IsPermutation};
+ghost use Rattle.std.specs.Ordering.{is_lt, is_gt};
+ghost use Rattle.std.specs.FinMap.{is_sorted};
 ghost use Rattle.agg_laws.specs.Numbers.{most_stored, most_values};
 ghost use Rattle.agg_laws.specs.Rows.{kinds_of, merged_rows, row_weight, RowFits, RowStored};
-ghost use Rattle.agg_laws.specs.Merged.{weights};
-ghost use Rattle.agg_laws.specs.Tree.{dim, set_star};
+ghost use Rattle.agg_laws.specs.Merged.{add, rekey, total, weights};
+ghost use Rattle.agg_laws.specs.Tree.{dim, dims_order, merged_docs, set_star};
 ghost use Rattle.agg_laws.specs.Docs.{Doc, doc_of, doc_at, HaveShape, AreStored};
 ghost use Rattle.agg_laws.specs.Documents.{aggregated, AreAlike};
 ghost use Rattle.agg_laws.specs.Flat.{range};
+ghost use Rattle.agg_laws.specs.Region.{numbers};
 
 use crate::NoMemory;
-use crate::kind_list::Kinds;
 use crate::id_list::STAR;
+use crate::kind_list::Kinds;
 use crate::star_row::StarRow;
 use crate::state_row::merge_states;
 use crate::states::AggState;
 use crate::tree_shape::TreeShape;
 use std::alloc::{AllocError, Global};
+use std::cmp::Ordering;
 use std::marker::Model;
 
-/// Documents of one shape: each has one id for each split dimension, and one state of each kind. They are one after the other,
-/// their ids apart from their states.
+/// Documents of one shape: each has one id for each split dimension, and one state of each kind.
+/// They are one after the other, their ids apart from their states.
 #[derive(Drop)]
 pub struct StarTable {
     dims: u8,
@@ -38,9 +45,16 @@ impl Model for StarTable {
 
     ghost Value = { Docs };
 
-    ghost view = { λ t. record { dims = t.dims; kinds = t.kinds; docs = docs_in t.count t.dims (length t.kinds) t.ids.items t.states.items; spare = t.spare } };
+    ghost view = { λ t. record {
+      dims = t.dims;
+      kinds = t.kinds;
+      docs = docs_in t.count t.dims
+          (length t.kinds) t.ids.items t.states.items;
+      spare = t.spare;
+    } };
 
-    ghost invariant = { λ t. IsRegion t.count t.dims t.kinds t.ids.items t.states.items t.spare (vec_capacity t.ids) (vec_capacity t.states) };
+    ghost invariant = { λ t. IsRegion t.count t.dims t.kinds t.ids.items t.states.items t.spare
+        (vec_capacity t.ids) (vec_capacity t.states) };
 }
 
 /// Adds items, for which there is room.
@@ -74,20 +88,65 @@ fn put_again<T: Copy>(out: &mut Vec<T>, from: usize, count: usize)
 /// Merges the states in a place into the last ones, which are as many.
 fn merge_into_last(states: &mut [AggState], from: usize, count: usize)
     requires there { from + count + count ≤ length states.old }
-    requires kinds { kinds_of (drop (length states.old - count) states.old) ≡ kinds_of (take count (drop from states.old)) }
-    requires fits { RowFits (merged_rows (drop (length states.old - count) states.old) (take count (drop from states.old))) most_values }
-    ensures { states.new ≡ take (length states.old - count) states.old ++ merged_rows (drop (length states.old - count) states.old) (take count (drop from states.old)) }
+    requires kinds { kinds_of (drop (length states.old - count) states.old)
+        ≡ kinds_of (take count (drop from states.old)) }
+    requires fits { RowFits (merged_rows (drop (length states.old - count) states.old) (take count
+        (drop from states.old))) most_values }
+    ensures { states.new ≡ take (length states.old - count) states.old
+        ++ merged_rows (drop (length states.old - count) states.old) (take count (drop from
+        states.old)) }
 {
     let end = states.len() - count;
     let (front, last) = states.split_at_mut(end);
     merge_states(last, &front[from..from + count]);
 }
 
+/// The id of a dimension, where one dimension is starred.
+fn starred_id(ids: &[u32], at: usize, level: usize) -> u32
+    requires { at < length ids.now }
+    ensures { result ≡ dim at (set_star level ids.now) }
+{
+    if at == level { STAR } else { ids[at] }
+}
+
+/// The order of two combinations, where one dimension is starred in both.
+fn compare_starred(x: &[u32], y: &[u32], level: usize) -> Ordering
+    ensures { result ≡ dims_order (set_star level x.now) (set_star level y.now) }
+{
+    for at in 0..x.len() {
+        if at >= y.len() {
+            return Ordering::Greater;
+        }
+        let order = starred_id(x, at, level).cmp(&starred_id(y, at, level));
+        if order.is_ne() {
+            return order;
+        }
+    }
+    x.len().cmp(&y.len())
+}
+
+/// How a combination compares to another one in which a dimension is starred.
+fn compare_to(x: &[u32], y: &[u32], level: usize) -> Ordering
+    ensures { result ≡ dims_order x.now (set_star level y.now) }
+{
+    for at in 0..x.len() {
+        if at >= y.len() {
+            return Ordering::Greater;
+        }
+        let order = x[at].cmp(&starred_id(y, at, level));
+        if order.is_ne() {
+            return order;
+        }
+    }
+    x.len().cmp(&y.len())
+}
+
 impl StarTable {
     /// No documents, of the shape.
     pub fn new(alloc: Global, shape: &TreeShape) -> Result<StarTable, NoMemory>
         requires { length shape.now.kinds ≤ 16 }
-        ensures { IfOk result (λ table. table ≡ record { dims = shape.now.dims; kinds = shape.now.kinds; docs = []; spare = 0 }) }
+        ensures { IfOk result (λ table. table
+            ≡ record { dims = shape.now.dims; kinds = shape.now.kinds; docs = []; spare = 0 }) }
     {
         Ok(StarTable {
             dims: shape.dims,
@@ -157,7 +216,11 @@ impl StarTable {
         requires dims { length row.now.dims ≡ self.old.dims }
         requires kinds { kinds_of row.now.states ≡ self.old.kinds }
         requires stored { RowStored row.now.states }
-        ensures { self.new ≡ record self.old { docs = self.old.docs ++ doc_of row.now ∷ []; spare = self.old.spare - 1 } }
+        ensures { self.new ≡ record self.old {
+          docs = self.old.docs
+              ++ doc_of row.now ∷ [];
+          spare = self.old.spare - 1;
+        } }
     {
         put_all(&mut self.ids, row.dims.as_slice());
         put_all(&mut self.states, row.states.as_slice());
@@ -169,7 +232,11 @@ impl StarTable {
     fn repeat(&mut self, from: u32)
         requires from { from < length self.old.docs }
         requires spare { 1 ≤ self.old.spare }
-        ensures { self.new ≡ record self.old { docs = self.old.docs ++ doc_at self.old.docs from ∷ []; spare = self.old.spare - 1 } }
+        ensures { self.new ≡ record self.old {
+          docs = self.old.docs
+              ++ doc_at self.old.docs from ∷ [];
+          spare = self.old.spare - 1;
+        } }
     {
         let dims = self.dims as usize;
         let width = self.kinds.len();
@@ -183,7 +250,8 @@ impl StarTable {
     fn star_last(&mut self, level: usize)
         requires level { level < self.old.dims }
         requires some { 0 < length self.old.docs }
-        ensures { (front : List Doc) (e : Doc) → self.old.docs ≡ front ++ e ∷ [] → self.new ≡ record self.old { docs = front ++ (set_star level e.0, e.1) ∷ [] } }
+        ensures { (front : List Doc) (e : Doc) → self.old.docs ≡ front ++ e ∷ []
+            → self.new ≡ record self.old { docs = front ++ (set_star level e.0, e.1) ∷ [] } }
     {
         let place = (self.count - 1) * self.dims as usize + level;
         self.ids[place] = STAR;
@@ -192,15 +260,20 @@ impl StarTable {
     /// Merges the states of a document into those of the last one.
     fn merge_last(&mut self, from: u32)
         requires from { from + 1 < length self.old.docs }
-        requires light { (front : List Doc) (e : Doc) → self.old.docs ≡ front ++ e ∷ [] → row_weight e.1 + row_weight (doc_at self.old.docs from).1 ≤ most_stored }
-        ensures { (front : List Doc) (e : Doc) → self.old.docs ≡ front ++ e ∷ [] → self.new ≡ record self.old { docs = front ++ (e.0, merged_rows e.1 (doc_at self.old.docs from).1) ∷ [] } }
+        requires light { (front : List Doc) (e : Doc) → self.old.docs ≡ front ++ e ∷ []
+            → row_weight e.1 + row_weight (doc_at self.old.docs from).1 ≤ most_stored }
+        ensures { (front : List Doc) (e : Doc) → self.old.docs ≡ front ++ e ∷ []
+            → self.new ≡ record self.old {
+              docs = front
+                  ++ (e.0, merged_rows e.1 (doc_at self.old.docs from).1) ∷ [];
+            } }
     {
         let width = self.kinds.len();
         merge_into_last(self.states.as_mut_slice(), from as usize * width, width);
     }
 
-    /// Adds the aggregated document of a range, whose documents have the same ids below the level. There is room for it, and it
-    /// takes no memory.
+    /// Adds the aggregated document of a range, whose documents have the same ids below the level.
+    /// There is room for it, and it takes no memory.
     pub fn append_total(&mut self, start: u32, end: u32, level: u8)
         requires order { start < end }
         requires within { end ≤ length self.old.docs }
@@ -208,7 +281,12 @@ impl StarTable {
         requires alike { AreAlike level (range start end self.old.docs) }
         requires spare { 1 ≤ self.old.spare }
         requires light { weights row_weight (range start end self.old.docs) ≤ most_stored }
-        ensures { self.new ≡ record self.old { docs = self.old.docs ++ aggregated merged_rows level (range start end self.old.docs); spare = self.old.spare - 1 } }
+        ensures { self.new ≡ record self.old {
+          docs = self.old.docs
+              ++ aggregated merged_rows level (range start end self.old.docs);
+          spare = self.old.spare
+              - 1;
+        } }
     {
         self.repeat(start);
         for at in level..self.dims {
@@ -217,5 +295,103 @@ impl StarTable {
         for from in start + 1..end {
             self.merge_last(from);
         }
+    }
+
+    /// The ids of a document, or none where there is no such document.
+    fn ids_of(&self, at: usize) -> &[u32]
+        ensures { result.now ≡ (doc_at self.now.docs at).0 }
+    {
+        if at >= self.count {
+            return &[];
+        }
+        let dims = self.dims as usize;
+        &self.ids[at * dims..at * dims + dims]
+    }
+
+    /// The order of two documents, where a dimension is starred in both.
+    fn starred_cmp(&self, a: &u32, b: &u32, level: u8) -> Ordering
+        ensures { result ≡ dims_order (set_star level (doc_at self.now.docs a.now).0) (set_star
+            level (doc_at self.now.docs b.now).0) }
+    {
+        let a = self.ids_of(*a as usize);
+        let b = self.ids_of(*b as usize);
+        compare_starred(a, b, level as usize)
+    }
+
+    /// The numbers of a range, in the ascending order of their documents once a dimension is
+    /// starred.
+    fn starred_order(&self, start: u32, end: u32, level: u8) -> Result<Vec<u32>, NoMemory>
+        requires { start ≤ end }
+        ensures { IfOk result (λ order. IsPermutation (numbers start end) order.items
+            × IsSortedBy (λ a b. is_lt (dims_order (set_star level (doc_at self.now.docs a).0)
+            (set_star level (doc_at self.now.docs b).0))) order.items) }
+    {
+        let mut order: Vec<u32> = Vec::with_capacity(
+            *self.ids.allocator(),
+            (end - start) as usize,
+        )?;
+        for at in start..end {
+            order.push(at)?;
+        }
+        order.sort_by(|a, b| self.starred_cmp(a, b, level))?;
+        Ok(order)
+    }
+
+    /// Adds a document with a dimension starred: its states to the last document, where that is not
+    /// one of the first `before` and has the same ids; else at the end.
+    fn add_starred(&mut self, before: usize, from: u32, level: u8)
+        requires from { from < before }
+        requires before { before ≤ length self.old.docs }
+        requires level { level < self.old.dims }
+        requires spare { 1 ≤ self.old.spare }
+        requires light { weights row_weight (drop before self.old.docs) + row_weight (doc_at
+            self.old.docs from).1 ≤ most_stored }
+        requires ascending { IsTrue (is_sorted dims_order (drop before self.old.docs)) }
+        requires none_above { total merged_rows (λ x. is_gt (dims_order x (set_star level (doc_at
+            self.old.docs from).0))) (drop before self.old.docs) ≡ None }
+        ensures docs { self.new.docs ≡ take before self.old.docs
+            ++ add dims_order merged_rows (set_star level (doc_at self.old.docs from).0) (doc_at
+            self.old.docs from).1 (drop before self.old.docs) }
+        ensures room { self.new.spare + length self.new.docs
+            ≡ self.old.spare + length self.old.docs }
+        ensures dims { self.new.dims ≡ self.old.dims }
+        ensures kinds { self.new.kinds ≡ self.old.kinds }
+    {
+        if self.count > before {
+            let last = self.ids_of(self.count - 1);
+            if compare_to(last, self.ids_of(from as usize), level as usize).is_eq() {
+                self.merge_last(from);
+                return;
+            }
+        }
+        self.repeat(from);
+        self.star_last(level as usize);
+    }
+
+    /// Adds the documents of a range with a dimension starred, merged and ascending, and answers
+    /// how many they are. There is room for as many as the range has.
+    pub fn append_starred(&mut self, start: u32, end: u32, level: u8) -> Result<u32, NoMemory>
+        requires order { start < end }
+        requires within { end ≤ length self.old.docs }
+        requires level { level < self.old.dims }
+        requires spare { end - start ≤ self.old.spare }
+        requires light { weights row_weight (range start end self.old.docs) ≤ most_stored }
+        ensures ok { OnOk result (self.new ≡ record self.old {
+          docs = self.old.docs ++ merged_docs merged_rows (rekey (set_star level) (range start
+              end self.old.docs));
+          spare = self.old.spare - length (merged_docs merged_rows (rekey (set_star level) (range
+              start end self.old.docs)));
+        }) }
+        ensures count { IfOk result (λ n. n
+            ≡ length (merged_docs merged_rows (rekey (set_star level) (range start end
+            self.old.docs)))) }
+        ensures err { OnErr result (self.new ≡ self.old) }
+    {
+        let before = self.count;
+        let order = self.starred_order(start, end, level)?;
+        for i in 0..order.len() {
+            self.add_starred(before, order[i], level);
+        }
+        Ok((self.count - before) as u32)
     }
 }

@@ -1,6 +1,7 @@
 //! Rows of states.
 
-ghost use Rattle.std.specs.Prelude.{◌≡◌, ◌<◌, ◌==◌, [], ◌∷◌, ◌++◌, length, map, slice_get, Some, OnOk, OnErr, IfOk};
+ghost use Rattle.std.specs.Prelude.{◌≡◌, ◌<◌, ◌==◌, [], ◌∷◌, ◌++◌, length, map, slice_get, Some};
+ghost use Rattle.std.specs.Prelude.{OnOk, OnErr, IfOk};
 ghost use Rattle.agg_laws.specs.Numbers.{most_values};
 ghost use Rattle.agg_laws.specs.States.{unit_of};
 ghost use Rattle.agg_laws.specs.Rows.{row_of, units_of, kinds_of, merged_rows, RowFits};
@@ -40,7 +41,8 @@ pub(crate) fn merge_states(into: &mut [AggState], from: &[AggState])
 /// Adds a value to the state in its place.
 fn add_values(states: &mut [AggState], values: &[i64])
     requires length { length values.now ≡ length states.old }
-    requires fits { RowFits (merged_rows states.old (row_of (kinds_of states.old) (values.now ∷ []))) most_values }
+    requires fits { RowFits (merged_rows states.old (row_of (kinds_of states.old) (values.now ∷
+        []))) most_values }
     ensures { states.new ≡ merged_rows states.old (row_of (kinds_of states.old) (values.now ∷ [])) }
 {
     for i in 0..states.len() {
@@ -113,7 +115,8 @@ impl StateRow {
     /// One more value in each place. It takes no memory.
     pub fn add(&mut self, values: &[i64])
         requires length { length values.now ≡ length self.old }
-        requires fits { RowFits (merged_rows self.old (row_of (kinds_of self.old) (values.now ∷ []))) most_values }
+        requires fits { RowFits (merged_rows self.old (row_of (kinds_of self.old) (values.now ∷
+            []))) most_values }
         ensures { self.new ≡ merged_rows self.old (row_of (kinds_of self.old) (values.now ∷ [])) }
     {
         add_values(self.states.as_mut_slice(), values);

@@ -28,7 +28,8 @@ pub enum AggState {
 
 impl AggState {
     ghost use Rattle.agg_laws.specs.declared.states.AggState.{AggState};
-    ghost use Rattle.agg_laws.specs.States.{kind_of, state_of, unit_of, merged, Fits, IsStored, spelling};
+    ghost use Rattle.agg_laws.specs.States.{kind_of, state_of, unit_of, merged, Fits, IsStored};
+    ghost use Rattle.agg_laws.specs.States.{spelling};
 
     pub fn kind(&self) -> AggKind
         ensures { result ≡ kind_of self.now }
@@ -103,8 +104,10 @@ impl AggState {
     /// Reads a stored state of a kind.
     pub fn take(kind: AggKind, bytes: &[u8]) -> Result<AggState, BadState>
         requires { length bytes.now ≡ width_of kind }
-        ensures found { IfOk result (λ v. (kind_of v ≡ kind) × IsStored v × (spelling v ≡ bytes.now)) }
-        ensures again { (v : AggState) → kind_of v ≡ kind → IsStored v → spelling v ≡ bytes.now → result ≡ Ok v }
+        ensures found { IfOk result (λ v. (kind_of v ≡ kind) × IsStored v × (spelling v
+            ≡ bytes.now)) }
+        ensures again { (v : AggState) → kind_of v ≡ kind → IsStored v → spelling v ≡ bytes.now
+            → result ≡ Ok v }
     {
         match kind {
             AggKind::Count => Ok(AggState::Count(Count::take(bytes)?)),

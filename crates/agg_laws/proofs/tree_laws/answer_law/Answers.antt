@@ -1,4 +1,4 @@
-use Rattle.std.proofs.Common.{◌≡◌, ℕ, ◌&&◌, List, [], ◌∷◌, map, Option, Some, None, refl, sym, ap, ◌∙◌}
+use Rattle.std.proofs.Common.{◌≡◌, ℕ, ◌&&◌, List, [], ◌∷◌, map, Option, None, refl, ◌∙◌}
 use Rattle.std.specs.Prelude.{ℤ, ◌↔◌}
 use Rattle.std.specs.FinMap.{find}
 use Rattle.std.specs.Ordering.{eq_by_cmp}
@@ -8,9 +8,9 @@ use Rattle.agg_laws.specs.declared.tree_shape.TreeShape.{TreeShape}
 use Rattle.agg_laws.specs.Rows.{merged_rows}
 use Rattle.agg_laws.specs.Merged.{rekey}
 use Rattle.agg_laws.specs.Tree.{dims_order, tree_of, HaveNoStar}
-use Rattle.agg_laws.specs.Docs.{Doc, HaveIds, projected, states_of}
+use Rattle.agg_laws.specs.Docs.{HaveIds, projected, states_of}
 use Rattle.agg_laws.specs.Picks.{Task, picks, holds_from}
-use Rattle.agg_laws.specs.Groups.{key_from, groups_of, passing, rows_that_hold, rows_with_key}
+use Rattle.agg_laws.specs.Groups.{key_from, groups_of, passing, rows_with_key}
 use Rattle.agg_laws.proofs.MergedLemmas.{total-rekey}
 use Rattle.agg_laws.proofs.DocLemmas.{rows_join, own_entries, total-projected}
 use Rattle.agg_laws.proofs.AnswerLemmas.{answer_total, same_groups}

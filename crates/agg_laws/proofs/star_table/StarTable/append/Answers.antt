@@ -1,7 +1,6 @@
-use Rattle.std.proofs.Common.{◌≡◌, ℕ, suc, ◌+◌, ◌-◌, ◌<◌, ◌≤◌, ◌++◌, ◌∷◌, [], length, sym, ap, ◌∙◌, arith, rules, refl}
-use Rattle.agg_laws.specs.Rows.{kinds_of}
+use Rattle.std.proofs.Common.{◌≡◌, suc, ◌+◌, ◌-◌, ◌≤◌, ◌++◌, ◌∷◌, [], length, sym, ap, ◌∙◌, arith}
 use Rattle.agg_laws.specs.Docs.{doc_of}
-use Rattle.agg_laws.specs.Region.{docs_in, IsRegion}
+use Rattle.agg_laws.specs.Region.{docs_in}
 use Rattle.agg_laws.proofs.Places.{length-kinds_of}
 use Rattle.agg_laws.proofs.RegionLemmas.{docs_in_more, more_region}
 use Rattle.agg_laws.proofs.star_table.StarTable.append.Goals as goal

@@ -1,7 +1,6 @@
-use Rattle.std.proofs.Common.{◌≡◌, ℕ, suc, ◌+◌, ◌-◌, ◌<◌, ◌≤◌, ◌++◌, ◌∷◌, [], List, length, sym, ap, subst, ◌∙◌, arith}
+use Rattle.std.proofs.Common.{◌≡◌, suc, ◌+◌, ◌-◌, ◌<◌, ◌++◌, ◌∷◌, [], length, sym, ap, subst, ◌∙◌, arith}
 use Rattle.agg_laws.specs.Numbers.{most_stored}
 use Rattle.agg_laws.specs.Rows.{merged_rows, row_weight}
-use Rattle.agg_laws.specs.Merged.{weights}
 use Rattle.agg_laws.specs.Docs.{Docs, Doc, doc_at, HaveShape}
 use Rattle.agg_laws.specs.Documents.{aggregated, AreAlike}
 use Rattle.agg_laws.specs.Flat.{range}

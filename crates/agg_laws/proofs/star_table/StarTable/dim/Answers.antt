@@ -1,4 +1,4 @@
-use Rattle.std.proofs.Common.{◌≡◌, ℕ, ◌+◌, ◌*◌, ◌<◌, length, get_or, take, drop, sym, ap, ◌∙◌, arith, rules}
+use Rattle.std.proofs.Common.{◌≡◌, ◌+◌, ◌*◌, ◌<◌, length, get_or, sym, ap, ◌∙◌, arith}
 use Rattle.agg_laws.specs.Tree.{star, dim}
 use Rattle.agg_laws.specs.Docs.{doc_at}
 use Rattle.agg_laws.proofs.RegionLemmas.{length-docs_in, doc_in, place_in, item_in, any_default}

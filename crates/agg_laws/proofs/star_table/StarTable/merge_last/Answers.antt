@@ -1,13 +1,10 @@
-use Rattle.std.proofs.Common.{◌≡◌, ℕ, suc, ◌+◌, ◌*◌, ◌-◌, ◌<◌, ◌≤◌, ◌++◌, ◌∷◌, [], List, length, take, drop, set, sym, ap, subst, ◌∙◌, arith, rules, refl, length-set}
-use Rattle.std.proofs.Math.Nat.{mul-le-mul_right}
+use Rattle.std.proofs.Common.{◌≡◌, ◌+◌, ◌*◌, ◌-◌, ◌<◌, ◌≤◌, ◌++◌, ◌∷◌, [], List, length, take, drop, sym, ap, subst, ◌∙◌, arith}
 use Rattle.agg_laws.specs.declared.states.AggState.{AggState}
 use Rattle.agg_laws.specs.Numbers.{most_stored, most_values}
-use Rattle.agg_laws.specs.Rows.{kinds_of, merged_rows, row_weight, RowFits, RowStored}
-use Rattle.agg_laws.specs.laws.Rows as rows
-use Rattle.agg_laws.specs.Tree.{star, set_star}
+use Rattle.agg_laws.specs.Rows.{kinds_of, merged_rows, row_weight, RowFits}
 use Rattle.agg_laws.specs.Docs.{Doc, doc_at}
-use Rattle.agg_laws.specs.Region.{docs_in, IsRegion}
-use Rattle.agg_laws.proofs.RegionLemmas.{length-docs_in, doc_in, docs_in_more, more_region}
+use Rattle.agg_laws.specs.Region.{docs_in}
+use Rattle.agg_laws.proofs.RegionLemmas.{length-docs_in}
 use Rattle.agg_laws.proofs.RegionSteps as steps
 use Rattle.agg_laws.proofs.star_table.StarTable.merge_last.Goals as goal
 

@@ -1,4 +1,4 @@
-use Rattle.std.proofs.Common.{◌≡◌, ℕ, ◌+◌, ◌*◌, ◌<◌, length, get_or, take, drop, sym, ap, ◌∙◌, arith, rules, slice_get, Some}
+use Rattle.std.proofs.Common.{◌≡◌, ◌+◌, ◌*◌, ◌<◌, length, get_or, sym, ap, ◌∙◌, arith, slice_get}
 use Rattle.agg_laws.specs.Docs.{doc_at}
 use Rattle.agg_laws.proofs.RegionLemmas.{length-docs_in, doc_in, place_in, got_at}
 use Rattle.agg_laws.proofs.star_table.StarTable.state.Goals as goal
