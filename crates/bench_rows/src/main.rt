@@ -1,8 +1,8 @@
-//! Reads a schema and a CSV file over it into columns, and prints how many rows they are: what the benchmark of
-//! reading runs.
+//! Reads a schema and a CSV file over it into columns, or a CSV file of whole numbers block by block,
+//! and prints how many rows they are: what the benchmark of reading runs.
 #![tactic(auto)]
 
-use csv_ingest::read_columns;
+use csv_ingest::{plain_blocks, read_columns};
 use outside::{FolderShelf, read_all};
 use std::process::ExitCode;
 use std::{env, io};
@@ -31,12 +31,38 @@ fn count_rows(rt: &HostRuntime, schema: &str, rows: &str) -> io::Result<Option<u
     }
 }
 
+// How many rows a CSV file of whole numbers has, read block by block, unless it is refused.
+fn count_blocks(rt: &HostRuntime, rows: &str) -> io::Result<Option<usize>> {
+    let alloc = rt.alloc();
+    let mut files = FolderShelf::new(rt.clone()?, String::from_str(alloc, ".")?);
+    let Ok(text) = read_all(alloc, &mut files, rows, CSV_LIMIT) else {
+        return Ok(None);
+    };
+    let Ok(mut blocks) = plain_blocks(alloc, text.as_slice()) else {
+        return Ok(None);
+    };
+    let mut count: usize = 0;
+    'rows: while let Ok(next) = blocks.next(alloc) {
+        let Some(block) = next else {
+            return Ok(Some(count));
+        };
+        count = count.saturating_add(block.len());
+    }
+    Ok(None)
+}
+
+// The rows of a CSV file over a schema, or in blocks of whole numbers where no schema is named.
+fn counted(rt: &HostRuntime, words: &[String]) -> io::Result<Option<usize>> {
+    match words {
+        [schema, rows] => count_rows(rt, schema.as_str(), rows.as_str()),
+        [rows] => count_blocks(rt, rows.as_str()),
+        _ => Ok(None),
+    }
+}
+
 fn main(rt: HostRuntime) -> io::Result<ExitCode> {
     let words: Vec<String> = env::args(&rt)?.skip(1).collect(rt.alloc())?;
-    let [schema, rows] = words.as_slice() else {
-        return Ok(ExitCode::from(2));
-    };
-    match count_rows(&rt, schema.as_str(), rows.as_str())? {
+    match counted(&rt, words.as_slice())? {
         Some(count) => {
             println!(rt; "{count}")?;
             Ok(ExitCode::from(0))

@@ -2,6 +2,7 @@
 ghost use Rattle.std.specs.Prelude.{◌≡◌, ◌≢◌, ◌≤◌, ◌<◌, ◌+◌, ◌^◌, ℕ, List, length, IfOk, IfErr, Ok, Err};
 ghost use Rattle.std.specs.List.{All};
 ghost use Rattle.values.specs.Columns.{rows_of as rows_of_columns};
+ghost use Rattle.csv_ingest.specs.PlainBlocks.{AreNumbers};
 ghost use Rattle.csv_ingest.specs.Reading.{Reads, records_left};
 ghost use Rattle.csv_ingest.specs.Rows.{csv_limits, IsNumbers, plain_in, records_of};
 ghost use Rattle.table_schema.specs.ValidTable.{AreRows};
@@ -24,6 +25,7 @@ fn plain_records(
     requires { most < 2 ^ 31 }
     ensures ok { IfOk result (λ table. (rest : List ℕ) → Reads reader.old rest
         → plain_in csv_limits (records_left (most + 1) reader.old rest) ≡ Ok (table.0, rows_of_columns table.1)) }
+    ensures columns { IfOk result (λ table. AreNumbers table.0.fields table.1.columns) }
     ensures err { IfErr result (λ fault. fault ≢ CsvFault.NoMemory → (rest : List ℕ)
         → Reads reader.old rest → plain_in csv_limits (records_left (most + 1) reader.old rest)
         ≡ Err fault) }
@@ -54,6 +56,7 @@ pub fn read_plain_columns(alloc: Global, bytes: &[u8]) -> Result<(Schema, Column
     requires { length bytes.now ≤ 134217728 }
     ensures ok { IfOk result (λ table. plain_in csv_limits (records_of bytes.now)
         ≡ Ok (table.0, rows_of_columns table.1)) }
+    ensures columns { IfOk result (λ table. AreNumbers table.0.fields table.1.columns) }
     ensures err { IfErr result (λ fault. fault ≢ CsvFault.NoMemory
         → plain_in csv_limits (records_of bytes.now) ≡ Err fault) }
     ensures few { IfOk result (λ table. length table.0.fields ≤ 64) }

@@ -1,9 +1,12 @@
-use Rattle.std.proofs.Common.{◌≡◌, ◌∙◌, ◌∷◌, ℕ, List, Ok, ap, sym, arith}
+use Rattle.std.proofs.Common.{◌≡◌, ◌∙◌, ◌∷◌, ℕ, List, Ok, ap, subst, sym, arith}
 use Rattle.csv.specs.Records.{fields_of}
 use Rattle.values.specs.Columns.{rows_of as rows_of_columns}
+use Rattle.table_schema.specs.declared.field.Schema.{Schema}
+use Rattle.csv_ingest.specs.PlainBlocks.{AreNumbers}
 use Rattle.csv_ingest.specs.Reading.{records_left}
 use Rattle.csv_ingest.specs.Rows.{csv_limits, plain_in, with_schema}
 use Rattle.csv_ingest.proofs.BlockLemmas.{whole-block}
+use Rattle.csv_ingest.proofs.NumberLemmas.{plain-columns}
 use Rattle.csv_ingest.proofs.PlainLemmas.{below-header, no-record}
 use Rattle.csv_ingest.proofs.plain.plain_records.Goals as goal
 
@@ -44,3 +47,9 @@ returns-in-Err-next_block-clause-err c = λ real rest r.
     ∙ ap (λ row. plain_in csv_limits (row ∷ records_left c.args.most new left)) (sym same)
     ∙ below-header names (records_left c.args.most new left) fields h.few h.fields
     ∙ ap (with_schema fields) (c.in-Err-next_block.ensures.err real left reads c.args.most (omega arith))
+
+pub returns-in-Ok-next_block-clause-columns : goal.returns-in-Ok-next_block-clause-columns
+returns-in-Ok-next_block-clause-columns c =
+    let columns = c.in-Ok-next_block.field-0.columns.columns in
+    subst (λ (schema : Schema). AreNumbers schema.fields columns) (sym c.into_schema.ensures)
+    (plain-columns (fields_of c.in-Ok.header.names) c.in-Ok.header.fields columns c.in-Ok.ensures.header.fields c.in-Ok-next_block.ensures.sorts)

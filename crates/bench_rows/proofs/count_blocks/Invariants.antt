@@ -1,0 +1,8 @@
+use Rattle.csv_ingest.specs.PlainBlocks.{IsPlainBlocks}
+use Rattle.bench_rows.proofs.count_blocks.Given as goal
+
+abbrev pub invariant-rows : goal.invariant-rows
+invariant-rows l = IsPlainBlocks l.blocks
+
+abbrev pub decreases-rows : goal.decreases-rows
+decreases-rows l = l.blocks.left
