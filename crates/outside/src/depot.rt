@@ -1,4 +1,4 @@
-// Folders of files that are read and written.
+//! Folders of files that are read and written.
 ghost use Rattle.std.specs.Prelude.{◌≡◌, ◌≤◌, ◌↔◌, [], ◌++◌, None, OnOk, OnErr, IsErrOf};
 ghost use Rattle.outside.specs.Counts.{Rose};
 ghost use Rattle.outside.specs.Files.{Has, Lacks, SameBut, bytes_of, with_file, without_file};

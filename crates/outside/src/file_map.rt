@@ -1,4 +1,4 @@
-// Files in memory, by name.
+//! Files in memory, by name.
 ghost use Rattle.std.specs.Prelude.{◌≡◌, ◌≤◌, OnOk, OnErr, IfOk, option_map, length, map as list_map, MatchOption, None, Some, IfNone, true, ◌++◌};
 ghost use Rattle.std.specs.FinMap as map;
 ghost use Rattle.std.specs.FinMap.{find, put, is_sorted};

@@ -1,4 +1,4 @@
-// Depots over real folders.
+//! Depots over real folders.
 ghost use Rattle.std.specs.Prelude.{◌≡◌, ◌≤◌, None, IsErrOf};
 ghost use Rattle.outside.specs.Counts.{Rose};
 

@@ -1,4 +1,4 @@
-// Shelves over real folders.
+//! Shelves over real folders.
 ghost use Rattle.std.specs.Prelude.{None};
 
 use crate::folder_files::{FolderFiles, count_read};

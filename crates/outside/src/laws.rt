@@ -1,4 +1,4 @@
-// Laws of the words that contracts speak in. Each is the contract of a function that does nothing.
+//! Laws of the words that contracts speak in. Each is the contract of a function that does nothing.
 ghost use Rattle.std.specs.Prelude.{All, ◌≡◌, ◌≢◌, ◌≤◌, ◌+◌, ◌++◌, ◌⊎◌, ℕ, List};
 ghost use Rattle.outside.specs.Counts.{Rose};
 ghost use Rattle.outside.specs.Reads.{Entry, Consecutive, overlap, read_by, read_in};

@@ -1,4 +1,4 @@
-// The calls of a device in memory, some of which are to fail.
+//! The calls of a device in memory, some of which are to fail.
 ghost use Rattle.std.specs.Prelude.{◌≡◌, ◌≤◌, if◌then◌else◌};
 ghost use Rattle.outside.specs.Counts.{next};
 ghost use Rattle.outside.specs.Memory.{is_listed};

@@ -1,4 +1,4 @@
-// Depots in memory.
+//! Depots in memory.
 ghost use Rattle.std.specs.Prelude.{◌≡◌, ◌≤◌, ◌↔◌, [], ◌++◌, Some, OnOk, OnErr, IfOk, IsErrOf, IsTrue, length, unwrap_or};
 ghost use Rattle.std.specs.FinMap as map;
 ghost use Rattle.outside.specs.Counts.{Rose};

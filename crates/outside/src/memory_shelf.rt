@@ -1,4 +1,4 @@
-// Shelves in memory.
+//! Shelves in memory.
 ghost use Rattle.std.specs.Prelude.{◌≡◌, ◌≤◌, ◌↔◌, Some, OnErr, IfOk, IsErrOf, IsTrue, min, length, ◌-◌, take, drop, ◌++◌, OnOk, IfNone, if◌then◌else◌};
 ghost use Rattle.std.specs.FinMap as map;
 ghost use Rattle.outside.specs.Counts.{Rose, next};

@@ -1,4 +1,4 @@
-// Sinks in memory.
+//! Sinks in memory.
 ghost use Rattle.std.specs.Prelude.{◌≡◌, ◌≤◌, true, Some, OnOk, OnErr, IfOk, IsErr, IsTrue, ◌↔◌, length, vec_len, vec_capacity};
 ghost use Rattle.outside.specs.Counts.{Rose};
 ghost use Rattle.outside.specs.Memory.{fresh_sink, refuses, after_put};

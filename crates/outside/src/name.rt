@@ -1,4 +1,4 @@
-// Names, which contracts see as the bytes of their texts.
+//! Names, which contracts see as the bytes of their texts.
 ghost use Rattle.std.specs.Prelude.{◌≡◌, ◌==◌, [], ◌++◌, length, Some, OnOk, OnErr, string_bytes, nat_eq, refl, ◌<◌, slice_index};
 ghost use Rattle.std.specs.Cmp.{partial_equiv_from_equiv};
 ghost use Rattle.std.specs.Cmp.Lexicographic.{pointwise, slice_cmp, nat_list_eq_equiv, nat_list_cmp_total, texts_ties, texts_po};

@@ -1,4 +1,4 @@
-// Parts of files.
+//! Parts of files.
 use crate::Name;
 
 /// Some bytes of a file: `length` of them, from `offset` on.

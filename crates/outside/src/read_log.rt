@@ -1,4 +1,4 @@
-// The log of a device in memory.
+//! The log of a device in memory.
 ghost use Rattle.std.specs.Prelude.{◌≡◌, ◌++◌, ◌∷◌, [], OnOk, OnErr};
 ghost use Rattle.outside.specs.Reads.{entry_of};
 

@@ -1,4 +1,4 @@
-// Folders of files that are read.
+//! Folders of files that are read.
 ghost use Rattle.std.specs.Prelude.{◌≡◌, ◌≤◌, Option, List, ℕ, OnErr, IfOk, IsErrOf, length};
 ghost use Rattle.outside.specs.Counts.{Rose};
 ghost use Rattle.outside.specs.Files.{Files, IsNames, IsLengthOf, Has, Lacks};

@@ -1,4 +1,4 @@
-// Streams of bytes that are written.
+//! Streams of bytes that are written.
 ghost use Rattle.std.specs.Prelude.{◌≡◌, ◌≤◌, Option, List, ℕ, OnOk, OnErr};
 ghost use Rattle.outside.specs.Counts.{Rose};
 ghost use Rattle.outside.specs.Sink.{appended, AppendsPrefix};

@@ -44,7 +44,8 @@ fn read_json<I: Shelf>(alloc: Global, file: &str, inputs: &mut I) -> Result<Byte
         (Rose (I.read_faults inputs.old) (I.read_faults inputs.new))) }
     ensures still { ¬ IsErrOf result (Stop.Fault Fault.Read) →
         I.read_faults inputs.new ≡ I.read_faults inputs.old }
-    ensures reads { ReadsFront file.now text_limit (seen I.Shelf inputs.old) (seen I.Shelf inputs.new) }
+    ensures reads { ReadsFront file.now text_limit
+        (seen I.Shelf inputs.old) (seen I.Shelf inputs.new) }
 {
     read_input(alloc, file, Counted::JsonBytes, TEXT_LIMIT, inputs)
 }
@@ -71,7 +72,8 @@ fn settings_of(alloc: Global, schema: &Schema, text: &[u8]) -> Result<Settings, 
     ensures no_schema { (wrong : KeyKind) (path : List ℕ) →
         ¬ IsErrOf result (Stop.Refused (Note.BadSchema wrong path)) }
     ensures stops { IfErr result
-        (StopsBy (Some (beside Note.BadSettings text.now (settings_read schema.now.fields text.now))) ⊥) }
+        (StopsBy (Some (beside Note.BadSettings text.now
+        (settings_read schema.now.fields text.now))) ⊥) }
 {
     match read_settings(alloc, schema, text) {
         Ok(settings) => Ok(settings),
@@ -94,7 +96,8 @@ fn read_schema_file<I: Shelf>(
         (Rose (I.read_faults inputs.old) (I.read_faults inputs.new))) }
     ensures still { ¬ IsErrOf result (Stop.Fault Fault.Read) →
         I.read_faults inputs.new ≡ I.read_faults inputs.old }
-    ensures reads { ReadsFront file.now text_limit (seen I.Shelf inputs.old) (seen I.Shelf inputs.new) }
+    ensures reads { ReadsFront file.now text_limit
+        (seen I.Shelf inputs.old) (seen I.Shelf inputs.new) }
 {
     let text = read_json(alloc, file, inputs)?;
     let schema = schema_of(alloc, text.as_slice())?;
@@ -114,11 +117,13 @@ fn read_settings_file<I: Shelf>(
     ensures short { IfOk result (λ r. length r.0 ≤ text_limit) }
     ensures no_schema { (wrong : KeyKind) (path : List ℕ) →
         ¬ IsErrOf result (Stop.Refused (Note.BadSchema wrong path)) }
-    ensures stops { IfErr result (StopsBy (option_map (settings_in schema.now file.now) (I.held inputs.old))
+    ensures stops { IfErr result
+        (StopsBy (option_map (settings_in schema.now file.now) (I.held inputs.old))
         (Rose (I.read_faults inputs.old) (I.read_faults inputs.new))) }
     ensures still { ¬ IsErrOf result (Stop.Fault Fault.Read) →
         I.read_faults inputs.new ≡ I.read_faults inputs.old }
-    ensures reads { ReadsFront file.now text_limit (seen I.Shelf inputs.old) (seen I.Shelf inputs.new) }
+    ensures reads { ReadsFront file.now text_limit
+        (seen I.Shelf inputs.old) (seen I.Shelf inputs.new) }
 {
     let text = read_json(alloc, file, inputs)?;
     let settings = settings_of(alloc, schema, text.as_slice())?;
@@ -145,7 +150,8 @@ fn read_table<I: Shelf>(
     ensures schema_alone { (wrong : KeyKind) (path : List ℕ) →
         IsErrOf result (Stop.Refused (Note.BadSchema wrong path)) →
         ReadsFront schema.now text_limit (seen I.Shelf inputs.old) (seen I.Shelf inputs.new) }
-    ensures reads { Reads ((schema.now, text_limit) ∷ (settings.now, text_limit) ∷ []) (seen I.Shelf inputs.old) (seen I.Shelf inputs.new) }
+    ensures reads { Reads ((schema.now, text_limit) ∷ (settings.now, text_limit) ∷ [])
+        (seen I.Shelf inputs.old) (seen I.Shelf inputs.new) }
 {
     let (schema_text, schema) = read_schema_file(alloc, schema, inputs)?;
     let (settings_text, settings) = read_settings_file(alloc, &schema, settings, inputs)?;
@@ -169,13 +175,14 @@ fn created(alloc: Global, table: &[u8]) -> Result<Bytes, AllocError>
 // Makes a table. The reply is made before the store is written.
 fn make<D: Depot>(alloc: Global, new: &NewTable, depot: &mut D) -> Result<Bytes, Stop>
     requires { FitsTable (record { schema = new.now.schema; settings = new.now.settings }) }
-    ensures makes { Makes (record { schema = new.now.schema; settings = new.now.settings }) new.now.table
-        (seen D.Shelf depot.old) (seen D.Shelf depot.new) result }
+    ensures makes { Makes (record { schema = new.now.schema; settings = new.now.settings })
+        new.now.table (seen D.Shelf depot.old) (seen D.Shelf depot.new) result }
     ensures reads_still { ¬ IsErrOf result (Stop.Fault Fault.Read) →
         D.read_faults depot.new ≡ D.read_faults depot.old }
     ensures writes_still { ¬ IsErrOf result (Stop.Fault Fault.Write) →
         D.write_faults depot.new ≡ D.write_faults depot.old }
-    ensures writes { WritesThese NoFile (table_name ∷ []) (seen D.Shelf depot.old) (seen D.Shelf depot.new) }
+    ensures writes { WritesThese NoFile (table_name ∷ [])
+        (seen D.Shelf depot.old) (seen D.Shelf depot.new) }
 {
     let reply = created(alloc, new.table.settings.table.as_slice())?;
     match create_table(alloc, depot, new.schema.as_slice(), new.settings.as_slice()) {

@@ -1,4 +1,4 @@
-// What a command leaves on its sinks.
+//! What a command leaves on its sinks.
 ghost use Rattle.std.specs.Prelude.{◌≡◌, ◌≢◌, ◌⊎◌, ◌≤◌, true, false};
 ghost use Rattle.outside.specs.Counts.{Rose};
 ghost use Rattle.outside.specs.Sink.{appended, AppendsPrefix};
@@ -59,7 +59,9 @@ pub fn note_fault<N: Sink>(status: Status, notes: &mut N) -> Status
 /// Gives the text of a reply.
 pub fn give_text<O: Sink, N: Sink>(text: &Bytes, out: &mut O, notes: &mut N) -> Status
     ensures status { (result ≡ Status.Done) ⊎ (result ≡ Status.WriteFault) }
-    ensures done { result ≡ Status.Done → (O.written out.new ≡ appended text.now (O.written out.old)) × (N.written notes.new ≡ N.written notes.old) }
+    ensures done { result ≡ Status.Done →
+        (O.written out.new ≡ appended text.now (O.written out.old))
+        × (N.written notes.new ≡ N.written notes.old) }
     ensures cut { result ≡ Status.WriteFault → Rose (O.faults out.old) (O.faults out.new) }
     ensures prefix { AppendsPrefix text.now (O.written out.old) (O.written out.new) }
     ensures later { O.faults out.old ≤ O.faults out.new }
@@ -75,8 +77,10 @@ pub fn give_text<O: Sink, N: Sink>(text: &Bytes, out: &mut O, notes: &mut N) -> 
 
 /// Gives the note line of a refusal.
 pub fn give_note<N: Sink>(alloc: Global, note: &Note, notes: &mut N) -> Status
-    ensures status { (result ≡ status_of note.now) ⊎ (result ≡ Status.WriteFault) ⊎ (result ≡ Status.NoMemory) }
-    ensures done { result ≡ status_of note.now → N.written notes.new ≡ appended (note_text note.now) (N.written notes.old) }
+    ensures status { (result ≡ status_of note.now) ⊎ (result ≡ Status.WriteFault)
+        ⊎ (result ≡ Status.NoMemory) }
+    ensures done { result ≡ status_of note.now →
+        N.written notes.new ≡ appended (note_text note.now) (N.written notes.old) }
     ensures cut { result ≡ Status.WriteFault → Rose (N.faults notes.old) (N.faults notes.new) }
     ensures noted { Noted result (heard N.Sink notes.old) (heard N.Sink notes.new) }
 {

@@ -1,4 +1,4 @@
-// The top call.
+//! The top call.
 ghost use Rattle.std.specs.Prelude.{◌≡◌, ◌⊎◌, ◌≤◌, false, map, string_bytes};
 ghost use Rattle.pinot_run.specs.Command.{command_of};
 ghost use Rattle.pinot_run.specs.Notes.{is_fault};
@@ -27,7 +27,8 @@ fn reply_to<I: Shelf, D: Depot>(
     inputs: &mut I,
     depot: &mut D,
 ) -> Result<Bytes, Stop>
-    ensures { Ran (command_of (map string_bytes words.now)) (devices I.Shelf D.Shelf inputs.old depot.old)
+    ensures { Ran (command_of (map string_bytes words.now))
+        (devices I.Shelf D.Shelf inputs.old depot.old)
         (devices I.Shelf D.Shelf inputs.new depot.new) result }
 {
     match read_command(words) {

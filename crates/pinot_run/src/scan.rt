@@ -7,6 +7,7 @@ ghost use Rattle.outside.specs.Seen.{Seen, seen};
 ghost use Rattle.pinot_run.specs.Command.{Scan};
 ghost use Rattle.pinot_run.specs.Gives.{Gives, IsAnswered, IsBound};
 ghost use Rattle.pinot_run.specs.Notes.{csv_note};
+ghost use Rattle.pinot_run.specs.Profile.{csv_limit};
 ghost use Rattle.pinot_run.specs.Ran.{Ran};
 ghost use Rattle.pinot_run.specs.Reply.{folded, label_of, summed};
 ghost use Rattle.pinot_run.specs.Step.{Replies, bare_settings, bare_table, bound_answer, query_answer, sql_answer};
@@ -50,7 +51,8 @@ fn label_of(labels: &[Name]) -> &[u8]
 
 // What is written of a tally: its number of rows, or its sum.
 fn folded(alloc: Global, sums: Option<u16>, tally: &Tally) -> Result<String, AllocError>
-    ensures { (rows : List (List Value)) → tally.now.rows ≡ length rows → tally.now.sum ≡ sum_of sums rows
+    ensures { (rows : List (List Value)) →
+        tally.now.rows ≡ length rows → tally.now.sum ≡ sum_of sums rows
         → IfOk result (λ text. string_bytes text ≡ folded sums rows) }
 {
     match sums {
@@ -155,7 +157,7 @@ fn stop_of(fault: CsvFault) -> Stop
 
 // The fields and the rows of a CSV text, which is let go before they are looked at.
 fn rows_of(alloc: Global, text: Bytes) -> Result<(Schema, Rows), Stop>
-    requires { length text ≤ 134217728 }
+    requires { length text ≤ csv_limit }
     ensures rows { IfOk result (λ table.
         plain_in csv_limits (records_of text) ≡ Ok (table.0, table.1)) }
     ensures few { IfOk result (λ table. length table.0.fields ≤ 64) }

@@ -1,4 +1,4 @@
-// Laws of the files that a state is kept in.
+//! Laws of the files that a state is kept in.
 ghost use Rattle.table_store.specs.Stands.{CreateStands, EmptyStands, StandsForOne, TableStands};
 
 /// Files stand for at most one state.
