@@ -1,5 +1,6 @@
 -- All documents of a tree, in the order in which its nodes are visited.
-use Rattle.std.specs.Prelude.{◌≡◌, ℕ, zero, suc, if◌then◌else◌, ◌==◌, Option, Some, None, List, [], ◌∷◌, ◌++◌, length, take}
+use Rattle.std.specs.Prelude.{◌≡◌, ℕ, zero, suc, if◌then◌else◌, ◌==◌, Option, Some, None, List, []}
+use Rattle.std.specs.Prelude.{◌∷◌, ◌++◌, length, take}
 use Rattle.agg_laws.specs.Merged.{rekey}
 use Rattle.agg_laws.specs.Tree.{star, merged_docs, Nodes, none, node, has_star}
 
@@ -19,30 +20,34 @@ module _ {S : Type 0} (join : S → S → S) where
   abbrev pub aggregated : ℕ → List (List ℕ × S) → List (List ℕ × S)
   aggregated d docs = merged_docs join (rekey (star_from d) docs)
 
-  -- the one document that stands for all documents of a node of level d: its own at a leaf of one document, else that of its star child, else the
-  -- aggregated document
+  -- the one document that stands for all documents of a node of level d: its own at a leaf of one
+  -- document, else that of its star child, else the aggregated document
   abbrev pub total_here : ℕ → List (List ℕ × S) → Nodes S → List (List ℕ × S) → List (List ℕ × S)
   total_here d docs none below = if length docs == 1 then docs else aggregated d docs
   total_here d docs (node id own kids rest) below = below
 
   abbrev pub total_below : ℕ → List (List ℕ × S) → Nodes S → List (List ℕ × S)
   total_below d docs none = aggregated d docs
-  total_below d docs (node id own kids rest) = if id == star then total_here (suc d) own kids (total_below (suc d) own kids) else total_below d docs rest
+  total_below d docs (node id own kids rest) = if id == star
+      then total_here (suc d) own kids (total_below (suc d) own kids) else total_below d docs rest
 
   abbrev pub total_doc : ℕ → List (List ℕ × S) → Nodes S → List (List ℕ × S)
   total_doc d docs kids = total_here d docs kids (total_below d docs kids)
 
-  -- what the visit of a node of level d appends, with what the visits of its children append: an aggregated document at a leaf of several documents;
-  -- else the documents of the star child, those of the children's visits, and where there is no star child the aggregated document
+  -- what the visit of a node of level d appends, with what the visits of its children append: an
+  -- aggregated document at a leaf of several documents; else the documents of the star child, those
+  -- of the children's visits, and where there is no star child the aggregated document
   abbrev pub visit_of : ℕ → List (List ℕ × S) → Nodes S → List (List ℕ × S) → List (List ℕ × S)
   visit_of d docs none below = if length docs == 1 then [] else aggregated d docs
   visit_of d docs (node id own kids rest) below =
-      star_docs (node id own kids rest) ++ (below ++ (if has_star (node id own kids rest) then [] else aggregated d docs))
+      star_docs (node id own kids rest)
+      ++ (below ++ (if has_star (node id own kids rest) then [] else aggregated d docs))
 
   -- what the visits of nodes of level d beside each other append
   abbrev pub visits_of : ℕ → Nodes S → List (List ℕ × S)
   visits_of d none = []
-  visits_of d (node id docs kids rest) = visit_of d docs kids (visits_of (suc d) kids) ++ visits_of d rest
+  visits_of d (node id docs kids rest) = visit_of d docs kids (visits_of (suc d) kids)
+      ++ visits_of d rest
 
   -- the documents of a tree begin with those of its root
   abbrev pub documents_of : Nodes S → List (List ℕ × S)

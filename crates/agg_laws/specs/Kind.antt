@@ -1,7 +1,8 @@
 -- The kinds of aggregates.
 use Rattle.std.specs.Prelude.{ℕ}
 use Rattle.agg_laws.specs.declared.aggregate_kind.AggKind.{AggKind}
-use Rattle.agg_laws.specs.declared.aggregate_kind.AggKind.TheVariants.{Count, Sum, Least, Greatest, Average}
+use Rattle.agg_laws.specs.declared.aggregate_kind.AggKind.TheVariants.{Count, Sum, Least, Greatest}
+use Rattle.agg_laws.specs.declared.aggregate_kind.AggKind.TheVariants.{Average}
 
 -- the bytes of a stored state
 abbrev pub width_of : AggKind → ℕ

@@ -1,5 +1,6 @@
 -- What the aggregates of a list of whole numbers are, apart from any number of a machine.
-use Rattle.std.specs.Prelude.{ℕ, ◌+◌, ◌-◌, ◌*◌, ◌^◌, ◌≤◌, ℤ, pos, ◌+ℤ◌, neg_ℤ, ◌≤ℤ◌, Option, Some, None, List, [], ◌∷◌, ◌++◌, length}
+use Rattle.std.specs.Prelude.{ℕ, ◌+◌, ◌-◌, ◌*◌, ◌^◌, ◌≤◌, ℤ, pos, ◌+ℤ◌, neg_ℤ, ◌≤ℤ◌, Option, Some}
+use Rattle.std.specs.Prelude.{None, List, [], ◌∷◌, ◌++◌, length}
 use Rattle.std.specs.Int.{int_min, int_max, w64, w128, to_be_bytes, cast_unsigned}
 use Rattle.agg_laws.specs.declared.averages.AverageState.{AverageState}
 
@@ -82,7 +83,8 @@ NumberStored (Some m) = IsWhole m
 abbrev pub AverageStored : AverageState → Type 0
 AverageStored a = CountStored a.count × SumFits a.sum a.count
 
--- how stored states are spelled: numbers with the highest byte first, signed ones in two's complement
+-- how stored states are spelled: numbers with the highest byte first, signed ones in two's
+-- complement
 unfoldable pub count_bytes : ℕ → List ℕ
 count_bytes c = to_be_bytes w64 c
 

@@ -5,7 +5,8 @@ use Rattle.std.specs.declared.cmp.Ordering.TheVariants.{Less, Equal, Greater}
 use Rattle.std.specs.Ordering.{nat_cmp, int_cmp}
 use Rattle.agg_laws.specs.declared.averages.AverageState.{AverageState}
 use Rattle.agg_laws.specs.declared.states.AggState.{AggState}
-use Rattle.agg_laws.specs.declared.states.AggState.TheVariants.{Count, Sum, Least, Greatest, Average}
+use Rattle.agg_laws.specs.declared.states.AggState.TheVariants.{Count, Sum, Least, Greatest}
+use Rattle.agg_laws.specs.declared.states.AggState.TheVariants.{Average}
 use Rattle.agg_laws.specs.States.{kind_of, rank_of}
 
 -- the state stands for one value at least
@@ -25,7 +26,8 @@ number_order None (Some y) = Less
 number_order (Some x) None = Greater
 number_order (Some x) (Some y) = int_cmp x y
 
--- the fractions of sum and count, by cross products. A count of 0, which no state of one value has, is read as 1, so that this is an order of all states
+-- the fractions of sum and count, by cross products. A count of 0, which no state of one value has,
+-- is read as 1, so that this is an order of all states
 abbrev pub average_order : AverageState → AverageState → Ordering
 average_order a b = int_cmp (a.sum *ℤ pos (max 1 b.count)) (b.sum *ℤ pos (max 1 a.count))
 

@@ -5,7 +5,8 @@ use Rattle.agg_laws.specs.declared.tree_shape.TreeShape.{TreeShape}
 use Rattle.agg_laws.specs.Tree.{skips, ids_at}
 use Rattle.agg_laws.specs.Picks.{Task}
 
-module _ {S : Type 0} (join : S → S → S) (t : Task) (shape : TreeShape) (rows : List (List ℕ × S)) where
+module _ {S : Type 0} (join : S → S → S) (t : Task) (shape : TreeShape)
+    (rows : List (List ℕ × S)) where
   -- how many ids a dimension has, and how many of them pass its tests
   abbrev pub cardinality : ℕ → ℕ
   cardinality d = length (ids_at join d rows)
@@ -14,7 +15,8 @@ module _ {S : Type 0} (join : S → S → S) (t : Task) (shape : TreeShape) (row
   matched d = length (filter (t.passes d) (ids_at join d rows))
 
   abbrev pub factor : ℕ → ℕ
-  factor d = if t.filtered d then matched d else (if t.grouped d || skips shape d then cardinality d else 1)
+  factor d = if t.filtered d then matched d
+      else (if t.grouped d || skips shape d then cardinality d else 1)
 
   -- the factors of the next dimensions
   abbrev pub factors_from : ℕ → ℕ → ℕ

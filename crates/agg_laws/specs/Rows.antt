@@ -2,7 +2,8 @@
 use Rattle.std.specs.Prelude.{ℕ, ◌+◌, ◌-◌, ◌/◌, ◌^◌, max, ℤ, pos, negsuc, List, [], ◌∷◌, map}
 use Rattle.agg_laws.specs.declared.aggregate_kind.AggKind.{AggKind}
 use Rattle.agg_laws.specs.declared.states.AggState.{AggState}
-use Rattle.agg_laws.specs.declared.states.AggState.TheVariants.{Count, Sum, Least, Greatest, Average}
+use Rattle.agg_laws.specs.declared.states.AggState.TheVariants.{Count, Sum, Least, Greatest}
+use Rattle.agg_laws.specs.declared.states.AggState.TheVariants.{Average}
 use Rattle.agg_laws.specs.States.{kind_of, state_of, unit_of, merged, Fits, IsStored}
 
 -- the first numbers of some rows of numbers, and what is left of the rows

@@ -3,8 +3,12 @@ use Rattle.std.specs.Prelude.{ℕ, ◌+◌, ◌≤◌, nat_le, if◌then◌else�
 use Rattle.agg_laws.specs.declared.aggregate_kind.AggKind.{AggKind}
 use Rattle.agg_laws.specs.declared.aggregate_kind.AggKind.TheVariants as kinds
 use Rattle.agg_laws.specs.declared.states.AggState.{AggState}
-use Rattle.agg_laws.specs.declared.states.AggState.TheVariants.{Count, Sum, Least, Greatest, Average}
-use Rattle.agg_laws.specs.Numbers.{sum_of, least_of, greatest_of, average_of, lesser, greater, both_averages, SumFits, NumberFits, AverageFits, CountStored, SumStored, NumberStored, AverageStored, count_bytes, sum_bytes, number_bytes, average_bytes}
+use Rattle.agg_laws.specs.declared.states.AggState.TheVariants.{Count, Sum, Least, Greatest}
+use Rattle.agg_laws.specs.declared.states.AggState.TheVariants.{Average}
+use Rattle.agg_laws.specs.Numbers.{sum_of, least_of, greatest_of, average_of, lesser, greater}
+use Rattle.agg_laws.specs.Numbers.{both_averages, SumFits, NumberFits, AverageFits, CountStored}
+use Rattle.agg_laws.specs.Numbers.{SumStored, NumberStored, AverageStored, count_bytes, sum_bytes}
+use Rattle.agg_laws.specs.Numbers.{number_bytes, average_bytes}
 
 abbrev pub kind_of : AggState → AggKind
 kind_of (Count c) = kinds.Count
@@ -37,7 +41,8 @@ rank_of kinds.Least = 2
 rank_of kinds.Greatest = 3
 rank_of kinds.Average = 4
 
--- the state of the numbers of both. States of two kinds are never merged: that of the lower one stands, so that the laws need no premise
+-- the state of the numbers of both. States of two kinds are never merged: that of the lower one
+-- stands, so that the laws need no premise
 abbrev pub merged : AggState → AggState → AggState
 merged (Count a) (Count b) = Count (a + b)
 merged (Sum a) (Sum b) = Sum (a +ℤ b)

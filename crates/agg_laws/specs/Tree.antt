@@ -1,5 +1,7 @@
 -- The nested tree of a list of rows, and what each of its nodes covers.
-use Rattle.std.specs.Prelude.{◌≡◌, ◌≢◌, ℕ, zero, suc, ◌<◌, ◌/◌, ◌%◌, ◌^◌, Bool, true, false, if◌then◌else◌, ◌==◌, nat_le, nat_lt, not, ◌&&◌, ◌||◌, List, [], ◌∷◌, ◌++◌, map, length, slice_index_or, slice_set}
+use Rattle.std.specs.Prelude.{◌≡◌, ◌≢◌, ℕ, zero, suc, ◌<◌, ◌/◌, ◌%◌, ◌^◌, Bool, true, false}
+use Rattle.std.specs.Prelude.{if◌then◌else◌, ◌==◌, nat_le, nat_lt, not, ◌&&◌, ◌||◌, List, [], ◌∷◌}
+use Rattle.std.specs.Prelude.{◌++◌, map, length, slice_index_or, slice_set}
 use Rattle.std.specs.List.{filter}
 use Rattle.std.specs.declared.cmp.Ordering.{Ordering}
 use Rattle.std.specs.Ordering.{nat_cmp}
@@ -27,7 +29,8 @@ set_star d xs = slice_set xs d star
 abbrev pub merged_docs : {S : Type 0} → (S → S → S) → List (List ℕ × S) → List (List ℕ × S)
 merged_docs join rows = Merged dims_order join rows
 
--- nodes beside each other: each with its id, its documents and the nodes below it. A node with none below is a leaf
+-- nodes beside each other: each with its id, its documents and the nodes below it. A node with none
+-- below is a leaf
 pub data Nodes (S : Type 0) : Type 0 where
   none : Nodes S
   node : ℕ → List (List ℕ × S) → Nodes S → Nodes S → Nodes S
@@ -45,10 +48,13 @@ skips shape d = shape.skipped / 2 ^ d % 2 == 1
 abbrev pub docs_with : {S : Type 0} → ℕ → ℕ → List (List ℕ × S) → List (List ℕ × S)
 docs_with d v docs = filter (λ e. dim d e.0 == v) docs
 
--- one node per id, and then the last ones; `below` gives the nodes below a node with these documents
-abbrev pub kids_of : {S : Type 0} → (List (List ℕ × S) → Nodes S) → ℕ → List (List ℕ × S) → Nodes S → List ℕ → Nodes S
+-- one node per id, and then the last ones; `below` gives the nodes below a node with these
+-- documents
+abbrev pub kids_of : {S : Type 0} → (List (List ℕ × S) → Nodes S) → ℕ → List (List ℕ × S) → Nodes S
+    → List ℕ → Nodes S
 kids_of below d docs last [] = last
-kids_of below d docs last (v ∷ vs) = node v (docs_with d v docs) (below (docs_with d v docs)) (kids_of below d docs last vs)
+kids_of below d docs last (v ∷ vs) =
+    node v (docs_with d v docs) (below (docs_with d v docs)) (kids_of below d docs last vs)
 
 module _ {S : Type 0} (join : S → S → S) where
   -- the ids of a dimension, ascending, each once
@@ -58,14 +64,16 @@ module _ {S : Type 0} (join : S → S → S) where
   -- the star child, where there is one
   abbrev pub star_kid : (List (List ℕ × S) → Nodes S) → TreeShape → ℕ → List (List ℕ × S) → Nodes S
   star_kid below shape d docs = if not (skips shape d) && nat_lt 1 (length (ids_at d docs))
-      then node star (merged_docs join (rekey (set_star d) docs)) (below (merged_docs join (rekey (set_star d) docs))) none
+      then node star (merged_docs join (rekey (set_star d) docs))
+      (below (merged_docs join (rekey (set_star d) docs))) none
       else none
 
   -- the nodes below a node of level d with these documents, where `more` levels are left
   abbrev pub under : TreeShape → ℕ → ℕ → List (List ℕ × S) → Nodes S
   under shape zero d docs = none
   under shape (suc more) d docs = if nat_le (length docs) shape.leaf then none
-      else kids_of (under shape more (suc d)) d docs (star_kid (under shape more (suc d)) shape d docs) (ids_at d docs)
+      else kids_of (under shape more (suc d)) d docs
+      (star_kid (under shape more (suc d)) shape d docs) (ids_at d docs)
 
   -- the tree of some rows: no node, or the root
   abbrev pub root_of : TreeShape → ℕ → List (List ℕ × S) → Nodes S
@@ -92,7 +100,8 @@ abbrev pub rows_at : {S : Type 0} → List ℕ → List (List ℕ × S) → List
 rows_at path rows = filter (λ e. agrees path e.0) rows
 
 -- a node at a path covers just the rows that agree with the path
-pub record CoversRows {S : Type 0} (join : S → S → S) (rows : List (List ℕ × S)) (path : List ℕ) (docs : List (List ℕ × S)) : Type 0 where
+pub record CoversRows {S : Type 0} (join : S → S → S) (rows : List (List ℕ × S)) (path : List ℕ)
+    (docs : List (List ℕ × S)) : Type 0 where
   pub docs_are : docs ≡ merged_docs join (rekey (starred path) (rows_at path rows))
   pub total_is : total join (λ _. true) docs ≡ total join (λ _. true) (rows_at path rows)
 
@@ -105,9 +114,11 @@ HaveNoStar k (e ∷ es) = ((d : ℕ) → d < k → dim d e.0 ≢ star) × HaveNo
 abbrev pub Covers : {S : Type 0} → (S → S → S) → List (List ℕ × S) → List ℕ → Nodes S → Type 0
 Covers join rows path none = Unit {0}
 Covers join rows path (node id docs kids rest) =
-    CoversRows join rows (path ++ (id ∷ [])) docs × Covers join rows (path ++ (id ∷ [])) kids × Covers join rows path rest
+    CoversRows join rows (path ++ (id ∷ [])) docs × Covers join rows (path ++ (id ∷ [])) kids
+    × Covers join rows path rest
 
 -- the root has the empty path
 abbrev pub CoversTree : {S : Type 0} → (S → S → S) → List (List ℕ × S) → Nodes S → Type 0
 CoversTree join rows none = rows ≡ []
-CoversTree join rows (node id docs kids rest) = CoversRows join rows [] docs × Covers join rows [] kids
+CoversTree join rows (node id docs kids rest) = CoversRows join rows [] docs
+    × Covers join rows [] kids

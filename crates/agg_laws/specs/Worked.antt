@@ -11,7 +11,8 @@ use Rattle.agg_laws.specs.Flat.{Flat}
 
 -- CA, MX and USA are 0 to 2; Chrome, Firefox and Safari; en, es and fr
 abbrev pub view : ℕ → ℕ → ℕ → ℕ → List ℕ × List ℤ
-view country browser locale impressions = (country ∷ browser ∷ locale ∷ [], pos impressions ∷ pos 0 ∷ [])
+view country browser locale impressions =
+    (country ∷ browser ∷ locale ∷ [], pos impressions ∷ pos 0 ∷ [])
 
 abbrev pub views : List (List ℕ × List ℤ)
 views =
@@ -23,20 +24,24 @@ abbrev pub views_shape : TreeShape
 views_shape = record { dims = 3; skipped = 0; leaf = 1; kinds = kinds.Sum ∷ kinds.Count ∷ [] }
 
 abbrev pub doc : ℕ → ℕ → ℕ → ℕ → ℕ → Doc
-doc country browser locale sum count = (country ∷ browser ∷ locale ∷ [], Sum (pos sum) ∷ Count count ∷ [])
+doc country browser locale sum count =
+    (country ∷ browser ∷ locale ∷ [], Sum (pos sum) ∷ Count count ∷ [])
 
 abbrev pub views_documents : List Doc
 views_documents =
     -- one for each combination
-    doc 0 0 0 400 1 ∷ doc 0 1 2 200 1 ∷ doc 1 2 0 100 1 ∷ doc 1 2 1 300 1 ∷ doc 2 0 0 600 1 ∷ doc 2 1 0 400 1 ∷ doc 2 1 1 200 1
+    doc 0 0 0 400 1 ∷ doc 0 1 2 200 1 ∷ doc 1 2 0 100 1 ∷ doc 1 2 1 300 1 ∷ doc 2 0 0 600 1
+    ∷ doc 2 1 0 400 1 ∷ doc 2 1 1 200 1
     -- those of any country
-    ∷ doc star 0 0 1000 2 ∷ doc star 1 0 400 1 ∷ doc star 1 1 200 1 ∷ doc star 1 2 200 1 ∷ doc star 2 0 100 1 ∷ doc star 2 1 300 1
+    ∷ doc star 0 0 1000 2 ∷ doc star 1 0 400 1 ∷ doc star 1 1 200 1 ∷ doc star 1 2 200 1
+    ∷ doc star 2 0 100 1 ∷ doc star 2 1 300 1
     -- below CA, MX and USA
     ∷ doc 0 star 0 400 1 ∷ doc 0 star 2 200 1 ∷ doc 0 star star 600 2
     ∷ doc 1 2 star 400 2 ∷ doc 1 star star 400 2
     ∷ doc 2 star 0 1000 2 ∷ doc 2 star 1 200 1 ∷ doc 2 1 star 600 2 ∷ doc 2 star star 1200 3
     -- below any country
-    ∷ doc star star 0 1500 4 ∷ doc star star 1 500 2 ∷ doc star star 2 200 1 ∷ doc star 1 star 800 3 ∷ doc star 2 star 400 2 ∷ doc star star star 2200 7 ∷ []
+    ∷ doc star star 0 1500 4 ∷ doc star star 1 500 2 ∷ doc star star 2 200 1 ∷ doc star 1 star 800 3
+    ∷ doc star 2 star 400 2 ∷ doc star star star 2200 7 ∷ []
 
 -- level, id, start, end, total, first child and number of children
 abbrev pub at : ℕ → ℕ → ℕ → ℕ → ℕ → ℕ → ℕ → Node
@@ -129,5 +134,6 @@ one_country = (
       at 2 star 3 5 6 8 3 ∷ at 3 0 1 2 1 0 0 ∷ at 3 1 2 3 2 0 0 ∷ at 3 star 5 6 5 0 0 ∷
       at 3 0 3 4 3 0 0 ∷ at 3 1 4 5 4 0 0 ∷ at 3 star 6 7 6 0 0 ∷ [],
   doc 2 0 0 600 1 ∷ doc 2 1 0 400 1 ∷ doc 2 1 1 200 1 ∷ doc 2 star 0 1000 2 ∷
-      doc 2 star 1 200 1 ∷ doc 2 1 star 600 2 ∷ doc 2 star star 1200 3 ∷ doc star star star 1200 3 ∷ [],
+      doc 2 star 1 200 1 ∷ doc 2 1 star 600 2 ∷ doc 2 star star 1200 3 ∷ doc star star star 1200 3
+      ∷ [],
 )

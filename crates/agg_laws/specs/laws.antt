@@ -1,4 +1,5 @@
--- Laws of the definitions, proved: those of each aggregate, of states of any kind, and of rows of them.
+-- Laws of the definitions, proved: those of each aggregate, of states of any kind, and of rows of
+-- them.
 pub mod Permuted
 pub mod Bytes
 pub mod NumberBytes

@@ -1,5 +1,6 @@
 -- The laws of counts.
-use Rattle.std.proofs.Common.{◌≡◌, ℕ, ◌+◌, ◌<◌, ◌≤◌, ◌^◌, get_or, List, ◌++◌, length, refl, sym, ap, ◌∙◌, arith, add_assoc, add_comm, length-append}
+use Rattle.std.proofs.Common.{◌≡◌, ℕ, ◌+◌, ◌<◌, ◌≤◌, ◌^◌, get_or, List, ◌++◌, length, refl, sym, ap}
+use Rattle.std.proofs.Common.{◌∙◌, arith, add_assoc, add_comm, length-append}
 use Rattle.std.proofs.lemmas.Nat.{from_be_bytes-to_be_bytes_8, be_bytes_8}
 use Rattle.std.specs.Prelude.{ℤ}
 use Rattle.std.specs.Int.{w64, from_be_bytes}
@@ -20,7 +21,8 @@ pub any_order : (v w : ℕ) → v + w ≡ w + v
 any_order v w = add_comm v w
 
 pub same_permuted : (xs ys : List ℤ) → IsPermutation xs ys → length ys ≡ length xs
-same_permuted xs ys h = permuted (λ a b. a + b) add_assoc add_comm length (λ x xs. omega arith) xs ys h
+same_permuted xs ys h =
+    permuted (λ a b. a + b) add_assoc add_comm length (λ x xs. omega arith) xs ys h
 
 pub fits_both : (v w n m : ℕ) → v ≤ n → w ≤ m → v + w ≤ n + m
 fits_both v w n m p q = omega arith
@@ -38,10 +40,12 @@ unfolding count_bytes
 read v h = from_be_bytes-to_be_bytes_8 v h
 
 pub one_spelling : (v w : ℕ) → CountStored v → CountStored w → count_bytes v ≡ count_bytes w → v ≡ w
-one_spelling v w h k is = sym (read v (omega arith)) ∙ ap (from_be_bytes w64) is ∙ read w (omega arith)
+one_spelling v w h k is = sym (read v (omega arith)) ∙ ap (from_be_bytes w64) is
+    ∙ read w (omega arith)
 
 -- what was read is written
-pub written : (bs : List ℕ) → length bs ≡ 8 → ((i : ℕ) → get_or bs i 0 < 256) → count_bytes (from_be_bytes w64 bs) ≡ bs
+pub written : (bs : List ℕ) → length bs ≡ 8 → ((i : ℕ) → get_or bs i 0 < 256)
+    → count_bytes (from_be_bytes w64 bs) ≡ bs
 unfolding count_bytes
 written bs l small = be_bytes_8 bs _ l small refl
 

@@ -1,10 +1,12 @@
 -- The laws of greatest numbers.
-use Rattle.std.proofs.Common.{◌≡◌, Option, Some, None, List, [], ◌∷◌, ◌++◌, refl, sym, ap, ◌∙◌, arith}
+use Rattle.std.proofs.Common.{◌≡◌, Option, Some, None, List, [], ◌∷◌, ◌++◌, refl, sym, ap, ◌∙◌}
+use Rattle.std.proofs.Common.{arith}
 use Rattle.std.specs.Prelude.{ℤ}
 use Rattle.std.proofs.lemmas.Int.{ints, clamps}
 use Rattle.std.specs.Int.{int_max}
 use Rattle.std.specs.List.Sorted.{IsPermutation}
-use Rattle.agg_laws.specs.Numbers.{greater, greatest_of, IsWhole, AreWhole, NumberFits, NumberStored}
+use Rattle.agg_laws.specs.Numbers.{greater, greatest_of, IsWhole, AreWhole, NumberFits}
+use Rattle.agg_laws.specs.Numbers.{NumberStored}
 use Rattle.agg_laws.specs.laws.Permuted.{permuted}
 
 pub nothing_added : (v : Option ℤ) → greater v None ≡ v
@@ -31,7 +33,8 @@ any_order (Some x) (Some y) = ap Some (max_comm x y)
 
 pub of_both : (xs ys : List ℤ) → greatest_of (xs ++ ys) ≡ greater (greatest_of xs) (greatest_of ys)
 of_both [] ys = refl
-of_both (x ∷ xs) ys = ap (greater (Some x)) (of_both xs ys) ∙ sym (any_grouping (Some x) (greatest_of xs) (greatest_of ys))
+of_both (x ∷ xs) ys = ap (greater (Some x)) (of_both xs ys)
+    ∙ sym (any_grouping (Some x) (greatest_of xs) (greatest_of ys))
 
 pub same_permuted : (xs ys : List ℤ) → IsPermutation xs ys → greatest_of ys ≡ greatest_of xs
 same_permuted xs ys h = permuted greater any_grouping any_order greatest_of (λ x xs. refl) xs ys h

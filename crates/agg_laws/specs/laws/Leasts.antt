@@ -1,5 +1,6 @@
 -- The laws of least numbers.
-use Rattle.std.proofs.Common.{◌≡◌, Option, Some, None, List, [], ◌∷◌, ◌++◌, refl, sym, ap, ◌∙◌, arith}
+use Rattle.std.proofs.Common.{◌≡◌, Option, Some, None, List, [], ◌∷◌, ◌++◌, refl, sym, ap, ◌∙◌}
+use Rattle.std.proofs.Common.{arith}
 use Rattle.std.specs.Prelude.{ℤ}
 use Rattle.std.proofs.lemmas.Int.{ints, clamps}
 use Rattle.std.specs.Int.{int_min}
@@ -31,7 +32,8 @@ any_order (Some x) (Some y) = ap Some (min_comm x y)
 
 pub of_both : (xs ys : List ℤ) → least_of (xs ++ ys) ≡ lesser (least_of xs) (least_of ys)
 of_both [] ys = refl
-of_both (x ∷ xs) ys = ap (lesser (Some x)) (of_both xs ys) ∙ sym (any_grouping (Some x) (least_of xs) (least_of ys))
+of_both (x ∷ xs) ys = ap (lesser (Some x)) (of_both xs ys)
+    ∙ sym (any_grouping (Some x) (least_of xs) (least_of ys))
 
 pub same_permuted : (xs ys : List ℤ) → IsPermutation xs ys → least_of ys ≡ least_of xs
 same_permuted xs ys h = permuted lesser any_grouping any_order least_of (λ x xs. refl) xs ys h

@@ -1,13 +1,16 @@
 -- The laws of the aggregates, for states of any kind and rows of them.
-use Rattle.std.proofs.Common.{◌≡◌, Bool, true, false, nat_le, if◌then◌else◌, ℕ, ◌+◌, ◌≤◌, List, [], ◌++◌, length, refl, ap, arith}
+use Rattle.std.proofs.Common.{◌≡◌, Bool, true, false, nat_le, if◌then◌else◌, ℕ, ◌+◌, ◌≤◌, List, []}
+use Rattle.std.proofs.Common.{◌++◌, length, refl, ap, arith}
 use Rattle.std.specs.Prelude.{ℤ}
 use Rattle.std.specs.List.Sorted.{IsPermutation}
 use Rattle.agg_laws.specs.declared.aggregate_kind.AggKind.{AggKind}
 use Rattle.agg_laws.specs.declared.aggregate_kind.AggKind.TheVariants as kinds
 use Rattle.agg_laws.specs.declared.states.AggState.{AggState}
-use Rattle.agg_laws.specs.declared.states.AggState.TheVariants.{Count, Sum, Least, Greatest, Average}
+use Rattle.agg_laws.specs.declared.states.AggState.TheVariants.{Count, Sum, Least, Greatest}
+use Rattle.agg_laws.specs.declared.states.AggState.TheVariants.{Average}
 use Rattle.agg_laws.specs.Numbers.{AreWhole, most_stored}
-use Rattle.agg_laws.specs.States.{kind_of, rank_of, state_of, unit_of, merged, Fits, IsStored, spelling}
+use Rattle.agg_laws.specs.States.{kind_of, rank_of, state_of, unit_of, merged, Fits, IsStored}
+use Rattle.agg_laws.specs.States.{spelling}
 use Rattle.agg_laws.specs.Kind.{width_of}
 use Rattle.agg_laws.specs.laws.Counts as counts
 use Rattle.agg_laws.specs.laws.Sums as sums
@@ -30,7 +33,8 @@ nothing_added (Least m) = ap Least (leasts.nothing_added m)
 nothing_added (Greatest m) = ap Greatest (greatests.nothing_added m)
 nothing_added (Average a) = ap Average (averages.nothing_added a)
 
-pub of_both : (k : AggKind) (xs ys : List ℤ) → state_of k (xs ++ ys) ≡ merged (state_of k xs) (state_of k ys)
+pub of_both : (k : AggKind) (xs ys : List ℤ) → state_of k (xs ++ ys)
+    ≡ merged (state_of k xs) (state_of k ys)
 of_both kinds.Count xs ys = ap Count (counts.of_both xs ys)
 of_both kinds.Sum xs ys = ap Sum (sums.of_both xs ys)
 of_both kinds.Least xs ys = ap Least (leasts.of_both xs ys)
@@ -58,7 +62,8 @@ any_order (Greatest v) (Greatest w) = ap Greatest (greatests.any_order v w)
 any_order (Average v) (Average w) = ap Average (averages.any_order v w)
 any_order v w = refl
 
-pub same_permuted : (k : AggKind) (xs ys : List ℤ) → IsPermutation xs ys → state_of k ys ≡ state_of k xs
+pub same_permuted : (k : AggKind) (xs ys : List ℤ) → IsPermutation xs ys → state_of k ys
+    ≡ state_of k xs
 same_permuted kinds.Count xs ys h = ap Count (counts.same_permuted xs ys h)
 same_permuted kinds.Sum xs ys h = ap Sum (sums.same_permuted xs ys h)
 same_permuted kinds.Least xs ys h = ap Least (leasts.same_permuted xs ys h)
@@ -80,7 +85,8 @@ fits_more (Greatest x) n m h le = h
 fits_more (Average a) n m h le = averages.fits_more a n m h le
 
 -- either of two states
-either_fits : (b : Bool) (v w : AggState) (n m : ℕ) → Fits v n → Fits w m → Fits (if b then v else w) (n + m)
+either_fits : (b : Bool) (v w : AggState) (n m : ℕ) → Fits v n → Fits w m
+    → Fits (if b then v else w) (n + m)
 either_fits true v w n m p q = fits_more v n (n + m) p (omega arith)
 either_fits false v w n m p q = fits_more w m (n + m) q (omega arith)
 
@@ -106,7 +112,8 @@ spelled (Least m) h = numbers.spelled m h
 spelled (Greatest m) h = numbers.spelled m h
 spelled (Average a) h = averages.spelled a h
 
-pub one_spelling : (v w : AggState) → kind_of v ≡ kind_of w → IsStored v → IsStored w → spelling v ≡ spelling w → v ≡ w
+pub one_spelling : (v w : AggState) → kind_of v ≡ kind_of w → IsStored v → IsStored w → spelling v
+    ≡ spelling w → v ≡ w
 one_spelling (Count v) (Count w) same h k is = ap Count (counts.one_spelling v w h k is)
 one_spelling (Sum v) (Sum w) same h k is = ap Sum (sums.one_spelling v w h k is)
 one_spelling (Least v) (Least w) same h k is = ap Least (numbers.one_spelling v w h k is)

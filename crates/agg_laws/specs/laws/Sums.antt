@@ -1,5 +1,6 @@
 -- The laws of sums.
-use Rattle.std.proofs.Common.{◌≡◌, ℕ, ◌+◌, ◌^◌, ◌<◌, ◌≤◌, List, [], ◌∷◌, ◌++◌, length, get_or, refl, sym, ap, ◌∙◌, arith}
+use Rattle.std.proofs.Common.{◌≡◌, ℕ, ◌+◌, ◌^◌, ◌<◌, ◌≤◌, List, [], ◌∷◌, ◌++◌, length, get_or, refl}
+use Rattle.std.proofs.Common.{sym, ap, ◌∙◌, arith}
 use Rattle.std.specs.Prelude.{ℤ, pos, negsuc, ◌+ℤ◌}
 use Rattle.std.proofs.lemmas.Int.{ints, to_z-of_z, of_z-to_z}
 use Rattle.std.specs.Int.{w128, to_be_bytes, from_be_bytes, cast_signed, cast_unsigned}
@@ -20,7 +21,8 @@ any_order v w = omega (arith, ints)
 
 pub of_both : (xs ys : List ℤ) → sum_of (xs ++ ys) ≡ sum_of xs +ℤ sum_of ys
 of_both [] ys = omega (arith, ints)
-of_both (x ∷ xs) ys = ap (λ s. x +ℤ s) (of_both xs ys) ∙ sym (any_grouping x (sum_of xs) (sum_of ys))
+of_both (x ∷ xs) ys = ap (λ s. x +ℤ s) (of_both xs ys)
+    ∙ sym (any_grouping x (sum_of xs) (sum_of ys))
 
 pub of_more : (x : ℤ) (xs : List ℤ) → sum_of (x ∷ xs) ≡ sum_of (x ∷ []) +ℤ sum_of xs
 of_more x xs = ap (λ s. s +ℤ sum_of xs) (sym (nothing_added x))
@@ -33,7 +35,8 @@ fits_both v w n m p q = (omega (arith, ints), omega (arith, ints))
 
 pub fits_of : (xs : List ℤ) → AreWhole xs → SumFits (sum_of xs) (length xs)
 fits_of [] h = (omega (arith, ints), omega (arith, ints))
-fits_of (x ∷ xs) h = let more = fits_of xs h.1 in let own = h.0 in (omega (arith, ints), omega (arith, ints))
+fits_of (x ∷ xs) h = let more = fits_of xs h.1 in let own = h.0
+    in (omega (arith, ints), omega (arith, ints))
 
 pub fits_more : (v : ℤ) (n m : ℕ) → SumFits v n → n ≤ m → SumFits v m
 fits_more v n m h le = (omega (arith, ints), omega (arith, ints))
@@ -53,15 +56,21 @@ unsigned (negsuc n) h = omega (arith, h.sfits)
 -- what was written is read
 pub read : (v : ℤ) → FitsSigned w128 v → cast_signed w128 (from_be_bytes w128 (sum_bytes v)) ≡ v
 unfolding sum_bytes
-read v h = ap (cast_signed w128) (from_be_bytes-to_be_bytes_16 (cast_unsigned w128 v) (unsigned v h)) ∙ to_z-of_z w128 v h
+read v h = ap (cast_signed w128)
+    (from_be_bytes-to_be_bytes_16 (cast_unsigned w128 v) (unsigned v h)) ∙ to_z-of_z w128 v h
 
 pub same_sum : (v w : ℤ) → FitsSigned w128 v → FitsSigned w128 w → sum_bytes v ≡ sum_bytes w → v ≡ w
-same_sum v w h k is = sym (read v h) ∙ ap (λ bs. cast_signed w128 (from_be_bytes w128 bs)) is ∙ read w k
+same_sum v w h k is = sym (read v h) ∙ ap (λ bs. cast_signed w128 (from_be_bytes w128 bs)) is
+    ∙ read w k
 
 pub one_spelling : (v w : ℤ) → SumStored v → SumStored w → sum_bytes v ≡ sum_bytes w → v ≡ w
-one_spelling v w h k is = same_sum v w (fits_128 v most_stored (omega arith) h) (fits_128 w most_stored (omega arith) k) is
+one_spelling v w h k is =
+    same_sum v w (fits_128 v most_stored (omega arith) h)
+    (fits_128 w most_stored (omega arith) k) is
 
 -- what was read is written
-pub written : (bs : List ℕ) → length bs ≡ 16 → ((i : ℕ) → get_or bs i 0 < 256) → sum_bytes (cast_signed w128 (from_be_bytes w128 bs)) ≡ bs
+pub written : (bs : List ℕ) → length bs ≡ 16 → ((i : ℕ) → get_or bs i 0 < 256)
+    → sum_bytes (cast_signed w128 (from_be_bytes w128 bs)) ≡ bs
 unfolding sum_bytes
-written bs l small = ap (to_be_bytes w128) (of_z-to_z w128 (from_be_bytes w128 bs) (below_16 bs small)) ∙ be_bytes_16 bs l small
+written bs l small = ap (to_be_bytes w128)
+    (of_z-to_z w128 (from_be_bytes w128 bs) (below_16 bs small)) ∙ be_bytes_16 bs l small

@@ -8,12 +8,19 @@ pub returns-then-at-y : goal.returns-then-at-y
 returns-then-at-y c =
     let x = c.args.x.now in
     let y = c.args.y.now in
-    sym (c.loop-at.invariant.left ∙ longer c.loop-at.at (set_star c.args.level x) (set_star c.args.level y) (omega (arith, c.loop-at-test.true, length-set x c.args.level star)) (omega (arith, c.if-at-y.true, length-set y c.args.level star)))
+    sym (c.loop-at.invariant.left
+    ∙ longer c.loop-at.at (set_star c.args.level x) (set_star c.args.level y)
+    (omega (arith, c.loop-at-test.true, length-set x c.args.level star))
+    (omega (arith, c.if-at-y.true, length-set y c.args.level star)))
 
 pub returns : goal.returns
 returns c =
     let x = c.args.x.now in
     let y = c.args.y.now in
     c.cmp.ensures
-    ∙ (λ i. nat_cmp (sym (length-set x c.args.level star) i) (sym (length-set y c.args.level star) i))
-    ∙ sym (c.loop-at.invariant.left ∙ ended c.loop-at.at (set_star c.args.level x) (set_star c.args.level y) (omega (arith, c.loop-at-test.false, c.loop-at.auto.at-end, length-set x c.args.level star)) (omega (arith, c.loop-at.invariant.within, length-set y c.args.level star)))
+    ∙ (λ i. nat_cmp (sym (length-set x c.args.level star) i)
+    (sym (length-set y c.args.level star) i))
+    ∙ sym (c.loop-at.invariant.left
+    ∙ ended c.loop-at.at (set_star c.args.level x) (set_star c.args.level y)
+    (omega (arith, c.loop-at-test.false, c.loop-at.auto.at-end, length-set x c.args.level star))
+    (omega (arith, c.loop-at.invariant.within, length-set y c.args.level star)))

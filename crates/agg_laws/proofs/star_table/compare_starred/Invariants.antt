@@ -6,6 +6,7 @@ use Rattle.agg_laws.proofs.star_table.compare_starred.Given as goal
 
 abbrev pub invariant-loop-at : goal.invariant-loop-at
 invariant-loop-at l = record {
-  left : dims_order (set_star l.level l.x) (set_star l.level l.y) ≡ slice_cmp nat_cmp (drop l.at (set_star l.level l.x)) (drop l.at (set_star l.level l.y));
+  left : dims_order (set_star l.level l.x) (set_star l.level l.y)
+      ≡ slice_cmp nat_cmp (drop l.at (set_star l.level l.x)) (drop l.at (set_star l.level l.y));
   within : l.at ≤ length l.y;
 }

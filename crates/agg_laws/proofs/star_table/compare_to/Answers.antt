@@ -8,7 +8,9 @@ pub returns-then-at-y : goal.returns-then-at-y
 returns-then-at-y c =
     let x = c.args.x.now in
     let y = c.args.y.now in
-    sym (c.loop-at.invariant.left ∙ longer c.loop-at.at x (set_star c.args.level y) (omega (arith, c.loop-at-test.true)) (omega (arith, c.if-at-y.true, length-set y c.args.level star)))
+    sym (c.loop-at.invariant.left
+    ∙ longer c.loop-at.at x (set_star c.args.level y) (omega (arith, c.loop-at-test.true))
+    (omega (arith, c.if-at-y.true, length-set y c.args.level star)))
 
 pub returns : goal.returns
 returns c =
@@ -16,4 +18,7 @@ returns c =
     let y = c.args.y.now in
     c.cmp.ensures
     ∙ (λ i. nat_cmp (length x) (sym (length-set y c.args.level star) i))
-    ∙ sym (c.loop-at.invariant.left ∙ ended c.loop-at.at x (set_star c.args.level y) (omega (arith, c.loop-at-test.false, c.loop-at.auto.at-end)) (omega (arith, c.loop-at.invariant.within, length-set y c.args.level star)))
+    ∙ sym (c.loop-at.invariant.left
+    ∙ ended c.loop-at.at x (set_star c.args.level y)
+    (omega (arith, c.loop-at-test.false, c.loop-at.auto.at-end))
+    (omega (arith, c.loop-at.invariant.within, length-set y c.args.level star)))

@@ -4,4 +4,5 @@ use Rattle.agg_laws.proofs.Places.{mixed}
 use Rattle.agg_laws.proofs.state_row.add_values.Given as goal
 
 abbrev pub invariant-loop-i : goal.invariant-loop-i
-invariant-loop-i l = l.states ≡ mixed l.i l.initial.states (row_of (kinds_of l.initial.states) (l.values ∷ []))
+invariant-loop-i l = l.states
+    ≡ mixed l.i l.initial.states (row_of (kinds_of l.initial.states) (l.values ∷ []))

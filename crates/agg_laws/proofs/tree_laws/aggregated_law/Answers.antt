@@ -4,4 +4,5 @@ use Rattle.agg_laws.proofs.AggregatedLemmas.{aggregated_is}
 use Rattle.agg_laws.proofs.tree_laws.aggregated_law.Goals as goal
 
 pub returns : goal.returns
-returns c k rows docs path ids short covers = aggregated_is merged_rows rows_join k rows docs path ids short covers.docs_are
+returns c k rows docs path ids short covers =
+    aggregated_is merged_rows rows_join k rows docs path ids short covers.docs_are

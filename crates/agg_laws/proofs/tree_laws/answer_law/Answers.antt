@@ -16,31 +16,45 @@ use Rattle.agg_laws.proofs.DocLemmas.{rows_join, own_entries, total-projected}
 use Rattle.agg_laws.proofs.AnswerLemmas.{answer_total, same_groups}
 use Rattle.agg_laws.proofs.tree_laws.answer_law.Goals as goal
 
-ids_projected : (ks : List AggKind) (k : ℕ) (rows : List (List ℕ × List ℤ)) → HaveIds k rows → HaveIds k (projected ks rows)
+ids_projected : (ks : List AggKind) (k : ℕ) (rows : List (List ℕ × List ℤ)) → HaveIds k rows
+    → HaveIds k (projected ks rows)
 ids_projected ks k [] h = tt
 ids_projected ks k (row ∷ rows) h = (h.0, ids_projected ks k rows h.1)
 
-no_star_projected : (ks : List AggKind) (k : ℕ) (rows : List (List ℕ × List ℤ)) → HaveNoStar k rows → HaveNoStar k (projected ks rows)
+no_star_projected : (ks : List AggKind) (k : ℕ) (rows : List (List ℕ × List ℤ)) → HaveNoStar k rows
+    → HaveNoStar k (projected ks rows)
 no_star_projected ks k [] h = tt
 no_star_projected ks k (row ∷ rows) h = (h.0, no_star_projected ks k rows h.1)
 
-states : (t : Task) (shape : TreeShape) (k : ℕ) (ks : List AggKind) (rows : List (List ℕ × List ℤ)) (key : List ℕ) → HaveIds k rows → HaveNoStar k rows
-    → find dims_order key (groups_of merged_rows t k (passing t k (picks merged_rows t k (tree_of merged_rows shape k (projected ks rows))))) ≡ states_of ks (map (λ row. row.1) (rows_with_key t k key rows))
+states : (t : Task) (shape : TreeShape) (k : ℕ) (ks : List AggKind) (rows : List (List ℕ × List ℤ))
+    (key : List ℕ) → HaveIds k rows → HaveNoStar k rows
+    → find dims_order key
+    (groups_of merged_rows t k
+    (passing t k (picks merged_rows t k (tree_of merged_rows shape k (projected ks rows)))))
+    ≡ states_of ks (map (λ row. row.1) (rows_with_key t k key rows))
 states t shape k ks rows key ids no_star =
     let docs = projected ks rows in
     let read = passing t k (picks merged_rows t k (tree_of merged_rows shape k docs)) in
     own_entries (rekey (key_from t k 0) read) key
     ∙ total-rekey merged_rows rows_join (key_from t k 0) (eq_by_cmp dims_order key) read
-    ∙ answer_total merged_rows rows_join t k (eq_by_cmp dims_order key) shape docs (ids_projected ks k rows ids) (no_star_projected ks k rows no_star)
-    ∙ total-projected ks (λ x. holds_from t k 0 x && eq_by_cmp dims_order key (key_from t k 0 x)) rows
+    ∙ answer_total merged_rows rows_join t k (eq_by_cmp dims_order key) shape docs
+    (ids_projected ks k rows ids) (no_star_projected ks k rows no_star)
+    ∙ total-projected ks
+    (λ x. holds_from t k 0 x && eq_by_cmp dims_order key (key_from t k 0 x)) rows
 
-none_of_none : (ks : List AggKind) (o : Option (List AggState)) (rows : List (List ℕ × List ℤ)) → o ≡ states_of ks (map (λ row. row.1) rows) → (o ≡ None) ↔ (rows ≡ [])
+none_of_none : (ks : List AggKind) (o : Option (List AggState)) (rows : List (List ℕ × List ℤ)) → o
+    ≡ states_of ks (map (λ row. row.1) rows) → (o ≡ None) ↔ (rows ≡ [])
 none_of_none ks o [] is = ((λ _. refl), (λ _. is))
 none_of_none ks o (row ∷ rows) is = ((λ e. cc), (λ e. cc))
 
 pub returns : goal.returns
 returns c = record {
-  groups = λ t shape k docs ids no_star. same_groups merged_rows rows_join t k shape docs ids no_star;
+  groups = λ t shape k docs ids no_star. same_groups merged_rows rows_join t k shape docs ids
+      no_star;
   states = states;
-  keys = λ t shape k ks rows key ids no_star. none_of_none ks (find dims_order key (groups_of merged_rows t k (passing t k (picks merged_rows t k (tree_of merged_rows shape k (projected ks rows)))))) (rows_with_key t k key rows) (states t shape k ks rows key ids no_star);
+  keys = λ t shape k ks rows key ids no_star. none_of_none ks
+      (find dims_order key
+      (groups_of merged_rows t k
+      (passing t k (picks merged_rows t k (tree_of merged_rows shape k (projected ks rows))))))
+      (rows_with_key t k key rows) (states t shape k ks rows key ids no_star);
 }

@@ -1,7 +1,8 @@
 use Rattle.std.proofs.lemmas.Cmp.{nat_list_cmp_total}
 use Rattle.agg_laws.specs.Rows.{merged_rows}
 use Rattle.agg_laws.specs.Tree.{dims_order, set_star}
-use Rattle.agg_laws.proofs.MergedLemmas.{Merged-permutation, Merged-rekey, filter-Merged, total-Merged}
+use Rattle.agg_laws.proofs.MergedLemmas.{Merged-permutation, Merged-rekey, filter-Merged}
+use Rattle.agg_laws.proofs.MergedLemmas.{total-Merged}
 use Rattle.agg_laws.proofs.TreeLemmas.{same_dims}
 use Rattle.agg_laws.proofs.DocLemmas.{rows_join, ascending, own_entries, only}
 use Rattle.agg_laws.proofs.tree_laws.merged_law.Goals as goal
@@ -12,7 +13,8 @@ returns c = record {
   own_entries = own_entries;
   only = only;
   any_order = Merged-permutation dims_order nat_list_cmp_total same_dims merged_rows rows_join;
-  starred = λ d. Merged-rekey dims_order nat_list_cmp_total same_dims dims_order nat_list_cmp_total same_dims merged_rows rows_join (set_star d);
+  starred = λ d. Merged-rekey dims_order nat_list_cmp_total same_dims dims_order nat_list_cmp_total
+      same_dims merged_rows rows_join (set_star d);
   part = filter-Merged dims_order nat_list_cmp_total same_dims merged_rows rows_join;
   whole = total-Merged dims_order nat_list_cmp_total same_dims merged_rows rows_join;
 }

@@ -4,4 +4,5 @@ use Rattle.agg_laws.proofs.DocLemmas.{rows_join}
 use Rattle.agg_laws.proofs.tree_laws.reads_law.Goals as goal
 
 pub returns : goal.returns
-returns c t shape k docs ids no_star leaf some = tree_read merged_rows rows_join t k shape docs ids no_star leaf some
+returns c t shape k docs ids no_star leaf some =
+    tree_read merged_rows rows_join t k shape docs ids no_star leaf some

@@ -6,7 +6,8 @@ use Rattle.agg_laws.proofs.star_table.StarTable.append_starred.Given as goal
 
 abbrev pub invariant-loop-i : goal.invariant-loop-i
 invariant-loop-i l = record {
-  docs : l.self.docs ≡ l.fn.self.docs ++ merged_docs merged_rows (starred_at l.level l.fn.self.docs (take l.i l.order.items));
+  docs : l.self.docs ≡ l.fn.self.docs
+      ++ merged_docs merged_rows (starred_at l.level l.fn.self.docs (take l.i l.order.items));
   room : l.self.spare + length l.self.docs ≡ l.fn.self.spare + length l.fn.self.docs;
   dims : l.self.dims ≡ l.fn.self.dims;
   kinds : l.self.kinds ≡ l.fn.self.kinds;
