@@ -54,7 +54,6 @@ short_fits text short =
     let fit : nat_le (length text) 512 ≡ true = search (rules, tests) in
     both_true (nat_le (length text) 512) (nat_le (length text) 64) fit short
 
-
 -- a whole number in range
 abbrev IsIn : FieldKind → Value → Type 0
 IsIn kind w = (z : ℤ) × (value.Whole z ≡ w) × (is_in_range kind z ≡ true)
