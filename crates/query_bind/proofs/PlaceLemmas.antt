@@ -31,7 +31,7 @@ use Rattle.query_bind.specs.Bound.{Bound, bound_of, bound, query_finding, answer
 use Rattle.query_bind.specs.Places.{at_place, ItemsAreTerms, KeysAreTerms}
 use Rattle.table_schema.specs.declared.query.Agg.{Agg}
 use Rattle.table_schema.specs.Aggs.{same_function, same_column, same_agg}
-use Rattle.table_schema.specs.Firsts.{or_else, first_in}
+use Rattle.table_schema.specs.Firsts.{first_in}
 use Rattle.table_schema.proofs.FirstLaws.{first_none, rest_none}
 
 -- ---- what is put into a list without repeats

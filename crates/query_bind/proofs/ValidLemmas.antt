@@ -1,14 +1,13 @@
 -- A bound query that some text spells is valid.
-use Rattle.std.proofs.Common.{◌≡◌, ◌≢◌, ℕ, zero, suc, ◌<◌, ◌≤◌, nat_lt, nat_eq, Bool, true, false, ◌||◌, List, [], ◌∷◌, length, map, Option, Some, None, option_map, Result, Ok, Err, refl, sym, ap, ◌∙◌, subst, arith, rules, tests, IfOk}
+use Rattle.std.proofs.Common.{◌≡◌, ℕ, zero, suc, ◌<◌, nat_lt, nat_eq, Bool, true, false, ◌||◌, List, [], ◌∷◌, length, map, Option, Some, None, option_map, Result, Ok, Err, refl, sym, subst, arith, rules, tests, IfOk}
 use Rattle.std.specs.List.{list_all, list_any, slice_get, IsDistinct}
 use Rattle.std.proofs.lemmas.Bool.{false≢true}
-use Rattle.std.proofs.lemmas.Option.{none-some, same_Some}
+use Rattle.std.proofs.lemmas.Option.{none-some}
 use Rattle.table_schema.specs.declared.field.Field.{Field}
 use Rattle.table_schema.specs.declared.table.Table.{Table}
 use Rattle.table_schema.specs.declared.query.Agg.{Agg}
 use Rattle.table_schema.specs.declared.query.Item.{Item}
 use Rattle.table_schema.specs.declared.query.Item.TheVariants as item
-use Rattle.table_schema.specs.declared.query.OrderKey.{OrderKey}
 use Rattle.table_schema.specs.declared.query.BoundQuery.{BoundQuery}
 use Rattle.table_schema.specs.Aggs.{same_agg}
 use Rattle.table_schema.specs.ValidQuery.{is_item, IsValidQuery}

@@ -1,7 +1,6 @@
 -- Numbers of fields that stand for names are in range.
-use Rattle.std.proofs.Common.{◌≡◌, ℕ, suc, ◌+◌, ◌<◌, ◌==◌, nat_lt, Bool, true, false, List, [], ◌∷◌, ◌++◌, length, map, flat_map, Option, Some, None, Ok, is_some, unwrap_or, if◌then◌else◌, refl, sym, ap, ◌∙◌, subst, arith, rules, tests}
+use Rattle.std.proofs.Common.{◌≡◌, ℕ, ◌==◌, nat_lt, Bool, true, false, List, [], ◌∷◌, ◌++◌, length, map, flat_map, Option, Some, None, Ok, is_some, unwrap_or, if◌then◌else◌, refl, sym, ap, ◌∙◌, subst}
 use Rattle.std.specs.List.{list_all}
-use Rattle.std.specs.Str.{bytes_eq}
 use Rattle.std.proofs.lemmas.Option.{none-some}
 use Rattle.std.proofs.lemmas.List.{append-nil}
 use Rattle.std.proofs.lemmas.List.Concat.{flat_map-append}
@@ -12,7 +11,7 @@ use Rattle.table_schema.specs.declared.query.Wide.{Wide}
 use Rattle.table_schema.specs.declared.query.Wide.TheOpen.{Wide-F}
 use Rattle.table_schema.specs.declared.query.Wide.TheFolds.{fold-roll-Wide}
 use Rattle.table_schema.specs.declared.query.Wide.TheViews.{out-Wide, roll-Wide, roll-out-Wide}
-use Rattle.table_schema.specs.Columns.{number_from, number_of}
+use Rattle.table_schema.specs.Columns.{number_of}
 use Rattle.values.specs.declared.test.Test.TheVariants as test
 use Rattle.values.specs.Tests.{negated_if}
 use Rattle.query_parser.specs.declared.tree.NameAt.{NameAt}

@@ -6,7 +6,6 @@ use Rattle.query_bind.specs.declared.terms.TermAt.{TermAt}
 use Rattle.query_bind.specs.declared.terms.KeyAt.{KeyAt}
 use Rattle.query_bind.specs.declared.terms.ColumnAt.{ColumnAt}
 use Rattle.query_bind.specs.Terms.{columns_from, aggs_from}
-use Rattle.query_bind.specs.Places.{OfBound}
 use Rattle.query_bind.specs.Limits.{aggs_finding, groups_finding, keys_finding}
 use Rattle.table_schema.specs.declared.query.Agg.{Agg}
 
@@ -41,4 +40,3 @@ FirstKey = (aggs : List Agg) (before : List KeyAt) (k : KeyAt) (after : List Key
     → length (aggs_from aggs (map (λ k. k.term) before)) ≤ 16
     → (16 ≤ length before) ⊎ (16 < length (aggs_from aggs (map (λ k. k.term) (before ++ k ∷ []))))
     → keys_finding 0 aggs (before ++ k ∷ after) ≡ Some (At TooMany k.term.offset)
-

@@ -1,5 +1,5 @@
 -- What the places in a bound query say: laws of the definition.
-use Rattle.std.specs.Prelude.{◌≡◌, Bool, map, length, Option, Some, Ok, option_map}
+use Rattle.std.specs.Prelude.{◌≡◌, Bool, map, Option, Some, Ok, option_map}
 use Rattle.std.specs.List.{slice_get}
 use Rattle.table_schema.specs.declared.table.Table.{Table}
 use Rattle.table_schema.specs.declared.query.Item.{Item}
@@ -9,7 +9,7 @@ use Rattle.query_bind.specs.declared.terms.Meaning.{Meaning}
 use Rattle.query_bind.specs.declared.terms.Meaning.TheVariants as meaning
 use Rattle.query_bind.specs.Names.{meant}
 use Rattle.query_bind.specs.Terms.{meaning_of}
-use Rattle.query_bind.specs.Bound.{Bound, bound, Spelled}
+use Rattle.query_bind.specs.Bound.{Bound, bound}
 
 -- the column or the aggregate at a place, if there is one
 abbrev pub at_place : Bound → Item → Option Meaning
@@ -27,4 +27,3 @@ ItemsAreTerms = OfBound (λ table q b. map (at_place b) b.items ≡ map (λ i. S
 -- and at the place of each key what the key stands for
 abbrev pub KeysAreTerms : Type 0
 KeysAreTerms = OfBound (λ table q b. map (λ k. at_place b k.item) b.order ≡ map (λ k. Some (meaning_of table.schema.fields (meant q.items k.term))) q.order)
-

@@ -1,5 +1,5 @@
 -- What the terms and the group columns of a query are, by numbers of fields.
-use Rattle.std.specs.Prelude.{ℕ, Bool, ◌&&◌, ◌==◌, if◌then◌else◌, List, [], ◌∷◌, ◌++◌, map, Option, Some, None}
+use Rattle.std.specs.Prelude.{ℕ, Bool, ◌==◌, if◌then◌else◌, List, [], ◌∷◌, ◌++◌, map, Option, Some, None}
 use Rattle.std.specs.List.{list_any}
 use Rattle.agg_laws.specs.declared.aggregate_kind.AggKind.{AggKind}
 use Rattle.agg_laws.specs.declared.aggregate_kind.AggKind.TheVariants.{Count, Sum, Least, Greatest, Average}
@@ -24,7 +24,6 @@ use Rattle.query_bind.specs.declared.distinct.Lists.{Lists}
 use Rattle.query_bind.specs.Written.{field_number}
 use Rattle.query_bind.specs.Names.{meant}
 use Rattle.table_schema.specs.declared.query.Agg.{Agg}
-use Rattle.table_schema.specs.Aggs.{same_function, same_column}
 use Rattle.table_schema.specs.Aggs.{same_agg}
 
 -- ---- terms

@@ -44,4 +44,3 @@ pub fn agg_list_law()
     ensures once { AggsStandOnce }
     ensures written { AggsAreWritten }
 {}
-

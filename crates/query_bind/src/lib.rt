@@ -10,8 +10,8 @@ mod distinct;
 mod fault;
 mod items;
 mod labels;
-pub mod lookups;
 pub mod laws;
+mod lookups;
 mod normal;
 mod terms;
 

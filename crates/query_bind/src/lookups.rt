@@ -11,17 +11,17 @@ use std::collections::HashMap;
 use values::NoMemory;
 
 /// The terms of items by their AS names.
-pub type Labels<'q> = HashMap<&'q str, &'q Term>;
+type Labels<'q> = HashMap<&'q str, &'q Term>;
 
 /// The names of GROUP BY, each by its text.
-pub type Groups<'q> = HashMap<&'q str, &'q NameAt>;
+type Groups<'q> = HashMap<&'q str, &'q NameAt>;
 
 /// A query, with its AS names and the names of GROUP BY in maps.
 #[derive(Drop)]
-pub struct QueryNames<'q> {
-    pub query: &'q Query,
-    pub labels: Labels<'q>,
-    pub groups: Groups<'q>,
+pub(crate) struct QueryNames<'q> {
+    pub(crate) query: &'q Query,
+    labels: Labels<'q>,
+    groups: Groups<'q>,
     ghost labels_known: { KnowsLabels query.now.items labels },
     ghost groups_known: { KnowsGroups query.now.groups groups },
 }

@@ -163,7 +163,7 @@ pub(crate) fn keys_at<'q>(
 ) -> Result<Seq<KeyAt>, BindFault>
     requires { length fields.now ≤ 64 }
     ensures { Gives (first_in (λ k. naming.term_finding fields.now
-            (naming.meant names.now.query.now.items k.term)) order.now)
+        (naming.meant names.now.query.now.items k.term)) order.now)
         (map (spec.key_at fields.now names.now.query.now.items) order.now) result }
 {
     let mut keys = Seq::with_capacity(alloc, order.len())?;

@@ -1,9 +1,9 @@
 -- The pairs that a star-tree keeps: each is of a column that its function takes.
-use Rattle.std.proofs.Common.{◌≡◌, ℕ, suc, ◌+◌, ◌<◌, ◌≤◌, cond, Bool, true, false, ◌&&◌, ◌||◌, drop, take, List, [], ◌∷◌, ◌++◌, length, codes, Option, Some, None, is_some, option_and_then, refl, sym, ap, ◌∙◌, subst, arith, length-append}
+use Rattle.std.proofs.Common.{◌≡◌, ℕ, ◌+◌, ◌<◌, ◌≤◌, cond, Bool, true, false, ◌&&◌, ◌||◌, drop, take, List, [], ◌∷◌, ◌++◌, length, codes, Option, Some, None, is_some, option_and_then, refl, sym, ◌∙◌, subst, arith, length-append}
 use Rattle.std.specs.List.{list_all, list_any, slice_get}
 use Rattle.std.specs.Str.{bytes_eq}
 use Rattle.std.proofs.lemmas.Bool.{false≢true}
-use Rattle.std.proofs.lemmas.Option.{none-some, cond_some, same_Some}
+use Rattle.std.proofs.lemmas.Option.{none-some, cond_some}
 use Rattle.std.proofs.lemmas.List.Folds.{list_all-append}
 use Rattle.serde_json.specs.Data.{Data}
 use Rattle.agg_laws.specs.declared.aggregate_kind.AggKind.{AggKind}
@@ -17,10 +17,10 @@ use Rattle.table_schema.specs.Firsts.{by_place}
 use Rattle.table_schema.specs.Keys.{text_finding}
 use Rattle.table_schema.specs.Columns.{number_of, is_known, text_of}
 use Rattle.table_schema.specs.Aggs.{same_agg}
-use Rattle.table_schema.specs.Pairs.{function_named, mark_from, is_numeric, numeric_pair, pair_by, split_pair, pair_of, with_pair, with_found, pairs_from, pair_finding}
+use Rattle.table_schema.specs.Pairs.{function_named, mark_from, is_numeric, numeric_pair, pair_by, split_pair, pair_of, with_found, pairs_from, pair_finding}
 use Rattle.table_schema.specs.ValidSettings.{pair_fits}
 use Rattle.table_schema.proofs.SchemaLaw.{unless_none, both_true}
-use Rattle.table_schema.proofs.FirstLaws.{first_none, rest_none, nones}
+use Rattle.table_schema.proofs.FirstLaws.{first_none, nones}
 
 module _ (fields : List Field) where
   abbrev fits : Agg → Bool

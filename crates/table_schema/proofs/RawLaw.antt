@@ -1,7 +1,6 @@
 -- No raw metric that the checks of settings accept needs its ids.
 use Rattle.std.proofs.Common.{◌≡◌, ℕ, zero, suc, Bool, true, false, ◌&&◌, ◌||◌, List, [], ◌∷◌, ◌++◌, map, length, Option, Some, None, unwrap_or, refl, sym, ap, ◌∙◌, subst}
-use Rattle.std.specs.List.{list_any, slice_get}
-use Rattle.std.specs.Str.{bytes_eq}
+use Rattle.std.specs.List.{slice_get}
 use Rattle.std.proofs.lemmas.Bool.{false≢true}
 use Rattle.std.proofs.lemmas.Slice.Eq.{bytes_eq-Decides}
 use Rattle.serde_json.specs.Data.{Data}
@@ -13,7 +12,7 @@ use Rattle.table_schema.specs.Json.{Text}
 use Rattle.table_schema.specs.Faults.{at_place}
 use Rattle.table_schema.specs.Firsts.{by_place}
 use Rattle.table_schema.specs.Columns.{number_of, text_of, is_the_text, has_text, named}
-use Rattle.table_schema.specs.Indexes.{is_metric_at, is_set, needs_ids, misfits_at, misfits, raw_place}
+use Rattle.table_schema.specs.Indexes.{is_metric_at, is_set, needs_ids, misfits, raw_place}
 use Rattle.table_schema.specs.Valid.{no_repeat}
 use Rattle.table_schema.proofs.SchemaLaw.{if_none}
 use Rattle.table_schema.proofs.NumberLaw.{both, number_own}

@@ -20,7 +20,7 @@ use Rattle.table_schema.specs.declared.fault.TextFault.{TextFault}
 use Rattle.table_schema.specs.declared.field.Schema.{Schema}
 use Rattle.table_schema.specs.declared.fault.KeyKind.TheVariants.{WrongKind, TooMany, BadName, UnknownType, Unsupported, DuplicateColumn, MissingKey}
 use Rattle.table_schema.specs.Json.{Text, key_of}
-use Rattle.table_schema.specs.Faults.{Finding, Gives, fault_unless, fault_if, below}
+use Rattle.table_schema.specs.Faults.{Gives, fault_unless, fault_if, below}
 use Rattle.table_schema.specs.Keys.{optional, object_finding, required_text, text_at, optional_array}
 use Rattle.table_schema.specs.Names.{is_column_name}
 use Rattle.table_schema.specs.Defaults.{DEFAULT_KEY, text_default, whole_default, number_default, given_default, default_finding, usual_default, default_of}
@@ -29,7 +29,7 @@ use Rattle.table_schema.specs.Schemas.{head_finding, lists_finding, fields_findi
 use Rattle.table_schema.specs.Valid.{default_fits, is_valid_field, no_repeat, IsValidSchema}
 use Rattle.table_schema.proofs.FieldWalk.{check, names_of}
 use Rattle.table_schema.proofs.Places.{length-map, map-append}
-use Rattle.table_schema.specs.Firsts.{or_else, first_of, by_place}
+use Rattle.table_schema.specs.Firsts.{by_place}
 use Rattle.table_schema.proofs.FirstLaws.{first_none, rest_none, nones}
 
 -- ---- checks that found nothing
@@ -53,7 +53,6 @@ short_fits text short =
     let few : length text ≤ 64 = search (rules, tests) in
     let fit : nat_le (length text) 512 ≡ true = search (rules, tests) in
     both_true (nat_le (length text) 512) (nat_le (length text) 64) fit short
-
 
 -- a whole number in range
 abbrev IsIn : FieldKind → Value → Type 0

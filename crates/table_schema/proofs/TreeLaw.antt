@@ -1,6 +1,6 @@
 -- What the checks of star-trees accept is valid.
-use Rattle.std.proofs.Common.{◌≡◌, ℕ, zero, suc, ◌+◌, ◌*◌, ◌^◌, ◌<◌, ◌≤◌, ◌==◌, nat_le, Bool, true, false, not, ◌&&◌, List, [], ◌∷◌, ◌++◌, map, length, codes, Option, Some, None, is_some, option_and_then, unwrap_or, if◌then◌else◌, refl, sym, ap, ◌∙◌, subst, arith, rules, tests}
-use Rattle.std.specs.List.{list_all, list_any, cons_option, AllByRecursion}
+use Rattle.std.proofs.Common.{◌≡◌, ℕ, suc, ◌+◌, ◌*◌, ◌^◌, ◌<◌, ◌≤◌, ◌==◌, nat_le, Bool, true, false, not, List, [], ◌∷◌, ◌++◌, map, length, codes, Option, Some, None, is_some, option_and_then, unwrap_or, if◌then◌else◌, refl, ap, subst, arith, rules, tests}
+use Rattle.std.specs.List.{list_all, cons_option, AllByRecursion}
 use Rattle.std.proofs.lemmas.Bool.{false≢true}
 use Rattle.serde_json.specs.Data.{Data}
 use Rattle.table_schema.specs.declared.field.Field.{Field}
@@ -11,7 +11,7 @@ use Rattle.table_schema.specs.Firsts.{by_place}
 use Rattle.table_schema.specs.Keys.{required, object_finding, text_finding, unused_key, optional_array, items_at}
 use Rattle.table_schema.specs.Columns.{number_of, is_known, text_of, numbers_of, is_member, column_finding}
 use Rattle.table_schema.specs.Pairs.{pairs_of, pair_places, pairs_finding}
-use Rattle.table_schema.specs.Trees.{some_items, needed_array, has_number, is_taken, split_place, split_places, SPLIT_KEY, split_finding, split_of, skip_finding, skips_of, bits_of, PAIRS_KEY, tree_pairs_finding, tree_pairs_of, count_of, LEAF_KEY, leaf_finding, leaf_size, tree_finding, tree_of, TREES_KEY, tree_places, trees_finding}
+use Rattle.table_schema.specs.Trees.{some_items, needed_array, has_number, is_taken, split_place, split_places, SPLIT_KEY, split_finding, split_of, skip_finding, skips_of, bits_of, PAIRS_KEY, tree_pairs_finding, count_of, LEAF_KEY, leaf_finding, leaf_size, tree_finding, tree_of, TREES_KEY, tree_places, trees_finding}
 use Rattle.table_schema.specs.ValidSettings.{is_number_of, no_number_twice, IsValidTree}
 use Rattle.table_schema.proofs.SchemaLaw.{unless_none, if_none, both_true}
 use Rattle.table_schema.proofs.Numbers.{numbers_of-append}

@@ -1,5 +1,5 @@
 -- Checks in order, of which the first that fails is the fault, and the paths at which they fail.
-use Rattle.std.specs.Prelude.{◌≡◌, ◌≢◌, Bool, if◌then◌else◌, ◌==◌, ℕ, List, [], ◌∷◌, ◌++◌, length, codes, decimal, Option, Some, None, Result, Ok, Err}
+use Rattle.std.specs.Prelude.{◌≡◌, ◌≢◌, Bool, if◌then◌else◌, ◌==◌, ℕ, ◌++◌, length, codes, decimal, Option, Some, None, Result, Ok, Err}
 use Rattle.table_schema.specs.declared.fault.KeyKind.{KeyKind}
 use Rattle.table_schema.specs.declared.fault.TextFault.{TextFault}
 use Rattle.table_schema.specs.declared.fault.TextFault.TheVariants.{At, NoMemory}

@@ -16,5 +16,5 @@ returns-clause-valid c = λ valid.
     (λ table. (rest : List ℕ) → Reads reader rest → rows_in csv_limits c.as_slice.result.now (records_left (c.unmarked_len.result + 1) reader rest) ≡ Ok (rows_of_columns table))
     (λ table. AreRows c.args.schema.now.fields (rows_of_columns table))
     (λ table is. known_rows c.args.schema.now records (rows_of_columns table) valid
-        (ap (λ fields. rows_in csv_limits fields records) (sym c.as_slice.ensures) ∙ is (strip_bom c.args.bytes.now) c.text_reader-reader.ensures.reads))
+    (ap (λ fields. rows_in csv_limits fields records) (sym c.as_slice.ensures) ∙ is (strip_bom c.args.bytes.now) c.text_reader-reader.ensures.reads))
     c.known_records.ensures.ok

@@ -12,7 +12,7 @@ loop-left-preserved-in_ok-insert c =
     let within : left - 1 < length items = omega arith in
     let next : left - 1 + 1 ≡ left = omega arith in
     let more : drop (left - 1) items ≡ item ∷ drop left items =
-        drop_more items (left - 1) item within ∙ ap (λ y. y ∷ drop (left - 1 + 1) items) (sym c.index-items-left.is) ∙ ap (λ n. item ∷ drop n items) next in (
+    drop_more items (left - 1) item within ∙ ap (λ y. y ∷ drop (left - 1 + 1) items) (sym c.index-items-left.is) ∙ ap (λ n. item ∷ drop n items) next in (
       omega arith,
       subst (λ is. KnowsLabels is c.insert.new.self) (sym more)
           (one_label (drop left items) item c.in-Some.label c.loop-left.terms c.insert.new.self c.as_str.result _ c.in-Some.is c.as_str.ensures refl c.in_ok-insert.ensures.updates c.loop-left.invariant.1),

@@ -9,8 +9,8 @@ returns-in-Some c =
     let items = c.args.self.now.query.now.items in
     let name = c.in-Column.name in
     let hit : labelled items name.name ≡ Some c.in-Some.named.now.now =
-        ap (labelled items) (sym c.as_str.ensures) ∙ sym (c.args.self.now.labels_known c.as_str.result.now)
-        ∙ ap (option_map (λ t. t.now)) (sym c.get.ensures.value ∙ ap option_copied c.in-Some.is) in
+    ap (labelled items) (sym c.as_str.ensures) ∙ sym (c.args.self.now.labels_known c.as_str.result.now)
+    ∙ ap (option_map (λ t. t.now)) (sym c.get.ensures.value ∙ ap option_copied c.in-Some.is) in
     sym (ap (meant items) c.in-Column.is ∙ ap (λ o. unwrap_or o (Column name)) hit)
 
 pub returns-in-None : goal.returns-in-None
@@ -18,6 +18,6 @@ returns-in-None c =
     let items = c.args.self.now.query.now.items in
     let name = c.in-Column.name in
     let miss : labelled items name.name ≡ None =
-        ap (labelled items) (sym c.as_str.ensures) ∙ sym (c.args.self.now.labels_known c.as_str.result.now)
-        ∙ ap (option_map (λ t. t.now)) (sym c.get.ensures.value ∙ ap option_copied c.in-None.is) in
+    ap (labelled items) (sym c.as_str.ensures) ∙ sym (c.args.self.now.labels_known c.as_str.result.now)
+    ∙ ap (option_map (λ t. t.now)) (sym c.get.ensures.value ∙ ap option_copied c.in-None.is) in
     sym (ap (meant items) c.in-Column.is ∙ ap (λ o. unwrap_or o (Column name)) miss ∙ sym c.in-Column.is)
