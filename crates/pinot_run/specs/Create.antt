@@ -26,6 +26,7 @@ abbrev pub json_bytes : List ℕ → Option (List ℕ) → Result (List ℕ) Not
 json_bytes file None = Err (NoInput file)
 json_bytes file (Some bytes) = if nat_lt text_limit (length bytes) then Err (TooLarge JsonBytes text_limit) else Ok bytes
 
+-- the bytes of an input file in JSON
 abbrev pub json_in : List ℕ → Files → Result (List ℕ) Note
 json_in file inputs = json_bytes file (map.get inputs file)
 
@@ -35,6 +36,7 @@ beside refused bytes (Ok value) = Ok (bytes, value)
 beside refused bytes (Err (fault.At wrong path)) = Err (refused wrong path)
 beside refused bytes (Err fault.NoMemory) = Err (refused key.NotJson [])
 
+-- what the bytes of a file are read as, where there are any
 abbrev pub read_by : {A : Type 0} → (KeyKind → List ℕ → Note) → (List ℕ → Result A TextFault) → Result (List ℕ) Note → Result (List ℕ × A) Note
 read_by refused read (Err line) = Err line
 read_by refused read (Ok bytes) = beside refused bytes (read bytes)
@@ -47,10 +49,12 @@ schema_in file inputs = read_by BadSchema schema_read (json_in file inputs)
 abbrev pub settings_in : Schema → List ℕ → Files → Result (List ℕ × Settings) Note
 settings_in schema file inputs = read_by BadSettings (settings_read schema.fields) (json_in file inputs)
 
+-- the table of a schema's text, where its settings are accepted
 abbrev pub table_of : List ℕ → Schema → Result (List ℕ × Settings) Note → Made
 table_of text schema (Err line) = Err line
 table_of text schema (Ok (more, settings)) = Ok (record { schema = text; settings = more }, record { schema = schema; settings = settings })
 
+-- the table of a schema and the settings' file, where the schema is accepted
 abbrev pub with_settings : List ℕ → Files → Result (List ℕ × Schema) Note → Made
 with_settings settings inputs (Err line) = Err line
 with_settings settings inputs (Ok (text, schema)) = table_of text schema (settings_in schema settings inputs)

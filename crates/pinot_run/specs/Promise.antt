@@ -49,7 +49,7 @@ pub record IsAnswered (command : Option Command) (old : World) (ended : Status) 
   pub acted : Acted command old.devices new.devices answer
   pub given : IsGiven answer ended old new
 
--- what stands after each status, with its cause
+-- what is left after each status, with its cause
 abbrev pub Leaves : Option Command → World → Status → World → Type 0
 Leaves command old status.ReadFault new =
     (may_read (profile command) ≡ true)
@@ -81,6 +81,7 @@ pub record IsStep (after : After) (ended : Status) (old new : World) : Type 0 wh
   pub stepped : IsStepped after answer new.devices.depot.held
   pub given : IsGiven answer ended old new
 
+-- what one call did, between the world before and the world after
 pub record Promise (command : Option Command) (old : World) (ended : Status) (new : World) : Type 0 where
   pub step : is_fault ended ≡ false → WhereStands old.devices.inputs.held old.devices.depot.held (λ state files. IsStep (step_of state command files) ended old new)
   pub leaves : Leaves command old ended new

@@ -41,12 +41,14 @@ files_after true made stored = stored
 files_after false (Err line) stored = stored
 files_after false (Ok (texts, table)) stored = with_file table_name (table_file texts) stored
 
+-- what `create` does over any store, by whether there is a table and what its files make
 pub record Creates (made : Made) (old : Option Files) (answer : Answer) (new : Option Files) : Type 0 where
   pub there : Bool
   pub known : TableIsThere old there
   pub answers : answer ≡ create_answer there made
   pub leaves : new ≡ files_after there made old
 
+-- what a command does over any store
 abbrev pub Over : Option Command → Files → Option Files → Answer → Option Files → Type 0
 Over None inputs old answer new = (answer ≡ Refuses note.BadWords) × (new ≡ old)
 Over (Some (Scan file sql)) inputs old answer new = (answer ≡ scan_answer file sql (map.get inputs file)) × (new ≡ old)
@@ -73,6 +75,7 @@ Looked (Some (Create schema settings)) note.TableExists old new = IfSome old.dep
 Looked (Some (Create schema settings)) (note.BadSchema wrong path) old new = ReadsFront schema text_limit old.inputs new.inputs
 Looked command line old new = Unit {0}
 
+-- an answer that the command's row has; a refusal has its cause, and leaves the store
 abbrev pub IsAllowed : Option Command → Devices → Devices → Answer → Type 0
 IsAllowed command old new (Replies text) = (profile command).replies ≡ true
 IsAllowed command old new (Refuses line) = ((profile command).refuses line ≡ true) × Caused command old.inputs.held old.depot.held line × (new.depot.held ≡ old.depot.held) × Looked command line old new
@@ -85,6 +88,7 @@ pub record Acted (command : Option Command) (old new : Devices) (answer : Answer
 
 -- ---- faults
 
+-- the cause of a fault
 abbrev pub HasCause : Option Command → Devices → Devices → Fault → Type 0
 HasCause command old new fault.Read = (may_read (profile command) ≡ true) × (Rose old.inputs.read_faults new.inputs.read_faults ⊎ Rose old.depot.read_faults new.depot.read_faults)
 HasCause command old new fault.Write = Rose old.depot.write_faults new.depot.write_faults
@@ -95,6 +99,7 @@ pub record Failed (command : Option Command) (old new : Devices) (why : Fault) :
   pub kept : new.depot.held ≡ old.depot.held
   pub cause : HasCause command old new why
 
+-- how a command ended, by its result
 abbrev pub Ended : Option Command → Devices → Devices → Result (List ℕ) Stop → Type 0
 Ended command old new (Ok text) = Acted command old new (Replies text)
 Ended command old new (Err (stop.Refused line)) = Acted command old new (Refuses line)

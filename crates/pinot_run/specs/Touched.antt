@@ -27,6 +27,7 @@ LogsOpened NoFile old new = new ≡ old
 LogsOpened TableFile old new = (entries : List Entry) × (new ≡ option_map (λ before. before ++ entries) old) × All (λ entry. entry.file ≡ table_name) entries
 LogsOpened AnyFile old new = (entries : List Entry) × (new ≡ option_map (λ before. before ++ entries) old)
 
+-- a store was looked at, and such files of it opened
 pub record OnlyLooks (opens : Opens) (old new : Seen) : Type 0 where
   pub held : new.held ≡ old.held
   pub parts : new.parts ≡ old.parts
@@ -34,6 +35,7 @@ pub record OnlyLooks (opens : Opens) (old new : Seen) : Type 0 where
   pub later : old.read_faults ≤ new.read_faults
   pub log : LogsOpened opens old.log new.log
 
+-- a store was written under these names alone, by way of the one part
 pub record WritesThese (opens : Opens) (names : List (List ℕ)) (old new : Seen) : Type 0 where
   pub held : SameButThese names old.held new.held
   pub parts : SameButThese (incoming ∷ []) old.parts new.parts
@@ -41,11 +43,13 @@ pub record WritesThese (opens : Opens) (names : List (List ℕ)) (old new : Seen
   pub writes_later : old.write_faults ≤ new.write_faults
   pub log : LogsOpened opens old.log new.log
 
+-- what a command leaves of the store, by its row
 abbrev pub Keeps : Store → Seen → Seen → Type 0
 Keeps Apart old new = new ≡ old
 Keeps (Looks opens) old new = OnlyLooks opens old new
 Keeps (Writes opens names) old new = WritesThese opens names old new
 
+-- what a command read and changed, by its row
 pub record Touched (command : Option Command) (old new : Devices) : Type 0 where
   pub inputs : Reads (profile command).files old.inputs new.inputs
   pub depot : Keeps (profile command).store old.depot new.depot
