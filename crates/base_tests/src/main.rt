@@ -11,6 +11,7 @@ mod forward_indexes;
 mod shelves;
 mod sinks;
 mod tests_of_values;
+mod trees;
 mod values_in_order;
 
 use expect::{Expectations, TestFault};
@@ -68,5 +69,11 @@ fn main(rt: HostRuntime) -> io::Result<()> {
     print(&rt, "spelled columns", forward_indexes::spelled(alloc))?;
     print(&rt, "ranges", forward_indexes::ranges(alloc))?;
     print(&rt, "aggregates", aggregates::states_of_values(alloc))?;
-    print(&rt, "stored states", aggregates::stored_states(alloc))
+    print(&rt, "stored states", aggregates::stored_states(alloc))?;
+    print(
+        &rt,
+        "tables of documents",
+        trees::tables_of_documents(alloc),
+    )?;
+    print(&rt, "laws of trees", trees::laws_of_trees(alloc))
 }

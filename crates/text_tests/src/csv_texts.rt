@@ -1,6 +1,6 @@
 //! What comes of a CSV text: each value and a `;`, a line a row, or `Kind record column` of the first fault.
 
-use csv_ingest::{CsvFault, read_plain, read_rows};
+use csv_ingest::{CsvFault, defaults_fit, read_plain, read_rows};
 use std::alloc::{AllocError, Global};
 use std::fmt::Write;
 use table_schema::{Field, Role, Schema};
@@ -90,6 +90,9 @@ pub fn rows_of_fields(
         return String::from_str(alloc, "too long");
     }
     let schema = schema(alloc, fields)?;
+    if !defaults_fit(&schema) {
+        return String::from_str(alloc, "a default of another kind");
+    }
     match read_rows(alloc, &schema, text) {
         Ok(rows) => show_rows(alloc, &rows),
         Err(fault) => show_fault(alloc, fault),

@@ -1,0 +1,120 @@
+//! Tables of documents, and the laws of trees worked by hand.
+
+ghost use Rattle.std.specs.Prelude.{◌≡◌, ◌-◌, ◌≤◌, ◌<◌, ◌∷◌, ◌++◌, [], OnOk, IfOk, slice_index};
+ghost use Rattle.agg_laws.specs.declared.aggregate_kind.AggKind.TheVariants as kind;
+ghost use Rattle.agg_laws.specs.Worked.{doc};
+
+use crate::expect::{Expectations, TestFault};
+use agg_laws::{
+    AggKind, AggState, Ids, Kinds, STAR, StarRow, StarTable, StateRow, TreeShape, aggregated_law,
+    answer_law, children_law, covers_law, flat_law, node_rules_law, picks_law, reads_law,
+    worked_law,
+};
+use std::alloc::Global;
+
+// Adds a page view: country, browser and locale, and its impressions.
+fn add_view(
+    alloc: Global,
+    table: &mut StarTable,
+    ids: [u32; 3],
+    impressions: u16,
+) -> Result<(), TestFault>
+    requires dims { table.old.dims ≡ 3 }
+    requires kinds { table.old.kinds ≡ kind.Sum ∷ kind.Count ∷ [] }
+    requires spare { 1 ≤ table.old.spare }
+    ensures { OnOk result (table.new ≡ record table.old {
+      docs = table.old.docs ++ doc (slice_index ids 0) (slice_index ids 1) (slice_index ids 2) impressions 1 ∷ [];
+      spare = table.old.spare - 1;
+    }) }
+{
+    let mut dims = Ids::new(alloc);
+    dims.push(ids[0])?;
+    dims.push(ids[1])?;
+    dims.push(ids[2])?;
+    let mut states = StateRow::new(alloc);
+    states.push(AggState::Sum(impressions as i128))?;
+    states.push(AggState::Count(1))?;
+    table.append(&StarRow { dims, states });
+    Ok(())
+}
+
+// The page views of the USA, and room for more.
+fn views_of_the_usa(alloc: Global) -> Result<StarTable, TestFault>
+    ensures { IfOk result (λ table. table ≡ record {
+      dims = 3;
+      kinds = kind.Sum ∷ kind.Count ∷ [];
+      docs = doc 2 0 0 600 1 ∷ doc 2 1 0 400 1 ∷ doc 2 1 1 200 1 ∷ [];
+      spare = 5;
+    }) }
+{
+    let mut kinds = Kinds::new(alloc);
+    kinds.push(AggKind::Sum)?;
+    kinds.push(AggKind::Count)?;
+    let shape = TreeShape {
+        dims: 3,
+        skipped: 0,
+        leaf: 1,
+        kinds,
+    };
+    let mut table = StarTable::new(alloc, &shape)?;
+    table.reserve(8)?;
+    add_view(alloc, &mut table, [2, 0, 0], 600)?;
+    add_view(alloc, &mut table, [2, 1, 0], 400)?;
+    add_view(alloc, &mut table, [2, 1, 1], 200)?;
+    Ok(table)
+}
+
+// A document has these ids, this sum and this count.
+fn is_doc(table: &StarTable, at: u32, ids: [u32; 3], sum: i128, count: u64) -> bool
+    requires dims { table.now.dims ≡ 3 }
+    requires kinds { table.now.kinds ≡ kind.Sum ∷ kind.Count ∷ [] }
+{
+    table.len() > at as usize
+        && table.dim(at, 0) == ids[0]
+        && table.dim(at, 1) == ids[1]
+        && table.dim(at, 2) == ids[2]
+        && table.state(at, 0) == AggState::Sum(sum)
+        && table.state(at, 1) == AggState::Count(count)
+}
+
+/// Documents are starred, merged and aggregated in their table.
+pub fn tables_of_documents(alloc: Global) -> Result<Expectations, TestFault> {
+    let mut all = Expectations::new(alloc);
+    let mut table = views_of_the_usa(alloc)?;
+    // browsers are starred: two rows share a locale
+    let starred = table.append_starred(0, 3, 1)?;
+    all.expect(starred == 2, "two locales")?;
+    table.append_total(0, 3, 1);
+    table.append_total(1, 3, 2);
+    all.expect(table.len() == 7, "seven documents")?;
+    all.expect(
+        is_doc(&table, 3, [2, STAR, 0], 1000, 2),
+        "English in any browser",
+    )?;
+    all.expect(
+        is_doc(&table, 4, [2, STAR, 1], 200, 1),
+        "Spanish in any browser",
+    )?;
+    all.expect(is_doc(&table, 5, [2, STAR, STAR], 1200, 3), "all rows")?;
+    all.expect(
+        is_doc(&table, 6, [2, 1, STAR], 600, 2),
+        "Firefox in any language",
+    )?;
+    Ok(all)
+}
+
+/// The laws, whose contracts hold the trees that were worked by hand.
+pub fn laws_of_trees(alloc: Global) -> Result<Expectations, TestFault> {
+    let mut all = Expectations::new(alloc);
+    worked_law();
+    flat_law();
+    node_rules_law();
+    covers_law();
+    children_law();
+    picks_law();
+    reads_law();
+    aggregated_law();
+    answer_law();
+    all.expect(true, "laws")?;
+    Ok(all)
+}
