@@ -9,6 +9,7 @@ use Rattle.agg_laws.specs.Rows.{row_of, kinds_of, RowFits, RowStored}
 abbrev pub Doc : Type 0
 Doc = List ℕ × List AggState
 
+-- a document as its ids with its row of states
 abbrev pub doc_of : StarRow → Doc
 doc_of row = (row.dims, row.states)
 

@@ -64,6 +64,7 @@ abbrev pub BeginWith : {S : Type 0} → ℕ → List ℕ → List (List ℕ × S
 BeginWith d path [] = Unit {0}
 BeginWith d path (e ∷ es) = (take d e.0 ≡ path) × BeginWith d path es
 
+-- documents whose first ids are the same, so many of them
 abbrev pub AreAlike : {S : Type 0} → ℕ → List (List ℕ × S) → Type 0
 AreAlike d [] = Unit {0}
 AreAlike d (e ∷ es) = BeginWith d (take d e.0) es

@@ -73,13 +73,16 @@ most_values = 2 ^ 29
 abbrev pub CountStored : ℕ → Type 0
 CountStored c = (1 ≤ c) × (c ≤ most_stored)
 
+-- a sum that a stored document may have
 abbrev pub SumStored : ℤ → Type 0
 SumStored s = SumFits s most_stored
 
+-- a least or greatest number that a stored document may have: one of 64 bits
 abbrev pub NumberStored : Option ℤ → Type 0
 NumberStored None = ⊥
 NumberStored (Some m) = IsWhole m
 
+-- an average that a stored document may have
 abbrev pub AverageStored : AverageState → Type 0
 AverageStored a = CountStored a.count × SumFits a.sum a.count
 
@@ -88,12 +91,15 @@ AverageStored a = CountStored a.count × SumFits a.sum a.count
 unfoldable pub count_bytes : ℕ → List ℕ
 count_bytes c = to_be_bytes w64 c
 
+-- a sum as 16 bytes, the most significant first
 unfoldable pub sum_bytes : ℤ → List ℕ
 sum_bytes s = to_be_bytes w128 (cast_unsigned w128 s)
 
+-- a least or greatest number as 8 bytes
 unfoldable pub number_bytes : Option ℤ → List ℕ
 number_bytes None = []
 number_bytes (Some m) = to_be_bytes w64 (cast_unsigned w64 m)
 
+-- an average as its sum and its count
 unfoldable pub average_bytes : AverageState → List ℕ
 average_bytes a = sum_bytes a.sum ++ count_bytes a.count

@@ -28,5 +28,6 @@ abbrev pub numbers_from : ℕ → ℕ → List ℕ
 numbers_from from zero = []
 numbers_from from (suc n) = from ∷ numbers_from (suc from) n
 
+-- the numbers from one to another, which is left out
 abbrev pub numbers : ℕ → ℕ → List ℕ
 numbers from to = numbers_from from (to - from)

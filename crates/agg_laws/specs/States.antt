@@ -10,6 +10,7 @@ use Rattle.agg_laws.specs.Numbers.{both_averages, SumFits, NumberFits, AverageFi
 use Rattle.agg_laws.specs.Numbers.{SumStored, NumberStored, AverageStored, count_bytes, sum_bytes}
 use Rattle.agg_laws.specs.Numbers.{number_bytes, average_bytes}
 
+-- the aggregate that a state is of
 abbrev pub kind_of : AggState → AggKind
 kind_of (Count c) = kinds.Count
 kind_of (Sum s) = kinds.Sum

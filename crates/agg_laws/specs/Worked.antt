@@ -14,6 +14,7 @@ abbrev pub view : ℕ → ℕ → ℕ → ℕ → List ℕ × List ℤ
 view country browser locale impressions =
     (country ∷ browser ∷ locale ∷ [], pos impressions ∷ pos 0 ∷ [])
 
+-- the page views: country, browser and locale, and impressions
 abbrev pub views : List (List ℕ × List ℤ)
 views =
     view 0 0 0 400 ∷ view 0 1 2 200 ∷ view 1 2 1 300 ∷ view 1 2 0 100
@@ -23,10 +24,12 @@ views =
 abbrev pub views_shape : TreeShape
 views_shape = record { dims = 3; skipped = 0; leaf = 1; kinds = kinds.Sum ∷ kinds.Count ∷ [] }
 
+-- a document of three ids, with a sum and a count
 abbrev pub doc : ℕ → ℕ → ℕ → ℕ → ℕ → Doc
 doc country browser locale sum count =
     (country ∷ browser ∷ locale ∷ [], Sum (pos sum) ∷ Count count ∷ [])
 
+-- the documents of the tree over the page views
 abbrev pub views_documents : List Doc
 views_documents =
     -- one for each combination
@@ -55,6 +58,7 @@ at level id start end total first children = record {
   children = children;
 }
 
+-- its nodes
 abbrev pub views_nodes : List Node
 views_nodes =
     at 0 star 0 7 27 1 4 ∷ at 1 0 0 2 15 5 3 ∷ at 1 1 2 4 17 11 1 ∷ at 1 2 4 7 21 15 3 ∷
@@ -113,6 +117,7 @@ leaves_of_two = (
 abbrev pub skips_countries : TreeShape
 skips_countries = record { dims = 3; skipped = 1; leaf = 2; kinds = kinds.Sum ∷ kinds.Count ∷ [] }
 
+-- the tree over the page views that makes no star node for the country
 abbrev pub country_skipped : Flat (List AggState)
 country_skipped = (
   at 0 star 0 7 13 1 3 ∷ at 1 0 0 2 7 0 0 ∷ at 1 1 2 4 8 0 0 ∷ at 1 2 4 7 12 4 3 ∷

@@ -7,6 +7,7 @@ use Rattle.bit_column.specs.Column.{spelled, id_at, ids_between}
 abbrev pub places_from : ℕ → ℕ → List ℕ → List ℕ
 places_from place key keys = map (λ e. e.0) (filter (λ e. e.1 == key) (enumerate_from place keys))
 
+-- the places at which a key stands in a list
 abbrev pub places_of : ℕ → List ℕ → List ℕ
 places_of key keys = places_from 0 key keys
 

@@ -1,4 +1,4 @@
-// Bits in a window of 64, of which each whole byte is written, and from which a number is read.
+//! Bits in a window of 64, of which each whole byte is written, and from which a number is read.
 ghost use Rattle.std.specs.Prelude.{◌≡◌, ◌≤◌, ◌<◌, ◌+◌, ◌-◌, ◌*◌, ◌/◌, ◌%◌, ◌^◌, ◌++◌, length, replicate};
 ghost use Rattle.bit_column.specs.Bits.{bits, bits_of, number};
 

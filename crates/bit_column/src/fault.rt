@@ -1,4 +1,4 @@
-// Why ids are not read.
+//! Why ids are not read.
 use std::alloc::AllocError;
 
 /// Why a range of ids is not read.

@@ -1,4 +1,4 @@
-// Laws of spelled ids. Each is the contract of a function that does nothing.
+//! Laws of spelled ids. Each is the contract of a function that does nothing.
 ghost use Rattle.std.specs.Prelude.{◌≡◌, ◌≤◌, ◌<◌, ◌+◌, ◌-◌, ◌*◌, ◌^◌, ◌++◌, ℕ, List, All, length, map, take, drop, replicate, slice_index};
 ghost use Rattle.bit_column.specs.Bits.{bits_of};
 ghost use Rattle.bit_column.specs.Column.{IsWidth, width_of, bytes_for, spelled, id_at, ids_between};

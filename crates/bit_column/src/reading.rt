@@ -1,4 +1,4 @@
-// Ids are read out of bytes.
+//! Ids are read out of bytes.
 ghost use Rattle.std.specs.Prelude.{◌≡◌, ◌≤◌, ◌<◌, ◌+◌, ◌*◌, ◌^◌, All, length, take, IfOk, IsErrOf};
 ghost use Rattle.bit_column.specs.Bits.{bits, bits_of, field, pieces};
 ghost use Rattle.bit_column.specs.Column.{id_at};

@@ -1,4 +1,4 @@
-// How many bits an id takes.
+//! How many bits an id takes.
 ghost use Rattle.std.specs.Prelude.{◌≡◌, ◌≤◌};
 ghost use Rattle.bit_column.specs.Column.{IsWidth, width_of};
 

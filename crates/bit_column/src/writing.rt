@@ -1,4 +1,4 @@
-// Ids are written.
+//! Ids are written.
 ghost use Rattle.std.specs.Prelude.{◌≡◌, ◌≤◌, ◌<◌, ◌^◌, ◌++◌, ℕ, All, length, take, replicate, OnOk, OnErr, IfOk};
 ghost use Rattle.bit_column.specs.Bits.{bits, bits_of};
 ghost use Rattle.bit_column.specs.Column.{spelled};

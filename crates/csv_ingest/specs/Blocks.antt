@@ -13,6 +13,7 @@ abbrev pub after : {A E : Type 0} → List A → Result (List A) E → Result (L
 after front (Ok rest) = Ok (front ++ rest)
 after front (Err e) = Err e
 
+-- the rows of a text, or its first fault
 abbrev pub RowsOrFault : Type 0
 RowsOrFault = Result (List (List Value)) CsvFault
 

@@ -9,6 +9,7 @@ use Rattle.values.specs.Columns.{Listed, is_text, pushed, row_pushed}
 use Rattle.csv_ingest.specs.declared.fault.CsvFault.{CsvFault}
 use Rattle.csv_ingest.specs.Rows.{cell_value}
 
+-- whether a field is of texts
 abbrev pub is_text_kind : FieldKind → Bool
 is_text_kind kind.Int = false
 is_text_kind kind.Long = false
@@ -18,6 +19,7 @@ is_text_kind kind.Text = true
 abbrev pub DefaultFits : Field → Type 0
 DefaultFits field = is_text field.default ≡ is_text_kind field.kind
 
+-- the default of each field is of the field's kind
 abbrev pub DefaultsFit : List Field → Type 0
 DefaultsFit fields = All DefaultFits fields
 

@@ -26,6 +26,7 @@ plain_name earlier name =
     else if is_among name earlier then Err DuplicateHeader
     else Ok (plain_field name)
 
+-- the names of fields
 abbrev pub names_of : List Field → List (List ℕ)
 names_of fields = map (λ f. f.name) fields
 

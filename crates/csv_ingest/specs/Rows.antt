@@ -27,6 +27,7 @@ pub record Limits : Type 0 where
 abbrev pub most_columns : ℕ
 most_columns = 64
 
+-- the limits on columns and on rows
 abbrev pub csv_limits : Limits
 csv_limits = record { many_columns = λ n. nat_lt most_columns n; most_rows = most_rows }
 
@@ -53,6 +54,7 @@ placed row column (Err kind) = Err (At kind row column)
 abbrev pub name_at : {A : Type 0} → (List (List ℕ) → List ℕ → Result A CsvKind) → List (List ℕ) → ℕ × List ℕ → Result A CsvFault
 name_at reading header (column, name) = placed 0 column (reading (take (column - 1) header) name)
 
+-- the names of a header, each read in turn, or the first fault
 abbrev pub header_of : {A : Type 0} → (List (List ℕ) → List ℕ → Result A CsvKind) → List (List ℕ) → Result (List A) CsvFault
 header_of reading header = all_or_first (map (name_at reading header) (enumerate_from 1 header))
 
@@ -95,6 +97,7 @@ row_at limits fields header (row, cells) =
     else if not (length cells == length header) then Err (At WrongLength row 0)
     else values_of fields header row cells
 
+-- the rows of records under a header, or the first fault
 abbrev pub rows_of : Limits → List Field → List (List ℕ) → List (List (List ℕ)) → Result (List (List Value)) CsvFault
 rows_of limits fields header rows = all_or_first (map (row_at limits fields header) (enumerate_from 1 rows))
 

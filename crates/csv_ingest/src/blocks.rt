@@ -1,4 +1,4 @@
-// The rows of a text of whole numbers, block by block.
+//! The rows of a text of whole numbers, block by block.
 ghost use Rattle.std.specs.Prelude.{◌≡◌, ◌≢◌, ◌≤◌, ◌<◌, ◌+◌, ◌^◌, ◌∷◌, ℕ, List, length, IfOk, IfErr, IfSome, MatchBool, MatchOption, Ok, Err, []};
 ghost use Rattle.csv.specs.Records.{fields_of};
 ghost use Rattle.values.specs.Columns.{rows_of as rows_of_columns};

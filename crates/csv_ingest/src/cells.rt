@@ -1,4 +1,4 @@
-// The values in the cells of a record.
+//! The values in the cells of a record.
 ghost use Rattle.std.specs.Prelude.{◌≡◌, ◌≢◌, ◌≤◌, ◌<◌, ◌^◌, true, false, length, IfOk, IfErr, IfSome, MatchOption, Ok, Err};
 ghost use Rattle.std.specs.Str.{is_utf8};
 ghost use Rattle.csv.specs.Records.{fields_of};

@@ -1,3 +1,5 @@
+//! Why a CSV text has no rows.
+
 use std::alloc::AllocError;
 
 /// What is wrong at a place of a CSV text.

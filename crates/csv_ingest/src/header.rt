@@ -1,4 +1,4 @@
-// The header of a CSV text.
+//! The header of a CSV text.
 ghost use Rattle.std.specs.Prelude.{◌≡◌, ◌≢◌, ◌≤◌, true, false, map, take, length, ◌<◌, ◌^◌, IfOk, IfErr, IsOk, Ok, Err};
 ghost use Rattle.csv.specs.Records.{fields_of};
 ghost use Rattle.csv_ingest.specs.Names.{is_among, known_name, names_of, plain_field, plain_name};

@@ -1,4 +1,4 @@
-// Laws of reading.
+//! Laws of reading.
 ghost use Rattle.table_schema.specs.declared.field.Schema.{Schema};
 ghost use Rattle.table_schema.specs.Valid.{IsValidSchema};
 ghost use Rattle.csv_ingest.specs.Columns.{DefaultsFit};

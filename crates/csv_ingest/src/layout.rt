@@ -1,4 +1,4 @@
-// How the cells of a record become the values of a row.
+//! How the cells of a record become the values of a row.
 ghost use Rattle.std.specs.Prelude.{◌≡◌, ◌<◌, ◌+◌, ◌^◌, map, length, IfOk, Some, true};
 ghost use Rattle.std.specs.List.{position_from};
 ghost use Rattle.std.specs.Str.{bytes_eq};

@@ -1,4 +1,4 @@
-// The rows of a CSV text of whole numbers.
+//! The rows of a CSV text of whole numbers.
 ghost use Rattle.std.specs.Prelude.{◌≡◌, ◌≢◌, ◌≤◌, ◌<◌, ◌+◌, ◌^◌, ℕ, List, length, IfOk, IfErr, Ok, Err};
 ghost use Rattle.std.specs.List.{All};
 ghost use Rattle.values.specs.Columns.{rows_of as rows_of_columns};

@@ -1,4 +1,4 @@
-// The records of a CSV text, one at a time.
+//! The records of a CSV text, one at a time.
 ghost use Rattle.std.specs.Prelude.{◌≡◌, ◌<◌, ◌≤◌, ◌∷◌, ◌+◌, ℕ, List, [], IfOk, MatchBool, length, slice_index_or};
 ghost use Rattle.csv.specs.Records.{fields_of};
 ghost use Rattle.csv.specs.Reading.{is_bom, strip_bom, records_from, default_config};

@@ -1,4 +1,4 @@
-// The values of a record at the ends of columns.
+//! The values of a record at the ends of columns.
 ghost use Rattle.std.specs.Prelude.{◌≡◌, ◌≢◌, ◌≤◌, ◌<◌, ◌+◌, ◌^◌, length, OnOk, IfOk, IfErr, IfSome, MatchBool, Some, true, false, Ok, Err};
 ghost use Rattle.std.specs.Str.{is_utf8};
 ghost use Rattle.csv.specs.Records.{fields_of};

@@ -1,4 +1,4 @@
-// The records of a CSV text as columns of a table.
+//! The records of a CSV text as columns of a table.
 ghost use Rattle.std.specs.Prelude.{◌≡◌, ◌≢◌, ◌≤◌, ◌<◌, ◌+◌, ◌^◌, ℕ, List, map, length, IfOk, IfErr, MatchBool, Ok, Err, []};
 ghost use Rattle.std.specs.List.{All};
 ghost use Rattle.values.specs.Columns.{Counts, rows_of as rows_of_columns};

@@ -28,6 +28,7 @@ pub record Sees (column seen : List Value) (ids : List ℕ) : Type 0 where
 
 -- ---- numbers
 
+-- the number that each id stands for
 abbrev pub numbers_at : List ℤ → List ℕ → List ℤ
 numbers_at seen ids = map (λ id. get_or seen id (pos 0)) ids
 
@@ -37,10 +38,12 @@ pub record Grows (number : ℤ) (old new : List ℤ) : Type 0 where
   pub new_is : new ≡ old ++ more
   pub each : All (λ other. other ≡ number) more
 
+-- what was seen are numbers of the list
 abbrev pub AreNumbersOf : List ℤ → List ℤ → Type 0
 AreNumbersOf numbers seen = All (λ number. Contains numbers number) seen
 
 -- ---- ranks
 
+-- each id by its rank
 abbrev pub renumbered : List ℕ → List ℕ → List ℕ
 renumbered ranks ids = map (λ id. get_or ranks id 0) ids

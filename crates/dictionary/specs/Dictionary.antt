@@ -32,6 +32,7 @@ pub record Distinct : Type 0 where
   pub kind : FieldKind
   pub values : List Value
 
+-- values of one kind, few enough, ascending, none of them twice
 pub record IsDictionary (d : Distinct) : Type 0 where
   pub few : length d.values ≤ most_values
   pub fit : All (Fits d.kind) d.values

@@ -13,6 +13,7 @@ pub record IsIdSet (ids : List ℕ) : Type 0 where
   pub ascends : IsStrictlySortedBy nat_cmp ids
   pub few : length ids ≤ 4294967295
 
+-- whether an id is in a list
 abbrev pub has_id : List ℕ → ℕ → Bool
 has_id ids id = list_any (nat_eq id) ids
 
@@ -25,6 +26,7 @@ abbrev pub matching_from : ℕ → Test → List Value → List ℕ
 matching_from first test [] = []
 matching_from first test (value ∷ values) = if holds value test then first ∷ matching_from (first + 1) test values else matching_from (first + 1) test values
 
+-- the ids of the values that satisfy a test, ascending
 abbrev pub matching : Test → List Value → List ℕ
 matching test values = matching_from 0 test values
 

@@ -24,6 +24,7 @@ abbrev pub is_above : Option Value → Value → Bool
 is_above None value = true
 is_above (Some last) value = is_lt (value_order last value)
 
+-- whether a value is greater than the last one, if there is one
 abbrev pub is_above_last : List Value → Value → Bool
 is_above_last values value = is_above (slice_get values (length values - 1)) value
 

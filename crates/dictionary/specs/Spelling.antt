@@ -16,6 +16,7 @@ unfoldable pub number_bytes : Value → List ℕ
 number_bytes (Whole number) = to_be_bytes w64 (cast_unsigned w64 number)
 number_bytes (Text text) = []
 
+-- the bytes of numbers
 abbrev pub numbers : List Value → List ℕ
 numbers [] = []
 numbers (value ∷ values) = number_bytes value ++ numbers values
@@ -25,6 +26,7 @@ abbrev pub text_bytes : Value → List ℕ
 text_bytes (Whole number) = []
 text_bytes (Text text) = text
 
+-- the bytes of texts, one after the other
 abbrev pub texts : List Value → List ℕ
 texts [] = []
 texts (value ∷ values) = text_bytes value ++ texts values
@@ -40,6 +42,7 @@ body kind.Int values = numbers values
 body kind.Long values = numbers values
 body kind.Text values = offsets 0 values ++ texts values
 
+-- the bytes of a dictionary: how many values there are, and the values
 abbrev pub spelling : Distinct → List ℕ
 spelling d = counted (length d.values) ++ body d.kind d.values
 

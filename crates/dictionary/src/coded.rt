@@ -1,4 +1,4 @@
-// The values of a column at first sight, and the ids of its rows.
+//! The values of a column at first sight, and the ids of its rows.
 ghost use Rattle.std.specs.Prelude.{◌≡◌, ◌≤◌, map, length, IfOk};
 ghost use Rattle.values.specs.declared.value.Value.TheVariants as value;
 ghost use Rattle.dictionary.specs.Coding.{AreAmong, AreBelow, Codes, Sees, renumbered, values_at};

@@ -1,4 +1,4 @@
-// Laws of dictionaries.
+//! Laws of dictionaries.
 ghost use Rattle.dictionary.specs.Laws.{AscendsOneWay, DistinctAreThose, DistinctAscend};
 ghost use Rattle.dictionary.specs.Spelling.{SpellsOne};
 

@@ -90,6 +90,7 @@ pub record SinkMemory : Type 0 where
   pub calls : ℕ
   pub faults : ℕ
 
+-- a sink to which nothing was given yet
 abbrev pub fresh_sink : ℕ → List ℕ → SinkMemory
 fresh_sink room failing = record { written = []; room = room; failing = failing; calls = 0; faults = 0 }
 

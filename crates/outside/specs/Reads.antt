@@ -9,6 +9,7 @@ pub record Entry : Type 0 where
   pub offset : ℕ
   pub count : ℕ
 
+-- a read of a file: from where, and how many bytes
 abbrev pub entry_of : List ℕ → ℕ → ℕ → Entry
 entry_of file offset count = record { file = file; offset = offset; count = count }
 

@@ -8,6 +8,7 @@ pub record Stream (W : Type 0) : Type 0 where
   pub stream : W
   pub faults : ℕ
 
+-- a sink over a stream, seen as the stream and a count of faults
 abbrev pub stream_code : {W : Type 0} → Coded W → Coded (Stream W)
 stream_code {W = W} code = code_by (W × ℕ) (coded× code coded_ℕ) (λ s. (s.stream, s.faults)) (λ p. record { stream = p.0; faults = p.1 }) (λ _. refl)
 

@@ -29,6 +29,7 @@ opposite AtMost = More
 opposite More = AtMost
 opposite AtLeast = Less
 
+-- a comparison, turned round where it is negated
 abbrev pub opposite_if : Bool → CompareOp → CompareOp
 opposite_if negated op = if negated then opposite op else op
 

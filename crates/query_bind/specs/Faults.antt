@@ -11,6 +11,7 @@ Finding = Option BindFault
 abbrev pub fault_unless : Bool → BindReason → ℕ → Finding
 fault_unless passes reason place = if passes then None else Some (At reason place)
 
+-- a fault with its reason and place, where something is so
 abbrev pub fault_if : Bool → BindReason → ℕ → Finding
 fault_if fails reason place = if fails then Some (At reason place) else None
 

@@ -22,6 +22,7 @@ aggregate_finding q = fault_unless (list_any (λ i. is_call i.term) q.items) NoA
 
 -- ---- columns that GROUP BY names
 
+-- whether a name is among those of GROUP BY
 abbrev pub is_grouped : List NameAt → NameAt → Bool
 is_grouped groups n = list_any (λ g. bytes_eq g.name n.name) groups
 

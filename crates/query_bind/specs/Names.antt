@@ -42,6 +42,7 @@ table_finding table any_table q = fault_unless (any_table || is_table table.sett
 abbrev pub kind_of : List Field → NameAt → Option FieldKind
 kind_of fields n = option_map (λ f. f.kind) (option_and_then (slice_get fields) (number_of fields n.name))
 
+-- the fault of a name that is no field's
 abbrev pub column_finding : List Field → NameAt → Finding
 column_finding fields n = fault_unless (is_known fields n.name) UnknownColumn n.offset
 
@@ -87,9 +88,11 @@ condition_step fields (Cond-F.Not inner) = inner
 condition_step fields (Cond-F.All inner) = first_of inner
 condition_step fields (Cond-F.Any inner) = first_of inner
 
+-- the first fault of a condition's names and literals
 abbrev pub condition_finding : List Field → Cond → Finding
 condition_finding fields = fold-Cond Finding (condition_step fields)
 
+-- that of the condition of a query, if it has one
 abbrev pub where_finding : List Field → Option Cond → Finding
 where_finding fields None = None
 where_finding fields (Some c) = condition_finding fields c

@@ -9,6 +9,7 @@ use Rattle.query_bind.specs.Terms.{columns_from, aggs_from}
 use Rattle.table_schema.specs.declared.query.Agg.{Agg}
 use Rattle.table_schema.specs.Aggs.{same_agg}
 
+-- no group column is there twice
 abbrev pub GroupsStandOnce : Type 0
 GroupsStandOnce = (ns : List ColumnAt) → IsDistinct nat_eq (columns_from [] ns)
 
@@ -16,6 +17,7 @@ GroupsStandOnce = (ns : List ColumnAt) → IsDistinct nat_eq (columns_from [] ns
 abbrev pub GroupsAreNamed : Type 0
 GroupsAreNamed = (ns : List ColumnAt) (c : ℕ) → list_any (λ g. g == c) (columns_from [] ns) ≡ list_any (λ n. n.column == c) ns
 
+-- no aggregate is there twice
 abbrev pub AggsStandOnce : Type 0
 AggsStandOnce = (ts : List TermAt) → IsDistinct same_agg (aggs_from [] ts)
 

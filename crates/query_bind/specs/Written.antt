@@ -58,6 +58,7 @@ where_holds row (Some w) = holds row w
 abbrev pub field_number : List Field → NameAt → ℕ
 field_number fields n = unwrap_or (number_of fields n.name) 0
 
+-- the value of a literal
 abbrev pub value_in : LiteralAt → Value
 value_in l = l.value
 
@@ -78,6 +79,7 @@ written_step fields (Cond-F.Any inner) = Any (members_of inner)
 abbrev pub written : List Field → Cond → Written
 written fields = fold-Cond Written (written_step fields)
 
+-- the condition of a query as it is written, over numbers of fields
 abbrev pub where_written : List Field → Option Cond → Option Written
 where_written fields None = None
 where_written fields (Some c) = Some (written fields c)

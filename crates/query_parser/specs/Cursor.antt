@@ -5,6 +5,7 @@ use Rattle.query_parser.specs.declared.cursor.Tokens.TheInside.{Inside}
 use Rattle.query_parser.specs.Lex.{token, blanks, is_last}
 use Rattle.query_parser.specs.Stream.{Stream, lexemes}
 
+-- the tokens that are left of a text
 abbrev pub stream_of : Inside → Stream
 stream_of t = lexemes 0 t.ahead.now t.at
 

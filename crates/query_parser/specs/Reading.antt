@@ -16,6 +16,7 @@ use Rattle.query_parser.specs.Stream.{Stream, kind, place, number, word, next}
 abbrev pub Outcome : Type 0 → Type 0
 Outcome A = Result (A × Stream) QueryFault
 
+-- a rule of the grammar: from the tokens that are left to what it reads and the tokens after it
 abbrev pub Parser : Type 0 → Type 0
 Parser A = Stream → Outcome A
 
@@ -99,5 +100,6 @@ separated_from sep item (suc n) found = do
   more ← eat sep
   if more then separated_from sep item n (found ++ x ∷ []) else pure (found ++ x ∷ [])
 
+-- one item or more, with a token between each two
 abbrev pub separated : {A : Type 0} → Kind → Parser A → Parser (List A)
 separated sep item = λ ts. separated_from sep item (suc (length ts)) [] ts

@@ -182,6 +182,7 @@ test_keeps column k.Between = bind_keeps take_token _ take_keeps (λ _. between_
 test_keeps column k.Not = bind_keeps take_token _ take_keeps (λ _. bind_keeps peek _ peek_keeps (λ kd. negated_keeps column kd))
 test_keeps column kd = compared_keeps column (c.operator kd)
 
+-- a test takes a token at least
 pub test_shrinks : Shrinks c.test
 unfolding c.test
 test_shrinks = bind_shrinks name _ name_shrinks (λ column. bind_keeps peek _ peek_keeps (λ kd. test_keeps column kd))

@@ -61,6 +61,7 @@ next (t ∷ ts) = if is_last t.kind then t ∷ ts else ts
 
 -- ---- how the logic stores them
 
+-- tokens as lists of their parts
 abbrev pub stream_code : Coded Stream
 stream_code = coded_list (code_by (Kind × (ℤ × (Bytes × ℕ))) (coded× (the_row).coded (coded× coded_ℤ (coded× (coded_list coded_ℕ) coded_ℕ)))
     (λ t. (t.kind, (t.number, (t.value, t.at)))) (λ p. record { kind = p.0; number = p.1.0; value = p.1.1.0; at = p.1.1.1 }) (λ _. refl))

@@ -32,6 +32,7 @@ abbrev pub Gives : {A : Type 0} → Finding → A → Result A TextFault → Typ
 Gives finding value (Ok answer) = (finding ≡ None) × (answer ≡ value)
 Gives finding value (Err fault) = Refuses finding fault
 
+-- a check passes exactly where nothing was found, and fails with what was
 abbrev pub Passes : Finding → Result (Unit {0}) TextFault → Type 0
 Passes finding (Ok answer) = finding ≡ None
 Passes finding (Err fault) = Refuses finding fault

@@ -113,5 +113,6 @@ field_finding names e = first_of (
     ∷ fault_if (is_among names (name_of e)) DuplicateColumn (below (path_of e) (codes "name"))
     ∷ [])
 
+-- the field of an entry
 abbrev pub field_of : Entry → Field
 field_of e = record { name = name_of e; kind = kind_of e.json; role = e.role; default = default_of e.role (kind_of e.json) e.json }

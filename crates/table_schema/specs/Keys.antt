@@ -18,6 +18,7 @@ optional check (Some d) = check d
 abbrev pub object_finding : Text → Data → Finding
 object_finding path d = fault_unless (is_some (as_object d)) WrongKind path
 
+-- the fault of a value that is no text
 abbrev pub text_finding : Text → Data → Finding
 text_finding path d = fault_unless (is_some (as_str d)) WrongKind path
 

@@ -49,9 +49,11 @@ lists_finding d = first_of (
 abbrev pub fields_finding : List Entry → Finding
 fields_finding entries = by_place (λ before e. field_finding (map name_of before) e) [] entries
 
+-- the first fault of a schema
 abbrev pub schema_finding : Data → Finding
 schema_finding d = first_of (head_finding d ∷ lists_finding d ∷ fields_finding (all_entries d) ∷ [])
 
+-- the schema of a JSON value without a fault
 abbrev pub schema_of : Data → Schema
 schema_of d = record { fields = map field_of (all_entries d) }
 

@@ -64,6 +64,7 @@ head_finding d = first_of (
     ∷ ingestion_finding d
     ∷ [])
 
+-- the first fault of the settings of a table
 abbrev pub settings_finding : List Field → Data → Finding
 settings_finding fields d = first_of (
     head_finding d

@@ -28,6 +28,7 @@ abbrev pub no_repeat : List Text → List Text → Bool
 no_repeat before [] = true
 no_repeat before (name ∷ names) = not (is_among before name) && no_repeat (before ++ name ∷ []) names
 
+-- 1 to 64 fields with distinct names, each of which is valid
 pub record IsValidSchema (s : Schema) : Type 0 where
   pub some : 0 < length s.fields
   pub few : length s.fields ≤ 64

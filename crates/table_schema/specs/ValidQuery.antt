@@ -96,6 +96,7 @@ is_item q (item.Agg place) = nat_lt place (length q.aggs)
 
 -- ---- the query
 
+-- a bound query over a table: all it names is there, once, within the limits and of the right type
 pub record IsValidQuery (table : Table) (q : BoundQuery) : Type 0 where
   pub conjuncts_known : list_all (conjunct_known table.schema.fields) q.conjuncts ≡ true
   pub conjuncts_fit : list_all (conjunct_fits table.schema.fields) q.conjuncts ≡ true

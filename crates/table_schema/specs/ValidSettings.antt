@@ -48,6 +48,7 @@ is_known_number fields (Some n) = is_number_of fields n
 abbrev pub is_raw_metric : List Field → Settings → ℕ → Bool
 is_raw_metric fields s n = is_metric_at (slice_get fields n) && is_set (slice_get s.raw n)
 
+-- settings over fields: what they name is there, once, within the limits and of the right type
 pub record IsValidSettings (columns : List Field) (s : Settings) : Type 0 where
   pub is_named : is_column_name s.table ≡ true
   pub sorted_known : is_known_number columns s.sorted ≡ true

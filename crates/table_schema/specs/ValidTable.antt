@@ -8,6 +8,7 @@ use Rattle.table_schema.specs.declared.table.Table.{Table}
 use Rattle.table_schema.specs.Valid.{IsValidSchema}
 use Rattle.table_schema.specs.ValidSettings.{IsValidSettings}
 
+-- a valid schema with valid settings over its fields
 pub record IsValidTable (table : Table) : Type 0 where
   pub schema : IsValidSchema table.schema
   pub settings : IsValidSettings table.schema.fields table.settings

@@ -13,6 +13,7 @@ pub record ListedColumns : Type 0 where
   pub columns : List Listed
   pub count : ℕ
 
+-- whether a value is a text
 abbrev pub is_text : Value → Bool
 is_text (Whole number) = false
 is_text (Text text) = true
@@ -36,6 +37,7 @@ abbrev pub rows_in_columns : ℕ → List Listed → List (List Value)
 rows_in_columns count [] = replicate count []
 rows_in_columns count (column ∷ columns) = fronted column.values (rows_in_columns count columns)
 
+-- the rows that columns are: of each row a value from each column
 abbrev pub rows_of : ListedColumns → List (List Value)
 rows_of t = rows_in_columns t.count t.columns
 

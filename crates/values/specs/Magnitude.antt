@@ -11,6 +11,7 @@ abbrev pub kept : Option ℕ → Result ℕ WholeFault
 kept None = Err NotANumber
 kept (Some n) = if nat_le n 9223372036854775809 then Ok n else Err OutOfRange
 
+-- the number that digits spell, or why there is none
 abbrev pub magnitude_of : List ℕ → Result ℕ WholeFault
 magnitude_of digits = kept (unsigned_number digits)
 
@@ -18,5 +19,6 @@ magnitude_of digits = kept (unsigned_number digits)
 abbrev pub refusal_of : List ℕ → WholeFault
 refusal_of digits = if list_all is_digit digits then OutOfRange else NotANumber
 
+-- a number with its sign, where it is in the range of the kind
 abbrev pub signed_of : FieldKind → Bool → ℕ → Result ℤ WholeFault
 signed_of kind minus n = ranged kind (Some (if minus then negative n else pos n))

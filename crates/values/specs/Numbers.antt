@@ -35,6 +35,7 @@ abbrev pub range_of : FieldKind → ℕ
 range_of Int = 2 ^ 31
 range_of kind = 2 ^ 63
 
+-- whether a number is in the range of a kind
 abbrev pub is_in_range : FieldKind → ℤ → Bool
 is_in_range kind (pos n) = nat_lt n (range_of kind)
 is_in_range kind (negsuc n) = nat_lt n (range_of kind)

@@ -8,6 +8,7 @@ use Rattle.std.specs.Cmp.Lexicographic.{slice_cmp, pointwise}
 use Rattle.values.specs.declared.value.Value.{Value}
 use Rattle.values.specs.declared.value.Value.TheVariants.{Whole, Text}
 
+-- numbers by value before texts by their bytes
 abbrev pub value_order : Value → Value → Ordering
 value_order (Whole x) (Whole y) = int_cmp x y
 value_order (Whole x) (Text t) = Less

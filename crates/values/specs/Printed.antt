@@ -4,6 +4,7 @@ use Rattle.std.specs.Fmt.{signed_decimal}
 use Rattle.values.specs.declared.value.Value.{Value}
 use Rattle.values.specs.declared.value.Value.TheVariants.{Whole, Text}
 
+-- a value as it is printed
 abbrev pub text_of : Value → List ℕ
 text_of (Whole number) = signed_decimal number
 text_of (Text text) = text

@@ -20,6 +20,7 @@ number_value (Err whole.OutOfRange) = Err OutOfRange
 abbrev pub text_value : List ℕ → Result Value ValueFault
 text_value text = if nat_le (length text) 512 then Ok (Text text) else Err TooLong
 
+-- the value that a text spells, or why there is none
 abbrev pub value_of : FieldKind → List ℕ → Result Value ValueFault
 value_of kind.Int text = number_value (whole_of kind.Int text)
 value_of kind.Long text = number_value (whole_of kind.Long text)

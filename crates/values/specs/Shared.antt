@@ -5,6 +5,7 @@ use Rattle.std.specs.declared.rc.Rc.{Rc}
 use Rattle.std.specs.declared.string.String.{String}
 use Rattle.std.specs.declared.alloc.Global.{Global}
 
+-- the bytes of a text that is shared
 abbrev pub shared_bytes : Option (Rc (String Global) Global) → List ℕ
 shared_bytes None = []
 shared_bytes (Some text) = string_bytes (rc_value text)

@@ -20,15 +20,19 @@ op_holds AtMost order = is_le order
 op_holds More order = is_gt order
 op_holds AtLeast order = is_ge order
 
+-- the opposite, where something is negated
 abbrev pub negated_if : Bool → Bool → Bool
 negated_if negated holds = if negated then not holds else holds
 
+-- whether a value is in a list
 abbrev pub is_member : List Value → Value → Bool
 is_member members value = list_any (value_eq value) members
 
+-- whether a value is at most another
 abbrev pub is_at_most : Value → Value → Bool
 is_at_most a b = is_le (value_order a b)
 
+-- whether a value is between two, both included
 abbrev pub is_between : Value → Value → Value → Bool
 is_between low value high = is_at_most low value && is_at_most value high
 
@@ -61,6 +65,7 @@ compare_may AtMost least bound greatest = is_le (value_order least bound)
 compare_may More least bound greatest = is_gt (value_order greatest bound)
 compare_may AtLeast least bound greatest = is_ge (value_order greatest bound)
 
+-- whether some value of a list is between two
 abbrev pub some_between : List Value → Value → Value → Bool
 some_between members least greatest = list_any (λ member. is_between least member greatest) members
 

@@ -2,6 +2,7 @@
 use Rattle.std.specs.Prelude.{◌≡◌, ◌<◌, ◌++◌, ℕ, List, [], map, length, get_or, slice_get, Some}
 use Rattle.std.specs.List.{All, Contains}
 
+-- the text at each id
 abbrev pub texts_of : List (List ℕ) → List ℕ → List (List ℕ)
 texts_of names ids = map (λ id. get_or names id []) ids
 

@@ -1,4 +1,4 @@
-// One column.
+//! One column.
 ghost use Rattle.std.specs.Prelude.{◌≡◌, ◌<◌, MatchBool, MatchOption, map, true, false, [], length, OnOk, OnErr, IfOk, Some, slice_get};
 ghost use Rattle.values.specs.declared.value.Value.TheVariants as value;
 ghost use Rattle.std.specs.Str.{is_utf8};

@@ -1,4 +1,4 @@
-// Columns of one length.
+//! Columns of one length.
 ghost use Rattle.std.specs.Prelude.{◌≡◌, ◌<◌, length, IfOk, Some, slice_get};
 ghost use Rattle.std.specs.List.{All};
 ghost use Rattle.values.specs.Columns.{Counts, row_of, rows_in_columns, rows_of};

@@ -1,3 +1,5 @@
+//! Values read from texts.
+
 ghost use Rattle.std.specs.Prelude.{◌≡◌, ◌≢◌, IfOk, IfErr, IsOk};
 ghost use Rattle.values.specs.Reading.{value_of};
 

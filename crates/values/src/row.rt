@@ -1,3 +1,5 @@
+//! Rows of values.
+
 ghost use Rattle.std.specs.Prelude.{◌≡◌, IfOk};
 
 use crate::{NoMemory, Seq, Value};

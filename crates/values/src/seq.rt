@@ -1,3 +1,5 @@
+//! A list that contracts see as its items.
+
 ghost use Rattle.std.specs.Prelude.{◌≡◌, ◌<◌, ◌==◌, [], ◌∷◌, ◌++◌, Some, OnOk, OnErr, IfOk, length, slice_get};
 ghost use Rattle.std.specs.Hash as fed;
 ghost use Rattle.std.specs.Hash.{items_Alike};

@@ -1,4 +1,4 @@
-// Where a text may be found among those that are kept.
+//! Where a text may be found among those that are kept.
 ghost use Rattle.std.specs.Prelude.{◌≡◌, true, false, MatchOption, IfSome, Some, slice_get};
 ghost use Rattle.std.specs.Str.{is_utf8};
 

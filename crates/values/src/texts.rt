@@ -1,4 +1,4 @@
-// A column of texts.
+//! A column of texts.
 ghost use Rattle.std.specs.Prelude.{◌≡◌, ◌<◌, true, false, MatchBool, MatchOption, ◌++◌, ◌∷◌, [], length, OnOk, OnErr, IfOk, Some, slice_get};
 ghost use Rattle.std.specs.Str.{is_utf8};
 ghost use Rattle.values.specs.Texts.{IsCoding, Placed, texts_of};

@@ -1,3 +1,5 @@
+//! A whole number or a text, its order, and its text.
+
 ghost use Rattle.std.specs.Prelude.{◌≡◌, ◌++◌, refl, Some, IfOk, OnOk, OnErr};
 ghost use Rattle.std.specs.Cmp.{partial_equiv_from_equiv};
 ghost use Rattle.values.specs.Order.{value_order, value_eq};

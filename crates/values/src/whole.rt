@@ -1,3 +1,5 @@
+//! Whole numbers read from texts.
+
 ghost use Rattle.std.specs.Prelude.{◌≡◌, ◌-◌, ◌<◌, ◌≤◌, true, false, length};
 ghost use Rattle.std.specs.List.{list_all};
 ghost use Rattle.values.specs.Numbers.{whole_of, is_digit};

@@ -36,6 +36,7 @@ congr (Text s) (Whole y) c e = absurd (false≢true (ap is_eq e))
 congr (Text s) (Text t) (Whole z) e = refl
 congr (Text s) (Text t) (Text u) e = nat_list_cmp_total.congr s t u e
 
+-- the order of values is total
 pub value_order-total : IsTotalOrder value_order
 value_order-total = record { antisymm = antisymm; trans = trans; congr = congr }
 
@@ -64,8 +65,10 @@ eq_congr (Text s) (Whole y) c e = absurd (false≢true e)
 eq_congr (Text s) (Text t) (Whole z) e = refl
 eq_congr (Text s) (Text t) (Text u) e = nat_list_eq_equiv.congr s t u e
 
+-- equality of values is an equivalence
 pub value_eq-equiv : IsEquivalence value_eq
 value_eq-equiv = record { refl = eq_refl; symm = eq_symm; congr = eq_congr }
 
+-- the order and the equality of values agree
 pub value_order-partial : IsPartialOrder value_eq (λ a b. Some (value_order a b))
 value_order-partial = partial_order_from_agreeing_total value_order value_order-total (λ a b. refl) value_eq-ties

@@ -9,13 +9,13 @@ use Rattle.bit_column.proofs.part.fill.Goals as goal
 
 pub pieces-init : goal.pieces-init
 pieces-init g c =
-  let same : c.args.offset ≡ c.args.offset + 0 = omega arith in
-  record {
-  only_reads = reads_none (seen g.S.Shelf c.args.shelf.now);
-  within = omega arith;
-  log = subst (λ k. LogsOn c.args.name.now c.args.offset k (g.S.Shelf.log c.args.shelf.now) (g.S.Shelf.log c.args.shelf.now)) same (LogsOn-none c.args.name.now c.args.offset (g.S.Shelf.log c.args.shelf.now));
-  front = front-starts (g.S.Shelf.held c.args.shelf.now) c.args.name.now c.args.offset c.args.into.now;
-}
+    let same : c.args.offset ≡ c.args.offset + 0 = omega arith in
+    record {
+      only_reads = reads_none (seen g.S.Shelf c.args.shelf.now);
+      within = omega arith;
+      log = subst (λ k. LogsOn c.args.name.now c.args.offset k (g.S.Shelf.log c.args.shelf.now) (g.S.Shelf.log c.args.shelf.now)) same (LogsOn-none c.args.name.now c.args.offset (g.S.Shelf.log c.args.shelf.now));
+      front = front-starts (g.S.Shelf.held c.args.shelf.now) c.args.name.now c.args.offset c.args.into.now;
+    }
 
 pub returns-then-n-eq0-clause-log : goal.returns-then-n-eq0-clause-log
 returns-then-n-eq0-clause-log g c =
