@@ -2,7 +2,8 @@
 
 ghost use Rattle.std.specs.Prelude.{◌≡◌, ◌≤◌, length, IfOk};
 ghost use Rattle.std.specs.List.{All};
-ghost use Rattle.dictionary.specs.Dictionary.{Fits, fits, most_values};
+ghost use Rattle.values.specs.Kinds.{fits};
+ghost use Rattle.dictionary.specs.Dictionary.{Fits, most_values};
 
 use crate::expect::{Expectations, TestFault};
 use crate::values_in_order::text;
