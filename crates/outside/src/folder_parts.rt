@@ -108,7 +108,13 @@ impl<R: Files + AllocGlobal + Clone + Drop> FolderParts<R> {
         let to = path_of(alloc, self.files.folder.as_str(), name)?;
         let open = self.take_part(alloc, part)?;
         let folder = self.files.folder.as_str();
-        match replace(&self.files.rt, &open.file, folder, from.as_str(), to.as_str()) {
+        match replace(
+            &self.files.rt,
+            &open.file,
+            folder,
+            from.as_str(),
+            to.as_str(),
+        ) {
             Ok(()) => Ok(()),
             Err(e) => Err(write_fault(&e)),
         }

@@ -150,8 +150,12 @@ module _ (schema settings : List ℕ) (inputs inputs_new depot : Seen) (reads : 
       record {
         touched = record { inputs = reads; depot = unwritten depot };
         counted = record { inputs = still (λ e. cc); depot_reads = refl; depot_writes = refl };
-        ended = acted (Err line) (Refuses line) depot (record { there = false; known = lacks; answers = refl; leaves = refl }) told (allowed_line line by.0, caused_line schema settings inputs.held depot.held line by.0 told, refl,
-            looked_line schema settings (record { inputs = inputs; depot = depot }) (record { inputs = inputs_new; depot = depot }) line by.0 (λ wrong path is. alone wrong path (ap stop.Refused is)));
+        ended = acted (Err line) (Refuses line) depot (record { there = false; known = lacks; answers = refl; leaves = refl }) told (
+          allowed_line line by.0,
+          caused_line schema settings inputs.held depot.held line by.0 told,
+          refl,
+          looked_line schema settings (record { inputs = inputs; depot = depot }) (record { inputs = inputs_new; depot = depot }) line by.0 (λ wrong path is. alone wrong path (ap stop.Refused is)),
+        );
       }
   ran_stopped (stop.Fault fault.Read) lacks by still alone = record { touched = record { inputs = reads; depot = unwritten depot }; counted = refl; ended = record { kept = refl; cause = (refl, inl by) } }
   ran_stopped (stop.Fault fault.Write) lacks by still alone = absurd by

@@ -118,9 +118,9 @@ module _ (command : Option Command) (old : World) (new : Devices) where
 
   pub text_promise : (text : List ℕ) (ended : Status) (out notes : Heard) → Ran command old.devices new (Ok text) → GaveText text ended old.out out old.notes notes → Promise command old ended (after new out notes)
   text_promise text ended out notes ran gave = elim gave.ends [
-      inl same ↦ subst (λ e. Promise command old e (after new out notes)) (sym same) (text_done text out notes ran (subst (λ e. GaveText text e old.out out old.notes notes) same gave))
+    | inl same ↦ subst (λ e. Promise command old e (after new out notes)) (sym same) (text_done text out notes ran (subst (λ e. GaveText text e old.out out old.notes notes) same gave))
     | inr same ↦ subst (λ e. Promise command old e (after new out notes)) (sym same) (text_cut text out notes ran (subst (λ e. GaveText text e old.out out old.notes notes) same gave))
-    ]
+  ]
 
   -- ---- a refusal
 
@@ -171,10 +171,10 @@ module _ (command : Option Command) (old : World) (new : Devices) where
 
   pub line_promise : (line : Note) (ended : Status) (notes : Heard) → Ran command old.devices new (Err (stop.Refused line)) → GaveNote line ended old.notes notes → Promise command old ended (after new old.out notes)
   line_promise line ended notes ran gave = elim gave.ends [
-      inl same ↦ subst (λ e. Promise command old e (after new old.out notes)) (sym same) (line_done line notes ran (subst (λ e. GaveNote line e old.notes notes) same gave))
+    | inl same ↦ subst (λ e. Promise command old e (after new old.out notes)) (sym same) (line_done line notes ran (subst (λ e. GaveNote line e old.notes notes) same gave))
     | inr (inl same) ↦ subst (λ e. Promise command old e (after new old.out notes)) (sym same) (line_cut line notes ran (subst (λ e. GaveNote line e old.notes notes) same gave))
     | inr (inr same) ↦ subst (λ e. Promise command old e (after new old.out notes)) (sym same) (line_memory line notes ran (subst (λ e. GaveNote line e old.notes notes) same gave))
-    ]
+  ]
 
   -- ---- a fault
 

@@ -149,7 +149,10 @@ fn stop_of(fault: CsvFault) -> Stop
 {
     match fault {
         CsvFault::At(kind, row, column) => Stop::Refused(Note::BadCsv(kind, row, column)),
-        CsvFault::TooManyRows(most) => Stop::Refused(Note::TooLarge(Counted::Rows, u64::from(most))),
+        CsvFault::TooManyRows(most) => Stop::Refused(Note::TooLarge(
+            Counted::Rows,
+            u64::from(most),
+        )),
         CsvFault::TooManyColumns => Stop::Refused(Note::TooLarge(Counted::Columns, MOST_COLUMNS)),
         CsvFault::NoMemory => Stop::Fault(Fault::Memory),
     }
