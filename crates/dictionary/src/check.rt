@@ -126,7 +126,7 @@ fn keep(values: &mut Vec<Value>, value: Value) -> Result<(), DictFault>
 
 // What is left of the offsets and of the bytes of the texts. The next text begins at `start`.
 #[derive(Clone, Copy)]
-struct Ahead<'a> {
+struct Unread<'a> {
     start: usize,
     offsets: &'a [u8],
     texts: &'a [u8],
@@ -159,7 +159,7 @@ fn read_texts(alloc: Global, count: usize, body: &[u8]) -> Result<Vec<Value>, Di
     Ok(values)
 }
 
-fn texts_ahead(count: usize, body: &[u8]) -> Option<Ahead<'_>>
+fn texts_ahead(count: usize, body: &[u8]) -> Option<Unread<'_>>
     requires { count ≤ most_values }
     ensures { MatchOption result
         (NoBody FieldKind.Text count body.now)
@@ -171,7 +171,7 @@ fn texts_ahead(count: usize, body: &[u8]) -> Option<Ahead<'_>>
     if first != 0 {
         return None;
     }
-    Some(Ahead {
+    Some(Unread {
         start: 0,
         offsets,
         texts,
@@ -179,7 +179,7 @@ fn texts_ahead(count: usize, body: &[u8]) -> Option<Ahead<'_>>
 }
 
 // The next text, and what is left behind it.
-fn next_text(ahead: Ahead<'_>) -> Option<(&str, Ahead<'_>)>
+fn next_text(ahead: Unread<'_>) -> Option<(&str, Unread<'_>)>
     requires { ahead.start ≤ 536870912 }
     ensures { let left : Left = record {
       start = ahead.entry.start;
@@ -200,7 +200,7 @@ fn next_text(ahead: Ahead<'_>) -> Option<(&str, Ahead<'_>)>
     };
     Some((
         text,
-        Ahead {
+        Unread {
             start: end,
             offsets,
             texts,

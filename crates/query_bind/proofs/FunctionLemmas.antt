@@ -25,7 +25,7 @@ use Rattle.query_bind.specs.declared.fault.BindFault.TheVariants.{At}
 use Rattle.query_bind.specs.Faults.{fault_unless}
 use Rattle.query_bind.specs.Written.{field_number}
 use Rattle.query_bind.specs.Names as names
-use Rattle.query_bind.specs.Names.{kind_of, has_label, labelled, meant, takes, column_finding, argument_finding, term_finding, table_finding, names_finding}
+use Rattle.query_bind.specs.Names.{kind_of, has_label, labelled, term_of, takes, column_finding, argument_finding, term_finding, table_finding, names_finding}
 use Rattle.query_bind.specs.Terms.{meaning_of, agg_of}
 use Rattle.query_bind.specs.Bound.{Bound, Spelled, bound_of, bound, query_finding}
 use Rattle.query_bind.proofs.Truth.{and_of, both}
@@ -37,20 +37,20 @@ use Rattle.table_schema.proofs.FirstLaws.{first_none, rest_none}
 
 -- ---- the term that a key stands for
 
-meant_by : (i : QueryItem) (is : List QueryItem) (name : List ℕ) (t : Term) (b : Bool) → is_term i.term ≡ true → is_term (unwrap_or (labelled is name) t) ≡ true
+term_by : (i : QueryItem) (is : List QueryItem) (name : List ℕ) (t : Term) (b : Bool) → is_term i.term ≡ true → is_term (unwrap_or (labelled is name) t) ≡ true
     → is_term (unwrap_or (if b then Some i.term else labelled is name) t) ≡ true
-meant_by i is name t true own later = own
-meant_by i is name t false own later = later
+term_by i is name t true own later = own
+term_by i is name t false own later = later
 
 labelled_term : (items : List QueryItem) (name : List ℕ) (t : Term) → list_all (λ i. is_term i.term) items ≡ true → is_term t ≡ true → is_term (unwrap_or (labelled items name) t) ≡ true
 labelled_term [] name t all own = own
 labelled_term (i ∷ is) name t all own =
     let parts = both (is_term i.term) (list_all (λ i. is_term i.term) is) all in
-    meant_by i is name t (has_label i.label name) parts.0 (labelled_term is name t parts.1 own)
+    term_by i is name t (has_label i.label name) parts.0 (labelled_term is name t parts.1 own)
 
-meant_term : (items : List QueryItem) (t : Term) → list_all (λ i. is_term i.term) items ≡ true → is_term t ≡ true → is_term (meant items t) ≡ true
-meant_term items (term.Column n) all own = labelled_term items n.name (term.Column n) all own
-meant_term items (term.Call c) all own = own
+term_of_key_term : (items : List QueryItem) (t : Term) → list_all (λ i. is_term i.term) items ≡ true → is_term t ≡ true → is_term (term_of items t) ≡ true
+term_of_key_term items (term.Column n) all own = labelled_term items n.name (term.Column n) all own
+term_of_key_term items (term.Call c) all own = own
 
 -- ---- a field of numbers
 
@@ -97,11 +97,11 @@ module _ (fields : List Field) where
   term_fits (term.Column n) none own = refl
   term_fits (term.Call c) none own = call_fits c.func c.argument none own
 
-keys_meant : (items : List QueryItem) (ks : List QueryKey) → list_all (λ i. is_term i.term) items ≡ true → list_all (λ k. is_term k.term) ks ≡ true → list_all (λ k. is_term (meant items k.term)) ks ≡ true
-keys_meant items [] all own = refl
-keys_meant items (k ∷ ks) all own =
+keys_standing_for : (items : List QueryItem) (ks : List QueryKey) → list_all (λ i. is_term i.term) items ≡ true → list_all (λ k. is_term k.term) ks ≡ true → list_all (λ k. is_term (term_of items k.term)) ks ≡ true
+keys_standing_for items [] all own = refl
+keys_standing_for items (k ∷ ks) all own =
     let parts = both (is_term k.term) (list_all (λ k. is_term k.term) ks) own in
-    and_of (is_term (meant items k.term)) _ (meant_term items k.term all parts.0) (keys_meant items ks all parts.1)
+    and_of (is_term (term_of items k.term)) _ (term_of_key_term items k.term all parts.0) (keys_standing_for items ks all parts.1)
 
 -- ---- the law
 
@@ -118,4 +118,4 @@ module _ (table : Table) (any_table : Bool) (q : Query) (b : Bound) (is : bound 
   pub functions_fit : list_all (agg_fits fields) b.aggs ≡ true
   functions_fit = subst (λ x. list_all (agg_fits fields) x.aggs ≡ true) own.1
       (aggs_are fields (agg_fits fields) is_term (term_fits fields) q (first_none (names_finding fields q) _ (rest_none (table_finding table any_table q) _ own.0)) items
-      (keys_meant q.items q.order items (spelled_keys _ q spelled.2)))
+      (keys_standing_for q.items q.order items (spelled_keys _ q spelled.2)))

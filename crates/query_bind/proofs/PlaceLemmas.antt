@@ -24,7 +24,7 @@ use Rattle.query_bind.specs.declared.terms.TermAt.{TermAt}
 use Rattle.query_bind.specs.declared.terms.ColumnAt.{ColumnAt}
 use Rattle.query_bind.specs.Faults.{Finding, fault_unless}
 use Rattle.query_bind.specs.Written.{field_number}
-use Rattle.query_bind.specs.Names.{meant, table_finding, names_finding}
+use Rattle.query_bind.specs.Names.{term_of, table_finding, names_finding}
 use Rattle.query_bind.specs.Grouped.{is_grouped, term_grouped, aggregate_finding, grouped_finding}
 use Rattle.query_bind.specs.Terms.{meaning_of, term_at, key_at, column_at, terms_of, with_new, with_column, columns_from, with_agg, aggs_from}
 use Rattle.query_bind.specs.Bound.{Bound, bound_of, bound, query_finding, answer, item_of, items_of, keys_of, label_of}
@@ -217,14 +217,14 @@ module _ (fields : List Field) (names : List NameAt) (b : Bound) (columns : b.gr
       (item_stands b (meaning_of fields i.term) (term_column i.term (first_none (term_grouped names i.term) _ passes)) has.0)
       ∙ ap (λ ms. Some (meaning_of fields i.term) ∷ ms) (items_stand is (rest_none (term_grouped names i.term) _ passes) has.1)
 
-  keys_stand : (items : List QueryItem) (keys : List QueryKey) → first_in (λ k. term_grouped names (meant items k.term)) keys ≡ None
+  keys_stand : (items : List QueryItem) (keys : List QueryKey) → first_in (λ k. term_grouped names (term_of items k.term)) keys ≡ None
       → HasAll b.aggs (map (λ k. k.term) (map (key_at fields items) keys))
-      → map (λ k. at_place b k.item) (keys_of b.groups b.aggs (map (key_at fields items) keys)) ≡ map (λ k. Some (meaning_of fields (meant items k.term))) keys
+      → map (λ k. at_place b k.item) (keys_of b.groups b.aggs (map (key_at fields items) keys)) ≡ map (λ k. Some (meaning_of fields (term_of items k.term))) keys
   keys_stand items [] passes has = refl
   keys_stand items (k ∷ ks) passes has =
       ap (λ m. m ∷ map (λ k. at_place b k.item) (keys_of b.groups b.aggs (map (key_at fields items) ks)))
-      (item_stands b (meaning_of fields (meant items k.term)) (term_column (meant items k.term) (first_none (term_grouped names (meant items k.term)) _ passes)) has.0)
-      ∙ ap (λ ms. Some (meaning_of fields (meant items k.term)) ∷ ms) (keys_stand items ks (rest_none (term_grouped names (meant items k.term)) _ passes) has.1)
+      (item_stands b (meaning_of fields (term_of items k.term)) (term_column (term_of items k.term) (first_none (term_grouped names (term_of items k.term)) _ passes)) has.0)
+      ∙ ap (λ ms. Some (meaning_of fields (term_of items k.term)) ∷ ms) (keys_stand items ks (rest_none (term_grouped names (term_of items k.term)) _ passes) has.1)
 
 -- ---- the laws
 
@@ -251,10 +251,10 @@ module _ (table : Table) (any_table : Bool) (q : Query) (b : Bound) (is : bound 
       (first_none (first_in (λ i. term_grouped q.groups i.term) q.items) _ passes)
       (has_all [] (terms_of table.schema.fields q).items (map (λ k. k.term) (terms_of table.schema.fields q).keys)))
 
-  pub keys_are : map (λ k. at_place b k.item) b.order ≡ map (λ k. Some (meaning_of table.schema.fields (meant q.items k.term))) q.order
-  keys_are = subst (λ x. map (λ k. at_place x k.item) x.order ≡ map (λ k. Some (meaning_of table.schema.fields (meant q.items k.term))) q.order) own.1
+  pub keys_are : map (λ k. at_place b k.item) b.order ≡ map (λ k. Some (meaning_of table.schema.fields (term_of q.items k.term))) q.order
+  keys_are = subst (λ x. map (λ k. at_place x k.item) x.order ≡ map (λ k. Some (meaning_of table.schema.fields (term_of q.items k.term))) q.order) own.1
       (keys_stand table.schema.fields q.groups (bound_of table.schema.fields q) refl q.items q.order
-      (first_none (first_in (λ k. term_grouped q.groups (meant q.items k.term)) q.order) _ (rest_none (first_in (λ i. term_grouped q.groups i.term) q.items) _ passes))
+      (first_none (first_in (λ k. term_grouped q.groups (term_of q.items k.term)) q.order) _ (rest_none (first_in (λ i. term_grouped q.groups i.term) q.items) _ passes))
       (has_all (aggs_from [] (terms_of table.schema.fields q).items) (map (λ k. k.term) (terms_of table.schema.fields q).keys) []))
 
   pub labels_are : length b.labels ≡ length b.items

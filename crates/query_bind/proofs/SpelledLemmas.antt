@@ -22,7 +22,7 @@ use Rattle.query_parser.specs.declared.tree.Cond.TheFolds.{fold-roll-Cond}
 use Rattle.query_parser.specs.Stream.{Stream}
 use Rattle.query_parser.specs.Cond.{joined, row_joints, deepest}
 use Rattle.query_parser.specs.Query.{is_count}
-use Rattle.query_parser.specs.Spells.{Rule, SpellsList, SpellsTest, SpellsBoth, SpellsCond, SpellsSingle, SpellsCondition}
+use Rattle.query_parser.specs.Spells.{Rule, SpellsList, SpellsTest, SpellsConjunction, SpellsCond, SpellsFactor, SpellsCondition}
 use Rattle.query_parser.specs.SpellsQuery.{SpellsArgument, SpellsTerm, SpellsItem, SpellsKey, SpellsBy, SpellsListed, SpellsOptional, SpellsQuery}
 use Rattle.query_bind.specs.Written.{Written, Compare, OneOf, Between, Not, All, Any, Members, no_members, member, members_of, written_step, written, where_written}
 use Rattle.query_bind.proofs.Truth.{and_of}
@@ -72,8 +72,8 @@ module _ (fields : List Field) where
   abbrev AreFull : List Cond → Type 0
   AreFull cs = all_full (members_of (map (written fields) cs)) ≡ true
 
-  both_full : (c : Cond) (cs : List Cond) → AreFull (c ∷ cs) → IsFull (cond.All (c ∷ cs))
-  both_full c cs full = ap is_full (written-All fields (c ∷ cs)) ∙ full
+  conjunction_full : (c : Cond) (cs : List Cond) → AreFull (c ∷ cs) → IsFull (cond.All (c ∷ cs))
+  conjunction_full c cs full = ap is_full (written-All fields (c ∷ cs)) ∙ full
 
   either_full : (c : Cond) (cs : List Cond) → AreFull (c ∷ cs) → IsFull (cond.Any (c ∷ cs))
   either_full c cs full = ap is_full (written-Any fields (c ∷ cs)) ∙ full
@@ -99,26 +99,26 @@ module _ (fields : List Field) where
     joined_full sep joint full (c ∷ []) ts us s = each ts c us s
     joined_full sep joint full (c ∷ d ∷ cs) ts us s = full c (d ∷ cs) (list_full sep (c ∷ d ∷ cs) ts us s)
 
-    ands_full : (ts : Stream) (c : Cond) (us : Stream) → SpellsBoth row_joints rule ts c us → IsFull c
-    ands_full ts c us s = subst IsFull (sym s.2) (joined_full k.And cond.All both_full s.0 ts us s.1)
+    ands_full : (ts : Stream) (c : Cond) (us : Stream) → SpellsConjunction row_joints rule ts c us → IsFull c
+    ands_full ts c us s = subst IsFull (sym s.2) (joined_full k.And cond.All conjunction_full s.0 ts us s.1)
 
   ors_full : (rule : Rule Cond) → ((ts : Stream) (c : Cond) (us : Stream) → rule ts c us → IsFull c)
       → (ts : Stream) (c : Cond) (us : Stream) → SpellsCond row_joints rule ts c us → IsFull c
-  ors_full rule each ts c us s = subst IsFull (sym s.2) (joined_full (SpellsBoth row_joints rule) (ands_full rule each) k.Or cond.Any either_full s.0 ts us s.1)
+  ors_full rule each ts c us s = subst IsFull (sym s.2) (joined_full (SpellsConjunction row_joints rule) (ands_full rule each) k.Or cond.Any either_full s.0 ts us s.1)
 
-  single_full : (d : ℕ) (ts : Stream) (c : Cond) (us : Stream) → SpellsSingle SpellsTest row_joints d ts c us → IsFull c
-  unfolding SpellsSingle
-  single_full zero ts c us s = test_full ts c us s
-  single_full (suc d) ts c us s = elim s [
+  factor_full : (d : ℕ) (ts : Stream) (c : Cond) (us : Stream) → SpellsFactor SpellsTest row_joints d ts c us → IsFull c
+  unfolding SpellsFactor
+  factor_full zero ts c us s = test_full ts c us s
+  factor_full (suc d) ts c us s = elim s [
     | inl t ↦ test_full ts c us t
     | inr r ↦ elim r [
-      | inl n ↦ subst IsFull (sym n.4) (not_full n.1 (single_full d n.0 n.1 us n.3))
-      | inr g ↦ ors_full (SpellsSingle SpellsTest row_joints d) (single_full d) g.0 c g.1 g.3
+      | inl n ↦ subst IsFull (sym n.4) (not_full n.1 (factor_full d n.0 n.1 us n.3))
+      | inr g ↦ ors_full (SpellsFactor SpellsTest row_joints d) (factor_full d) g.0 c g.1 g.3
     ]
   ]
 
   condition_full : (ts : Stream) (c : Cond) (us : Stream) → SpellsCondition ts c us → IsFull c
-  condition_full = ors_full (SpellsSingle SpellsTest row_joints deepest) (single_full deepest)
+  condition_full = ors_full (SpellsFactor SpellsTest row_joints deepest) (factor_full deepest)
 
   pub where_full : (o : Option Cond) (ts us : Stream) → SpellsOptional k.Where SpellsCondition ts o us → WhereIsFull (where_written fields o)
   where_full None ts us s = tt

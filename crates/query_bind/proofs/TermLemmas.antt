@@ -10,7 +10,7 @@ use Rattle.query_parser.specs.declared.tree.Query.{Query}
 use Rattle.query_bind.specs.declared.terms.Meaning.{Meaning}
 use Rattle.query_bind.specs.declared.terms.Meaning.TheVariants as meaning
 use Rattle.query_bind.specs.declared.terms.TermAt.{TermAt}
-use Rattle.query_bind.specs.Names.{meant, column_finding, term_finding, where_finding, names_finding}
+use Rattle.query_bind.specs.Names.{term_of, column_finding, term_finding, where_finding, names_finding}
 use Rattle.query_bind.specs.Terms.{meaning_of, term_at, key_at, terms_of, with_new, with_agg, aggs_from, aggs_of}
 use Rattle.query_bind.proofs.Truth.{and_of, both}
 use Rattle.table_schema.specs.declared.query.Agg.{Agg}
@@ -55,22 +55,22 @@ module _ (fields : List Field) (p : Agg → Bool) (good : Term → Bool) (each :
       and_of (meaning_is p (meaning_of fields i.term)) _ (each i.term (first_none (term_finding fields i.term) _ passes) parts.0)
       (items_are is (rest_none (term_finding fields i.term) _ passes) parts.1)
 
-  keys_are : (items : List QueryItem) (ks : List QueryKey) → first_in (λ k. term_finding fields (meant items k.term)) ks ≡ None → list_all (λ k. good (meant items k.term)) ks ≡ true
+  keys_are : (items : List QueryItem) (ks : List QueryKey) → first_in (λ k. term_finding fields (term_of items k.term)) ks ≡ None → list_all (λ k. good (term_of items k.term)) ks ≡ true
       → list_all (λ t. meaning_is p t.meaning) (map (λ k. k.term) (map (key_at fields items) ks)) ≡ true
   keys_are items [] passes own = refl
   keys_are items (k ∷ ks) passes own =
-      let t = meant items k.term in
-      let parts = both (good t) (list_all (λ k. good (meant items k.term)) ks) own in
+      let t = term_of items k.term in
+      let parts = both (good t) (list_all (λ k. good (term_of items k.term)) ks) own in
       and_of (meaning_is p (meaning_of fields t)) _ (each t (first_none (term_finding fields t) _ passes) parts.0)
       (keys_are items ks (rest_none (term_finding fields t) _ passes) parts.1)
 
-  pub aggs_are : (q : Query) → names_finding fields q ≡ None → list_all (λ i. good i.term) q.items ≡ true → list_all (λ k. good (meant q.items k.term)) q.order ≡ true
+  pub aggs_are : (q : Query) → names_finding fields q ≡ None → list_all (λ i. good i.term) q.items ≡ true → list_all (λ k. good (term_of q.items k.term)) q.order ≡ true
       → list_all p (aggs_of (terms_of fields q)) ≡ true
   aggs_are q names items order =
       let checked = first_none (first_in (λ i. term_finding fields i.term) q.items) _ names in
       let after_items = rest_none (first_in (λ i. term_finding fields i.term) q.items) _ names in
       let after_where = rest_none (where_finding fields q.condition) _ after_items in
       let after_groups = rest_none (first_in (column_finding fields) q.groups) _ after_where in
-      let keys = first_none (first_in (λ k. term_finding fields (meant q.items k.term)) q.order) _ after_groups in
+      let keys = first_none (first_in (λ k. term_finding fields (term_of q.items k.term)) q.order) _ after_groups in
       aggs_kept p (aggs_from [] (terms_of fields q).items) (map (λ k. k.term) (terms_of fields q).keys)
       (aggs_kept p [] (terms_of fields q).items refl (items_are q.items checked items)) (keys_are q.items q.order keys order)

@@ -22,7 +22,7 @@ use Rattle.query_bind.specs.declared.terms.Meaning.{Meaning}
 use Rattle.query_bind.specs.declared.terms.Meaning.TheVariants as meaning
 use Rattle.query_bind.specs.declared.terms.TermAt.{TermAt}
 use Rattle.query_bind.specs.Faults.{fault_unless}
-use Rattle.query_bind.specs.Names.{meant, table_finding, names_finding}
+use Rattle.query_bind.specs.Names.{term_of, table_finding, names_finding}
 use Rattle.query_bind.specs.Grouped.{is_call, aggregate_finding}
 use Rattle.query_bind.specs.Terms.{meaning_of, term_at, terms_of, with_agg, agg_of, aggs_from, groups_of, aggs_of}
 use Rattle.query_bind.specs.Bound.{Bound, Spelled, bound_of, bound, query_finding, items_of, in_normal_form, Binds}
@@ -125,7 +125,7 @@ module _ (table : Table) (any_table : Bool) (q : Query) (b : Bound) (is : bound 
         some_items = subst (λ x. 0 < length x.items) own.1 (some_items fields (groups_of terms) (aggs_of terms) q.items some_call);
         items_known = all_found b (λ i. i) (λ i. meaning_of fields i.term) b.items q.items (items_are table any_table q b is);
         label_each = labels_are table any_table q b is;
-        keys_known = all_found b (λ k. k.item) (λ k. meaning_of fields (meant q.items k.term)) b.order q.order (keys_are table any_table q b is);
+        keys_known = all_found b (λ k. k.item) (λ k. meaning_of fields (term_of q.items k.term)) b.order q.order (keys_are table any_table q b is);
         few_keys = limits.2;
       }
 

@@ -8,7 +8,7 @@ use Rattle.query_parser.specs.declared.tree.Term.TheVariants as term
 use Rattle.query_parser.specs.declared.tree.Query.{Query}
 use Rattle.query_bind.specs.declared.fault.BindReason.TheVariants.{NoAggregate, NotGrouped}
 use Rattle.query_bind.specs.Faults.{Finding, fault_unless}
-use Rattle.query_bind.specs.Names.{meant}
+use Rattle.query_bind.specs.Names.{term_of}
 use Rattle.table_schema.specs.Firsts.{first_of, first_in}
 
 -- ---- an aggregate in the select list
@@ -36,5 +36,5 @@ term_grouped groups (term.Call c) = None
 abbrev pub grouped_finding : Query → Finding
 grouped_finding q = first_of (
     first_in (λ i. term_grouped q.groups i.term) q.items
-    ∷ first_in (λ k. term_grouped q.groups (meant q.items k.term)) q.order
+    ∷ first_in (λ k. term_grouped q.groups (term_of q.items k.term)) q.order
     ∷ [])

@@ -109,9 +109,9 @@ labelled [] name = None
 labelled (i ∷ is) name = if has_label i.label name then Some i.term else labelled is name
 
 -- the term that a key stands for: a single name that is an AS name is that item, and no column name
-abbrev pub meant : List QueryItem → Term → Term
-meant items (term.Column n) = unwrap_or (labelled items n.name) (term.Column n)
-meant items (term.Call c) = term.Call c
+abbrev pub term_of : List QueryItem → Term → Term
+term_of items (term.Column n) = unwrap_or (labelled items n.name) (term.Column n)
+term_of items (term.Call c) = term.Call c
 
 -- ---- the query
 
@@ -120,5 +120,5 @@ names_finding fields q = first_of (
     first_in (λ i. term_finding fields i.term) q.items
     ∷ where_finding fields q.condition
     ∷ first_in (column_finding fields) q.groups
-    ∷ first_in (λ k. term_finding fields (meant q.items k.term)) q.order
+    ∷ first_in (λ k. term_finding fields (term_of q.items k.term)) q.order
     ∷ [])

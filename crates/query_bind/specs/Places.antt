@@ -7,7 +7,7 @@ use Rattle.table_schema.specs.declared.query.Item.TheVariants as item
 use Rattle.query_parser.specs.declared.tree.Query.{Query}
 use Rattle.query_bind.specs.declared.terms.Meaning.{Meaning}
 use Rattle.query_bind.specs.declared.terms.Meaning.TheVariants as meaning
-use Rattle.query_bind.specs.Names.{meant}
+use Rattle.query_bind.specs.Names.{term_of}
 use Rattle.query_bind.specs.Terms.{meaning_of}
 use Rattle.query_bind.specs.Bound.{Bound, bound}
 
@@ -26,4 +26,4 @@ ItemsAreTerms = OfBound (λ table q b. map (at_place b) b.items ≡ map (λ i. S
 
 -- and at the place of each key what the key stands for
 abbrev pub KeysAreTerms : Type 0
-KeysAreTerms = OfBound (λ table q b. map (λ k. at_place b k.item) b.order ≡ map (λ k. Some (meaning_of table.schema.fields (meant q.items k.term))) q.order)
+KeysAreTerms = OfBound (λ table q b. map (λ k. at_place b k.item) b.order ≡ map (λ k. Some (meaning_of table.schema.fields (term_of q.items k.term))) q.order)

@@ -22,7 +22,7 @@ use Rattle.query_bind.specs.declared.terms.ColumnAt.{ColumnAt}
 use Rattle.query_bind.specs.declared.terms.Terms.{Terms}
 use Rattle.query_bind.specs.declared.distinct.Lists.{Lists}
 use Rattle.query_bind.specs.Written.{field_number}
-use Rattle.query_bind.specs.Names.{meant}
+use Rattle.query_bind.specs.Names.{term_of}
 use Rattle.table_schema.specs.declared.query.Agg.{Agg}
 use Rattle.table_schema.specs.Aggs.{same_agg}
 
@@ -61,7 +61,7 @@ items_at fields q = map (λ i. term_at fields i.term) q.items
 
 -- what each key stands for, at its own place
 abbrev pub key_at : List Field → List QueryItem → QueryKey → KeyAt
-key_at fields items k = record { term = record { meaning = meaning_of fields (meant items k.term); offset = place k.term }; descending = k.descending }
+key_at fields items k = record { term = record { meaning = meaning_of fields (term_of items k.term); offset = place k.term }; descending = k.descending }
 
 abbrev pub keys_at : List Field → Query → List KeyAt
 keys_at fields q = map (key_at fields q.items) q.order

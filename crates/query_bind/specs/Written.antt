@@ -75,7 +75,7 @@ written_step fields (Cond-F.Not inner) = Not inner
 written_step fields (Cond-F.All inner) = All (members_of inner)
 written_step fields (Cond-F.Any inner) = Any (members_of inner)
 
--- a condition over these fields, as written; it is meant where each name is that of a field
+-- a condition over these fields, as written; it is so where each name is that of a field
 abbrev pub written : List Field → Cond → Written
 written fields = fold-Cond Written (written_step fields)
 

@@ -90,10 +90,10 @@ fn check_items(names: &QueryNames<'_>, items: &[QueryItem]) -> Result<(), BindFa
 
 fn check_keys<'q>(names: &QueryNames<'q>, keys: &'q [QueryKey]) -> Result<(), BindFault>
     ensures { Passes (first_in (λ k. spec.term_grouped names.now.query.now.groups
-        (naming.meant names.now.query.now.items k.term)) keys.now) result }
+        (naming.term_of names.now.query.now.items k.term)) keys.now) result }
 {
     for key in keys {
-        check_term(names, names.meant(&key.term))?;
+        check_term(names, names.term_of(&key.term))?;
     }
     Ok(())
 }

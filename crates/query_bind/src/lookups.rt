@@ -40,8 +40,8 @@ impl<'q> QueryNames<'q> {
     }
 
     /// The term that a key stands for.
-    pub(crate) fn meant(&self, term: &'q Term) -> &'q Term
-        ensures { result.now ≡ names.meant self.now.query.now.items term.now }
+    pub(crate) fn term_of(&self, term: &'q Term) -> &'q Term
+        ensures { result.now ≡ names.term_of self.now.query.now.items term.now }
     {
         let Term::Column(name) = term else {
             return term;

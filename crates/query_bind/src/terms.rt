@@ -163,12 +163,12 @@ pub(crate) fn keys_at<'q>(
 ) -> Result<Seq<KeyAt>, BindFault>
     requires { length fields.now ≤ 64 }
     ensures { Gives (first_in (λ k. naming.term_finding fields.now
-        (naming.meant names.now.query.now.items k.term)) order.now)
+        (naming.term_of names.now.query.now.items k.term)) order.now)
         (map (spec.key_at fields.now names.now.query.now.items) order.now) result }
 {
     let mut keys = Seq::with_capacity(alloc, order.len())?;
     for key in order {
-        let meaning = resolve_term(fields, names.meant(&key.term))?;
+        let meaning = resolve_term(fields, names.term_of(&key.term))?;
         let term = TermAt {
             meaning,
             offset: place(&key.term),

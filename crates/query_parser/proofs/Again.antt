@@ -14,10 +14,10 @@ use Rattle.query_parser.specs.Lex.{is_last, same_kind}
 use Rattle.query_parser.specs.Stream.{Lexeme, Stream, kind, place, number, word, next}
 use Rattle.query_parser.specs.Reading.{Parser, and_then, ◌>>=◌, ◌<$>◌, pure, sees, after, expect, name, literal, separated_from, separated}
 use Rattle.query_parser.specs.Cond as c
-use Rattle.query_parser.specs.Spells.{Rule, Skips, SpellsName, SpellsLiteral, SpellsList, MayNegate, SpellsTest, SpellsBoth, SpellsCond, SpellsSingle, SpellsCondition}
-use Rattle.query_parser.specs.Shrinks.{Shrinks, literal_shrinks, test_shrinks, single_shrinks, both_shrinks}
+use Rattle.query_parser.specs.Spells.{Rule, Skips, SpellsName, SpellsLiteral, SpellsList, MayNegate, SpellsTest, SpellsConjunction, SpellsCond, SpellsFactor, SpellsCondition}
+use Rattle.query_parser.specs.Shrinks.{Shrinks, literal_shrinks, test_shrinks, factor_shrinks, conjunction_shrinks}
 use Rattle.query_parser.proofs.Turns.{one}
-use Rattle.query_parser.proofs.Singles.{single_test}
+use Rattle.query_parser.proofs.Factors.{factor_test}
 
 -- ---- one token
 
@@ -148,8 +148,8 @@ test_compared column k.Not op ts h = absurd (cc)
 test_compared column kd op ts h = ap (λ o. c.compared column o ts) h
 
 -- a test, from what stands behind its name
-behind_name : (ts mid us : Stream) (column : NameAt) (x : Cond) → SpellsName ts column mid → c.test_by column (kind mid) mid ≡ Ok (x, us) → c.test ts ≡ Ok (x, us)
-unfolding c.test
+behind_name : (ts mid us : Stream) (column : NameAt) (x : Cond) → SpellsName ts column mid → c.test_by column (kind mid) mid ≡ Ok (x, us) → c.predicate ts ≡ Ok (x, us)
+unfolding c.predicate
 behind_name ts mid us column x s e = then name _ ts mid column (name_again ts mid column s) ∙ e
 
 in_again : (column : NameAt) (b : Bool) (vs : List LiteralAt) (t0 t1 t2 t3 t4 us : Stream) → MayNegate t0 b t1 → Skips k.In t1 t2 → Skips k.LParen t2 t3 → SpellsList k.Comma SpellsLiteral t3 vs t4 → Skips k.RParen t4 us
@@ -179,7 +179,7 @@ compare_step column op v t rest us is value =
     ∙ ap (Compare column op <$> literal) (next_at t.kind t rest refl (op_goes_on t.kind op is))
     ∙ then literal _ rest us v (literal_again rest v us value)
 
-pub test_again : (ts : Stream) (x : Cond) (us : Stream) → SpellsTest ts x us → c.test ts ≡ Ok (x, us)
+pub test_again : (ts : Stream) (x : Cond) (us : Stream) → SpellsTest ts x us → c.predicate ts ≡ Ok (x, us)
 test_again ts x us s = elim s [
   | inl t ↦ behind_name ts (t.sign ∷ t.rest) us t.column (Compare t.column t.op t.value) t.spells_column (compare_step t.column t.op t.value t.sign t.rest us t.is_op t.spells_value) ∙ ap (λ y. Ok (y, us)) (sym t.tree)
   | inr r ↦ elim r [
@@ -201,53 +201,53 @@ test_kind ts x us s = elim s [
 
 -- ---- conditions
 
-module _ {C : Type 0} (j : c.Joints C) (rule : Rule C) (single : Parser C) (each : (ts : Stream) (x : C) (us : Stream) → rule ts x us → single ts ≡ Ok (x, us)) (shrinks : Shrinks single) where
-  pub both_again : (ts : Stream) (x : C) (us : Stream) → SpellsBoth j rule ts x us → sees k.And us ≡ false → c.both j single ts ≡ Ok (x, us)
-  unfolding c.both is_last
-  both_again ts x us s last =
-      then (separated k.And single) _ ts us s.0 (list_again k.And rule single (λ _. Unit {0}) refl (λ ts x us h _. each ts x us h) (λ _ _ _. tt) shrinks s.0 ts us s.1 tt last)
+module _ {C : Type 0} (j : c.Joints C) (rule : Rule C) (factor : Parser C) (each : (ts : Stream) (x : C) (us : Stream) → rule ts x us → factor ts ≡ Ok (x, us)) (shrinks : Shrinks factor) where
+  pub conjunction_again : (ts : Stream) (x : C) (us : Stream) → SpellsConjunction j rule ts x us → sees k.And us ≡ false → c.conjunction j factor ts ≡ Ok (x, us)
+  unfolding c.conjunction is_last
+  conjunction_again ts x us s last =
+      then (separated k.And factor) _ ts us s.0 (list_again k.And rule factor (λ _. Unit {0}) refl (λ ts x us h _. each ts x us h) (λ _ _ _. tt) shrinks s.0 ts us s.1 tt last)
       ∙ ap (λ y. Ok (y, us)) (sym s.2)
 
   or_ends : (t : Lexeme) (us : Stream) → t.kind ≡ k.Or → sees k.And (t ∷ us) ≡ false
   or_ends t us h = other_kind k.Or k.And (t ∷ us) us (t, (refl, h)) (λ e. cc)
 
-  pub cond_again : (ts : Stream) (x : C) (us : Stream) → SpellsCond j rule ts x us → sees k.And us ≡ false → sees k.Or us ≡ false → c.cond j single ts ≡ Ok (x, us)
+  pub cond_again : (ts : Stream) (x : C) (us : Stream) → SpellsCond j rule ts x us → sees k.And us ≡ false → sees k.Or us ≡ false → c.cond j factor ts ≡ Ok (x, us)
   unfolding c.cond is_last
   cond_again ts x us s no_and no_or =
-      then (separated k.Or (c.both j single)) _ ts us s.0 (list_again k.Or (SpellsBoth j rule) (c.both j single) (λ us. sees k.And us ≡ false) refl both_again or_ends (both_shrinks j single shrinks) s.0 ts us s.1 no_and no_or)
+      then (separated k.Or (c.conjunction j factor)) _ ts us s.0 (list_again k.Or (SpellsConjunction j rule) (c.conjunction j factor) (λ us. sees k.And us ≡ false) refl conjunction_again or_ends (conjunction_shrinks j factor shrinks) s.0 ts us s.1 no_and no_or)
       ∙ ap (λ y. Ok (y, us)) (sym s.2)
 
 -- any sort of test that is read as its rule says, and begins with a name
 module _ {C : Type 0} (rule : Rule C) (leaf : Parser C) (j : c.Joints C) (each : (ts : Stream) (x : C) (us : Stream) → rule ts x us → leaf ts ≡ Ok (x, us))
     (begins : (ts : Stream) (x : C) (us : Stream) → rule ts x us → kind ts ≡ k.Name) (takes : Shrinks leaf) where
-  negation_again : (d : ℕ) (ts rest us : Stream) (x : C) → Skips k.Not ts rest → c.single leaf j d rest ≡ Ok (x, us) → c.single leaf j (suc d) ts ≡ Ok (j.not_of x, us)
-  unfolding c.single is_last
+  negation_again : (d : ℕ) (ts rest us : Stream) (x : C) → Skips k.Not ts rest → c.factor leaf j d rest ≡ Ok (x, us) → c.factor leaf j (suc d) ts ≡ Ok (j.not_of x, us)
+  unfolding c.factor is_last
   negation_again d ts rest us x s e =
-      ap (λ kd. c.single_by leaf j (c.negation leaf j (c.single leaf j d)) (c.in_parentheses leaf j (c.single leaf j d)) kd ts) (kind_again k.Not ts rest s)
-      ∙ ap (j.not_of <$> c.single leaf j d) (next_again k.Not ts rest refl s) ∙ then (c.single leaf j d) _ rest us x e
+      ap (λ kd. c.factor_by leaf j (c.negation leaf j (c.factor leaf j d)) (c.in_parentheses leaf j (c.factor leaf j d)) kd ts) (kind_again k.Not ts rest s)
+      ∙ ap (j.not_of <$> c.factor leaf j d) (next_again k.Not ts rest refl s) ∙ then (c.factor leaf j d) _ rest us x e
 
-  group_again : (d : ℕ) (ts inside close us : Stream) (x : C) → Skips k.LParen ts inside → c.cond j (c.single leaf j d) inside ≡ Ok (x, close) → Skips k.RParen close us → c.single leaf j (suc d) ts ≡ Ok (x, us)
-  unfolding c.single is_last
+  group_again : (d : ℕ) (ts inside close us : Stream) (x : C) → Skips k.LParen ts inside → c.cond j (c.factor leaf j d) inside ≡ Ok (x, close) → Skips k.RParen close us → c.factor leaf j (suc d) ts ≡ Ok (x, us)
+  unfolding c.factor is_last
   group_again d ts inside close us x s e closes =
-      ap (λ kd. c.single_by leaf j (c.negation leaf j (c.single leaf j d)) (c.in_parentheses leaf j (c.single leaf j d)) kd ts) (kind_again k.LParen ts inside s)
-      ∙ ap (c.cond j (c.single leaf j d) >>= (λ inner. expect k.RParen >>= (λ _. pure inner))) (next_again k.LParen ts inside refl s)
-      ∙ then (c.cond j (c.single leaf j d)) _ inside close x e
+      ap (λ kd. c.factor_by leaf j (c.negation leaf j (c.factor leaf j d)) (c.in_parentheses leaf j (c.factor leaf j d)) kd ts) (kind_again k.LParen ts inside s)
+      ∙ ap (c.cond j (c.factor leaf j d) >>= (λ inner. expect k.RParen >>= (λ _. pure inner))) (next_again k.LParen ts inside refl s)
+      ∙ then (c.cond j (c.factor leaf j d)) _ inside close x e
       ∙ then (expect k.RParen) _ close us tt (expect_again k.RParen close us refl closes)
 
-  pub single_again : (d : ℕ) (ts : Stream) (x : C) (us : Stream) → SpellsSingle rule j d ts x us → c.single leaf j d ts ≡ Ok (x, us)
-  unfolding SpellsSingle
-  single_again zero ts x us s = single_test leaf j zero ts (begins ts x us s) ∙ each ts x us s
-  single_again (suc d) ts x us s = elim s [
-    | inl t ↦ single_test leaf j (suc d) ts (begins ts x us t) ∙ each ts x us t
+  pub factor_again : (d : ℕ) (ts : Stream) (x : C) (us : Stream) → SpellsFactor rule j d ts x us → c.factor leaf j d ts ≡ Ok (x, us)
+  unfolding SpellsFactor
+  factor_again zero ts x us s = factor_test leaf j zero ts (begins ts x us s) ∙ each ts x us s
+  factor_again (suc d) ts x us s = elim s [
+    | inl t ↦ factor_test leaf j (suc d) ts (begins ts x us t) ∙ each ts x us t
     | inr r ↦ elim r [
-      | inl n ↦ negation_again d ts n.0 us n.1 n.2 (single_again d n.0 n.1 us n.3) ∙ ap (λ y. Ok (y, us)) (sym n.4)
+      | inl n ↦ negation_again d ts n.0 us n.1 n.2 (factor_again d n.0 n.1 us n.3) ∙ ap (λ y. Ok (y, us)) (sym n.4)
       | inr g ↦ group_again d ts g.0 g.1 us x g.2
-          (cond_again j (SpellsSingle rule j d) (c.single leaf j d) (single_again d) (single_shrinks leaf j takes d) g.0 x g.1 g.3 (other_kind k.RParen k.And g.1 us g.4 (λ e. cc)) (other_kind k.RParen k.Or g.1 us g.4 (λ e. cc))) g.4
+          (cond_again j (SpellsFactor rule j d) (c.factor leaf j d) (factor_again d) (factor_shrinks leaf j takes d) g.0 x g.1 g.3 (other_kind k.RParen k.And g.1 us g.4 (λ e. cc)) (other_kind k.RParen k.Or g.1 us g.4 (λ e. cc))) g.4
     ]
   ]
 
 pub condition_again : (ts : Stream) (x : Cond) (us : Stream) → SpellsCondition ts x us → sees k.And us ≡ false → sees k.Or us ≡ false → c.condition ts ≡ Ok (x, us)
 unfolding c.condition
 condition_again ts x us s a o =
-    cond_again c.row_joints (SpellsSingle SpellsTest c.row_joints c.deepest) (c.single c.test c.row_joints c.deepest)
-    (single_again SpellsTest c.test c.row_joints test_again test_kind test_shrinks c.deepest) (single_shrinks c.test c.row_joints test_shrinks c.deepest) ts x us s a o
+    cond_again c.row_joints (SpellsFactor SpellsTest c.row_joints c.deepest) (c.factor c.predicate c.row_joints c.deepest)
+    (factor_again SpellsTest c.predicate c.row_joints test_again test_kind test_shrinks c.deepest) (factor_shrinks c.predicate c.row_joints test_shrinks c.deepest) ts x us s a o

@@ -44,8 +44,8 @@ head_apart false rest h = (refl, h)
 avoids : (ks : List Kind) (x kd : Kind) → apart ks x ≡ true → OneIn ks kd → same_kind kd x ≡ false
 avoids [] x kd h one = absurd one
 avoids (a ∷ ks) x kd h one =
-    let both = head_apart (same_kind a x) (apart ks x) h in
-    elim one [ inl e ↦ ap (λ z. same_kind z x) e ∙ both.0 | inr more ↦ avoids ks x kd both.1 more ]
+    let conjunction = head_apart (same_kind a x) (apart ks x) h in
+    elim one [ inl e ↦ ap (λ z. same_kind z x) e ∙ conjunction.0 | inr more ↦ avoids ks x kd conjunction.1 more ]
 
 unseen : (ks : List Kind) (x : Kind) (ts : Stream) → apart ks x ≡ true → OneIn ks (kind ts) → sees x ts ≡ false
 unfolding sees

@@ -13,7 +13,7 @@ use Rattle.query_parser.specs.Lex.{is_last}
 use Rattle.query_parser.specs.Stream.{Lexeme, Stream, kind, place, number, word, next}
 use Rattle.query_parser.specs.Reading.{Outcome, Parser, pure, sees, after, expect, name, literal_by, literal, separated_from, separated, too_deep}
 use Rattle.query_parser.specs.Cond as c
-use Rattle.query_parser.specs.Spells.{Rule, IsToken, Skips, SpellsName, SpellsLiteral, SpellsList, MayNegate, SpellsTest, SpellsBoth, SpellsCond, SpellsNegation, SpellsGroup, SpellsSingle, SpellsCondition}
+use Rattle.query_parser.specs.Spells.{Rule, IsToken, Skips, SpellsName, SpellsLiteral, SpellsList, MayNegate, SpellsTest, SpellsConjunction, SpellsCond, SpellsNegation, SpellsGroup, SpellsFactor, SpellsCondition}
 use Rattle.query_parser.specs.Shrinks.{ok, stop, rest_is, bind_ok, sees_kind, name_goes_on, end_is_last}
 use Rattle.query_parser.proofs.Again.{next_at, not_after, op_goes_on}
 
@@ -28,7 +28,7 @@ value_is a b ts us e = sym (ap (value_or b) e)
 
 pub token_at : (kd : Kind) (ts : Stream) → kind ts ≡ kd → is_last kd ≡ false → (t : Lexeme) × IsToken kd ts t (next ts) × (place ts ≡ t.at) × (word ts ≡ t.value) × (number ts ≡ t.number)
 unfolding kind place word number
-token_at kd [] h e = let both : true ≡ false = sym end_is_last ∙ ap is_last h ∙ e in absurd (cc)
+token_at kd [] h e = let conjunction : true ≡ false = sym end_is_last ∙ ap is_last h ∙ e in absurd (cc)
 token_at kd (t ∷ rest) h e = (t, (ap (λ r. t ∷ r) (sym (next_at kd t rest h e)), h), refl, refl, refl)
 
 pub skips_next : (kd : Kind) (ts us : Stream) → kind ts ≡ kd → is_last kd ≡ false → us ≡ next ts → Skips kd ts us
@@ -241,66 +241,66 @@ behind_found k.Not ts mid column x us n h e =
     negated_found (kind (next mid)) ts mid (next mid) column x us n (skips_next k.Not mid (next mid) h refl refl) refl e
 behind_found kd ts mid column x us n h e = compared_found (c.operator kd) ts mid column x us n (ap c.operator h) e
 
-pub test_found : (ts : Stream) (x : Cond) (us : Stream) → c.test ts ≡ Ok (x, us) → SpellsTest ts x us
-unfolding c.test
+pub test_found : (ts : Stream) (x : Cond) (us : Stream) → c.predicate ts ≡ Ok (x, us) → SpellsTest ts x us
+unfolding c.predicate
 test_found ts x us e =
     let m = bind_ok (name ts) _ (x, us) e in
     behind_found (kind m.0.1) ts m.0.1 m.0.0 x us (name_found ts m.0.1 m.0.0 m.1) refl m.2
 
 -- ---- conditions
 
-module _ {C : Type 0} (j : c.Joints C) (rule : Rule C) (single : Parser C) (each : (ts : Stream) (x : C) (us : Stream) → single ts ≡ Ok (x, us) → rule ts x us) where
-  both_found : (ts : Stream) (x : C) (us : Stream) → c.both j single ts ≡ Ok (x, us) → SpellsBoth j rule ts x us × (sees k.And us ≡ false)
-  unfolding c.both is_last
-  both_found ts x us e =
-      let m = bind_ok (separated k.And single ts) _ (x, us) e in
+module _ {C : Type 0} (j : c.Joints C) (rule : Rule C) (factor : Parser C) (each : (ts : Stream) (x : C) (us : Stream) → factor ts ≡ Ok (x, us) → rule ts x us) where
+  conjunction_found : (ts : Stream) (x : C) (us : Stream) → c.conjunction j factor ts ≡ Ok (x, us) → SpellsConjunction j rule ts x us × (sees k.And us ≡ false)
+  unfolding c.conjunction is_last
+  conjunction_found ts x us e =
+      let m = bind_ok (separated k.And factor ts) _ (x, us) e in
       let is = value_is (c.joined j.all_of m.0.0) x m.0.1 us m.2 in
       let rest = rest_is (c.joined j.all_of m.0.0) x m.0.1 us m.2 in
-      let f = list_found k.And rule single (λ _. Unit {0}) refl (λ ts x us h. (each ts x us h, tt)) ts m.0.0 m.0.1 m.1 in
+      let f = list_found k.And rule factor (λ _. Unit {0}) refl (λ ts x us h. (each ts x us h, tt)) ts m.0.0 m.0.1 m.1 in
       ((m.0.0, subst (λ (q : Stream). SpellsList k.And rule ts m.0.0 q) (sym rest) f.0, is), subst (λ (q : Stream). sees k.And q ≡ false) (sym rest) f.2)
 
-  pub cond_found : (ts : Stream) (x : C) (us : Stream) → c.cond j single ts ≡ Ok (x, us) → SpellsCond j rule ts x us × (sees k.And us ≡ false) × (sees k.Or us ≡ false)
+  pub cond_found : (ts : Stream) (x : C) (us : Stream) → c.cond j factor ts ≡ Ok (x, us) → SpellsCond j rule ts x us × (sees k.And us ≡ false) × (sees k.Or us ≡ false)
   unfolding c.cond is_last
   cond_found ts x us e =
-      let m = bind_ok (separated k.Or (c.both j single) ts) _ (x, us) e in
+      let m = bind_ok (separated k.Or (c.conjunction j factor) ts) _ (x, us) e in
       let is = value_is (c.joined j.any_of m.0.0) x m.0.1 us m.2 in
       let rest = rest_is (c.joined j.any_of m.0.0) x m.0.1 us m.2 in
-      let f = list_found k.Or (SpellsBoth j rule) (c.both j single) (λ us. sees k.And us ≡ false) refl both_found ts m.0.0 m.0.1 m.1 in
-      ((m.0.0, subst (λ (q : Stream). SpellsList k.Or (SpellsBoth j rule) ts m.0.0 q) (sym rest) f.0, is), subst (λ (q : Stream). sees k.And q ≡ false) (sym rest) f.1, subst (λ (q : Stream). sees k.Or q ≡ false) (sym rest) f.2)
+      let f = list_found k.Or (SpellsConjunction j rule) (c.conjunction j factor) (λ us. sees k.And us ≡ false) refl conjunction_found ts m.0.0 m.0.1 m.1 in
+      ((m.0.0, subst (λ (q : Stream). SpellsList k.Or (SpellsConjunction j rule) ts m.0.0 q) (sym rest) f.0, is), subst (λ (q : Stream). sees k.And q ≡ false) (sym rest) f.1, subst (λ (q : Stream). sees k.Or q ≡ false) (sym rest) f.2)
 
 -- any sort of test whose reading is as its rule says
 module _ {C : Type 0} (rule : Rule C) (leaf : Parser C) (j : c.Joints C) (each : (ts : Stream) (x : C) (us : Stream) → leaf ts ≡ Ok (x, us) → rule ts x us) where
-  zero_found : (kd : Kind) (ts : Stream) (x : C) (us : Stream) → c.single_by leaf j too_deep too_deep kd ts ≡ Ok (x, us) → rule ts x us
+  zero_found : (kd : Kind) (ts : Stream) (x : C) (us : Stream) → c.factor_by leaf j too_deep too_deep kd ts ≡ Ok (x, us) → rule ts x us
   zero_found k.Not ts x us e = absurd (cc)
   zero_found k.LParen ts x us e = absurd (cc)
   zero_found k.Name ts x us e = each ts x us e
   zero_found _ ts x us e = absurd (cc)
 
-  deep_found : (d : ℕ) (kd : Kind) (ts : Stream) (x : C) (us : Stream) → ((ts : Stream) (x : C) (us : Stream) → c.single leaf j d ts ≡ Ok (x, us) → SpellsSingle rule j d ts x us) → kind ts ≡ kd
-      → c.single_by leaf j (c.negation leaf j (c.single leaf j d)) (c.in_parentheses leaf j (c.single leaf j d)) kd ts ≡ Ok (x, us)
-      → rule ts x us ⊎ (SpellsNegation j (SpellsSingle rule j d) ts x us ⊎ SpellsGroup j (SpellsSingle rule j d) ts x us)
+  deep_found : (d : ℕ) (kd : Kind) (ts : Stream) (x : C) (us : Stream) → ((ts : Stream) (x : C) (us : Stream) → c.factor leaf j d ts ≡ Ok (x, us) → SpellsFactor rule j d ts x us) → kind ts ≡ kd
+      → c.factor_by leaf j (c.negation leaf j (c.factor leaf j d)) (c.in_parentheses leaf j (c.factor leaf j d)) kd ts ≡ Ok (x, us)
+      → rule ts x us ⊎ (SpellsNegation j (SpellsFactor rule j d) ts x us ⊎ SpellsGroup j (SpellsFactor rule j d) ts x us)
   unfolding is_last
   deep_found d k.Not ts x us deeper h e =
-      let m = bind_ok (c.single leaf j d (next ts)) _ (x, us) e in
+      let m = bind_ok (c.factor leaf j d (next ts)) _ (x, us) e in
       let is = value_is (j.not_of m.0.0) x m.0.1 us m.2 in
       let rest = rest_is (j.not_of m.0.0) x m.0.1 us m.2 in
-      inr (inl (next ts, m.0.0, skips_next k.Not ts (next ts) h refl refl, subst (λ (q : Stream). SpellsSingle rule j d (next ts) m.0.0 q) (sym rest) (deeper (next ts) m.0.0 m.0.1 m.1), is))
+      inr (inl (next ts, m.0.0, skips_next k.Not ts (next ts) h refl refl, subst (λ (q : Stream). SpellsFactor rule j d (next ts) m.0.0 q) (sym rest) (deeper (next ts) m.0.0 m.0.1 m.1), is))
   deep_found d k.LParen ts x us deeper h e =
-      let m = bind_ok (c.cond j (c.single leaf j d) (next ts)) _ (x, us) e in
+      let m = bind_ok (c.cond j (c.factor leaf j d) (next ts)) _ (x, us) e in
       let r = bind_ok (expect k.RParen m.0.1) _ (x, us) m.2 in
       let is = value_is m.0.0 x r.0.1 us r.2 in
       let rest = rest_is m.0.0 x r.0.1 us r.2 in
-      let f = cond_found j (SpellsSingle rule j d) (c.single leaf j d) deeper (next ts) m.0.0 m.0.1 m.1 in
-      inr (inr (next ts, m.0.1, skips_next k.LParen ts (next ts) h refl refl, subst (λ (y : C). SpellsCond j (SpellsSingle rule j d) (next ts) y m.0.1) (sym is) f.0, subst (λ (q : Stream). Skips k.RParen m.0.1 q) (sym rest) (expect_found k.RParen m.0.1 r.0.1 r.0.0 refl r.1)))
+      let f = cond_found j (SpellsFactor rule j d) (c.factor leaf j d) deeper (next ts) m.0.0 m.0.1 m.1 in
+      inr (inr (next ts, m.0.1, skips_next k.LParen ts (next ts) h refl refl, subst (λ (y : C). SpellsCond j (SpellsFactor rule j d) (next ts) y m.0.1) (sym is) f.0, subst (λ (q : Stream). Skips k.RParen m.0.1 q) (sym rest) (expect_found k.RParen m.0.1 r.0.1 r.0.0 refl r.1)))
   deep_found d k.Name ts x us deeper h e = inl (each ts x us e)
   deep_found d _ ts x us deeper h e = absurd (cc)
 
-  pub single_found : (d : ℕ) (ts : Stream) (x : C) (us : Stream) → c.single leaf j d ts ≡ Ok (x, us) → SpellsSingle rule j d ts x us
-  unfolding SpellsSingle c.single
-  single_found zero ts x us e = zero_found (kind ts) ts x us e
-  single_found (suc d) ts x us e = deep_found d (kind ts) ts x us (single_found d) refl e
+  pub factor_found : (d : ℕ) (ts : Stream) (x : C) (us : Stream) → c.factor leaf j d ts ≡ Ok (x, us) → SpellsFactor rule j d ts x us
+  unfolding SpellsFactor c.factor
+  factor_found zero ts x us e = zero_found (kind ts) ts x us e
+  factor_found (suc d) ts x us e = deep_found d (kind ts) ts x us (factor_found d) refl e
 
 pub condition_found : (ts : Stream) (x : Cond) (us : Stream) → c.condition ts ≡ Ok (x, us) → SpellsCondition ts x us × (sees k.And us ≡ false) × (sees k.Or us ≡ false)
 unfolding c.condition
 condition_found ts x us e =
-    cond_found c.row_joints (SpellsSingle SpellsTest c.row_joints c.deepest) (c.single c.test c.row_joints c.deepest) (single_found SpellsTest c.test c.row_joints test_found c.deepest) ts x us e
+    cond_found c.row_joints (SpellsFactor SpellsTest c.row_joints c.deepest) (c.factor c.predicate c.row_joints c.deepest) (factor_found SpellsTest c.predicate c.row_joints test_found c.deepest) ts x us e

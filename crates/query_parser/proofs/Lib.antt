@@ -4,7 +4,7 @@ pub mod Ends
 pub mod Found
 pub mod FoundQuery
 pub mod Quotes
-pub mod Singles
+pub mod Factors
 pub mod Streams
 pub mod Takes
 pub mod Turns

@@ -32,7 +32,7 @@ drop_one zero ts = refl
 drop_one (suc j) [] = refl
 drop_one (suc j) (t ∷ ts) = drop_one j ts
 
--- The first n tokens of both agree, and behind a token of the one that is not the last stands another.
+-- The first n tokens of the two agree, and behind a token of the one that is not the last stands another.
 pub record Agree (A B : Stream) (n : ℕ) : Type 0 where
   pub same : (j : ℕ) → j < n → first (drop j A) ≡ first (drop j B)
   pub ends : (j : ℕ) → j < length A → is_last (kind (drop j A)) ≡ false → suc j < length A
@@ -61,7 +61,7 @@ module _ (A B : Stream) (n : ℕ) (agree : Agree A B n) where
     pub one : o ≡ Err fault
     pub other : u ≡ Err fault
 
-  -- both read the same, both fail alike, or the first one is past
+  -- the two read the same, the two fail alike, or the first one is past
   abbrev pub Alike : {X : Type 0} → Outcome X → Outcome X → Type 0
   Alike o u = Went o u ⊎ (Failed o u ⊎ Past o)
 

@@ -20,7 +20,7 @@ use Rattle.query_parser.specs.Stream.{Stream, kind, place, number, word, next}
 use Rattle.query_parser.specs.Reading.{Outcome, Parser, and_then, ◌>>=◌, ◌>>◌, ◌<$>◌, pure, refuse, peek, take_token, sees, eat, expect, name, literal, separated}
 use Rattle.query_parser.specs.Cond as c
 use Rattle.query_parser.specs.Query as q
-use Rattle.query_parser.specs.Shrinks.{Shrinks, sees_kind, name_goes_on, name_shrinks, literal_shrinks, test_shrinks, both_shrinks, single_shrinks}
+use Rattle.query_parser.specs.Shrinks.{Shrinks, sees_kind, name_goes_on, name_shrinks, literal_shrinks, test_shrinks, conjunction_shrinks, factor_shrinks}
 use Rattle.query_parser.proofs.Takes.{item_shrinks, key_shrinks, option_shrinks}
 use Rattle.query_parser.proofs.Seen.{Agree, Past, Alike, chosen_alike, chosen_past, token_from, From, Behind, Local, behind, looks, bind_local, pure_local, look_local, stop_local, refuse_local, too_deep_local, choose_local, take_local, peek_local, token_local, sees_same, expect_local, eat_local, name_local, literal_local, separated_local}
 
@@ -75,37 +75,37 @@ module _ (A B : Stream) (n : ℕ) (agree : Agree A B n) where
   test_by_local column k.Not = bind take_token _ took (λ _. bind peek _ peeked (λ kd. negated_local column kd))
   test_by_local column kd = compared_local column (c.operator kd)
 
-  test_local : L c.test
-  unfolding c.test
+  test_local : L c.predicate
+  unfolding c.predicate
   test_local = bind name _ (name_local A B n agree) (λ column. bind peek _ peeked (λ kd. test_by_local column kd))
 
-  both_local : {C : Type 0} (j : c.Joints C) (single : Parser C) → Shrinks single → L single → L (c.both j single)
-  unfolding c.both
-  both_local j single less own = bind (separated k.And single) _ (separated_local A B n agree k.And single less own) (λ cs. done _)
+  conjunction_local : {C : Type 0} (j : c.Joints C) (factor : Parser C) → Shrinks factor → L factor → L (c.conjunction j factor)
+  unfolding c.conjunction
+  conjunction_local j factor less own = bind (separated k.And factor) _ (separated_local A B n agree k.And factor less own) (λ cs. done _)
 
-  cond_local : {C : Type 0} (j : c.Joints C) (single : Parser C) → Shrinks single → L single → L (c.cond j single)
+  cond_local : {C : Type 0} (j : c.Joints C) (factor : Parser C) → Shrinks factor → L factor → L (c.cond j factor)
   unfolding c.cond
-  cond_local j single less own = bind (separated k.Or (c.both j single)) _ (separated_local A B n agree k.Or (c.both j single) (both_shrinks j single less) (both_local j single less own)) (λ cs. done _)
+  cond_local j factor less own = bind (separated k.Or (c.conjunction j factor)) _ (separated_local A B n agree k.Or (c.conjunction j factor) (conjunction_shrinks j factor less) (conjunction_local j factor less own)) (λ cs. done _)
 
-  single_by_local : (negated grouped : Parser Cond) (kd : Kind) → L negated → L grouped → L (c.single_by c.test c.row_joints negated grouped kd)
-  single_by_local negated grouped k.Not own other = own
-  single_by_local negated grouped k.LParen own other = other
-  single_by_local negated grouped k.Name own other = test_local
-  single_by_local negated grouped _ own other = refused
+  factor_by_local : (negated grouped : Parser Cond) (kd : Kind) → L negated → L grouped → L (c.factor_by c.predicate c.row_joints negated grouped kd)
+  factor_by_local negated grouped k.Not own other = own
+  factor_by_local negated grouped k.LParen own other = other
+  factor_by_local negated grouped k.Name own other = test_local
+  factor_by_local negated grouped _ own other = refused
 
-  single_local : (depth : ℕ) → L (c.single c.test c.row_joints depth)
-  unfolding c.single
-  single_local zero = bind peek _ peeked (λ kd. single_by_local _ _ kd (too_deep_local A B n agree) (too_deep_local A B n agree))
-  single_local (suc depth) =
-      let inner = c.single c.test c.row_joints depth in
-      bind peek _ peeked (λ kd. single_by_local _ _ kd
-      (bind take_token _ took (λ _. bind inner _ (single_local depth) (λ x. done (c.row_joints.not_of x))))
-      (bind take_token _ took (λ _. bind (c.cond c.row_joints inner) _ (cond_local c.row_joints inner (single_shrinks c.test c.row_joints test_shrinks depth) (single_local depth))
+  factor_local : (depth : ℕ) → L (c.factor c.predicate c.row_joints depth)
+  unfolding c.factor
+  factor_local zero = bind peek _ peeked (λ kd. factor_by_local _ _ kd (too_deep_local A B n agree) (too_deep_local A B n agree))
+  factor_local (suc depth) =
+      let inner = c.factor c.predicate c.row_joints depth in
+      bind peek _ peeked (λ kd. factor_by_local _ _ kd
+      (bind take_token _ took (λ _. bind inner _ (factor_local depth) (λ x. done (c.row_joints.not_of x))))
+      (bind take_token _ took (λ _. bind (c.cond c.row_joints inner) _ (cond_local c.row_joints inner (factor_shrinks c.predicate c.row_joints test_shrinks depth) (factor_local depth))
       (λ x. bind (expect k.RParen) _ (skip k.RParen) (λ _. done x)))))
 
   condition_local : L c.condition
   unfolding c.condition
-  condition_local = cond_local c.row_joints (c.single c.test c.row_joints c.deepest) (single_shrinks c.test c.row_joints test_shrinks c.deepest) (single_local c.deepest)
+  condition_local = cond_local c.row_joints (c.factor c.predicate c.row_joints c.deepest) (factor_shrinks c.predicate c.row_joints test_shrinks c.deepest) (factor_local c.deepest)
 
   -- ---- terms
 

@@ -103,7 +103,7 @@ more_step t b z at (suc n) l e some fits =
 
 pub lexemes-next : (z : Bytes) (at : ℕ) → blanks z ≡ 0 → is_last (token z).kind ≡ false → 1 ≤ (token z).len → (token z).len ≤ length z
     → next (lexemes 0 z at) ≡ lexemes 0 (drop (token z).len z) (at + (token z).len)
-lexemes-next [] at h e some fits = let both : true ≡ false = sym end_last ∙ e in absurd (cc)
+lexemes-next [] at h e some fits = let conjunction : true ≡ false = sym end_last ∙ e in absurd (cc)
 lexemes-next (b ∷ z) at h e some fits =
     let cons = lexemes-no b z at (no_blank b z (is_in Blank b) refl h) in
     ap next cons ∙ next-more (lexeme (token (b ∷ z)) (b ∷ z) at) (behind (token (b ∷ z)) z at) e ∙ more_step (token (b ∷ z)) b z at (token (b ∷ z)).len refl e some (omega arith)

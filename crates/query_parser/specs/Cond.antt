@@ -58,8 +58,8 @@ test_by column k.Not = take_token >> negated column
 test_by column kind = compared column (operator kind)
 
 -- a test of one column
-unfoldable pub test : Parser Cond
-test = do
+unfoldable pub predicate : Parser Cond
+predicate = do
   column ← name
   kind ← peek
   test_by column kind
@@ -76,39 +76,39 @@ pub record Joints (C : Type 0) : Type 0 where
   pub all_of : List C → C
   pub any_of : List C → C
 
--- singles with AND between
-unfoldable pub both : {C : Type 0} → Joints C → Parser C → Parser C
-both j single = joined j.all_of <$> separated k.And single
+-- factors with AND between
+unfoldable pub conjunction : {C : Type 0} → Joints C → Parser C → Parser C
+conjunction j factor = joined j.all_of <$> separated k.And factor
 
 -- those with OR between
 unfoldable pub cond : {C : Type 0} → Joints C → Parser C → Parser C
-cond j single = joined j.any_of <$> separated k.Or (both j single)
+cond j factor = joined j.any_of <$> separated k.Or (conjunction j factor)
 
 -- The rules of a condition, for any sort of test that begins with a name.
 module _ {C : Type 0} (leaf : Parser C) (j : Joints C) where
   -- by the first token: NOT, a parenthesis or a test
-  abbrev pub single_by : Parser C → Parser C → Kind → Parser C
-  single_by negated grouped k.Not = negated
-  single_by negated grouped k.LParen = grouped
-  single_by negated grouped k.Name = leaf
-  single_by negated grouped _ = refuse
+  abbrev pub factor_by : Parser C → Parser C → Kind → Parser C
+  factor_by negated grouped k.Not = negated
+  factor_by negated grouped k.LParen = grouped
+  factor_by negated grouped k.Name = leaf
+  factor_by negated grouped _ = refuse
 
-  -- at NOT, which reaches over one single
+  -- at NOT, which reaches over one factor
   abbrev pub negation : Parser C → Parser C
-  negation single = take_token >> j.not_of <$> single
+  negation factor = take_token >> j.not_of <$> factor
 
   -- at a parenthesis, which is open until the one that closes it
   abbrev pub in_parentheses : Parser C → Parser C
-  in_parentheses single = do
+  in_parentheses factor = do
     take_token
-    inner ← cond j single
+    inner ← cond j factor
     expect k.RParen
     pure inner
 
   -- The number says how many more parentheses and NOTs may be open.
-  unfoldable pub single : ℕ → Parser C
-  single zero = peek >>= single_by too_deep too_deep
-  single (suc depth) = peek >>= single_by (negation (single depth)) (in_parentheses (single depth))
+  unfoldable pub factor : ℕ → Parser C
+  factor zero = peek >>= factor_by too_deep too_deep
+  factor (suc depth) = peek >>= factor_by (negation (factor depth)) (in_parentheses (factor depth))
 
 -- conditions on a row
 abbrev pub row_joints : Joints Cond
@@ -120,4 +120,4 @@ deepest = 64
 
 -- what stands behind WHERE
 unfoldable pub condition : Parser Cond
-condition = cond row_joints (single test row_joints deepest)
+condition = cond row_joints (factor predicate row_joints deepest)

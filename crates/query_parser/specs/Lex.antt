@@ -102,7 +102,7 @@ abbrev pub value_of : Option (Bytes × ℕ) → Bytes
 value_of None = []
 value_of (Some p) = p.0
 
--- the lengths of both
+-- the lengths of the two
 abbrev pub lengths : Option (Bytes × ℕ) → Option (ℕ × ℕ)
 lengths None = None
 lengths (Some p) = Some (length p.0, p.1)

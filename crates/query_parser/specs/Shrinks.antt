@@ -35,7 +35,7 @@ end_is_last = refl
 
 pub next_shrinks : (ts : Stream) → is_last (kind ts) ≡ false → length (next ts) < length ts
 unfolding next kind
-next_shrinks [] h = let both : true ≡ false = sym end_is_last ∙ h in absurd (cc)
+next_shrinks [] h = let conjunction : true ≡ false = sym end_is_last ∙ h in absurd (cc)
 next_shrinks (t ∷ ts) h = rw h (omega arith)
 
 -- ---- combinators
@@ -183,31 +183,31 @@ test_keeps column k.Not = bind_keeps take_token _ take_keeps (λ _. bind_keeps p
 test_keeps column kd = compared_keeps column (c.operator kd)
 
 -- a test takes a token at least
-pub test_shrinks : Shrinks c.test
-unfolding c.test
+pub test_shrinks : Shrinks c.predicate
+unfolding c.predicate
 test_shrinks = bind_shrinks name _ name_shrinks (λ column. bind_keeps peek _ peek_keeps (λ kd. test_keeps column kd))
 
-pub both_shrinks : {C : Type 0} (j : c.Joints C) (single : Parser C) → Shrinks single → Shrinks (c.both j single)
-unfolding c.both
-both_shrinks j single h = bind_shrinks (separated k.And single) _ (separated_shrinks k.And single h) (λ cs. pure_keeps _)
+pub conjunction_shrinks : {C : Type 0} (j : c.Joints C) (factor : Parser C) → Shrinks factor → Shrinks (c.conjunction j factor)
+unfolding c.conjunction
+conjunction_shrinks j factor h = bind_shrinks (separated k.And factor) _ (separated_shrinks k.And factor h) (λ cs. pure_keeps _)
 
-pub cond_shrinks : {C : Type 0} (j : c.Joints C) (single : Parser C) → Shrinks single → Shrinks (c.cond j single)
+pub cond_shrinks : {C : Type 0} (j : c.Joints C) (factor : Parser C) → Shrinks factor → Shrinks (c.cond j factor)
 unfolding c.cond
-cond_shrinks j single h = bind_shrinks (separated k.Or (c.both j single)) _ (separated_shrinks k.Or (c.both j single) (both_shrinks j single h)) (λ cs. pure_keeps _)
+cond_shrinks j factor h = bind_shrinks (separated k.Or (c.conjunction j factor)) _ (separated_shrinks k.Or (c.conjunction j factor) (conjunction_shrinks j factor h)) (λ cs. pure_keeps _)
 
 module _ {C : Type 0} (leaf : Parser C) (j : c.Joints C) (takes : Shrinks leaf) where
-  single_step : (negated grouped : Parser C) (kd : Kind) → Shrinks negated → Shrinks grouped → Shrinks (c.single_by leaf j negated grouped kd)
-  single_step negated grouped k.Not hn hg = hn
-  single_step negated grouped k.LParen hn hg = hg
-  single_step negated grouped k.Name hn hg = takes
-  single_step negated grouped _ hn hg = refuse_shrinks
+  factor_step : (negated grouped : Parser C) (kd : Kind) → Shrinks negated → Shrinks grouped → Shrinks (c.factor_by leaf j negated grouped kd)
+  factor_step negated grouped k.Not hn hg = hn
+  factor_step negated grouped k.LParen hn hg = hg
+  factor_step negated grouped k.Name hn hg = takes
+  factor_step negated grouped _ hn hg = refuse_shrinks
 
   too_deep_shrinks : Shrinks (too_deep {A = C})
   too_deep_shrinks ts us a e = absurd (cc)
 
-  pub single_shrinks : (depth : ℕ) → Shrinks (c.single leaf j depth)
-  unfolding c.single
-  single_shrinks zero = bind_shrinks' peek _ peek_keeps (λ kd. single_step _ _ kd too_deep_shrinks too_deep_shrinks)
-  single_shrinks (suc depth) = bind_shrinks' peek _ peek_keeps (λ kd. single_step _ _ kd
-      (bind_shrinks' take_token _ take_keeps (λ _. bind_shrinks (c.single leaf j depth) _ (single_shrinks depth) (λ x. pure_keeps (j.not_of x))))
-      (bind_shrinks' take_token _ take_keeps (λ _. bind_shrinks (c.cond j (c.single leaf j depth)) _ (cond_shrinks j (c.single leaf j depth) (single_shrinks depth)) (λ x. bind_keeps (expect k.RParen) _ (expect_keeps k.RParen) (λ _. pure_keeps x)))))
+  pub factor_shrinks : (depth : ℕ) → Shrinks (c.factor leaf j depth)
+  unfolding c.factor
+  factor_shrinks zero = bind_shrinks' peek _ peek_keeps (λ kd. factor_step _ _ kd too_deep_shrinks too_deep_shrinks)
+  factor_shrinks (suc depth) = bind_shrinks' peek _ peek_keeps (λ kd. factor_step _ _ kd
+      (bind_shrinks' take_token _ take_keeps (λ _. bind_shrinks (c.factor leaf j depth) _ (factor_shrinks depth) (λ x. pure_keeps (j.not_of x))))
+      (bind_shrinks' take_token _ take_keeps (λ _. bind_shrinks (c.cond j (c.factor leaf j depth)) _ (cond_shrinks j (c.factor leaf j depth) (factor_shrinks depth)) (λ x. bind_keeps (expect k.RParen) _ (expect_keeps k.RParen) (λ _. pure_keeps x)))))

@@ -106,29 +106,29 @@ abbrev pub SpellsJoined : {C : Type 0} → (List C → C) → Kind → Rule C �
 SpellsJoined {C} joint sep rule ts c us = (members : List C) × SpellsList sep rule ts members us × (c ≡ joined joint members)
 
 -- members of an AND
-abbrev pub SpellsBoth : {C : Type 0} → Joints C → Rule C → Rule C
-SpellsBoth j single = SpellsJoined j.all_of k.And single
+abbrev pub SpellsConjunction : {C : Type 0} → Joints C → Rule C → Rule C
+SpellsConjunction j factor = SpellsJoined j.all_of k.And factor
 
 -- members of an OR
 abbrev pub SpellsCond : {C : Type 0} → Joints C → Rule C → Rule C
-SpellsCond j single = SpellsJoined j.any_of k.Or (SpellsBoth j single)
+SpellsCond j factor = SpellsJoined j.any_of k.Or (SpellsConjunction j factor)
 
--- NOT and a single
+-- NOT and a factor
 abbrev pub SpellsNegation : {C : Type 0} → Joints C → Rule C → Rule C
-SpellsNegation {C} j single ts c us = (rest : Stream) × (inner : C) × Skips k.Not ts rest × single rest inner us × (c ≡ j.not_of inner)
+SpellsNegation {C} j factor ts c us = (rest : Stream) × (inner : C) × Skips k.Not ts rest × factor rest inner us × (c ≡ j.not_of inner)
 
 -- a condition in parentheses, which is the tree of what stands in them
 abbrev pub SpellsGroup : {C : Type 0} → Joints C → Rule C → Rule C
-SpellsGroup j single ts c us = (inside : Stream) × (at_close : Stream) × Skips k.LParen ts inside × SpellsCond j single inside c at_close × Skips k.RParen at_close us
+SpellsGroup j factor ts c us = (inside : Stream) × (at_close : Stream) × Skips k.LParen ts inside × SpellsCond j factor inside c at_close × Skips k.RParen at_close us
 
 -- a test, or with at most so many parentheses and NOTs open, one of those two
-unfoldable pub SpellsSingle : {C : Type 0} → Rule C → Joints C → ℕ → Rule C
-SpellsSingle leaf j zero ts c us = leaf ts c us
-SpellsSingle leaf j (suc depth) ts c us = leaf ts c us ⊎ (SpellsNegation j (SpellsSingle leaf j depth) ts c us ⊎ SpellsGroup j (SpellsSingle leaf j depth) ts c us)
+unfoldable pub SpellsFactor : {C : Type 0} → Rule C → Joints C → ℕ → Rule C
+SpellsFactor leaf j zero ts c us = leaf ts c us
+SpellsFactor leaf j (suc depth) ts c us = leaf ts c us ⊎ (SpellsNegation j (SpellsFactor leaf j depth) ts c us ⊎ SpellsGroup j (SpellsFactor leaf j depth) ts c us)
 
 -- a condition on a row
 abbrev pub SpellsCondition : Rule Cond
-SpellsCondition = SpellsCond row_joints (SpellsSingle SpellsTest row_joints deepest)
+SpellsCondition = SpellsCond row_joints (SpellsFactor SpellsTest row_joints deepest)
 
 -- ---- laws
 

@@ -62,12 +62,12 @@ fn any_of<C: Condition>(members: Seq<C>) -> C
 
 /// A member of an AND. `depth` more parentheses and NOTs may be open.
 #[cycle(cond)]
-fn single<C: Condition>(
+fn factor<C: Condition>(
     alloc: Global,
     tokens: &mut Tokens<'_>,
     depth: usize,
 ) -> Result<C, QueryFault>
-    ensures { Reads (spec.single C.leaf C.joints depth tokens.old) result tokens.new }
+    ensures { Reads (spec.factor C.leaf C.joints depth tokens.old) result tokens.new }
 {
     match tokens.peek() {
         Kind::Not => {
@@ -75,7 +75,7 @@ fn single<C: Condition>(
                 return Err(tokens.too_deep());
             }
             tokens.take();
-            let inner = single(alloc, tokens, depth - 1)?;
+            let inner = factor(alloc, tokens, depth - 1)?;
             Ok(C::not(alloc, inner)?)
         }
         Kind::LParen => {
@@ -92,13 +92,19 @@ fn single<C: Condition>(
     }
 }
 
+/// The members of an AND, one or more.
 #[cycle(cond)]
-fn both<C: Condition>(alloc: Global, tokens: &mut Tokens<'_>, depth: usize) -> Result<C, QueryFault>
-    ensures { Reads (spec.both C.joints (spec.single C.leaf C.joints depth) tokens.old) result tokens.new }
+fn conjunction<C: Condition>(
+    alloc: Global,
+    tokens: &mut Tokens<'_>,
+    depth: usize,
+) -> Result<C, QueryFault>
+    ensures { Reads (spec.conjunction C.joints (spec.factor C.leaf C.joints depth) tokens.old)
+        result tokens.new }
 {
     let mut found = Seq::new(alloc);
     'turns: loop {
-        let member = single(alloc, tokens, depth)?;
+        let member = factor(alloc, tokens, depth)?;
         found.push(member)?;
         if !tokens.eat(Kind::And) {
             return Ok(all_of(found));
@@ -113,11 +119,12 @@ pub fn cond<C: Condition>(
     tokens: &mut Tokens<'_>,
     depth: usize,
 ) -> Result<C, QueryFault>
-    ensures { Reads (spec.cond C.joints (spec.single C.leaf C.joints depth) tokens.old) result tokens.new }
+    ensures { Reads (spec.cond C.joints (spec.factor C.leaf C.joints depth) tokens.old)
+        result tokens.new }
 {
     let mut found = Seq::new(alloc);
     'turns: loop {
-        let member = both(alloc, tokens, depth)?;
+        let member = conjunction(alloc, tokens, depth)?;
         found.push(member)?;
         if !tokens.eat(Kind::Or) {
             return Ok(any_of(found));

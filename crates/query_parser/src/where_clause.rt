@@ -91,9 +91,9 @@ fn negated(alloc: Global, tokens: &mut Tokens<'_>, column: NameAt) -> Result<Con
     }
 }
 
-#[tactic(auto, unfolding(crate::specs::Cond::test))]
-fn test(alloc: Global, tokens: &mut Tokens<'_>) -> Result<Cond, QueryFault>
-    ensures { Reads (spec.test tokens.old) result tokens.new }
+#[tactic(auto, unfolding(crate::specs::Cond::predicate))]
+fn predicate(alloc: Global, tokens: &mut Tokens<'_>) -> Result<Cond, QueryFault>
+    ensures { Reads (spec.predicate tokens.old) result tokens.new }
 {
     let column = name(alloc, tokens)?;
     match tokens.peek() {
@@ -114,12 +114,12 @@ fn test(alloc: Global, tokens: &mut Tokens<'_>) -> Result<Cond, QueryFault>
 }
 
 impl Condition for Cond {
-    ghost leaf = { spec.test };
+    ghost leaf = { spec.predicate };
 
     ghost joints = { spec.row_joints };
 
     fn read_test(alloc: Global, tokens: &mut Tokens<'_>) -> Result<Cond, QueryFault> {
-        test(alloc, tokens)
+        predicate(alloc, tokens)
     }
 
     fn not(alloc: Global, inner: Cond) -> Result<Cond, AllocError> {

@@ -1,8 +1,8 @@
 use Rattle.std.proofs.Common.{◌≡◌, Some, None, option_map, unwrap_or, sym, ap, ◌∙◌}
 use Rattle.std.specs.Option.{option_copied}
 use Rattle.query_parser.specs.declared.tree.Term.TheVariants.{Column}
-use Rattle.query_bind.specs.Names.{labelled, meant}
-use Rattle.query_bind.proofs.lookups.QueryNames.meant.Goals as goal
+use Rattle.query_bind.specs.Names.{labelled, term_of}
+use Rattle.query_bind.proofs.lookups.QueryNames.term_of.Goals as goal
 
 pub returns-in-Some : goal.returns-in-Some
 returns-in-Some c =
@@ -11,7 +11,7 @@ returns-in-Some c =
     let hit : labelled items name.name ≡ Some c.in-Some.named.now.now =
     ap (labelled items) (sym c.as_str.ensures) ∙ sym (c.args.self.now.labels_known c.as_str.result.now)
     ∙ ap (option_map (λ t. t.now)) (sym c.get.ensures.value ∙ ap option_copied c.in-Some.is) in
-    sym (ap (meant items) c.in-Column.is ∙ ap (λ o. unwrap_or o (Column name)) hit)
+    sym (ap (term_of items) c.in-Column.is ∙ ap (λ o. unwrap_or o (Column name)) hit)
 
 pub returns-in-None : goal.returns-in-None
 returns-in-None c =
@@ -20,4 +20,4 @@ returns-in-None c =
     let miss : labelled items name.name ≡ None =
     ap (labelled items) (sym c.as_str.ensures) ∙ sym (c.args.self.now.labels_known c.as_str.result.now)
     ∙ ap (option_map (λ t. t.now)) (sym c.get.ensures.value ∙ ap option_copied c.in-None.is) in
-    sym (ap (meant items) c.in-Column.is ∙ ap (λ o. unwrap_or o (Column name)) miss ∙ sym c.in-Column.is)
+    sym (ap (term_of items) c.in-Column.is ∙ ap (λ o. unwrap_or o (Column name)) miss ∙ sym c.in-Column.is)
