@@ -1,6 +1,5 @@
 //! The command `scan`: a query over one CSV file of whole numbers.
 ghost use Rattle.std.specs.Prelude.{◌≡◌, ◌≢◌, ◌≤◌, true, false, ℕ, List, Some, Ok, Err, IfOk, IfErr, length, replicate, string_bytes};
-ghost use Rattle.std.specs.List.{All};
 ghost use Rattle.values.specs.Columns.{rows_of as rows_of_columns};
 ghost use Rattle.values.specs.declared.value.Value.{Value};
 ghost use Rattle.csv_ingest.specs.Rows.{csv_limits, plain_in, records_of};
@@ -9,6 +8,7 @@ ghost use Rattle.outside.specs.Seen.{Seen, seen};
 ghost use Rattle.pinot_run.specs.Command.{Scan};
 ghost use Rattle.pinot_run.specs.Gives.{Gives, IsAnswered, IsBound};
 ghost use Rattle.pinot_run.specs.Notes.{csv_note};
+ghost use Rattle.pinot_run.specs.Numbers.{AreNumbers};
 ghost use Rattle.pinot_run.specs.Profile.{csv_limit};
 ghost use Rattle.pinot_run.specs.Ran.{Ran};
 ghost use Rattle.pinot_run.specs.Reply.{folded, label_of, summed};
@@ -65,7 +65,7 @@ fn folded(alloc: Global, sums: Option<u16>, tally: &Tally) -> Result<String, All
 
 // The reply to a query: the fold of the rows that satisfy its conjuncts.
 fn answer(alloc: Global, bound: &BoundQuery, table: &Columns) -> Result<Bytes, Stop>
-    requires { All (λ column. column.are_texts ≡ false) table.now.columns }
+    requires { AreNumbers table.now }
     ensures { Gives (Replies (fold_text bound.now (rows_of_columns table.now))) result }
 {
     let sums = summed(bound.aggs.as_slice());
@@ -167,8 +167,7 @@ fn columns_of(alloc: Global, text: Bytes) -> Result<(Schema, Columns), Stop>
     ensures rows { IfOk result (λ table.
         plain_in csv_limits (records_of text) ≡ Ok (table.0, rows_of_columns table.1)) }
     ensures few { IfOk result (λ table. length table.0.fields ≤ 64) }
-    ensures numbers { IfOk result (λ table.
-        All (λ column. column.are_texts ≡ false) table.1.columns) }
+    ensures numbers { IfOk result (λ table. AreNumbers table.1) }
     ensures stops { (sql : List ℕ) → IfErr result (λ why.
         Gives (query_answer sql (plain_in csv_limits (records_of text))) (Err why)) }
 {
