@@ -1,5 +1,6 @@
 //! The command `scan`: a query over one CSV file of whole numbers.
 ghost use Rattle.std.specs.Prelude.{◌≡◌, ◌≢◌, ◌≤◌, true, false, ℕ, List, Some, Ok, Err, IfOk, IfErr, length, replicate, string_bytes};
+ghost use Rattle.values.specs.Columns.{rows_of as rows_of_columns};
 ghost use Rattle.values.specs.declared.value.Value.{Value};
 ghost use Rattle.csv_ingest.specs.Rows.{csv_limits, plain_in, records_of};
 ghost use Rattle.query_bind.specs.Bound.{Spelled, bound};
@@ -7,6 +8,7 @@ ghost use Rattle.outside.specs.Seen.{Seen, seen};
 ghost use Rattle.pinot_run.specs.Command.{Scan};
 ghost use Rattle.pinot_run.specs.Gives.{Gives, IsAnswered, IsBound};
 ghost use Rattle.pinot_run.specs.Notes.{csv_note};
+ghost use Rattle.pinot_run.specs.Numbers.{AreNumbers};
 ghost use Rattle.pinot_run.specs.Profile.{csv_limit};
 ghost use Rattle.pinot_run.specs.Ran.{Ran};
 ghost use Rattle.pinot_run.specs.Reply.{folded, label_of, summed};
@@ -21,13 +23,13 @@ use crate::input::{CSV_LIMIT, read_input};
 use crate::note::{Counted, Note};
 use crate::stop::Stop;
 use crate::tally::{Tally, tally_rows};
-use csv_ingest::{CsvFault, read_plain};
+use csv_ingest::{CsvFault, read_plain_columns};
 use outside::{Bytes, Shelf};
 use query_bind::{BindFault, bind};
 use query_parser::{Query, QueryFault, parse};
 use std::alloc::{AllocError, Global};
 use table_schema::{Agg, BoundQuery, Field, Schema, Settings, Table};
-use values::{Name, Rows, Seq};
+use values::{Columns, Name, Seq};
 
 // The column that is added up; none where the rows are counted.
 fn summed(aggs: &[Agg]) -> Option<u16>
@@ -62,11 +64,12 @@ fn folded(alloc: Global, sums: Option<u16>, tally: &Tally) -> Result<String, All
 }
 
 // The reply to a query: the fold of the rows that satisfy its conjuncts.
-fn answer(alloc: Global, bound: &BoundQuery, rows: Rows) -> Result<Bytes, Stop>
-    ensures { Gives (Replies (fold_text bound.now rows)) result }
+fn answer(alloc: Global, bound: &BoundQuery, table: &Columns) -> Result<Bytes, Stop>
+    requires { AreNumbers table.now }
+    ensures { Gives (Replies (fold_text bound.now (rows_of_columns table.now))) result }
 {
     let sums = summed(bound.aggs.as_slice());
-    let tally = tally_rows(rows, bound.conjuncts.as_slice(), sums);
+    let tally = tally_rows(table, bound.conjuncts.as_slice(), sums);
     let cell = folded(alloc, sums, &tally)?;
     let text = answer_text(alloc, label_of(bound.labels.as_slice()), cell.as_bytes())?;
     Ok(outside::Seq::from_vec(text))
@@ -158,19 +161,20 @@ fn stop_of(fault: CsvFault) -> Stop
     }
 }
 
-// The fields and the rows of a CSV text, which is let go before they are looked at.
-fn rows_of(alloc: Global, text: Bytes) -> Result<(Schema, Rows), Stop>
+// The fields and the columns of a CSV text, which is let go before they are looked at.
+fn columns_of(alloc: Global, text: Bytes) -> Result<(Schema, Columns), Stop>
     requires { length text ≤ csv_limit }
     ensures rows { IfOk result (λ table.
-        plain_in csv_limits (records_of text) ≡ Ok (table.0, table.1)) }
+        plain_in csv_limits (records_of text) ≡ Ok (table.0, rows_of_columns table.1)) }
     ensures few { IfOk result (λ table. length table.0.fields ≤ 64) }
+    ensures numbers { IfOk result (λ table. AreNumbers table.1) }
     ensures stops { (sql : List ℕ) → IfErr result (λ why.
         Gives (query_answer sql (plain_in csv_limits (records_of text))) (Err why)) }
 {
-    let table = read_plain(alloc, text.as_slice());
+    let table = read_plain_columns(alloc, text.as_slice());
     drop(text);
     match table {
-        Ok((schema, rows)) => Ok((schema, rows)),
+        Ok((schema, columns)) => Ok((schema, columns)),
         Err(fault) => Err(stop_of(fault)),
     }
 }
@@ -182,8 +186,8 @@ pub fn scan<I: Shelf>(alloc: Global, file: &str, sql: &str, inputs: &mut I) -> R
         (record { inputs = seen I.Shelf inputs.new; depot = depot }) result }
 {
     let text = read_input(alloc, file, Counted::CsvBytes, CSV_LIMIT, inputs)?;
-    let (schema, rows) = rows_of(alloc, text)?;
+    let (schema, columns) = columns_of(alloc, text)?;
     let query = query_of(alloc, sql)?;
     let bound = bind_to(alloc, &query, schema)?;
-    answer(alloc, &bound, rows)
+    answer(alloc, &bound, &columns)
 }
