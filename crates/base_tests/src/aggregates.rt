@@ -26,34 +26,36 @@ fn is_spelled(state: AggState, bytes: &[u8]) -> bool
 // Counts, sums and extremes.
 fn expect_spelled(all: &mut Expectations) -> Result<(), TestFault> {
     let count = is_spelled(AggState::Count(258), &[0, 0, 0, 0, 0, 0, 1, 2]);
-    all.expect(count, "a count")?;
+    all.expect(count, "a count");
     let sum = [0, 0, 0, 0, 0, 0, 0, 0, 0, 0, 0, 0, 0, 0, 2, 88];
-    all.expect(is_spelled(AggState::Sum(600), &sum), "a sum")?;
+    all.expect(is_spelled(AggState::Sum(600), &sum), "a sum");
     let minus = [
         255, 255, 255, 255, 255, 255, 255, 255, 255, 255, 255, 255, 255, 255, 255, 254,
     ];
-    all.expect(is_spelled(AggState::Sum(-2), &minus), "a sum below 0")?;
+    all.expect(is_spelled(AggState::Sum(-2), &minus), "a sum below 0");
     let least = [255, 255, 255, 255, 255, 255, 255, 255];
     all.expect(
         is_spelled(AggState::Least(Some(-1)), &least),
         "a least number",
-    )?;
+    );
     let greatest = [128, 0, 0, 0, 0, 0, 0, 0];
     let state = AggState::Greatest(Some(-9223372036854775808));
-    all.expect(is_spelled(state, &greatest), "a greatest number")
+    all.expect(is_spelled(state, &greatest), "a greatest number");
+    Ok(())
 }
 
 // Bytes that are no state.
 fn expect_refused(all: &mut Expectations) -> Result<(), TestFault> {
     let none = AggState::take(AggKind::Count, &[0; 8]);
-    all.expect(none == Err(BadState), "a count of no value")?;
+    all.expect(none == Err(BadState), "a count of no value");
     let many = AggState::take(AggKind::Count, &[0, 0, 0, 0, 0, 16, 0, 1]);
-    all.expect(many == Err(BadState), "a count of 1,048,577 values")?;
+    all.expect(many == Err(BadState), "a count of 1,048,577 values");
     let wide = [0, 0, 0, 0, 0, 8, 0, 0, 0, 0, 0, 0, 0, 0, 0, 0];
     let sum = AggState::take(AggKind::Sum, &wide);
-    all.expect(sum == Err(BadState), "a sum of 2 to the 83rd")?;
+    all.expect(sum == Err(BadState), "a sum of 2 to the 83rd");
     let average = AggState::take(AggKind::Average, &[0; 24]);
-    all.expect(average == Err(BadState), "an average of no value")
+    all.expect(average == Err(BadState), "an average of no value");
+    Ok(())
 }
 
 fn expect_averages(all: &mut Expectations) -> Result<(), TestFault> {
@@ -62,16 +64,17 @@ fn expect_averages(all: &mut Expectations) -> Result<(), TestFault> {
         0, 0, 0, 3,
     ];
     let average = AggState::Average(AverageState { sum: -2, count: 3 });
-    all.expect(is_spelled(average, &bytes), "an average")?;
+    all.expect(is_spelled(average, &bytes), "an average");
     let wide = [
         0, 0, 0, 0, 0, 0, 0, 0, 128, 0, 0, 0, 0, 0, 0, 0, 0, 0, 0, 0, 0, 0, 0, 1,
     ];
     let read = AggState::take(AggKind::Average, &wide);
-    all.expect(read == Err(BadState), "an average of 2 to the 63rd")
+    all.expect(read == Err(BadState), "an average of 2 to the 63rd");
+    Ok(())
 }
 
 pub fn stored_states(alloc: Global) -> Result<Expectations, TestFault> {
-    let mut all = Expectations::new(alloc);
+    let mut all = Expectations::new();
     expect_spelled(&mut all)?;
     expect_refused(&mut all)?;
     expect_averages(&mut all)?;
@@ -83,41 +86,42 @@ fn expect_order(all: &mut Expectations) -> Result<(), TestFault> {
         &AggState::Average(AverageState { sum: -2, count: 3 }),
         &AggState::Average(AverageState { sum: -1, count: 2 }),
     );
-    all.expect(matches!(order, Ordering::Less), "a lesser average")?;
+    all.expect(matches!(order, Ordering::Less), "a lesser average");
     let order = compare_states(
         &AggState::Average(AverageState { sum: 2, count: 4 }),
         &AggState::Average(AverageState { sum: 1, count: 2 }),
     );
-    all.expect(matches!(order, Ordering::Equal), "equal averages")?;
+    all.expect(matches!(order, Ordering::Equal), "equal averages");
     let order = compare_states(&AggState::Least(Some(3)), &AggState::Least(Some(-4)));
-    all.expect(matches!(order, Ordering::Greater), "least numbers")?;
+    all.expect(matches!(order, Ordering::Greater), "least numbers");
     let order = compare_states(&AggState::Count(3), &AggState::Count(4));
-    all.expect(matches!(order, Ordering::Less), "counts")
+    all.expect(matches!(order, Ordering::Less), "counts");
+    Ok(())
 }
 
 pub fn states_of_values(alloc: Global) -> Result<Expectations, TestFault> {
-    let mut all = Expectations::new(alloc);
+    let mut all = Expectations::new();
     let mut count = Count::unit();
     Count::add(&mut count, 4);
     Count::merge(&mut count, &2);
-    all.expect(count == 3, "a count")?;
+    all.expect(count == 3, "a count");
     let mut sum = Sum::unit();
     Sum::add(&mut sum, 4);
     Sum::merge(&mut sum, &-2);
-    all.expect(sum == 2, "a sum")?;
+    all.expect(sum == 2, "a sum");
     let mut least = Least::unit();
     Least::add(&mut least, 4);
     Least::merge(&mut least, &Some(-7));
     Least::merge(&mut least, &None);
-    all.expect(least == Some(-7), "a least number")?;
+    all.expect(least == Some(-7), "a least number");
     let mut greatest = Greatest::unit();
     Greatest::add(&mut greatest, 4);
     Greatest::merge(&mut greatest, &Some(5));
-    all.expect(greatest == Some(5), "a greatest number")?;
+    all.expect(greatest == Some(5), "a greatest number");
     let mut average = Average::unit();
     Average::add(&mut average, 4);
     Average::merge(&mut average, &AverageState { sum: -2, count: 2 });
-    all.expect(average == AverageState { sum: 2, count: 3 }, "an average")?;
+    all.expect(average == AverageState { sum: 2, count: 3 }, "an average");
     expect_order(&mut all)?;
     Ok(all)
 }

@@ -11,16 +11,16 @@ pub fn expect_depot<D: Depot>(
     depot: &mut D,
     all: &mut Expectations,
 ) -> Result<(), TestFault> {
-    all.expect(depot.append(alloc, "p", b"12") == Ok(()), "more of a part")?;
+    all.expect(depot.append(alloc, "p", b"12") == Ok(()), "more of a part");
     let other = depot.append(alloc, "q", b"never begun");
-    all.expect(other == Ok(()), "a part that was not begun")?;
-    all.expect(depot.append(alloc, "p", b"3") == Ok(()), "still more")?;
-    all.expect(lists(alloc, depot, "a ")?, "parts are not listed")?;
+    all.expect(other == Ok(()), "a part that was not begun");
+    all.expect(depot.append(alloc, "p", b"3") == Ok(()), "still more");
+    all.expect(lists(alloc, depot, "a ")?, "parts are not listed");
     all.expect(
         depot.publish(alloc, "p", "b") == Ok(()),
         "a part is published",
-    )?;
-    all.expect(reads(alloc, depot, "b", 9, b"123"), "its bytes")?;
+    );
+    all.expect(reads(alloc, depot, "b", 9, b"123"), "its bytes");
     Ok(())
 }
 
@@ -33,22 +33,22 @@ pub fn expect_removal<D: Depot>(
     all.expect(
         depot.publish(alloc, "p", "b") == Ok(()),
         "no part is published",
-    )?;
-    all.expect(depot.length(alloc, "b") == Ok(0), "as an empty file")?;
-    all.expect(depot.remove(alloc, "a") == Ok(()), "a file is removed")?;
+    );
+    all.expect(depot.length(alloc, "b") == Ok(0), "as an empty file");
+    all.expect(depot.remove(alloc, "a") == Ok(()), "a file is removed");
     let again = depot.remove(alloc, "a");
-    all.expect(again == Err(DepotFault::Missing), "and not again")?;
+    all.expect(again == Err(DepotFault::Missing), "and not again");
     let length = depot.length(alloc, "a");
-    all.expect(length == Err(ShelfFault::Missing), "it is gone")?;
+    all.expect(length == Err(ShelfFault::Missing), "it is gone");
     Ok(())
 }
 
 pub fn depot_in_memory(alloc: Global) -> Result<Expectations, TestFault> {
-    let mut all = Expectations::new(alloc);
+    let mut all = Expectations::new();
     let mut depot = MemoryDepot::new(alloc, files(alloc, &[("a", "1")])?, calls(alloc, &[1])?)?;
-    all.expect(depot.begin(alloc, "p") == Ok(()), "a part is begun")?;
+    all.expect(depot.begin(alloc, "p") == Ok(()), "a part is begun");
     let failed = depot.append(alloc, "p", b"x");
-    all.expect(failed == Err(DepotFault::Failed), "call 1 fails")?;
+    all.expect(failed == Err(DepotFault::Failed), "call 1 fails");
     expect_depot(alloc, &mut depot, &mut all)?;
     expect_removal(alloc, &mut depot, &mut all)?;
     Ok(all)

@@ -1,13 +1,14 @@
-//! Expectations: how many there were, and which did not hold.
+//! Expectations: how many there were, and the first that did not hold.
 
 use std::alloc::{AllocError, Global};
 use std::io;
 
-/// What is expected, and does not hold.
-#[derive(Drop)]
+/// What was expected so far.
+#[derive(Clone, Copy)]
 pub struct Expectations {
     pub count: u64,
-    pub broken: Vec<&'static str>,
+    /// What the first expectation says that did not hold.
+    pub broken: Option<&'static str>,
 }
 
 /// Why a test ended before its last expectation.
@@ -27,19 +28,18 @@ impl From<io::Error> for TestFault {
 }
 
 impl Expectations {
-    pub fn new(alloc: Global) -> Expectations {
+    pub fn new() -> Expectations {
         Expectations {
             count: 0,
-            broken: Vec::new(alloc),
+            broken: None,
         }
     }
 
-    /// Counts an expectation, and keeps what it says where it does not hold.
-    pub fn expect(&mut self, holds: bool, what: &'static str) -> Result<(), TestFault> {
+    /// Counts an expectation, and keeps what it says where it is the first that does not hold.
+    pub fn expect(&mut self, holds: bool, what: &'static str) {
         self.count = self.count.saturating_add(1);
-        if !holds {
-            self.broken.push(what).map_err(|_| TestFault)?;
+        if !holds && self.broken.is_none() {
+            self.broken = Some(what);
         }
-        Ok(())
     }
 }

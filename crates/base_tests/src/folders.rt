@@ -28,37 +28,37 @@ fn expect_names(
     all: &mut Expectations,
 ) -> Result<(), TestFault> {
     let alloc = rt.alloc();
-    all.expect(lists(alloc, shelf, "a z.part ")?, "files are listed")?;
+    all.expect(lists(alloc, shelf, "a z.part ")?, "files are listed");
     for path in ["a", "sub/c", "./sub/../a"] {
-        all.expect(reads(alloc, shelf, path, 5, b"12345"), "a path is read")?;
+        all.expect(reads(alloc, shelf, path, 5, b"12345"), "a path is read");
     }
     for missing in ["b", "", "a/b", "a\0"] {
         let length = shelf.length(alloc, missing);
-        all.expect(length == Err(ShelfFault::Missing), "no file")?;
+        all.expect(length == Err(ShelfFault::Missing), "no file");
     }
     for folder in ["sub", ".", ".."] {
         let length = shelf.length(alloc, folder);
-        all.expect(length == Err(ShelfFault::Failed), "a folder is no file")?;
+        all.expect(length == Err(ShelfFault::Failed), "a folder is no file");
     }
     Ok(())
 }
 
 pub fn shelf_over_a_folder(rt: &HostRuntime) -> Result<Expectations, TestFault> {
     let alloc = rt.alloc();
-    let mut all = Expectations::new(alloc);
+    let mut all = Expectations::new();
     let folder = new_folder(rt, "shelf")?;
     let mut shelf = FolderShelf::new(rt.clone()?, folder.clone()?);
     expect_names(rt, &mut shelf, &mut all)?;
     let absolute = format!(in alloc; "{folder}/a")?;
     let is_read = reads(alloc, &mut shelf, absolute.as_str(), 5, b"12345");
-    all.expect(is_read, "an absolute path")?;
+    all.expect(is_read, "an absolute path");
     let mut into = [0u8; 2];
     let read = shelf.read_at(alloc, "a", 3, &mut into);
-    all.expect(read == Ok(2) && into == [b'4', b'5'], "a read within")?;
+    all.expect(read == Ok(2) && into == [b'4', b'5'], "a read within");
     let read = shelf.read_at(alloc, "a", u64::MAX, &mut into);
-    all.expect(read == Ok(0), "a read past the end")?;
+    all.expect(read == Ok(0), "a read past the end");
     let is_long = refuses(alloc, &mut shelf, "a", 4, ReadAllFault::TooLong);
-    all.expect(is_long, "a file over the limit")?;
+    all.expect(is_long, "a file over the limit");
     fs::remove_dir_all(rt, folder.as_str())?;
     Ok(all)
 }
@@ -71,35 +71,35 @@ fn expect_bad_names(
     let alloc = rt.alloc();
     for name in ["", ".", "..", "../x", "sub/c", "z.part", "a\0"] {
         let length = depot.length(alloc, name);
-        all.expect(length == Err(ShelfFault::Missing), "no published name")?;
+        all.expect(length == Err(ShelfFault::Missing), "no published name");
         let published = depot.publish(alloc, "q", name);
-        all.expect(published == Err(DepotFault::Failed), "it is not published")?;
+        all.expect(published == Err(DepotFault::Failed), "it is not published");
         let removed = depot.remove(alloc, name);
-        all.expect(removed == Err(DepotFault::Missing), "it is not removed")?;
+        all.expect(removed == Err(DepotFault::Missing), "it is not removed");
     }
     for part in ["", "..", "sub/x", "a\0"] {
         let begun = depot.begin(alloc, part);
-        all.expect(begun == Err(DepotFault::Failed), "no name of a part")?;
+        all.expect(begun == Err(DepotFault::Failed), "no name of a part");
     }
     Ok(())
 }
 
 pub fn depot_over_a_folder(rt: &HostRuntime) -> Result<Expectations, TestFault> {
     let alloc = rt.alloc();
-    let mut all = Expectations::new(alloc);
+    let mut all = Expectations::new();
     let folder = new_folder(rt, "depot")?;
     let mut depot = FolderDepot::new(rt.clone()?, folder.clone()?);
-    all.expect(depot.begin(alloc, "p") == Ok(()), "a part is begun")?;
+    all.expect(depot.begin(alloc, "p") == Ok(()), "a part is begun");
     expect_depot(alloc, &mut depot, &mut all)?;
     expect_removal(alloc, &mut depot, &mut all)?;
     expect_bad_names(rt, &mut depot, &mut all)?;
     let length = depot.length(alloc, "sub");
-    all.expect(length == Err(ShelfFault::Failed), "a folder is no file")?;
+    all.expect(length == Err(ShelfFault::Failed), "a folder is no file");
     let part = fs::read(rt, format!(in alloc; "{folder}/q.part")?.as_str())?;
     all.expect(
         part.as_slice() == b"never begun".as_slice(),
         "a part is a file",
-    )?;
+    );
     fs::remove_dir_all(rt, folder.as_str())?;
     Ok(all)
 }

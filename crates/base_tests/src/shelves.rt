@@ -61,47 +61,47 @@ pub fn refuses<S: Shelf>(
 }
 
 pub fn lists_and_names(alloc: Global) -> Result<Expectations, TestFault> {
-    let mut all = Expectations::new(alloc);
+    let mut all = Expectations::new();
     let ab = name(alloc, "ab")?;
-    all.expect(ab == name(alloc, "ab")?, "equal names")?;
-    all.expect(ab < name(alloc, "b")?, "a lesser name")?;
+    all.expect(ab == name(alloc, "ab")?, "equal names");
+    all.expect(ab < name(alloc, "b")?, "a lesser name");
     let is_greater = matches!(ab.cmp(&Name::new(alloc)), Ordering::Greater);
-    all.expect(is_greater, "a greater name")?;
+    all.expect(is_greater, "a greater name");
     all.expect(
         ab.len() == 2 && ab.as_str() == "ab" && !ab.is_empty(),
         "a name",
-    )?;
-    all.expect(ab.as_slice() == b"ab".as_slice(), "its bytes")?;
+    );
+    all.expect(ab.as_slice() == b"ab".as_slice(), "its bytes");
     let list = bytes(alloc, b"xy")?;
-    all.expect(list != bytes(alloc, b"x")?, "unequal lists")?;
-    all.expect(list > bytes(alloc, b"x")?, "a greater list")?;
+    all.expect(list != bytes(alloc, b"x")?, "unequal lists");
+    all.expect(list > bytes(alloc, b"x")?, "a greater list");
     all.expect(
         list.len() == 2 && list.as_slice() == b"xy".as_slice(),
         "a list",
-    )?;
+    );
     Ok(all)
 }
 
 pub fn shelf_in_memory(alloc: Global) -> Result<Expectations, TestFault> {
-    let mut all = Expectations::new(alloc);
+    let mut all = Expectations::new();
     let held = files(alloc, &[("b", "old"), ("a", "12345"), ("b", "new")])?;
     let mut shelf = MemoryShelf::new(alloc, held, calls(alloc, &[5, 7])?)?;
-    all.expect(lists(alloc, &mut shelf, "a b ")?, "names once, ascending")?;
+    all.expect(lists(alloc, &mut shelf, "a b ")?, "names once, ascending");
     all.expect(
         reads(alloc, &mut shelf, "b", 3, b"new"),
         "the last file of a name",
-    )?;
+    );
     let is_missing = refuses(alloc, &mut shelf, "c", 9, ReadAllFault::Missing);
-    all.expect(is_missing, "no file")?;
+    all.expect(is_missing, "no file");
     let is_long = refuses(alloc, &mut shelf, "a", 4, ReadAllFault::TooLong);
-    all.expect(is_long, "a file over the limit")?;
+    all.expect(is_long, "a file over the limit");
     let length = shelf.length(alloc, "a");
-    all.expect(length == Err(ShelfFault::Failed), "call 5 fails")?;
+    all.expect(length == Err(ShelfFault::Failed), "call 5 fails");
     let mut into = [0u8; 4];
     let read = shelf.read_at(alloc, "a", 3, &mut into);
-    all.expect(read == Ok(2), "a read at the end")?;
-    all.expect(into == [b'4', b'5', 0, 0], "its bytes")?;
+    all.expect(read == Ok(2), "a read at the end");
+    all.expect(into == [b'4', b'5', 0, 0], "its bytes");
     let failed = matches!(shelf.names(alloc), Err(ShelfFault::Failed));
-    all.expect(failed, "call 7 fails")?;
+    all.expect(failed, "call 7 fails");
     Ok(all)
 }

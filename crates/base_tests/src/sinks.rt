@@ -38,21 +38,22 @@ fn expect_stream(alloc: Global, all: &mut Expectations) -> Result<(), TestFault>
         taken: &mut taken,
         interrupts: false,
     });
-    all.expect(sink.put(b"ab") == Ok(()), "two bytes, one at a time")?;
-    all.expect(sink.put(b"") == Ok(()), "none")?;
-    all.expect(sink.put(b"cd") == Err(SinkFault::Failed), "a full stream")?;
+    all.expect(sink.put(b"ab") == Ok(()), "two bytes, one at a time");
+    all.expect(sink.put(b"") == Ok(()), "none");
+    all.expect(sink.put(b"cd") == Err(SinkFault::Failed), "a full stream");
     drop(sink);
-    all.expect(taken.as_slice() == b"abc".as_slice(), "what it took")
+    all.expect(taken.as_slice() == b"abc".as_slice(), "what it took");
+    Ok(())
 }
 
 pub fn sinks(alloc: Global) -> Result<Expectations, TestFault> {
-    let mut all = Expectations::new(alloc);
+    let mut all = Expectations::new();
     let mut sink = MemorySink::with_room(alloc, 4, calls(alloc, &[1])?)?;
-    all.expect(sink.put(b"ab") == Ok(()), "bytes")?;
-    all.expect(sink.put(b"c") == Err(SinkFault::Failed), "call 1 fails")?;
-    all.expect(sink.put(b"cde") == Err(SinkFault::Failed), "no room")?;
-    all.expect(sink.put(b"cd") == Ok(()), "just room")?;
-    all.expect(sink.bytes() == b"abcd".as_slice(), "what it took")?;
+    all.expect(sink.put(b"ab") == Ok(()), "bytes");
+    all.expect(sink.put(b"c") == Err(SinkFault::Failed), "call 1 fails");
+    all.expect(sink.put(b"cde") == Err(SinkFault::Failed), "no room");
+    all.expect(sink.put(b"cd") == Ok(()), "just room");
+    all.expect(sink.bytes() == b"abcd".as_slice(), "what it took");
     expect_stream(alloc, &mut all)?;
     Ok(all)
 }

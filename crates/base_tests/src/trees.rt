@@ -79,33 +79,33 @@ fn is_doc(table: &StarTable, at: u32, ids: [u32; 3], sum: i128, count: u64) -> b
 
 /// Documents are starred, merged and aggregated in their table.
 pub fn tables_of_documents(alloc: Global) -> Result<Expectations, TestFault> {
-    let mut all = Expectations::new(alloc);
+    let mut all = Expectations::new();
     let mut table = views_of_the_usa(alloc)?;
     // browsers are starred: two rows share a locale
     let starred = table.append_starred(0, 3, 1)?;
-    all.expect(starred == 2, "two locales")?;
+    all.expect(starred == 2, "two locales");
     table.append_total(0, 3, 1);
     table.append_total(1, 3, 2);
-    all.expect(table.len() == 7, "seven documents")?;
+    all.expect(table.len() == 7, "seven documents");
     all.expect(
         is_doc(&table, 3, [2, STAR, 0], 1000, 2),
         "English in any browser",
-    )?;
+    );
     all.expect(
         is_doc(&table, 4, [2, STAR, 1], 200, 1),
         "Spanish in any browser",
-    )?;
-    all.expect(is_doc(&table, 5, [2, STAR, STAR], 1200, 3), "all rows")?;
+    );
+    all.expect(is_doc(&table, 5, [2, STAR, STAR], 1200, 3), "all rows");
     all.expect(
         is_doc(&table, 6, [2, 1, STAR], 600, 2),
         "Firefox in any language",
-    )?;
+    );
     Ok(all)
 }
 
 /// The laws, whose contracts hold the trees that were worked by hand.
 pub fn laws_of_trees(alloc: Global) -> Result<Expectations, TestFault> {
-    let mut all = Expectations::new(alloc);
+    let mut all = Expectations::new();
     worked_law();
     flat_law();
     node_rules_law();
@@ -115,6 +115,6 @@ pub fn laws_of_trees(alloc: Global) -> Result<Expectations, TestFault> {
     reads_law();
     aggregated_law();
     answer_law();
-    all.expect(true, "laws")?;
+    all.expect(true, "laws");
     Ok(all)
 }

@@ -28,32 +28,33 @@ fn reads_as_text(alloc: Global, text: &str) -> bool {
 
 fn expect_names(alloc: Global, all: &mut Expectations) -> Result<(), TestFault> {
     let mut name = Name::new(alloc);
-    all.expect(name.is_empty(), "an empty name")?;
+    all.expect(name.is_empty(), "an empty name");
     name.push_str("na")?;
     let copy = name.copy()?;
     name.push_str("me")?;
-    all.expect(copy.as_str() == "na", "a copy is not changed")?;
+    all.expect(copy.as_str() == "na", "a copy is not changed");
     all.expect(
         name.as_slice() == b"name".as_slice() && name.len() == 4,
         "a name",
-    )?;
-    all.expect(copy < name, "a proper prefix is less")?;
+    );
+    all.expect(copy < name, "a proper prefix is less");
     let same = Name::from_string(alloc, String::from_str(alloc, "na")?)?;
-    all.expect(same == copy, "names by their bytes")
+    all.expect(same == copy, "names by their bytes");
+    Ok(())
 }
 
 pub fn texts(alloc: Global) -> Result<Expectations, TestFault> {
-    let mut all = Expectations::new(alloc);
+    let mut all = Expectations::new();
     let long = read_value(alloc, FieldKind::Text, many(alloc, 513)?.as_str());
-    all.expect(matches!(long, Err(ValueFault::TooLong)), "a long text")?;
+    all.expect(matches!(long, Err(ValueFault::TooLong)), "a long text");
     let longest = many(alloc, 512)?;
-    all.expect(reads_as_text(alloc, longest.as_str()), "a longest text")?;
+    all.expect(reads_as_text(alloc, longest.as_str()), "a longest text");
     let mut out = Vec::from_slice(alloc, b"x=")?;
     push_text(alloc, &Value::Whole(-9), &mut out)?;
     push_text(alloc, &text(alloc, ";é")?, &mut out)?;
-    all.expect(out.as_slice() == "x=-9;é".as_bytes(), "texts of values")?;
+    all.expect(out.as_slice() == "x=-9;é".as_bytes(), "texts of values");
     let boxed = Boxed::new(alloc, 7)?;
-    all.expect(*boxed.get() == 7 && boxed.into_inner() == 7, "a box")?;
+    all.expect(*boxed.get() == 7 && boxed.into_inner() == 7, "a box");
     expect_names(alloc, &mut all)?;
     Ok(all)
 }
@@ -71,13 +72,13 @@ fn ascending(alloc: Global) -> Result<Vec<Value>, AllocError> {
 }
 
 pub fn order_of_values(alloc: Global) -> Result<Expectations, TestFault> {
-    let mut all = Expectations::new(alloc);
+    let mut all = Expectations::new();
     let values = ascending(alloc)?;
     for (i, a) in values.iter().enumerate() {
         for (j, b) in values.iter().enumerate() {
-            all.expect(compare(a, b) == i.cmp(&j), "the order of two values")?;
-            all.expect((a == b) == (i == j), "whether they are equal")?;
-            all.expect((a < b) == (i < j), "whether one is less")?;
+            all.expect(compare(a, b) == i.cmp(&j), "the order of two values");
+            all.expect((a == b) == (i == j), "whether they are equal");
+            all.expect((a < b) == (i < j), "whether one is less");
         }
     }
     Ok(all)
@@ -92,17 +93,17 @@ fn row(alloc: Global, values: &[Value]) -> Result<Row, AllocError> {
 }
 
 pub fn order_of_rows(alloc: Global) -> Result<Expectations, TestFault> {
-    let mut all = Expectations::new(alloc);
+    let mut all = Expectations::new();
     let long = row(alloc, ascending(alloc)?.as_slice())?;
     let short = row(alloc, &[Value::Whole(i64::MIN)])?;
-    all.expect(copy_row(alloc, &long)? == long, "a copy is equal")?;
-    all.expect(short != long && short < long, "a proper prefix is less")?;
+    all.expect(copy_row(alloc, &long)? == long, "a copy is equal");
+    all.expect(short != long && short < long, "a proper prefix is less");
     let mut sorted: BTreeMap<Row, u8> = BTreeMap::new(alloc);
     let mut hashed: HashMap<Row, u8> = HashMap::new(alloc);
     let (first, second) = (copy_row(alloc, &long)?, copy_row(alloc, &long)?);
     let is_kept = sorted.insert(first, 1).is_ok() && hashed.insert(second, 1).is_ok();
-    all.expect(is_kept, "keys of maps")?;
-    all.expect(sorted.get(&long).copied() == Some(1), "found by order")?;
-    all.expect(hashed.get(&long).copied() == Some(1), "found by hash")?;
+    all.expect(is_kept, "keys of maps");
+    all.expect(sorted.get(&long).copied() == Some(1), "found by order");
+    all.expect(hashed.get(&long).copied() == Some(1), "found by hash");
     Ok(all)
 }
