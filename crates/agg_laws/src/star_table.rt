@@ -2,7 +2,7 @@
 
 ghost use Rattle.std.specs.Prelude.{◌≡◌, ◌+◌, ◌-◌, ◌<◌, ◌≤◌, ◌==◌, max, [], ◌∷◌, ◌++◌, length};
 ghost use Rattle.std.specs.Prelude.{take, drop, List, slice_get, Some, None, IsTrue, OnOk, OnErr};
-ghost use Rattle.std.specs.Prelude.{IfOk, vec_len, vec_capacity};
+ghost use Rattle.std.specs.Prelude.{IfOk, vec_len, vec_capacity, map, All};
 ghost use Rattle.std.specs.List.Sorted.{IsSortedBy, IsPermutation};
 ghost use Rattle.std.specs.Ordering.{is_lt, is_gt};
 ghost use Rattle.std.specs.FinMap.{is_sorted};
@@ -14,10 +14,13 @@ ghost use Rattle.agg_laws.specs.Docs.{Doc, doc_of, doc_at, HaveShape, AreStored}
 ghost use Rattle.agg_laws.specs.Documents.{aggregated, AreAlike};
 ghost use Rattle.agg_laws.specs.Flat.{range};
 ghost use Rattle.agg_laws.specs.Region.{numbers};
+ghost use Rattle.agg_laws.specs.Packing.{place, IsWord};
+ghost use Rattle.std.specs.Option.{IfSome};
 
 use crate::NoMemory;
 use crate::id_list::STAR;
 use crate::kind_list::Kinds;
+use crate::packing::{Span, packed, places};
 use crate::star_row::StarRow;
 use crate::state_row::merge_states;
 use crate::states::AggState;
@@ -102,7 +105,7 @@ fn merge_into_last(states: &mut [AggState], from: usize, count: usize)
 }
 
 /// The id of a dimension, where one dimension is starred.
-fn starred_id(ids: &[u32], at: usize, level: usize) -> u32
+pub(crate) fn starred_id(ids: &[u32], at: usize, level: usize) -> u32
     requires { at < length ids.now }
     ensures { result ≡ dim at (set_star level ids.now) }
 {
@@ -318,9 +321,73 @@ impl StarTable {
         compare_starred(a, b, level as usize)
     }
 
-    /// The numbers of a range, in the ascending order of their documents once a dimension is
-    /// starred.
-    fn starred_order(&self, start: u32, end: u32, level: u8) -> Result<Vec<u32>, NoMemory>
+    /// What the ids of a dimension lie within, in a range where a dimension is starred.
+    fn span(&self, start: u32, end: u32, dim: u8, level: u8) -> Span
+        requires end { end ≤ length self.now.docs }
+        requires dim { dim < self.now.dims }
+    {
+        let mut least = u32::MAX;
+        let mut most = 0;
+        if dim == level {
+            return Span { least, above: 0 };
+        }
+        for at in start..end {
+            let id = self.dim(at, dim);
+            least = least.min(id);
+            most = most.max(id);
+        }
+        Span {
+            least,
+            above: most.wrapping_sub(least),
+        }
+    }
+
+    /// What the ids of each dimension lie within.
+    fn spans(&self, start: u32, end: u32, level: u8) -> Result<Vec<Span>, NoMemory>
+        requires { end ≤ length self.now.docs }
+    {
+        let mut spans = Vec::with_capacity(*self.ids.allocator(), self.dims as usize)?;
+        for dim in 0..self.dims {
+            spans.push(self.span(start, end, dim, level))?;
+        }
+        Ok(spans)
+    }
+
+    /// A word for each document of a range, where a dimension is starred: its combination above its
+    /// place in the range. None where they take more bits than a word has.
+    fn words(
+        &self,
+        start: u32,
+        end: u32,
+        level: u8,
+        spans: &[Span],
+    ) -> Result<Option<Vec<u64>>, NoMemory>
+        requires { start ≤ end }
+        ensures { IfOk result (λ found. IfSome found (λ words. (map (place start) words.items
+            ≡ numbers start end)
+            × All (IsWord spans.now level start self.now.docs) words.items)) }
+    {
+        if end - start > 1048576 {
+            return Ok(None);
+        }
+        let mut words = Vec::with_capacity(*self.ids.allocator(), (end - start) as usize)?;
+        for at in start..end {
+            match packed(self.ids_of(at as usize), spans, level as usize) {
+                None => return Ok(None),
+                Some(key) => {
+                    if key >= 17592186044416 {
+                        return Ok(None);
+                    }
+                    words.push(key * 1048576 + (at - start) as u64)?;
+                }
+            }
+        }
+        Ok(Some(words))
+    }
+
+    /// The numbers of a range in the ascending order of their documents once a dimension is starred,
+    /// by comparing them.
+    fn compared_order(&self, start: u32, end: u32, level: u8) -> Result<Vec<u32>, NoMemory>
         requires { start ≤ end }
         ensures { IfOk result (λ order. IsPermutation (numbers start end) order.items
             × IsSortedBy (λ a b. is_lt (dims_order (set_star level (doc_at self.now.docs a).0)
@@ -335,6 +402,25 @@ impl StarTable {
         }
         order.sort_by(|a, b| self.starred_cmp(a, b, level))?;
         Ok(order)
+    }
+
+    /// The numbers of a range, in the ascending order of their documents once a dimension is
+    /// starred.
+    fn starred_order(&self, start: u32, end: u32, level: u8) -> Result<Vec<u32>, NoMemory>
+        requires order { start ≤ end }
+        requires within { end ≤ length self.now.docs }
+        ensures { IfOk result (λ order. IsPermutation (numbers start end) order.items
+            × IsSortedBy (λ a b. is_lt (dims_order (set_star level (doc_at self.now.docs a).0)
+            (set_star level (doc_at self.now.docs b).0))) order.items) }
+    {
+        let spans = self.spans(start, end, level)?;
+        match self.words(start, end, level, spans.as_slice())? {
+            None => self.compared_order(start, end, level),
+            Some(mut words) => {
+                words.sort()?;
+                places(*self.ids.allocator(), words.as_slice(), start)
+            }
+        }
     }
 
     /// Adds a document with a dimension starred: its states to the last document, where that is not
