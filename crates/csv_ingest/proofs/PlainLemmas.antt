@@ -1,7 +1,6 @@
 -- The columns and rows of a list of records.
 use Rattle.std.proofs.Common.{◌≡◌, ◌∙◌, ◌<◌, ◌≤◌, ℕ, List, [], ◌∷◌, length, nat_lt, true, false, Result, Ok, Err, IfOk, IfErr, refl, ap, arith}
 use Rattle.std.proofs.lemmas.Bool.Decides.{nat_tests}
-use Rattle.values.specs.declared.value.Value.{Value}
 use Rattle.table_schema.specs.declared.field.Field.{Field}
 use Rattle.csv_ingest.specs.declared.fault.CsvKind.TheVariants.{NoHeader}
 use Rattle.csv_ingest.specs.declared.fault.CsvFault.{CsvFault}

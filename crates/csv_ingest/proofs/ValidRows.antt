@@ -1,13 +1,13 @@
 -- The rows of a text are rows of their table, and no more than there may be.
-use Rattle.std.proofs.Common.{◌≡◌, ◌-◌, ◌+◌, ◌≤◌, ℕ, ℤ, suc, pos, List, [], ◌∷◌, length, map, nat_lt, nat_le, slice_index_or, Bool, true, false, ◌&&◌, not, ◌==◌, cond, Option, Some, None, Result, Ok, Err, if◌then◌else◌, refl, sym, ap, ◌∙◌, subst, arith, rules, tests}
+use Rattle.std.proofs.Common.{◌≡◌, ◌-◌, ◌+◌, ◌≤◌, ℕ, ℤ, List, [], ◌∷◌, length, map, nat_lt, nat_le, slice_index_or, Bool, true, false, ◌&&◌, not, ◌==◌, cond, Option, Some, None, Result, Ok, Err, if◌then◌else◌, refl, sym, ap, ◌∙◌, subst, arith}
 use Rattle.std.specs.Bool.{⊤}
-use Rattle.std.specs.List.{All, AllByRecursion, enumerate_from, list_all}
+use Rattle.std.specs.List.{AllByRecursion, enumerate_from, list_all}
 use Rattle.std.specs.Str.{is_utf8}
 use Rattle.std.proofs.lemmas.Bool.{ltb-false}
 use Rattle.std.proofs.lemmas.List.Elements.{All-from_recursion}
 use Rattle.values.specs.Kinds.{fits}
 use Rattle.values.specs.Numbers.{is_in_range, ranged, spelled_number}
-use Rattle.values.specs.Reading.{number_value, text_value, value_of}
+use Rattle.values.specs.Reading.{number_value, value_of}
 use Rattle.values.specs.declared.kind.FieldKind.{FieldKind}
 use Rattle.values.specs.declared.kind.FieldKind.TheVariants as kind
 use Rattle.values.specs.declared.value.Value.{Value}
@@ -20,11 +20,10 @@ use Rattle.table_schema.specs.Fields.{is_text_metric}
 use Rattle.table_schema.specs.Names.{is_column_name}
 use Rattle.table_schema.specs.Valid.{is_short, default_fits, is_valid_field, IsValidSchema}
 use Rattle.table_schema.specs.ValidTable.{is_row, IsRow, most_rows, AreRows}
-use Rattle.csv_ingest.specs.declared.fault.CsvKind.{CsvKind}
 use Rattle.csv_ingest.specs.declared.fault.CsvKind.TheVariants.{NotUtf8, WrongLength}
 use Rattle.csv_ingest.specs.declared.fault.CsvFault.{CsvFault}
 use Rattle.csv_ingest.specs.declared.fault.CsvFault.TheVariants.{At, TooManyRows, TooManyColumns}
-use Rattle.csv_ingest.specs.Names.{known_name, plain_field, plain_name}
+use Rattle.csv_ingest.specs.Names.{known_name, plain_name}
 use Rattle.csv_ingest.specs.Rows.{all_or_first, cell_value, csv_limits, header_of, kinded, place_of, plain_in, row_at, rows_in, rows_of, under, value_at, values_of, with_schema}
 use Rattle.csv_ingest.proofs.NumberLemmas.{IsPlain, joins, each, placed_ok, anything, header_plain}
 

@@ -1,11 +1,10 @@
 -- The rows of a CSV text, or the first thing that is wrong with it: functions of the whole list of its records.
-use Rattle.std.specs.Prelude.{◌≡◌, ◌<◌, ◌+◌, ℕ, ◌-◌, nat_lt, Bool, true, false, not, ◌==◌, List, [], ◌∷◌, length, take, map, slice_index_or, get_or, Option, Some, None, Result, Ok, Err, if◌then◌else◌}
+use Rattle.std.specs.Prelude.{◌≡◌, ℕ, ◌-◌, nat_lt, Bool, true, false, not, ◌==◌, List, [], ◌∷◌, length, take, map, slice_index_or, Option, Some, None, Result, Ok, Err, if◌then◌else◌}
 use Rattle.std.specs.List.{enumerate_from, list_all, position_from}
 use Rattle.std.specs.Str.{bytes_eq, is_utf8}
 use Rattle.csv.specs.Reading.{default_config, records, strip_bom}
 use Rattle.values.specs.Reading.{value_of}
 use Rattle.values.specs.declared.kind.FieldKind.{FieldKind}
-use Rattle.values.specs.declared.kind.FieldKind.TheVariants.{Long}
 use Rattle.values.specs.declared.value.Value.{Value}
 use Rattle.values.specs.declared.value.Value.TheVariants.{Whole, Text}
 use Rattle.values.specs.declared.read.ValueFault.{ValueFault}
@@ -81,10 +80,6 @@ cell_value field (b ∷ bytes) = value_in field.kind (b ∷ bytes)
 abbrev pub value_at : ℕ → List (List ℕ) → Field → Option ℕ → Result Value CsvFault
 value_at row cells field None = Ok field.default
 value_at row cells field (Some column) = placed row column (cell_value field (slice_index_or cells (column - 1) []))
-
--- each field is a number of 64 bits, and stands in the column of its own place
-abbrev pub InOrder : List Field → List (Option ℕ) → Type 0
-InOrder fields places = (i : ℕ) (d : Field) → i < length fields → ((get_or fields i d).kind ≡ Long) × (get_or places i None ≡ Some (i + 1))
 
 -- the values of a record, field by field of the schema
 abbrev pub values_of : List Field → List (List ℕ) → ℕ → List (List ℕ) → Result (List Value) CsvFault

@@ -69,6 +69,18 @@ impl PlainHeader {
         }
     }
 
+    /// The same, where the names are needed still.
+    pub fn schema(&self, alloc: Global) -> Result<Schema, CsvFault>
+        requires { IsPlainHeader self.now }
+        ensures ok { IfOk result (λ schema. schema ≡ record { fields = self.now.fields }) }
+        ensures err { IfErr result (λ fault. fault ≡ CsvFault.NoMemory) }
+    {
+        match fields_in(alloc, &self.names) {
+            Ok(fields) => Ok(Schema { fields }),
+            Err(fault) => Err(fault),
+        }
+    }
+
     /// The next rows of a text, of which `before` were read.
     pub fn next_block(
         &self,
@@ -84,6 +96,7 @@ impl PlainHeader {
             (IsFullBlock self.now.fields (fields_of self.now.names) before room reader.old reader.new
             rest b.columns)) }
         ensures sorts { IfOk result (λ b. OfSorts self.now.fields b.columns.columns) }
+        ensures most { IfOk result (λ b. b.columns.count ≤ room) }
         ensures err { IfErr result (λ fault. fault ≢ CsvFault.NoMemory → (rest : List ℕ)
             → Reads reader.old rest → (n : ℕ) → room ≤ n
             → rows_from before self.now.fields (fields_of self.now.names)
@@ -144,6 +157,8 @@ impl PlainBlocks<'_> {
         ensures numbers { IfOk result (λ block. IfSome block (λ columns.
             AreNumbers self.old.header.fields columns.columns)) }
         ensures fewer { IfOk result (λ block. IfSome block (λ _. self.new.left < self.old.left)) }
+        ensures count { IfOk result (λ block. IfSome block (λ columns.
+            columns.count + self.new.left ≤ self.old.left)) }
         ensures err { IfErr result (λ fault. fault ≢ CsvFault.NoMemory → (whole : RowsOrFault)
             → Gives self.old whole → whole ≡ Err fault) }
     {

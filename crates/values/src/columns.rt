@@ -50,7 +50,8 @@ impl Columns {
 
     pub fn column(&self, at: usize) -> &Column
         requires { at < length self.now.columns }
-        ensures { slice_get self.now.columns at ≡ Some result.now }
+        ensures place { slice_get self.now.columns at ≡ Some result.now }
+        ensures count { Counts self.now.count result.now }
     {
         &self.columns[at]
     }

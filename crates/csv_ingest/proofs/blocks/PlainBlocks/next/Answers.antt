@@ -1,4 +1,4 @@
-use Rattle.std.proofs.Common.{◌≡◌, ◌≤◌, ◌<◌, ◌+◌, ◌-◌, [], true, false, Ok, List, refl, arith}
+use Rattle.std.proofs.Common.{◌≡◌, ◌≤◌, ◌<◌, ◌+◌, ◌-◌, [], true, false, Ok, refl, arith}
 use Rattle.csv.specs.Records.{fields_of}
 use Rattle.csv_ingest.specs.Blocks.{IsFullBlock, IsLastBlock, rows_from}
 use Rattle.csv_ingest.specs.Reading.{records_left}

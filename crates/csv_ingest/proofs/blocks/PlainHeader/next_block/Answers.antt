@@ -1,4 +1,4 @@
-use Rattle.std.proofs.Common.{◌≡◌, ◌∙◌, ◌≢◌, ◌≤◌, Bor, ℕ, List, IfErr, IfOk, Err, map, ap, subst, sym}
+use Rattle.std.proofs.Common.{◌≡◌, ◌∙◌, Bor, ℕ, List, IfOk, map, ap, subst, sym}
 use Rattle.csv.specs.Records.{fields_of}
 use Rattle.table_schema.specs.declared.field.Field.{Field}
 use Rattle.csv_ingest.specs.Columns.{DefaultsFit, OfSorts}
