@@ -1,21 +1,21 @@
 -- The document of a row of values, and a row of values more in the last document.
 use Rattle.std.proofs.Common.{◌≡◌, ℕ, zero, suc, ◌+◌, ◌*◌, ◌-◌, ◌<◌, ◌≤◌, List, [], ◌∷◌, ◌++◌, map}
 use Rattle.std.proofs.Common.{length, take, drop, get_or, refl, sym, ap, subst, ◌∙◌, arith, ℤ, pos}
-use Rattle.std.proofs.Common.{length-drop, FitsSigned, w64}
+use Rattle.std.proofs.Common.{append_assoc, length-append, length-drop, FitsSigned, w64}
 use Rattle.std.proofs.Math.Seq.{drop-cons}
 use Rattle.std.proofs.lemmas.List.{take-append-drop}
 use Rattle.agg_laws.specs.declared.aggregate_kind.AggKind.{AggKind}
 use Rattle.agg_laws.specs.declared.aggregate_kind.AggKind.TheVariants as kinds
 use Rattle.agg_laws.specs.declared.states.AggState.{AggState}
 use Rattle.agg_laws.specs.Numbers.{most_stored, most_values, AreWhole, IsWhole}
-use Rattle.agg_laws.specs.States.{kind_of, state_of, IsStored}
+use Rattle.agg_laws.specs.States.{kind_of, state_of, Fits, IsStored}
 use Rattle.agg_laws.specs.Rows.{head_of, tail_of, row_of, kinds_of, merged_rows, row_weight, RowFits, RowStored}
 use Rattle.agg_laws.specs.laws.Rows as rows
 use Rattle.agg_laws.specs.laws.States as laws
 use Rattle.agg_laws.specs.laws.NumberBytes.{whole_64}
 use Rattle.agg_laws.specs.Docs.{Doc}
 use Rattle.agg_laws.specs.Region.{docs_in, IsRegion}
-use Rattle.agg_laws.proofs.Places.{length-kinds_of}
+use Rattle.agg_laws.proofs.Places.{length-row_of, length-kinds_of}
 use Rattle.agg_laws.proofs.RegionSteps.{changed, with_last, last_is, front, last_same, front_same}
 use Rattle.agg_laws.proofs.RegionSteps.{kinds_merged, merged_fits, last_ids, last_states}
 use Rattle.agg_laws.proofs.RegionSteps.{kinds_last, store_last}

@@ -19,11 +19,11 @@ ghost use Rattle.agg_laws.specs.Packing.{place, IsWord};
 ghost use Rattle.std.specs.Option.{IfSome};
 
 use crate::NoMemory;
-use crate::aggregate_kind::AggKind;
 use crate::id_list::STAR;
 use crate::kind_list::Kinds;
 use crate::packing::{Span, packed, places};
 use crate::star_row::StarRow;
+use crate::aggregate_kind::AggKind;
 use crate::state_row::{add_values, merge_states};
 use crate::states::AggState;
 use crate::tree_shape::TreeShape;
@@ -287,11 +287,12 @@ impl StarTable {
         requires spare { 1 ≤ self.old.spare }
         requires dims { length ids.now ≡ self.old.dims }
         requires values { length values.now ≡ length self.old.kinds }
-        ensures { self.new ≡ record self.old {
+        ensures appended { self.new ≡ record self.old {
           docs = self.old.docs
               ++ (ids.now, row_of self.old.kinds (values.now ∷ [])) ∷ [];
           spare = self.old.spare - 1;
         } }
+        ensures light { row_weight (row_of self.old.kinds (values.now ∷ [])) ≤ 1 }
     {
         are_whole(values);
         put_all(&mut self.ids, ids);

@@ -1,8 +1,9 @@
-use Rattle.std.proofs.Common.{◌≡◌, ◌<◌, ◌+◌, suc, ◌++◌, ◌∷◌, [], drop, get_or, length, sym, ap, ◌∙◌}
+use Rattle.std.proofs.Common.{◌≡◌, ◌<◌, ℕ, ◌+◌, suc, ◌++◌, List, ◌∷◌, [], drop, get_or, length, sym, ap, ◌∙◌}
 use Rattle.std.proofs.Common.{arith, rules, append_assoc, length-append, FitsSigned, w64, pos, refl}
 use Rattle.std.specs.Int.{cast_signed, cast_unsigned}
 use Rattle.std.proofs.lemmas.Int.{to_z-of_z}
 use Rattle.agg_laws.specs.declared.aggregate_kind.AggKind.TheVariants.{Count}
+use Rattle.agg_laws.specs.declared.states.AggState.{AggState}
 use Rattle.agg_laws.specs.States.{state_of}
 use Rattle.agg_laws.specs.Rows.{row_of}
 use Rattle.agg_laws.proofs.ValueSteps.{put_step}

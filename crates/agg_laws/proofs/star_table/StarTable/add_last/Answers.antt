@@ -1,8 +1,8 @@
-use Rattle.std.proofs.Common.{◌≡◌, ◌-◌, ◌<◌, ◌++◌, ◌∷◌, [], List, length, take, drop}
-use Rattle.std.proofs.Common.{sym, ap, subst, ◌∙◌, arith}
+use Rattle.std.proofs.Common.{◌≡◌, ◌+◌, ◌*◌, ◌-◌, ◌<◌, ◌≤◌, ◌++◌, ◌∷◌, [], List, length, take, drop}
+use Rattle.std.proofs.Common.{sym, ap, subst, ◌∙◌, arith, rules}
 use Rattle.agg_laws.specs.declared.states.AggState.{AggState}
-use Rattle.agg_laws.specs.Numbers.{most_values, AreWhole}
-use Rattle.agg_laws.specs.Rows.{kinds_of, merged_rows, row_of, RowFits}
+use Rattle.agg_laws.specs.Numbers.{most_stored, most_values, AreWhole}
+use Rattle.agg_laws.specs.Rows.{kinds_of, merged_rows, row_of, row_weight, RowFits}
 use Rattle.agg_laws.specs.Docs.{Doc}
 use Rattle.agg_laws.specs.Region.{docs_in}
 use Rattle.agg_laws.proofs.RegionLemmas.{length-docs_in}
@@ -18,12 +18,8 @@ add_to_last-requires-clause-fits c =
     let whole : AreWhole xs = c.are_whole.ensures in
     let long : length xs ≡ w = c.requires.values
     ∙ sym (ap (λ v. length v.kinds) c.self.view_is) in
-    let some : 0 < t.count = omega (
-      arith,
-      c.requires.some,
-      ap (λ v. length v.docs) c.self.view_is,
-      length-docs_in t.count t.dims w t.ids.items t.states.items,
-    ) in
+    let some : 0 < t.count = omega (arith, c.requires.some, ap (λ v. length v.docs) c.self.view_is,
+    length-docs_in t.count t.dims w t.ids.items t.states.items) in
     let light = λ (docs : List Doc) (e : Doc)
     (is : docs_in t.count t.dims w t.ids.items t.states.items ≡ docs ++ (e ∷ [])).
     c.requires.light docs e (sym (ap (λ v. v.docs) c.self.view_is) ∙ is) in
@@ -41,12 +37,8 @@ invariant_of-self c =
     let whole : AreWhole xs = c.are_whole.ensures in
     let long : length xs ≡ w = c.requires.values
     ∙ sym (ap (λ v. length v.kinds) c.self.view_is) in
-    let some : 0 < t.count = omega (
-      arith,
-      c.requires.some,
-      ap (λ v. length v.docs) c.self.view_is,
-      length-docs_in t.count t.dims w t.ids.items t.states.items,
-    ) in
+    let some : 0 < t.count = omega (arith, c.requires.some, ap (λ v. length v.docs) c.self.view_is,
+    length-docs_in t.count t.dims w t.ids.items t.states.items) in
     let light = λ (docs : List Doc) (e : Doc)
     (is : docs_in t.count t.dims w t.ids.items t.states.items ≡ docs ++ (e ∷ [])).
     c.requires.light docs e (sym (ap (λ v. v.docs) c.self.view_is) ∙ is) in
@@ -76,12 +68,8 @@ returns c front e is =
     let whole : AreWhole xs = c.are_whole.ensures in
     let long : length xs ≡ w = c.requires.values
     ∙ sym (ap (λ v. length v.kinds) c.self.view_is) in
-    let some : 0 < t.count = omega (
-      arith,
-      c.requires.some,
-      ap (λ v. length v.docs) c.self.view_is,
-      length-docs_in t.count t.dims w t.ids.items t.states.items,
-    ) in
+    let some : 0 < t.count = omega (arith, c.requires.some, ap (λ v. length v.docs) c.self.view_is,
+    length-docs_in t.count t.dims w t.ids.items t.states.items) in
     let light = λ (docs : List Doc) (e : Doc)
     (is : docs_in t.count t.dims w t.ids.items t.states.items ≡ docs ++ (e ∷ [])).
     c.requires.light docs e (sym (ap (λ v. v.docs) c.self.view_is) ∙ is) in

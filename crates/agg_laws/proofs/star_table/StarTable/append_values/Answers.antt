@@ -1,6 +1,7 @@
-use Rattle.std.proofs.Common.{◌≡◌, suc, ◌+◌, ◌-◌, ◌++◌, ◌∷◌, [], length, sym, ap, ◌∙◌, arith}
+use Rattle.std.proofs.Common.{◌≡◌, suc, ◌+◌, ◌-◌, ◌≤◌, ◌++◌, ◌∷◌, [], length, sym, ap, ◌∙◌, arith, rules}
 use Rattle.agg_laws.specs.Numbers.{AreWhole}
 use Rattle.agg_laws.specs.Rows.{row_of}
+use Rattle.agg_laws.specs.laws.Rows.{row_weight_least}
 use Rattle.agg_laws.specs.Region.{docs_in}
 use Rattle.agg_laws.proofs.Places.{length-row_of}
 use Rattle.agg_laws.proofs.RegionLemmas.{docs_in_more, more_region}
@@ -24,8 +25,8 @@ invariant_of-self c =
     (steps.kinds_row t.kinds (xs ∷ [])) (steps.stored_row t.kinds xs long whole)
     c.put_all.ensures.capacity c.put_values.ensures.capacity
 
-pub returns : goal.returns
-returns c =
+pub returns-clause-appended : goal.returns-clause-appended
+returns-clause-appended c =
     let t = c.self.inside in
     let xs = c.args.values.now in
     let w = length t.kinds in
@@ -46,3 +47,10 @@ returns c =
       docs = docs i;
       spare = (c.self.view_is i).spare - 1;
     }
+
+pub returns-clause-light : goal.returns-clause-light
+returns-clause-light c =
+    let ks = c.args.self.now.kinds in
+    let xs = c.args.values.now in
+    row_weight_least (row_of ks (xs ∷ [])) 1
+    (steps.fits_row ks xs c.requires.values c.are_whole.ensures)
