@@ -6,8 +6,9 @@ ghost use Rattle.std.specs.Prelude.{IfOk, vec_len, vec_capacity, map, All};
 ghost use Rattle.std.specs.List.Sorted.{IsSortedBy, IsPermutation};
 ghost use Rattle.std.specs.Ordering.{is_lt, is_gt};
 ghost use Rattle.std.specs.FinMap.{is_sorted};
-ghost use Rattle.agg_laws.specs.Numbers.{most_stored, most_values};
-ghost use Rattle.agg_laws.specs.Rows.{kinds_of, merged_rows, row_weight, RowFits, RowStored};
+ghost use Rattle.agg_laws.specs.Numbers.{most_stored, most_values, AreWhole};
+ghost use Rattle.agg_laws.specs.Rows.{kinds_of, merged_rows, row_of, row_weight, RowFits};
+ghost use Rattle.agg_laws.specs.Rows.{RowStored};
 ghost use Rattle.agg_laws.specs.Merged.{add, rekey, total, weights};
 ghost use Rattle.agg_laws.specs.Tree.{dim, dims_order, merged_docs, set_star};
 ghost use Rattle.agg_laws.specs.Docs.{Doc, doc_of, doc_at, HaveShape, AreStored};
@@ -22,7 +23,8 @@ use crate::id_list::STAR;
 use crate::kind_list::Kinds;
 use crate::packing::{Span, packed, places};
 use crate::star_row::StarRow;
-use crate::state_row::merge_states;
+use crate::aggregate_kind::AggKind;
+use crate::state_row::{add_values, merge_states};
 use crate::states::AggState;
 use crate::tree_shape::TreeShape;
 use std::alloc::{AllocError, Global};
@@ -86,6 +88,54 @@ fn put_again<T: Copy>(out: &mut Vec<T>, from: usize, count: usize)
             unreachable!();
         }
     }
+}
+
+/// Each item of a list of 64-bit numbers is one. It is known of an item that is read, so they are
+/// read; it costs nothing.
+#[inline(always)]
+fn are_whole(values: &[i64])
+    ensures { AreWhole values.now }
+{
+    for i in 0..values.len() {
+        let _ = values[i];
+    }
+}
+
+/// Adds the states of a row of values, for which there is room.
+fn put_values(out: &mut Vec<AggState>, kinds: &[AggKind], values: &[i64])
+    requires values { length values.now ≡ length kinds.now }
+    requires room { length out.old.items + length kinds.now ≤ vec_capacity out.old }
+    ensures items { out.new.items ≡ out.old.items ++ row_of kinds.now (values.now ∷ []) }
+    ensures capacity { vec_capacity out.old ≤ vec_capacity out.new }
+{
+    for i in 0..kinds.len() {
+        if let Err(_) = out.push(AggState::one(kinds[i], values[i])) {
+            unreachable!();
+        }
+    }
+}
+
+/// Adds a row of values to the last states, which are as many.
+fn add_to_last(states: &mut [AggState], values: &[i64])
+    requires there { length values.now ≤ length states.old }
+    requires fits { RowFits (merged_rows (drop (length states.old - length values.now) states.old)
+        (row_of (kinds_of (drop (length states.old - length values.now) states.old)) (values.now ∷
+        []))) most_values }
+    ensures { states.new ≡ take (length states.old - length values.now) states.old
+        ++ merged_rows (drop (length states.old - length values.now) states.old) (row_of (kinds_of
+        (drop (length states.old - length values.now) states.old)) (values.now ∷ [])) }
+{
+    let end = states.len() - values.len();
+    let (_, last) = states.split_at_mut(end);
+    add_values(last, values);
+}
+
+/// The items from one on.
+fn rest<T: Copy>(items: &[T], from: usize) -> &[T]
+    requires { from ≤ length items.now }
+    ensures { result.now ≡ drop from items.now }
+{
+    &items[from..]
 }
 
 /// Merges the states in a place into the last ones, which are as many.
@@ -231,6 +281,26 @@ impl StarTable {
         self.spare -= 1;
     }
 
+    /// Adds the document of one row: its ids, and a value for each pair. There is room for it, and it
+    /// takes no memory.
+    pub fn append_values(&mut self, ids: &[u32], values: &[i64])
+        requires spare { 1 ≤ self.old.spare }
+        requires dims { length ids.now ≡ self.old.dims }
+        requires values { length values.now ≡ length self.old.kinds }
+        ensures appended { self.new ≡ record self.old {
+          docs = self.old.docs
+              ++ (ids.now, row_of self.old.kinds (values.now ∷ [])) ∷ [];
+          spare = self.old.spare - 1;
+        } }
+        ensures light { row_weight (row_of self.old.kinds (values.now ∷ [])) ≤ 1 }
+    {
+        are_whole(values);
+        put_all(&mut self.ids, ids);
+        put_values(&mut self.states, self.kinds.as_slice(), values);
+        self.count += 1;
+        self.spare -= 1;
+    }
+
     /// Adds a document that is there already once more.
     fn repeat(&mut self, from: u32)
         requires from { from < length self.old.docs }
@@ -249,13 +319,15 @@ impl StarTable {
         self.spare -= 1;
     }
 
-    /// Sets a dimension of the last document to star.
+    /// Sets a dimension of the last document to star. Past the last dimension it sets none.
     fn star_last(&mut self, level: usize)
-        requires level { level < self.old.dims }
         requires some { 0 < length self.old.docs }
         ensures { (front : List Doc) (e : Doc) → self.old.docs ≡ front ++ e ∷ []
             → self.new ≡ record self.old { docs = front ++ (set_star level e.0, e.1) ∷ [] } }
     {
+        if level >= self.dims as usize {
+            return;
+        }
         let place = (self.count - 1) * self.dims as usize + level;
         self.ids[place] = STAR;
     }
@@ -273,6 +345,22 @@ impl StarTable {
     {
         let width = self.kinds.len();
         merge_into_last(self.states.as_mut_slice(), from as usize * width, width);
+    }
+
+    /// Adds a row of values to the last document. It takes no memory.
+    pub fn add_last(&mut self, values: &[i64])
+        requires some { 0 < length self.old.docs }
+        requires values { length values.now ≡ length self.old.kinds }
+        requires light { (front : List Doc) (e : Doc) → self.old.docs ≡ front ++ e ∷ []
+            → row_weight e.1 + 1 ≤ most_stored }
+        ensures { (front : List Doc) (e : Doc) → self.old.docs ≡ front ++ e ∷ []
+            → self.new ≡ record self.old {
+              docs = front
+                  ++ (e.0, merged_rows e.1 (row_of self.old.kinds (values.now ∷ []))) ∷ [];
+            } }
+    {
+        are_whole(values);
+        add_to_last(self.states.as_mut_slice(), values);
     }
 
     /// Adds the aggregated document of a range, whose documents have the same ids below the level.
@@ -428,7 +516,6 @@ impl StarTable {
     fn add_starred(&mut self, before: usize, from: u32, level: u8)
         requires from { from < before }
         requires before { before ≤ length self.old.docs }
-        requires level { level < self.old.dims }
         requires spare { 1 ≤ self.old.spare }
         requires light { weights row_weight (drop before self.old.docs) + row_weight (doc_at
             self.old.docs from).1 ≤ most_stored }
@@ -455,11 +542,11 @@ impl StarTable {
     }
 
     /// Adds the documents of a range with a dimension starred, merged and ascending, and answers
-    /// how many they are. There is room for as many as the range has.
+    /// how many they are. There is room for as many as the range has. Past the last dimension none
+    /// is starred.
     pub fn append_starred(&mut self, start: u32, end: u32, level: u8) -> Result<u32, NoMemory>
         requires order { start < end }
         requires within { end ≤ length self.old.docs }
-        requires level { level < self.old.dims }
         requires spare { end - start ≤ self.old.spare }
         requires light { weights row_weight (range start end self.old.docs) ≤ most_stored }
         ensures ok { OnOk result (self.new ≡ record self.old {
@@ -479,5 +566,43 @@ impl StarTable {
             self.add_starred(before, order[i], level);
         }
         Ok((self.count - before) as u32)
+    }
+
+    /// Adds the documents of a range, merged and ascending, and answers how many they are. There is
+    /// room for as many as the range has.
+    pub fn append_merged(&mut self, start: u32, end: u32) -> Result<u32, NoMemory>
+        requires order { start < end }
+        requires within { end ≤ length self.old.docs }
+        requires spare { end - start ≤ self.old.spare }
+        requires light { weights row_weight (range start end self.old.docs) ≤ most_stored }
+        ensures ok { OnOk result (self.new ≡ record self.old {
+          docs = self.old.docs ++ merged_docs merged_rows (range start end self.old.docs);
+          spare = self.old.spare - length (merged_docs merged_rows (range start end
+              self.old.docs));
+        }) }
+        ensures count { IfOk result (λ n. n
+            ≡ length (merged_docs merged_rows (range start end self.old.docs))) }
+        ensures err { OnErr result (self.new ≡ self.old) }
+    {
+        let level = self.dims;
+        self.append_starred(start, end, level)
+    }
+
+    /// The documents from a number on, as a table of their own.
+    pub fn tail(&self, from: u32) -> Result<StarTable, NoMemory>
+        requires { from ≤ length self.now.docs }
+        ensures { IfOk result (λ table. table
+            ≡ record self.now { docs = drop from self.now.docs; spare = 0 }) }
+    {
+        let alloc = *self.ids.allocator();
+        let from = from as usize;
+        Ok(StarTable {
+            dims: self.dims,
+            kinds: self.kinds.copy(alloc)?,
+            count: self.count - from,
+            spare: 0,
+            ids: Vec::from_slice(alloc, rest(&self.ids, from * self.dims as usize))?,
+            states: Vec::from_slice(alloc, rest(&self.states, from * self.kinds.len()))?,
+        })
     }
 }
