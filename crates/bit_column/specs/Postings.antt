@@ -1,5 +1,5 @@
 -- Postings: the places of each key in a column, as a section has them. The keys of an inverted index are ids, and those of a range index buckets of ids.
-use Rattle.std.specs.Prelude.{ℕ, zero, suc, ◌+◌, ◌/◌, ◌==◌, List, [], ◌∷◌, ◌++◌, length, map}
+use Rattle.std.specs.Prelude.{ℕ, zero, suc, ◌+◌, ◌/◌, ◌==◌, List, [], ◌++◌, length, map}
 use Rattle.std.specs.List.{filter, enumerate_from, range_with_len}
 use Rattle.bit_column.specs.Column.{spelled, id_at, ids_between}
 

@@ -1,8 +1,9 @@
-use Rattle.std.proofs.Common.{◌≡◌, ◌≤◌, ◌+◌, ◌-◌, length}
+use Rattle.std.proofs.Common.{◌≤◌, ◌<◌, ◌+◌, ◌-◌, length}
+use Rattle.outside.specs.Files.{Has}
 use Rattle.outside.specs.Reads.{LogsOn}
 use Rattle.outside.specs.Seen.{OnlyReads, seen}
-use Rattle.bit_column.proofs.Parts.{Front}
-use Rattle.bit_column.proofs.part.fill.Given as goal
+use Rattle.outside.proofs.ReadLemmas.{Front}
+use Rattle.outside.proofs.reading.fill.Given as goal
 
 abbrev pub invariant-pieces : goal.invariant-pieces
 invariant-pieces g l = record {
@@ -10,6 +11,7 @@ invariant-pieces g l = record {
   within : l.done ≤ length l.into;
   log : LogsOn l.name l.offset (l.offset + l.done) (g.S.Shelf.log l.fn.shelf) (g.S.Shelf.log l.shelf);
   front : Front (g.S.Shelf.held l.fn.shelf) l.name l.offset l.done l.into;
+  present : 0 < l.done → Has (g.S.Shelf.held l.fn.shelf) l.name;
 }
 
 abbrev pub decreases-pieces : goal.decreases-pieces
