@@ -1,0 +1,94 @@
+-- The front of a segment's file: the header, and the directory of the sections. Numbers have the most significant byte first.
+use Rattle.std.specs.Prelude.{ℕ, ◌+◌, ◌*◌, List, [], ◌∷◌, ◌++◌, take, drop, length, sum, codes, Option, Some, None}
+use Rattle.std.specs.Int.{w16, w64, to_be_bytes}
+use Rattle.std.specs.List.{find, flat_map}
+use Rattle.dictionary.specs.Spelling.{counted}
+use Rattle.table_schema.specs.declared.table.Table.{Table}
+use Rattle.segment_file.specs.declared.part.Part.{Part}
+use Rattle.segment_file.specs.Parts.{head_sections, is_same, kind_of, owner_of, sections_of}
+
+-- what the front of a file says: its format, how many rows there are, and how long each section is
+pub record Front : Type 0 where
+  pub format : ℕ
+  pub rows : ℕ
+  pub sizes : List ℕ
+
+-- where a section begins in its file, and how many bytes it has
+pub record Extent : Type 0 where
+  pub part : Part
+  pub offset : ℕ
+  pub size : ℕ
+
+-- two bytes
+unfoldable pub short : ℕ → List ℕ
+short n = to_be_bytes w16 n
+
+-- eight bytes
+unfoldable pub long : ℕ → List ℕ
+long n = to_be_bytes w64 n
+
+-- ---- where the sections are
+
+-- the header has 38 bytes and the name, and each section an entry of 19
+abbrev pub front_size : Table → List ℕ → ℕ
+front_size table name = 38 + length name + 19 * length (sections_of table)
+
+-- sections of these sizes, one after the other without gaps
+abbrev pub extents_from : ℕ → List Part → List ℕ → List Extent
+extents_from offset [] sizes = []
+extents_from offset (part ∷ parts) [] = []
+extents_from offset (part ∷ parts) (size ∷ sizes) = record { part = part; offset = offset; size = size } ∷ extents_from (offset + size) parts sizes
+
+-- where the sections of a file with this front are
+abbrev pub extents_of : Table → List ℕ → Front → List Extent
+extents_of table name front = extents_from (front_size table name) (sections_of table) front.sizes
+
+-- where the head ends: after the last of its sections
+abbrev pub head_end : Table → List ℕ → Front → ℕ
+head_end table name front = front_size table name + sum (take (length (head_sections table)) front.sizes)
+
+-- where the file ends
+abbrev pub file_end : Table → List ℕ → Front → ℕ
+file_end table name front = front_size table name + sum front.sizes
+
+-- where a section is, if there is such a one
+abbrev pub extent_of : List Extent → Part → Option Extent
+extent_of extents part = find (λ extent. is_same extent.part part) extents
+
+-- the bytes between two places of a file
+abbrev pub bytes_at : List ℕ → Option Extent → List ℕ
+bytes_at bytes None = []
+bytes_at bytes (Some extent) = take extent.size (drop extent.offset bytes)
+
+-- the bytes of a section of a file
+abbrev pub section_in : List Extent → List ℕ → Part → List ℕ
+section_in extents bytes part = bytes_at bytes (extent_of extents part)
+
+-- ---- how the front is spelled
+
+-- the kind and the owner of a section, where it begins and how long it is
+abbrev pub extent_bytes : Extent → List ℕ
+extent_bytes extent = (kind_of extent.part ∷ []) ++ (short (owner_of extent.part) ++ (long extent.offset ++ long extent.size))
+
+-- the entries of the sections
+abbrev pub directory : List Extent → List ℕ
+directory extents = flat_map extent_bytes extents
+
+-- what the file is, its format, rows and name, how many fields and sections there are, and where the head and the file end
+abbrev pub header_bytes : Front → List ℕ → ℕ → ℕ → ℕ → ℕ → List ℕ
+header_bytes front name fields sections head_end file_end =
+    codes "STARSEG1"
+    ++ (counted front.format
+    ++ (counted front.rows
+    ++ (short (length name)
+    ++ (name
+    ++ (short fields
+    ++ (short sections
+    ++ (long head_end
+    ++ long file_end)))))))
+
+-- the header and the directory
+abbrev pub front_bytes : Table → List ℕ → Front → List ℕ
+front_bytes table name front =
+    header_bytes front name (length table.schema.fields) (length (sections_of table)) (head_end table name front) (file_end table name front)
+    ++ directory (extents_of table name front)
