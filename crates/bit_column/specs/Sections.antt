@@ -8,7 +8,7 @@ use Rattle.bit_column.specs.Column.{bytes_for, ids_between}
 abbrev pub first_byte : ℕ → ℕ → ℕ
 first_byte width from = from * width / 8
 
--- the byte behind the last one that has a bit of the ids between two indexes; a range without ids has no bytes
+-- the byte after the last one that has a bit of the ids between two indexes; a range without ids has no bytes
 abbrev pub end_byte : ℕ → ℕ → ℕ → ℕ
 end_byte width from to = if nat_lt from to then bytes_for (to * width) else first_byte width from
 

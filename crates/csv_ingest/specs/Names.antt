@@ -18,7 +18,7 @@ is_among name names = list_any (bytes_eq name) names
 abbrev pub plain_field : List ℕ → Field
 plain_field name = record { name = name; kind = Long; role = Metric; default = Whole (pos 0) }
 
--- the column that a name behind these makes, where every field of the header is one
+-- the column that a name after these makes, where every field of the header is one
 abbrev pub plain_name : List (List ℕ) → List ℕ → Result Field CsvKind
 plain_name earlier name =
     if not (is_utf8 name) then Err NotUtf8
@@ -30,7 +30,7 @@ plain_name earlier name =
 abbrev pub names_of : List Field → List (List ℕ)
 names_of fields = map (λ f. f.name) fields
 
--- a name behind these, where a header may have more than the schema's fields
+-- a name after these, where a header may have more than the schema's fields
 abbrev pub known_name : List Field → List (List ℕ) → List ℕ → Result (List ℕ) CsvKind
 known_name fields earlier name =
     if not (is_utf8 name) then Err NotUtf8

@@ -44,12 +44,12 @@ abbrev pub all_or_first : {A E : Type 0} → List (Result A E) → Result (List 
 all_or_first [] = Ok []
 all_or_first (r ∷ rest) = joined r (all_or_first rest)
 
--- records behind the header count from 1, and the header is 0; cells of a record count from 1
+-- records after the header count from 1, and the header is 0; cells of a record count from 1
 abbrev pub placed : {A : Type 0} → ℕ → ℕ → Result A CsvKind → Result A CsvFault
 placed row column (Ok a) = Ok a
 placed row column (Err kind) = Err (At kind row column)
 
--- the name at a place of a header, from 1, read behind the names before it
+-- the name at a place of a header, from 1, read after the names before it
 abbrev pub name_at : {A : Type 0} → (List (List ℕ) → List ℕ → Result A CsvKind) → List (List ℕ) → ℕ × List ℕ → Result A CsvFault
 name_at reading header (column, name) = placed 0 column (reading (take (column - 1) header) name)
 

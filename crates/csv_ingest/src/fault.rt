@@ -27,7 +27,7 @@ pub enum CsvKind {
 #[derive(Clone, Copy, Debug, PartialEq, Eq)]
 pub enum CsvFault {
     /// What is wrong, in which record and in which column of the header. The header is record 0,
-    /// and the records behind it count from 1, as columns do. Column 0 is the record as a whole.
+    /// and the records after it count from 1, as columns do. Column 0 is the record as a whole.
     At(CsvKind, u32, u32),
     /// There are more rows than this, the most that a table of so many fields may have.
     TooManyRows(u32),

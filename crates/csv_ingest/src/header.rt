@@ -34,7 +34,7 @@ pub fn names_in<'a>(alloc: Global, row: &'a ByteRecord) -> Result<Vec<&'a [u8]>,
     Ok(fields)
 }
 
-// The name of a column behind these names.
+// The name of a column after these names.
 fn column_name<'a>(name: &'a [u8], earlier: &[&[u8]]) -> Result<&'a str, CsvKind>
     ensures ok { IfOk result (λ text. plain_name (map (λ f. f.now) earlier.now) name.now
         ≡ Ok (plain_field text.now)) }
@@ -93,7 +93,7 @@ fn is_field(name: &[u8], fields: &[Field]) -> bool
     false
 }
 
-// What is wrong with a name behind these, over a table of these fields.
+// What is wrong with a name after these, over a table of these fields.
 fn check_name(fields: &[Field], name: &[u8], earlier: &[&[u8]]) -> Result<(), CsvKind>
     ensures ok { IfOk result (λ _. known_name fields.now (map (λ f. f.now) earlier.now) name.now
         ≡ Ok name.now) }

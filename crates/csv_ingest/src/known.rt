@@ -70,8 +70,8 @@ fn known_records(
 /// The rows of a CSV text as RFC 4180 has it, one value for each field of the schema, kept column by
 /// column.
 ///
-/// The first record is the header. A field stands in the column that has its name; where no column
-/// has it, and where the cell is empty, its default stands in the row. A whole number is an
+/// The first record is the header. A field is in the column that has its name; where no column
+/// has it, and where the cell is empty, its default is in the row. A whole number is an
 /// optional `+` or `-` and one digit or more, within 32 or 64 bits, and a text has at most 512
 /// bytes. Columns that the schema lacks are passed over, save that their names have to be UTF-8. A
 /// line without any character is no record, and one byte order mark at the start is skipped. There

@@ -15,7 +15,7 @@ use table_schema::Field;
 pub struct Layout<'a> {
     pub fields: &'a [Field],
     pub names: &'a [&'a [u8]],
-    /// Where each field stands in the header, from 1.
+    /// Where each field is in the header, from 1.
     pub places: Vec<Option<usize>>,
     /// How many rows there are at most.
     pub most: u32,
@@ -56,7 +56,7 @@ fn place_in(names: &[&[u8]], name: &[u8]) -> Option<usize>
     None
 }
 
-// Where each field stands in a header.
+// Where each field is in a header.
 fn places_of(
     alloc: Global,
     fields: &[Field],

@@ -50,7 +50,7 @@ with_file name bytes told = option_map (λ files. map.insert files name bytes) t
 abbrev pub without_file : List ℕ → Option Files → Option Files
 without_file name told = option_map (λ files. map.remove files name) told
 
--- the told files are as they were but for what stands under this name
+-- the told files are as they were but for what is under this name
 abbrev pub SameBut : List ℕ → Option Files → Option Files → Type 0
 SameBut name before now =
     MatchOption before (now ≡ None) (λ old. IsSomeAnd now (λ new. (other : List ℕ) → other ≢ name → map.get new other ≡ map.get old other))

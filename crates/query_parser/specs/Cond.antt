@@ -118,6 +118,6 @@ row_joints = record { not_of = Not; all_of = All; any_of = Any }
 abbrev pub deepest : ℕ
 deepest = 64
 
--- what stands behind WHERE
+-- what follows WHERE
 unfoldable pub condition : Parser Cond
 condition = cond row_joints (factor predicate row_joints deepest)

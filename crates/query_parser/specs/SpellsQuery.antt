@@ -72,7 +72,7 @@ SpellsBy rule ts xs us = (mid : Stream) × Skips k.By ts mid × SpellsList k.Com
 abbrev pub SpellsCount : Rule LiteralAt
 SpellsCount ts l us = (t : Lexeme) × IsToken k.Number ts t us × (is_natural t.number ≡ true) × (l ≡ record { value = Whole t.number; offset = t.at })
 
--- OFFSET stands behind LIMIT alone
+-- OFFSET comes after LIMIT alone
 abbrev pub SpellsLimits : Stream → Option LiteralAt → Option LiteralAt → Stream → Type 0
 SpellsLimits ts None None us = us ≡ ts
 SpellsLimits ts None (Some o) us = ⊥

@@ -27,7 +27,7 @@ pub enum Reason {
     Unexpected,
 }
 
-/// The first fault of a text, with the byte where it stands; at the end that is the text's length.
+/// The first fault of a text, with the byte where it is; at the end that is the text's length.
 #[derive(Clone, Copy, Debug, PartialEq, Eq)]
 pub enum QueryFault {
     At(Reason, u32),
