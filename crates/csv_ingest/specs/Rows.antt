@@ -16,7 +16,7 @@ use Rattle.csv_ingest.specs.declared.fault.CsvKind.{CsvKind}
 use Rattle.csv_ingest.specs.declared.fault.CsvKind.TheVariants.{NoHeader, NotUtf8, WrongLength, NotANumber, OutOfRange, TooLong}
 use Rattle.csv_ingest.specs.declared.fault.CsvFault.{CsvFault}
 use Rattle.csv_ingest.specs.declared.fault.CsvFault.TheVariants.{At, TooManyRows, TooManyColumns}
-use Rattle.csv_ingest.specs.Names.{known_name, plain_name}
+use Rattle.csv_ingest.specs.Names.{schema_name, number_name}
 
 -- which numbers of columns are too many, and how many rows of so many fields are the most
 pub record Limits : Type 0 where
@@ -103,7 +103,7 @@ under (Ok header) rows = rows header
 -- the rows of a schema's fields that the records of a text spell, or the first fault: the header's, or else that of the first row that has one
 unfoldable pub rows_in : Limits → List Field → List (List (List ℕ)) → Result (List (List Value)) CsvFault
 rows_in limits fields [] = Err (At NoHeader 0 0)
-rows_in limits fields (header ∷ rows) = under (header_of (known_name fields) header) (λ _. rows_of limits fields header rows)
+rows_in limits fields (header ∷ rows) = under (header_of (schema_name fields) header) (λ _. rows_of limits fields header rows)
 
 abbrev pub with_schema : List Field → Result (List (List Value)) CsvFault → Result (Schema × List (List Value)) CsvFault
 with_schema fields (Err fault) = Err fault
@@ -123,4 +123,4 @@ unfoldable pub plain_in : Limits → List (List (List ℕ)) → Result (Schema �
 plain_in limits [] = Err (At NoHeader 0 0)
 plain_in limits (header ∷ rows) =
     if limits.many_columns (length header) then Err TooManyColumns
-    else under (header_of plain_name header) (λ fields. with_schema fields (rows_of limits fields header rows))
+    else under (header_of number_name header) (λ fields. with_schema fields (rows_of limits fields header rows))
