@@ -19,11 +19,11 @@ ghost use Rattle.agg_laws.specs.Packing.{place, IsWord};
 ghost use Rattle.std.specs.Option.{IfSome};
 
 use crate::NoMemory;
+use crate::aggregate_kind::AggKind;
 use crate::id_list::STAR;
 use crate::kind_list::Kinds;
 use crate::packing::{Span, packed, places};
 use crate::star_row::StarRow;
-use crate::aggregate_kind::AggKind;
 use crate::state_row::{add_values, merge_states};
 use crate::states::AggState;
 use crate::tree_shape::TreeShape;
@@ -223,6 +223,20 @@ impl StarTable {
         ensures { result ≡ (length self.now.docs == 0) }
     {
         self.count == 0
+    }
+
+    /// How many ids each document has.
+    pub fn dims(&self) -> u8
+        ensures { result ≡ self.now.dims }
+    {
+        self.dims
+    }
+
+    /// The kinds of each document's states, in order.
+    pub fn kinds(&self) -> &Kinds
+        ensures { result.now ≡ self.now.kinds }
+    {
+        &self.kinds
     }
 
     /// The id of a document in a split dimension.

@@ -18,8 +18,12 @@ add_to_last-requires-clause-fits c =
     let whole : AreWhole xs = c.are_whole.ensures in
     let long : length xs ≡ w = c.requires.values
     ∙ sym (ap (λ v. length v.kinds) c.self.view_is) in
-    let some : 0 < t.count = omega (arith, c.requires.some, ap (λ v. length v.docs) c.self.view_is,
-    length-docs_in t.count t.dims w t.ids.items t.states.items) in
+    let some : 0 < t.count = omega (
+      arith,
+      c.requires.some,
+      ap (λ v. length v.docs) c.self.view_is,
+      length-docs_in t.count t.dims w t.ids.items t.states.items,
+    ) in
     let light = λ (docs : List Doc) (e : Doc)
     (is : docs_in t.count t.dims w t.ids.items t.states.items ≡ docs ++ (e ∷ [])).
     c.requires.light docs e (sym (ap (λ v. v.docs) c.self.view_is) ∙ is) in
@@ -37,8 +41,12 @@ invariant_of-self c =
     let whole : AreWhole xs = c.are_whole.ensures in
     let long : length xs ≡ w = c.requires.values
     ∙ sym (ap (λ v. length v.kinds) c.self.view_is) in
-    let some : 0 < t.count = omega (arith, c.requires.some, ap (λ v. length v.docs) c.self.view_is,
-    length-docs_in t.count t.dims w t.ids.items t.states.items) in
+    let some : 0 < t.count = omega (
+      arith,
+      c.requires.some,
+      ap (λ v. length v.docs) c.self.view_is,
+      length-docs_in t.count t.dims w t.ids.items t.states.items,
+    ) in
     let light = λ (docs : List Doc) (e : Doc)
     (is : docs_in t.count t.dims w t.ids.items t.states.items ≡ docs ++ (e ∷ [])).
     c.requires.light docs e (sym (ap (λ v. v.docs) c.self.view_is) ∙ is) in
@@ -68,8 +76,12 @@ returns c front e is =
     let whole : AreWhole xs = c.are_whole.ensures in
     let long : length xs ≡ w = c.requires.values
     ∙ sym (ap (λ v. length v.kinds) c.self.view_is) in
-    let some : 0 < t.count = omega (arith, c.requires.some, ap (λ v. length v.docs) c.self.view_is,
-    length-docs_in t.count t.dims w t.ids.items t.states.items) in
+    let some : 0 < t.count = omega (
+      arith,
+      c.requires.some,
+      ap (λ v. length v.docs) c.self.view_is,
+      length-docs_in t.count t.dims w t.ids.items t.states.items,
+    ) in
     let light = λ (docs : List Doc) (e : Doc)
     (is : docs_in t.count t.dims w t.ids.items t.states.items ≡ docs ++ (e ∷ [])).
     c.requires.light docs e (sym (ap (λ v. v.docs) c.self.view_is) ∙ is) in

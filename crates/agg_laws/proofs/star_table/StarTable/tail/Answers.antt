@@ -8,22 +8,34 @@ use Rattle.agg_laws.proofs.star_table.StarTable.tail.Goals as goal
 pub overflow_sub-result : goal.overflow_sub-result
 overflow_sub-result c =
     let t = c.self.inside in
-    omega (arith, c.requires, ap (λ v. length v.docs) c.self.view_is,
-    length-docs_in t.count t.dims (length t.kinds) t.ids.items t.states.items)
+    omega (
+      arith,
+      c.requires,
+      ap (λ v. length v.docs) c.self.view_is,
+      length-docs_in t.count t.dims (length t.kinds) t.ids.items t.states.items,
+    )
 
 pub rest-requires : goal.rest-requires
 rest-requires c =
     let t = c.self.inside in
-    let le : c.args.from ≤ t.count = omega (arith, c.requires, ap (λ v. length v.docs) c.self.view_is,
-    length-docs_in t.count t.dims (length t.kinds) t.ids.items t.states.items) in
+    let le : c.args.from ≤ t.count = omega (
+      arith,
+      c.requires,
+      ap (λ v. length v.docs) c.self.view_is,
+      length-docs_in t.count t.dims (length t.kinds) t.ids.items t.states.items,
+    ) in
     steps.front_there c.args.from t.count t.dims (length c.deref.result.now) le
     (ap length c.deref.ensures.value ∙ c.self.invariant.ids_are)
 
 pub rest-requires-2 : goal.rest-requires-2
 rest-requires-2 c =
     let t = c.self.inside in
-    let le : c.args.from ≤ t.count = omega (arith, c.requires, ap (λ v. length v.docs) c.self.view_is,
-    length-docs_in t.count t.dims (length t.kinds) t.ids.items t.states.items) in
+    let le : c.args.from ≤ t.count = omega (
+      arith,
+      c.requires,
+      ap (λ v. length v.docs) c.self.view_is,
+      length-docs_in t.count t.dims (length t.kinds) t.ids.items t.states.items,
+    ) in
     steps.front_there c.args.from t.count c.len.result (length c.deref-2.result.now) le
     (ap length c.deref-2.ensures.value ∙ c.self.invariant.states_are
     ∙ ap (λ w. t.count * w) (sym c.len.ensures))
@@ -31,8 +43,12 @@ rest-requires-2 c =
 pub invariant_of-result : goal.invariant_of-result
 invariant_of-result c =
     let t = c.self.inside in
-    let le : c.args.from ≤ t.count = omega (arith, c.requires, ap (λ v. length v.docs) c.self.view_is,
-    length-docs_in t.count t.dims (length t.kinds) t.ids.items t.states.items) in
+    let le : c.args.from ≤ t.count = omega (
+      arith,
+      c.requires,
+      ap (λ v. length v.docs) c.self.view_is,
+      length-docs_in t.count t.dims (length t.kinds) t.ids.items t.states.items,
+    ) in
     steps.tail_region c.args.from t.count t.dims t.kinds t.ids.items t.states.items t.spare _ _ _ _
     c.in_ok-from_slice.field-0.items c.in_ok-from_slice-2.field-0.items c.in_ok-copy.field-0
     c.self.invariant le c.in_ok-copy.ensures
