@@ -3,13 +3,18 @@
 
 mod bounds;
 mod fault;
+mod front;
+mod numbers;
 mod part;
 mod section;
+mod sections;
 
 pub use bounds::Ends;
 pub use fault::HeadFault;
+pub use front::{Front, front_size};
 pub use part::Part;
 pub use section::Section;
+pub use sections::sections_of;
 
 /// A growth was refused.
 pub type NoMemory = std::alloc::AllocError;
