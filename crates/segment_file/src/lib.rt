@@ -2,6 +2,7 @@
 #![tactic(auto)]
 
 mod bounds;
+mod dictionaries;
 mod fault;
 mod front;
 mod numbers;
@@ -9,7 +10,8 @@ mod part;
 mod section;
 mod sections;
 
-pub use bounds::Ends;
+pub use bounds::{Ends, push_bounds};
+pub use dictionaries::check_dictionary;
 pub use fault::HeadFault;
 pub use front::{Front, front_size};
 pub use part::Part;
