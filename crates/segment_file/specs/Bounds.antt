@@ -1,5 +1,5 @@
 -- The bounds of columns, as a file has them: the least and the greatest value of each.
-use Rattle.std.specs.Prelude.{◌≡◌, ℕ, List, [], ◌∷◌, ◌++◌, length, slice_index_or}
+use Rattle.std.specs.Prelude.{◌≡◌, ◌≤◌, ℕ, List, [], ◌∷◌, ◌++◌, length, slice_index_or}
 use Rattle.std.specs.List.{AllZip, flat_map}
 use Rattle.values.specs.declared.kind.FieldKind.{FieldKind}
 use Rattle.values.specs.declared.value.Value.{Value}
@@ -9,6 +9,11 @@ use Rattle.dictionary.specs.Dictionary.{Distinct, Fits, IsUnicode}
 use Rattle.dictionary.specs.Spelling.{number_bytes}
 use Rattle.segment_file.specs.Front.{short}
 use Rattle.segment_file.specs.declared.bounds.Ends.{Ends}
+
+-- a number, or a text that is as short as one of a row
+abbrev pub IsShort : Value → Type 0
+IsShort (Whole number) = Unit {0}
+IsShort (Text text) = length text ≤ 512
 
 -- a number as eight bytes, a text after its length
 abbrev pub bound_bytes : Value → List ℕ

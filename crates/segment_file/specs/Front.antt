@@ -74,21 +74,19 @@ extent_bytes extent = (kind_of extent.part ∷ []) ++ (short (owner_of extent.pa
 abbrev pub directory : List Extent → List ℕ
 directory extents = flat_map extent_bytes extents
 
--- what the file is, its format, rows and name, how many fields and sections there are, and where the head and the file end
-abbrev pub header_bytes : Front → List ℕ → ℕ → ℕ → ℕ → ℕ → List ℕ
-header_bytes front name fields sections head_end file_end =
-    codes "STARSEG1"
-    ++ (counted front.format
-    ++ (counted front.rows
-    ++ (short (length name)
-    ++ (name
-    ++ (short fields
-    ++ (short sections
-    ++ (long head_end
-    ++ long file_end)))))))
+-- what the file is, its format, rows and name
+abbrev pub title_bytes : Front → List ℕ → List ℕ
+title_bytes front name = codes "STARSEG1" ++ (counted front.format ++ (counted front.rows ++ (short (length name) ++ name)))
+
+-- how many fields and sections there are, and where the head and the file end
+abbrev pub counts_bytes : ℕ → ℕ → ℕ → ℕ → List ℕ
+counts_bytes fields sections head file = short fields ++ (short sections ++ (long head ++ long file))
+
+-- the header
+abbrev pub header_bytes : Table → List ℕ → Front → List ℕ
+header_bytes table name front =
+    title_bytes front name ++ counts_bytes (length table.schema.fields) (length (sections_of table)) (head_end table name front) (file_end table name front)
 
 -- the header and the directory
 abbrev pub front_bytes : Table → List ℕ → Front → List ℕ
-front_bytes table name front =
-    header_bytes front name (length table.schema.fields) (length (sections_of table)) (head_end table name front) (file_end table name front)
-    ++ directory (extents_of table name front)
+front_bytes table name front = header_bytes table name front ++ directory (extents_of table name front)
