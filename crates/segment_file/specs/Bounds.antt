@@ -44,7 +44,7 @@ pub record MayBound (kind : FieldKind) (value : Value) : Type 0 where
   pub fit : Fits kind value
   pub unicode : IsUnicode value
 
--- the bytes begin with this value, and these are behind it
+-- the bytes begin with this value, and these are after it
 pub record IsBound (kind : FieldKind) (bytes : List ℕ) (value : Value) (rest : List ℕ) : Type 0 where
   pub may : MayBound kind value
   pub spelled : bytes ≡ bound_bytes value ++ rest
