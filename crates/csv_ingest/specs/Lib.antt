@@ -5,3 +5,4 @@ pub mod Names
 pub mod NumberBlocks
 pub mod Reading
 pub mod Rows
+pub mod FaultTexts

@@ -23,6 +23,27 @@ pub enum CsvKind {
     TooLong,
 }
 
+impl CsvKind {
+    ghost use Rattle.std.specs.Prelude.{◌≡◌};
+    ghost use Rattle.csv_ingest.specs.FaultTexts.{kind_text};
+
+    /// Its name in a note line.
+    pub fn text(self) -> &'static [u8]
+        ensures { result.now ≡ kind_text self }
+    {
+        match self {
+            CsvKind::NoHeader => b"NoHeader",
+            CsvKind::NotUtf8 => b"NotUtf8",
+            CsvKind::BadHeader => b"BadHeader",
+            CsvKind::DuplicateHeader => b"DuplicateHeader",
+            CsvKind::WrongLength => b"WrongLength",
+            CsvKind::NotANumber => b"NotANumber",
+            CsvKind::OutOfRange => b"OutOfRange",
+            CsvKind::TooLong => b"TooLong",
+        }
+    }
+}
+
 /// Why a CSV text has no rows.
 #[derive(Clone, Copy, Debug, PartialEq, Eq)]
 pub enum CsvFault {
