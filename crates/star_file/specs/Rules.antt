@@ -1,5 +1,5 @@
 -- The rules on the nodes of a tree, all together, and the nodes that bytes spell.
-use Rattle.std.specs.Prelude.{◌≡◌, ℕ, zero, suc, ◌+◌, ◌-◌, ◌*◌, ◌/◌, ◌<◌, ◌≤◌, ◌↔◌, List, [], ◌∷◌, length, take}
+use Rattle.std.specs.Prelude.{◌≡◌, ℕ, zero, suc, ◌+◌, ◌-◌, ◌*◌, ◌/◌, ◌^◌, ◌<◌, ◌≤◌, ◌↔◌, List, [], ◌∷◌, length, take}
 use Rattle.std.specs.Prelude.{drop}
 use Rattle.std.specs.Int.{w32, from_be_bytes}
 use Rattle.agg_laws.specs.declared.aggregate_kind.AggKind.{AggKind}
@@ -46,6 +46,12 @@ node_in bytes = record {
 abbrev pub nodes_in : ℕ → List ℕ → List Node
 nodes_in zero bytes = []
 nodes_in (suc n) bytes = node_in (take 28 bytes) ∷ nodes_in n (drop 28 bytes)
+
+-- each number of the nodes has four bytes
+abbrev pub AreWords : List Node → Type 0
+AreWords [] = Unit {0}
+AreWords (n ∷ ns) = (n.level < 2 ^ 32) × (n.id < 2 ^ 32) × (n.start < 2 ^ 32) × (n.end < 2 ^ 32)
+    × (n.total < 2 ^ 32) × (n.first < 2 ^ 32) × (n.children < 2 ^ 32) × AreWords ns
 
 -- how many nodes a section has, after the number of its documents
 abbrev pub count_in : List ℕ → ℕ

@@ -3,6 +3,7 @@
 
 mod checking;
 mod kids;
+mod laws;
 mod node_list;
 mod rules;
 mod tree;
@@ -11,6 +12,7 @@ mod writing;
 
 pub use agg_laws::Node;
 pub use checking::{NodesFault, check_nodes};
+pub use laws::nodes_law;
 pub use node_list::Nodes;
 pub use tree::StarTree;
 pub use writing::{write_docs, write_nodes};
