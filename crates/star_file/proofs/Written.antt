@@ -11,6 +11,10 @@ use Rattle.agg_laws.specs.Kind.{width_of}
 use Rattle.agg_laws.specs.States.{spelling, IsStored}
 use Rattle.agg_laws.specs.Rows.{RowStored}
 use Rattle.agg_laws.specs.Docs.{Doc}
+use Rattle.std.proofs.Common.{◌-◌, ◌*◌, ◌%◌, drop, length-drop}
+use Rattle.std.proofs.lemmas.List.{drop-drop}
+use Rattle.std.proofs.Math.Nat.{mod-add-div}
+use Rattle.star_file.specs.Rules.{node_in, nodes_in, count_in}
 use Rattle.star_file.specs.Bytes.{words, node_words, node_bytes, state_bytes, doc_bytes, IsExtended}
 
 pub widest : (k : AggKind) → width_of k ≤ 24
@@ -81,3 +85,27 @@ stored_there (w ∷ ws) zero v h is = subst IsStored (same w v is) h.0
     same : (w v : AggState) → Some w ≡ Some v → w ≡ v
     same w v e = cc
 stored_there (w ∷ ws) (suc i) v h is = stored_there ws i v h.1 is
+
+-- one more node is read
+pub nodes_step : (count i : ℕ) (bytes : List ℕ) (n : Node) (mid new all : List Node) → i < count
+    → n ≡ node_in (take (28 * i + 28 - 28 * i) (drop (28 * i) bytes))
+    → mid ++ nodes_in (count - i) (drop (28 * i) bytes) ≡ all → new ≡ mid ++ (n ∷ [])
+    → new ++ nodes_in (count - (i + 1)) (drop (28 * (i + 1)) bytes) ≡ all
+nodes_step count i bytes n mid new all lt is h more =
+    let w : 28 * i + 28 - 28 * i ≡ 28 = omega arith in
+    let m : count - i ≡ suc (count - (i + 1)) = omega (arith, lt) in
+    let d : 28 * i + 28 ≡ 28 * (i + 1) = omega arith in
+    let rest = nodes_in (count - (i + 1)) (drop (28 * (i + 1)) bytes) in
+    ap (λ l. l ++ rest) more ∙ append_assoc mid (n ∷ []) rest
+    ∙ (λ j. mid ++ ((is ∙ ap (λ k. node_in (take k (drop (28 * i) bytes))) w) j
+    ∷ nodes_in (count - (i + 1)) ((sym (drop-drop 28 (28 * i) bytes ∙ ap (λ k. drop k bytes) d)) j)))
+    ∙ ap (λ k. mid ++ nodes_in k (drop (28 * i) bytes)) (sym m) ∙ h
+
+pub section_long : (bytes : List ℕ) → 4 ≤ length bytes → (length bytes - 4) % 28 ≡ 0
+    → length bytes ≡ 4 + 28 * count_in bytes
+section_long bytes le even = let h = mod-add-div (length bytes - 4) 28
+    in omega (arith, h, even, le)
+
+pub after_number : (bytes : List ℕ) → take (length bytes - 4) (drop 4 bytes) ≡ drop 4 bytes
+after_number bytes = ap (λ n. take n (drop 4 bytes)) (sym (length-drop 4 bytes))
+    ∙ take-length (drop 4 bytes)

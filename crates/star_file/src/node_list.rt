@@ -32,6 +32,13 @@ impl Nodes {
         }
     }
 
+    /// The list of a vector's nodes. It takes no memory.
+    pub(crate) fn from_vec(nodes: Vec<Node>) -> Self
+        ensures { result ≡ nodes.items }
+    {
+        Nodes { nodes }
+    }
+
     pub fn len(&self) -> usize
         ensures { result ≡ length self.now }
     {
