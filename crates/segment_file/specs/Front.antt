@@ -1,11 +1,11 @@
 -- The front of a segment's file: the header, and the directory of the sections. Numbers have the most significant byte first.
-use Rattle.std.specs.Prelude.{ℕ, ◌+◌, ◌*◌, List, [], ◌∷◌, ◌++◌, take, drop, length, sum, codes, Option, Some, None}
+use Rattle.std.specs.Prelude.{ℕ, ◌+◌, ◌*◌, List, [], ◌∷◌, ◌++◌, take, length, sum, codes}
 use Rattle.std.specs.Int.{w16, w64, to_be_bytes}
-use Rattle.std.specs.List.{find, flat_map}
+use Rattle.std.specs.List.{flat_map}
 use Rattle.dictionary.specs.Spelling.{counted}
 use Rattle.table_schema.specs.declared.table.Table.{Table}
 use Rattle.segment_file.specs.declared.part.Part.{Part}
-use Rattle.segment_file.specs.Parts.{head_sections, is_same, kind_of, owner_of, sections_of}
+use Rattle.segment_file.specs.Parts.{head_sections, kind_of, owner_of, sections_of}
 
 -- what the front of a file says: its format, how many rows there are, and how long each section is
 pub record Front : Type 0 where
@@ -50,19 +50,6 @@ head_end table name front = front_size table name + sum (take (length (head_sect
 -- where the file ends
 abbrev pub file_end : Table → List ℕ → Front → ℕ
 file_end table name front = front_size table name + sum front.sizes
-
--- where a section is, if there is such a one
-abbrev pub extent_of : List Extent → Part → Option Extent
-extent_of extents part = find (λ extent. is_same extent.part part) extents
-
--- the bytes between two places of a file
-abbrev pub bytes_at : List ℕ → Option Extent → List ℕ
-bytes_at bytes None = []
-bytes_at bytes (Some extent) = take extent.size (drop extent.offset bytes)
-
--- the bytes of a section of a file
-abbrev pub section_in : List Extent → List ℕ → Part → List ℕ
-section_in extents bytes part = bytes_at bytes (extent_of extents part)
 
 -- ---- how the front is spelled
 

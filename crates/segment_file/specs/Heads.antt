@@ -1,5 +1,5 @@
 -- Heads: what is kept of a segment's file where its rows are not read.
-use Rattle.std.specs.Prelude.{◌≡◌, ◌≤◌, ◌⊎◌, ℕ, zero, suc, List, [], map, Option, Some, None, IfSome, option_map}
+use Rattle.std.specs.Prelude.{◌≡◌, ◌≤◌, ◌⊎◌, ℕ, zero, suc, List, [], map, Option, Some, None, IfSome, option_map, slice_get, slice_index_or}
 use Rattle.std.specs.List.{find}
 use Rattle.outside.specs.Files.{Files, bytes_of}
 use Rattle.outside.specs.Reads.{Entry, LogsThrough}
@@ -10,12 +10,11 @@ use Rattle.dictionary.specs.Dictionary.{Distinct}
 use Rattle.bit_column.specs.Sections.{section}
 use Rattle.segment_file.specs.declared.bounds.Ends.{Ends}
 use Rattle.segment_file.specs.declared.part.Part.{Part}
-use Rattle.segment_file.specs.declared.part.Part.TheVariants as parts
 use Rattle.segment_file.specs.declared.section.Section.{Section}
 use Rattle.segment_file.specs.Bounds.{AreBounds, bounds_of}
-use Rattle.segment_file.specs.Front.{Extent, Front, extents_of, front_size, head_end, section_in}
-use Rattle.segment_file.specs.Parts.{columns_of, is_same}
-use Rattle.segment_file.specs.Rules.{AreSpelled, HasFront, KeepsAll}
+use Rattle.segment_file.specs.Front.{Extent, Front, extents_of, front_size, head_end}
+use Rattle.segment_file.specs.Parts.{is_same}
+use Rattle.segment_file.specs.Rules.{HasFront, KeepsAll, heads_in}
 
 -- a head: how many rows there are, where the sections are, the bounds of the columns where there are rows, and the dictionaries that were loaded
 pub record Seen : Type 0 where
@@ -27,6 +26,10 @@ pub record Seen : Type 0 where
 -- a section as a part of its file
 abbrev pub placed : List ℕ → Extent → Section
 placed file extent = record { part = extent.part; place = record { file = file; offset = extent.offset; length = extent.size } }
+
+-- the dictionary of a column was loaded
+abbrev pub IsLoaded : Seen → ℕ → Type 0
+IsLoaded head column = (d : Distinct) × (slice_get head.dictionaries column ≡ Some (Some d))
 
 -- where a section is, if there is such a one
 abbrev pub place_in : List Section → Part → Option Place
@@ -48,22 +51,21 @@ pub record IsOpened (table : Table) (name file bytes : List ℕ) (head : Seen) :
   pub has : HasFront table name bytes front
   pub rows_are : head.rows ≡ front.rows
   pub sections_are : head.sections ≡ map (placed file) (extents_of table name front)
-  pub bounds_are : AreBounds (bounded front.rows table.schema.fields) (section_in (extents_of table name front) bytes parts.Bounds) head.bounds
+  pub bounds_are : AreBounds (bounded front.rows table.schema.fields) (slice_index_or (heads_in table name front bytes) 0 []) head.bounds
 
 -- the head is that of the bytes of the file, of which all rules hold, with all dictionaries
 pub record IsHead (table : Table) (name file bytes : List ℕ) (head : Seen) : Type 0 where
   pub front : Front
-  pub keeps : KeepsAll table name bytes front
+  pub dictionaries : List Distinct
+  pub keeps : KeepsAll table name bytes front dictionaries
   pub rows_are : head.rows ≡ front.rows
   pub sections_are : head.sections ≡ map (placed file) (extents_of table name front)
-  pub each : List Distinct
-  pub spelled : AreSpelled table front.rows (section_in (extents_of table name front) bytes) (columns_of table) each
-  pub dictionaries_are : head.dictionaries ≡ map Some each
-  pub bounds_are : head.bounds ≡ bounds_of each
+  pub dictionaries_are : head.dictionaries ≡ map Some dictionaries
+  pub bounds_are : head.bounds ≡ bounds_of dictionaries
 
 -- all rules of a head hold on the bytes
 abbrev pub KeepsRules : Table → List ℕ → List ℕ → Type 0
-KeepsRules table name bytes = (front : Front) × KeepsAll table name bytes front
+KeepsRules table name bytes = (front : Front) × (dictionaries : List Distinct) × KeepsAll table name bytes front dictionaries
 
 -- ---- what is read
 

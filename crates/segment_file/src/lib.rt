@@ -5,18 +5,22 @@ mod bounds;
 mod dictionaries;
 mod fault;
 mod front;
+mod head;
 mod numbers;
 mod part;
 mod section;
 mod sections;
+mod sizes;
 
 pub use bounds::{Ends, push_bounds};
 pub use dictionaries::check_dictionary;
 pub use fault::HeadFault;
 pub use front::{Front, front_size};
+pub use head::Head;
 pub use part::Part;
 pub use section::Section;
 pub use sections::sections_of;
+pub use sizes::size_for;
 
 /// A growth was refused.
 pub type NoMemory = std::alloc::AllocError;
