@@ -1,4 +1,8 @@
+use Rattle.std.proofs.Common.{List, ℕ, subst}
+use Rattle.csv_ingest.specs.Rows.{csv_limits, plain_in, records_of}
 use Rattle.outside.specs.Seen.{seen}
+use Rattle.pinot_run.specs.Gives.{Gives}
+use Rattle.pinot_run.specs.Step.{query_answer}
 use Rattle.pinot_run.proofs.CreateLemmas.{other_err}
 use Rattle.pinot_run.proofs.ScanLemmas.{ran_halted, ran_unread, ran_whole}
 use Rattle.pinot_run.proofs.scan.scan.Goals as goal
@@ -12,4 +16,5 @@ returns-in_err-text g c = λ depot.
 pub returns : goal.returns
 returns g c = λ depot.
     let e = c.in_ok-text.ensures in
-    ran_whole c.args.file.now c.args.sql.now (seen g.I.Shelf c.args.inputs.now) (seen g.I.Shelf c.read_input.new.inputs) depot e.reads c.in_ok-text.text c.reply_to_text.result (e.still (λ e. cc)) e.whole c.reply_to_text.ensures
+    ran_whole c.args.file.now c.args.sql.now (seen g.I.Shelf c.args.inputs.now) (seen g.I.Shelf c.read_input.new.inputs) depot e.reads c.in_ok-text.text c.reply_to_text.result (e.still (λ e. cc)) e.whole
+    (subst (λ (bytes : List ℕ). Gives (query_answer c.args.sql.now (plain_in csv_limits (records_of bytes))) c.reply_to_text.result) c.as_slice.ensures c.reply_to_text.ensures)
