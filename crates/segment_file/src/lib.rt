@@ -2,6 +2,7 @@
 #![tactic(auto)]
 
 mod bounds;
+mod check;
 mod dictionaries;
 mod fault;
 mod front;
@@ -13,6 +14,7 @@ mod sections;
 mod sizes;
 
 pub use bounds::{Ends, push_bounds};
+pub use check::check_head;
 pub use dictionaries::check_dictionary;
 pub use fault::HeadFault;
 pub use front::{Front, front_size};
