@@ -1,6 +1,6 @@
 -- The dictionaries of a head, and the sizes of its sections, one after the other.
-use Rattle.std.proofs.Common.{◌≡◌, ◌∙◌, ◌<◌, ◌≤◌, ◌+◌, ℕ, zero, suc, All, List, [], ◌∷◌, ◌++◌, length, get_or, take, drop, refl, sym, ap, subst, arith, length-take}
-use Rattle.std.proofs.lemmas.List.{drop_more, get_or-map, get_or-take, take-append-drop, take_more}
+use Rattle.std.proofs.Common.{◌≡◌, ◌∙◌, ◌<◌, ◌≤◌, ◌+◌, ℕ, zero, suc, All, List, [], ◌∷◌, ◌++◌, length, get_or, take, refl, sym, ap, subst, arith, length-take}
+use Rattle.std.proofs.lemmas.List.{get_or-map, get_or-take, take_more}
 use Rattle.std.proofs.lemmas.List.Elements.{All-push}
 use Rattle.std.proofs.lemmas.Option.{slice_get-get_or}
 use Rattle.std.specs.List.{AllZip, range_with_len}
@@ -13,7 +13,7 @@ use Rattle.segment_file.specs.Parts.{owner_of}
 use Rattle.segment_file.specs.Reading.{FitsSize, SizeFails, bytes_of_section, count_at, heads_of}
 use Rattle.segment_file.specs.Rules.{AreSpelled, IsSpelled, dictionary_in, size_for}
 
-heads_at : (bytes : List ℕ) (sections : List Section) (count i : ℕ) (s : Section) → i < count → i < length sections → s ≡ get_or sections i s → get_or (heads_of count sections bytes) i [] ≡ bytes_of_section bytes s
+pub heads_at : (bytes : List ℕ) (sections : List Section) (count i : ℕ) (s : Section) → i < count → i < length sections → s ≡ get_or sections i s → get_or (heads_of count sections bytes) i [] ≡ bytes_of_section bytes s
 heads_at bytes sections count i s below lt is =
     get_or-map (bytes_of_section bytes) (take count sections) i s [] (omega (arith, length-take count sections)) ∙ ap (bytes_of_section bytes) (get_or-take count sections i s below ∙ sym is)
 
@@ -59,15 +59,7 @@ fits_size rows ds s owner count size d owner_is lt is count_is size_is =
     size_is ∙ ap (λ n. size_for rows n s.part) counts
 
 pub size_stops : (rows : ℕ) (ds : List Distinct) (sections : List Section) (i : ℕ) (s : Section) → i < length sections → s ≡ get_or sections i s → All (FitsSize rows ds) (take i sections) → ¬ FitsSize rows ds s → SizeFails rows ds sections s.part
-size_stops rows ds sections i s lt is sized other = record {
-  before = take i sections;
-  failing = s;
-  after = drop (i + 1) sections;
-  order = sym (take-append-drop i sections) ∙ ap (λ rest. take i sections ++ rest) (drop_more sections i s lt ∙ ap (λ x. x ∷ drop (i + 1) sections) (sym is));
-  sized = sized;
-  other = other;
-  is_of = refl;
-}
+size_stops rows ds sections i s lt is sized other = record { at = i; within = lt; failing = s; is_at = is; sized = sized; other = other; is_of = refl }
 
 pub sized_more : (rows : ℕ) (ds : List Distinct) (sections : List Section) (i : ℕ) (s : Section) → i < length sections → s ≡ get_or sections i s → All (FitsSize rows ds) (take i sections) → FitsSize rows ds s → All (FitsSize rows ds) (take (i + 1) sections)
 sized_more rows ds sections i s lt is sized one =

@@ -1,5 +1,5 @@
 -- What the reading of a head finds (inside the crate alone).
-use Rattle.std.specs.Prelude.{◌≡◌, ◌<◌, ℕ, List, [], ◌∷◌, ◌++◌, take, drop, map, length, slice_index_or}
+use Rattle.std.specs.Prelude.{◌≡◌, ◌<◌, ℕ, List, [], ◌∷◌, take, drop, map, length, slice_index_or}
 use Rattle.std.specs.Int.{w64, from_be_bytes}
 use Rattle.std.specs.List.{All, range_with_len}
 use Rattle.table_schema.specs.declared.table.Table.{Table}
@@ -42,10 +42,10 @@ FitsSize rows dictionaries s = s.place.length ≡ size_for rows (count_at dictio
 
 -- the section of this part is the first that is not
 pub record SizeFails (rows : ℕ) (dictionaries : List Distinct) (sections : List Section) (part : Part) : Type 0 where
-  pub before : List Section
+  pub at : ℕ
+  pub within : at < length sections
   pub failing : Section
-  pub after : List Section
-  pub order : sections ≡ before ++ failing ∷ after
-  pub sized : All (FitsSize rows dictionaries) before
+  pub is_at : failing ≡ slice_index_or sections at failing
+  pub sized : All (FitsSize rows dictionaries) (take at sections)
   pub other : ¬ FitsSize rows dictionaries failing
   pub is_of : failing.part ≡ part

@@ -62,6 +62,7 @@ pub fn check_dictionaries(
     ensures ok { IfOk result (λ ds. AreSpelled table.now rows
         (heads_of (length table.now.schema.fields + 1) sections.now bytes.now)
         (columns_of table.now) ds.items) }
+    ensures read { ¬ IsErrOf result HeadFault.ReadFault }
     ensures bad { IfErr result (λ fault. (p : Part) → fault ≡ NotASegment p →
         (column : ℕ) × (p ≡ part.Dictionary column) × StopsAt table.now rows
         (heads_of (length table.now.schema.fields + 1) sections.now bytes.now) column) }
@@ -91,6 +92,7 @@ fn of_dictionary(fault: DictFault, column: u16) -> HeadFault
     ensures bad { fault ≡ DictFault.BadDictionary →
         result ≡ NotASegment (part.Dictionary column) }
     ensures memory { fault ≡ DictFault.NoMemory → result ≡ HeadFault.NoMemory }
+    ensures read { ¬ (result ≡ HeadFault.ReadFault) }
 {
     match fault {
         DictFault::BadDictionary => HeadFault::NotASegment(Part::Dictionary(column)),
