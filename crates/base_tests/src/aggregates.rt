@@ -1,15 +1,16 @@
 //! Aggregates worked by hand.
 
-ghost use Rattle.std.specs.Prelude.{◌≡◌, length};
+ghost use Rattle.std.specs.Prelude.{◌≡◌, ◌∷◌, [], IfOk, length};
+ghost use Rattle.agg_laws.specs.declared.aggregate_kind.AggKind.TheVariants as kind;
 ghost use Rattle.agg_laws.specs.Kind.{width_of};
 ghost use Rattle.agg_laws.specs.States.{kind_of, IsStored};
 
 use crate::expect::{Expectations, TestFault};
 use agg_laws::{
-    AggKind, AggState, Aggregator, Average, AverageState, BadState, Count, Greatest, Least, Sum,
-    compare_states,
+    AggKind, AggState, Aggregator, Average, AverageState, BadState, Count, Greatest, Kinds, Least,
+    StateRow, Sum, compare_states,
 };
-use std::alloc::Global;
+use std::alloc::{AllocError, Global};
 use std::cmp::Ordering;
 
 // Whether a state is written as the bytes, and read from them.
@@ -123,5 +124,29 @@ pub fn states_of_values(alloc: Global) -> Result<Expectations, TestFault> {
     Average::merge(&mut average, &AverageState { sum: -2, count: 2 });
     all.expect(average == AverageState { sum: 2, count: 3 }, "an average");
     expect_order(&mut all)?;
+    Ok(all)
+}
+
+pub fn sums_and_counts(alloc: Global) -> Result<Kinds, AllocError>
+    ensures { IfOk result (λ kinds. kinds ≡ kind.Sum ∷ kind.Count ∷ []) }
+{
+    let mut kinds = Kinds::new(alloc);
+    kinds.push(AggKind::Sum)?;
+    kinds.push(AggKind::Count)?;
+    Ok(kinds)
+}
+
+pub fn rows_of_states(alloc: Global) -> Result<Expectations, TestFault> {
+    let mut all = Expectations::new();
+    let kinds = sums_and_counts(alloc)?;
+    let mut row = StateRow::units(alloc, &kinds)?;
+    row.add(&[600, 0]);
+    let other = row.copy(alloc)?;
+    row.merge(&other);
+    let wanted = [AggState::Sum(1200), AggState::Count(2)];
+    all.expect(row.as_slice() == wanted.as_slice(), "a row and its copy");
+    if row.len() > 1 {
+        all.expect(*row.at(1) == AggState::Count(2), "a state of a row");
+    }
     Ok(all)
 }

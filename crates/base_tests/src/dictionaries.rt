@@ -7,7 +7,7 @@ ghost use Rattle.dictionary.specs.Dictionary.{Fits, most_values};
 
 use crate::expect::{Expectations, TestFault};
 use crate::values_in_order::text;
-use dictionary::{DictFault, Dictionary};
+use dictionary::{DictFault, Dictionary, IdSet};
 use std::alloc::{AllocError, Global};
 use values::{CompareOp, FieldKind, Seq, Test, Value, read_value};
 
@@ -205,10 +205,16 @@ pub fn refused(alloc: Global) -> Result<Expectations, TestFault> {
     Ok(all)
 }
 
-pub fn look_ups(alloc: Global) -> Result<Expectations, TestFault> {
-    let mut all = Expectations::new();
-    let cells = column(alloc, FieldKind::Text, &["US", "", "CA", "US", "MX"])?;
-    let countries = Dictionary::build(alloc, FieldKind::Text, &cells)?;
+fn dictionary_of(alloc: Global, cells: &[&str]) -> Result<Dictionary, AllocError> {
+    let column = column(alloc, FieldKind::Text, cells)?;
+    Dictionary::build(alloc, FieldKind::Text, &column)
+}
+
+fn expect_values(
+    alloc: Global,
+    countries: &Dictionary,
+    all: &mut Expectations,
+) -> Result<(), TestFault> {
     all.expect(countries.count() == 4, "distinct values");
     let found = countries.id_of(&text(alloc, "MX")?);
     all.expect(found == Some(2), "the id of a value");
@@ -218,10 +224,39 @@ pub fn look_ups(alloc: Global) -> Result<Expectations, TestFault> {
         let is_last = *countries.value_at(3) == text(alloc, "US")?;
         all.expect(is_last, "the value of an id");
     }
+    Ok(())
+}
+
+fn expect_matches(
+    alloc: Global,
+    countries: &Dictionary,
+    all: &mut Expectations,
+) -> Result<(), TestFault> {
     let test = Test::Compare(CompareOp::Unequal, text(alloc, "CA")?);
     let ids = countries.ids_matching(alloc, &test)?;
     all.expect(ids.as_slice() == [0, 2, 3].as_slice(), "ids that match");
     let is_found = ids.contains(2) && !ids.contains(1) && !ids.contains(4);
     all.expect(is_found, "ids in the set");
+    Ok(())
+}
+
+pub fn look_ups(alloc: Global) -> Result<Expectations, TestFault> {
+    let mut all = Expectations::new();
+    let countries = dictionary_of(alloc, &["US", "", "CA", "US", "MX"])?;
+    expect_values(alloc, &countries, &mut all)?;
+    expect_matches(alloc, &countries, &mut all)?;
+    Ok(all)
+}
+
+pub fn lists_of_ids(alloc: Global) -> Result<Expectations, TestFault> {
+    let mut all = Expectations::new();
+    let mut ids = IdSet::new(alloc);
+    all.expect(ids.is_empty() && !ids.contains(0), "no ids");
+    ids.push(0)?;
+    ids.push(7)?;
+    ids.push(u32::MAX)?;
+    all.expect(ids.len() == 3 && *ids.at(1) == 7, "three ids");
+    let is_found = ids.contains(u32::MAX) && !ids.contains(8);
+    all.expect(is_found, "the greatest id");
     Ok(all)
 }

@@ -38,6 +38,7 @@ fn devices_in_memory(rt: &HostRuntime) -> io::Result<()> {
     let alloc = rt.alloc();
     print(rt, "lists and names", shelves::lists_and_names(alloc))?;
     print(rt, "shelf in memory", shelves::shelf_in_memory(alloc))?;
+    print(rt, "bytes of a file", shelves::bytes_of_a_file(alloc))?;
     print(rt, "depot in memory", depots::depot_in_memory(alloc))?;
     print(rt, "sinks", sinks::sinks(alloc))
 }
@@ -49,6 +50,7 @@ fn devices_over_folders(rt: &HostRuntime) -> io::Result<()> {
 
 fn values_in_lists(rt: &HostRuntime) -> io::Result<()> {
     let alloc = rt.alloc();
+    print(rt, "whole numbers", values_in_order::numbers(alloc))?;
     print(rt, "texts of values", values_in_order::texts(alloc))?;
     print(
         rt,
@@ -69,6 +71,7 @@ fn columns(rt: &HostRuntime) -> io::Result<()> {
     print(rt, "dictionaries", dictionaries::spelled(alloc))?;
     print(rt, "refused dictionaries", dictionaries::refused(alloc))?;
     print(rt, "look-ups", dictionaries::look_ups(alloc))?;
+    print(rt, "lists of ids", dictionaries::lists_of_ids(alloc))?;
     print(rt, "spelled columns", forward_indexes::spelled(alloc))?;
     print(rt, "ranges", forward_indexes::ranges(alloc))
 }
@@ -77,6 +80,7 @@ fn aggregates_and_trees(rt: &HostRuntime) -> io::Result<()> {
     let alloc = rt.alloc();
     print(rt, "aggregates", aggregates::states_of_values(alloc))?;
     print(rt, "stored states", aggregates::stored_states(alloc))?;
+    print(rt, "rows of states", aggregates::rows_of_states(alloc))?;
     print(rt, "tables of documents", trees::tables_of_documents(alloc))?;
     print(rt, "laws of trees", trees::laws_of_trees(alloc))
 }

@@ -1,7 +1,9 @@
 //! Lists, names and the shelf in memory.
 
 use crate::expect::{Expectations, TestFault};
-use outside::{Bytes, MemoryShelf, Name, ReadAllFault, Seq, Shelf, ShelfFault, read_all};
+use outside::{
+    Bytes, MemoryShelf, Name, ReadAllFault, Seq, Shelf, ShelfFault, read_all, read_bytes,
+};
 use std::alloc::{AllocError, Global};
 use std::cmp::Ordering;
 
@@ -72,6 +74,9 @@ pub fn lists_and_names(alloc: Global) -> Result<Expectations, TestFault> {
         "a name",
     );
     all.expect(ab.as_slice() == b"ab".as_slice(), "its bytes");
+    if ab.len() > 1 {
+        all.expect(ab.at(1) == b'b', "a byte of a name");
+    }
     let list = bytes(alloc, b"xy")?;
     all.expect(list != bytes(alloc, b"x")?, "unequal lists");
     all.expect(list > bytes(alloc, b"x")?, "a greater list");
@@ -79,6 +84,9 @@ pub fn lists_and_names(alloc: Global) -> Result<Expectations, TestFault> {
         list.len() == 2 && list.as_slice() == b"xy".as_slice(),
         "a list",
     );
+    if list.len() > 1 {
+        all.expect(*list.at(1) == b'y', "an item of a list");
+    }
     Ok(all)
 }
 
@@ -103,5 +111,38 @@ pub fn shelf_in_memory(alloc: Global) -> Result<Expectations, TestFault> {
     all.expect(into == [b'4', b'5', 0, 0], "its bytes");
     let failed = matches!(shelf.names(alloc), Err(ShelfFault::Failed));
     all.expect(failed, "call 7 fails");
+    Ok(all)
+}
+
+// An offset, a count, and the bytes of a file of five that they give.
+const PARTS: &[(u64, u64, &[u8])] = &[
+    (0, 5, b"12345"),
+    (1, 3, b"234"),
+    (3, 9, b"45"),
+    (5, 1, b""),
+    (u64::MAX, 0, b""),
+];
+
+// Whether a file's bytes from an offset on are these.
+fn gives<S: Shelf>(alloc: Global, shelf: &mut S, offset: u64, count: u64, part: &[u8]) -> bool {
+    if count > u64::MAX - offset {
+        return false;
+    }
+    match read_bytes(alloc, shelf, "a", offset, count) {
+        Ok(bytes) => bytes.as_slice() == part,
+        Err(_) => false,
+    }
+}
+
+pub fn bytes_of_a_file(alloc: Global) -> Result<Expectations, TestFault> {
+    let mut all = Expectations::new();
+    let mut shelf = MemoryShelf::new(alloc, files(alloc, &[("a", "12345")])?, Seq::new(alloc))?;
+    for row in PARTS {
+        let (offset, count, part) = *row;
+        let is_read = gives(alloc, &mut shelf, offset, count, part);
+        all.expect(is_read, "bytes of a file");
+    }
+    let missing = read_bytes(alloc, &mut shelf, "b", 0, 1);
+    all.expect(missing.err() == Some(ShelfFault::Missing), "no file");
     Ok(all)
 }

@@ -7,10 +7,12 @@ use std::alloc::Global;
 use std::io;
 use std::io::{ErrorKind, Write};
 
-// A writer that takes one byte at a time, and none once it has three. Each other time it is interrupted.
+// A writer that takes one byte at a time, and none once it has three. Each other time it is interrupted. It counts
+// how often it is flushed.
 #[derive(Drop)]
 struct Narrow<'a> {
     taken: &'a mut Vec<u8>,
+    flushes: &'a mut u32,
     interrupts: bool,
 }
 
@@ -28,14 +30,17 @@ impl Write for Narrow<'_> {
     }
 
     fn flush(&mut self) -> io::Result<()> {
+        *self.flushes = self.flushes.saturating_add(1);
         Ok(())
     }
 }
 
 fn expect_stream(alloc: Global, all: &mut Expectations) -> Result<(), TestFault> {
     let mut taken = Vec::new(alloc);
+    let mut flushes = 0;
     let mut sink = StreamSink::new(Narrow {
         taken: &mut taken,
+        flushes: &mut flushes,
         interrupts: false,
     });
     all.expect(sink.put(b"ab") == Ok(()), "two bytes, one at a time");
@@ -43,6 +48,7 @@ fn expect_stream(alloc: Global, all: &mut Expectations) -> Result<(), TestFault>
     all.expect(sink.put(b"cd") == Err(SinkFault::Failed), "a full stream");
     drop(sink);
     all.expect(taken.as_slice() == b"abc".as_slice(), "what it took");
+    all.expect(flushes == 2, "each put that ends well is flushed");
     Ok(())
 }
 

@@ -4,11 +4,11 @@ ghost use Rattle.std.specs.Prelude.{◌≡◌, ◌-◌, ◌≤◌, ◌<◌, ◌�
 ghost use Rattle.agg_laws.specs.declared.aggregate_kind.AggKind.TheVariants as kind;
 ghost use Rattle.agg_laws.specs.Worked.{doc};
 
+use crate::aggregates::sums_and_counts;
 use crate::expect::{Expectations, TestFault};
 use agg_laws::{
-    AggKind, AggState, Ids, Kinds, STAR, StarRow, StarTable, StateRow, TreeShape, aggregated_law,
-    answer_law, children_law, covers_law, flat_law, node_rules_law, picks_law, reads_law,
-    worked_law,
+    AggState, Ids, STAR, StarRow, StarTable, StateRow, TreeShape, aggregated_law, answer_law,
+    children_law, covers_law, flat_law, node_rules_law, picks_law, reads_law, worked_law,
 };
 use std::alloc::Global;
 
@@ -47,14 +47,11 @@ fn views_of_the_usa(alloc: Global) -> Result<StarTable, TestFault>
       spare = 5;
     }) }
 {
-    let mut kinds = Kinds::new(alloc);
-    kinds.push(AggKind::Sum)?;
-    kinds.push(AggKind::Count)?;
     let shape = TreeShape {
         dims: 3,
         skipped: 0,
         leaf: 1,
-        kinds,
+        kinds: sums_and_counts(alloc)?,
     };
     let mut table = StarTable::new(alloc, &shape)?;
     table.reserve(8)?;

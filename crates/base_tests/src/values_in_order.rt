@@ -40,19 +40,49 @@ fn expect_names(alloc: Global, all: &mut Expectations) -> Result<(), TestFault> 
     all.expect(copy < name, "a proper prefix is less");
     let same = Name::from_string(alloc, String::from_str(alloc, "na")?)?;
     all.expect(same == copy, "names by their bytes");
+    if name.len() > 2 {
+        all.expect(name.at(2) == b'm', "a byte of a name");
+    }
+    Ok(())
+}
+
+fn reads_as_number(alloc: Global, kind: FieldKind, text: &str, number: i64) -> bool {
+    matches!(read_value(alloc, kind, text), Ok(Value::Whole(read)) if read == number)
+}
+
+pub fn numbers(alloc: Global) -> Result<Expectations, TestFault> {
+    let mut all = Expectations::new();
+    let wide = read_value(alloc, FieldKind::Int, "2147483648");
+    all.expect(matches!(wide, Err(ValueFault::OutOfRange)), "a wide INT");
+    let is_long = reads_as_number(alloc, FieldKind::Long, "2147483648", 2147483648);
+    all.expect(is_long, "a LONG");
+    let power = read_value(alloc, FieldKind::Long, "1e2");
+    all.expect(matches!(power, Err(ValueFault::NotANumber)), "a power");
+    let is_minus = reads_as_number(alloc, FieldKind::Int, "-009", -9);
+    all.expect(is_minus, "zeros before a number");
+    Ok(all)
+}
+
+fn expect_long_texts(alloc: Global, all: &mut Expectations) -> Result<(), TestFault> {
+    let long = read_value(alloc, FieldKind::Text, many(alloc, 513)?.as_str());
+    all.expect(matches!(long, Err(ValueFault::TooLong)), "a long text");
+    let longest = many(alloc, 512)?;
+    all.expect(reads_as_text(alloc, longest.as_str()), "a longest text");
+    Ok(())
+}
+
+fn expect_written(alloc: Global, all: &mut Expectations) -> Result<(), TestFault> {
+    let mut out = Vec::from_slice(alloc, b"x=")?;
+    push_text(alloc, &Value::Whole(-9), &mut out)?;
+    push_text(alloc, &text(alloc, ";é")?, &mut out)?;
+    all.expect(out.as_slice() == "x=-9;é".as_bytes(), "texts of values");
     Ok(())
 }
 
 pub fn texts(alloc: Global) -> Result<Expectations, TestFault> {
     let mut all = Expectations::new();
-    let long = read_value(alloc, FieldKind::Text, many(alloc, 513)?.as_str());
-    all.expect(matches!(long, Err(ValueFault::TooLong)), "a long text");
-    let longest = many(alloc, 512)?;
-    all.expect(reads_as_text(alloc, longest.as_str()), "a longest text");
-    let mut out = Vec::from_slice(alloc, b"x=")?;
-    push_text(alloc, &Value::Whole(-9), &mut out)?;
-    push_text(alloc, &text(alloc, ";é")?, &mut out)?;
-    all.expect(out.as_slice() == "x=-9;é".as_bytes(), "texts of values");
+    expect_long_texts(alloc, &mut all)?;
+    expect_written(alloc, &mut all)?;
     let boxed = Boxed::new(alloc, 7)?;
     all.expect(*boxed.get() == 7 && boxed.into_inner() == 7, "a box");
     expect_names(alloc, &mut all)?;
@@ -97,13 +127,25 @@ pub fn order_of_rows(alloc: Global) -> Result<Expectations, TestFault> {
     let long = row(alloc, ascending(alloc)?.as_slice())?;
     let short = row(alloc, &[Value::Whole(i64::MIN)])?;
     all.expect(copy_row(alloc, &long)? == long, "a copy is equal");
+    if long.len() > 2 {
+        all.expect(*long.at(2) == Value::Whole(10), "a value of a row");
+    }
     all.expect(short != long && short < long, "a proper prefix is less");
-    let mut sorted: BTreeMap<Row, u8> = BTreeMap::new(alloc);
-    let mut hashed: HashMap<Row, u8> = HashMap::new(alloc);
-    let (first, second) = (copy_row(alloc, &long)?, copy_row(alloc, &long)?);
-    let is_kept = sorted.insert(first, 1).is_ok() && hashed.insert(second, 1).is_ok();
-    all.expect(is_kept, "keys of maps");
-    all.expect(sorted.get(&long).copied() == Some(1), "found by order");
-    all.expect(hashed.get(&long).copied() == Some(1), "found by hash");
+    let is_found = is_found_by_order(alloc, &long)?;
+    all.expect(is_found, "a key that is found by order");
+    let is_found = is_found_by_hash(alloc, &long)?;
+    all.expect(is_found, "a key that is found by hash");
     Ok(all)
+}
+
+fn is_found_by_order(alloc: Global, key: &Row) -> Result<bool, AllocError> {
+    let mut map: BTreeMap<Row, u8> = BTreeMap::new(alloc);
+    let is_kept = map.insert(copy_row(alloc, key)?, 1).is_ok();
+    Ok(is_kept && map.get(key).copied() == Some(1))
+}
+
+fn is_found_by_hash(alloc: Global, key: &Row) -> Result<bool, AllocError> {
+    let mut map: HashMap<Row, u8> = HashMap::new(alloc);
+    let is_kept = map.insert(copy_row(alloc, key)?, 1).is_ok();
+    Ok(is_kept && map.get(key).copied() == Some(1))
 }
