@@ -62,7 +62,7 @@ zip_count R [] (y ∷ ys) all = absurd all
 zip_count R (x ∷ xs) [] all = absurd all
 zip_count R (x ∷ xs) (y ∷ ys) all = omega (arith, zip_count R xs ys all.1)
 
-zip_at : {B : Type 0} (R : ℕ → B → Type 0) (a n i : ℕ) (ys : List B) (d : B) → AllZip R (range_with_len a n) ys → i < n → R (a + i) (get_or ys i d)
+pub zip_at : {B : Type 0} (R : ℕ → B → Type 0) (a n i : ℕ) (ys : List B) (d : B) → AllZip R (range_with_len a n) ys → i < n → R (a + i) (get_or ys i d)
 zip_at R a zero i ys d all lt = absurd (omega arith)
 zip_at R a (suc n) i [] d all lt = absurd all
 zip_at R a (suc n) zero (y ∷ ys) d all lt = let e : a ≡ a + 0 = omega arith in subst (λ k. R k y) e all.0

@@ -3,3 +3,4 @@ pub mod Fronts
 pub mod BoundLemmas
 pub mod HeadLemmas
 pub mod Composed
+pub mod RuleLaws
