@@ -47,56 +47,75 @@ fn read(alloc: Global, texts: &TableTexts) -> Result<Table, TextFault> {
     Ok(Table { schema, settings })
 }
 
-// The bound query of a text, or what is wrong with it.
+// Why there is no bound query.
+#[derive(Drop)]
+enum Unbound {
+    Table(TextFault),
+    TooLong,
+    Query(QueryFault),
+    Bind(BindFault),
+}
+
+fn show_unbound(alloc: Global, unbound: &Unbound) -> Result<String, AllocError> {
+    match unbound {
+        Unbound::Table(fault) => show_fault(alloc, fault),
+        Unbound::TooLong => String::from_str(alloc, "too long"),
+        Unbound::Query(QueryFault::At(reason, place)) => format!(in alloc; "{reason:?}@{place}"),
+        Unbound::Bind(BindFault::At(reason, place)) => format!(in alloc; "{reason:?}@{place}"),
+        Unbound::Query(QueryFault::NoMemory) => Err(AllocError),
+        Unbound::Bind(BindFault::NoMemory) => Err(AllocError),
+    }
+}
+
+fn bind_text(
+    alloc: Global,
+    table: &Table,
+    text: &str,
+    any_table: bool,
+) -> Result<BoundQuery, Unbound> {
+    if text.len() > 65536 || table.schema.fields.len() > 64 {
+        return Err(Unbound::TooLong);
+    }
+    match parse(alloc, text) {
+        Ok(query) => bind(alloc, &query, table, any_table).map_err(Unbound::Bind),
+        Err(fault) => Err(Unbound::Query(fault)),
+    }
+}
+
 fn bound(
     alloc: Global,
     texts: &TableTexts,
     text: &str,
     any_table: bool,
-) -> Result<Result<BoundQuery, String>, AllocError> {
-    let table = match read(alloc, texts) {
-        Ok(table) => table,
-        Err(fault) => return Ok(Err(show_fault(alloc, &fault)?)),
-    };
-    if text.len() > 65536 || table.schema.fields.len() > 64 {
-        return Ok(Err(String::from_str(alloc, "too long")?));
-    }
-    let query = match parse(alloc, text) {
-        Ok(query) => query,
-        Err(QueryFault::At(reason, place)) => {
-            return Ok(Err(format!(in alloc; "{reason:?}@{place}")?));
-        }
-        Err(QueryFault::NoMemory) => return Err(AllocError),
-    };
-    match bind(alloc, &query, &table, any_table) {
-        Ok(bound) => Ok(Ok(bound)),
-        Err(BindFault::At(reason, place)) => Ok(Err(format!(in alloc; "{reason:?}@{place}")?)),
-        Err(BindFault::NoMemory) => Err(AllocError),
+) -> Result<BoundQuery, Unbound> {
+    match read(alloc, texts) {
+        Ok(table) => bind_text(alloc, &table, text, any_table),
+        Err(fault) => Err(Unbound::Table(fault)),
     }
 }
 
 /// What comes of a query whose FROM has to name the table.
 pub fn bound_query(alloc: Global, texts: &TableTexts, text: &str) -> Result<String, AllocError> {
-    match bound(alloc, texts, text, false)? {
+    match bound(alloc, texts, text, false) {
         Ok(query) => {
             let mut out = String::new(alloc);
             show_query(&mut out, &query)?;
             Ok(out)
         }
-        Err(fault) => Ok(fault),
+        Err(unbound) => show_unbound(alloc, &unbound),
     }
 }
 
 /// The conjuncts of a condition, in a query whose FROM names another table.
 pub fn conjuncts_of(alloc: Global, texts: &TableTexts, text: &str) -> Result<String, AllocError> {
     let query = format!(in alloc; "SELECT COUNT(*) FROM any WHERE {text}")?;
-    match bound(alloc, texts, query.as_str(), true)? {
+    match bound(alloc, texts, query.as_str(), true) {
         Ok(query) => {
             let mut out = String::new(alloc);
             show_conjuncts(&mut out, &query)?;
             Ok(out)
         }
-        Err(fault) => Ok(fault),
+        Err(unbound) => show_unbound(alloc, &unbound),
     }
 }
 
@@ -140,16 +159,13 @@ fn show_test(out: &mut String, test: &Test) -> Result<(), AllocError> {
             out.push_str("..")?;
             show_value(out, high)
         }
-        Test::All(inner) => {
-            out.push_str("all(")?;
-            for test in inner.as_slice() {
-                show_test(out, test)?;
-                out.push_str(" ")?;
-            }
-            out.push_str(")")
-        }
-        Test::Any(inner) => {
-            out.push_str("any(")?;
+        Test::All(inner) | Test::Any(inner) => {
+            let word = if let Test::All(_) = test {
+                "all("
+            } else {
+                "any("
+            };
+            out.push_str(word)?;
             for test in inner.as_slice() {
                 show_test(out, test)?;
                 out.push_str(" ")?;
@@ -165,16 +181,13 @@ fn show_wide(out: &mut String, wide: &Wide) -> Result<(), AllocError> {
             write!(out, "{field}:")?;
             show_test(out, test)
         }
-        Wide::All(inner) => {
-            out.push_str("all(")?;
-            for wide in inner.as_slice() {
-                show_wide(out, wide)?;
-                out.push_str(" ")?;
-            }
-            out.push_str(")")
-        }
-        Wide::Any(inner) => {
-            out.push_str("any(")?;
+        Wide::All(inner) | Wide::Any(inner) => {
+            let word = if let Wide::All(_) = wide {
+                "all("
+            } else {
+                "any("
+            };
+            out.push_str(word)?;
             for wide in inner.as_slice() {
                 show_wide(out, wide)?;
                 out.push_str(" ")?;
@@ -227,15 +240,23 @@ fn show_agg(out: &mut String, agg: Agg) -> Result<(), AllocError> {
     }
 }
 
-fn show_lists(out: &mut String, query: &BoundQuery) -> Result<(), AllocError> {
+fn show_groups(out: &mut String, query: &BoundQuery) -> Result<(), AllocError> {
     out.push_str(" by")?;
     for group in query.groups.as_slice() {
         write!(out, " {group}")?;
     }
+    Ok(())
+}
+
+fn show_aggs(out: &mut String, query: &BoundQuery) -> Result<(), AllocError> {
     out.push_str(" of")?;
     for agg in query.aggs.as_slice() {
         show_agg(out, *agg)?;
     }
+    Ok(())
+}
+
+fn show_order(out: &mut String, query: &BoundQuery) -> Result<(), AllocError> {
     out.push_str(" order")?;
     for key in query.order.as_slice() {
         out.push_str(" ")?;
@@ -247,7 +268,9 @@ fn show_lists(out: &mut String, query: &BoundQuery) -> Result<(), AllocError> {
 
 fn show_query(out: &mut String, query: &BoundQuery) -> Result<(), AllocError> {
     show_labels(out, query)?;
-    show_lists(out, query)?;
+    show_groups(out, query)?;
+    show_aggs(out, query)?;
+    show_order(out, query)?;
     out.push_str(" ")?;
     show_conjuncts(out, query)?;
     write!(out, " skip {} take {}", query.offset, query.limit)?;

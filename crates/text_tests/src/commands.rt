@@ -4,7 +4,7 @@
 //! many ones; `stored NAME TEXT` gives a published file of the store. The calls that fail are `DEVICE:NUMBER`, with
 //! blanks between them; in their place `then` keeps the devices of the command before, and `long` makes every input file
 //! too long. A word `pad COUNT TEXT` is the text with so many bytes, by blanks at its end. The word `open?` opens the
-//! table.
+//! table, and `file?` shows its file.
 
 use crate::cases::{Report, compared};
 use crate::devices::{Devices, Failing, Files, run_over_long_files};
@@ -145,8 +145,10 @@ fn found(
     calls: &str,
     words: &str,
 ) -> Result<String, AllocError> {
-    if words == "open?" {
-        return devices.open(alloc);
+    match words {
+        "open?" => return devices.open(alloc),
+        "file?" => return devices.table_file(alloc),
+        _ => {}
     }
     let words = words_of(alloc, words)?;
     if calls == "long" {
@@ -156,29 +158,56 @@ fn found(
     }
 }
 
-/// Runs the cases of a file, in their order.
-pub fn run_commands(alloc: Global, file: &str) -> Result<Report, AllocError> {
-    let mut report = Report::new(alloc);
-    let mut given = Given {
-        files: Vec::new(alloc),
-        stored: Vec::new(alloc),
-    };
-    let mut devices = given.devices(alloc, "")?;
-    for line in file.lines() {
+// The cases of a file so far, and the devices of the last one.
+#[derive(Drop)]
+struct Run {
+    given: Given,
+    devices: Devices,
+    report: Report,
+}
+
+impl Run {
+    fn new(alloc: Global) -> Result<Run, AllocError> {
+        let given = Given {
+            files: Vec::new(alloc),
+            stored: Vec::new(alloc),
+        };
+        Ok(Run {
+            devices: given.devices(alloc, "")?,
+            given,
+            report: Report::new(alloc),
+        })
+    }
+
+    // The next line: a comment, a file or a case.
+    fn line(&mut self, alloc: Global, line: &str) -> Result<(), AllocError> {
         if line.starts_with('#') {
-            continue;
+            return Ok(());
         }
-        if let Some(file) = file_line(alloc, line)? {
-            given.add(alloc, file)?;
-            continue;
+        match file_line(alloc, line)? {
+            Some(file) => self.given.add(alloc, file),
+            None => self.case(alloc, line),
         }
+    }
+
+    fn case(&mut self, alloc: Global, line: &str) -> Result<(), AllocError> {
         let (expected, rest) = line.split_once('|').unwrap_or((line, ""));
         let (calls, words) = rest.split_once('|').unwrap_or((rest, ""));
         if calls != "then" {
-            devices = given.devices(alloc, calls)?;
+            self.devices = self.given.devices(alloc, calls)?;
         }
-        let found = found(alloc, &mut devices, calls, words)?;
-        report.add(compared(alloc, found.as_str(), expected, line)?)?;
+        let found = found(alloc, &mut self.devices, calls, words)?;
+        self.report
+            .add(compared(alloc, found.as_str(), expected, line)?)
     }
+}
+
+/// Runs the cases of a file, in their order.
+pub fn run_commands(alloc: Global, file: &str) -> Result<Report, AllocError> {
+    let mut run = Run::new(alloc)?;
+    for line in file.lines() {
+        run.line(alloc, line)?;
+    }
+    let Run { report, .. } = run;
     Ok(report)
 }

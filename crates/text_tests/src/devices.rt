@@ -1,7 +1,7 @@
 //! The devices of a command, in memory.
 
 use crate::long_files::LongFiles;
-use outside::{Bytes, MemoryDepot, MemoryShelf, MemorySink, Name, Seq, Shelf};
+use outside::{Bytes, MemoryDepot, MemoryShelf, MemorySink, Name, Seq, Shelf, read_all};
 use pinot_run::run_command;
 use std::alloc::{AllocError, Global};
 use table_store::{StoreFault, open_table};
@@ -99,6 +99,14 @@ impl Devices {
     pub fn run(&mut self, alloc: Global, words: &Vec<String>) -> Result<String, AllocError> {
         let streams = &mut self.streams;
         run_over(alloc, words, &mut self.inputs, &mut self.depot, streams)
+    }
+
+    /// The bytes of the table's file.
+    pub fn table_file(&mut self, alloc: Global) -> Result<String, AllocError> {
+        match read_all(alloc, &mut self.depot, "table", 4096) {
+            Ok(file) => added(alloc, file.as_slice(), 0),
+            Err(fault) => format!(in alloc; "{fault:?}"),
+        }
     }
 
     /// Opens the table of the store: its name, or why there is none.

@@ -1,6 +1,7 @@
 //! Texts on one line: `\n`, `\r`, `\t`, `\\` and `\xHH` are bytes.
 
 use std::alloc::{AllocError, Global};
+use std::fmt::Write;
 
 // Where the reading of a text is: in a backslash's word, or outside of one.
 #[derive(Clone, Copy)]
@@ -54,13 +55,14 @@ pub fn unescaped(alloc: Global, text: &str) -> Result<Vec<u8>, AllocError> {
     Ok(bytes)
 }
 
-/// A text with its line ends spelled.
+/// A text with its line ends spelled, and each other byte below a blank as `\xHH`.
 pub fn on_one_line(alloc: Global, text: &str) -> Result<String, AllocError> {
     let mut line = String::new(alloc);
     for c in text.chars() {
         match c {
             '\n' => line.push_str("\\n")?,
             '\r' => line.push_str("\\r")?,
+            _ if c < ' ' => write!(line, "\\x{:02x}", c as u32)?,
             _ => line.push(c)?,
         }
     }

@@ -91,16 +91,13 @@ fn show_cond(out: &mut String, cond: &Cond) -> Result<(), AllocError> {
             out.push_str("not ")?;
             show_cond(out, inner.get())
         }
-        Cond::All(members) => {
-            out.push_str("all(")?;
-            for member in members.as_slice() {
-                show_cond(out, member)?;
-                out.push_str(";")?;
-            }
-            out.push_str(")")
-        }
-        Cond::Any(members) => {
-            out.push_str("any(")?;
+        Cond::All(members) | Cond::Any(members) => {
+            let word = if let Cond::All(_) = cond {
+                "all("
+            } else {
+                "any("
+            };
+            out.push_str(word)?;
             for member in members.as_slice() {
                 show_cond(out, member)?;
                 out.push_str(";")?;
