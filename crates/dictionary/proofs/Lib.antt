@@ -10,3 +10,4 @@ pub mod Numbers
 pub mod Progress
 pub mod Texts
 pub mod IdLemmas
+pub mod MaskLemmas

@@ -7,6 +7,7 @@ mod dictionary;
 mod fault;
 mod id_set;
 mod laws;
+mod mask;
 mod number_index;
 mod spelling;
 
