@@ -29,7 +29,7 @@ pub found : (values : List Value) (x : Value) (i : ℕ) → i < length values �
 found values x i within equal =
     slice_get-get_or values i x within ∙ ap Some (same_value (get_or values i x) x (value_eq-ties (get_or values i x) x ∙ ap is_eq (equal x)))
 
-sorted_from : (values : List Value) → Ascends values → IsSorted value_order values
+pub sorted_from : (values : List Value) → Ascends values → IsSorted value_order values
 sorted_from values up k d _ below =
     ap is_lt (value_order-total.antisymm (get_or values (k + 1) d) (get_or values k d) ∙ ap ordering_reverse (Less-from_sorted value_order values k (k + 1) d up (omega arith) below))
 

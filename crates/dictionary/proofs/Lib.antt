@@ -11,3 +11,5 @@ pub mod Progress
 pub mod Texts
 pub mod IdLemmas
 pub mod MaskLemmas
+pub mod MatchLemmas
+pub mod SetLemmas
