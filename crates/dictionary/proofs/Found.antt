@@ -1,19 +1,17 @@
--- What a search by halving finds among ascending values, and among ascending ids.
-use Rattle.std.proofs.Common.{◌≡◌, ◌∙◌, ◌<◌, ◌≤◌, ◌+◌, ℕ, Bool, false, List, [], ◌∷◌, ◌++◌, ◌-◌, length, get_or, Option, Some, None, Result, Ok, Err, refl, sym, ap, subst, arith, inl, inr, eq-eqb}
-use Rattle.std.proofs.lemmas.Bool.{cases_lt, ne_eqb}
+-- What a search by halving finds among ascending values; one more id of an ascending list.
+use Rattle.std.proofs.Common.{◌≡◌, ◌∙◌, ◌<◌, ◌+◌, ℕ, false, List, [], ◌∷◌, ◌++◌, ◌-◌, length, get_or, Option, Some, None, refl, sym, ap, subst, arith, inl, inr}
+use Rattle.std.proofs.lemmas.Bool.{cases_lt}
 use Rattle.std.proofs.lemmas.Cmp.{nat_cmp_total}
 use Rattle.std.proofs.lemmas.List.{length-append}
-use Rattle.std.proofs.lemmas.List.Elements.{All-from_get_or}
-use Rattle.std.proofs.lemmas.List.Folds.{list_any_at, list_any_none}
-use Rattle.std.proofs.lemmas.List.Sorted.{searchable_from_sorted, searched}
-use Rattle.std.proofs.lemmas.Map.Keys.{Less-from_sorted, non_decreasing_from_sorted}
+use Rattle.std.proofs.lemmas.List.Folds.{list_any_none}
+use Rattle.std.proofs.lemmas.List.Sorted.{searchable_from_sorted}
+use Rattle.std.proofs.lemmas.Map.Keys.{Less-from_sorted}
 use Rattle.std.proofs.lemmas.Option.{slice_get-get_or}
 use Rattle.std.specs.Cmp.{nat_cmp_is}
 use Rattle.std.specs.List.{HoldsAt, slice_get}
-use Rattle.std.specs.List.Sorted.{IsBinarySearchResult, IsNonDecreasingBy, IsPartitionPoint, IsSorted, IsStrictlySortedBy}
+use Rattle.std.specs.List.Sorted.{IsNonDecreasingBy, IsPartitionPoint, IsSorted, IsStrictlySortedBy}
 use Rattle.std.specs.Option.{IfSome}
 use Rattle.std.specs.Ordering.{is_eq, is_lt, nat_cmp, ordering_index, ordering_reverse}
-use Rattle.std.specs.Prelude.{is_ok, nat_eq, MatchResult}
 use Rattle.std.specs.declared.cmp.Ordering.{Ordering}
 use Rattle.std.specs.declared.cmp.Ordering.TheVariants as order
 use Rattle.values.proofs.Bounds.{same_value}
@@ -22,7 +20,7 @@ use Rattle.values.specs.Order.{value_order, value_eq}
 use Rattle.values.specs.Order.Laws.{value_order-total, value_eq-ties}
 use Rattle.values.specs.Tests.{is_member}
 use Rattle.dictionary.specs.Dictionary.{Ascends}
-use Rattle.dictionary.specs.Ids.{has_id, IsAboveLast, IsIdSet}
+use Rattle.dictionary.specs.Ids.{IsAboveLast, IsIdSet}
 use Rattle.dictionary.proofs.Ascending.{none_ascends, push_ascends}
 
 -- ---- values
@@ -31,7 +29,7 @@ pub found : (values : List Value) (x : Value) (i : ℕ) → i < length values �
 found values x i within equal =
     slice_get-get_or values i x within ∙ ap Some (same_value (get_or values i x) x (value_eq-ties (get_or values i x) x ∙ ap is_eq (equal x)))
 
-sorted_from : (values : List Value) → Ascends values → IsSorted value_order values
+pub sorted_from : (values : List Value) → Ascends values → IsSorted value_order values
 sorted_from values up k d _ below =
     ap is_lt (value_order-total.antisymm (get_or values (k + 1) d) (get_or values k d) ∙ ap ordering_reverse (Less-from_sorted value_order values k (k + 1) d up (omega arith) below))
 
@@ -50,30 +48,12 @@ not_found values x i up parts =
 
 -- ---- ids
 
-by_result : (ids : List ℕ) (id : ℕ) (r : Result ℕ ℕ)
-    → MatchResult r (λ i. (i < length ids) × (get_or ids i 0 ≡ id)) (λ i. (i ≤ length ids) × ((k : ℕ) → k < i → get_or ids k 0 < id) × ((k : ℕ) → i ≤ k → k < length ids → id < get_or ids k 0)) → is_ok r ≡ has_id ids id
-by_result ids id (Ok i) h = sym (list_any_at (nat_eq id) ids i 0 h.0 (eq-eqb id (get_or ids i 0) (sym h.1)))
-by_result ids id (Err i) h =
-    sym (list_any_none (nat_eq id) ids (All-from_get_or (λ x. nat_eq id x ≡ false) ids 0 (λ k within.
-    elim (cases_lt k i) [
-      | inl lt ↦ ne_eqb id (get_or ids k 0) (λ e. let l = h.1 k lt in omega arith)
-      | inr le ↦ ne_eqb id (get_or ids k 0) (λ e. let l = h.2 k le within in omega arith)
-    ])))
-
-pub id_found : (ids : List ℕ) (id : ℕ) (r : Result ℕ ℕ) → IsStrictlySortedBy nat_cmp ids → IsBinarySearchResult (λ y. nat_cmp y id) ids r → is_ok r ≡ has_id ids id
-id_found ids id r up position = by_result ids id r (searched ids id r position (λ i j le lt. non_decreasing_from_sorted ids up i j 0 le lt))
-
 less_above : (o : Option ℕ) (id : ℕ) → IfSome o (λ last. last < id) → IfSome o (λ last. nat_cmp last id ≡ order.Less)
 less_above None id h = tt
 less_above (Some last) id h = sym (nat_cmp_is last id order.Less h)
 
 pub id_pushed : (ids : List ℕ) (id : ℕ) → IsStrictlySortedBy nat_cmp ids → IsAboveLast ids id → IsStrictlySortedBy nat_cmp (ids ++ id ∷ [])
 id_pushed ids id up above = push_ascends nat_cmp_total ids id up (less_above (slice_get ids (length ids - 1)) id above)
-
--- the same of the list that is kept and the list that is told
-pub id_contained : (kept slice told : List ℕ) (id : ℕ) (r : Result ℕ ℕ) (b : Bool) → kept ≡ told → slice ≡ kept → IsStrictlySortedBy nat_cmp kept → IsBinarySearchResult (λ y. nat_cmp y id) slice r → b ≡ is_ok r → b ≡ has_id told id
-id_contained kept slice told id r b view same up position e =
-    e ∙ id_found kept id r up (subst (λ xs. IsBinarySearchResult (λ y. nat_cmp y id) xs r) same position) ∙ ap (λ xs. has_id xs id) view
 
 pub id_kept : (kept told new : List ℕ) (id : ℕ) → kept ≡ told → IsIdSet kept → length kept < 4294967295 → IsAboveLast told id → new ≡ kept ++ id ∷ [] → IsIdSet new
 id_kept kept told new id view stands room above is =

@@ -10,3 +10,6 @@ pub mod Numbers
 pub mod Progress
 pub mod Texts
 pub mod IdLemmas
+pub mod MaskLemmas
+pub mod MatchLemmas
+pub mod SetLemmas

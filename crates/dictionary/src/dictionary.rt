@@ -10,6 +10,7 @@ ghost use Rattle.dictionary.specs.Ids.{has_id, matching, satisfies};
 
 use crate::IdSet;
 use crate::coded::{Coded, code_column, ranked, ranks};
+use crate::matching::matching_ids;
 use indexmap::IndexSet;
 use std::alloc::Global;
 use std::marker::Model;
@@ -108,30 +109,16 @@ impl Dictionary {
         &self.values[id as usize]
     }
 
-    /// The ids of the values that satisfy the test. Each value is tested once.
+    /// The ids of the values that satisfy the test. A bound is looked up, and no value is tested.
     pub fn ids_matching(&self, alloc: Global, test: &Test) -> Result<IdSet, NoMemory>
         ensures ids { IfOk result (λ ids. ids ≡ matching test.now self.now.values) }
         ensures each { IfOk result (λ ids. (id : ℕ) →
             has_id ids id ≡ satisfies test.now (slice_get self.now.values id)) }
     {
-        satisfying(alloc, test, self.values.as_slice())
+        let ids = matching_ids(alloc, test, &self.values)?;
+        let _list = ids.as_slice();
+        Ok(ids)
     }
-}
-
-// The places of the values that satisfy the test.
-fn satisfying(alloc: Global, test: &Test, values: &[Value]) -> Result<IdSet, NoMemory>
-    requires { length values.now ≤ most_values }
-    ensures ids { IfOk result (λ ids. ids ≡ matching test.now values.now) }
-    ensures each { IfOk result (λ ids. (id : ℕ) →
-        has_id ids id ≡ satisfies test.now (slice_get values.now id)) }
-{
-    let mut ids = IdSet::new(alloc);
-    for (id, value) in values.iter().enumerate() {
-        if holds_value(test, value) {
-            ids.push(id as u32)?;
-        }
-    }
-    Ok(ids)
 }
 
 // The distinct values: those at first sight, put in order.

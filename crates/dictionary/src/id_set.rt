@@ -1,27 +1,29 @@
-//! Ascending lists of ids.
+//! Ascending lists of ids, with a mask of them.
 
 ghost use Rattle.std.specs.Prelude.{◌≡◌, ◌<◌, ◌==◌, [], ◌∷◌, ◌++◌, length, slice_get, Some, OnOk, OnErr};
 ghost use Rattle.dictionary.specs.Ids.{has_id, IsAboveLast, IsIdSet};
 
+use crate::mask::{has_bit, make_room, set_bit};
 use std::alloc::{AllocError, Global};
 use std::marker::Model;
 use values::NoMemory;
 
-/// An ascending list of ids, without repeats.
+/// An ascending list of ids, without repeats, and a mask that has a bit for each of them.
 #[derive(Debug, Drop)]
 pub struct IdSet {
     ids: Vec<u32>,
+    mask: Vec<u64>,
 }
 
 impl Model for IdSet {
     ghost use Rattle.std.specs.Prelude.{List, ℕ};
-    ghost use Rattle.dictionary.specs.Ids.{IsIdSet};
+    ghost use Rattle.dictionary.specs.Ids.{IsMaskedSet};
 
     ghost Value = { List ℕ };
 
     ghost view = { λ s. s.ids.items };
 
-    ghost invariant = { λ s. IsIdSet s.ids.items };
+    ghost invariant = { λ s. IsMaskedSet s.ids.items s.mask.items };
 }
 
 impl IdSet {
@@ -30,6 +32,7 @@ impl IdSet {
     {
         IdSet {
             ids: Vec::new(alloc),
+            mask: Vec::new(alloc),
         }
     }
 
@@ -59,11 +62,12 @@ impl IdSet {
         self.ids.as_slice()
     }
 
-    /// Found by halving.
+    /// Whether the id is there: one bit is looked at.
+    #[inline(always)]
     pub fn contains(&self, id: u32) -> bool
         ensures { result ≡ has_id self.now id }
     {
-        self.ids.binary_search(&id).is_ok()
+        has_bit(self.mask.as_slice(), id)
     }
 
     /// Adds an id that is greater than the last. A list of 4,294,967,295 ids grows no more.
@@ -75,7 +79,9 @@ impl IdSet {
         if self.ids.len() >= u32::MAX as usize {
             return Err(AllocError);
         }
+        make_room(&mut self.mask, id)?;
         self.ids.push(id)?;
+        set_bit(&mut self.mask, id);
         Ok(())
     }
 }

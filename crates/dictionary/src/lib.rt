@@ -6,7 +6,10 @@ mod coded;
 mod dictionary;
 mod fault;
 mod id_set;
+mod id_sets;
 mod laws;
+mod mask;
+mod matching;
 mod number_index;
 mod spelling;
 

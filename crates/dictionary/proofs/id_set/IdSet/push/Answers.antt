@@ -1,7 +1,10 @@
 use Rattle.std.proofs.Common.{arith}
 use Rattle.dictionary.proofs.Found.{id_kept}
+use Rattle.dictionary.proofs.MaskLemmas.{masked_more}
 use Rattle.dictionary.proofs.id_set.IdSet.push.Goals as goal
 
 pub invariant_of-self-2 : goal.invariant_of-self-2
 invariant_of-self-2 c =
-    id_kept c.self.inside.ids.items c.args.self.now c.push.new.self.items c.args.id c.self.view_is c.self.invariant (omega (arith, c.if-len.false)) c.requires c.in_ok-push.ensures.items
+    masked_more c.self.inside.ids.items c.push.new.self.items c.self.inside.mask.items c.make_room.new.mask.items c.set_bit.new.mask.items c.args.id c.self.invariant
+    (id_kept c.self.inside.ids.items c.args.self.now c.push.new.self.items c.args.id c.self.view_is c.self.invariant.stands (omega (arith, c.if-len.false)) c.requires c.in_ok-push.ensures.items)
+    c.in_ok-push.ensures.items c.in_ok-make_room.ensures.same c.set_bit.ensures

@@ -1,0 +1,20 @@
+use Rattle.std.proofs.Common.{◌≡◌, ◌≤◌, ◌∙◌, ℕ, List, ap, length, slice_get, subst, sym}
+use Rattle.values.specs.declared.value.Value.{Value}
+use Rattle.dictionary.specs.Dictionary.{Ascends, most_values}
+use Rattle.dictionary.specs.Ids.{has_id, matching, satisfies}
+use Rattle.dictionary.proofs.MatchLemmas.{ids_so}
+use Rattle.dictionary.proofs.dictionary.Dictionary.ids_matching.Goals as goal
+
+pub matching_ids-requires : goal.matching_ids-requires
+matching_ids-requires c = record {
+  few = subst (λ (vs : List Value). length vs ≤ most_values) (sym c.deref.ensures.value) c.self.invariant.few;
+  ascends = subst Ascends (sym c.deref.ensures.value) c.self.invariant.ascends;
+}
+
+pub returns : goal.returns
+returns c =
+    let told : c.deref.result.now ≡ c.args.self.now.values = c.deref.ensures.value ∙ ap (λ d. d.values) c.self.view_is in
+    record {
+      ids = subst (λ (vs : List Value). c.in_ok-ids.ids ≡ matching c.args.test.now vs) told (ids_so c.args.test.now c.deref.result.now c.in_ok-ids.ids c.as_slice-list.ensures.stands c.in_ok-ids.ensures);
+      each = subst (λ (vs : List Value). (id : ℕ) → has_id c.in_ok-ids.ids id ≡ satisfies c.args.test.now (slice_get vs id)) told c.in_ok-ids.ensures;
+    }

@@ -1,0 +1,9 @@
+use Rattle.std.proofs.Common.{drop}
+use Rattle.dictionary.proofs.MatchLemmas.{AllSoFar, AnySoFar}
+use Rattle.dictionary.proofs.matching.+matching_ids.Given as goal
+
+abbrev pub invariant-loop-test : goal.invariant-loop-test
+invariant-loop-test l = AllSoFar l.fn.test l.values (drop l.test-index l.test-items) l.ids
+
+abbrev pub invariant-loop-test-2 : goal.invariant-loop-test-2
+invariant-loop-test-2 l = AnySoFar l.fn.test l.values (drop l.test-index l.test-items) l.ids

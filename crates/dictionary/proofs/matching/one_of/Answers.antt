@@ -1,0 +1,11 @@
+use Rattle.std.proofs.Common.{length}
+use Rattle.values.specs.Tests.{is_member, negated_if}
+use Rattle.dictionary.specs.Ids.{AreThose, Picks, negated_ids}
+use Rattle.dictionary.proofs.MatchLemmas.{if_ok, negated_picks, set_picks}
+use Rattle.dictionary.proofs.matching.one_of.Goals as goal
+
+pub returns : goal.returns
+returns c =
+    if_ok c.negated_set.result (AreThose (negated_ids c.args.negated (length c.args.values.now) c.in_ok-ids.ids)) (Picks (λ value. negated_if c.args.negated (is_member c.args.members.now value)) c.args.values.now)
+    (λ new. negated_picks c.args.negated (is_member c.args.members.now) c.args.values.now c.in_ok-ids.ids new
+    (set_picks (is_member c.args.members.now) c.args.values.now c.in_ok-places_of.field-0.items c.in_ok-ids.ids c.in_ok-places_of.ensures c.in_ok-ids.ensures)) c.negated_set.ensures

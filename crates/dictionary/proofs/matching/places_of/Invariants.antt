@@ -1,0 +1,5 @@
+use Rattle.dictionary.proofs.MatchLemmas.{PlacesUpTo}
+use Rattle.dictionary.proofs.matching.places_of.Given as goal
+
+abbrev pub invariant-loop-member : goal.invariant-loop-member
+invariant-loop-member l = PlacesUpTo l.members l.values l.member-index l.places.items
