@@ -4,3 +4,4 @@ pub mod BoundLemmas
 pub mod HeadLemmas
 pub mod Composed
 pub mod RuleLaws
+mod Openings
