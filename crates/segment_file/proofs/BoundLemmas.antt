@@ -15,7 +15,7 @@ use Rattle.segment_file.specs.declared.bounds.Ends.{Ends}
 use Rattle.segment_file.specs.Bounds.{IsShort, bound_bytes, bounds_bytes, bounds_of, ends_of, pair_bytes}
 use borrow.Author.Tests.{leb-true}
 
-fits_short : (k : FieldKind) (v : Value) → fits k v ≡ true → IsShort v
+pub fits_short : (k : FieldKind) (v : Value) → fits k v ≡ true → IsShort v
 fits_short k (Whole z) e = tt
 fits_short kind.Int (Text t) e = absurd (false≢true e)
 fits_short kind.Long (Text t) e = absurd (false≢true e)

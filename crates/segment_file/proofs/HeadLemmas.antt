@@ -20,7 +20,7 @@ heads_at bytes sections count i s below lt is =
 kind_found : (table : Table) (column : ℕ) (f : Field) → column < length table.schema.fields → f ≡ get_or table.schema.fields column f → kind_at table column ≡ f.kind
 kind_found table column f lt is = ap kind_or (slice_get-get_or table.schema.fields column f lt) ∙ ap (λ g. g.kind) (sym is)
 
-zip_push : {A B : Type 0} (R : A → B → Type 0) (xs : List A) (ys : List B) (x : A) (y : B) → AllZip R xs ys → R x y → AllZip R (xs ++ x ∷ []) (ys ++ y ∷ [])
+pub zip_push : {A B : Type 0} (R : A → B → Type 0) (xs : List A) (ys : List B) (x : A) (y : B) → AllZip R xs ys → R x y → AllZip R (xs ++ x ∷ []) (ys ++ y ∷ [])
 zip_push R [] [] x y all one = (one, tt)
 zip_push R [] (b ∷ ys) x y all one = absurd all
 zip_push R (a ∷ xs) [] x y all one = absurd all

@@ -1,6 +1,8 @@
 pub mod Counts
 pub mod Fronts
 pub mod BoundLemmas
+mod BoundReads
 pub mod HeadLemmas
 pub mod Composed
 pub mod RuleLaws
+mod Openings

@@ -1,19 +1,27 @@
 -- What the reading of a head finds (inside the crate alone).
-use Rattle.std.specs.Prelude.{◌≡◌, ◌<◌, ℕ, List, [], ◌∷◌, take, drop, map, length, slice_index_or}
+use Rattle.std.specs.Prelude.{◌≡◌, ◌<◌, ℕ, List, [], ◌∷◌, take, drop, map, length, slice_index_or, Option, Some, IfSome}
 use Rattle.std.specs.Int.{w64, from_be_bytes}
 use Rattle.std.specs.List.{All, range_with_len}
+use Rattle.outside.specs.Files.{Files, bytes_of}
 use Rattle.table_schema.specs.declared.table.Table.{Table}
 use Rattle.dictionary.specs.Dictionary.{Distinct}
 use Rattle.segment_file.specs.declared.part.Part.{Part}
 use Rattle.segment_file.specs.declared.section.Section.{Section}
+use Rattle.segment_file.specs.Front.{Front, front_size}
 use Rattle.segment_file.specs.Image.{kind_at}
 use Rattle.segment_file.specs.Parts.{owner_of}
-use Rattle.segment_file.specs.Rules.{AreSpelled, IsSpelled, dictionary_in, size_for}
+use Rattle.segment_file.specs.Rules.{AreSpelled, IsFront, IsSpelled, dictionary_in, size_for}
 
 -- how long each of these sections is, as the last eight bytes of its entry say
 abbrev pub sizes_from : List Part → List ℕ → List ℕ
 sizes_from [] bytes = []
 sizes_from (part ∷ parts) bytes = from_be_bytes w64 (take 8 (drop 11 bytes)) ∷ sizes_from parts (drop 19 bytes)
+
+-- the bytes are the front of a file, and where files are told it is the front of this one
+pub record IsFrontOf (table : Table) (name file : List ℕ) (held : Option Files) (bytes : List ℕ) (front : Front) : Type 0 where
+  pub size : ℕ
+  pub front_is : IsFront table name bytes size front
+  pub told : IfSome held (λ files. (size ≡ length (bytes_of (Some files) file)) × (bytes ≡ take (front_size table name) (bytes_of (Some files) file)))
 
 -- ---- the sections of a head
 

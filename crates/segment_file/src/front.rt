@@ -5,7 +5,7 @@ ghost use Rattle.table_schema.specs.ValidTable.{IsValidTable, most_rows};
 ghost use Rattle.segment_file.specs.Front as spec;
 ghost use Rattle.segment_file.specs.Front.{directory, extent_bytes, extents_from, file_end, front_bytes, counts_bytes, title_bytes};
 ghost use Rattle.segment_file.specs.Names.{IsSegmentName};
-ghost use Rattle.segment_file.specs.Parts.{sections_of};
+ghost use Rattle.segment_file.specs.Parts.{head_sections, sections_of};
 ghost use Rattle.segment_file.specs.Rules.{IsFront};
 ghost use Rattle.segment_file.specs.Reading.{sizes_from};
 
@@ -68,6 +68,15 @@ impl Front {
         self.sizes.as_slice()
     }
 
+    /// How many bytes the sections of the head have together.
+    pub fn head_size(&self, table: &Table) -> u64
+        requires some { length table.now.schema.fields < length self.now.sizes }
+        requires short { sum self.now.sizes < 2 ^ 64 }
+        ensures { result ≡ sum (take (length (head_sections table.now)) self.now.sizes) }
+    {
+        total(&self.sizes[..=table.schema.fields.len()])
+    }
+
     /// The bytes of the front of a file with these sections.
     pub fn write(
         &self,
@@ -85,7 +94,7 @@ impl Front {
     {
         let fields = table.schema.fields.len();
         let start = front_size(name, sections);
-        let head_end = start as u64 + total(&self.sizes[..fields + 1]);
+        let head_end = start as u64 + self.head_size(table);
         let file_end = start as u64 + total(&self.sizes);
         let mut out = Vec::with_capacity(alloc, start)?;
         push_title(self, name, &mut out)?;

@@ -1,0 +1,61 @@
+-- The front of a file and the rest of its head, as they are read.
+use Rattle.std.proofs.Common.{◌≡◌, ◌∙◌, ◌≤◌, ◌<◌, ◌+◌, ℕ, List, ◌++◌, length, take, drop, sum, Option, Some, None, IfSome, inr, sym, ap, ap₂, subst, arith}
+use Rattle.std.proofs.Math.Seq.{take-add}
+use Rattle.std.proofs.lemmas.List.Sums.{sum_by-take-le}
+use Rattle.outside.specs.Files.{Files, bytes_at, bytes_of}
+use Rattle.outside.specs.Reads.{Entry, LogsThrough, LogsUpTo}
+use Rattle.outside.proofs.ReadLemmas.{LogsThrough-append}
+use Rattle.table_schema.specs.declared.table.Table.{Table}
+use Rattle.segment_file.specs.Front.{Front, front_size, head_end}
+use Rattle.segment_file.specs.Heads.{IsWithinHead, LogsHead}
+use Rattle.segment_file.specs.Parts.{head_sections}
+use Rattle.segment_file.specs.Reading.{IsFrontOf}
+use Rattle.segment_file.specs.Rules.{HasFront, IsFront}
+use Rattle.segment_file.proofs.Counts.{head_count, raw_count, some_sections}
+use Rattle.segment_file.proofs.Fronts.{front_bytes_size}
+
+-- a front has a size for each section of the head
+pub has_heads : (table : Table) (name bytes : List ℕ) (size : ℕ) (front : Front) → IsFront table name bytes size front → length table.schema.fields < length front.sizes
+has_heads table name bytes size front is = omega (arith, is.each, some_sections table, head_count table, raw_count table)
+
+pub front_length : (table : Table) (name bytes : List ℕ) (size : ℕ) (front : Front) → IsFront table name bytes size front → length bytes ≡ front_size table name
+front_length table name bytes size front is = ap length is.spelled ∙ front_bytes_size table name front is.each
+
+-- the head is within its file
+pub head_within : (table : Table) (name bytes : List ℕ) (size : ℕ) (front : Front) → IsFront table name bytes size front → head_end table name front ≤ size
+head_within table name bytes size front is = omega (arith, is.whole, sum_by-take-le (λ n. n) front.sizes (length (head_sections table)))
+
+-- a told file has the front that was read
+pub has_front : (table : Table) (name file bytes : List ℕ) (files : Files) (front : Front) → IsFrontOf table name file (Some files) bytes front → HasFront table name (bytes_of (Some files) file) front
+has_front table name file bytes files front is =
+    let whole : List ℕ = bytes_of (Some files) file in
+    subst (λ n. IsFront table name (take (front_size table name) whole) n front) is.told.0 (subst (λ b. IsFront table name b is.size front) is.told.1 is.front_is)
+
+-- the front, and then the rest of the head
+pub head_bytes : (table : Table) (name file bytes : List ℕ) (held : Option Files) (front : Front) (start rest : ℕ) (more all : List ℕ) → IsFrontOf table name file held bytes front
+    → start ≡ front_size table name → rest ≡ sum (take (length (head_sections table)) front.sizes) → IfSome held (λ files. more ≡ bytes_at files file start rest) → all ≡ bytes ++ more
+    → IfSome held (λ files. all ≡ take (head_end table name front) (bytes_of (Some files) file))
+head_bytes table name file bytes None front start rest more all is starts sizes read both = tt
+head_bytes table name file bytes (Some files) front start rest more all is starts sizes read both =
+    let whole : List ℕ = bytes_of (Some files) file in
+    both
+    ∙ ap₂ ◌++◌ is.told.1 (read ∙ (λ i. take (sizes i) (drop (starts i) whole)))
+    ∙ sym (take-add (front_size table name) (sum (take (length (head_sections table)) front.sizes)) whole)
+
+-- ---- the log
+
+pub rest_through : (file : List ℕ) (start rest from limit : ℕ) (old new : Option (List Entry)) → start ≡ from → start + rest ≡ limit → LogsThrough file start (start + rest) old new → LogsUpTo file from limit old new
+rest_through file start rest from limit old new starts ends on =
+    (start + rest, omega (arith, ends), subst (λ n. LogsThrough file n (start + rest) old new) starts on)
+
+pub rest_up : (file : List ℕ) (start rest from limit : ℕ) (old new : Option (List Entry)) → start ≡ from → start + rest ≡ limit → LogsUpTo file start (start + rest) old new → LogsUpTo file from limit old new
+rest_up file start rest from limit old new starts ends (to, le, on) = (to, omega (arith, le, ends), subst (λ n. LogsThrough file n to old new) starts on)
+
+within_head : (table : Table) (name file bytes : List ℕ) (held : Option Files) (front : Front) (to : ℕ) → IsFrontOf table name file held bytes front → to ≤ head_end table name front → IfSome held (λ files. IsWithinHead table name (bytes_of (Some files) file) to)
+within_head table name file bytes None front to is le = tt
+within_head table name file bytes (Some files) front to is le = inr (front, has_front table name file bytes files front is, le)
+
+pub logs_head : (table : Table) (name file bytes : List ℕ) (held : Option Files) (front : Front) (first between last : Option (List Entry)) → IsFrontOf table name file held bytes front
+    → LogsThrough file 0 (front_size table name) first between → LogsUpTo file (front_size table name) (head_end table name front) between last → LogsHead table name file held first last
+logs_head table name file bytes held front first between last is before (to, le, on) =
+    (to, LogsThrough-append file 0 (front_size table name) to first between last before on, within_head table name file bytes held front to is le)
