@@ -222,7 +222,7 @@ set_last n k level ids v l some lt =
         ap (λ m. set (x ∷ xs) m v) (let e : suc p + i ≡ suc (p + i) = omega arith in e)
         ∙ ap (λ t. x ∷ t) (far p i xs v (omega arith))
 
-shape_last : (k : ℕ) (ks : List AggKind) (docs : List Doc) (e : Doc)
+pub shape_last : (k : ℕ) (ks : List AggKind) (docs : List Doc) (e : Doc)
     → HaveShape k ks (docs ++ (e ∷ [])) → (length e.0 ≡ k) × (kinds_of e.1 ≡ ks)
 shape_last k ks [] e h = (h.0, h.1)
 shape_last k ks (d ∷ ds) e h = shape_last k ks ds e h.2
@@ -239,11 +239,11 @@ module _ (n k : ℕ) (ks : List AggKind) (ids : List ℕ) (states : List AggStat
   abbrev ys : List AggState
   ys = drop ((n - 1) * length ks) states
 
-  kinds_last : kinds_of ys ≡ ks
+  pub kinds_last : kinds_of ys ≡ ks
   kinds_last = (shape_last k ks (front n k ks ids states spare a b r some) (xs, ys)
       (subst (HaveShape k ks) (last_is n k ks ids states spare a b r some) r.shape)).1
 
-  store_last : RowStored ys
+  pub store_last : RowStored ys
   store_last = stored_last (front n k ks ids states spare a b r some) (xs, ys)
       (subst AreStored (last_is n k ks ids states spare a b r some) r.stored)
 

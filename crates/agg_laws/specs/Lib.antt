@@ -8,6 +8,7 @@ pub mod Tree
 pub mod Shares
 pub mod Docs
 pub mod Region
+pub mod Packing
 pub mod Documents
 pub mod Picks
 pub mod Reads

@@ -12,6 +12,7 @@ mod kind_list;
 mod laws;
 mod node;
 mod numbers;
+mod packing;
 mod star_row;
 mod star_table;
 mod state_row;

@@ -2,24 +2,29 @@
 
 ghost use Rattle.std.specs.Prelude.{◌≡◌, ◌+◌, ◌-◌, ◌<◌, ◌≤◌, ◌==◌, max, [], ◌∷◌, ◌++◌, length};
 ghost use Rattle.std.specs.Prelude.{take, drop, List, slice_get, Some, None, IsTrue, OnOk, OnErr};
-ghost use Rattle.std.specs.Prelude.{IfOk, vec_len, vec_capacity};
+ghost use Rattle.std.specs.Prelude.{IfOk, vec_len, vec_capacity, map, All};
 ghost use Rattle.std.specs.List.Sorted.{IsSortedBy, IsPermutation};
 ghost use Rattle.std.specs.Ordering.{is_lt, is_gt};
 ghost use Rattle.std.specs.FinMap.{is_sorted};
-ghost use Rattle.agg_laws.specs.Numbers.{most_stored, most_values};
-ghost use Rattle.agg_laws.specs.Rows.{kinds_of, merged_rows, row_weight, RowFits, RowStored};
+ghost use Rattle.agg_laws.specs.Numbers.{most_stored, most_values, AreWhole};
+ghost use Rattle.agg_laws.specs.Rows.{kinds_of, merged_rows, row_of, row_weight, RowFits};
+ghost use Rattle.agg_laws.specs.Rows.{RowStored};
 ghost use Rattle.agg_laws.specs.Merged.{add, rekey, total, weights};
 ghost use Rattle.agg_laws.specs.Tree.{dim, dims_order, merged_docs, set_star};
 ghost use Rattle.agg_laws.specs.Docs.{Doc, doc_of, doc_at, HaveShape, AreStored};
 ghost use Rattle.agg_laws.specs.Documents.{aggregated, AreAlike};
 ghost use Rattle.agg_laws.specs.Flat.{range};
 ghost use Rattle.agg_laws.specs.Region.{numbers};
+ghost use Rattle.agg_laws.specs.Packing.{place, IsWord};
+ghost use Rattle.std.specs.Option.{IfSome};
 
 use crate::NoMemory;
+use crate::aggregate_kind::AggKind;
 use crate::id_list::STAR;
 use crate::kind_list::Kinds;
+use crate::packing::{Span, packed, places};
 use crate::star_row::StarRow;
-use crate::state_row::merge_states;
+use crate::state_row::{add_values, merge_states};
 use crate::states::AggState;
 use crate::tree_shape::TreeShape;
 use std::alloc::{AllocError, Global};
@@ -85,6 +90,54 @@ fn put_again<T: Copy>(out: &mut Vec<T>, from: usize, count: usize)
     }
 }
 
+/// Each item of a list of 64-bit numbers is one. It is known of an item that is read, so they are
+/// read; it costs nothing.
+#[inline(always)]
+fn are_whole(values: &[i64])
+    ensures { AreWhole values.now }
+{
+    for i in 0..values.len() {
+        let _ = values[i];
+    }
+}
+
+/// Adds the states of a row of values, for which there is room.
+fn put_values(out: &mut Vec<AggState>, kinds: &[AggKind], values: &[i64])
+    requires values { length values.now ≡ length kinds.now }
+    requires room { length out.old.items + length kinds.now ≤ vec_capacity out.old }
+    ensures items { out.new.items ≡ out.old.items ++ row_of kinds.now (values.now ∷ []) }
+    ensures capacity { vec_capacity out.old ≤ vec_capacity out.new }
+{
+    for i in 0..kinds.len() {
+        if let Err(_) = out.push(AggState::one(kinds[i], values[i])) {
+            unreachable!();
+        }
+    }
+}
+
+/// Adds a row of values to the last states, which are as many.
+fn add_to_last(states: &mut [AggState], values: &[i64])
+    requires there { length values.now ≤ length states.old }
+    requires fits { RowFits (merged_rows (drop (length states.old - length values.now) states.old)
+        (row_of (kinds_of (drop (length states.old - length values.now) states.old)) (values.now ∷
+        []))) most_values }
+    ensures { states.new ≡ take (length states.old - length values.now) states.old
+        ++ merged_rows (drop (length states.old - length values.now) states.old) (row_of (kinds_of
+        (drop (length states.old - length values.now) states.old)) (values.now ∷ [])) }
+{
+    let end = states.len() - values.len();
+    let (_, last) = states.split_at_mut(end);
+    add_values(last, values);
+}
+
+/// The items from one on.
+fn rest<T: Copy>(items: &[T], from: usize) -> &[T]
+    requires { from ≤ length items.now }
+    ensures { result.now ≡ drop from items.now }
+{
+    &items[from..]
+}
+
 /// Merges the states in a place into the last ones, which are as many.
 fn merge_into_last(states: &mut [AggState], from: usize, count: usize)
     requires there { from + count + count ≤ length states.old }
@@ -102,7 +155,7 @@ fn merge_into_last(states: &mut [AggState], from: usize, count: usize)
 }
 
 /// The id of a dimension, where one dimension is starred.
-fn starred_id(ids: &[u32], at: usize, level: usize) -> u32
+pub(crate) fn starred_id(ids: &[u32], at: usize, level: usize) -> u32
     requires { at < length ids.now }
     ensures { result ≡ dim at (set_star level ids.now) }
 {
@@ -172,6 +225,20 @@ impl StarTable {
         self.count == 0
     }
 
+    /// How many ids each document has.
+    pub fn dims(&self) -> u8
+        ensures { result ≡ self.now.dims }
+    {
+        self.dims
+    }
+
+    /// The kinds of each document's states, in order.
+    pub fn kinds(&self) -> &Kinds
+        ensures { result.now ≡ self.now.kinds }
+    {
+        &self.kinds
+    }
+
     /// The id of a document in a split dimension.
     pub fn dim(&self, at: u32, level: u8) -> u32
         requires at { at < length self.now.docs }
@@ -228,6 +295,26 @@ impl StarTable {
         self.spare -= 1;
     }
 
+    /// Adds the document of one row: its ids, and a value for each pair. There is room for it, and it
+    /// takes no memory.
+    pub fn append_values(&mut self, ids: &[u32], values: &[i64])
+        requires spare { 1 ≤ self.old.spare }
+        requires dims { length ids.now ≡ self.old.dims }
+        requires values { length values.now ≡ length self.old.kinds }
+        ensures appended { self.new ≡ record self.old {
+          docs = self.old.docs
+              ++ (ids.now, row_of self.old.kinds (values.now ∷ [])) ∷ [];
+          spare = self.old.spare - 1;
+        } }
+        ensures light { row_weight (row_of self.old.kinds (values.now ∷ [])) ≤ 1 }
+    {
+        are_whole(values);
+        put_all(&mut self.ids, ids);
+        put_values(&mut self.states, self.kinds.as_slice(), values);
+        self.count += 1;
+        self.spare -= 1;
+    }
+
     /// Adds a document that is there already once more.
     fn repeat(&mut self, from: u32)
         requires from { from < length self.old.docs }
@@ -246,13 +333,15 @@ impl StarTable {
         self.spare -= 1;
     }
 
-    /// Sets a dimension of the last document to star.
+    /// Sets a dimension of the last document to star. Past the last dimension it sets none.
     fn star_last(&mut self, level: usize)
-        requires level { level < self.old.dims }
         requires some { 0 < length self.old.docs }
         ensures { (front : List Doc) (e : Doc) → self.old.docs ≡ front ++ e ∷ []
             → self.new ≡ record self.old { docs = front ++ (set_star level e.0, e.1) ∷ [] } }
     {
+        if level >= self.dims as usize {
+            return;
+        }
         let place = (self.count - 1) * self.dims as usize + level;
         self.ids[place] = STAR;
     }
@@ -270,6 +359,22 @@ impl StarTable {
     {
         let width = self.kinds.len();
         merge_into_last(self.states.as_mut_slice(), from as usize * width, width);
+    }
+
+    /// Adds a row of values to the last document. It takes no memory.
+    pub fn add_last(&mut self, values: &[i64])
+        requires some { 0 < length self.old.docs }
+        requires values { length values.now ≡ length self.old.kinds }
+        requires light { (front : List Doc) (e : Doc) → self.old.docs ≡ front ++ e ∷ []
+            → row_weight e.1 + 1 ≤ most_stored }
+        ensures { (front : List Doc) (e : Doc) → self.old.docs ≡ front ++ e ∷ []
+            → self.new ≡ record self.old {
+              docs = front
+                  ++ (e.0, merged_rows e.1 (row_of self.old.kinds (values.now ∷ []))) ∷ [];
+            } }
+    {
+        are_whole(values);
+        add_to_last(self.states.as_mut_slice(), values);
     }
 
     /// Adds the aggregated document of a range, whose documents have the same ids below the level.
@@ -318,9 +423,73 @@ impl StarTable {
         compare_starred(a, b, level as usize)
     }
 
-    /// The numbers of a range, in the ascending order of their documents once a dimension is
-    /// starred.
-    fn starred_order(&self, start: u32, end: u32, level: u8) -> Result<Vec<u32>, NoMemory>
+    /// What the ids of a dimension lie within, in a range where a dimension is starred.
+    fn span(&self, start: u32, end: u32, dim: u8, level: u8) -> Span
+        requires end { end ≤ length self.now.docs }
+        requires dim { dim < self.now.dims }
+    {
+        let mut least = u32::MAX;
+        let mut most = 0;
+        if dim == level {
+            return Span { least, above: 0 };
+        }
+        for at in start..end {
+            let id = self.dim(at, dim);
+            least = least.min(id);
+            most = most.max(id);
+        }
+        Span {
+            least,
+            above: most.wrapping_sub(least),
+        }
+    }
+
+    /// What the ids of each dimension lie within.
+    fn spans(&self, start: u32, end: u32, level: u8) -> Result<Vec<Span>, NoMemory>
+        requires { end ≤ length self.now.docs }
+    {
+        let mut spans = Vec::with_capacity(*self.ids.allocator(), self.dims as usize)?;
+        for dim in 0..self.dims {
+            spans.push(self.span(start, end, dim, level))?;
+        }
+        Ok(spans)
+    }
+
+    /// A word for each document of a range, where a dimension is starred: its combination above its
+    /// place in the range. None where they take more bits than a word has.
+    fn words(
+        &self,
+        start: u32,
+        end: u32,
+        level: u8,
+        spans: &[Span],
+    ) -> Result<Option<Vec<u64>>, NoMemory>
+        requires { start ≤ end }
+        ensures { IfOk result (λ found. IfSome found (λ words. (map (place start) words.items
+            ≡ numbers start end)
+            × All (IsWord spans.now level start self.now.docs) words.items)) }
+    {
+        if end - start > 1048576 {
+            return Ok(None);
+        }
+        let mut words = Vec::with_capacity(*self.ids.allocator(), (end - start) as usize)?;
+        for at in start..end {
+            match packed(self.ids_of(at as usize), spans, level as usize) {
+                None => return Ok(None),
+                Some(key) => {
+                    if key >= 17592186044416 {
+                        return Ok(None);
+                    }
+                    words.push(key * 1048576 + (at - start) as u64)?;
+                }
+            }
+        }
+        Ok(Some(words))
+    }
+
+    /// The numbers of a range in the ascending order of their documents once a dimension is starred,
+    /// by comparing them.
+    fn compared_order(&self, start: u32, end: u32, level: u8) -> Result<Vec<u32>, NoMemory>
         requires { start ≤ end }
         ensures { IfOk result (λ order. IsPermutation (numbers start end) order.items
             × IsSortedBy (λ a b. is_lt (dims_order (set_star level (doc_at self.now.docs a).0)
@@ -337,12 +506,30 @@ impl StarTable {
         Ok(order)
     }
 
+    /// The numbers of a range, in the ascending order of their documents once a dimension is
+    /// starred.
+    fn starred_order(&self, start: u32, end: u32, level: u8) -> Result<Vec<u32>, NoMemory>
+        requires order { start ≤ end }
+        requires within { end ≤ length self.now.docs }
+        ensures { IfOk result (λ order. IsPermutation (numbers start end) order.items
+            × IsSortedBy (λ a b. is_lt (dims_order (set_star level (doc_at self.now.docs a).0)
+            (set_star level (doc_at self.now.docs b).0))) order.items) }
+    {
+        let spans = self.spans(start, end, level)?;
+        match self.words(start, end, level, spans.as_slice())? {
+            None => self.compared_order(start, end, level),
+            Some(mut words) => {
+                words.sort()?;
+                places(*self.ids.allocator(), words.as_slice(), start)
+            }
+        }
+    }
+
     /// Adds a document with a dimension starred: its states to the last document, where that is not
     /// one of the first `before` and has the same ids; else at the end.
     fn add_starred(&mut self, before: usize, from: u32, level: u8)
         requires from { from < before }
         requires before { before ≤ length self.old.docs }
-        requires level { level < self.old.dims }
         requires spare { 1 ≤ self.old.spare }
         requires light { weights row_weight (drop before self.old.docs) + row_weight (doc_at
             self.old.docs from).1 ≤ most_stored }
@@ -369,11 +556,11 @@ impl StarTable {
     }
 
     /// Adds the documents of a range with a dimension starred, merged and ascending, and answers
-    /// how many they are. There is room for as many as the range has.
+    /// how many they are. There is room for as many as the range has. Past the last dimension none
+    /// is starred.
     pub fn append_starred(&mut self, start: u32, end: u32, level: u8) -> Result<u32, NoMemory>
         requires order { start < end }
         requires within { end ≤ length self.old.docs }
-        requires level { level < self.old.dims }
         requires spare { end - start ≤ self.old.spare }
         requires light { weights row_weight (range start end self.old.docs) ≤ most_stored }
         ensures ok { OnOk result (self.new ≡ record self.old {
@@ -393,5 +580,43 @@ impl StarTable {
             self.add_starred(before, order[i], level);
         }
         Ok((self.count - before) as u32)
+    }
+
+    /// Adds the documents of a range, merged and ascending, and answers how many they are. There is
+    /// room for as many as the range has.
+    pub fn append_merged(&mut self, start: u32, end: u32) -> Result<u32, NoMemory>
+        requires order { start < end }
+        requires within { end ≤ length self.old.docs }
+        requires spare { end - start ≤ self.old.spare }
+        requires light { weights row_weight (range start end self.old.docs) ≤ most_stored }
+        ensures ok { OnOk result (self.new ≡ record self.old {
+          docs = self.old.docs ++ merged_docs merged_rows (range start end self.old.docs);
+          spare = self.old.spare - length (merged_docs merged_rows (range start end
+              self.old.docs));
+        }) }
+        ensures count { IfOk result (λ n. n
+            ≡ length (merged_docs merged_rows (range start end self.old.docs))) }
+        ensures err { OnErr result (self.new ≡ self.old) }
+    {
+        let level = self.dims;
+        self.append_starred(start, end, level)
+    }
+
+    /// The documents from a number on, as a table of their own.
+    pub fn tail(&self, from: u32) -> Result<StarTable, NoMemory>
+        requires { from ≤ length self.now.docs }
+        ensures { IfOk result (λ table. table
+            ≡ record self.now { docs = drop from self.now.docs; spare = 0 }) }
+    {
+        let alloc = *self.ids.allocator();
+        let from = from as usize;
+        Ok(StarTable {
+            dims: self.dims,
+            kinds: self.kinds.copy(alloc)?,
+            count: self.count - from,
+            spare: 0,
+            ids: Vec::from_slice(alloc, rest(&self.ids, from * self.dims as usize))?,
+            states: Vec::from_slice(alloc, rest(&self.states, from * self.kinds.len()))?,
+        })
     }
 }

@@ -39,7 +39,7 @@ pub(crate) fn merge_states(into: &mut [AggState], from: &[AggState])
 }
 
 /// Adds a value to the state in its place.
-fn add_values(states: &mut [AggState], values: &[i64])
+pub(crate) fn add_values(states: &mut [AggState], values: &[i64])
     requires length { length values.now ≡ length states.old }
     requires fits { RowFits (merged_rows states.old (row_of (kinds_of states.old) (values.now ∷
         []))) most_values }

@@ -56,6 +56,22 @@ impl AggState {
         }
     }
 
+    /// The state of one value.
+    pub fn one(kind: AggKind, value: i64) -> AggState
+        ensures { result ≡ state_of kind (value ∷ []) }
+    {
+        match kind {
+            AggKind::Count => AggState::Count(1),
+            AggKind::Sum => AggState::Sum(value as i128),
+            AggKind::Least => AggState::Least(Some(value)),
+            AggKind::Greatest => AggState::Greatest(Some(value)),
+            AggKind::Average => AggState::Average(AverageState {
+                sum: value as i128,
+                count: 1,
+            }),
+        }
+    }
+
     /// One more value.
     pub fn add(&mut self, value: i64)
         requires { Fits (merged self.old (state_of (kind_of self.old) (value ∷ []))) most_values }

@@ -2,7 +2,7 @@
 //! and prints how many rows they are: what the benchmark of reading runs.
 #![tactic(auto)]
 
-use csv_ingest::{plain_blocks, read_columns};
+use csv_ingest::{number_blocks, read_columns};
 use outside::{FolderShelf, read_all};
 use std::process::ExitCode;
 use std::{env, io};
@@ -38,7 +38,7 @@ fn count_blocks(rt: &HostRuntime, rows: &str) -> io::Result<Option<usize>> {
     let Ok(text) = read_all(alloc, &mut files, rows, CSV_LIMIT) else {
         return Ok(None);
     };
-    let Ok(mut blocks) = plain_blocks(alloc, text.as_slice()) else {
+    let Ok(mut blocks) = number_blocks(alloc, text.as_slice()) else {
         return Ok(None);
     };
     let mut count: usize = 0;

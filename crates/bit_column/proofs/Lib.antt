@@ -1,6 +1,5 @@
 pub mod BitLemmas
 pub mod Fields
-pub mod Parts
 pub mod Pushed
 pub mod Ranges
 pub mod Spelling

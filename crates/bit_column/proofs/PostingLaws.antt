@@ -1,11 +1,11 @@
 -- Postings are as long as their offsets and their entries, and give the places of each key.
-use Rattle.std.proofs.Common.{◌≡◌, ℕ, zero, suc, ◌+◌, ◌-◌, ◌*◌, ◌/◌, ◌^◌, ◌<◌, ◌≤◌, ◌==◌, nat_lt, Bool, true, false, cond, List, [], ◌∷◌, ◌++◌, length, map, take, drop, get_or, refl, sym, ap, ◌∙◌, subst, arith, rules, tests, length-append, length-drop, append_assoc}
+use Rattle.std.proofs.Common.{◌≡◌, ℕ, zero, suc, ◌+◌, ◌-◌, ◌*◌, ◌^◌, ◌<◌, ◌≤◌, ◌==◌, nat_lt, Bool, true, false, cond, List, [], ◌∷◌, ◌++◌, length, map, take, drop, refl, sym, ap, ◌∙◌, arith, rules, tests, length-append, append_assoc}
 use Rattle.std.specs.List.{All, filter, enumerate_from, range_with_len}
 use Rattle.std.proofs.lemmas.Bool.{eqb-true, eqb-false, ltb-true, ltb-false}
 use Rattle.std.proofs.lemmas.List.{append-nil, get_or_append_left}
 use Rattle.std.proofs.lemmas.List.Elements.{All-nil, All-cons, All-head, All-tail, All-append}
 use Rattle.std.proofs.lemmas.List.FromFn.{length-map-range_with_len, get_or-map-range_with_len}
-use Rattle.bit_column.specs.Column.{bytes_for, spelled, id_at, ids_between}
+use Rattle.bit_column.specs.Column.{bytes_for, id_at, ids_between}
 use Rattle.bit_column.specs.Postings.{places_from, places_of, entries, offset, offsets, postings, entry_at, bucket_of, buckets_for}
 use Rattle.bit_column.proofs.Spelling.{length-spelled, id-written, ids-written}
 

@@ -1,11 +1,11 @@
 -- The section of a sorted column gives the places of each key; places ascend.
-use Rattle.std.proofs.Common.{◌≡◌, ℕ, zero, suc, ◌+◌, ◌-◌, ◌*◌, ◌^◌, ◌<◌, ◌≤◌, ◌==◌, nat_lt, Bool, true, false, cond, List, [], ◌∷◌, ◌++◌, length, map, get_or, refl, sym, ap, ◌∙◌, subst, arith, rules, tests, length-append, add-one}
+use Rattle.std.proofs.Common.{◌≡◌, ℕ, zero, suc, ◌+◌, ◌-◌, ◌*◌, ◌^◌, ◌<◌, ◌≤◌, ◌==◌, nat_lt, Bool, true, false, cond, List, [], ◌∷◌, ◌++◌, length, map, get_or, refl, sym, ap, ◌∙◌, subst, arith, rules, tests, length-append}
 use Rattle.std.specs.List.{All, filter, enumerate_from, range_with_len}
 use Rattle.std.specs.List.Sorted.{IsNonDecreasing, IsStrictlyIncreasing}
 use Rattle.std.proofs.lemmas.Bool.{eqb-true, eqb-false, ltb-true, ltb-false}
 use Rattle.std.proofs.lemmas.List.{get_or-append-add, get_or_append_left}
 use Rattle.std.proofs.lemmas.List.Elements.{All-nil, All-cons, All-head, All-tail, All-append}
-use Rattle.bit_column.specs.Column.{bytes_for, spelled, id_at}
+use Rattle.bit_column.specs.Column.{bytes_for, id_at}
 use Rattle.bit_column.specs.Postings.{places_from, places_of}
 use Rattle.bit_column.specs.SortedRuns.{first_place, runs, sorted_runs, run_at}
 use Rattle.bit_column.proofs.Spelling.{length-spelled, id-written}

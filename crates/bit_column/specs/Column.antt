@@ -15,7 +15,7 @@ width_of count = max 1 (32 - leading_zeros w32 (count - 1))
 abbrev pub bytes_for : ℕ → ℕ
 bytes_for count = (count + 7) / 8
 
--- ids as a section has them: their bits, with zero bits behind them, cut into bytes
+-- ids as a section has them: their bits, with zero bits after them, cut into bytes
 unfoldable pub spelled : ℕ → List ℕ → List ℕ
 spelled width ids = pieces 8 0 (bytes_for (length ids * width)) (bits_of width ids ++ replicate 7 0)
 

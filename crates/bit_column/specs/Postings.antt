@@ -1,13 +1,13 @@
 -- Postings: the places of each key in a column, as a section has them. The keys of an inverted index are ids, and those of a range index buckets of ids.
-use Rattle.std.specs.Prelude.{ℕ, zero, suc, ◌+◌, ◌/◌, ◌==◌, List, [], ◌∷◌, ◌++◌, length, map}
+use Rattle.std.specs.Prelude.{ℕ, zero, suc, ◌+◌, ◌/◌, ◌==◌, List, [], ◌++◌, length, map}
 use Rattle.std.specs.List.{filter, enumerate_from, range_with_len}
 use Rattle.bit_column.specs.Column.{spelled, id_at, ids_between}
 
--- the places at which a key stands, ascending, where the first of the keys has that place
+-- the places of a key, ascending, where the first of the keys has that place
 abbrev pub places_from : ℕ → ℕ → List ℕ → List ℕ
 places_from place key keys = map (λ e. e.0) (filter (λ e. e.1 == key) (enumerate_from place keys))
 
--- the places at which a key stands in a list
+-- the places of a key in a list
 abbrev pub places_of : ℕ → List ℕ → List ℕ
 places_of key keys = places_from 0 key keys
 

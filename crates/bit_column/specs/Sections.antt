@@ -1,7 +1,6 @@
 -- Sections of files, and which bytes of them hold a range of ids.
-use Rattle.std.specs.Prelude.{◌≡◌, ◌≤◌, ◌<◌, ℕ, ◌-◌, ◌*◌, ◌/◌, min, List, All, length, take, drop, Option, Some, IfSome, nat_lt, if◌then◌else◌}
-use Rattle.outside.specs.Files.{Files, bytes_of}
-use Rattle.outside.specs.Reads.{Entry, LogsThrough}
+use Rattle.std.specs.Prelude.{◌≡◌, ◌≤◌, ◌<◌, ℕ, ◌-◌, ◌*◌, ◌/◌, List, All, length, Option, Some, IfSome, nat_lt, if◌then◌else◌}
+use Rattle.outside.specs.Files.{Files, bytes_at, bytes_of}
 use Rattle.outside.specs.declared.place.Place.{Place}
 use Rattle.bit_column.specs.Column.{bytes_for, ids_between}
 
@@ -9,28 +8,23 @@ use Rattle.bit_column.specs.Column.{bytes_for, ids_between}
 abbrev pub first_byte : ℕ → ℕ → ℕ
 first_byte width from = from * width / 8
 
--- the byte behind the last one that has a bit of the ids between two indexes; a range without ids has no bytes
+-- the byte after the last one that has a bit of the ids between two indexes; a range without ids has no bytes
 abbrev pub end_byte : ℕ → ℕ → ℕ → ℕ
 end_byte width from to = if nat_lt from to then bytes_for (to * width) else first_byte width from
 
 -- the bytes of a section: those of its file from the offset on, up to the length, as many as there are.
 -- A file that is not there has none
 abbrev pub section : Files → Place → List ℕ
-section files place = take place.length (drop place.offset (bytes_of (Some files) place.file))
+section files place = bytes_at files place.file place.offset place.length
 
 -- these are the bytes of a told file from one offset to another, which it reaches; a file that is not there is empty
 abbrev pub IsPart : Option Files → List ℕ → ℕ → ℕ → List ℕ → Type 0
 IsPart held name from to bytes =
-    IfSome held (λ files. (to ≤ length (bytes_of (Some files) name)) × (bytes ≡ take (to - from) (drop from (bytes_of (Some files) name))))
+    IfSome held (λ files. (to ≤ length (bytes_of (Some files) name)) × (bytes ≡ bytes_at files name from (to - from)))
 
 -- where files are told, the one of this name ends before this offset
 abbrev pub EndsBefore : Option Files → List ℕ → ℕ → Type 0
 EndsBefore held name to = IfSome held (λ files. length (bytes_of (Some files) name) < to)
-
--- so many bytes of the file from an offset on stand at the front of a buffer, as many as there are and fit
-abbrev pub Fills : Option Files → List ℕ → ℕ → ℕ → List ℕ → Type 0
-Fills held name offset count into =
-    IfSome held (λ files. (count ≡ min (length (bytes_of (Some files) name) - offset) (length into)) × (take count into ≡ take count (drop offset (bytes_of (Some files) name))))
 
 -- the bytes have all bits of the ids between two indexes
 abbrev pub Reach : ℕ → ℕ → ℕ → List ℕ → Type 0
@@ -39,7 +33,3 @@ Reach width from to bytes = from < to → to * width ≤ 8 * length bytes
 -- the bytes have the ids between two indexes, each of them below the count
 abbrev pub Readable : ℕ → ℕ → ℕ → ℕ → List ℕ → Type 0
 Readable width count from to bytes = Reach width from to bytes × All (λ id. id < count) (ids_between width from to bytes)
-
--- the told log grew by reads of this file that go back to back, from one offset to none behind another
-abbrev pub LogsUpTo : List ℕ → ℕ → ℕ → Option (List Entry) → Option (List Entry) → Type 0
-LogsUpTo file from limit old new = (to : ℕ) × (to ≤ limit) × LogsThrough file from to old new

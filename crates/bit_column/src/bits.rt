@@ -2,7 +2,7 @@
 ghost use Rattle.std.specs.Prelude.{◌≡◌, ◌≤◌, ◌<◌, ◌+◌, ◌-◌, ◌*◌, ◌/◌, ◌%◌, ◌^◌, ◌++◌, length, replicate};
 ghost use Rattle.bit_column.specs.Bits.{bits, bits_of, number};
 
-// The window with an id behind what it has.
+// The window with an id after what it has.
 #[tactic(auto, using(crate::proofs::Windows::joined))]
 pub fn joined(window: u64, have: u32, id: u32, width: u32) -> u64
     requires width { width ≤ 32 }
@@ -22,7 +22,7 @@ pub fn whole_byte(window: u64, behind: u32) -> u8
     ((window >> behind) & 255) as u8
 }
 
-// The byte of the last few bits of the window, with zero bits behind them.
+// The byte of the last few bits of the window, with zero bits after them.
 #[tactic(auto, using(crate::proofs::Windows::last_byte))]
 pub fn last_byte(window: u64, have: u32) -> u8
     requires { have < 8 }

@@ -1,9 +1,9 @@
 //! A range of ids is read from a section of a file.
 ghost use Rattle.std.specs.Prelude.{◌≡◌, ◌≤◌, ◌<◌, ◌+◌, ◌-◌, All, IfOk, OnErr, IfSome, IsErrOf, length};
-ghost use Rattle.outside.specs.Reads.{LogsOn};
+ghost use Rattle.outside.specs.Reads.{LogsOn, LogsUpTo};
 ghost use Rattle.outside.specs.Seen.{OnlyReads, seen};
 ghost use Rattle.bit_column.specs.Column.{ids_between};
-ghost use Rattle.bit_column.specs.Sections.{first_byte, end_byte, section, Readable, LogsUpTo};
+ghost use Rattle.bit_column.specs.Sections.{first_byte, end_byte, section, Readable};
 
 use crate::ColumnFault;
 use crate::part::read_part;
@@ -60,7 +60,7 @@ pub fn read_range<S: Shelf>(
     };
     ids_from(
         alloc,
-        &bytes,
+        bytes.as_slice(),
         (bit % 8) as usize,
         width,
         count,

@@ -1,22 +1,14 @@
 -- Rows that are added to columns.
-use Rattle.std.proofs.Common.{◌≡◌, ◌∙◌, ◌<◌, ◌≤◌, ◌+◌, ◌++◌, ◌∷◌, [], ℕ, List, Bool, true, false, length, map, get_or, set, Result, Ok, Err, Option, Some, None, refl, sym, ap, subst, arith}
+use Rattle.std.proofs.Common.{◌≡◌, ◌∙◌, ◌<◌, ◌++◌, ◌∷◌, [], ℕ, List, false, length, map, get_or, set, Result, Option, None, sym, ap, arith}
 use Rattle.std.proofs.lemmas.List.{length-map, get_or-map, nil_from_length}
 use Rattle.std.specs.List.{All}
-use Rattle.values.specs.declared.kind.FieldKind.{FieldKind}
-use Rattle.values.specs.declared.kind.FieldKind.TheVariants as kind
 use Rattle.values.specs.declared.value.Value.{Value}
-use Rattle.values.specs.declared.value.Value.TheVariants.{Whole, Text}
-use Rattle.values.specs.declared.read.ValueFault.{ValueFault}
-use Rattle.values.specs.declared.read.ValueFault.TheVariants as refused
-use Rattle.values.specs.declared.whole.WholeFault.{WholeFault}
-use Rattle.values.specs.Reading.{number_value, text_value, value_of}
-use Rattle.values.specs.Numbers.{whole_of}
 use Rattle.table_schema.specs.declared.field.Field.{Field}
-use Rattle.values.specs.Columns.{Counts, Listed, is_text, pushed, row_pushed, rows_in_columns}
-use Rattle.values.proofs.RowLemmas.{length-push, length-rows, push-one, sorts-push}
+use Rattle.values.specs.Columns.{Counts, Listed, pushed, row_pushed, rows_in_columns}
+use Rattle.values.proofs.RowLemmas.{length-rows, push-one, sorts-push}
 use Rattle.csv_ingest.specs.declared.fault.CsvFault.{CsvFault}
 use Rattle.csv_ingest.specs.Rows.{place_of, value_at}
-use Rattle.csv_ingest.specs.Columns.{DefaultFits, OfSorts, is_text_kind}
+use Rattle.csv_ingest.specs.Columns.{OfSorts, is_text_kind}
 
 -- there are as many columns as fields
 pub widths : (fields : List Field) (columns : List Listed) → OfSorts fields columns → length columns ≡ length fields

@@ -5,11 +5,11 @@ mod CountLemmas
 mod Fields
 mod HeaderLemmas
 mod InOrder
-mod KnownLemmas
 mod MarkLemmas
 mod NumberLemmas
-mod PlainLemmas
+mod NumberTextLemmas
 mod ReadingLemmas
 mod RowLemmas
+mod SchemaLemmas
 pub mod ValidLemmas
 pub mod ValidRows

@@ -20,10 +20,10 @@ use Rattle.csv_ingest.specs.declared.fault.CsvKind.TheVariants.{NotUtf8, BadHead
 use Rattle.csv_ingest.specs.declared.fault.CsvFault.{CsvFault}
 use Rattle.csv_ingest.specs.declared.fault.CsvFault.TheVariants.{At, TooManyRows, TooManyColumns}
 use Rattle.csv_ingest.specs.Columns.{DefaultFits, DefaultsFit, OfSorts, is_text_kind}
-use Rattle.csv_ingest.specs.PlainBlocks.{AreNumbers}
+use Rattle.csv_ingest.specs.NumberBlocks.{AreNumbers}
 use Rattle.csv_ingest.proofs.ColumnLemmas.{widths}
 use Rattle.values.specs.Columns.{Listed}
-use Rattle.csv_ingest.specs.Names.{is_among, plain_field, plain_name}
+use Rattle.csv_ingest.specs.Names.{is_among, number_field, number_name}
 use Rattle.table_schema.specs.Names.{is_column_name}
 use Rattle.csv_ingest.specs.Rows.{all_or_first, cell_value, csv_limits, header_of, is_number, IsNumbers, joined, kinded, Limits, name_at, placed, place_of, plain_in, row_at, rows_of, under, value_at, values_of, with_schema}
 
@@ -52,8 +52,8 @@ as_many f (x ∷ xs) ys is =
     ap length all ∙ ap suc (as_many f xs bs rest)
 
 -- a column of whole numbers
-abbrev pub IsPlain : Field → Type 0
-IsPlain field = (name : List ℕ) × (field ≡ plain_field name)
+abbrev pub IsNumberField : Field → Type 0
+IsNumberField field = (name : List ℕ) × (field ≡ number_field name)
 
 whole_number : (r : Result ℤ WholeFault) (v : Value) → kinded (number_value r) ≡ Ok v → is_number v ≡ true
 whole_number (Ok n) v is =
@@ -66,7 +66,7 @@ utf8_number : (utf8 : Bool) (bytes : List ℕ) (v : Value) → (if utf8 then kin
 utf8_number true bytes v is = whole_number (whole_of Long bytes) v is
 utf8_number false bytes v is = absurd cc
 
-cell_number : (name bytes : List ℕ) (v : Value) → cell_value (plain_field name) bytes ≡ Ok v → is_number v ≡ true
+cell_number : (name bytes : List ℕ) (v : Value) → cell_value (number_field name) bytes ≡ Ok v → is_number v ≡ true
 cell_number name [] v is =
     let same : Whole (pos 0) ≡ v = cc in
     subst (λ w. is_number w ≡ true) same refl
@@ -76,27 +76,27 @@ pub placed_ok : {A : Type 0} (row column : ℕ) (r : Result A CsvKind) (a : A) �
 placed_ok row column (Ok b) a is = ap Ok cc
 placed_ok row column (Err kind) a is = absurd cc
 
-place_number : (row : ℕ) (cells : List (List ℕ)) (place : Option ℕ) (name : List ℕ) (v : Value) → value_at row cells (plain_field name) place ≡ Ok v → is_number v ≡ true
+place_number : (row : ℕ) (cells : List (List ℕ)) (place : Option ℕ) (name : List ℕ) (v : Value) → value_at row cells (number_field name) place ≡ Ok v → is_number v ≡ true
 place_number row cells None name v is =
     let same : Whole (pos 0) ≡ v = cc in
     subst (λ w. is_number w ≡ true) same refl
-place_number row cells (Some column) name v is = cell_number name (slice_index_or cells (column - 1) []) v (placed_ok row column (cell_value (plain_field name) (slice_index_or cells (column - 1) [])) v is)
+place_number row cells (Some column) name v is = cell_number name (slice_index_or cells (column - 1) []) v (placed_ok row column (cell_value (number_field name) (slice_index_or cells (column - 1) [])) v is)
 
-field_number : (header : List (List ℕ)) (row : ℕ) (cells : List (List ℕ)) (field : Field) (v : Value) → IsPlain field → value_at row cells field (place_of header field) ≡ Ok v → is_number v ≡ true
+field_number : (header : List (List ℕ)) (row : ℕ) (cells : List (List ℕ)) (field : Field) (v : Value) → IsNumberField field → value_at row cells field (place_of header field) ≡ Ok v → is_number v ≡ true
 field_number header row cells field v (name, is) =
-    subst (λ f. value_at row cells f (place_of header f) ≡ Ok v → is_number v ≡ true) (sym is) (place_number row cells (place_of header (plain_field name)) name v)
+    subst (λ f. value_at row cells f (place_of header f) ≡ Ok v → is_number v ≡ true) (sym is) (place_number row cells (place_of header (number_field name)) name v)
 
 all_numbers : (row : List Value) → AllByRecursion (λ v. is_number v ≡ true) row → list_all is_number row ≡ true
 all_numbers [] q = refl
 all_numbers (v ∷ row) q = rw q.0 (all_numbers row q.1)
 
-values_numbers : (header : List (List ℕ)) (n : ℕ) (cells : List (List ℕ)) (fields : List Field) (row : List Value) → AllByRecursion IsPlain fields → values_of fields header n cells ≡ Ok row → IsNumbers (length fields) row
+values_numbers : (header : List (List ℕ)) (n : ℕ) (cells : List (List ℕ)) (fields : List Field) (row : List Value) → AllByRecursion IsNumberField fields → values_of fields header n cells ≡ Ok row → IsNumbers (length fields) row
 values_numbers header n cells fields row plain is = record {
   width = as_many (λ field. value_at n cells field (place_of header field)) fields row is;
-  numbers = all_numbers row (each IsPlain (λ v. is_number v ≡ true) (λ field. value_at n cells field (place_of header field)) (field_number header n cells) fields row plain is);
+  numbers = all_numbers row (each IsNumberField (λ v. is_number v ≡ true) (λ field. value_at n cells field (place_of header field)) (field_number header n cells) fields row plain is);
 }
 
-row_numbers : (many short : Bool) (much wrong : CsvFault) (header : List (List ℕ)) (n : ℕ) (cells : List (List ℕ)) (fields : List Field) (row : List Value) → AllByRecursion IsPlain fields
+row_numbers : (many short : Bool) (much wrong : CsvFault) (header : List (List ℕ)) (n : ℕ) (cells : List (List ℕ)) (fields : List Field) (row : List Value) → AllByRecursion IsNumberField fields
     → (if many then Err much else if short then Err wrong else values_of fields header n cells) ≡ Ok row → IsNumbers (length fields) row
 row_numbers true short much wrong header n cells fields row plain is = absurd cc
 row_numbers false true much wrong header n cells fields row plain is = absurd cc
@@ -106,40 +106,40 @@ pub anything : {A : Type 0} (xs : List A) → AllByRecursion (λ x. ⊤) xs
 anything [] = tt
 anything (x ∷ xs) = (tt, anything xs)
 
-rows_numbers : (limits : Limits) (fields : List Field) (header : List (List ℕ)) (records : List (List (List ℕ))) (rows : List (List Value)) → AllByRecursion IsPlain fields
+rows_numbers : (limits : Limits) (fields : List Field) (header : List (List ℕ)) (records : List (List (List ℕ))) (rows : List (List Value)) → AllByRecursion IsNumberField fields
     → rows_of limits fields header records ≡ Ok rows → AllByRecursion (IsNumbers (length fields)) rows
 rows_numbers limits fields header records rows plain is =
     each (λ x. ⊤) (IsNumbers (length fields)) (row_at limits fields header)
     (λ (n, cells) row _ ok. row_numbers (nat_lt (limits.most_rows (length fields)) n) (not (length cells == length header)) (TooManyRows (limits.most_rows (length fields))) (At WrongLength n 0) header n cells fields row plain ok)
     (enumerate_from 1 records) rows (anything (enumerate_from 1 records)) is
 
-name_plain : (odd bad twice : Bool) (name : List ℕ) (field : Field) → (if odd then Err NotUtf8 else if bad then Err BadHeader else if twice then Err DuplicateHeader else Ok (plain_field name)) ≡ Ok field → IsPlain field
+name_plain : (odd bad twice : Bool) (name : List ℕ) (field : Field) → (if odd then Err NotUtf8 else if bad then Err BadHeader else if twice then Err DuplicateHeader else Ok (number_field name)) ≡ Ok field → IsNumberField field
 name_plain true bad twice name field is = absurd cc
 name_plain false true twice name field is = absurd cc
 name_plain false false true name field is = absurd cc
 name_plain false false false name field is = (name, cc)
 
-pub header_plain : (header : List (List ℕ)) (fields : List Field) → header_of plain_name header ≡ Ok fields → AllByRecursion IsPlain fields
+pub header_plain : (header : List (List ℕ)) (fields : List Field) → header_of number_name header ≡ Ok fields → AllByRecursion IsNumberField fields
 header_plain header fields is =
-    each (λ x. ⊤) IsPlain (name_at plain_name header)
-    (λ (column, name) field _ ok. name_plain (not (is_utf8 name)) (not (is_column_name name)) (is_among name (take (column - 1) header)) name field (placed_ok 0 column (plain_name (take (column - 1) header) name) field ok))
+    each (λ x. ⊤) IsNumberField (name_at number_name header)
+    (λ (column, name) field _ ok. name_plain (not (is_utf8 name)) (not (is_column_name name)) (is_among name (take (column - 1) header)) name field (placed_ok 0 column (number_name (take (column - 1) header) name) field ok))
     (enumerate_from 1 header) fields (anything (enumerate_from 1 header)) is
 
-plain_default : (field : Field) → IsPlain field → DefaultFits field
+plain_default : (field : Field) → IsNumberField field → DefaultFits field
 plain_default field (name, is) = subst DefaultFits (sym is) refl
 
-plain_defaults : (fields : List Field) → AllByRecursion IsPlain fields → AllByRecursion DefaultFits fields
+plain_defaults : (fields : List Field) → AllByRecursion IsNumberField fields → AllByRecursion DefaultFits fields
 plain_defaults [] q = tt
 plain_defaults (field ∷ fields) q = (plain_default field q.0, plain_defaults fields q.1)
 
 -- the defaults of columns of whole numbers are numbers
-pub plain-defaults : (header : List (List ℕ)) (fields : List Field) → header_of plain_name header ≡ Ok fields → DefaultsFit fields
-plain-defaults header fields is = All-from_recursion DefaultFits fields (plain_defaults fields (header_plain header fields is))
+pub number-defaults : (header : List (List ℕ)) (fields : List Field) → header_of number_name header ≡ Ok fields → DefaultsFit fields
+number-defaults header fields is = All-from_recursion DefaultFits fields (plain_defaults fields (header_plain header fields is))
 
-number_kind : (field : Field) → IsPlain field → is_text_kind field.kind ≡ false
+number_kind : (field : Field) → IsNumberField field → is_text_kind field.kind ≡ false
 number_kind field (name, is) = subst (λ f. is_text_kind f.kind ≡ false) (sym is) refl
 
-number_columns : (fields : List Field) (columns : List Listed) → AllByRecursion IsPlain fields → map (λ c. c.are_texts) columns ≡ map (λ f. is_text_kind f.kind) fields → AllByRecursion (λ c. c.are_texts ≡ false) columns
+number_columns : (fields : List Field) (columns : List Listed) → AllByRecursion IsNumberField fields → map (λ c. c.are_texts) columns ≡ map (λ f. is_text_kind f.kind) fields → AllByRecursion (λ c. c.are_texts ≡ false) columns
 number_columns fields [] q s = tt
 number_columns [] (c ∷ cs) q s = absurd cc
 number_columns (f ∷ fs) (c ∷ cs) q s =
@@ -148,8 +148,8 @@ number_columns (f ∷ fs) (c ∷ cs) q s =
     (one ∙ number_kind f q.0, number_columns fs cs q.1 rest)
 
 -- the columns of such fields are of numbers
-pub plain-columns : (header : List (List ℕ)) (fields : List Field) (columns : List Listed) → header_of plain_name header ≡ Ok fields → OfSorts fields columns → AreNumbers fields columns
-plain-columns header fields columns is sorts = record {
+pub number-columns : (header : List (List ℕ)) (fields : List Field) (columns : List Listed) → header_of number_name header ≡ Ok fields → OfSorts fields columns → AreNumbers fields columns
+number-columns header fields columns is sorts = record {
   width = widths fields columns sorts;
   numbers = All-from_recursion (λ c. c.are_texts ≡ false) columns (number_columns fields columns (header_plain header fields is) sorts);
 }
@@ -166,15 +166,15 @@ schema_numbers fields (Ok rows) table is all =
     subst Holds same (All-from_recursion (IsNumbers (length fields)) rows (all rows refl))
 
 under_numbers : (limits : Limits) (header : List (List ℕ)) (records : List (List (List ℕ))) (names : Result (List Field) CsvFault) (table : Schema × List (List Value))
-    → ((fields : List Field) → names ≡ Ok fields → AllByRecursion IsPlain fields) → under names (λ fields. with_schema fields (rows_of limits fields header records)) ≡ Ok table → Holds table
+    → ((fields : List Field) → names ≡ Ok fields → AllByRecursion IsNumberField fields) → under names (λ fields. with_schema fields (rows_of limits fields header records)) ≡ Ok table → Holds table
 under_numbers limits header records (Err fault) table plain is = absurd cc
 under_numbers limits header records (Ok fields) table plain is =
     schema_numbers fields (rows_of limits fields header records) table is (λ rows ok. rows_numbers limits fields header records rows (plain fields refl) ok)
 
 columns_numbers : (limits : Limits) (many : Bool) (header : List (List ℕ)) (records : List (List (List ℕ))) (table : Schema × List (List Value))
-    → (if many then Err TooManyColumns else under (header_of plain_name header) (λ fields. with_schema fields (rows_of limits fields header records))) ≡ Ok table → Holds table
+    → (if many then Err TooManyColumns else under (header_of number_name header) (λ fields. with_schema fields (rows_of limits fields header records))) ≡ Ok table → Holds table
 columns_numbers limits true header records table is = absurd cc
-columns_numbers limits false header records table is = under_numbers limits header records (header_of plain_name header) table (header_plain header) is
+columns_numbers limits false header records table is = under_numbers limits header records (header_of number_name header) table (header_plain header) is
 
 pub numbers-plain : (limits : Limits) (records : List (List (List ℕ))) (table : Schema × List (List Value)) → plain_in limits records ≡ Ok table → Holds table
 unfolding plain_in
@@ -183,8 +183,8 @@ numbers-plain limits (header ∷ records) table is = columns_numbers limits (lim
 
 -- ---- how many columns there are
 
-header_width : (header : List (List ℕ)) (fields : List Field) → header_of plain_name header ≡ Ok fields → length fields ≡ length header
-header_width header fields is = as_many (name_at plain_name header) (enumerate_from 1 header) fields is ∙ length-enumerate_from 1 header
+pub header_width : (header : List (List ℕ)) (fields : List Field) → header_of number_name header ≡ Ok fields → length fields ≡ length header
+header_width header fields is = as_many (name_at number_name header) (enumerate_from 1 header) fields is ∙ length-enumerate_from 1 header
 
 -- this table has as many columns as it may
 abbrev IsFew : Schema × List (List Value) → Type 0
@@ -202,10 +202,10 @@ under_few header records (Err fault) table few is = absurd cc
 under_few header records (Ok fields) table few is = schema_few fields (rows_of csv_limits fields header records) table is (few fields refl)
 
 columns_few : (many : Bool) (header : List (List ℕ)) (records : List (List (List ℕ))) (table : Schema × List (List Value)) → nat_lt 64 (length header) ≡ many
-    → (if many then Err TooManyColumns else under (header_of plain_name header) (λ fields. with_schema fields (rows_of csv_limits fields header records))) ≡ Ok table → IsFew table
+    → (if many then Err TooManyColumns else under (header_of number_name header) (λ fields. with_schema fields (rows_of csv_limits fields header records))) ≡ Ok table → IsFew table
 columns_few true header records table test is = absurd cc
 columns_few false header records table test is =
-    under_few header records (header_of plain_name header) table (λ fields ok. let width = header_width header fields ok in grind (arith, nat_tests)) is
+    under_few header records (header_of number_name header) table (λ fields ok. let width = header_width header fields ok in grind (arith, nat_tests)) is
 
 pub few-plain : (records : List (List (List ℕ))) (table : Schema × List (List Value)) → plain_in csv_limits records ≡ Ok table → IsFew table
 unfolding plain_in

@@ -1,13 +1,13 @@
 -- The rows of a text are rows of their table, and no more than there may be.
-use Rattle.std.proofs.Common.{◌≡◌, ◌-◌, ◌+◌, ◌≤◌, ℕ, ℤ, suc, pos, List, [], ◌∷◌, length, map, nat_lt, nat_le, slice_index_or, Bool, true, false, ◌&&◌, not, ◌==◌, cond, Option, Some, None, Result, Ok, Err, if◌then◌else◌, refl, sym, ap, ◌∙◌, subst, arith, rules, tests}
+use Rattle.std.proofs.Common.{◌≡◌, ◌-◌, ◌+◌, ◌≤◌, ℕ, ℤ, List, [], ◌∷◌, length, map, nat_lt, nat_le, slice_index_or, Bool, true, false, ◌&&◌, not, ◌==◌, cond, Option, Some, None, Result, Ok, Err, if◌then◌else◌, refl, sym, ap, ◌∙◌, subst, arith}
 use Rattle.std.specs.Bool.{⊤}
-use Rattle.std.specs.List.{All, AllByRecursion, enumerate_from, list_all}
+use Rattle.std.specs.List.{AllByRecursion, enumerate_from, list_all}
 use Rattle.std.specs.Str.{is_utf8}
 use Rattle.std.proofs.lemmas.Bool.{ltb-false}
 use Rattle.std.proofs.lemmas.List.Elements.{All-from_recursion}
 use Rattle.values.specs.Kinds.{fits}
 use Rattle.values.specs.Numbers.{is_in_range, ranged, spelled_number}
-use Rattle.values.specs.Reading.{number_value, text_value, value_of}
+use Rattle.values.specs.Reading.{number_value, value_of}
 use Rattle.values.specs.declared.kind.FieldKind.{FieldKind}
 use Rattle.values.specs.declared.kind.FieldKind.TheVariants as kind
 use Rattle.values.specs.declared.value.Value.{Value}
@@ -20,13 +20,12 @@ use Rattle.table_schema.specs.Fields.{is_text_metric}
 use Rattle.table_schema.specs.Names.{is_column_name}
 use Rattle.table_schema.specs.Valid.{is_short, default_fits, is_valid_field, IsValidSchema}
 use Rattle.table_schema.specs.ValidTable.{is_row, IsRow, most_rows, AreRows}
-use Rattle.csv_ingest.specs.declared.fault.CsvKind.{CsvKind}
 use Rattle.csv_ingest.specs.declared.fault.CsvKind.TheVariants.{NotUtf8, WrongLength}
 use Rattle.csv_ingest.specs.declared.fault.CsvFault.{CsvFault}
 use Rattle.csv_ingest.specs.declared.fault.CsvFault.TheVariants.{At, TooManyRows, TooManyColumns}
-use Rattle.csv_ingest.specs.Names.{known_name, plain_field, plain_name}
+use Rattle.csv_ingest.specs.Names.{schema_name, number_name}
 use Rattle.csv_ingest.specs.Rows.{all_or_first, cell_value, csv_limits, header_of, kinded, place_of, plain_in, row_at, rows_in, rows_of, under, value_at, values_of, with_schema}
-use Rattle.csv_ingest.proofs.NumberLemmas.{IsPlain, joins, each, placed_ok, anything, header_plain}
+use Rattle.csv_ingest.proofs.NumberLemmas.{IsNumberField, joins, each, placed_ok, anything, header_plain}
 
 -- ---- values
 
@@ -137,15 +136,15 @@ under_rows : (fields : List Field) (header : List (List ℕ)) (records : List (L
 under_rows fields header records (Err fault) rows own e = absurd cc
 under_rows fields header records (Ok names) rows own e = are_rows fields header records rows own e
 
-pub known_rows : (schema : Schema) (records : List (List (List ℕ))) (rows : List (List Value)) → IsValidSchema schema → rows_in csv_limits schema.fields records ≡ Ok rows → AreRows schema.fields rows
+pub rows_by_schema : (schema : Schema) (records : List (List (List ℕ))) (rows : List (List Value)) → IsValidSchema schema → rows_in csv_limits schema.fields records ≡ Ok rows → AreRows schema.fields rows
 unfolding rows_in
-known_rows schema [] rows valid e = absurd cc
-known_rows schema (header ∷ records) rows valid e = under_rows schema.fields header records (header_of (known_name schema.fields) header) rows (have_defaults schema.fields valid.fields) e
+rows_by_schema schema [] rows valid e = absurd cc
+rows_by_schema schema (header ∷ records) rows valid e = under_rows schema.fields header records (header_of (schema_name schema.fields) header) rows (have_defaults schema.fields valid.fields) e
 
-plain_own : (field : Field) → IsPlain field → HasDefault field
+plain_own : (field : Field) → IsNumberField field → HasDefault field
 plain_own field (name, is) = subst HasDefault (sym is) refl
 
-plain_all : (fields : List Field) → AllByRecursion IsPlain fields → AllByRecursion HasDefault fields
+plain_all : (fields : List Field) → AllByRecursion IsNumberField fields → AllByRecursion HasDefault fields
 plain_all [] q = tt
 plain_all (field ∷ fields) q = (plain_own field q.0, plain_all fields q.1)
 
@@ -165,11 +164,11 @@ under_plain header records (Err fault) table own e = absurd cc
 under_plain header records (Ok fields) table own e = schema_rows fields header records (rows_of csv_limits fields header records) table (own fields refl) refl e
 
 plain_by : (many : Bool) (header : List (List ℕ)) (records : List (List (List ℕ))) (table : Schema × List (List Value))
-    → (if many then Err TooManyColumns else under (header_of plain_name header) (λ fields. with_schema fields (rows_of csv_limits fields header records))) ≡ Ok table → TableRows table
+    → (if many then Err TooManyColumns else under (header_of number_name header) (λ fields. with_schema fields (rows_of csv_limits fields header records))) ≡ Ok table → TableRows table
 plain_by true header records table e = absurd cc
-plain_by false header records table e = under_plain header records (header_of plain_name header) table (λ fields is. plain_all fields (header_plain header fields is)) e
+plain_by false header records table e = under_plain header records (header_of number_name header) table (λ fields is. plain_all fields (header_plain header fields is)) e
 
-pub plain_rows : (records : List (List (List ℕ))) (table : Schema × List (List Value)) → plain_in csv_limits records ≡ Ok table → TableRows table
+pub rows_by_header : (records : List (List (List ℕ))) (table : Schema × List (List Value)) → plain_in csv_limits records ≡ Ok table → TableRows table
 unfolding plain_in
-plain_rows [] table e = absurd cc
-plain_rows (header ∷ records) table e = plain_by (csv_limits.many_columns (length header)) header records table e
+rows_by_header [] table e = absurd cc
+rows_by_header (header ∷ records) table e = plain_by (csv_limits.many_columns (length header)) header records table e

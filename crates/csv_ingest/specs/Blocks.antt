@@ -1,5 +1,5 @@
 -- The rows of a text, read block by block.
-use Rattle.std.specs.Prelude.{◌≡◌, ◌<◌, ◌≤◌, ◌+◌, ◌++◌, ℕ, List, map, Result, Ok, Err}
+use Rattle.std.specs.Prelude.{◌≡◌, ◌<◌, ◌+◌, ◌++◌, ℕ, List, map, Result, Ok, Err}
 use Rattle.std.specs.List.{enumerate_from}
 use Rattle.values.specs.Columns.{ListedColumns, rows_of}
 use Rattle.values.specs.declared.value.Value.{Value}

@@ -1,18 +1,17 @@
 -- The fields of a table over the names of a header.
-use Rattle.std.specs.Prelude.{◌≡◌, ◌<◌, ◌^◌, ℕ, List, map, length, true}
+use Rattle.std.specs.Prelude.{◌≡◌, ◌<◌, ◌^◌, ℕ, List, map, length}
 use Rattle.csv_ingest.specs.declared.layout.Layout.{Layout}
 use Rattle.csv_ingest.specs.Columns.{DefaultsFit}
-use Rattle.csv_ingest.specs.Rows.{InOrder, place_of}
+use Rattle.csv_ingest.specs.Rows.{place_of}
 use Rattle.table_schema.specs.ValidTable.{most_rows}
 
 -- the names of the header
 abbrev pub header_of : Layout → List (List ℕ)
 header_of layout = map (λ name. name.now) layout.names.now
 
--- each field's place is that of its name in the header, the limit is that of so many fields, and where they are said to be in order they are
+-- each field's place is that of its name in the header, and the limit is that of so many fields
 pub record IsLayout (layout : Layout) : Type 0 where
   pub places : layout.places.items ≡ map (place_of (header_of layout)) layout.fields.now
   pub most : layout.most ≡ most_rows (length layout.fields.now)
-  pub order : layout.in_order ≡ true → InOrder layout.fields.now layout.places.items
   pub few : length layout.names.now < 2 ^ 32
   pub defaults : DefaultsFit layout.fields.now

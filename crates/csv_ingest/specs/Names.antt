@@ -15,24 +15,24 @@ abbrev pub is_among : List ℕ → List (List ℕ) → Bool
 is_among name names = list_any (bytes_eq name) names
 
 -- a column of whole numbers, 0 where a cell is empty
-abbrev pub plain_field : List ℕ → Field
-plain_field name = record { name = name; kind = Long; role = Metric; default = Whole (pos 0) }
+abbrev pub number_field : List ℕ → Field
+number_field name = record { name = name; kind = Long; role = Metric; default = Whole (pos 0) }
 
--- the column that a name behind these makes, where every field of the header is one
-abbrev pub plain_name : List (List ℕ) → List ℕ → Result Field CsvKind
-plain_name earlier name =
+-- the column that a name after these makes, where every field of the header is one
+abbrev pub number_name : List (List ℕ) → List ℕ → Result Field CsvKind
+number_name earlier name =
     if not (is_utf8 name) then Err NotUtf8
     else if not (is_column_name name) then Err BadHeader
     else if is_among name earlier then Err DuplicateHeader
-    else Ok (plain_field name)
+    else Ok (number_field name)
 
 -- the names of fields
 abbrev pub names_of : List Field → List (List ℕ)
 names_of fields = map (λ f. f.name) fields
 
--- a name behind these, where a header may have more than the schema's fields
-abbrev pub known_name : List Field → List (List ℕ) → List ℕ → Result (List ℕ) CsvKind
-known_name fields earlier name =
+-- a name after these, where a header may have more than the schema's fields
+abbrev pub schema_name : List Field → List (List ℕ) → List ℕ → Result (List ℕ) CsvKind
+schema_name fields earlier name =
     if not (is_utf8 name) then Err NotUtf8
     else if is_among name (names_of fields) && is_among name earlier then Err DuplicateHeader
     else Ok name

@@ -10,15 +10,15 @@ abbrev pub TextReader : Type 0
 TextReader = Reader (Bor (List ℕ))
 
 -- the bytes that a text has
-abbrev pub known : Bor (List ℕ) → Option (List ℕ)
-known text = Some text.now
+abbrev pub in_memory : Bor (List ℕ) → Option (List ℕ)
+in_memory text = Some text.now
 
 -- the reader reads records by the defaults, of any lengths and with no header row of its own, and what it has left is known
 pub record Reads (reader : TextReader) (rest : List ℕ) : Type 0 where
   pub trims_nothing : reader_trim reader ≡ trim.None
   pub ready : Ready reader
   pub by_defaults : reader_config reader ≡ default_config
-  pub rest_is : source_of known reader ≡ Some rest
+  pub rest_is : source_of in_memory reader ≡ Some rest
 
 -- at most n records that are left
 abbrev pub records_left : ℕ → TextReader → List ℕ → List (List (List ℕ))

@@ -1,11 +1,10 @@
 -- The rows of a CSV text, or the first thing that is wrong with it: functions of the whole list of its records.
-use Rattle.std.specs.Prelude.{◌≡◌, ◌<◌, ◌+◌, ℕ, ◌-◌, nat_lt, Bool, true, false, not, ◌==◌, List, [], ◌∷◌, length, take, map, slice_index_or, get_or, Option, Some, None, Result, Ok, Err, if◌then◌else◌}
+use Rattle.std.specs.Prelude.{◌≡◌, ℕ, ◌-◌, nat_lt, Bool, true, false, not, ◌==◌, List, [], ◌∷◌, length, take, map, slice_index_or, Option, Some, None, Result, Ok, Err, if◌then◌else◌}
 use Rattle.std.specs.List.{enumerate_from, list_all, position_from}
 use Rattle.std.specs.Str.{bytes_eq, is_utf8}
 use Rattle.csv.specs.Reading.{default_config, records, strip_bom}
 use Rattle.values.specs.Reading.{value_of}
 use Rattle.values.specs.declared.kind.FieldKind.{FieldKind}
-use Rattle.values.specs.declared.kind.FieldKind.TheVariants.{Long}
 use Rattle.values.specs.declared.value.Value.{Value}
 use Rattle.values.specs.declared.value.Value.TheVariants.{Whole, Text}
 use Rattle.values.specs.declared.read.ValueFault.{ValueFault}
@@ -17,7 +16,7 @@ use Rattle.csv_ingest.specs.declared.fault.CsvKind.{CsvKind}
 use Rattle.csv_ingest.specs.declared.fault.CsvKind.TheVariants.{NoHeader, NotUtf8, WrongLength, NotANumber, OutOfRange, TooLong}
 use Rattle.csv_ingest.specs.declared.fault.CsvFault.{CsvFault}
 use Rattle.csv_ingest.specs.declared.fault.CsvFault.TheVariants.{At, TooManyRows, TooManyColumns}
-use Rattle.csv_ingest.specs.Names.{known_name, plain_name}
+use Rattle.csv_ingest.specs.Names.{schema_name, number_name}
 
 -- which numbers of columns are too many, and how many rows of so many fields are the most
 pub record Limits : Type 0 where
@@ -45,12 +44,12 @@ abbrev pub all_or_first : {A E : Type 0} → List (Result A E) → Result (List 
 all_or_first [] = Ok []
 all_or_first (r ∷ rest) = joined r (all_or_first rest)
 
--- records behind the header count from 1, and the header is 0; cells of a record count from 1
+-- records after the header count from 1, and the header is 0; cells of a record count from 1
 abbrev pub placed : {A : Type 0} → ℕ → ℕ → Result A CsvKind → Result A CsvFault
 placed row column (Ok a) = Ok a
 placed row column (Err kind) = Err (At kind row column)
 
--- the name at a place of a header, from 1, read behind the names before it
+-- the name at a place of a header, from 1, read after the names before it
 abbrev pub name_at : {A : Type 0} → (List (List ℕ) → List ℕ → Result A CsvKind) → List (List ℕ) → ℕ × List ℕ → Result A CsvFault
 name_at reading header (column, name) = placed 0 column (reading (take (column - 1) header) name)
 
@@ -82,10 +81,6 @@ abbrev pub value_at : ℕ → List (List ℕ) → Field → Option ℕ → Resul
 value_at row cells field None = Ok field.default
 value_at row cells field (Some column) = placed row column (cell_value field (slice_index_or cells (column - 1) []))
 
--- each field is a number of 64 bits, and stands in the column of its own place
-abbrev pub InOrder : List Field → List (Option ℕ) → Type 0
-InOrder fields places = (i : ℕ) (d : Field) → i < length fields → ((get_or fields i d).kind ≡ Long) × (get_or places i None ≡ Some (i + 1))
-
 -- the values of a record, field by field of the schema
 abbrev pub values_of : List Field → List (List ℕ) → ℕ → List (List ℕ) → Result (List Value) CsvFault
 values_of fields header row cells = all_or_first (map (λ field. value_at row cells field (place_of header field)) fields)
@@ -108,7 +103,7 @@ under (Ok header) rows = rows header
 -- the rows of a schema's fields that the records of a text spell, or the first fault: the header's, or else that of the first row that has one
 unfoldable pub rows_in : Limits → List Field → List (List (List ℕ)) → Result (List (List Value)) CsvFault
 rows_in limits fields [] = Err (At NoHeader 0 0)
-rows_in limits fields (header ∷ rows) = under (header_of (known_name fields) header) (λ _. rows_of limits fields header rows)
+rows_in limits fields (header ∷ rows) = under (header_of (schema_name fields) header) (λ _. rows_of limits fields header rows)
 
 abbrev pub with_schema : List Field → Result (List (List Value)) CsvFault → Result (Schema × List (List Value)) CsvFault
 with_schema fields (Err fault) = Err fault
@@ -128,4 +123,4 @@ unfoldable pub plain_in : Limits → List (List (List ℕ)) → Result (Schema �
 plain_in limits [] = Err (At NoHeader 0 0)
 plain_in limits (header ∷ rows) =
     if limits.many_columns (length header) then Err TooManyColumns
-    else under (header_of plain_name header) (λ fields. with_schema fields (rows_of limits fields header rows))
+    else under (header_of number_name header) (λ fields. with_schema fields (rows_of limits fields header rows))

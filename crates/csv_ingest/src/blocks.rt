@@ -4,12 +4,12 @@ ghost use Rattle.csv.specs.Records.{fields_of};
 ghost use Rattle.values.specs.Columns.{rows_of as rows_of_columns};
 ghost use Rattle.csv_ingest.specs.Blocks.{IsFullBlock, IsLastBlock, RowsOrFault, after, rows_from};
 ghost use Rattle.csv_ingest.specs.Columns.{OfSorts};
-ghost use Rattle.csv_ingest.specs.Names.{plain_name};
-ghost use Rattle.csv_ingest.specs.PlainBlocks.{AreNumbers, Gives, GivesTable, IsPlainBlocks, IsPlainHeader};
+ghost use Rattle.csv_ingest.specs.Names.{number_name};
+ghost use Rattle.csv_ingest.specs.NumberBlocks.{AreNumbers, Gives, GivesTable, IsNumberBlocks, IsNumberHeader};
 ghost use Rattle.csv_ingest.specs.Reading.{Reads, records_left};
 ghost use Rattle.csv_ingest.specs.Rows.{csv_limits, header_of, plain_in, records_of};
 
-use crate::header::{names_in, plain_columns};
+use crate::header::{names_in, number_columns};
 use crate::layout::Layout;
 use crate::records::{next_record, text_reader, unmarked_len};
 use crate::rows::{Block, read_block};
@@ -27,15 +27,15 @@ const MOST_COLUMNS: usize = 64;
 
 /// The header of a text of whole numbers.
 #[derive(Drop)]
-pub struct PlainHeader {
+pub struct NumberHeader {
     pub names: ByteRecord,
     pub fields: Seq<Field>,
 }
 
 /// A text of whole numbers, of which some rows were read.
 #[derive(Drop)]
-pub struct PlainBlocks<'a> {
-    pub header: PlainHeader,
+pub struct NumberBlocks<'a> {
+    pub header: NumberHeader,
     pub reader: Reader<&'a [u8]>,
     /// How many rows were read.
     pub before: usize,
@@ -43,10 +43,10 @@ pub struct PlainBlocks<'a> {
     pub left: usize,
 }
 
-impl PlainHeader {
+impl NumberHeader {
     /// The header that a record is.
-    pub fn of_record(alloc: Global, names: ByteRecord) -> Result<PlainHeader, CsvFault>
-        ensures header { IfOk result IsPlainHeader }
+    pub fn of_record(alloc: Global, names: ByteRecord) -> Result<NumberHeader, CsvFault>
+        ensures header { IfOk result IsNumberHeader }
         ensures names { IfOk result (λ h. h.names ≡ names) }
         ensures err { IfErr result (λ fault. fault ≢ CsvFault.NoMemory → (records : List (List (List ℕ)))
             → plain_in csv_limits (fields_of names ∷ records) ≡ Err fault) }
@@ -55,7 +55,7 @@ impl PlainHeader {
             return Err(CsvFault::TooManyColumns);
         }
         match fields_in(alloc, &names) {
-            Ok(fields) => Ok(PlainHeader { names, fields }),
+            Ok(fields) => Ok(NumberHeader { names, fields }),
             Err(fault) => Err(fault),
         }
     }
@@ -69,6 +69,19 @@ impl PlainHeader {
         }
     }
 
+    /// The same, where the names are needed still.
+    pub fn schema(&self, alloc: Global) -> Result<Schema, CsvFault>
+        requires { IsNumberHeader self.now }
+        ensures ok { IfOk result (λ schema. schema ≡ record { fields = self.now.fields }) }
+        ensures few { IfOk result (λ schema. length schema.fields ≤ 64) }
+        ensures err { IfErr result (λ fault. fault ≡ CsvFault.NoMemory) }
+    {
+        match fields_in(alloc, &self.names) {
+            Ok(fields) => Ok(Schema { fields }),
+            Err(fault) => Err(fault),
+        }
+    }
+
     /// The next rows of a text, of which `before` were read.
     pub fn next_block(
         &self,
@@ -77,13 +90,14 @@ impl PlainHeader {
         before: usize,
         room: usize,
     ) -> Result<Block, CsvFault>
-        requires header { IsPlainHeader self.now }
+        requires header { IsNumberHeader self.now }
         requires few { before + room < 2 ^ 31 }
         ensures ok { IfOk result (λ b. (rest : List ℕ) → Reads reader.old rest → MatchBool b.last
             (IsLastBlock self.now.fields (fields_of self.now.names) before room reader.old rest b.columns)
             (IsFullBlock self.now.fields (fields_of self.now.names) before room reader.old reader.new
             rest b.columns)) }
         ensures sorts { IfOk result (λ b. OfSorts self.now.fields b.columns.columns) }
+        ensures most { IfOk result (λ b. b.columns.count ≤ room) }
         ensures err { IfErr result (λ fault. fault ≢ CsvFault.NoMemory → (rest : List ℕ)
             → Reads reader.old rest → (n : ℕ) → room ≤ n
             → rows_from before self.now.fields (fields_of self.now.names)
@@ -98,19 +112,19 @@ impl PlainHeader {
 // The columns of whole numbers that the cells of a record name.
 fn fields_in(alloc: Global, names: &ByteRecord) -> Result<Seq<Field>, CsvFault>
     requires { length (fields_of names.now) ≤ 64 }
-    ensures ok { IfOk result (λ fields. header_of plain_name (fields_of names.now) ≡ Ok fields) }
+    ensures ok { IfOk result (λ fields. header_of number_name (fields_of names.now) ≡ Ok fields) }
     ensures err { IfErr result (λ fault. fault ≢ CsvFault.NoMemory
-        → header_of plain_name (fields_of names.now) ≡ Err fault) }
+        → header_of number_name (fields_of names.now) ≡ Err fault) }
 {
     let names = names_in(alloc, names)?;
-    plain_columns(alloc, &names)
+    number_columns(alloc, &names)
 }
 
 /// The text of whole numbers that some bytes are, with its header read. The fields and the rows, or the
 /// first fault, are those of `read_plain_columns`.
-pub fn plain_blocks<'a>(alloc: Global, bytes: &'a [u8]) -> Result<PlainBlocks<'a>, CsvFault>
+pub fn number_blocks<'a>(alloc: Global, bytes: &'a [u8]) -> Result<NumberBlocks<'a>, CsvFault>
     requires { length bytes.now ≤ 134217728 }
-    ensures blocks { IfOk result IsPlainBlocks }
+    ensures blocks { IfOk result IsNumberBlocks }
     ensures ok { IfOk result (λ b. GivesTable b (plain_in csv_limits (records_of bytes.now))) }
     ensures err { IfErr result (λ fault. fault ≢ CsvFault.NoMemory
         → plain_in csv_limits (records_of bytes.now) ≡ Err fault) }
@@ -121,8 +135,8 @@ pub fn plain_blocks<'a>(alloc: Global, bytes: &'a [u8]) -> Result<PlainBlocks<'a
         return Err(CsvFault::At(CsvKind::NoHeader, 0, 0));
     }
     let left = unmarked_len(bytes);
-    match PlainHeader::of_record(alloc, names) {
-        Ok(header) => Ok(PlainBlocks {
+    match NumberHeader::of_record(alloc, names) {
+        Ok(header) => Ok(NumberBlocks {
             header,
             reader,
             before: 0,
@@ -132,11 +146,11 @@ pub fn plain_blocks<'a>(alloc: Global, bytes: &'a [u8]) -> Result<PlainBlocks<'a
     }
 }
 
-impl PlainBlocks<'_> {
+impl NumberBlocks<'_> {
     /// The next rows, if any are left: a few thousand, or else the last.
     pub fn next(&mut self, alloc: Global) -> Result<Option<Columns>, CsvFault>
-        requires { IsPlainBlocks self.old }
-        ensures blocks { IsPlainBlocks self.new }
+        requires { IsNumberBlocks self.old }
+        ensures blocks { IsNumberBlocks self.new }
         ensures header { self.new.header ≡ self.old.header }
         ensures ok { IfOk result (λ block. (whole : RowsOrFault) → Gives self.old whole
             → MatchOption block (whole ≡ Ok []) (λ columns. (more : RowsOrFault) × Gives self.new more
@@ -144,6 +158,8 @@ impl PlainBlocks<'_> {
         ensures numbers { IfOk result (λ block. IfSome block (λ columns.
             AreNumbers self.old.header.fields columns.columns)) }
         ensures fewer { IfOk result (λ block. IfSome block (λ _. self.new.left < self.old.left)) }
+        ensures count { IfOk result (λ block. IfSome block (λ columns.
+            columns.count + self.new.left ≤ self.old.left)) }
         ensures err { IfErr result (λ fault. fault ≢ CsvFault.NoMemory → (whole : RowsOrFault)
             → Gives self.old whole → whole ≡ Err fault) }
     {

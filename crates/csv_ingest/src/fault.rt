@@ -23,11 +23,32 @@ pub enum CsvKind {
     TooLong,
 }
 
+impl CsvKind {
+    ghost use Rattle.std.specs.Prelude.{◌≡◌};
+    ghost use Rattle.csv_ingest.specs.FaultTexts.{kind_text};
+
+    /// Its name in a note line.
+    pub fn text(self) -> &'static [u8]
+        ensures { result.now ≡ kind_text self }
+    {
+        match self {
+            CsvKind::NoHeader => b"NoHeader",
+            CsvKind::NotUtf8 => b"NotUtf8",
+            CsvKind::BadHeader => b"BadHeader",
+            CsvKind::DuplicateHeader => b"DuplicateHeader",
+            CsvKind::WrongLength => b"WrongLength",
+            CsvKind::NotANumber => b"NotANumber",
+            CsvKind::OutOfRange => b"OutOfRange",
+            CsvKind::TooLong => b"TooLong",
+        }
+    }
+}
+
 /// Why a CSV text has no rows.
 #[derive(Clone, Copy, Debug, PartialEq, Eq)]
 pub enum CsvFault {
     /// What is wrong, in which record and in which column of the header. The header is record 0,
-    /// and the records behind it count from 1, as columns do. Column 0 is the record as a whole.
+    /// and the records after it count from 1, as columns do. Column 0 is the record as a whole.
     At(CsvKind, u32, u32),
     /// There are more rows than this, the most that a table of so many fields may have.
     TooManyRows(u32),

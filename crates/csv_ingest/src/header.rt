@@ -1,7 +1,7 @@
 //! The header of a CSV text.
 ghost use Rattle.std.specs.Prelude.{◌≡◌, ◌≢◌, ◌≤◌, true, false, map, take, length, ◌<◌, ◌^◌, IfOk, IfErr, IsOk, Ok, Err};
 ghost use Rattle.csv.specs.Records.{fields_of};
-ghost use Rattle.csv_ingest.specs.Names.{is_among, known_name, names_of, plain_field, plain_name};
+ghost use Rattle.csv_ingest.specs.Names.{is_among, schema_name, names_of, number_field, number_name};
 ghost use Rattle.csv_ingest.specs.Rows.{header_of};
 
 use crate::cells::text_of;
@@ -34,11 +34,11 @@ pub fn names_in<'a>(alloc: Global, row: &'a ByteRecord) -> Result<Vec<&'a [u8]>,
     Ok(fields)
 }
 
-// The name of a column behind these names.
+// The name of a column after these names.
 fn column_name<'a>(name: &'a [u8], earlier: &[&[u8]]) -> Result<&'a str, CsvKind>
-    ensures ok { IfOk result (λ text. plain_name (map (λ f. f.now) earlier.now) name.now
-        ≡ Ok (plain_field text.now)) }
-    ensures err { IfErr result (λ kind. plain_name (map (λ f. f.now) earlier.now) name.now
+    ensures ok { IfOk result (λ text. number_name (map (λ f. f.now) earlier.now) name.now
+        ≡ Ok (number_field text.now)) }
+    ensures err { IfErr result (λ kind. number_name (map (λ f. f.now) earlier.now) name.now
         ≡ Err kind) }
 {
     let Some(text) = text_of(name) else {
@@ -54,7 +54,7 @@ fn column_name<'a>(name: &'a [u8], earlier: &[&[u8]]) -> Result<&'a str, CsvKind
 }
 
 fn column(alloc: Global, name: &str) -> Result<Field, AllocError>
-    ensures { IfOk result (λ field. field ≡ plain_field name.now) }
+    ensures { IfOk result (λ field. field ≡ number_field name.now) }
 {
     Ok(Field {
         name: Name::from_text(alloc, name)?,
@@ -65,12 +65,12 @@ fn column(alloc: Global, name: &str) -> Result<Field, AllocError>
 }
 
 /// The columns of whole numbers that these names make.
-pub fn plain_columns(alloc: Global, names: &[&[u8]]) -> Result<Seq<Field>, CsvFault>
+pub fn number_columns(alloc: Global, names: &[&[u8]]) -> Result<Seq<Field>, CsvFault>
     requires { length names.now ≤ 64 }
-    ensures ok { IfOk result (λ fields. header_of plain_name (map (λ f. f.now) names.now)
+    ensures ok { IfOk result (λ fields. header_of number_name (map (λ f. f.now) names.now)
         ≡ Ok fields) }
     ensures err { IfErr result (λ fault. fault ≢ CsvFault.NoMemory
-        → header_of plain_name (map (λ f. f.now) names.now) ≡ Err fault) }
+        → header_of number_name (map (λ f. f.now) names.now) ≡ Err fault) }
 {
     let mut fields = Seq::with_capacity(alloc, names.len())?;
     'names: for i in 0..names.len() {
@@ -93,11 +93,11 @@ fn is_field(name: &[u8], fields: &[Field]) -> bool
     false
 }
 
-// What is wrong with a name behind these, over a table of these fields.
+// What is wrong with a name after these, over a table of these fields.
 fn check_name(fields: &[Field], name: &[u8], earlier: &[&[u8]]) -> Result<(), CsvKind>
-    ensures ok { IfOk result (λ _. known_name fields.now (map (λ f. f.now) earlier.now) name.now
+    ensures ok { IfOk result (λ _. schema_name fields.now (map (λ f. f.now) earlier.now) name.now
         ≡ Ok name.now) }
-    ensures err { IfErr result (λ kind. known_name fields.now (map (λ f. f.now) earlier.now) name.now
+    ensures err { IfErr result (λ kind. schema_name fields.now (map (λ f. f.now) earlier.now) name.now
         ≡ Err kind) }
 {
     let Some(_) = text_of(name) else {
@@ -112,10 +112,10 @@ fn check_name(fields: &[Field], name: &[u8], earlier: &[&[u8]]) -> Result<(), Cs
 /// The first thing that is wrong with the names in a header, over a table of these fields.
 pub fn check_names(fields: &[Field], names: &[&[u8]]) -> Result<(), CsvFault>
     requires { length names.now < 2 ^ 31 }
-    ensures ok { IfOk result (λ _. IsOk (header_of (known_name fields.now)
+    ensures ok { IfOk result (λ _. IsOk (header_of (schema_name fields.now)
         (map (λ f. f.now) names.now))) }
     ensures err { IfErr result (λ fault.
-        header_of (known_name fields.now) (map (λ f. f.now) names.now) ≡ Err fault) }
+        header_of (schema_name fields.now) (map (λ f. f.now) names.now) ≡ Err fault) }
 {
     'names: for i in 0..names.len() {
         if let Err(kind) = check_name(fields, names[i], &names[..i]) {

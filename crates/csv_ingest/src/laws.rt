@@ -15,9 +15,9 @@ pub fn defaults_law()
 /// What a text is read as, by a valid schema or by its own header, are rows of the table, and no more than
 /// there may be.
 pub fn rows_law()
-    ensures known { (schema : Schema) (records : List (List (List ℕ))) (rows : List (List Value))
+    ensures schema { (schema : Schema) (records : List (List (List ℕ))) (rows : List (List Value))
         → IsValidSchema schema → rows_in csv_limits schema.fields records ≡ Ok rows
         → AreRows schema.fields rows }
-    ensures plain { (records : List (List (List ℕ))) (table : Schema × List (List Value))
+    ensures numbers { (records : List (List (List ℕ))) (table : Schema × List (List Value))
         → plain_in csv_limits records ≡ Ok table → AreRows table.0.fields table.1 }
 {}

@@ -1,27 +1,24 @@
 //! How the cells of a record become the values of a row.
-ghost use Rattle.std.specs.Prelude.{◌≡◌, ◌<◌, ◌+◌, ◌^◌, map, length, IfOk, Some, true};
+ghost use Rattle.std.specs.Prelude.{◌≡◌, ◌<◌, ◌+◌, ◌^◌, map, length, IfOk};
 ghost use Rattle.std.specs.List.{position_from};
 ghost use Rattle.std.specs.Str.{bytes_eq};
 ghost use Rattle.csv_ingest.specs.Columns.{DefaultsFit};
 ghost use Rattle.csv_ingest.specs.Layouts.{IsLayout, header_of};
-ghost use Rattle.csv_ingest.specs.Rows.{InOrder, place_of};
+ghost use Rattle.csv_ingest.specs.Rows.{place_of};
 ghost use Rattle.table_schema.specs.ValidTable.{most_rows};
 
 use std::alloc::{AllocError, Global};
 use table_schema::Field;
-use values::FieldKind;
 
 /// The fields of a table over the names of a header, made once for a text.
 #[derive(Drop)]
 pub struct Layout<'a> {
     pub fields: &'a [Field],
     pub names: &'a [&'a [u8]],
-    /// Where each field stands in the header, from 1.
+    /// Where each field is in the header, from 1.
     pub places: Vec<Option<usize>>,
     /// How many rows there are at most.
     pub most: u32,
-    /// Whether each field is a 64-bit number in the column of its own place.
-    pub in_order: bool,
 }
 
 impl<'a> Layout<'a> {
@@ -38,13 +35,11 @@ impl<'a> Layout<'a> {
     {
         let places = places_of(alloc, fields, names)?;
         let most = most_rows(fields.len());
-        let in_order = are_in_order(fields, &places);
         Ok(Layout {
             fields,
             names,
             places,
             most,
-            in_order,
         })
     }
 }
@@ -61,7 +56,7 @@ fn place_in(names: &[&[u8]], name: &[u8]) -> Option<usize>
     None
 }
 
-// Where each field stands in a header.
+// Where each field is in a header.
 fn places_of(
     alloc: Global,
     fields: &[Field],
@@ -75,30 +70,6 @@ fn places_of(
         places.push(place_in(names, fields[i].name.as_slice()))?;
     }
     Ok(places)
-}
-
-// Whether a field is a 64-bit number in the column of its own place, which is counted from 0.
-fn is_in_order(field: &Field, place: Option<usize>, i: usize) -> bool
-    requires { i + 1 < 2 ^ 64 }
-    ensures { result ≡ true → (field.now.kind ≡ FieldKind.Long) × (place ≡ Some (i + 1)) }
-{
-    match (field.kind, place) {
-        (FieldKind::Long, Some(column)) => column == i + 1,
-        _ => false,
-    }
-}
-
-// Whether each field is a 64-bit number in the column of its own place.
-fn are_in_order(fields: &[Field], places: &[Option<usize>]) -> bool
-    requires { length places.now ≡ length fields.now }
-    ensures { result ≡ true → InOrder fields.now places.now }
-{
-    'fields: for i in 0..fields.len() {
-        if !is_in_order(&fields[i], places[i], i) {
-            return false;
-        }
-    }
-    true
 }
 
 // How many rows of so many fields are the most.

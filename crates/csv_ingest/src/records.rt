@@ -50,7 +50,7 @@ fn is_mark(a: u8, b: u8, c: u8) -> bool
     a == 0xEF && b == 0xBB && c == 0xBF
 }
 
-/// How many bytes a text has behind a byte order mark at its start.
+/// How many bytes a text has after a byte order mark at its start.
 pub fn unmarked_len(text: &[u8]) -> usize
     ensures value { result ≡ length (strip_bom text.now) }
     ensures within { result ≤ length text.now }

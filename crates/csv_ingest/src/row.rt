@@ -40,10 +40,7 @@ fn push_cell(column: &mut Column, kind: FieldKind, bytes: &[u8]) -> Result<bool,
         if !is_short(bytes) {
             return Ok(false);
         }
-        if !column.push_bytes(bytes)? {
-            return Ok(false);
-        }
-        return Ok(true);
+        return column.push_bytes(bytes);
     }
     let Some(number) = number_in(kind, bytes) else {
         return Ok(false);
@@ -109,83 +106,7 @@ fn push_field(
     push_field_slowly(alloc, column, field, place, cells, row)
 }
 
-// Adds the 64-bit number that a cell spells, if it has characters and spells one.
-#[inline(always)]
-fn push_long(column: &mut Column, bytes: &[u8]) -> Result<bool, AllocError>
-    requires { column.old.are_texts ≡ false }
-    ensures { IfOk result (λ done. MatchBool done
-        (PushesCell FieldKind.Long bytes.now column.old column.new)
-        (column.new ≡ column.old)) }
-{
-    if bytes.is_empty() {
-        return Ok(false);
-    }
-    let Some(number) = number_in(FieldKind::Long, bytes) else {
-        return Ok(false);
-    };
-    column.push_whole(number)?;
-    Ok(true)
-}
-
-// Adds the value of a field of 64-bit numbers, whose column is counted from 0, to its column.
-#[inline(always)]
-fn push_number(
-    alloc: Global,
-    column: &mut Column,
-    field: &Field,
-    at: usize,
-    cells: &ByteRecord,
-    row: u32,
-) -> Result<(), CsvFault>
-    requires within { at < length (fields_of cells.now) }
-    requires few { length (fields_of cells.now) < 2 ^ 32 }
-    requires kind { field.now.kind ≡ FieldKind.Long }
-    requires sort { column.old.are_texts ≡ is_text_kind field.now.kind }
-    requires default { DefaultFits field.now }
-    ensures ok { OnOk result (Pushes (value_at row (fields_of cells.now) field.now (Some (at + 1)))
-        column.old column.new) }
-    ensures err { IfErr result (λ fault. fault ≢ CsvFault.NoMemory
-        → value_at row (fields_of cells.now) field.now (Some (at + 1)) ≡ Err fault) }
-{
-    if push_long(column, cell(cells, at))? {
-        return Ok(());
-    }
-    push_field_slowly(alloc, column, field, Some(at + 1), cells, row)
-}
-
 impl Layout<'_> {
-    // Adds the values of a record whose fields are in order: for most cells nothing but the cell is
-    // looked at.
-    #[inline(never)]
-    fn push_numbers(
-        &self,
-        alloc: Global,
-        columns: &mut Vec<Column>,
-        cells: &ByteRecord,
-        row: u32,
-    ) -> Result<(), CsvFault>
-        requires layout { IsLayout self.now }
-        requires order { self.now.in_order ≡ true }
-        requires width { length (fields_of cells.now) ≡ length self.now.names.now }
-        requires sorts { OfSorts self.now.fields.now columns.old.items }
-        ensures ok { OnOk result (PushesRow
-            (values_of self.now.fields.now (header_of self.now) row (fields_of cells.now))
-            columns.old.items columns.new.items) }
-        ensures err { IfErr result (λ fault. fault ≢ CsvFault.NoMemory
-            → values_of self.now.fields.now (header_of self.now) row (fields_of cells.now)
-            ≡ Err fault) }
-    {
-        let fields = self.fields;
-        'values: for i in 0..fields.len() {
-            let column = &mut columns[i];
-            match push_number(alloc, column, &fields[i], i, cells, row) {
-                Ok(()) => {}
-                Err(fault) => return Err(fault),
-            }
-        }
-        Ok(())
-    }
-
     // Adds the values of a record, field by field.
     #[inline(never)]
     fn push_values(
@@ -239,9 +160,6 @@ impl Layout<'_> {
         }
         if cells.len() != self.names.len() {
             return Err(CsvFault::At(CsvKind::WrongLength, row, 0));
-        }
-        if self.in_order {
-            return self.push_numbers(alloc, columns, cells, row);
         }
         self.push_values(alloc, columns, cells, row)
     }

@@ -26,14 +26,16 @@ fn empty_column(alloc: Global, kind: FieldKind) -> Column
     }
 }
 
-// A column with no value for each field.
-fn empty_columns(alloc: Global, fields: &[Field]) -> Result<Vec<Column>, AllocError>
+// A column with no value for each field, and with room for so many.
+fn empty_columns(alloc: Global, fields: &[Field], rows: usize) -> Result<Vec<Column>, AllocError>
     ensures sorts { IfOk result (λ columns. OfSorts fields.now columns.items) }
     ensures empty { IfOk result (λ columns. All (Counts 0) columns.items) }
 {
     let mut columns = Vec::with_capacity(alloc, fields.len())?;
     for field in fields {
-        columns.push(empty_column(alloc, field.kind))?;
+        let mut column = empty_column(alloc, field.kind);
+        column.reserve(rows)?;
+        columns.push(column)?;
     }
     Ok(columns)
 }
@@ -60,13 +62,14 @@ pub fn read_block(
         (IsFullBlock layout.now.fields.now (header_of layout.now) before room reader.old reader.new
         rest b.columns)) }
     ensures sorts { IfOk result (λ b. OfSorts layout.now.fields.now b.columns.columns) }
+    ensures most { IfOk result (λ b. b.columns.count ≤ room) }
     ensures err { IfErr result (λ fault. fault ≢ CsvFault.NoMemory → (rest : List ℕ)
         → Reads reader.old rest → (n : ℕ) → room ≤ n
         → rows_from before layout.now.fields.now (header_of layout.now)
         (records_left n reader.old rest) ≡ Err fault) }
 {
     let mut record = ByteRecord::new(alloc);
-    let mut columns = empty_columns(alloc, layout.fields)?;
+    let mut columns = empty_columns(alloc, layout.fields, room.min(layout.most as usize))?;
     'rows: for i in 0..room {
         if !next_record(reader, &mut record)? {
             let columns = Columns::new(columns, i);

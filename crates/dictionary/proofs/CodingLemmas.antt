@@ -1,9 +1,9 @@
 -- One more number of a column.
-use Rattle.std.proofs.Common.{◌≡◌, ◌∙◌, ◌<◌, ◌≤◌, ◌+◌, ◌++◌, ◌∷◌, [], ℕ, ℤ, pos, zero, suc, List, length, map, get_or, set, take, drop, slice_get, Some, refl, ap, ap₂, sym, subst, arith, length-append, append_assoc}
-use Rattle.std.specs.List.{All, Contains}
+use Rattle.std.proofs.Common.{◌≡◌, ◌∙◌, ◌<◌, ◌+◌, ◌++◌, ◌∷◌, [], ℕ, ℤ, pos, zero, suc, List, length, map, get_or, set, take, drop, slice_get, Some, refl, ap, ap₂, sym, subst, arith, length-append, append_assoc}
+use Rattle.std.specs.List.{Contains}
 use Rattle.std.proofs.lemmas.List.{get_or_append_left, get_or_default, get_or_at, length-map, map-append, set_at, take_more, drop_more, length-take-le}
 use Rattle.std.proofs.lemmas.List.Elements.{All-append, All-head, All-push, All-tail, All-weaker}
-use Rattle.dictionary.specs.Coding.{numbers_at, AreBelow, AreNumbersOf, Grows, renumbered}
+use Rattle.dictionary.specs.Coding.{numbers_at, AreBelow, AreNumbersOf, Grows}
 
 numbers-more : (seen more : List ℤ) (ids : List ℕ) → AreBelow (length seen) ids → numbers_at (seen ++ more) ids ≡ numbers_at seen ids
 numbers-more seen more [] below = refl

@@ -1,4 +1,4 @@
--- The dictionary of a column: its distinct values, each before all those behind it in the order of values.
+-- The dictionary of a column: its distinct values, each before all those after it in the order of values.
 use Rattle.std.specs.Prelude.{◌≡◌, ◌≤◌, ℕ, true, List, [], ◌∷◌, length}
 use Rattle.std.specs.List.{All}
 use Rattle.std.specs.List.Sorted.{IsStrictlySortedBy}

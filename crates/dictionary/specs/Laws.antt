@@ -4,7 +4,7 @@ use Rattle.values.specs.declared.value.Value.{Value}
 use Rattle.values.specs.Tests.{is_member}
 use Rattle.dictionary.specs.Dictionary.{Ascends, distinct}
 
--- each is before all those behind it
+-- each is before all those after it
 abbrev pub DistinctAscend : Type 0
 DistinctAscend = (column : List Value) → Ascends (distinct column)
 

@@ -42,7 +42,7 @@ Spells left values = (counted left.start ++ left.offsets ≡ offsets left.start 
 abbrev pub NoNext : Left → Type 0
 NoNext left = (text : List ℕ) (more : List Value) → length text ≤ 512 → IsUtf8 text → ¬ (Spells left (Text text ∷ more))
 
--- the text is the next, and what is left behind it
+-- the text is the next, and what is left after it
 pub record IsNext (left : Left) (text : List ℕ) (behind : Left) : Type 0 where
   pub short : length text ≤ 512
   pub unicode : IsUtf8 text

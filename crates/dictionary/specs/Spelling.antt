@@ -46,7 +46,7 @@ body kind.Text values = offsets 0 values ++ texts values
 abbrev pub spelling : Distinct → List ℕ
 spelling d = counted (length d.values) ++ body d.kind d.values
 
--- the bytes are others with more behind them
+-- the bytes are others with more after them
 abbrev pub IsExtended : List ℕ → List ℕ → Type 0
 IsExtended old new = (more : List ℕ) × (new ≡ old ++ more)
 

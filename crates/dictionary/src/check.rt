@@ -49,7 +49,7 @@ fn read_body(
     }
 }
 
-// The number that four bytes at the front spell, and the bytes behind them.
+// The number that four bytes at the front spell, and the bytes after them.
 fn split_number(bytes: &[u8]) -> Option<(usize, &[u8])>
     ensures { MatchOption result
         (length bytes.now < 4)
@@ -178,7 +178,7 @@ fn texts_ahead(count: usize, body: &[u8]) -> Option<Unread<'_>>
     })
 }
 
-// The next text, and what is left behind it.
+// The next text, and what is left after it.
 fn next_text(ahead: Unread<'_>) -> Option<(&str, Unread<'_>)>
     requires { ahead.start ≤ 536870912 }
     ensures { let left : Left = record {

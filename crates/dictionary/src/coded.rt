@@ -6,7 +6,7 @@ ghost use Rattle.dictionary.specs.Dictionary.{Ascends, most_values};
 
 use crate::number_index::code_numbers;
 use std::alloc::{AllocError, Global};
-use values::{Column, Name, NoMemory, Texts, Value};
+use values::{Column, Name, NoMemory, TextPool, Texts, Value};
 
 /// Values of a column, as a rule each once, and for each row the place of its own among them.
 #[derive(Drop)]
@@ -24,13 +24,13 @@ fn wholes(alloc: Global, numbers: &[i64]) -> Result<Vec<Value>, NoMemory>
         .collect(alloc)
 }
 
-// The texts as values, which share them.
-fn shared_texts(alloc: Global, names: &[Name]) -> Result<Vec<Value>, NoMemory>
-    ensures { IfOk result (λ values. values.items ≡ map value.Text names.now) }
+// The texts as values.
+fn text_values(alloc: Global, texts: &TextPool) -> Result<Vec<Value>, NoMemory>
+    ensures { IfOk result (λ values. values.items ≡ map value.Text texts.now) }
 {
-    let mut values = Vec::with_capacity(alloc, names.len())?;
-    for name in names {
-        values.push(Value::Text(name.copy()?))?;
+    let mut values = Vec::with_capacity(alloc, texts.len())?;
+    for at in 0..texts.len() {
+        values.push(Value::Text(Name::from_text(alloc, texts.text(at))?))?;
     }
     Ok(values)
 }
@@ -51,8 +51,8 @@ fn coded_texts(alloc: Global, texts: &Texts) -> Result<Coded, NoMemory>
     ensures { IfOk result (λ coded. Sees (map value.Text texts.now) coded.values.items
         coded.ids.items) }
 {
-    let (names, ids) = texts.parts();
-    let values = shared_texts(alloc, names)?;
+    let (seen, ids) = texts.parts();
+    let values = text_values(alloc, seen)?;
     let ids = copied(alloc, ids)?;
     Ok(Coded { values, ids })
 }

@@ -54,8 +54,7 @@ impl Dictionary {
         Ok(Dictionary { kind, values })
     }
 
-    /// The dictionary of a column of that kind, and the id of each row's value. Texts are shared with
-    /// the column.
+    /// The dictionary of a column of that kind, and the id of each row's value.
     pub fn of_column(
         alloc: Global,
         kind: FieldKind,

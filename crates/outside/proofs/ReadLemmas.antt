@@ -1,6 +1,6 @@
 -- Reads that go back to back, and how many bytes they give.
-use Rattle.std.proofs.Common.{All, IfSome, ◌≡◌, ◌≢◌, ◌≤◌, ◌<◌, min, ◌+◌, ◌-◌, ℕ, Bool, true, false, List, [], ◌∷◌, ◌++◌, length, take, drop, Option, Some, None, refl, sym, ap, ◌∙◌, subst, arith, append_assoc, append-nil, option_map, length-drop, ◌⊎◌, inl, inr, if◌then◌else◌}
-use Rattle.std.proofs.lemmas.List.{length-take, take_at}
+use Rattle.std.proofs.Common.{All, IfSome, ◌≡◌, ◌≢◌, ◌≤◌, ◌<◌, min, ◌+◌, ◌-◌, ℕ, Bool, true, false, List, [], ◌∷◌, ◌++◌, length, take, drop, Option, Some, None, refl, sym, ap, ◌∙◌, subst, arith, append_assoc, append-nil, option_map, unwrap_or, OnErr, Result, Ok, Err, length-drop, ◌⊎◌, inl, inr, if◌then◌else◌}
+use Rattle.std.proofs.lemmas.List.{length-take, take_all, take_at, take_min, drop-drop}
 use Rattle.std.proofs.Math.Seq.{take-add, take-append-add}
 use borrow.Rule.Slice.PartMut.{mid_of, put_mid, post_of, same_len_mid}
 use Rattle.std.proofs.lemmas.List.Elements.{All-tail}
@@ -10,10 +10,10 @@ use Rattle.std.specs.Cmp.{tied_itself}
 use Rattle.std.specs.FinMap as map
 use Rattle.std.specs.Ordering.{eq_by_cmp, is_eq}
 use Rattle.std.specs.declared.cmp.Ordering.TheVariants.{Less, Equal, Greater}
-use Rattle.outside.specs.Files.{Files, Has, OfFile, name_order}
+use Rattle.outside.specs.Files.{Files, Has, bytes_at, bytes_of, name_order}
 use Rattle.outside.specs.Files.{IsLengthOf}
-use Rattle.outside.specs.Reads.{AllGive, Entry, entry_of, logged, overlap, read_by, read_in, Consecutive, LogsFilled, LogsOn, LogsThrough, ReadsAt}
-use Rattle.outside.specs.Whole.{LogsFront}
+use Rattle.outside.specs.Whole.{IsWhole}
+use Rattle.outside.specs.Reads.{AllGive, Entry, Fills, entry_of, logged, overlap, read_by, read_in, Consecutive, LogsFilled, LogsOn, LogsThrough, LogsUpTo, ReadsAt}
 
 -- one more read after reads that go back to back
 pub Consecutive-push : (file : List ℕ) (from to n : ℕ) (entries : List Entry) → Consecutive file from to entries → Consecutive file from (to + n) (entries ++ entry_of file to n ∷ [])
@@ -34,43 +34,68 @@ pub LogsThrough-push : (file : List ℕ) (from to n : ℕ) (first log now : Opti
 LogsThrough-push file from to n first log now (entries, is, through) e =
     (entries ++ entry_of file to n ∷ [], e ∙ ap (logged file to n) is ∙ some_append first entries (entry_of file to n ∷ []), Consecutive-push file from to n entries through)
 
-same_file : (x y : List ℕ) → Some x ≡ Some y → x ≡ y
-same_file x y e = cc
-
 -- a read that gave nothing
 pub LogsThrough-end : (file : List ℕ) (from to n : ℕ) (first log now : Option (List Entry)) → LogsThrough file from to first log → now ≡ logged file to n log → n ≡ 0 → LogsThrough file from to first now
 LogsThrough-end file from to n first log now through e none =
     subst (λ k. LogsThrough file from k first now) (omega (arith, none)) (LogsThrough-push file from to n first log now through e)
 
--- a file of this name is there, whose first 0 bytes are those of any list
-pub front_starts : (held : Option Files) (name into : List ℕ) → Has held name → OfFile held name (λ file. (0 ≤ length file) × (take 0 into ≡ take 0 file))
-front_starts None name into h = tt
-front_starts (Some files) name into (bytes, e) = (bytes, e, (omega arith, refl))
+-- the bytes that are told under a name, where there is such a file and where there is none
+pub there : (files : Files) (name bytes : List ℕ) → map.get files name ≡ Some bytes → bytes_of (Some files) name ≡ bytes
+there files name bytes e = ap (λ (found : Option (List ℕ)). unwrap_or found []) e
 
--- where a buffer has the front of a file, it has more of it after a read behind that front
-front_of : (file into new rest : List ℕ) (done n k : ℕ) → done ≤ length into → done + n ≤ length file → new ≡ take n (drop done file) ++ rest → take done into ≡ take done file
-    → take (done + n) (put_mid done k into new) ≡ take (done + n) file
-front_of file into new rest done n k within long is before =
+pub lacking : (files : Files) (name : List ℕ) → map.get files name ≡ None → bytes_of (Some files) name ≡ []
+lacking files name e = ap (λ (found : Option (List ℕ)). unwrap_or found []) e
+
+-- so many bytes of the file from an offset on are at the front of the buffer, and the file has them
+abbrev pub Front : Option Files → List ℕ → ℕ → ℕ → List ℕ → Type 0
+Front held name offset done into =
+    IfSome held (λ files. (done ≤ length (bytes_of (Some files) name) - offset) × (take done into ≡ bytes_at files name offset done))
+
+pub front-starts : (held : Option Files) (name : List ℕ) (offset : ℕ) (into : List ℕ) → Front held name offset 0 into
+front-starts None name offset into = tt
+front-starts (Some files) name offset into = (omega arith, refl)
+
+-- where a buffer has the front of a list, it has more of it after a read behind that front
+front_of : (rest into new behind : List ℕ) (done n k : ℕ) → done ≤ length into → done + n ≤ length rest → new ≡ take n (drop done rest) ++ behind → take done into ≡ take done rest
+    → take (done + n) (put_mid done k into new) ≡ take (done + n) rest
+front_of rest into new behind done n k within long is before =
     let first : length (take done into) ≡ done = grind (arith, length-take done into) in
-    let more : length (take n (drop done file)) ≡ n = grind (arith, length-take n (drop done file), length-drop done file) in
-    let behind : List ℕ = rest ++ post_of done k into in
-    let shape : put_mid done k into new ≡ take done into ++ (take n (drop done file) ++ behind) = ap (λ ys. take done into ++ (ys ++ post_of done k into)) is ∙ ap (λ ys. take done into ++ ys) (append_assoc (take n (drop done file)) rest (post_of done k into)) in
+    let more : length (take n (drop done rest)) ≡ n = grind (arith, length-take n (drop done rest), length-drop done rest) in
+    let tail : List ℕ = behind ++ post_of done k into in
+    let shape : put_mid done k into new ≡ take done into ++ (take n (drop done rest) ++ tail) = ap (λ ys. take done into ++ (ys ++ post_of done k into)) is ∙ ap (λ ys. take done into ++ ys) (append_assoc (take n (drop done rest)) behind (post_of done k into)) in
     ap (take (done + n)) shape
-    ∙ ap (λ m. take (m + n) (take done into ++ (take n (drop done file) ++ behind))) (sym first)
-    ∙ take-append-add (take done into) (take n (drop done file) ++ behind) n
-    ∙ ap (λ xs. xs ++ take n (take n (drop done file) ++ behind)) before
-    ∙ ap (λ xs. take done file ++ xs) (take_at (take n (drop done file)) behind n more)
-    ∙ sym (take-add done n file)
+    ∙ ap (λ m. take (m + n) (take done into ++ (take n (drop done rest) ++ tail))) (sym first)
+    ∙ take-append-add (take done into) (take n (drop done rest) ++ tail) n
+    ∙ ap (λ xs. xs ++ take n (take n (drop done rest) ++ tail)) before
+    ∙ ap (λ xs. take done rest ++ xs) (take_at (take n (drop done rest)) tail n more)
+    ∙ sym (take-add done n rest)
 
-pub front_grows : (held : Option Files) (name : List ℕ) (done n k : ℕ) (into new : List ℕ) → done ≤ length into → ReadsAt held name done n (mid_of done k into) new
-    → OfFile held name (λ file. (done ≤ length file) × (take done into ≡ take done file))
-    → OfFile held name (λ file. (done + n ≤ length file) × (take (done + n) (put_mid done k into new) ≡ take (done + n) file))
-front_grows None name done n k into new within reads before = tt
-front_grows (Some files) name done n k into new within (file, got, (count, is)) before =
-    let same : before.0 ≡ file = same_file before.0 file (sym before.1 ∙ got) in
-    let front = subst (λ f. (done ≤ length f) × (take done into ≡ take done f)) same before.2 in
-    let long : done + n ≤ length file = omega (arith, count, front.0) in
-    (file, got, (long, front_of file into new (drop n (mid_of done k into)) done n k within long is front.1))
+pub front-grows : (held : Option Files) (name : List ℕ) (offset done n k : ℕ) (into new : List ℕ) → done ≤ length into → ReadsAt held name (offset + done) n (mid_of done k into) new
+    → Front held name offset done into → Front held name offset (done + n) (put_mid done k into new)
+front-grows None name offset done n k into new within reads before = tt
+front-grows (Some files) name offset done n k into new within (file, got, (count, is)) before =
+    let told : bytes_of (Some files) name ≡ file = there files name file got in
+    let sizes : length (bytes_of (Some files) name) ≡ length file = ap length told in
+    let long : done + n ≤ length file - offset = omega (arith, count, before.0, sizes) in
+    let rest = drop offset file in
+    let shifted : new ≡ take n (drop done rest) ++ drop n (mid_of done k into) = is ∙ ap (λ ds. take n ds ++ drop n (mid_of done k into)) (sym (drop-drop done offset file)) in
+    let front : take done into ≡ take done rest = before.1 ∙ ap (λ xs. take done (drop offset xs)) told in
+    (omega (arith, long, sizes), front_of rest into new (drop n (mid_of done k into)) done n k within (omega (arith, length-drop offset file, long)) shifted front ∙ ap (λ xs. take (done + n) (drop offset xs)) (sym told))
+
+-- a file from which a read came is there
+pub ReadsAt-has : (held : Option Files) (name : List ℕ) (offset n : ℕ) (old new : List ℕ) → ReadsAt held name offset n old new → Has held name
+ReadsAt-has None name offset n old new reads = tt
+ReadsAt-has (Some files) name offset n old new (file, got, is) = (file, got)
+
+-- a buffer that is cut after the bytes that were read has just the bytes of the file
+pub filled-bytes : (held : Option Files) (name : List ℕ) (offset n count size : ℕ) (into rest bytes : List ℕ) → length into ≡ size → size ≡ count → bytes ≡ take n (take size (into ++ rest)) → Fills held name offset n into
+    → IfSome held (λ files. bytes ≡ bytes_at files name offset count)
+filled-bytes None name offset n count size into rest bytes long same is fills = tt
+filled-bytes (Some files) name offset n count size into rest bytes long same is (many, front) =
+    let file = bytes_of (Some files) name in
+    let have : length (drop offset file) ≡ length file - offset = length-drop offset file in
+    let least : n ≡ min count (length (drop offset file)) = omega (arith, many, have, long, same) in
+    is ∙ ap (take n) (take_at into rest size long) ∙ front ∙ ap (λ k. take k (drop offset file)) least ∙ take_min count (drop offset file)
 
 -- a read fits the buffer
 pub fits_after : (into new : List ℕ) (done n : ℕ) → done ≤ length into → length new ≡ length (mid_of done (length into - done) into) → n ≤ length (mid_of done (length into - done) into)
@@ -179,9 +204,17 @@ LogsOn-push file from to n first log now (entries, is, on) e some =
 pub LogsOn-through : (file : List ℕ) (from to : ℕ) (first now : Option (List Entry)) → LogsOn file from to first now → LogsThrough file from to first now
 LogsOn-through file from to first now (entries, is, on) = (entries, is, AllGive-back file from to entries on)
 
--- a read that failed leaves the log of those before it
-pub LogsOn-front : (file : List ℕ) (limit to : ℕ) (first log now : Option (List Entry)) → to ≤ limit → LogsOn file 0 to first log → now ≡ log → LogsFront file limit first now
-LogsOn-front file limit to first log now within on same = (to, within, subst (LogsThrough file 0 to first) (sym same) (LogsOn-through file 0 to first log on))
+pub on-err : {A E : Type 0} (result : Result A E) (P : Type 0) → P → OnErr result P
+on-err (Ok x) P h = tt
+on-err (Err e) P h = h
+
+-- no reads
+pub logs-none : (file : List ℕ) (from limit : ℕ) (log now : Option (List Entry)) → from ≤ limit → now ≡ log → LogsUpTo file from limit log now
+logs-none file from limit log now within same = subst (LogsUpTo file from limit log) (sym same) (from, within, LogsThrough-none file from log)
+
+-- reads that each give bytes, up to some offset that is within a limit
+pub logs-up : (file : List ℕ) (from to limit : ℕ) (first log now : Option (List Entry)) → to ≤ limit → LogsOn file from to first log → now ≡ log → LogsUpTo file from limit first now
+logs-up file from to limit first log now within on same = (to, within, subst (LogsThrough file from to first) (sym same) (LogsOn-through file from to first log on))
 
 -- the last read gave nothing
 pub LogsFilled-short : (file : List ℕ) (from to n end : ℕ) (first log now : Option (List Entry)) → LogsOn file from to first log → now ≡ logged file to n log → n ≡ 0 → to < end → LogsFilled file from to end first now
@@ -192,14 +225,33 @@ pub LogsFilled-through : (file : List ℕ) (from to end : ℕ) (first now : Opti
 LogsFilled-through file from to end first now (inl (reached, on)) = LogsOn-through file from to first now on
 LogsFilled-through file from to end first now (inr (between, short, on, e)) = LogsThrough-end file from to 0 first between now (LogsOn-through file from to first between on) e refl
 
+-- reads that reached their end each gave bytes
+pub LogsFilled-full : (file : List ℕ) (from to end : ℕ) (first now : Option (List Entry)) → end ≤ to → LogsFilled file from to end first now → LogsOn file from to first now
+LogsFilled-full file from to end first now within (inl (reached, on)) = on
+LogsFilled-full file from to end first now within (inr (between, short, on, e)) = absurd (omega (arith, within, short))
+
+-- reads that begin where the file does
+pub LogsFilled-start : (file : List ℕ) (to end : ℕ) (first now : Option (List Entry)) → LogsFilled file 0 (0 + to) (0 + end) first now → LogsFilled file 0 to end first now
+LogsFilled-start file to end first now filled =
+    let same : (n : ℕ) → 0 + n ≡ n = λ n. omega arith in
+    subst (λ t. LogsFilled file 0 t end first now) (same to) (subst (λ e. LogsFilled file 0 (0 + to) e first now) (same end) filled)
+
 same_bytes : {b file : List ℕ} → Some b ≡ Some file → b ≡ file
 same_bytes e = cc
 
+-- the bytes of a whole file, as long as it is told to be
+pub whole-bytes : (held now : Option Files) (name bytes : List ℕ) (long limit : ℕ) → now ≡ held → IsLengthOf held name long → long ≤ limit → IfSome now (λ files. bytes ≡ bytes_at files name 0 long) → IsWhole held name limit bytes
+whole-bytes None now name bytes long limit same told within is = tt
+whole-bytes (Some files) now name bytes long limit same (file, got, count) within is =
+    let read : bytes ≡ bytes_at files name 0 long = subst (λ h. IfSome h (λ fs. bytes ≡ bytes_at fs name 0 long)) same is in
+    let whole : take long file ≡ file = take_all long file (omega (arith, count)) in
+    (file, got, (read ∙ ap (take long) (there files name file got) ∙ whole, omega (arith, count)))
+
 -- of a told file as many bytes are read as it has
-pub LogsFilled-told : (held : Option Files) (name into : List ℕ) (to end : ℕ) (first now : Option (List Entry)) → IsLengthOf held name end → OfFile held name (λ file. (to ≡ min (length file) end) × (take to into ≡ take to file))
-    → LogsFilled name 0 to end first now → IfSome held (λ _. LogsOn name 0 to first now)
-LogsFilled-told None name into to end first now long front filled = tt
-LogsFilled-told (Some files) name into to end first now (file, got, is) (other, got', (count, bytes)) (inl (reached, on)) = on
-LogsFilled-told (Some files) name into to end first now (file, got, is) (other, got', (count, bytes)) (inr (between, short, on, e)) =
-    let same : length file ≡ length other = ap length (same_bytes (sym got ∙ got')) in
-    absurd (omega (arith, is, count, same, short))
+pub LogsFilled-told : (held : Option Files) (name bytes : List ℕ) (long limit : ℕ) (first now : Option (List Entry)) → IsLengthOf held name long → IsWhole held name limit bytes
+    → LogsFilled name 0 (length bytes) long first now → IfSome held (λ _. LogsOn name 0 (length bytes) first now)
+LogsFilled-told None name bytes long limit first now told is filled = tt
+LogsFilled-told (Some files) name bytes long limit first now (file, got, count) (other, got', is) (inl (reached, on)) = on
+LogsFilled-told (Some files) name bytes long limit first now (file, got, count) (other, got', is) (inr (between, short, on, e)) =
+    let same : length file ≡ length bytes = ap length (same_bytes (sym got ∙ got') ∙ sym is.0) in
+    absurd (omega (arith, count, same, short))

@@ -1,7 +1,7 @@
 -- Counts of faults, which are 64-bit numbers that never fall and stay at the greatest one.
 use Rattle.std.specs.Prelude.{◌≡◌, ◌<◌, ◌⊎◌, ◌+◌, ◌-◌, ◌^◌, ℕ, min}
 
--- a count rose in a call: it is greater than before, or stands at the end of its type
+-- a count rose in a call: it is greater than before, or is at the end of its type
 abbrev pub Rose : ℕ → ℕ → Type 0
 Rose before now = (before < now) ⊎ (now ≡ 2 ^ 64 - 1)
 

@@ -6,11 +6,11 @@ use Rattle.std.specs.List.{filter}
 use Rattle.std.specs.Ordering.{eq_by_cmp}
 use Rattle.outside.specs.Files.{name_order}
 
--- to put a file under this name is to put it behind the first so many files
+-- to put a file under this name is to put it after the first so many files
 abbrev pub PutsAt : List (List ℕ × List ℕ) → List ℕ → ℕ → Type 0
 PutsAt files name at = (bytes : List ℕ) → put name_order name bytes files ≡ take at files ++ put name_order name bytes (drop at files)
 
--- the files behind the first so many begin with no lesser name
+-- the files after the first so many begin with no lesser name
 abbrev pub StopsAt : List (List ℕ × List ℕ) → List ℕ → ℕ → Type 0
 StopsAt files name at = (file : List ℕ × List ℕ) → at < length files → file ≡ slice_index_or files at file → name_order name file.0 ≢ Greater
 

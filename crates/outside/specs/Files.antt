@@ -1,5 +1,5 @@
 -- Files by their names, where a device tells them.
-use Rattle.std.specs.Prelude.{◌≡◌, ◌≢◌, ℕ, List, [], length, Option, Some, None, option_map, IfSome, IsSomeAnd, MatchOption, fold, unwrap_or}
+use Rattle.std.specs.Prelude.{◌≡◌, ◌≢◌, ℕ, List, [], length, take, drop, Option, Some, None, option_map, IfSome, IsSomeAnd, MatchOption, fold, unwrap_or}
 use Rattle.std.specs.Option.{option_and_then}
 use Rattle.std.specs.Ordering.{nat_cmp}
 use Rattle.std.specs.declared.cmp.Ordering.{Ordering}
@@ -38,6 +38,10 @@ IsLengthOf told name n = OfFile told name (λ bytes. n ≡ length bytes)
 abbrev pub bytes_of : Option Files → List ℕ → List ℕ
 bytes_of told name = unwrap_or (option_and_then (λ files. map.get files name) told) []
 
+-- the bytes of a file from an offset on, so many or up to its end; a file that is not there has none
+abbrev pub bytes_at : Files → List ℕ → ℕ → ℕ → List ℕ
+bytes_at files name offset count = take count (drop offset (bytes_of (Some files) name))
+
 -- the told files with these bytes under this name
 abbrev pub with_file : List ℕ → List ℕ → Option Files → Option Files
 with_file name bytes told = option_map (λ files. map.insert files name bytes) told
@@ -46,7 +50,7 @@ with_file name bytes told = option_map (λ files. map.insert files name bytes) t
 abbrev pub without_file : List ℕ → Option Files → Option Files
 without_file name told = option_map (λ files. map.remove files name) told
 
--- the told files are as they were but for what stands under this name
+-- the told files are as they were but for what is under this name
 abbrev pub SameBut : List ℕ → Option Files → Option Files → Type 0
 SameBut name before now =
     MatchOption before (now ≡ None) (λ old. IsSomeAnd now (λ new. (other : List ℕ) → other ≢ name → map.get new other ≡ map.get old other))

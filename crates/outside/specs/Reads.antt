@@ -1,7 +1,7 @@
 -- The reads that a shelf tells, and how many bytes of a file they gave.
-use Rattle.std.specs.Prelude.{◌≡◌, ◌≤◌, ◌<◌, ◌⊎◌, ◌+◌, ◌-◌, ℕ, min, max, List, [], ◌∷◌, ◌++◌, length, take, drop, Option, option_map, sum_by, if◌then◌else◌}
+use Rattle.std.specs.Prelude.{◌≡◌, ◌≤◌, ◌<◌, ◌⊎◌, ◌+◌, ◌-◌, ℕ, min, max, List, [], ◌∷◌, ◌++◌, length, take, drop, Option, Some, IfSome, option_map, sum_by, if◌then◌else◌}
 use Rattle.std.specs.Ordering.{eq_by_cmp}
-use Rattle.outside.specs.Files.{Files, OfFile, name_order}
+use Rattle.outside.specs.Files.{Files, OfFile, bytes_at, bytes_of, name_order}
 
 -- one read: so many bytes of this file, from this offset on
 pub record Entry : Type 0 where
@@ -21,6 +21,11 @@ logged file offset count log = option_map (λ entries. entries ++ entry_of file 
 abbrev pub ReadsAt : Option Files → List ℕ → ℕ → ℕ → List ℕ → List ℕ → Type 0
 ReadsAt held name offset n old new =
     OfFile held name (λ bytes. (n ≡ min (length bytes - offset) (length old)) × (new ≡ take n (drop offset bytes) ++ drop n old))
+
+-- so many bytes of the file from an offset on stand at the front of a buffer, as many as there are and fit
+abbrev pub Fills : Option Files → List ℕ → ℕ → ℕ → List ℕ → Type 0
+Fills held name offset count into =
+    IfSome held (λ files. (count ≡ min (length (bytes_of (Some files) name) - offset) (length into)) × (take count into ≡ bytes_at files name offset count))
 
 -- how many bytes two stretches have in common: from a to b, and from c to d
 abbrev pub overlap : ℕ → ℕ → ℕ → ℕ → ℕ
@@ -44,6 +49,10 @@ Consecutive file from to (entry ∷ entries) =
 abbrev pub LogsThrough : List ℕ → ℕ → ℕ → Option (List Entry) → Option (List Entry) → Type 0
 LogsThrough file from to old new =
     (entries : List Entry) × (new ≡ option_map (λ before. before ++ entries) old) × Consecutive file from to entries
+
+-- the told log grew by reads of this file that go back to back, from one offset to none after another
+abbrev pub LogsUpTo : List ℕ → ℕ → ℕ → Option (List Entry) → Option (List Entry) → Type 0
+LogsUpTo file from limit old new = (to : ℕ) × (to ≤ limit) × LogsThrough file from to old new
 
 -- these reads are of this file, go back to back from one offset to another, and each gave bytes
 abbrev pub AllGive : List ℕ → ℕ → ℕ → List Entry → Type 0

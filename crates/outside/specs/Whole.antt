@@ -1,7 +1,7 @@
 -- What reading a whole file answers.
 use Rattle.std.specs.Prelude.{◌≡◌, ◌≤◌, ◌<◌, ℕ, List, length, Option}
 use Rattle.outside.specs.Files.{Files, OfFile}
-use Rattle.outside.specs.Reads.{Entry, LogsFilled, LogsThrough}
+use Rattle.outside.specs.Reads.{Entry, LogsFilled, LogsUpTo}
 
 -- where files are told, these are the bytes of the one of this name, and are within the limit
 abbrev pub IsWhole : Option Files → List ℕ → ℕ → List ℕ → Type 0
@@ -13,7 +13,7 @@ IsTooLong held name limit = OfFile held name (λ file. limit < length file)
 
 -- the told log grew by reads of this file, back to back from its start to some offset within the limit
 abbrev pub LogsFront : List ℕ → ℕ → Option (List Entry) → Option (List Entry) → Type 0
-LogsFront file limit old new = (to : ℕ) × (to ≤ limit) × LogsThrough file 0 to old new
+LogsFront file limit old new = LogsUpTo file 0 limit old new
 
 -- a file was read up to some length within the limit, or up to where a read gave nothing
 abbrev pub LogsEnd : List ℕ → ℕ → ℕ → Option (List Entry) → Option (List Entry) → Type 0

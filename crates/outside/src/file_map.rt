@@ -106,7 +106,7 @@ pub fn named(alloc: Global, text: &str) -> Result<Name, NoMemory>
     Ok(Name::from_string(String::from_str(alloc, text)?))
 }
 
-// Some bytes, with more behind them.
+// Some bytes, with more after them.
 fn extended(bytes: Bytes, more: &[u8]) -> Result<Bytes, NoMemory>
     ensures { IfOk result (λ all. all ≡ bytes ++ more.now) }
 {
@@ -159,7 +159,7 @@ fn find_file<'a>(files: &'a [(Name, Bytes)], name: &str) -> Option<&'a Bytes>
     None
 }
 
-// Where the first file of this name stands.
+// Where the first file of this name is.
 fn index_of(files: &[(Name, Bytes)], name: &str) -> Option<usize>
     ensures { MatchOption result
         (find name_order name.now files.now ≡ None)

@@ -212,7 +212,7 @@ fn list_files<R: Files + AllocGlobal + Clone + Drop>(
     Ok(names)
 }
 
-// Whether a plain file stands at a path of a folder's list. One that has gone since is none.
+// Whether there is a plain file at a path of a folder's list. One that has gone since is none.
 fn is_plain<R: Files>(rt: &R, path: &str) -> io::Result<bool> {
     match fs::metadata(rt, path) {
         Ok(metadata) => Ok(metadata.is_file()),

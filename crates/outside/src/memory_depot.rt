@@ -32,7 +32,7 @@ impl Model for MemoryDepot {
 }
 
 impl MemoryDepot {
-    /// A depot of these files. Of two with one name the last one stands.
+    /// A depot of these files. Of two with one name the last one counts.
     pub fn new(
         alloc: Global,
         files: Seq<(Name, Bytes)>,

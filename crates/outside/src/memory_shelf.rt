@@ -44,7 +44,7 @@ impl Model for MemoryShelf {
 }
 
 impl MemoryShelf {
-    /// A shelf of these files. Of two with one name the last one stands.
+    /// A shelf of these files. Of two with one name the last one counts.
     pub fn new(
         alloc: Global,
         files: Seq<(Name, Bytes)>,

@@ -1,12 +1,12 @@
 //! Reading whole files.
-ghost use Rattle.std.specs.Prelude.{◌≡◌, ◌≤◌, ◌↔◌, ℕ, IfOk, IfSome, OnErr, IsErrOf, length, vec_len, min, take};
-ghost use Rattle.outside.specs.Files.{Has, Lacks, OfFile};
-ghost use Rattle.outside.specs.Reads.{LogsFilled, LogsOn, LogsThrough};
+ghost use Rattle.std.specs.Prelude.{◌≡◌, ◌≤◌, ◌↔◌, ℕ, IfOk, IfSome, OnErr, IsErrOf, length};
+ghost use Rattle.outside.specs.Files.{Has, Lacks};
+ghost use Rattle.outside.specs.Reads.{LogsOn, LogsThrough};
 ghost use Rattle.outside.specs.Seen.{OnlyReads, seen};
 ghost use Rattle.outside.specs.Whole.{IsWhole, IsTooLong, LogsEnd, LogsFront};
 
-use crate::{Bytes, NoMemory, Seq, Shelf, ShelfFault};
-use std::alloc::{AllocError, Global};
+use crate::{Bytes, Shelf, ShelfFault, read_bytes};
+use std::alloc::Global;
 
 /// Why a whole file is not read.
 #[derive(Clone, Copy, Debug, PartialEq, Eq)]
@@ -18,17 +18,6 @@ pub enum ReadAllFault {
     /// The file is longer than the limit.
     TooLong,
     NoMemory,
-}
-
-impl From<AllocError> for ReadAllFault {
-    ghost use Rattle.std.specs.Prelude.{◌≡◌};
-    ghost use Rattle.outside.specs.declared.whole.ReadAllFault.TheVariants.{NoMemory};
-
-    ghost from_gives = { λ _ fault. fault ≡ NoMemory };
-
-    fn from(_: AllocError) -> Self {
-        ReadAllFault::NoMemory
-    }
 }
 
 // What a shelf's fault is for a whole file.
@@ -43,13 +32,6 @@ fn of_shelf(fault: ShelfFault) -> ReadAllFault
         ShelfFault::Failed => ReadAllFault::Failed,
         ShelfFault::NoMemory => ReadAllFault::NoMemory,
     }
-}
-
-// So many zero bytes.
-fn zeros(alloc: Global, size: usize) -> Result<Vec<u8>, NoMemory>
-    ensures { IfOk result (λ bytes. vec_len bytes ≡ size) }
-{
-    vec![in alloc; 0u8; size]
 }
 
 /// The whole of a file that is not longer than the limit. It asks for the length first, takes memory
@@ -87,45 +69,8 @@ pub fn read_all<S: Shelf>(
     if length > limit {
         return Err(ReadAllFault::TooLong);
     }
-    let mut bytes = zeros(alloc, length as usize)?;
-    let count = fill(alloc, shelf, name, &mut bytes)?;
-    bytes.truncate(count);
-    Ok(Seq::from_vec(bytes))
-}
-
-// Reads the first bytes of a file that is there into `into`, as many as fit or until the file ends, and
-// says how many.
-fn fill<S: Shelf>(
-    alloc: Global,
-    shelf: &mut S,
-    name: &str,
-    into: &mut [u8],
-) -> Result<usize, ReadAllFault>
-    requires { Has (S.held shelf.old) name.now }
-    ensures front { IfOk result (λ n.
-        OfFile (S.held shelf.old) name.now (λ file. (n
-        ≡ min (length file) (length into.old)) × (take n into.new ≡ take n file))) }
-    ensures bound { IfOk result (λ n. n ≤ length into.old) }
-    ensures only_reads { OnlyReads (IsErrOf result ReadAllFault.Failed)
-        (seen S.Shelf shelf.old) (seen S.Shelf shelf.new) }
-    ensures log { IfOk result (λ n.
-        LogsFilled name.now 0 n (length into.old) (S.log shelf.old) (S.log shelf.new)) }
-    ensures log_of_fault { OnErr result
-        (LogsFront name.now (length into.old) (S.log shelf.old) (S.log shelf.new)) }
-    ensures missing { IsErrOf result ReadAllFault.Missing → Lacks (S.held shelf.old) name.now }
-    ensures long { ¬ IsErrOf result ReadAllFault.TooLong }
-    ensures present { IsErrOf result ReadAllFault.NoMemory → Has (S.held shelf.old) name.now }
-{
-    let mut done = 0;
-    'pieces: while done < into.len() {
-        let n = match shelf.read_at(alloc, name, done as u64, &mut into[done..]) {
-            Ok(n) => n,
-            Err(fault) => return Err(of_shelf(fault)),
-        };
-        if n == 0 {
-            return Ok(done);
-        }
-        done += n;
+    match read_bytes(alloc, shelf, name, 0, length) {
+        Ok(bytes) => Ok(bytes),
+        Err(fault) => Err(of_shelf(fault)),
     }
-    Ok(done)
 }

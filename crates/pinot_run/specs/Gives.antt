@@ -13,7 +13,10 @@ use Rattle.query_parser.specs.declared.tree.Query.{Query}
 use Rattle.query_bind.specs.Bound.{Bound, bound, in_normal_form}
 use Rattle.query_bind.specs.Conjuncts.{KeepRows}
 use Rattle.query_bind.specs.Written.{where_written}
+use Rattle.csv_ingest.specs.Blocks.{RowsOrFault}
+use Rattle.csv_ingest.specs.declared.fault.CsvFault.{CsvFault}
 use Rattle.pinot_run.specs.Form.{is_answered}
+use Rattle.pinot_run.specs.Notes.{csv_note}
 use Rattle.pinot_run.specs.Step.{Answer, Refuses, Replies, sql_limit}
 use Rattle.outside.specs.Seen.{Seen}
 use Rattle.pinot_run.specs.declared.fault.Fault.TheVariants as fault
@@ -48,6 +51,11 @@ StopsBy found Failing (stop.Refused line) = (texts_refuse line ≡ true) × IfSo
 StopsBy found Failing (stop.Fault fault.Read) = Failing
 StopsBy found Failing (stop.Fault fault.Write) = ⊥
 StopsBy found Failing (stop.Fault fault.Memory) = Unit {0}
+
+-- a text is refused for its first fault, or memory ran out
+abbrev pub StopsText : RowsOrFault → Stop → Type 0
+StopsText whole (stop.Refused line) = (fault : CsvFault) × (whole ≡ Err fault) × (line ≡ csv_note fault)
+StopsText whole (stop.Fault why) = why ≡ fault.Memory
 
 -- an input file was not read whole: it is not there, or too long, or a read failed, or memory ran out
 abbrev pub StopsRead : List ℕ → Counted → ℕ → Option Files → Type 0 → Stop → Type 0

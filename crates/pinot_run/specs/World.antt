@@ -30,7 +30,7 @@ abbrev pub IsOther : List (List ℕ) → List ℕ → Type 0
 IsOther [] name = Unit {0}
 IsOther (x ∷ xs) name = (name ≢ x) × IsOther xs name
 
--- the told files are as they were but for what stands under these names
+-- the told files are as they were but for what is under these names
 abbrev pub SameButThese : List (List ℕ) → Option Files → Option Files → Type 0
 SameButThese names before now =
     MatchOption before (now ≡ None) (λ old. IsSomeAnd now (λ new. (other : List ℕ) → IsOther names other → map.get new other ≡ map.get old other))

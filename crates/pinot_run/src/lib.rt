@@ -15,6 +15,7 @@ mod line;
 mod note;
 mod run;
 mod scan;
+mod selection;
 mod status;
 mod stop;
 mod tally;

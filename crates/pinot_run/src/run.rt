@@ -79,7 +79,7 @@ pub fn run_command<I: Shelf, D: Depot, O: Sink, N: Sink>(
         (world I.Shelf D.Shelf O.Sink N.Sink inputs.old depot.old out.old notes.old)
         (world I.Shelf D.Shelf O.Sink N.Sink inputs.new depot.new out.new notes.new)) }
 
-    // What stands after each status, over any store, with the cause of each refusal and of each fault.
+    // What is left after each status, over any store, with the cause of each refusal and of each fault.
     ensures leaves { Leaves (command_of (map string_bytes words.now))
         (world I.Shelf D.Shelf O.Sink N.Sink inputs.old depot.old out.old notes.old) result
         (world I.Shelf D.Shelf O.Sink N.Sink inputs.new depot.new out.new notes.new) }

@@ -1,19 +1,22 @@
 //! The command `scan`: a query over one CSV file of whole numbers.
-ghost use Rattle.std.specs.Prelude.{◌≡◌, ◌≢◌, ◌≤◌, true, false, ℕ, List, Some, Ok, Err, IfOk, IfErr, length, replicate, string_bytes};
+ghost use Rattle.std.specs.Prelude.{◌≡◌, ◌≢◌, ◌≤◌, ◌<◌, ◌+◌, true, false, ℕ, List, [], Some, Ok, Err, IfOk, IfErr, IfSome, MatchOption, length, replicate, string_bytes};
 ghost use Rattle.values.specs.Columns.{rows_of as rows_of_columns};
 ghost use Rattle.values.specs.declared.value.Value.{Value};
-ghost use Rattle.csv_ingest.specs.Rows.{csv_limits, plain_in, records_of};
+ghost use Rattle.csv_ingest.specs.Blocks.{RowsOrFault, after};
+ghost use Rattle.csv_ingest.specs.NumberBlocks.{Gives as HasLeft, IsNumberBlocks};
+ghost use Rattle.csv_ingest.specs.Rows.{csv_limits, plain_in, records_of, with_schema};
+ghost use Rattle.table_schema.specs.Conditions.{all_hold};
 ghost use Rattle.query_bind.specs.Bound.{Spelled, bound};
 ghost use Rattle.outside.specs.Seen.{Seen, seen};
 ghost use Rattle.pinot_run.specs.Command.{Scan};
-ghost use Rattle.pinot_run.specs.Gives.{Gives, IsAnswered, IsBound};
+ghost use Rattle.pinot_run.specs.Gives.{Gives, IsAnswered, IsBound, StopsText};
 ghost use Rattle.pinot_run.specs.Notes.{csv_note};
 ghost use Rattle.pinot_run.specs.Numbers.{AreNumbers};
 ghost use Rattle.pinot_run.specs.Profile.{csv_limit};
 ghost use Rattle.pinot_run.specs.Ran.{Ran};
 ghost use Rattle.pinot_run.specs.Reply.{folded, label_of, summed};
 ghost use Rattle.pinot_run.specs.Step.{Replies, bare_settings, bare_table, bound_answer, query_answer, sql_answer};
-ghost use Rattle.pinot_run.specs.Tally.{fold_text, sum_of};
+ghost use Rattle.pinot_run.specs.Tally.{IsTallyOf, fold_text, sum_of};
 
 use crate::answer::answer_text;
 use crate::bad_query::QueryReason;
@@ -22,13 +25,13 @@ use crate::form::is_answered;
 use crate::input::{CSV_LIMIT, read_input};
 use crate::note::{Counted, Note};
 use crate::stop::Stop;
-use crate::tally::{Tally, tally_rows};
-use csv_ingest::{CsvFault, read_plain_columns};
+use crate::tally::Tally;
+use csv_ingest::{CsvFault, NumberBlocks, number_blocks};
 use outside::{Bytes, Shelf};
 use query_bind::{BindFault, bind};
 use query_parser::{Query, QueryFault, parse};
 use std::alloc::{AllocError, Global};
-use table_schema::{Agg, BoundQuery, Field, Schema, Settings, Table};
+use table_schema::{Agg, BoundQuery, Conjunct, Field, Schema, Settings, Table};
 use values::{Columns, Name, Seq};
 
 // The column that is added up; none where the rows are counted.
@@ -63,14 +66,14 @@ fn folded(alloc: Global, sums: Option<u16>, tally: &Tally) -> Result<String, All
     }
 }
 
-// The reply to a query: the fold of the rows that satisfy its conjuncts.
-fn answer(alloc: Global, bound: &BoundQuery, table: &Columns) -> Result<Bytes, Stop>
-    requires { AreNumbers table.now }
-    ensures { Gives (Replies (fold_text bound.now (rows_of_columns table.now))) result }
+// The reply to a query by the tally of the rows that satisfy its conjuncts.
+fn answer(alloc: Global, bound: &BoundQuery, tally: &Tally) -> Result<Bytes, Stop>
+    ensures { (rows : List (List Value)) →
+        IsTallyOf (summed bound.now.aggs) (λ row. all_hold row bound.now.conjuncts) rows
+        tally.now.rows tally.now.sum → Gives (Replies (fold_text bound.now rows)) result }
 {
     let sums = summed(bound.aggs.as_slice());
-    let tally = tally_rows(table, bound.conjuncts.as_slice(), sums);
-    let cell = folded(alloc, sums, &tally)?;
+    let cell = folded(alloc, sums, tally)?;
     let text = answer_text(alloc, label_of(bound.labels.as_slice()), cell.as_bytes())?;
     Ok(outside::Seq::from_vec(text))
 }
@@ -161,20 +164,90 @@ fn stop_of(fault: CsvFault) -> Stop
     }
 }
 
-// The fields and the columns of a CSV text, which is let go before they are looked at.
-fn columns_of(alloc: Global, text: Bytes) -> Result<(Schema, Columns), Stop>
-    requires { length text ≤ csv_limit }
-    ensures rows { IfOk result (λ table.
-        plain_in csv_limits (records_of text) ≡ Ok (table.0, rows_of_columns table.1)) }
-    ensures few { IfOk result (λ table. length table.0.fields ≤ 64) }
-    ensures numbers { IfOk result (λ table. AreNumbers table.1) }
-    ensures stops { (sql : List ℕ) → IfErr result (λ why.
-        Gives (query_answer sql (plain_in csv_limits (records_of text))) (Err why)) }
+// The next rows of a text, if any are left.
+fn next_rows(alloc: Global, blocks: &mut NumberBlocks<'_>) -> Result<Option<Columns>, Stop>
+    requires { IsNumberBlocks blocks.old }
+    ensures blocks { IsNumberBlocks blocks.new }
+    ensures ok { IfOk result (λ block. (whole : RowsOrFault) → HasLeft blocks.old whole
+        → MatchOption block (whole ≡ Ok []) (λ columns. (more : RowsOrFault)
+        × HasLeft blocks.new more × (whole ≡ after (rows_of_columns columns) more))) }
+    ensures numbers { IfOk result (λ block. IfSome block AreNumbers) }
+    ensures count { IfOk result (λ block. IfSome block (λ columns.
+        columns.count + blocks.new.left ≤ blocks.old.left)) }
+    ensures fewer { IfOk result (λ block. IfSome block (λ _. blocks.new.left < blocks.old.left)) }
+    ensures stops { IfErr result (λ why. (whole : RowsOrFault) → HasLeft blocks.old whole →
+        StopsText whole why) }
 {
-    let table = read_plain_columns(alloc, text.as_slice());
-    drop(text);
-    match table {
-        Ok((schema, columns)) => Ok((schema, columns)),
+    match blocks.next(alloc) {
+        Ok(block) => Ok(block),
+        Err(fault) => Err(stop_of(fault)),
+    }
+}
+
+// The tally of the rows of a text that satisfy all of these, which is read to its end.
+fn tally_text(
+    alloc: Global,
+    blocks: &mut NumberBlocks<'_>,
+    sums: Option<u16>,
+    conjuncts: &[Conjunct],
+) -> Result<Tally, Stop>
+    requires { IsNumberBlocks blocks.old }
+    ensures ok { IfOk result (λ tally. (whole : RowsOrFault) → HasLeft blocks.old whole →
+        (rows : List (List Value)) × (whole ≡ Ok rows)
+        × IsTallyOf sums (λ row. all_hold row conjuncts.now) rows tally.rows tally.sum) }
+    ensures stops { IfErr result (λ why. (whole : RowsOrFault) → HasLeft blocks.old whole →
+        StopsText whole why) }
+{
+    let mut tally = Tally::new();
+    'tables: while let Some(table) = next_rows(alloc, blocks)? {
+        tally.add_rows(alloc, sums, conjuncts, &table)?;
+    }
+    Ok(tally)
+}
+
+// A query by its text, its names and its types.
+fn bound_query(alloc: Global, sql: &str, schema: Schema) -> Result<BoundQuery, Stop>
+    requires { length schema.fields ≤ 64 }
+    ensures bound { IfOk result (λ found. (query : Query) × IsAnswered sql.now query
+        × IsBound (bare_table schema) query found) }
+    ensures stops { (rows : List (List Value)) → IfErr result (λ why.
+        Gives (sql_answer sql.now schema rows) (Err why)) }
+{
+    let query = query_of(alloc, sql)?;
+    bind_to(alloc, &query, schema)
+}
+
+// The reply to a query over the rows of a text. What is wrong with the text comes before what is
+// wrong with the query, so the text is read to its end for either.
+fn reply_over(alloc: Global, blocks: &mut NumberBlocks<'_>, sql: &str) -> Result<Bytes, Stop>
+    requires { IsNumberBlocks blocks.old }
+    ensures { (whole : RowsOrFault) → HasLeft blocks.old whole →
+        Gives (query_answer sql.now (with_schema blocks.old.header.fields whole)) result }
+{
+    let schema = match blocks.header.schema(alloc) {
+        Ok(schema) => schema,
+        Err(fault) => return Err(stop_of(fault)),
+    };
+    match bound_query(alloc, sql, schema) {
+        Ok(bound) => {
+            let sums = summed(bound.aggs.as_slice());
+            let tally = tally_text(alloc, blocks, sums, bound.conjuncts.as_slice())?;
+            answer(alloc, &bound, &tally)
+        }
+        Err(stop) => {
+            tally_text(alloc, blocks, None, &[])?;
+            Err(stop)
+        }
+    }
+}
+
+// The reply to a query over a CSV text.
+fn reply_to_text(alloc: Global, text: &[u8], sql: &str) -> Result<Bytes, Stop>
+    requires { length text.now ≤ csv_limit }
+    ensures { Gives (query_answer sql.now (plain_in csv_limits (records_of text.now))) result }
+{
+    match number_blocks(alloc, text) {
+        Ok(mut blocks) => reply_over(alloc, &mut blocks, sql),
         Err(fault) => Err(stop_of(fault)),
     }
 }
@@ -186,8 +259,5 @@ pub fn scan<I: Shelf>(alloc: Global, file: &str, sql: &str, inputs: &mut I) -> R
         (record { inputs = seen I.Shelf inputs.new; depot = depot }) result }
 {
     let text = read_input(alloc, file, Counted::CsvBytes, CSV_LIMIT, inputs)?;
-    let (schema, columns) = columns_of(alloc, text)?;
-    let query = query_of(alloc, sql)?;
-    let bound = bind_to(alloc, &query, schema)?;
-    answer(alloc, &bound, &columns)
+    reply_to_text(alloc, text.as_slice(), sql)
 }

@@ -1,4 +1,4 @@
--- AND and OR as one: how members are joined, and what of a condition stands among them.
+-- AND and OR as one: how members are joined, and what of a condition is among them.
 use Rattle.std.specs.Prelude.{Bool, List, flat_map, if◌then◌else◌}
 use Rattle.table_schema.specs.declared.field.Field.{Field}
 use Rattle.table_schema.specs.declared.query.Wide.{Wide}
@@ -26,7 +26,7 @@ abbrev pub parts : Joint → Wide → List Wide
 parts All w = conjoined w
 parts Any w = disjoined w
 
--- what of the normal form of a condition stands among members that are joined so
+-- what of the normal form of a condition is among members that are joined so
 abbrev pub gathered : Joint → Bool → List Field → Cond → List Wide
 gathered joint negated fields c = parts joint (normal negated (written fields c))
 

@@ -11,3 +11,4 @@ pub mod Places
 pub mod Firsts
 pub mod Once
 pub mod LookUps
+pub mod FaultTexts

@@ -14,7 +14,7 @@ use Rattle.query_bind.specs.Terms.{with_agg, with_column, aggs_from}
 use Rattle.table_schema.specs.declared.query.Agg.{Agg}
 use Rattle.table_schema.specs.Firsts.{or_else, first_of}
 
--- the first term with which there are more than 16 aggregates, behind those that are kept
+-- the first term with which there are more than 16 aggregates, after those that are kept
 abbrev pub aggs_finding : List Agg → List TermAt → Finding
 aggs_finding kept [] = None
 aggs_finding kept (t ∷ ts) = or_else
@@ -28,7 +28,7 @@ groups_finding kept (n ∷ ns) = or_else
     (fault_if (nat_lt 8 (length (with_column kept n.column))) TooMany n.offset)
     (groups_finding (with_column kept n.column) ns)
 
--- the first key behind 16 others, or with which there are more than 16 aggregates
+-- the first key after 16 others, or with which there are more than 16 aggregates
 abbrev pub keys_finding : ℕ → List Agg → List KeyAt → Finding
 keys_finding others kept [] = None
 keys_finding others kept (k ∷ ks) = or_else
@@ -53,7 +53,7 @@ abbrev pub number_in : Value → ℕ
 number_in (value.Whole z) = natural z
 number_in (value.Text t) = 0
 
--- the number behind the word, or the usual one
+-- the number after the word, or the usual one
 abbrev pub count_or : ℕ → Option LiteralAt → ℕ
 count_or usual None = usual
 count_or usual (Some l) = number_in l.value

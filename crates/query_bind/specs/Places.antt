@@ -20,7 +20,7 @@ at_place b (item.Agg place) = option_map meaning.Agg (slice_get b.aggs place)
 abbrev pub OfBound : (Table → Query → Bound → Type 0) → Type 0
 OfBound Has = (table : Table) (any_table : Bool) (q : Query) (b : Bound) → bound table any_table q ≡ Ok b → Has table q b
 
--- at the place of each item stands what its term is
+-- at the place of each item is what its term is
 abbrev pub ItemsAreTerms : Type 0
 ItemsAreTerms = OfBound (λ table q b. map (at_place b) b.items ≡ map (λ i. Some (meaning_of table.schema.fields i.term)) q.items)
 

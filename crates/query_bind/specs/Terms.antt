@@ -84,7 +84,7 @@ with_new same kept x = if list_any (same x) kept then kept else kept ++ x ∷ []
 abbrev pub with_column : List ℕ → ℕ → List ℕ
 with_column = with_new (λ a b. b == a)
 
--- the columns of some names, behind those that are kept
+-- the columns of some names, after those that are kept
 abbrev pub columns_from : List ℕ → List ColumnAt → List ℕ
 columns_from kept [] = kept
 columns_from kept (n ∷ ns) = columns_from (with_column kept n.column) ns
@@ -93,7 +93,7 @@ abbrev pub with_agg : List Agg → Meaning → List Agg
 with_agg kept (meaning.Column c) = kept
 with_agg kept (meaning.Agg a) = with_new same_agg kept a
 
--- the aggregates of some terms, behind those that are kept
+-- the aggregates of some terms, after those that are kept
 abbrev pub aggs_from : List Agg → List TermAt → List Agg
 aggs_from kept [] = kept
 aggs_from kept (t ∷ ts) = aggs_from (with_agg kept t.meaning) ts

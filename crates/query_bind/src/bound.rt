@@ -102,7 +102,7 @@ fn assemble(
     })
 }
 
-/// The number behind LIMIT or OFFSET, or the usual one.
+/// The number after LIMIT or OFFSET, or the usual one.
 fn count_or(usual: u64, literal: &Option<LiteralAt>) -> u64
     requires { limits.is_count literal.now ≡ true }
     ensures { result ≡ limits.count_or usual literal.now }

@@ -118,7 +118,7 @@ fn conjuncts_of(alloc: Global, wides: Seq<Wide>) -> Result<Seq<Conjunct>, NoMemo
     Ok(conjuncts)
 }
 
-/// The normal form of what stands behind WHERE, over fields that it names.
+/// The normal form of what follows WHERE, over fields that it names.
 pub(crate) fn conjuncts(
     alloc: Global,
     fields: &[Field],

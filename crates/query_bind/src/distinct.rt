@@ -83,7 +83,7 @@ fn item_aggs(alloc: Global, terms: &[TermAt]) -> Result<Seq<Agg>, BindFault>
     Ok(aggs)
 }
 
-/// These aggregates, and behind them those of the keys.
+/// These aggregates, and after them those of the keys.
 fn key_aggs(before: Seq<Agg>, keys: &[KeyAt]) -> Result<Seq<Agg>, BindFault>
     requires { length before ≤ 16 }
     ensures aggs { Gives (limits.keys_finding 0 before keys.now)

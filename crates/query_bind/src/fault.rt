@@ -21,6 +21,26 @@ pub enum BindReason {
     TooMany,
 }
 
+impl BindReason {
+    ghost use Rattle.std.specs.Prelude.{◌≡◌};
+    ghost use Rattle.query_bind.specs.FaultTexts.{bind_text};
+
+    /// Its name in a note line.
+    pub fn text(self) -> &'static [u8]
+        ensures { result.now ≡ bind_text self }
+    {
+        match self {
+            BindReason::UnknownTable => b"UnknownTable",
+            BindReason::UnknownColumn => b"UnknownColumn",
+            BindReason::TypeMismatch => b"TypeMismatch",
+            BindReason::NotNumeric => b"NotNumeric",
+            BindReason::NoAggregate => b"NoAggregate",
+            BindReason::NotGrouped => b"NotGrouped",
+            BindReason::TooMany => b"TooMany",
+        }
+    }
+}
+
 /// The first check that a query fails, with the byte of its text where it fails.
 #[derive(Clone, Copy, Debug, PartialEq, Eq)]
 pub enum BindFault {

@@ -4,7 +4,7 @@ ghost use Rattle.query_bind.specs.Places.{ItemsAreTerms, KeysAreTerms};
 ghost use Rattle.query_bind.specs.Once.{GroupsStandOnce, GroupsAreNamed, AggsStandOnce, AggsAreWritten};
 ghost use Rattle.query_bind.specs.Firsts.{FewGroups, FewAggs, FewKeys, FirstGroup, FirstAgg, FirstKey};
 
-/// At the place of each item stands what its term is.
+/// At the place of each item is what its term is.
 pub fn items_law()
     ensures { ItemsAreTerms }
 {}

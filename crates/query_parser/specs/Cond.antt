@@ -19,7 +19,7 @@ operator k.Gt = Some op.More
 operator k.Ge = Some op.AtLeast
 operator _ = None
 
--- behind IN
+-- after IN
 unfoldable pub one_of : NameAt → Bool → Parser Cond
 one_of column negated = do
   expect k.LParen
@@ -27,7 +27,7 @@ one_of column negated = do
   expect k.RParen
   pure (OneOf column values negated)
 
--- behind BETWEEN
+-- after BETWEEN
 unfoldable pub between : NameAt → Bool → Parser Cond
 between column negated = do
   low ← literal
@@ -35,7 +35,7 @@ between column negated = do
   high ← literal
   pure (Between column low high negated)
 
--- behind a name and NOT
+-- after a name and NOT
 abbrev pub negated_by : NameAt → Kind → Parser Cond
 negated_by column k.In = take_token >> one_of column true
 negated_by column k.Between = take_token >> between column true
@@ -45,12 +45,12 @@ negated_by column _ = refuse
 abbrev pub negated : NameAt → Parser Cond
 negated column = peek >>= negated_by column
 
--- behind a name, at the sign
+-- after a name, at the sign
 abbrev pub compared : NameAt → Option CompareOp → Parser Cond
 compared column (Some op) = take_token >> Compare column op <$> literal
 compared column None = refuse
 
--- behind a name
+-- after a name
 abbrev pub test_by : NameAt → Kind → Parser Cond
 test_by column k.In = take_token >> one_of column false
 test_by column k.Between = take_token >> between column false
@@ -118,6 +118,6 @@ row_joints = record { not_of = Not; all_of = All; any_of = Any }
 abbrev pub deepest : ℕ
 deepest = 64
 
--- what stands behind WHERE
+-- what follows WHERE
 unfoldable pub condition : Parser Cond
 condition = cond row_joints (factor predicate row_joints deepest)

@@ -9,7 +9,7 @@ use Rattle.query_parser.specs.Stream.{Stream, lexemes}
 abbrev pub stream_of : Inside → Stream
 stream_of t = lexemes 0 t.ahead.now t.at
 
--- The token at the front is cut already; behind it the text may be cut again.
+-- The token at the front is cut already; after it the text may be cut again.
 pub record IsReady (t : Inside) : Type 0 where
   pub token_is : t.token ≡ token t.ahead.now
   pub within : t.token.len ≤ length t.ahead.now

@@ -9,7 +9,7 @@ use Rattle.query_parser.specs.Stream.{place, tokens}
 use Rattle.query_parser.specs.Query.{parsed}
 use Rattle.query_parser.specs.SpellsQuery.{SpellsQuery}
 
--- how many tokens behind the one at its place a fault wants: the parenthesis behind a name makes it a function, and `=` and a value make it an option
+-- how many tokens after the one at its place a fault wants: the parenthesis after a name makes it a function, and `=` and a value make it an option
 abbrev pub wanted : Reason → ℕ
 wanted UnknownFunction = 1
 wanted UnsupportedOption = 2

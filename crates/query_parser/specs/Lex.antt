@@ -75,7 +75,7 @@ abbrev pub number_or_fault : ℕ → Result ℤ WholeFault → Token
 number_or_fault len (Err fault) = plain k.NumberTooWide 0
 number_or_fault len (Ok n) = record { kind = k.Number; len = len; number = n }
 
--- an optional `-` and the digits behind it, as far as they go
+-- an optional `-` and the digits after it, as far as they go
 unfoldable pub number : Bytes → Token
 number z =
     let front = if slice_index z 0 == 45 then 1 else 0 in

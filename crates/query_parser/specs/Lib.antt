@@ -8,3 +8,4 @@ pub mod Spells
 pub mod SpellsQuery
 pub mod Stream
 pub mod Final
+pub mod FaultTexts

@@ -65,7 +65,7 @@ argument_by f _ = refuse
 unfoldable pub argument_of : Func → Parser Argument
 argument_of f = peek >>= argument_by f
 
--- at the parenthesis behind the name of a call
+-- at the parenthesis after the name of a call
 abbrev pub call_of : ℕ → Option Func → Parser Term
 call_of at None = stop_at (At reason.UnknownFunction at)
 call_of at (Some f) = do
@@ -126,7 +126,7 @@ set_option n value use_tree =
     if str_eq_ignore_ascii_case n.name (codes "enableNullHandling") && not (str_eq_ignore_ascii_case value (codes "false")) then Err (At reason.UnsupportedOption n.offset)
     else (if str_eq_ignore_ascii_case n.name (codes "useStarTree") then Ok (not (str_eq_ignore_ascii_case value (codes "false"))) else Ok use_tree)
 
--- what may stand behind `=` in an option
+-- what may come after `=` in an option
 abbrev pub is_value : Kind → Bool
 is_value k.Name = true
 is_value k.Number = true
@@ -169,7 +169,7 @@ abbrev pub is_natural : ℤ → Bool
 is_natural (pos n) = true
 is_natural (negsuc n) = false
 
--- the number behind LIMIT and OFFSET
+-- the number after LIMIT and OFFSET
 unfoldable pub count : Parser LiteralAt
 count = λ ts. if sees k.Number ts && is_natural (number ts) then Ok (record { value = Whole (number ts); offset = place ts }, next ts) else refuse ts
 
@@ -195,14 +195,14 @@ limits = do
 unfoldable pub ending : Parser (Unit {0})
 ending = eat k.Semi >> expect k.End
 
--- what stands behind the keys, up to the end
+-- what follows the keys, up to the end
 unfoldable pub closing : Parser (Option LiteralAt × Option LiteralAt)
 closing = do
   limit ← limits
   ending
   pure limit
 
--- a whole query, and nothing behind it
+-- a whole query, and nothing after it
 unfoldable pub query : Parser Query
 query = do
   use_tree ← options

@@ -74,7 +74,7 @@ sees k ts = same_kind (kind ts) k
 unfoldable pub after : Kind → Stream → Stream
 after k ts = if sees k ts then next ts else ts
 
--- takes a token of this kind, where it stands there
+-- takes a token of this kind, where there is one
 abbrev pub eat : Kind → Parser Bool
 eat k = λ ts. Ok (sees k ts, after k ts)
 

@@ -72,7 +72,7 @@ SpellsBy rule ts xs us = (mid : Stream) × Skips k.By ts mid × SpellsList k.Com
 abbrev pub SpellsCount : Rule LiteralAt
 SpellsCount ts l us = (t : Lexeme) × IsToken k.Number ts t us × (is_natural t.number ≡ true) × (l ≡ record { value = Whole t.number; offset = t.at })
 
--- OFFSET stands behind LIMIT alone
+-- OFFSET comes after LIMIT alone
 abbrev pub SpellsLimits : Stream → Option LiteralAt → Option LiteralAt → Stream → Type 0
 SpellsLimits ts None None us = us ≡ ts
 SpellsLimits ts None (Some o) us = ⊥
@@ -98,7 +98,7 @@ abbrev pub SpellsSets : List (NameAt × Bytes) → Stream → Bool → Bool → 
 SpellsSets [] ts before after us = (us ≡ ts) × (after ≡ before)
 SpellsSets (o ∷ os) ts before after us = (mid : Stream) × (now : Bool) × SpellsSet ts o.0 o.1 mid × (set_option o.0 o.1 before ≡ Ok now) × SpellsSets os mid now after us
 
--- the end of the text, behind one `;` at most
+-- the end of the text, after one `;` at most
 abbrev pub SpellsEnding : Stream → Type 0
 SpellsEnding ts = (kind ts ≡ k.End) ⊎ ((mid : Stream) × Skips k.Semi ts mid × (kind mid ≡ k.End))
 

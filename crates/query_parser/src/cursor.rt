@@ -14,7 +14,7 @@ use values::Name;
 
 #[derive(Drop)]
 pub struct Tokens<'a> {
-    /// The text from the next token on, where that stands, and that token.
+    /// The text from the next token on, where that is, and that token.
     ahead: &'a [u8],
     at: u32,
     token: Token,

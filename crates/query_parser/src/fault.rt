@@ -27,7 +27,30 @@ pub enum Reason {
     Unexpected,
 }
 
-/// The first fault of a text, with the byte where it stands; at the end that is the text's length.
+impl Reason {
+    ghost use Rattle.std.specs.Prelude.{◌≡◌};
+    ghost use Rattle.query_parser.specs.FaultTexts.{parse_text};
+
+    /// Its name in a note line.
+    pub fn text(self) -> &'static [u8]
+        ensures { result.now ≡ parse_text self }
+    {
+        match self {
+            Reason::BadCharacter => b"BadCharacter",
+            Reason::OpenText => b"OpenText",
+            Reason::NumberTooWide => b"NumberTooWide",
+            Reason::NameTooLong => b"NameTooLong",
+            Reason::TextTooLong => b"TextTooLong",
+            Reason::UnknownFunction => b"UnknownFunction",
+            Reason::BadStar => b"BadStar",
+            Reason::UnsupportedOption => b"UnsupportedOption",
+            Reason::TooDeep => b"TooDeep",
+            Reason::Unexpected => b"Unexpected",
+        }
+    }
+}
+
+/// The first fault of a text, with the byte where it is; at the end that is the text's length.
 #[derive(Clone, Copy, Debug, PartialEq, Eq)]
 pub enum QueryFault {
     At(Reason, u32),

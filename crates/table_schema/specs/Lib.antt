@@ -18,3 +18,4 @@ pub mod ValidSettings
 pub mod ValidTable
 pub mod Conditions
 pub mod ValidQuery
+pub mod FaultTexts

@@ -14,7 +14,7 @@ use serde_json::Value as Json;
 use std::alloc::Global;
 use values::{NoMemory, Seq};
 
-/// The text that stands at a place of the array at `path`.
+/// The text at a place of the array at `path`.
 pub(crate) fn text_at<'v>(
     alloc: Global,
     path: &str,

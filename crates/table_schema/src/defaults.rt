@@ -1,4 +1,4 @@
-//! What stands in a row that has no value of a field.
+//! What is in a row that has no value of a field.
 
 ghost use Rattle.std.specs.Prelude.{◌≡◌, IfOk};
 ghost use Rattle.serde_json.specs.View.{view, number_view};

@@ -11,7 +11,7 @@ use serde_json::Value;
 use std::alloc::Global;
 use values::{Name, NoMemory};
 
-/// A place of one of the lists, from 0, with what stands there.
+/// A place of one of the lists, from 0, with what is there.
 #[derive(Clone, Copy)]
 pub(crate) struct Entry<'v> {
     pub role: Role,

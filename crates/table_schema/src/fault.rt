@@ -18,6 +18,29 @@ pub enum KeyKind {
     TooMany,
 }
 
+impl KeyKind {
+    ghost use Rattle.std.specs.Prelude.{◌≡◌};
+    ghost use Rattle.table_schema.specs.FaultTexts.{key_text};
+
+    /// Its name in a note line.
+    pub fn text(self) -> &'static [u8]
+        ensures { result.now ≡ key_text self }
+    {
+        match self {
+            KeyKind::NotJson => b"NotJson",
+            KeyKind::MissingKey => b"MissingKey",
+            KeyKind::WrongKind => b"WrongKind",
+            KeyKind::BadName => b"BadName",
+            KeyKind::UnknownType => b"UnknownType",
+            KeyKind::Unsupported => b"Unsupported",
+            KeyKind::DuplicateColumn => b"DuplicateColumn",
+            KeyKind::UnknownColumn => b"UnknownColumn",
+            KeyKind::BadPair => b"BadPair",
+            KeyKind::TooMany => b"TooMany",
+        }
+    }
+}
+
 /// Names of keys joined by `.`, with places of arrays in brackets, from 0, as in
 /// `dimensionFieldSpecs[2].name`. It is empty where the fault is of the whole text.
 pub type KeyPath = Name;

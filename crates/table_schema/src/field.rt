@@ -20,7 +20,7 @@ pub struct Field {
     pub name: Name,
     pub kind: FieldKind,
     pub role: Role,
-    /// What stands in a row that has no value of the field.
+    /// What is in a row that has no value of the field.
     pub default: Value,
 }
 

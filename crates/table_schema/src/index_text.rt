@@ -1,4 +1,4 @@
-//! What stands under `tableIndexConfig`.
+//! What is under `tableIndexConfig`.
 
 ghost use Rattle.std.specs.Prelude.{◌≡◌, ◌<◌, ◌≤◌, length, IfOk, IfErr, map, None};
 ghost use Rattle.std.specs.List.{slice_get};

@@ -11,7 +11,7 @@ table_name = codes "table"
 abbrev pub incoming : List ℕ
 incoming = codes "incoming"
 
--- a text behind its length, which is four bytes with the most significant first
+-- a text after its length, which is four bytes with the most significant first
 abbrev pub counted : List ℕ → List ℕ
 counted text = to_be_bytes w32 (length text) ++ text
 

@@ -16,7 +16,7 @@ use outside::{Depot, ReadAllFault, read_all};
 use std::alloc::Global;
 use table_schema::{Table, TextFault, read_schema, read_settings};
 
-// What a refused text is for the file that it stands in.
+// What a refused text is for the file that it is in.
 fn of_text(fault: TextFault) -> StoreFault
     ensures text { fault ≢ TextFault.NoMemory → result ≡ NotASegment part.Table }
     ensures memory { fault ≡ TextFault.NoMemory → result ≡ NoMemory }

@@ -1,4 +1,4 @@
-//! The file of a table: its two texts, each behind its length.
+//! The file of a table: its two texts, each after its length.
 
 ghost use Rattle.std.specs.Prelude.{◌≡◌, ◌≢◌, ◌≤◌, ◌++◌, IfOk, OnOk, OnErr, MatchOption, List, ℕ, length};
 ghost use Rattle.std.specs.Int.{w32, from_be_bytes};
@@ -34,7 +34,7 @@ pub fn file_of(alloc: Global, schema: &[u8], settings: &[u8]) -> Result<Vec<u8>,
     Ok(file)
 }
 
-// Adds a text behind its length.
+// Adds a text after its length.
 fn push_text(file: &mut Vec<u8>, text: &[u8]) -> Result<(), AllocError>
     requires { length text.now ≤ text_limit }
     ensures { OnOk result (file.new.items ≡ file.old.items ++ counted text.now) }
@@ -60,7 +60,7 @@ pub fn texts_of(file: &[u8]) -> Option<(&[u8], &[u8])>
     }
 }
 
-// The text behind its length at the front, and what follows it.
+// The text after its length at the front, and what follows it.
 fn split_text(bytes: &[u8]) -> Option<(&[u8], &[u8])>
     ensures { MatchOption result
         ((text rest : List ℕ) → length text ≤ text_limit → bytes.now ≢ counted text ++ rest)

@@ -30,7 +30,7 @@ pub fn first_word(alloc: Global, text: &str) -> Result<String, AllocError> {
     }
 }
 
-// A text of a beginning, a number, what stands between so many times, and an end, with `#` between them.
+// A text of a beginning, a number, what is between so many times, and an end, with `#` between them.
 fn repeated(alloc: Global, text: &str) -> Result<Option<String>, AllocError> {
     let Some((start, rest)) = text.split_once('#') else {
         return Ok(None);

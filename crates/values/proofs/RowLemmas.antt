@@ -1,9 +1,8 @@
 -- One more row at the ends of columns.
-use Rattle.std.proofs.Common.{◌≡◌, ◌∙◌, ◌<◌, ◌≤◌, ◌+◌, ◌++◌, ◌∷◌, [], ℕ, suc, zero, List, length, map, get_or, set, replicate, take, refl, ap, ap₂, sym, arith, length-append, Some, slice_get, pos}
+use Rattle.std.proofs.Common.{◌≡◌, ◌∙◌, ◌<◌, ◌+◌, ◌++◌, ◌∷◌, [], ℕ, suc, zero, List, length, map, get_or, set, replicate, take, refl, ap, ap₂, sym, arith, length-append, Some, slice_get, pos}
 use Rattle.std.proofs.lemmas.List.{replicate-append-replicate, length-replicate, map-append, take_more}
 use Rattle.std.proofs.lemmas.Option.{get_or_from_slice_get}
 use Rattle.std.proofs.lemmas.List.Elements.{All-head, All-tail, All-cons, All-nil}
-use Rattle.std.proofs.lemmas.Grind.{common_steps}
 use Rattle.std.specs.List.{All}
 use Rattle.values.specs.declared.value.Value.{Value}
 use Rattle.values.specs.Columns.{Listed, Counts, pushed, fronted, row_of, rows_in_columns, row_pushed}

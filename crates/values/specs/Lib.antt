@@ -4,6 +4,7 @@ pub mod Columns
 pub mod Magnitude
 pub mod Numbers
 pub mod Order
+pub mod Pools
 pub mod Printed
 pub mod Reading
 pub mod Shared

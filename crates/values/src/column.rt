@@ -4,7 +4,7 @@ ghost use Rattle.values.specs.declared.value.Value.TheVariants as value;
 ghost use Rattle.std.specs.Str.{is_utf8};
 ghost use Rattle.values.specs.Columns.{is_text, pushed};
 
-use crate::{NoMemory, Texts, Value};
+use crate::{Name, NoMemory, Texts, Value};
 use std::alloc::{AllocError, Global};
 use std::marker::Model;
 
@@ -133,13 +133,13 @@ impl Column {
     }
 
     /// The value of a row.
-    pub fn value(&self, row: usize) -> Result<Value, NoMemory>
+    pub fn value(&self, alloc: Global, row: usize) -> Result<Value, NoMemory>
         requires { row < length self.now.values }
         ensures { IfOk result (λ value. slice_get self.now.values row ≡ Some value) }
     {
         match &self.cells {
             Cells::Numbers(numbers) => Ok(Value::Whole(numbers[row])),
-            Cells::Texts(texts) => Ok(Value::Text(texts.at(row).copy()?)),
+            Cells::Texts(texts) => Ok(Value::Text(Name::from_text(alloc, texts.at(row))?)),
         }
     }
 }

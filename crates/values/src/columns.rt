@@ -50,12 +50,13 @@ impl Columns {
 
     pub fn column(&self, at: usize) -> &Column
         requires { at < length self.now.columns }
-        ensures { slice_get self.now.columns at ≡ Some result.now }
+        ensures place { slice_get self.now.columns at ≡ Some result.now }
+        ensures count { Counts self.now.count result.now }
     {
         &self.columns[at]
     }
 
-    /// One row. Texts are shared with the columns.
+    /// One row.
     pub fn row(&self, alloc: Global, at: usize) -> Result<Row, NoMemory>
         requires { at < self.now.count }
         ensures value { IfOk result (λ row. row ≡ row_of self.now.columns at) }
@@ -64,7 +65,7 @@ impl Columns {
         row_at(alloc, self.columns.as_slice(), self.count, at)
     }
 
-    /// All rows, one list of values each. Texts are shared with the columns.
+    /// All rows, one list of values each.
     pub fn rows(&self, alloc: Global) -> Result<Rows, NoMemory>
         ensures { IfOk result (λ rows. rows ≡ rows_of self.now) }
     {
@@ -80,7 +81,7 @@ fn row_at(alloc: Global, columns: &[Column], count: usize, at: usize) -> Result<
 {
     let mut row = Seq::with_capacity(alloc, columns.len())?;
     for column in columns {
-        row.push(column.value(at)?)?;
+        row.push(column.value(alloc, at)?)?;
     }
     Ok(row)
 }

@@ -91,7 +91,9 @@ fn may_hold_inside(test: &Test, least: &Value, greatest: &Value) -> bool
     }
 }
 
-fn op_holds(op: CompareOp, order: Ordering) -> bool
+/// Whether a comparison holds of values that are in this order.
+#[inline(always)]
+pub fn op_holds(op: CompareOp, order: Ordering) -> bool
     ensures { result ≡ op_holds op order }
 {
     match op {

@@ -2,7 +2,7 @@
 ghost use Rattle.std.specs.Prelude.{◌≡◌, true, false, MatchOption, IfSome, Some, slice_get};
 ghost use Rattle.std.specs.Str.{is_utf8};
 
-use crate::Name;
+use crate::TextPool;
 use std::alloc::{AllocError, Global};
 use std::collections::BTreeMap;
 use std::mem;
@@ -53,24 +53,20 @@ fn are_same(a: &[u8], b: &[u8]) -> bool
     a == b
 }
 
-// Whether these are the bytes of a name, which are UTF-8.
-#[inline(always)]
-fn is_name(name: &Name, bytes: &[u8]) -> bool
-    ensures same { result ≡ true → name.now ≡ bytes.now }
-    ensures text { result ≡ true → is_utf8 bytes.now ≡ true }
-{
-    are_same(name.as_str().as_bytes(), bytes)
-}
-
 // The place of a text, if it is this one.
-fn checked(names: &[Name], id: u32, bytes: &[u8]) -> Option<u32>
-    ensures place { IfSome result (λ id. slice_get names.now id ≡ Some bytes.now) }
+#[inline(always)]
+fn checked(texts: &TextPool, id: u32, bytes: &[u8]) -> Option<u32>
+    ensures place { IfSome result (λ id. slice_get texts.now id ≡ Some bytes.now) }
     ensures text { IfSome result (λ _. is_utf8 bytes.now ≡ true) }
 {
-    let Some(name) = names.get(id as usize) else {
+    let Some(text) = texts.get(id as usize) else {
         return None;
     };
-    if is_name(name, bytes) { Some(id) } else { None }
+    if are_same(text, bytes) {
+        Some(id)
+    } else {
+        None
+    }
 }
 
 // Puts a content into the first free slot from that of its hash on, if one of the first is free.
@@ -112,8 +108,8 @@ impl TextIndex {
 
     /// The place of a text of that hash, if it is found.
     #[inline(always)]
-    pub fn find(&self, names: &[Name], hash: u64, bytes: &[u8]) -> Option<u32>
-        ensures place { IfSome result (λ id. slice_get names.now id ≡ Some bytes.now) }
+    pub fn find(&self, texts: &TextPool, hash: u64, bytes: &[u8]) -> Option<u32>
+        ensures place { IfSome result (λ id. slice_get texts.now id ≡ Some bytes.now) }
         ensures text { IfSome result (λ _. is_utf8 bytes.now ≡ true) }
     {
         let size = self.slots.len();
@@ -129,19 +125,19 @@ impl TextIndex {
                 return None;
             }
             if *slot >> 32 == hash {
-                let found = checked(names, (*slot & 0xFFFF_FFFF) as u32, bytes);
+                let found = checked(texts, (*slot & 0xFFFF_FFFF) as u32, bytes);
                 if found.is_some() {
                     return found;
                 }
             }
             at = at.wrapping_add(1) & (size - 1);
         }
-        self.find_crowded(names, bytes)
+        self.find_crowded(texts, bytes)
     }
 
     #[inline(never)]
-    fn find_crowded(&self, names: &[Name], bytes: &[u8]) -> Option<u32>
-        ensures place { IfSome result (λ id. slice_get names.now id ≡ Some bytes.now) }
+    fn find_crowded(&self, texts: &TextPool, bytes: &[u8]) -> Option<u32>
+        ensures place { IfSome result (λ id. slice_get texts.now id ≡ Some bytes.now) }
         ensures text { IfSome result (λ _. is_utf8 bytes.now ≡ true) }
     {
         let Some(text) = text_of(bytes) else {
@@ -150,19 +146,19 @@ impl TextIndex {
         let Some(id) = self.crowded.get(text) else {
             return None;
         };
-        checked(names, *id, bytes)
+        checked(texts, *id, bytes)
     }
 
     /// Notes the place of a text of that hash.
     pub fn note(
         &mut self,
-        names: &[Name],
+        texts: &TextPool,
         hash: u64,
         id: u32,
         text: &str,
     ) -> Result<(), AllocError> {
         if id as usize >= self.slots.len() / 2 {
-            self.widen(names)?;
+            self.widen(texts)?;
         }
         if !put(&mut self.slots, (hash << 32) | u64::from(id)) {
             self.crowd(text, id)?;
@@ -177,15 +173,15 @@ impl TextIndex {
     }
 
     // Makes twice as many slots, of the same contents.
-    fn widen(&mut self, names: &[Name]) -> Result<(), AllocError> {
+    fn widen(&mut self, texts: &TextPool) -> Result<(), AllocError> {
         let size = self.slots.len().max(32).saturating_mul(2);
         let wider = free_slots(self.alloc, size)?;
         let slots = mem::replace(&mut self.slots, wider);
         for slot in &slots {
             if *slot != FREE && !put(&mut self.slots, *slot) {
                 let id = (*slot & 0xFFFF_FFFF) as u32;
-                if let Some(name) = names.get(id as usize) {
-                    self.crowd(name.as_str(), id)?;
+                if (id as usize) < texts.len() {
+                    self.crowd(texts.text(id as usize), id)?;
                 }
             }
         }

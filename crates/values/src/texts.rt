@@ -3,7 +3,7 @@ ghost use Rattle.std.specs.Prelude.{◌≡◌, ◌<◌, true, false, MatchBool, 
 ghost use Rattle.std.specs.Str.{is_utf8};
 ghost use Rattle.values.specs.Texts.{IsCoding, Placed, texts_of};
 
-use crate::Name;
+use crate::TextPool;
 use crate::text_index::{TextIndex, hash_of, text_of};
 use std::alloc::{AllocError, Global};
 use std::marker::Model;
@@ -11,8 +11,7 @@ use std::marker::Model;
 /// Texts, of which each is kept once, as a rule, and its place among those for each row.
 #[derive(Drop)]
 pub struct Texts {
-    alloc: Global,
-    names: Vec<Name>,
+    pool: TextPool,
     ids: Vec<u32>,
     index: TextIndex,
 }
@@ -23,71 +22,63 @@ impl Model for Texts {
 
     ghost Value = { List (List ℕ) };
 
-    ghost view = { λ t. texts_of t.names.items t.ids.items };
+    ghost view = { λ t. texts_of t.pool t.ids.items };
 
-    ghost invariant = { λ t. IsCoding t.names.items t.ids.items };
+    ghost invariant = { λ t. IsCoding t.pool t.ids.items };
 }
 
 // Keeps one more text.
 #[inline(never)]
 fn keep(
-    alloc: Global,
-    names: &mut Vec<Name>,
+    pool: &mut TextPool,
     index: &mut TextIndex,
     hash: u64,
     text: &str,
 ) -> Result<u32, AllocError>
-    ensures ok { IfOk result (λ id. Placed text.now id names.old.items names.new.items) }
-    ensures err { OnErr result (names.new.items ≡ names.old.items) }
+    ensures ok { IfOk result (λ id. Placed text.now id pool.old pool.new) }
+    ensures err { OnErr result (pool.new ≡ pool.old) }
 {
-    let Ok(id) = u32::try_from(names.len()) else {
+    let Ok(id) = u32::try_from(pool.len()) else {
         return Err(AllocError);
     };
-    index.note(names, hash, id, text)?;
-    let name = Name::from_text(alloc, text)?;
-    names.push(name)?;
+    index.note(pool, hash, id, text)?;
+    pool.push(text)?;
     Ok(id)
 }
 
 // The place of a text, which is kept unless it is there.
 #[inline(always)]
-fn place(
-    alloc: Global,
-    names: &mut Vec<Name>,
-    index: &mut TextIndex,
-    text: &str,
-) -> Result<u32, AllocError>
-    ensures ok { IfOk result (λ id. Placed text.now id names.old.items names.new.items) }
-    ensures err { OnErr result (names.new.items ≡ names.old.items) }
+fn place(pool: &mut TextPool, index: &mut TextIndex, text: &str) -> Result<u32, AllocError>
+    ensures ok { IfOk result (λ id. Placed text.now id pool.old pool.new) }
+    ensures err { OnErr result (pool.new ≡ pool.old) }
 {
     let hash = hash_of(text.as_bytes());
-    match index.find(names, hash, text.as_bytes()) {
+    match index.find(pool, hash, text.as_bytes()) {
         Some(id) => Ok(id),
-        None => keep(alloc, names, index, hash, text),
+        None => keep(pool, index, hash, text),
     }
 }
 
 // The same of some bytes, if they are a text.
 #[inline(always)]
 fn place_of_bytes(
-    alloc: Global,
-    names: &mut Vec<Name>,
+    pool: &mut TextPool,
     index: &mut TextIndex,
     bytes: &[u8],
 ) -> Result<Option<u32>, AllocError>
     ensures ok { IfOk result (λ place. MatchOption place
-        ((names.new.items ≡ names.old.items) × (is_utf8 bytes.now ≡ false))
-        (λ id. Placed bytes.now id names.old.items names.new.items × (is_utf8 bytes.now ≡ true))) }
-    ensures err { OnErr result (names.new.items ≡ names.old.items) }
+        ((pool.new ≡ pool.old) × (is_utf8 bytes.now ≡ false))
+        (λ id. Placed bytes.now id pool.old pool.new × (is_utf8 bytes.now ≡ true))) }
+    ensures err { OnErr result (pool.new ≡ pool.old) }
 {
     let hash = hash_of(bytes);
-    if let Some(id) = index.find(names, hash, bytes) {
+    if let Some(id) = index.find(pool, hash, bytes) {
         return Ok(Some(id));
     }
     let Some(text) = text_of(bytes) else {
         return Ok(None);
     };
-    Ok(Some(keep(alloc, names, index, hash, text)?))
+    Ok(Some(keep(pool, index, hash, text)?))
 }
 
 impl Texts {
@@ -95,8 +86,7 @@ impl Texts {
         ensures { result ≡ [] }
     {
         Texts {
-            alloc,
-            names: Vec::new(alloc),
+            pool: TextPool::new(alloc),
             ids: Vec::new(alloc),
             index: TextIndex::new(alloc),
         }
@@ -109,19 +99,19 @@ impl Texts {
     }
 
     /// The text of a row.
-    pub fn at(&self, row: usize) -> &Name
+    pub fn at(&self, row: usize) -> &str
         requires { row < length self.now }
         ensures { slice_get self.now row ≡ Some result.now }
     {
-        &self.names[self.ids[row] as usize]
+        self.pool.text(self.ids[row] as usize)
     }
 
     /// The texts that are kept, each of which some row has, and for each row the place of its own.
-    pub fn parts(&self) -> (&[Name], &[u32])
+    pub fn parts(&self) -> (&TextPool, &[u32])
         ensures rows { texts_of result.0.now result.1.now ≡ self.now }
         ensures coding { IsCoding result.0.now result.1.now }
     {
-        (self.names.as_slice(), self.ids.as_slice())
+        (&self.pool, self.ids.as_slice())
     }
 
     /// Makes room for so many more rows.
@@ -138,7 +128,7 @@ impl Texts {
         ensures err { OnErr result (self.new ≡ self.old) }
     {
         self.ids.reserve(1)?;
-        let id = place(self.alloc, &mut self.names, &mut self.index, text)?;
+        let id = place(&mut self.pool, &mut self.index, text)?;
         self.ids.push(id)?;
         Ok(())
     }
@@ -152,7 +142,7 @@ impl Texts {
         ensures err { OnErr result (self.new ≡ self.old) }
     {
         self.ids.reserve(1)?;
-        let place = place_of_bytes(self.alloc, &mut self.names, &mut self.index, bytes)?;
+        let place = place_of_bytes(&mut self.pool, &mut self.index, bytes)?;
         let Some(id) = place else {
             return Ok(false);
         };

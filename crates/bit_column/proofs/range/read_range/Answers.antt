@@ -1,9 +1,9 @@
 use Rattle.std.proofs.Common.{◌≡◌, ◌<◌, ◌+◌, ◌-◌, ◌*◌, ◌/◌, ◌%◌, All, IfSome, length, arith, le_refl, refl, subst, sym, ap, ◌∙◌}
-use Rattle.outside.specs.Reads.{LogsOn}
+use Rattle.outside.specs.Reads.{LogsOn, LogsUpTo}
 use Rattle.bit_column.specs.Bits.{bits_of, pieces}
 use Rattle.bit_column.specs.Column.{ids_between}
-use Rattle.bit_column.specs.Sections.{LogsUpTo, first_byte, end_byte, section, Readable}
-use Rattle.bit_column.proofs.Parts.{logs-none, logs-up, on-err}
+use Rattle.bit_column.specs.Sections.{first_byte, end_byte, section, Readable}
+use Rattle.outside.proofs.ReadLemmas.{logs-none, logs-up, on-err}
 use Rattle.bit_column.proofs.Ranges.{range-order, end-of, range-held, range-read, range-bad, part-read, pieces-long, if-ok}
 use Rattle.std.proofs.lemmas.Result.{IfOk-weaker}
 use Rattle.bit_column.proofs.range.read_range.Goals as goal
@@ -20,7 +20,7 @@ returns-then-end-place-clause-log_of_fault g c =
 
 pub ids_from-requires-clause-held : goal.ids_from-requires-clause-held
 ids_from-requires-clause-held g c =
-    range-held c.args.width c.args.from c.args.to (length c.deref.result.now) c.requires.order (c.deref.ensures.len ∙ c.in-Ok.ensures.size)
+    range-held c.args.width c.args.from c.args.to (length c.as_slice.result.now) c.requires.order (ap length c.as_slice.ensures ∙ c.in-Ok.ensures.size)
 
 pub returns-clause-ids : goal.returns-clause-ids
 returns-clause-ids g c =
@@ -29,8 +29,8 @@ returns-clause-ids g c =
     let width = c.args.width in
     let from = c.args.from in
     let to = c.args.to in
-    let bytes = c.deref.result.now in
-    let part = part-read held c.as_str.result.now place.file (place.offset + from * width / 8) (place.offset + (to * width + 7) / 8) c.in-Ok.bytes.items bytes c.as_str.ensures c.deref.ensures.value c.in-Ok.ensures.part in
+    let bytes = c.as_slice.result.now in
+    let part = part-read held c.as_str.result.now place.file (place.offset + from * width / 8) (place.offset + (to * width + 7) / 8) c.in-Ok.bytes bytes c.as_str.ensures c.as_slice.ensures c.in-Ok.ensures.part in
     if-ok c.ids_from.result
     (λ ids. ids ≡ pieces width (from * width % 8) (to - from) (bits_of 8 bytes))
     (All (λ id. id < c.args.count))
@@ -43,7 +43,7 @@ returns-clause-number g c =
     let width = c.args.width in
     let bit = c.args.from * width % 8 in
     let number = c.args.to - c.args.from in
-    let digits = bits_of 8 c.deref.result.now in
+    let digits = bits_of 8 c.as_slice.result.now in
     IfOk-weaker c.ids_from.result (λ ids. ids ≡ pieces width bit number digits) (λ ids. length ids ≡ number)
     (λ ids is. ap length is ∙ pieces-long width bit number digits) c.ids_from.ensures.ids
 
@@ -54,8 +54,8 @@ returns-clause-bad g c =
     let width = c.args.width in
     let from = c.args.from in
     let to = c.args.to in
-    let bytes = c.deref.result.now in
-    let part = part-read held c.as_str.result.now place.file (place.offset + from * width / 8) (place.offset + (to * width + 7) / 8) c.in-Ok.bytes.items bytes c.as_str.ensures c.deref.ensures.value c.in-Ok.ensures.part in
+    let bytes = c.as_slice.result.now in
+    let part = part-read held c.as_str.result.now place.file (place.offset + from * width / 8) (place.offset + (to * width + 7) / 8) c.in-Ok.bytes bytes c.as_str.ensures c.as_slice.ensures c.in-Ok.ensures.part in
     λ bad. range-bad held place width c.args.count from to bytes c.requires.width (omega arith) (omega arith) part (c.ids_from.ensures.bad bad)
 
 pub returns-clause-log_of_fault : goal.returns-clause-log_of_fault

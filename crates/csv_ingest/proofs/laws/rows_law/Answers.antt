@@ -1,8 +1,8 @@
-use Rattle.csv_ingest.proofs.ValidRows.{known_rows, plain_rows}
+use Rattle.csv_ingest.proofs.ValidRows.{rows_by_schema, rows_by_header}
 use Rattle.csv_ingest.proofs.laws.rows_law.Goals as goal
 
-pub returns-clause-known : goal.returns-clause-known
-returns-clause-known c = known_rows
+pub returns-clause-schema : goal.returns-clause-schema
+returns-clause-schema c = rows_by_schema
 
-pub returns-clause-plain : goal.returns-clause-plain
-returns-clause-plain c = plain_rows
+pub returns-clause-numbers : goal.returns-clause-numbers
+returns-clause-numbers c = rows_by_header

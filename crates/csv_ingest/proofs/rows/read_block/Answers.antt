@@ -1,11 +1,9 @@
 use Rattle.std.proofs.Common.{◌≡◌, ◌∙◌, ◌+◌, ◌++◌, ◌∷◌, [], Bor, ℕ, List, Ok, Err, refl, map, ap, sym, subst, arith}
 use Rattle.std.specs.List.{All}
 use Rattle.csv.specs.Records.{fields_of}
-use Rattle.values.specs.declared.value.Value.{Value}
-use Rattle.values.specs.Columns.{Counts, rows_in_columns, rows_of as rows_of_columns}
+use Rattle.values.specs.Columns.{Counts, rows_in_columns}
 use Rattle.values.proofs.RowLemmas.{counts-push, rows-push}
 use Rattle.csv_ingest.specs.Blocks.{IsBlock, IsFullBlock, IsLastBlock}
-use Rattle.csv_ingest.specs.Reading.{records_left}
 use Rattle.csv_ingest.specs.Rows.{csv_limits, row_at}
 use Rattle.csv_ingest.proofs.BlockLemmas.{begins, ends-all, one-fault, one-more}
 use Rattle.csv_ingest.proofs.ColumnLemmas.{no-rows, sorts-stay}

@@ -3,7 +3,6 @@ use Rattle.std.specs.List.{All}
 use Rattle.values.specs.Columns.{Counts, rows_in_columns}
 use Rattle.csv_ingest.specs.Blocks.{IsBlock}
 use Rattle.csv_ingest.specs.Columns.{OfSorts}
-use Rattle.csv_ingest.specs.Layouts.{header_of}
 use Rattle.csv_ingest.specs.Reading.{Reads}
 use Rattle.csv_ingest.proofs.rows.read_block.Given as goal
 

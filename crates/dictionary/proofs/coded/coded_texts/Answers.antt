@@ -1,4 +1,4 @@
-use Rattle.std.proofs.Common.{◌≡◌, ◌∙◌, [], ℕ, List, ap, map, subst, sym}
+use Rattle.std.proofs.Common.{[], ℕ, List, map, subst, sym}
 use Rattle.std.specs.List.{All, Contains}
 use Rattle.values.specs.declared.value.Value.{Value}
 use Rattle.values.specs.declared.value.Value.TheVariants.{Text}

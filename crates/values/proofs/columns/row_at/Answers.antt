@@ -1,7 +1,6 @@
-use Rattle.std.proofs.Common.{◌≡◌, ◌∙◌, ◌++◌, ◌∷◌, [], arith, take, get_or, sym, ap, pos, subst, length, slice_get, Some}
+use Rattle.std.proofs.Common.{◌≡◌, ◌∙◌, arith, take, sym, ap, Some}
 use Rattle.std.proofs.lemmas.List.{take_all}
-use Rattle.values.specs.declared.value.Value.TheVariants.{Whole}
-use Rattle.values.specs.Columns.{row_of, rows_in_columns}
+use Rattle.values.specs.Columns.{row_of}
 use Rattle.values.proofs.RowLemmas.{row-at, row-more}
 use Rattle.values.proofs.columns.row_at.Goals as goal
 

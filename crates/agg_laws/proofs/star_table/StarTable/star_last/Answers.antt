@@ -1,4 +1,8 @@
-use Rattle.std.proofs.Common.{◌<◌, length, ap, ◌∙◌, arith}
+use Rattle.std.proofs.Common.{◌≡◌, ◌<◌, ◌++◌, ◌∷◌, [], length, sym, ap, subst, ◌∙◌, arith}
+use Rattle.agg_laws.specs.Tree.{star, set_star}
+use Rattle.agg_laws.specs.Docs.{HaveShape}
+use Rattle.agg_laws.specs.Region.{docs_in}
+use Rattle.agg_laws.proofs.TailSteps.{set_none}
 use Rattle.agg_laws.proofs.RegionLemmas.{length-docs_in}
 use Rattle.agg_laws.proofs.RegionSteps as steps
 use Rattle.agg_laws.proofs.star_table.StarTable.star_last.Goals as goal
@@ -17,7 +21,24 @@ invariant_of-self c =
     ) in
     steps.starred_region t.count t.dims t.kinds t.ids.items t.states.items t.spare _ _
     c.self.invariant some c.args.level
-    (omega (arith, c.requires.level, ap (λ v. v.dims) c.self.view_is))
+    (omega (arith, c.if-level-self.false))
+
+pub returns-then-level-self : goal.returns-then-level-self
+returns-then-level-self c front e is =
+    let t = c.self.inside in
+    let there : docs_in t.count t.dims (length t.kinds) t.ids.items t.states.items
+    ≡ front ++ (e ∷ []) = ap (λ v. v.docs) c.self.view_is ∙ is in
+    let shape = steps.shape_last t.dims t.kinds front e
+    (subst (HaveShape t.dims t.kinds) there c.self.invariant.shape) in
+    let same : set_star c.args.level e.0 ≡ e.0 = set_none e.0 c.args.level star
+    (omega (arith, shape.0, c.if-level-self.true)) in
+    let docs = is ∙ ap (λ x. front ++ ((x, e.1) ∷ [])) (sym same) in
+    λ i. record {
+      dims = c.args.self.now.dims;
+      kinds = c.args.self.now.kinds;
+      docs = docs i;
+      spare = c.args.self.now.spare;
+    }
 
 pub returns : goal.returns
 returns c front e is =
@@ -33,7 +54,7 @@ returns c front e is =
     ) in
     let docs = steps.starred_docs t.count t.dims t.kinds t.ids.items t.states.items t.spare _ _
     c.self.invariant some c.args.level
-    (omega (arith, c.requires.level, ap (λ v. v.dims) c.self.view_is))
+    (omega (arith, c.if-level-self.false))
     front e (ap (λ v. v.docs) c.self.view_is ∙ is) in
     λ i. record {
       dims = (c.self.view_is i).dims;

@@ -1,43 +1,37 @@
-use Rattle.std.proofs.Common.{◌≡◌, ℕ, zero, suc, ◌+◌, ◌-◌, List, [], ◌∷◌, ◌++◌, sym, ap, subst, ◌∙◌}
-use Rattle.std.proofs.Common.{arith, rules}
+use Rattle.std.proofs.Common.{◌≡◌, ℕ, List, map, All, subst, sym, ap, ◌∙◌, Option, Some}
+use Rattle.std.specs.Option.{IfSome}
 use Rattle.std.specs.Ordering.{is_lt}
-use Rattle.std.specs.List.Sorted.{IsPermutation}
-use Rattle.std.proofs.lemmas.Cmp.{nat_list_cmp_total}
-use Rattle.std.proofs.lemmas.List.Sorted.{ranks_by}
-use Rattle.std.proofs.lemmas.Fn.{always_returns_same}
+use Rattle.std.specs.List.Sorted.{IsPermutation, IsSortedBy}
+use Rattle.std.proofs.lemmas.List.Sorted.{IsPermutation-map, All-permutation}
+use Rattle.std.proofs.lemmas.Result.{IfOk-weaker}
 use Rattle.agg_laws.specs.Tree.{dims_order, set_star}
 use Rattle.agg_laws.specs.Docs.{doc_at}
-use Rattle.agg_laws.specs.Region.{numbers_from, numbers}
+use Rattle.agg_laws.specs.Region.{numbers}
+use Rattle.agg_laws.specs.Packing.{place, IsWord}
+use Rattle.agg_laws.proofs.PackSteps as steps
 use Rattle.agg_laws.proofs.star_table.StarTable.starred_order.Goals as goal
-
-more_numbers : (from n : ℕ) → numbers_from from (suc n) ≡ numbers_from from n ++ ((from + n) ∷ [])
-more_numbers from zero = let e : from ≡ from + 0 = omega arith in ap (λ m. m ∷ []) e
-more_numbers from (suc n) = let e : suc from + n ≡ from + suc n = omega arith
-    in ap (λ l. from ∷ l)
-    (more_numbers (suc from) n ∙ ap (λ m. numbers_from (suc from) n ++ (m ∷ [])) e)
-
-pub loop-at-preserved : goal.loop-at-preserved
-loop-at-preserved c =
-    let start = c.args.start in
-    let n = c.loop-at.at - start in
-    let m : suc n ≡ c.loop-at.at + 1 - start = omega (arith, c.loop-at.auto.at) in
-    let at : start + n ≡ c.loop-at.at = omega (arith, c.loop-at.auto.at) in
-    c.in_ok-push.ensures.items ∙ ap (λ l. l ++ (c.loop-at.at ∷ [])) c.loop-at.invariant
-    ∙ ap (λ m. numbers start c.loop-at.at ++ (m ∷ [])) (sym at)
-    ∙ sym (more_numbers start n) ∙ ap (numbers_from start) m
 
 pub returns : goal.returns
 returns c =
     let start = c.args.start in
-    let end : c.loop-at.at
-    ≡ c.args.end = omega
-    (arith, c.loop-at.auto.at, c.loop-at.auto.at-end, c.loop-at-test.false, c.requires) in (
-      subst (λ (l : List ℕ). IsPermutation l c.sort_by.new.self.items)
-          (c.loop-at.invariant ∙ ap (numbers start) end) c.sort_by.ensures.permutation,
-      c.in_ok-sort_by.ensures.sorted
-          (λ a b. is_lt (dims_order (set_star c.args.level (doc_at c.args.self.now.docs a).0)
-          (set_star c.args.level (doc_at c.args.self.now.docs b).0)))
-          (ranks_by nat_list_cmp_total
-          (λ (x : ℕ). set_star c.args.level (doc_at c.args.self.now.docs x).0))
-          (always_returns_same _ _ _ (λ a r f h. (search rules, search rules))),
-    )
+    let docs = c.args.self.now.docs in
+    let spans = c.as_slice.result.now in
+    let words = c.in-Some.words.items in
+    let sorted = c.sort.new.self.items in
+    let found : (map (place start) words ≡ numbers start c.args.end)
+    × All (IsWord spans c.args.level start docs) words =
+    subst (λ o. IfSome o (λ w. (map (place start) w.items ≡ numbers start c.args.end)
+    × All (IsWord spans c.args.level start docs) w.items)) c.in-Some.is c.in_ok-words.ensures in
+    let perm = c.in_ok-sort-in-Some.ensures.permutation in
+    IfOk-weaker c.places.result _ _ (λ order is.
+    let same : order.items ≡ map (place start) sorted =
+    is ∙ ap (map (place start)) c.as_slice-in-Some.ensures.value in (
+      subst (IsPermutation (numbers start c.args.end)) (sym same)
+          (subst (λ (l : List ℕ). IsPermutation l (map (place start) sorted)) found.0
+          (IsPermutation-map (place start) words sorted perm)),
+      subst (IsSortedBy (λ a b. is_lt (dims_order (set_star c.args.level (doc_at docs a).0)
+          (set_star c.args.level (doc_at docs b).0)))) (sym same)
+          (steps.words_order spans c.args.level start docs sorted
+          (All-permutation (IsWord spans c.args.level start docs) words sorted perm found.1)
+          c.in_ok-sort-in-Some.ensures.sorted),
+    )) c.places.ensures

@@ -1,10 +1,9 @@
-use Rattle.std.proofs.Common.{◌≡◌, ◌∙◌, ◌<◌, ◌+◌, ◌++◌, ◌∷◌, [], Bor, List, ℕ, length, map, ap, refl, sym, arith, length-append}
+use Rattle.std.proofs.Common.{◌≡◌, ◌∙◌, ◌<◌, ◌++◌, ◌∷◌, [], Bor, List, ℕ, length, map, ap, refl, sym, arith, length-append}
 use Rattle.std.proofs.lemmas.List.{length-map}
 use Rattle.csv.specs.Records.{fields_of}
 use Rattle.values.specs.Columns.{Listed}
 use Rattle.values.proofs.RowLemmas.{length-push, push-nil}
-use Rattle.csv_ingest.specs.Columns.{OfSorts}
-use Rattle.csv_ingest.specs.Rows.{place_of, value_at, values_of}
+use Rattle.csv_ingest.specs.Rows.{place_of, value_at}
 use Rattle.csv_ingest.proofs.InOrder.{after-none, item-one}
 use Rattle.csv_ingest.proofs.ColumnLemmas.{column-set, sort-at, sorts-stay, value-given, widths}
 use Rattle.csv_ingest.proofs.RowLemmas.{places-first, places-last}

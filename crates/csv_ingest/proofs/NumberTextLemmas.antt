@@ -1,0 +1,42 @@
+-- The columns and rows of a list of records.
+use Rattle.std.proofs.Common.{◌≡◌, ◌∙◌, ◌<◌, ◌≤◌, ℕ, List, [], ◌∷◌, length, nat_lt, true, false, Result, Ok, Err, IfOk, IfErr, refl, ap, arith}
+use Rattle.std.proofs.lemmas.Bool.Decides.{nat_tests}
+use Rattle.table_schema.specs.declared.field.Field.{Field}
+use Rattle.csv_ingest.specs.declared.fault.CsvKind.TheVariants.{NoHeader}
+use Rattle.csv_ingest.specs.declared.fault.CsvFault.{CsvFault}
+use Rattle.csv_ingest.specs.declared.fault.CsvFault.TheVariants.{At, TooManyColumns}
+use Rattle.csv_ingest.specs.Names.{number_name}
+use Rattle.csv_ingest.specs.Rows.{csv_limits, header_of, plain_in, rows_of, under, with_schema}
+
+-- what follows of the value or the fault of a call
+pub ok-at : {T E : Type 0} (r : Result T E) (P Q : T → Type 0) → ((t : T) → P t → Q t) → IfOk r P → IfOk r Q
+ok-at (Ok t) P Q f p = f t p
+ok-at (Err e) P Q f p = tt
+
+pub err-at : {T E : Type 0} (r : Result T E) (P Q : E → Type 0) → ((e : E) → P e → Q e) → IfErr r P → IfErr r Q
+err-at (Ok t) P Q f p = tt
+err-at (Err e) P Q f p = f e p
+
+pub no-record : plain_in csv_limits [] ≡ Err (At NoHeader 0 0)
+unfolding plain_in
+no-record = refl
+
+module _ (header : List (List ℕ)) (rows : List (List (List ℕ))) where
+  pub many-columns : 64 < length header → plain_in csv_limits (header ∷ rows) ≡ Err TooManyColumns
+  unfolding plain_in
+  many-columns lt =
+      let test : nat_lt 64 (length header) ≡ true = grind (arith, nat_tests) in
+      rw test refl
+
+  few_columns : length header ≤ 64 → plain_in csv_limits (header ∷ rows) ≡ under (header_of number_name header) (λ fields. with_schema fields (rows_of csv_limits fields header rows))
+  unfolding plain_in
+  few_columns le =
+      let test : nat_lt 64 (length header) ≡ false = grind (arith, nat_tests) in
+      rw test refl
+
+  pub bad-header : (fault : CsvFault) → length header ≤ 64 → header_of number_name header ≡ Err fault → plain_in csv_limits (header ∷ rows) ≡ Err fault
+  bad-header fault le bad = few_columns le ∙ ap (λ h. under h (λ fields. with_schema fields (rows_of csv_limits fields header rows))) bad
+
+  -- what a good header's records give
+  pub below-header : (fields : List Field) → length header ≤ 64 → header_of number_name header ≡ Ok fields → plain_in csv_limits (header ∷ rows) ≡ with_schema fields (rows_of csv_limits fields header rows)
+  below-header fields le ok = few_columns le ∙ ap (λ h. under h (λ fs. with_schema fs (rows_of csv_limits fs header rows))) ok

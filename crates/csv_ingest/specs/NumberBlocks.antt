@@ -1,0 +1,47 @@
+-- A text of whole numbers, whose rows are read block by block.
+use Rattle.std.specs.Prelude.{◌≡◌, ◌<◌, ◌≤◌, ◌+◌, ◌^◌, ℕ, List, [], length, false, Result, Ok}
+use Rattle.std.specs.List.{All}
+use Rattle.csv.specs.Records.{fields_of}
+use Rattle.values.specs.Columns.{Listed}
+use Rattle.values.specs.declared.value.Value.{Value}
+use Rattle.table_schema.specs.declared.field.Field.{Field}
+use Rattle.table_schema.specs.declared.field.Schema.{Schema}
+use Rattle.csv_ingest.specs.declared.blocks.NumberBlocks.{NumberBlocks}
+use Rattle.csv_ingest.specs.declared.blocks.NumberHeader.{NumberHeader}
+use Rattle.csv_ingest.specs.declared.fault.CsvFault.{CsvFault}
+use Rattle.csv_ingest.specs.Blocks.{RowsOrFault, rows_from}
+use Rattle.csv_ingest.specs.Names.{number_name}
+use Rattle.csv_ingest.specs.Reading.{Reads, TextReader, records_left}
+use Rattle.csv_ingest.specs.Rows.{header_of, with_schema}
+
+-- the fields are the columns that the names make
+pub record IsNumberHeader (header : NumberHeader) : Type 0 where
+  pub few : length (fields_of header.names) ≤ 64
+  pub fields : header_of number_name (fields_of header.names) ≡ Ok header.fields
+
+-- the header is one, and rows can be counted by 32-bit numbers
+pub record IsNumberBlocks (blocks : NumberBlocks) : Type 0 where
+  pub header : IsNumberHeader blocks.header
+  pub few : blocks.before + blocks.left < 2 ^ 31
+
+-- what the records that are left give, where some may be left
+pub record HasRows (fields : List Field) (header : List (List ℕ)) (reader : TextReader) (before left : ℕ) (whole : RowsOrFault) : Type 0 where
+  pub rest : List ℕ
+  pub reads : Reads reader rest
+  pub is : whole ≡ rows_from before fields header (records_left left reader rest)
+
+-- the text gives these rows from here on, or this fault
+pub record Gives (blocks : NumberBlocks) (whole : RowsOrFault) : Type 0 where
+  pub none : blocks.left ≡ 0 → whole ≡ Ok []
+  pub some : 0 < blocks.left → HasRows blocks.header.fields (fields_of blocks.header.names) blocks.reader blocks.before blocks.left whole
+
+-- and with the fields this table, or this fault
+pub record GivesTable (blocks : NumberBlocks) (table : Result (Schema × List (List Value)) CsvFault) : Type 0 where
+  pub rows : RowsOrFault
+  pub gives : Gives blocks rows
+  pub is : table ≡ with_schema blocks.header.fields rows
+
+-- a column of numbers for each field
+pub record AreNumbers (fields : List Field) (columns : List Listed) : Type 0 where
+  pub width : length columns ≡ length fields
+  pub numbers : All (λ column. column.are_texts ≡ false) columns

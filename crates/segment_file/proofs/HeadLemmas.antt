@@ -1,0 +1,67 @@
+-- The dictionaries of a head, and the sizes of its sections, one after the other.
+use Rattle.std.proofs.Common.{◌≡◌, ◌∙◌, ◌<◌, ◌≤◌, ◌+◌, ℕ, zero, suc, All, List, [], ◌∷◌, ◌++◌, length, get_or, take, refl, sym, ap, subst, arith, length-take}
+use Rattle.std.proofs.lemmas.List.{get_or-map, get_or-take, take_more}
+use Rattle.std.proofs.lemmas.List.Elements.{All-push}
+use Rattle.std.proofs.lemmas.Option.{slice_get-get_or}
+use Rattle.std.specs.List.{AllZip, range_with_len}
+use Rattle.table_schema.specs.declared.field.Field.{Field}
+use Rattle.table_schema.specs.declared.table.Table.{Table}
+use Rattle.dictionary.specs.Dictionary.{Distinct}
+use Rattle.segment_file.specs.declared.section.Section.{Section}
+use Rattle.segment_file.specs.Image.{kind_at, kind_or}
+use Rattle.segment_file.specs.Parts.{owner_of}
+use Rattle.segment_file.specs.Reading.{FitsSize, SizeFails, bytes_of_section, count_at, heads_of}
+use Rattle.segment_file.specs.Rules.{AreSpelled, IsSpelled, dictionary_in, size_for}
+
+pub heads_at : (bytes : List ℕ) (sections : List Section) (count i : ℕ) (s : Section) → i < count → i < length sections → s ≡ get_or sections i s → get_or (heads_of count sections bytes) i [] ≡ bytes_of_section bytes s
+heads_at bytes sections count i s below lt is =
+    get_or-map (bytes_of_section bytes) (take count sections) i s [] (omega (arith, length-take count sections)) ∙ ap (bytes_of_section bytes) (get_or-take count sections i s below ∙ sym is)
+
+kind_found : (table : Table) (column : ℕ) (f : Field) → column < length table.schema.fields → f ≡ get_or table.schema.fields column f → kind_at table column ≡ f.kind
+kind_found table column f lt is = ap kind_or (slice_get-get_or table.schema.fields column f lt) ∙ ap (λ g. g.kind) (sym is)
+
+zip_push : {A B : Type 0} (R : A → B → Type 0) (xs : List A) (ys : List B) (x : A) (y : B) → AllZip R xs ys → R x y → AllZip R (xs ++ x ∷ []) (ys ++ y ∷ [])
+zip_push R [] [] x y all one = (one, tt)
+zip_push R [] (b ∷ ys) x y all one = absurd all
+zip_push R (a ∷ xs) [] x y all one = absurd all
+zip_push R (a ∷ xs) (b ∷ ys) x y all one = (all.0, zip_push R xs ys x y all.1 one)
+
+range_from : (a n last : ℕ) → a + n ≡ last → range_with_len a (suc n) ≡ range_with_len a n ++ last ∷ []
+range_from a zero last e = let same : a ≡ last = omega arith in ap (λ x. x ∷ []) same
+range_from a (suc n) last e = ap (λ xs. a ∷ xs) (range_from (a + 1) n last (omega arith))
+
+pub ranges_push : (n : ℕ) → range_with_len 0 (n + 1) ≡ range_with_len 0 n ++ n ∷ []
+ranges_push n = let e : n + 1 ≡ suc n = omega arith in ap (range_with_len 0) e ∙ range_from 0 n n (omega arith)
+
+-- the dictionary of one more field
+pub spelled_more : (table : Table) (rows : ℕ) (bytes here : List ℕ) (sections : List Section) (column : ℕ) (f : Field) (s : Section) (ds : List Distinct) (d : Distinct) → column < length table.schema.fields → length table.schema.fields + 1 ≤ length sections
+    → f ≡ get_or table.schema.fields column f → s ≡ get_or sections (column + 1) s → here ≡ bytes_of_section bytes s
+    → AreSpelled table rows (heads_of (length table.schema.fields + 1) sections bytes) (range_with_len 0 column) ds
+    → IsSpelled f.kind rows here d
+    → AreSpelled table rows (heads_of (length table.schema.fields + 1) sections bytes) (range_with_len 0 (column + 1)) (ds ++ d ∷ [])
+spelled_more table rows bytes here sections column f s ds d lt many field section bytes_are so_far one =
+    let heads : List (List ℕ) = heads_of (length table.schema.fields + 1) sections bytes in
+    let R : ℕ → Distinct → Type 0 = λ c x. IsSpelled (kind_at table c) rows (dictionary_in heads c) x in
+    let kind : f.kind ≡ kind_at table column = sym (kind_found table column f lt field) in
+    let at : here ≡ dictionary_in heads column = bytes_are ∙ sym (heads_at bytes sections (length table.schema.fields + 1) (column + 1) s (omega arith) (omega arith) section) in
+    let now : R column d = subst (λ b. IsSpelled (kind_at table column) rows b d) at (subst (λ k. IsSpelled k rows here d) kind one) in
+    subst (λ cs. AllZip R cs (ds ++ d ∷ [])) (sym (ranges_push column)) (zip_push R (range_with_len 0 column) ds column d so_far now)
+
+-- ---- sizes
+
+counted_at : (ds : List Distinct) (owner : ℕ) (d : Distinct) → owner < length ds → d ≡ get_or ds owner d → count_at ds owner ≡ length d.values
+counted_at ds owner d lt is = ap length (get_or-map (λ x. x.values) ds owner d [] lt ∙ ap (λ x. x.values) (sym is))
+
+pub fits_size : (rows : ℕ) (ds : List Distinct) (s : Section) (owner count size : ℕ) (d : Distinct) → owner ≡ owner_of s.part → owner < length ds → d ≡ get_or ds owner d → count ≡ length d.values → size ≡ size_for rows count s.part
+    → size ≡ size_for rows (count_at ds (owner_of s.part)) s.part
+fits_size rows ds s owner count size d owner_is lt is count_is size_is =
+    let counts : count ≡ count_at ds (owner_of s.part) = count_is ∙ sym (counted_at ds owner d lt is) ∙ ap (count_at ds) owner_is in
+    size_is ∙ ap (λ n. size_for rows n s.part) counts
+
+pub size_stops : (rows : ℕ) (ds : List Distinct) (sections : List Section) (i : ℕ) (s : Section) → i < length sections → s ≡ get_or sections i s → All (FitsSize rows ds) (take i sections) → ¬ FitsSize rows ds s → SizeFails rows ds sections s.part
+size_stops rows ds sections i s lt is sized other = record { at = i; within = lt; failing = s; is_at = is; sized = sized; other = other; is_of = refl }
+
+pub sized_more : (rows : ℕ) (ds : List Distinct) (sections : List Section) (i : ℕ) (s : Section) → i < length sections → s ≡ get_or sections i s → All (FitsSize rows ds) (take i sections) → FitsSize rows ds s → All (FitsSize rows ds) (take (i + 1) sections)
+sized_more rows ds sections i s lt is sized one =
+    subst (All (FitsSize rows ds)) (sym (take_more sections i s lt))
+    (All-push (FitsSize rows ds) (take i sections) (get_or sections i s) sized (subst (FitsSize rows ds) is one))

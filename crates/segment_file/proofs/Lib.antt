@@ -1,0 +1,5 @@
+pub mod Counts
+pub mod Fronts
+pub mod BoundLemmas
+pub mod HeadLemmas
+pub mod Composed

@@ -1,0 +1,49 @@
+use Rattle.std.proofs.Common.{◌≡◌, ◌∙◌, ◌+◌, ◌*◌, ◌++◌, length, take, sum, ap, arith, length-take}
+use Rattle.segment_file.specs.Front.{counts_bytes, directory, extents_from, front_size}
+use Rattle.segment_file.specs.Parts.{head_sections, sections_of}
+use Rattle.segment_file.proofs.Fronts.{front_written}
+use Rattle.segment_file.proofs.Counts.{few_sections, head_count, raw_count, some_sections}
+use Rattle.segment_file.proofs.front.Front.write.Goals as goal
+
+pub front_size-start-requires-clause-sections : goal.front_size-start-requires-clause-sections
+front_size-start-requires-clause-sections c = omega (arith, few_sections c.args.table.now c.requires.valid, ap length c.requires.sections)
+
+pub slice_bounds-total-end : goal.slice_bounds-total-end
+slice_bounds-total-end c =
+    let table = c.args.table.now in
+    omega (
+      arith,
+      length-take (c.len-fields.result + 1) c.deref.result.now,
+      ap length c.deref.ensures.value,
+      ap (λ f. length f.sizes) c.self.view_is,
+      c.requires.each,
+      ap length c.requires.sections,
+      some_sections table,
+      head_count table,
+      raw_count table,
+      c.len-fields.ensures,
+    )
+
+pub overflow_cast-sections : goal.overflow_cast-sections
+overflow_cast-sections c = omega (arith, few_sections c.args.table.now c.requires.valid, ap length c.requires.sections)
+
+pub returns : goal.returns
+returns c =
+    let table = c.args.table.now in
+    let name = c.args.name.now in
+    let f = c.args.self.now in
+    let sections = c.requires.sections in
+    let start : c.front_size-start.result ≡ front_size table name = c.front_size-start.ensures ∙ ap (λ parts. 38 + length name + 19 * length parts) sections in
+    let first : c.total.result ≡ sum (take (length (head_sections table)) f.sizes) =
+    c.total.ensures ∙ (let count : c.len-fields.result + 1 ≡ length (head_sections table) = omega (arith, c.len-fields.ensures, head_count table) in
+    let sizes : c.deref.result.now ≡ f.sizes = c.deref.ensures.value ∙ ap (λ g. g.sizes) c.self.view_is in
+    (λ i. sum (take (count i) (sizes i)))) in
+    let second : c.total-2.result ≡ sum f.sizes = c.total-2.ensures ∙ ap sum (c.deref-2.ensures.value ∙ ap (λ g. g.sizes) c.self.view_is) in
+    let sizes : c.deref-3.result.now ≡ f.sizes = c.deref-3.ensures.value ∙ ap (λ g. g.sizes) c.self.view_is in
+    let counts : c.push_counts.new.out.items ≡ c.push_title.new.out.items ++ counts_bytes (length table.schema.fields) (length (sections_of table)) (c.front_size-start.result + c.total.result) (c.front_size-start.result + c.total-2.result) =
+    c.in_ok-push_counts.ensures
+    ∙ (λ i. c.push_title.new.out.items ++ counts_bytes (c.len-fields.ensures i) (length (sections i)) (c.front_size-start.result + c.total.result) (c.front_size-start.result + c.total-2.result)) in
+    let all : c.push_directory.new.out.items ≡ c.push_counts.new.out.items ++ directory (extents_from c.front_size-start.result (sections_of table) f.sizes) =
+    c.in_ok-push_directory.ensures ∙ (λ i. c.push_counts.new.out.items ++ directory (extents_from c.front_size-start.result (sections i) (sizes i))) in
+    front_written table name f c.front_size-start.result (c.front_size-start.result + c.total.result) (c.front_size-start.result + c.total-2.result) c.in_ok-out.out.items c.push_title.new.out.items c.push_counts.new.out.items c.push_directory.new.out.items
+    start (λ i. start i + first i) (λ i. start i + second i) c.in_ok-out.ensures.items c.in_ok-push_title.ensures counts all

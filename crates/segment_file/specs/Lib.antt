@@ -1,0 +1,10 @@
+pub mod Names
+pub mod Parts
+pub mod Front
+pub mod Bounds
+pub mod Ordered
+pub mod Image
+pub mod Rules
+pub mod Reading
+pub mod Heads
+pub mod Laws

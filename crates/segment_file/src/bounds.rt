@@ -1,0 +1,52 @@
+//! The bounds of columns: the least and the greatest value of each.
+ghost use Rattle.std.specs.Prelude.{◌≡◌, ◌++◌, OnOk};
+ghost use Rattle.segment_file.specs.Bounds.{IsShort, bound_bytes, bounds_bytes, bounds_of, ends_of};
+
+use crate::NoMemory;
+use crate::numbers::push_two;
+use dictionary::Dictionary;
+use values::Value;
+
+/// The least and the greatest value of a column.
+#[derive(Debug, Drop)]
+pub struct Ends {
+    pub least: Value,
+    pub greatest: Value,
+}
+
+/// Appends the bounds of columns with these dictionaries; a column without values has none.
+pub fn push_bounds(dictionaries: &[Dictionary], out: &mut Vec<u8>) -> Result<(), NoMemory>
+    ensures { OnOk result (out.new.items ≡
+        out.old.items ++ bounds_bytes (bounds_of dictionaries.now)) }
+{
+    for dictionary in dictionaries {
+        push_ends(dictionary, out)?;
+    }
+    Ok(())
+}
+
+fn push_ends(dictionary: &Dictionary, out: &mut Vec<u8>) -> Result<(), NoMemory>
+    ensures { OnOk result
+        (out.new.items ≡ out.old.items ++ bounds_bytes (ends_of dictionary.now.values)) }
+{
+    let count = dictionary.count();
+    if count == 0 {
+        return Ok(());
+    }
+    push_bound(dictionary.value_at(0), out)?;
+    push_bound(dictionary.value_at(count - 1), out)
+}
+
+#[tactic(auto, unfolding(dictionary::specs::Spelling::number_bytes))]
+fn push_bound(value: &Value, out: &mut Vec<u8>) -> Result<(), NoMemory>
+    requires { IsShort value.now }
+    ensures { OnOk result (out.new.items ≡ out.old.items ++ bound_bytes value.now) }
+{
+    match value {
+        Value::Whole(number) => out.extend_from_slice(&number.to_be_bytes()),
+        Value::Text(text) => {
+            push_two(text.len() as u16, out)?;
+            out.extend_from_slice(text.as_slice())
+        }
+    }
+}

@@ -1,0 +1,30 @@
+//! The file of a segment: its image, and its head, which is read without the rest.
+#![tactic(auto)]
+
+mod bounds;
+mod check;
+mod dictionaries;
+mod fault;
+mod front;
+mod head;
+mod numbers;
+mod part;
+mod reading;
+mod section;
+mod sections;
+mod sizes;
+
+pub use bounds::{Ends, push_bounds};
+pub use check::check_head;
+pub use dictionaries::check_dictionary;
+pub use fault::HeadFault;
+pub use front::{Front, front_size};
+pub use head::Head;
+pub use part::Part;
+pub use reading::{file_length, read_exactly};
+pub use section::Section;
+pub use sections::sections_of;
+pub use sizes::size_for;
+
+/// A growth was refused.
+pub type NoMemory = std::alloc::AllocError;

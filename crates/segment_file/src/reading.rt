@@ -1,0 +1,76 @@
+//! Bytes of a segment's file are read.
+ghost use Rattle.std.specs.Prelude.{◌≡◌, ◌<◌, ◌+◌, ◌^◌, ◌↔◌, IfOk, IfErr, IfSome, OnErr, IsErrOf, Some, length};
+ghost use Rattle.outside.specs.Files.{bytes_at, bytes_of};
+ghost use Rattle.outside.specs.Reads.{LogsThrough, LogsUpTo};
+ghost use Rattle.outside.specs.Seen.{OnlyReads, seen};
+ghost use Rattle.segment_file.specs.declared.fault.HeadFault.TheVariants.{NotASegment};
+ghost use Rattle.segment_file.specs.declared.part.Part.{Part};
+ghost use Rattle.segment_file.specs.declared.part.Part.TheVariants as part;
+
+use crate::{HeadFault, Part};
+use outside::{Bytes, Shelf, ShelfFault, read_bytes};
+use std::alloc::Global;
+
+/// How many bytes a file has; one that is missing has none.
+pub fn file_length<S: Shelf>(alloc: Global, shelf: &mut S, file: &str) -> Result<u64, HeadFault>
+    ensures length { IfOk result (λ n. IfSome (S.held shelf.old) (λ files.
+        n ≡ length (bytes_of (Some files) file.now))) }
+    ensures only_reads { OnlyReads (IsErrOf result HeadFault.ReadFault)
+        (seen S.Shelf shelf.old) (seen S.Shelf shelf.new) }
+    ensures log { S.log shelf.new ≡ S.log shelf.old }
+    ensures never { IfErr result (λ fault. (p : Part) → ¬ (fault ≡ NotASegment p)) }
+{
+    match shelf.length(alloc, file) {
+        Ok(length) => Ok(length),
+        Err(ShelfFault::Missing) => Ok(0),
+        Err(ShelfFault::Failed) => Err(HeadFault::ReadFault),
+        Err(ShelfFault::NoMemory) => Err(HeadFault::NoMemory),
+    }
+}
+
+/// So many bytes of a file from an offset on. Where the file ends before, its front says what it is
+/// not.
+pub fn read_exactly<S: Shelf>(
+    alloc: Global,
+    shelf: &mut S,
+    file: &str,
+    offset: u64,
+    count: u64,
+) -> Result<Bytes, HeadFault>
+    requires some { 0 < offset + count }
+    requires fits { offset + count < 2 ^ 64 }
+    ensures bytes { IfOk result (λ bytes. IfSome (S.held shelf.old) (λ files.
+        bytes ≡ bytes_at files file.now offset count)) }
+    ensures size { IfOk result (λ bytes. length bytes ≡ count) }
+    ensures short { IfErr result (λ fault. (p : Part) → fault ≡ NotASegment p →
+        (p ≡ part.Head) × IfSome (S.held shelf.old) (λ files.
+        length (bytes_of (Some files) file.now) < offset + count)) }
+    ensures only_reads { OnlyReads (IsErrOf result HeadFault.ReadFault)
+        (seen S.Shelf shelf.old) (seen S.Shelf shelf.new) }
+    ensures log { IfOk result (λ bytes. LogsThrough file.now offset (offset + count)
+        (S.log shelf.old) (S.log shelf.new)) }
+    ensures log_of_fault { OnErr result
+        (LogsUpTo file.now offset (offset + count) (S.log shelf.old) (S.log shelf.new)) }
+{
+    let bytes = match read_bytes(alloc, shelf, file, offset, count) {
+        Ok(bytes) => bytes,
+        Err(fault) => return Err(of_shelf(fault)),
+    };
+    if (bytes.len() as u64) < count {
+        return Err(HeadFault::NotASegment(Part::Head));
+    }
+    Ok(bytes)
+}
+
+// What a shelf's fault is for a head: a file that is missing is an empty one.
+fn of_shelf(fault: ShelfFault) -> HeadFault
+    ensures missing { fault ≡ ShelfFault.Missing → result ≡ NotASegment part.Head }
+    ensures failed { result ≡ HeadFault.ReadFault ↔ (fault ≡ ShelfFault.Failed) }
+    ensures memory { result ≡ HeadFault.NoMemory ↔ (fault ≡ ShelfFault.NoMemory) }
+{
+    match fault {
+        ShelfFault::Missing => HeadFault::NotASegment(Part::Head),
+        ShelfFault::Failed => HeadFault::ReadFault,
+        ShelfFault::NoMemory => HeadFault::NoMemory,
+    }
+}

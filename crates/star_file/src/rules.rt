@@ -1,0 +1,127 @@
+//! The rules on the nodes of a tree.
+
+ghost use Rattle.std.specs.Prelude.{◌≡◌, ◌≤◌, ◌<◌, ◌+◌, ◌-◌, ◌*◌, ◌↔◌, ◌⊎◌, IsTrue, length, List, ℕ};
+ghost use Rattle.std.specs.Prelude.{IfOk, [], take};
+ghost use Rattle.agg_laws.specs.Flat.{range, node_at};
+ghost use Rattle.agg_laws.specs.NodeRules.{KeepKidsRules, KeepsRules, IsRoot};
+ghost use Rattle.star_file.specs.Rules.{widths, KeepAll};
+
+use crate::kids::kids_keep;
+use agg_laws::{AggKind, Node, STAR, TreeShape};
+
+const MOST_BYTES: u64 = 134217728;
+
+/// As many nodes as a tree may have.
+const MOST_NODES: usize = 4793490;
+
+/// Whether a leaf keeps the rules on its documents.
+fn leaf_keeps(shape: &TreeShape, node: &Node) -> bool
+    ensures { IsTrue result ↔ ((node.now.first ≡ 0) × ((node.now.end - node.now.start
+        ≤ shape.now.leaf) ⊎ ((node.now.level ≡ shape.now.dims) × (node.now.end - node.now.start
+        ≡ 1)))) }
+{
+    let size = node.end.saturating_sub(node.start);
+    node.first == 0 && (size <= shape.leaf || (node.level == shape.dims as u32 && size == 1))
+}
+
+/// Whether a split node keeps the rules on its children.
+fn split_keeps(shape: &TreeShape, counts: &[u32], nodes: &[Node], at: usize, node: &Node) -> bool
+    requires counts { length counts.now ≡ shape.now.dims }
+    requires dims { shape.now.dims ≤ 16 }
+    ensures { IsTrue result ↔ ((node.now.level < shape.now.dims) × (at < node.now.first)
+        × (node.now.first + node.now.children ≤ length nodes.now)
+        × KeepKidsRules shape.now counts.now node.now.level node.now.start node.now.end (range
+        node.now.first (node.now.first + node.now.children) nodes.now)) }
+{
+    let first = node.first as usize;
+    let end = first + node.children as usize;
+    if node.level >= shape.dims as u32 || first <= at || end > nodes.len() {
+        return false;
+    }
+    kids_keep(shape, counts, node, &nodes[first..end])
+}
+
+/// Whether a node keeps the rules.
+fn node_keeps(shape: &TreeShape, counts: &[u32], documents: u32, nodes: &[Node], at: usize) -> bool
+    requires at { at < length nodes.now }
+    requires counts { length counts.now ≡ shape.now.dims }
+    requires dims { shape.now.dims ≤ 16 }
+    ensures { IsTrue result ↔ KeepsRules shape.now shape.now.dims counts.now documents nodes.now at }
+{
+    let node = nodes[at];
+    if node.level > shape.dims as u32 || node.start >= node.end {
+        return false;
+    }
+    if node.end > documents || node.total >= documents {
+        return false;
+    }
+    if node.children == 0 {
+        leaf_keeps(shape, &node)
+    } else {
+        split_keeps(shape, counts, nodes, at, &node)
+    }
+}
+
+/// Whether each node does.
+fn each_keeps(shape: &TreeShape, counts: &[u32], documents: u32, nodes: &[Node]) -> bool
+    requires counts { length counts.now ≡ shape.now.dims }
+    requires dims { shape.now.dims ≤ 16 }
+    ensures { IsTrue result ↔ ((at : ℕ) → at < length nodes.now
+        → KeepsRules shape.now shape.now.dims counts.now documents nodes.now at) }
+{
+    for at in 0..nodes.len() {
+        if !node_keeps(shape, counts, documents, nodes, at) {
+            return false;
+        }
+    }
+    true
+}
+
+/// The bytes of states of some kinds.
+fn widths(kinds: &[AggKind]) -> u32
+    requires { length kinds.now ≤ 16 }
+    ensures value { result ≡ widths kinds.now }
+    ensures bound { result ≤ 384 }
+{
+    let mut sum: u32 = 0;
+    for i in 0..kinds.len() {
+        sum += kinds[i].width() as u32;
+    }
+    sum
+}
+
+/// Whether a tree takes no more bytes than one may.
+fn few_bytes(shape: &TreeShape, documents: u32, nodes: usize) -> bool
+    requires { length shape.now.kinds ≤ 16 }
+    ensures { IsTrue result ↔ (documents * (4 * shape.now.dims + widths shape.now.kinds) + 28 *
+        nodes ≤ 134217728) }
+{
+    if nodes > MOST_NODES {
+        return false;
+    }
+    let width = 4 * shape.dims as u32 + widths(shape.kinds.as_slice());
+    documents as u64 * width as u64 + 28 * nodes as u64 <= MOST_BYTES
+}
+
+/// Whether the first node is a root.
+fn is_root(node: &Node) -> bool
+    ensures { IsTrue result ↔ IsRoot node.now }
+{
+    node.level == 0 && node.id == STAR && node.start == 0
+}
+
+/// Whether the nodes of a tree of so many documents keep all rules.
+pub fn nodes_keep(shape: &TreeShape, counts: &[u32], documents: u32, nodes: &[Node]) -> bool
+    requires counts { length counts.now ≡ shape.now.dims }
+    requires dims { shape.now.dims ≤ 16 }
+    requires kinds { length shape.now.kinds ≤ 16 }
+    ensures { IsTrue result ↔ KeepAll shape.now counts.now documents nodes.now }
+{
+    if !few_bytes(shape, documents, nodes.len()) {
+        return false;
+    }
+    if nodes.is_empty() || documents == 0 {
+        return nodes.is_empty() && documents == 0;
+    }
+    is_root(&nodes[0]) && each_keeps(shape, counts, documents, nodes)
+}

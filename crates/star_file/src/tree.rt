@@ -1,0 +1,11 @@
+//! A star-tree, written flat.
+
+use crate::node_list::Nodes;
+use agg_laws::StarTable;
+
+/// A star-tree: its documents and its nodes, by number.
+#[derive(Drop)]
+pub struct StarTree {
+    pub docs: StarTable,
+    pub nodes: Nodes,
+}

@@ -1,0 +1,125 @@
+//! Star-trees are written.
+
+ghost use Rattle.std.specs.Prelude.{◌≡◌, ◌<◌, ◌≤◌, ◌^◌, ◌++◌, ◌∷◌, [], OnOk, OnErr, length, drop};
+ghost use Rattle.agg_laws.specs.Docs.{doc_at, HaveShape, AreStored};
+ghost use Rattle.star_file.specs.Bytes.{words, node_words, node_bytes, nodes_section, state_bytes};
+ghost use Rattle.star_file.specs.Bytes.{doc_bytes, IsExtended};
+
+use crate::NoMemory;
+use crate::tree::StarTree;
+use crate::words::{push_state, push_word, push_words};
+use agg_laws::{Node, StarTable};
+
+/// Appends how many documents a tree has, and its nodes.
+pub fn write_nodes(tree: &StarTree, out: &mut Vec<u8>) -> Result<(), NoMemory>
+    requires { length tree.now.docs.docs < 2 ^ 32 }
+    ensures ok { OnOk result (out.new.items
+        ≡ out.old.items ++ nodes_section (length tree.now.docs.docs) tree.now.nodes) }
+    ensures err { OnErr result (out.new.items ≡ out.old.items) }
+{
+    let start = out.len();
+    if let Err(fault) = push_nodes(tree, out) {
+        out.truncate(start);
+        return Err(fault);
+    }
+    Ok(())
+}
+
+fn push_nodes(tree: &StarTree, out: &mut Vec<u8>) -> Result<(), NoMemory>
+    requires { length tree.now.docs.docs < 2 ^ 32 }
+    ensures ok { OnOk result (out.new.items
+        ≡ out.old.items ++ nodes_section (length tree.now.docs.docs) tree.now.nodes) }
+    ensures kept { IsExtended out.old.items out.new.items }
+{
+    let nodes = tree.nodes.as_slice();
+    out.reserve(nodes.len().saturating_mul(28).saturating_add(4))?;
+    push_word(tree.docs.len() as u32, out)?;
+    for i in 0..nodes.len() {
+        push_node(&nodes[i], out)?;
+    }
+    Ok(())
+}
+
+fn push_node(node: &Node, out: &mut Vec<u8>) -> Result<(), NoMemory>
+    ensures ok { OnOk result (out.new.items ≡ out.old.items ++ words (node_words node.now)) }
+    ensures kept { IsExtended out.old.items out.new.items }
+{
+    let numbers = [
+        node.level,
+        node.id,
+        node.start,
+        node.end,
+        node.total,
+        node.first,
+        node.children,
+    ];
+    push_words(&numbers, out)
+}
+
+/// Appends the documents of a tree.
+pub fn write_docs(tree: &StarTree, out: &mut Vec<u8>) -> Result<(), NoMemory>
+    requires few { length tree.now.docs.docs < 2 ^ 32 }
+    requires kinds { length tree.now.docs.kinds ≤ 16 }
+    ensures ok { OnOk result (out.new.items ≡ out.old.items ++ doc_bytes tree.now.docs.docs) }
+    ensures err { OnErr result (out.new.items ≡ out.old.items) }
+{
+    let start = out.len();
+    if let Err(fault) = push_docs(&tree.docs, out) {
+        out.truncate(start);
+        return Err(fault);
+    }
+    Ok(())
+}
+
+fn push_docs(docs: &StarTable, out: &mut Vec<u8>) -> Result<(), NoMemory>
+    requires few { length docs.now.docs < 2 ^ 32 }
+    requires kinds { length docs.now.kinds ≤ 16 }
+    ensures ok { OnOk result (out.new.items ≡ out.old.items ++ doc_bytes docs.now.docs) }
+    ensures kept { IsExtended out.old.items out.new.items }
+{
+    for at in 0..docs.len() as u32 {
+        push_doc(docs, at, out)?;
+    }
+    Ok(())
+}
+
+fn push_doc(docs: &StarTable, at: u32, out: &mut Vec<u8>) -> Result<(), NoMemory>
+    requires at { at < length docs.now.docs }
+    requires kinds { length docs.now.kinds ≤ 16 }
+    requires shape { HaveShape docs.now.dims docs.now.kinds docs.now.docs }
+    requires stored { AreStored docs.now.docs }
+    ensures ok { OnOk result (out.new.items ≡ out.old.items
+        ++ (words (doc_at docs.now.docs at).0 ++ state_bytes (doc_at docs.now.docs at).1)) }
+    ensures kept { IsExtended out.old.items out.new.items }
+{
+    push_ids(docs, at, out)?;
+    push_states(docs, at, out)
+}
+
+fn push_ids(docs: &StarTable, at: u32, out: &mut Vec<u8>) -> Result<(), NoMemory>
+    requires at { at < length docs.now.docs }
+    requires shape { HaveShape docs.now.dims docs.now.kinds docs.now.docs }
+    ensures ok { OnOk result (out.new.items
+        ≡ out.old.items ++ words (doc_at docs.now.docs at).0) }
+    ensures kept { IsExtended out.old.items out.new.items }
+{
+    for level in 0..docs.dims() {
+        push_word(docs.dim(at, level), out)?;
+    }
+    Ok(())
+}
+
+fn push_states(docs: &StarTable, at: u32, out: &mut Vec<u8>) -> Result<(), NoMemory>
+    requires at { at < length docs.now.docs }
+    requires kinds { length docs.now.kinds ≤ 16 }
+    requires shape { HaveShape docs.now.dims docs.now.kinds docs.now.docs }
+    requires stored { AreStored docs.now.docs }
+    ensures ok { OnOk result (out.new.items
+        ≡ out.old.items ++ state_bytes (doc_at docs.now.docs at).1) }
+    ensures kept { IsExtended out.old.items out.new.items }
+{
+    for pair in 0..docs.kinds().len() as u8 {
+        push_state(&docs.state(at, pair), out)?;
+    }
+    Ok(())
+}

@@ -1,0 +1,8 @@
+use Rattle.std.proofs.Common.{◌≡◌, length, map, take, slice_get, Some}
+use Rattle.star_records.proofs.projection.read_row.Given as goal
+
+abbrev pub invariant-loop-i : goal.invariant-loop-i
+invariant-loop-i g l = record {
+  items : map Some l.out.items ≡ map (λ c. slice_get c l.row) (take l.i l.columns);
+  long : length l.out.items ≡ l.i;
+}

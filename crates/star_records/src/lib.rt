@@ -1,0 +1,13 @@
+//! The rows of a segment as documents of a star-tree: one document a row, and documents merged.
+#![tactic(auto)]
+
+mod compare;
+mod merging;
+mod projection;
+
+pub use compare::compare_dims;
+pub use merging::merge_equal;
+pub use projection::{project, project_merged};
+
+/// A growth was refused.
+pub type NoMemory = std::alloc::AllocError;

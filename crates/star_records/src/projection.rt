@@ -1,0 +1,84 @@
+//! Rows as documents.
+
+ghost use Rattle.std.specs.Prelude.{◌≡◌, ◌≤◌, ◌<◌, length, map, slice_get, Some, IfOk, OnOk, All};
+ghost use Rattle.agg_laws.specs.Numbers.{most_stored};
+ghost use Rattle.agg_laws.specs.Rows.{merged_rows, row_weight};
+ghost use Rattle.agg_laws.specs.Merged.{weights};
+ghost use Rattle.agg_laws.specs.Docs.{projected};
+ghost use Rattle.agg_laws.specs.Tree.{merged_docs};
+ghost use Rattle.star_records.specs.Columns.{row_count, rows_of};
+
+use crate::NoMemory;
+use crate::merging::merge_equal;
+use agg_laws::{StarTable, TreeShape};
+use outside::Seq;
+use std::alloc::Global;
+
+/// What some columns have in a row, in place of what a list has.
+fn read_row<T: Copy>(columns: &Seq<Seq<T>>, row: usize, out: &mut Vec<T>) -> Result<(), NoMemory>
+    requires { All (λ c. row < length c) columns.now }
+    ensures items { OnOk result (map Some out.new.items ≡ map (λ c. slice_get c row) columns.now) }
+    ensures length { OnOk result (length out.new.items ≡ length columns.now) }
+{
+    out.clear();
+    for i in 0..columns.len() {
+        let column = columns.at(i).as_slice();
+        out.push(column[row])?;
+    }
+    Ok(())
+}
+
+/// One document a row: the row's ids, and the states of its values, pair by pair.
+pub fn project(
+    alloc: Global,
+    shape: &TreeShape,
+    dims: &Seq<Seq<u32>>,
+    metrics: &Seq<Seq<i64>>,
+) -> Result<StarTable, NoMemory>
+    requires kinds { length shape.now.kinds ≤ 16 }
+    requires some { 1 ≤ shape.now.dims }
+    requires dims { length dims.now ≡ shape.now.dims }
+    requires metrics { length metrics.now ≡ length shape.now.kinds }
+    requires ids_long { All (λ c. length c ≡ row_count dims.now) dims.now }
+    requires values_long { All (λ c. length c ≡ row_count dims.now) metrics.now }
+    ensures dims { IfOk result (λ table. table.dims ≡ shape.now.dims) }
+    ensures kinds { IfOk result (λ table. table.kinds ≡ shape.now.kinds) }
+    ensures docs { IfOk result (λ table. table.docs
+        ≡ projected shape.now.kinds (rows_of (row_count dims.now) dims.now metrics.now)) }
+    ensures count { IfOk result (λ table. length table.docs ≡ row_count dims.now) }
+    ensures light { IfOk result (λ table. weights row_weight table.docs ≤ row_count dims.now) }
+{
+    let rows = dims.at(0).len();
+    let mut table = StarTable::new(alloc, shape)?;
+    let mut ids = Vec::with_capacity(alloc, dims.len())?;
+    let mut values = Vec::with_capacity(alloc, metrics.len())?;
+    for row in 0..rows {
+        read_row(dims, row, &mut ids)?;
+        read_row(metrics, row, &mut values)?;
+        table.reserve(1)?;
+        table.append_values(ids.as_slice(), values.as_slice());
+    }
+    Ok(table)
+}
+
+/// The documents of the rows, sorted by their ids, those of equal ids merged.
+pub fn project_merged(
+    alloc: Global,
+    shape: &TreeShape,
+    dims: &Seq<Seq<u32>>,
+    metrics: &Seq<Seq<i64>>,
+) -> Result<StarTable, NoMemory>
+    requires kinds { length shape.now.kinds ≤ 16 }
+    requires some { 1 ≤ shape.now.dims }
+    requires dims { length dims.now ≡ shape.now.dims }
+    requires metrics { length metrics.now ≡ length shape.now.kinds }
+    requires ids_long { All (λ c. length c ≡ row_count dims.now) dims.now }
+    requires values_long { All (λ c. length c ≡ row_count dims.now) metrics.now }
+    requires few { row_count dims.now ≤ most_stored }
+    ensures dims { IfOk result (λ table. table.dims ≡ shape.now.dims) }
+    ensures kinds { IfOk result (λ table. table.kinds ≡ shape.now.kinds) }
+    ensures docs { IfOk result (λ table. table.docs ≡ merged_docs merged_rows (projected
+        shape.now.kinds (rows_of (row_count dims.now) dims.now metrics.now))) }
+{
+    merge_equal(project(alloc, shape, dims, metrics)?)
+}
