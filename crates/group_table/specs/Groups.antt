@@ -1,5 +1,7 @@
--- The groups of some rows: those of one key, which is the values in the group columns, with the aggregates of their numbers.
+-- The groups of some rows: those of one key, which is the values in the group columns, with the
+-- aggregates of their numbers.
 use Rattle.std.specs.Prelude.{◌≡◌, ℕ, ℤ, pos, Bool, List, [], ◌∷◌, map, filter}
+use Rattle.std.specs.List.{list_any}
 use Rattle.std.specs.Option.{option_map_or}
 use Rattle.std.specs.FinMap as finite
 use Rattle.std.specs.Cmp.Lexicographic.{slice_cmp}
@@ -41,10 +43,20 @@ key_order = slice_cmp value_order
 abbrev pub has_key : List ℕ → List Value → List Value → Bool
 has_key groups key row = eq_by_cmp key_order key (key_of groups row)
 
--- the keys of groups: those of the rows, and without group columns the empty one, even over no rows
+-- whether there is a group of this key: some row has it, or it is the one key that there is without
+-- group columns
+abbrev pub is_key : List ℕ → List (List Value) → List Value → Bool
+is_key [] rows key = eq_by_cmp key_order key []
+is_key (column ∷ columns) rows key = list_any (has_key (column ∷ columns) key) rows
+
+-- the keys of groups: those of the rows, and without group columns the empty one, even over none
 abbrev pub keys_of : List ℕ → List (List Value) → List (List Value)
 keys_of [] rows = [] ∷ []
 keys_of (column ∷ columns) rows = map (key_of (column ∷ columns)) rows
+
+-- a key with the aggregates of its rows
+abbrev pub Group : Type 0
+Group = List Value × List AggState
 
 -- groups by their keys
 abbrev pub Groups : Type 0
@@ -52,8 +64,20 @@ Groups = finite.FinMap key_order (List AggState)
 
 -- the groups of some rows: to each key the aggregates of the rows that have it
 abbrev pub groups_of : Shape → List (List Value) → Groups
-groups_of shape rows = finite.from_entries (map (λ key. (key, states_of shape.aggs (filter (has_key shape.groups key) rows))) (keys_of shape.groups rows))
+groups_of shape rows = finite.from_entries
+    (map (λ key. (key, states_of shape.aggs (filter (has_key shape.groups key) rows)))
+    (keys_of shape.groups rows))
 
 -- the groups with more rows in them: at each key the states of both, where there are any
 pub record Adds (shape : Shape) (rows : List (List Value)) (old new : Groups) : Type 0 where
-  pub each : (key : List Value) → finite.get new key ≡ join_some merged_rows (finite.get old key) (finite.get (groups_of shape rows) key)
+  pub each : (key : List Value) → finite.get new key
+      ≡ join_some merged_rows (finite.get old key) (finite.get (groups_of shape rows) key)
+
+-- the states that a key has once these are merged with its own, where it has some
+abbrev pub with_states : Groups → List Value → List AggState → List AggState
+with_states groups key states =
+    option_map_or (λ own. merged_rows own states) (finite.get groups key) states
+
+-- the groups once these states are merged into that of a key
+abbrev pub merged_in : Groups → List Value → List AggState → Groups
+merged_in groups key states = finite.insert groups key (with_states groups key states)
