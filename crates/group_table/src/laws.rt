@@ -1,6 +1,6 @@
 //! Laws of groups. Each is the contract of a function that does nothing.
 
-ghost use Rattle.std.specs.Prelude.{◌≡◌, ℕ, List, [], ◌∷◌, ◌++◌, Some, None, filter, map};
+ghost use Rattle.std.specs.Prelude.{◌≡◌, List, [], ◌∷◌, ◌++◌, Some, None, filter};
 ghost use Rattle.std.specs.Prelude.{if◌then◌else◌, IsPermutation};
 ghost use Rattle.std.specs.FinMap as finite;
 ghost use Rattle.values.specs.declared.value.Value.{Value};

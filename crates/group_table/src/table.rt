@@ -1,14 +1,13 @@
 //! Tables of groups.
 
-ghost use Rattle.std.specs.Prelude.{◌≡◌, ◌==◌, ℕ, ◌<◌, ◌≤◌, ◌↔◌, ◌∷◌, [], length, map, slice_get};
+ghost use Rattle.std.specs.Prelude.{◌≡◌, ◌<◌, ◌≤◌, ◌↔◌, ◌∷◌, [], length, map, slice_get};
 ghost use Rattle.std.specs.Prelude.{Some, None, Err, OnOk, OnErr, IfOk, is_some, true, false};
 ghost use Rattle.std.specs.FinMap as finite;
-ghost use Rattle.std.specs.Option.{IfSome};
 ghost use Rattle.agg_laws.specs.Numbers.{most_values};
 ghost use Rattle.agg_laws.specs.Rows.{row_of, kinds_of, RowFits};
 ghost use Rattle.group_table.specs.declared.fault.TableFault.TheVariants.{TooManyGroups, NoMemory};
-ghost use Rattle.group_table.specs.Groups.{Group, with_states};
-ghost use Rattle.group_table.specs.Kept.{IsGroup, IsTable, IsTableOf, IsNew, IsNewKey, Merges};
+ghost use Rattle.group_table.specs.Groups.{with_states};
+ghost use Rattle.group_table.specs.Kept.{IsGroup, IsTable, IsNew, IsNewKey, Merges};
 ghost use Rattle.group_table.specs.Kept.{groups_in, group_at, HaveValues};
 
 use crate::fault::TableFault;
