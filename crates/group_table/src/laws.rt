@@ -1,0 +1,36 @@
+//! Laws of groups. Each is the contract of a function that does nothing.
+
+ghost use Rattle.std.specs.Prelude.{◌≡◌, List, [], ◌∷◌, ◌++◌, Some, None, filter};
+ghost use Rattle.std.specs.Prelude.{if◌then◌else◌, IsPermutation};
+ghost use Rattle.std.specs.FinMap as finite;
+ghost use Rattle.values.specs.declared.value.Value.{Value};
+ghost use Rattle.group_table.specs.Groups.{Groups, groups_of, is_key, has_key, key_of, states_of};
+ghost use Rattle.group_table.specs.Groups.{Adds, merged_in};
+ghost use Rattle.group_table.specs.Shape.{Shape};
+
+/// The groups of some rows have each key that a row has, with the aggregates of the rows that have
+/// it, and no other; they do not depend on the order of the rows.
+pub fn groups_law()
+    ensures found { (shape : Shape) (rows : List (List Value)) (key : List Value)
+        → finite.get (groups_of shape rows) key ≡ (if is_key shape.groups rows key
+        then Some (states_of shape.aggs (filter (has_key shape.groups key) rows)) else None) }
+    ensures permuted { (shape : Shape) (xs ys : List (List Value)) → IsPermutation xs ys
+        → groups_of shape ys ≡ groups_of shape xs }
+{}
+
+/// The groups of more rows are those before with the groups of the rows that came added, which are
+/// the only such groups; so groups over several lists compose. To add one row is to merge the
+/// aggregates of it into the group of its key.
+pub fn adds_law()
+    ensures of_both { (shape : Shape) (xs ys : List (List Value))
+        → Adds shape ys (groups_of shape xs) (groups_of shape (xs ++ ys)) }
+    ensures one { (shape : Shape) (rows : List (List Value)) (old new other : Groups)
+        → Adds shape rows old new → Adds shape rows old other → new ≡ other }
+    ensures joined { (shape : Shape) (xs ys : List (List Value)) (old mid new : Groups)
+        → Adds shape xs old mid → Adds shape ys mid new → Adds shape (xs ++ ys) old new }
+    ensures from_none { (shape : Shape) (rows : List (List Value)) (new : Groups)
+        → Adds shape rows (groups_of shape []) new → new ≡ groups_of shape rows }
+    ensures of_row { (shape : Shape) (row : List Value) (old : Groups)
+        → Adds shape (row ∷ []) old
+        (merged_in old (key_of shape.groups row) (states_of shape.aggs (row ∷ []))) }
+{}
