@@ -3,7 +3,8 @@
 #![tactic(auto)]
 
 use csv_ingest::{number_blocks, read_columns};
-use outside::{FolderShelf, read_all};
+use host_devices::FolderShelf;
+use outside::read_all;
 use std::process::ExitCode;
 use std::{env, io};
 use table_schema::read_schema;

@@ -4,7 +4,7 @@ ghost use Rattle.outside.specs.Counts.{Rose};
 
 use crate::folder_files::count_read;
 use crate::folder_parts::{FolderParts, is_published_name};
-use crate::{Depot, DepotFault, Name, Seq, Shelf, ShelfFault};
+use outside::{Depot, DepotFault, Name, Seq, Shelf, ShelfFault};
 use std::alloc::Global;
 use std::rt::Files;
 

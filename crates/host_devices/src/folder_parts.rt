@@ -1,8 +1,8 @@
 //! The parts of a real folder, and what becomes of them.
 ghost use Rattle.std.specs.Prelude.{◌≡◌, ◌≢◌, IsErrOf};
 
-use crate::DepotFault;
 use crate::folder_files::{FolderFiles, NamedFile, names_nothing, path_of};
+use outside::DepotFault;
 use std::alloc::Global;
 use std::fs::{File, OpenFile, OpenOptions};
 use std::io::{ErrorKind, Write};

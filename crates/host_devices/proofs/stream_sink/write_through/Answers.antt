@@ -1,8 +1,8 @@
 use Rattle.std.proofs.Common.{arith, sym, subst, ◌≤◌, length, take, length-drop}
 use Rattle.std.specs.Io.KnownBytes.{Appends}
-use Rattle.outside.proofs.StreamLemmas.{Appends-more, Appends-kept, rest_whole}
-use Rattle.outside.proofs.stream_sink.write_through.Goals as goal
-use Rattle.outside.proofs.stream_sink.write_through.Goals.{in-Ok, in-Err}
+use Rattle.host_devices.proofs.StreamLemmas.{Appends-more, Appends-kept, rest_whole}
+use Rattle.host_devices.proofs.stream_sink.write_through.Goals as goal
+use Rattle.host_devices.proofs.stream_sink.write_through.Goals.{in-Ok, in-Err}
 
 pub pieces-preserved : goal.pieces-preserved
 pieces-preserved g c =

@@ -3,9 +3,9 @@ ghost use Rattle.std.specs.Prelude.{◌≡◌, ◌≤◌, None, OnOk, OnErr};
 ghost use Rattle.std.specs.Io.KnownBytes.{Appends};
 ghost use Rattle.outside.specs.Counts.{Rose};
 ghost use Rattle.outside.specs.Sink.{appended, AppendsPrefix};
-ghost use Rattle.outside.specs.Stream.{AppendsSome};
+ghost use Rattle.host_devices.specs.Stream.{AppendsSome};
 
-use crate::{Sink, SinkFault};
+use outside::{Sink, SinkFault};
 use std::io;
 use std::io::{ErrorKind, Write};
 use std::marker::Model;
@@ -19,7 +19,7 @@ pub struct StreamSink<W: Write + Drop> {
 }
 
 impl<W: Write + Drop> Model for StreamSink<W> {
-    ghost use Rattle.outside.specs.Stream.{Stream, stream_code};
+    ghost use Rattle.host_devices.specs.Stream.{Stream, stream_code};
 
     ghost Value = { Stream W };
 

@@ -2,7 +2,7 @@
 ghost use Rattle.std.specs.Prelude.{None};
 
 use crate::folder_files::{FolderFiles, count_read};
-use crate::{Name, Seq, Shelf, ShelfFault};
+use outside::{Name, Seq, Shelf, ShelfFault};
 use std::alloc::Global;
 use std::rt::Files;
 

@@ -3,7 +3,7 @@ ghost use Rattle.std.specs.Prelude.{◌≡◌, ◌≢◌, ◌≤◌, IfOk, IsErr
 ghost use Rattle.outside.specs.Counts.{Rose};
 ghost use Rattle.outside.specs.declared.shelf.ShelfFault.TheVariants.{Missing, Failed};
 
-use crate::{Name, ShelfFault};
+use outside::{Name, ShelfFault};
 use std::alloc::{AllocError, Global};
 use std::fs::{Metadata, OpenFile};
 use std::io::{ErrorKind, Read, Seek, SeekFrom};
