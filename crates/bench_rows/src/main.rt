@@ -7,7 +7,7 @@ use host_devices::FolderShelf;
 use outside::read_all;
 use std::process::ExitCode;
 use std::{env, io};
-use table_schema::read_schema;
+use schema_json::read_schema;
 
 const SCHEMA_LIMIT: u64 = 1_048_576;
 
