@@ -6,3 +6,4 @@ pub mod HeadLemmas
 pub mod Composed
 pub mod RuleLaws
 mod Openings
+mod Steps

@@ -8,6 +8,7 @@ mod fault;
 mod front;
 mod head;
 mod laws;
+mod loading;
 mod numbers;
 mod opening;
 mod part;
@@ -15,6 +16,7 @@ mod reading;
 mod section;
 mod sections;
 mod sizes;
+mod stepwise;
 
 pub use bounds::{Ends, push_bounds, read_bounds};
 pub use check::check_head;
@@ -29,6 +31,7 @@ pub use reading::{file_length, read_exactly};
 pub use section::Section;
 pub use sections::sections_of;
 pub use sizes::size_for;
+pub use stepwise::open_head;
 
 /// A growth was refused.
 pub type NoMemory = std::alloc::AllocError;
