@@ -26,7 +26,7 @@ use Rattle.segment_file.proofs.HeadLemmas.{zip_push}
 
 -- ---- two bytes
 
-length-short : (n : ℕ) → length (short n) ≡ 2
+pub length-short : (n : ℕ) → length (short n) ≡ 2
 unfolding short
 length-short n = refl
 

@@ -7,3 +7,6 @@ pub mod Composed
 pub mod RuleLaws
 mod Openings
 mod Steps
+mod ImageRows
+mod ImageSizes
+mod ImageKeeps
