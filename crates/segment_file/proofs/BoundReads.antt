@@ -26,7 +26,7 @@ use Rattle.segment_file.proofs.HeadLemmas.{zip_push}
 
 -- ---- two bytes
 
-length-short : (n : ℕ) → length (short n) ≡ 2
+pub length-short : (n : ℕ) → length (short n) ≡ 2
 unfolding short
 length-short n = refl
 
@@ -119,6 +119,34 @@ bound_behind k (Text s) (Text t) x y first second e =
     let whole : short (length s) ++ (s ++ x) ≡ bound_bytes (Text t) ++ y = sym (append_assoc (short (length s)) s x) ∙ e in
     let both = text_behind (length s) t y (s ++ x) (omega (arith, few)) (fits_short k (Text t) second.fit) whole in
     same_rests s t x y both.0 both.1
+
+bound_once : (k : FieldKind) (v w : Value) (x y : List ℕ) → MayBound k v → MayBound k w → bound_bytes v ++ x ≡ bound_bytes w ++ y → v ≡ w
+bound_once k (Whole a) (Whole b) x y first second e =
+    ap Whole (number_once a b (fits_long k a first.fit) (fits_long k b second.fit) (same_fronts (number_bytes (Whole a)) (number_bytes (Whole b)) x y (length-number a ∙ sym (length-number b)) e))
+bound_once k (Whole a) (Text t) x y first second e = absurd (two_kinds k a t first.fit second.fit)
+bound_once k (Text t) (Whole a) x y first second e = absurd (two_kinds k a t second.fit first.fit)
+bound_once k (Text s) (Text t) x y first second e =
+    let few = fits_short k (Text s) first.fit in
+    let whole : short (length s) ++ (s ++ x) ≡ bound_bytes (Text t) ++ y = sym (append_assoc (short (length s)) s x) ∙ e in
+    let both = text_behind (length s) t y (s ++ x) (omega (arith, few)) (fits_short k (Text t) second.fit) whole in
+    ap Text (same_fronts s t x y both.0 both.1)
+
+-- bytes are the bounds of fields in one way
+pub bounds_once : (fields : List Field) (xs ys : List Ends) → AllZip MayEnd fields xs → AllZip MayEnd fields ys → bounds_bytes xs ≡ bounds_bytes ys → xs ≡ ys
+bounds_once [] [] [] all others e = refl
+bounds_once [] [] (y ∷ ys) all others e = absurd others
+bounds_once [] (x ∷ xs) ys all others e = absurd all
+bounds_once (f ∷ fs) [] ys all others e = absurd all
+bounds_once (f ∷ fs) (x ∷ xs) [] all others e = absurd others
+bounds_once (f ∷ fs) (x ∷ xs) (y ∷ ys) all others e =
+    let first : List ℕ = bound_bytes x.greatest ++ bounds_bytes xs in
+    let second : List ℕ = bound_bytes y.greatest ++ bounds_bytes ys in
+    let whole : bound_bytes x.least ++ first ≡ bound_bytes y.least ++ second = sym (append_assoc (bound_bytes x.least) (bound_bytes x.greatest) (bounds_bytes xs)) ∙ e ∙ append_assoc (bound_bytes y.least) (bound_bytes y.greatest) (bounds_bytes ys) in
+    let least : x.least ≡ y.least = bound_once f.kind x.least y.least first second all.0.0 others.0.0 whole in
+    let behind : first ≡ second = bound_behind f.kind x.least y.least first second all.0.0 others.0.0 whole in
+    let greatest : x.greatest ≡ y.greatest = bound_once f.kind x.greatest y.greatest (bounds_bytes xs) (bounds_bytes ys) all.0.1 others.0.1 behind in
+    let more : xs ≡ ys = bounds_once fs xs ys all.1 others.1 (bound_behind f.kind x.greatest y.greatest (bounds_bytes xs) (bounds_bytes ys) all.0.1 others.0.1 behind) in
+    (λ i. record { least = least i; greatest = greatest i } ∷ more i)
 
 -- the bounds of the first so many fields were read, and any bounds of all fields go on with the rest
 pub record BoundsRead (fields : List Field) (bytes : List ℕ) (at : ℕ) (bounds : List Ends) (rest : List ℕ) : Type 0 where

@@ -74,7 +74,7 @@ pub spelled_length : (table : Table) (rows : ℕ) (heads : List (List ℕ)) (ds 
 spelled_length table rows heads ds all =
     sym (length-range_with_len 0 (length table.schema.fields)) ∙ zip_count (λ column d. IsSpelled (kind_at table column) rows (dictionary_in heads column) d) (columns_of table) ds all
 
-spelled_count : (bytes : List ℕ) (d : Distinct) → length d.values < 2 ^ 32 → bytes ≡ spelling d → count_in bytes ≡ length d.values
+pub spelled_count : (bytes : List ℕ) (d : Distinct) → length d.values < 2 ^ 32 → bytes ≡ spelling d → count_in bytes ≡ length d.values
 spelled_count bytes d few is =
     ap count_in is
     ∙ ap (from_be_bytes w32) (ap (λ n. take n (counted (length d.values) ++ body d.kind d.values)) (sym (length-counted (length d.values))) ∙ take-append_seam (counted (length d.values)) (body d.kind d.values))

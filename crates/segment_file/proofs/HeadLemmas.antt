@@ -17,7 +17,7 @@ pub heads_at : (bytes : List ℕ) (sections : List Section) (count i : ℕ) (s :
 heads_at bytes sections count i s below lt is =
     get_or-map (bytes_of_section bytes) (take count sections) i s [] (omega (arith, length-take count sections)) ∙ ap (bytes_of_section bytes) (get_or-take count sections i s below ∙ sym is)
 
-kind_found : (table : Table) (column : ℕ) (f : Field) → column < length table.schema.fields → f ≡ get_or table.schema.fields column f → kind_at table column ≡ f.kind
+pub kind_found : (table : Table) (column : ℕ) (f : Field) → column < length table.schema.fields → f ≡ get_or table.schema.fields column f → kind_at table column ≡ f.kind
 kind_found table column f lt is = ap kind_or (slice_get-get_or table.schema.fields column f lt) ∙ ap (λ g. g.kind) (sym is)
 
 pub zip_push : {A B : Type 0} (R : A → B → Type 0) (xs : List A) (ys : List B) (x : A) (y : B) → AllZip R xs ys → R x y → AllZip R (xs ++ x ∷ []) (ys ++ y ∷ [])

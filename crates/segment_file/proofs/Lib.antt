@@ -6,3 +6,7 @@ pub mod HeadLemmas
 pub mod Composed
 pub mod RuleLaws
 mod Openings
+mod Steps
+mod ImageRows
+mod ImageSizes
+mod ImageKeeps

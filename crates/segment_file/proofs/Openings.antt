@@ -7,7 +7,7 @@ use Rattle.outside.specs.Reads.{Entry, LogsThrough, LogsUpTo}
 use Rattle.outside.proofs.ReadLemmas.{LogsThrough-append}
 use Rattle.table_schema.specs.declared.table.Table.{Table}
 use Rattle.segment_file.specs.Front.{Front, front_size, head_end}
-use Rattle.segment_file.specs.Heads.{IsWithinHead, LogsHead}
+use Rattle.segment_file.specs.Heads.{IsHeadOf, IsPlaced, IsWithin, LogsWithin, Seen}
 use Rattle.segment_file.specs.Parts.{head_sections}
 use Rattle.segment_file.specs.Reading.{IsFrontOf}
 use Rattle.segment_file.specs.Rules.{HasFront, IsFront}
@@ -42,6 +42,12 @@ head_bytes table name file bytes (Some files) front start rest more all is start
     ∙ ap₂ ◌++◌ is.told.1 (read ∙ (λ i. take (sizes i) (drop (starts i) whole)))
     ∙ sym (take-add (front_size table name) (sum (take (length (head_sections table)) front.sizes)) whole)
 
+-- a head with the front that was read is one of the table
+pub head_of : (table : Table) (name file bytes : List ℕ) (held : Option Files) (front : Front) (head : Seen) → IsFrontOf table name file held bytes front → IsPlaced table name file front head → IsHeadOf table head
+head_of table name file bytes held front head is has =
+    let front_is = is.front_is in
+    record { name = name; file = file; front = front; few = front_is.few; each = front_is.each; small = omega (arith, front_is.whole, front_is.small); has = has }
+
 -- ---- the log
 
 pub rest_through : (file : List ℕ) (start rest from limit : ℕ) (old new : Option (List Entry)) → start ≡ from → start + rest ≡ limit → LogsThrough file start (start + rest) old new → LogsUpTo file from limit old new
@@ -51,11 +57,11 @@ rest_through file start rest from limit old new starts ends on =
 pub rest_up : (file : List ℕ) (start rest from limit : ℕ) (old new : Option (List Entry)) → start ≡ from → start + rest ≡ limit → LogsUpTo file start (start + rest) old new → LogsUpTo file from limit old new
 rest_up file start rest from limit old new starts ends (to, le, on) = (to, omega (arith, le, ends), subst (λ n. LogsThrough file n to old new) starts on)
 
-within_head : (table : Table) (name file bytes : List ℕ) (held : Option Files) (front : Front) (to : ℕ) → IsFrontOf table name file held bytes front → to ≤ head_end table name front → IfSome held (λ files. IsWithinHead table name (bytes_of (Some files) file) to)
-within_head table name file bytes None front to is le = tt
-within_head table name file bytes (Some files) front to is le = inr (front, has_front table name file bytes files front is, le)
+within : (end : Table → List ℕ → Front → ℕ) (table : Table) (name file bytes : List ℕ) (held : Option Files) (front : Front) (to : ℕ) → IsFrontOf table name file held bytes front → to ≤ end table name front → IfSome held (λ files. IsWithin end table name (bytes_of (Some files) file) to)
+within end table name file bytes None front to is le = tt
+within end table name file bytes (Some files) front to is le = inr (front, has_front table name file bytes files front is, le)
 
-pub logs_head : (table : Table) (name file bytes : List ℕ) (held : Option Files) (front : Front) (first between last : Option (List Entry)) → IsFrontOf table name file held bytes front
-    → LogsThrough file 0 (front_size table name) first between → LogsUpTo file (front_size table name) (head_end table name front) between last → LogsHead table name file held first last
-logs_head table name file bytes held front first between last is before (to, le, on) =
-    (to, LogsThrough-append file 0 (front_size table name) to first between last before on, within_head table name file bytes held front to is le)
+pub logs_within : (end : Table → List ℕ → Front → ℕ) (table : Table) (name file bytes : List ℕ) (held : Option Files) (front : Front) (first between last : Option (List Entry)) → IsFrontOf table name file held bytes front
+    → LogsThrough file 0 (front_size table name) first between → LogsUpTo file (front_size table name) (end table name front) between last → LogsWithin end table name file held first last
+logs_within end table name file bytes held front first between last is before (to, le, on) =
+    (to, LogsThrough-append file 0 (front_size table name) to first between last before on, within end table name file bytes held front to is le)

@@ -16,7 +16,7 @@ use Rattle.segment_file.specs.Rules.{AreSpelled, FailsAt, FailsBounds, FailsDict
 use Rattle.segment_file.proofs.Composed.{zip_at}
 use Rattle.segment_file.proofs.Fronts.{is_said}
 
-fronts_one : (table : Table) (name bytes : List ℕ) (f g : Front) → HasFront table name bytes f → HasFront table name bytes g → g ≡ f
+pub fronts_one : (table : Table) (name bytes : List ℕ) (f g : Front) → HasFront table name bytes f → HasFront table name bytes g → g ≡ f
 fronts_one table name bytes f g hf hg =
     let front : List ℕ = take (front_size table name) bytes in
     is_said table name front (length bytes) g hg ∙ sym (is_said table name front (length bytes) f hf)

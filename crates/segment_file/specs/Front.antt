@@ -47,6 +47,10 @@ extents_of table name front = extents_from (front_size table name) (sections_of 
 abbrev pub head_end : Table → List ℕ → Front → ℕ
 head_end table name front = front_size table name + sum (take (length (head_sections table)) front.sizes)
 
+-- where the bounds end, which are the first section
+abbrev pub bounds_end : Table → List ℕ → Front → ℕ
+bounds_end table name front = front_size table name + sum (take 1 front.sizes)
+
 -- where the file ends
 abbrev pub file_end : Table → List ℕ → Front → ℕ
 file_end table name front = front_size table name + sum front.sizes

@@ -1,19 +1,20 @@
 -- Heads: what is kept of a segment's file where its rows are not read.
-use Rattle.std.specs.Prelude.{◌≡◌, ◌≤◌, ◌⊎◌, ℕ, zero, suc, List, [], map, Option, Some, None, IfSome, option_map, slice_get, slice_index_or}
-use Rattle.std.specs.List.{find}
+use Rattle.std.specs.Prelude.{◌≡◌, ◌≢◌, ◌≤◌, ◌<◌, ◌^◌, ◌+◌, ◌⊎◌, ℕ, zero, suc, List, [], map, length, Option, Some, None, IfSome, option_map, slice_get, slice_index_or, slice_set}
+use Rattle.std.specs.List.{AllZip, find}
 use Rattle.outside.specs.Files.{Files, bytes_of}
 use Rattle.outside.specs.Reads.{Entry, LogsThrough}
 use Rattle.outside.specs.declared.place.Place.{Place}
 use Rattle.table_schema.specs.declared.field.Field.{Field}
 use Rattle.table_schema.specs.declared.table.Table.{Table}
+use Rattle.table_schema.specs.ValidTable.{most_rows}
 use Rattle.dictionary.specs.Dictionary.{Distinct}
 use Rattle.bit_column.specs.Sections.{section}
 use Rattle.segment_file.specs.declared.bounds.Ends.{Ends}
 use Rattle.segment_file.specs.declared.part.Part.{Part}
 use Rattle.segment_file.specs.declared.section.Section.{Section}
 use Rattle.segment_file.specs.Bounds.{AreBounds, bounds_of}
-use Rattle.segment_file.specs.Front.{Extent, Front, extents_of, front_size, head_end}
-use Rattle.segment_file.specs.Parts.{is_same}
+use Rattle.segment_file.specs.Front.{Extent, Front, bounds_end, extents_of, file_end, front_size, head_end}
+use Rattle.segment_file.specs.Parts.{is_same, sections_of}
 use Rattle.segment_file.specs.Rules.{HasFront, KeepsAll, heads_in}
 
 -- a head: how many rows there are, where the sections are, the bounds of the columns where there are rows, and the dictionaries that were loaded
@@ -67,12 +68,76 @@ pub record IsHead (table : Table) (name file bytes : List ℕ) (head : Seen) : T
 abbrev pub KeepsRules : Table → List ℕ → List ℕ → Type 0
 KeepsRules table name bytes = (front : Front) × (dictionaries : List Distinct) × KeepsAll table name bytes front dictionaries
 
+-- ---- a head that is opened in steps
+
+-- the rows and sections are those of this front, and there is room for a dictionary a field
+pub record IsPlaced (table : Table) (name file : List ℕ) (front : Front) (head : Seen) : Type 0 where
+  pub rows_are : head.rows ≡ front.rows
+  pub sections_are : head.sections ≡ map (placed file) (extents_of table name front)
+  pub slots : length head.dictionaries ≡ length table.schema.fields
+
+-- a head of some file of the table, whatever a device tells
+pub record IsHeadOf (table : Table) (head : Seen) : Type 0 where
+  pub name : List ℕ
+  pub file : List ℕ
+  pub front : Front
+  pub few : front.rows ≤ most_rows (length table.schema.fields)
+  pub each : length front.sizes ≡ length (sections_of table)
+  pub small : file_end table name front < 2 ^ 64
+  pub has : IsPlaced table name file front head
+
+-- a dictionary is not loaded, or it is the one of the whole head
+abbrev pub IsSlotOf : Option Distinct → Option Distinct → Type 0
+IsSlotOf whole None = Unit {0}
+IsSlotOf whole (Some d) = whole ≡ Some d
+
+-- a head has what the whole one has, but for dictionaries that are not loaded
+pub record IsPartOf (whole head : Seen) : Type 0 where
+  pub rows_same : head.rows ≡ whole.rows
+  pub sections_same : head.sections ≡ whole.sections
+  pub bounds_same : head.bounds ≡ whole.bounds
+  pub slots : AllZip IsSlotOf whole.dictionaries head.dictionaries
+
+-- where files are told: the whole head of which this is a part, if all rules hold of its file, has P
+abbrev pub OfWhole : Table → Option Files → Seen → (Seen → Type 0) → Type 0
+OfWhole table held head P = IfSome held (λ files. (name file : List ℕ) (whole : Seen) → IsHead table name file (bytes_of (Some files) file) whole → IsPartOf whole head → P whole)
+
+-- the dictionary of a column of the head has so many values
+pub record HasCount (column count : ℕ) (head : Seen) : Type 0 where
+  pub d : Distinct
+  pub at : slice_get head.dictionaries column ≡ Some (Some d)
+  pub many : count ≡ length d.values
+
+-- a head before and after a dictionary of a column was loaded
+pub record Loads (column : ℕ) (old new : Seen) : Type 0 where
+  pub loaded : IsLoaded new column
+  pub rows_same : new.rows ≡ old.rows
+  pub sections_same : new.sections ≡ old.sections
+  pub bounds_same : new.bounds ≡ old.bounds
+  pub others : (other : ℕ) → other ≢ column → slice_get new.dictionaries other ≡ slice_get old.dictionaries other
+
+-- the head with this dictionary of a column
+abbrev pub with_dictionary : ℕ → Distinct → Seen → Seen
+with_dictionary column d head = record head { dictionaries = slice_set head.dictionaries column (Some d) }
+
+-- the section of the dictionary of a column: the one after the bounds and the dictionaries before it
+abbrev pub dictionary_section : Seen → ℕ → Option Section
+dictionary_section head column = slice_get head.sections (column + 1)
+
 -- ---- what is read
 
--- reads up to this place are within the head; a file without a front has none past where its front would end
-abbrev pub IsWithinHead : Table → List ℕ → List ℕ → ℕ → Type 0
-IsWithinHead table name bytes to = (to ≤ front_size table name) ⊎ ((front : Front) × HasFront table name bytes front × (to ≤ head_end table name front))
+-- reads up to this place are within what ends there; a file without a front has none past where its front would end
+abbrev pub IsWithin : (Table → List ℕ → Front → ℕ) → Table → List ℕ → List ℕ → ℕ → Type 0
+IsWithin end table name bytes to = (to ≤ front_size table name) ⊎ ((front : Front) × HasFront table name bytes front × (to ≤ end table name front))
 
--- the told log grew by reads of the file that go back to back from its start, none of them past the head
+-- the told log grew by reads of the file that go back to back from its start, none of them past what ends there
+abbrev pub LogsWithin : (Table → List ℕ → Front → ℕ) → Table → List ℕ → List ℕ → Option Files → Option (List Entry) → Option (List Entry) → Type 0
+LogsWithin end table name file held old new = (to : ℕ) × LogsThrough file 0 to old new × IfSome held (λ files. IsWithin end table name (bytes_of (Some files) file) to)
+
+-- none of them past the head
 abbrev pub LogsHead : Table → List ℕ → List ℕ → Option Files → Option (List Entry) → Option (List Entry) → Type 0
-LogsHead table name file held old new = (to : ℕ) × LogsThrough file 0 to old new × IfSome held (λ files. IsWithinHead table name (bytes_of (Some files) file) to)
+LogsHead = LogsWithin head_end
+
+-- none of them past the bounds
+abbrev pub LogsOpened : Table → List ℕ → List ℕ → Option Files → Option (List Entry) → Option (List Entry) → Type 0
+LogsOpened = LogsWithin bounds_end

@@ -1,10 +1,22 @@
--- Laws of the rules of heads.
-use Rattle.std.specs.Prelude.{ℕ, List}
+-- Laws of the rules of heads, and of images.
+use Rattle.std.specs.Prelude.{ℕ, List, map}
+use Rattle.values.specs.declared.value.Value.{Value}
 use Rattle.table_schema.specs.declared.table.Table.{Table}
+use Rattle.table_schema.specs.ValidTable.{IsValidTable}
 use Rattle.segment_file.specs.declared.part.Part.{Part}
 use Rattle.segment_file.specs.Heads.{KeepsRules}
-use Rattle.segment_file.specs.Rules.{FailsAt}
+use Rattle.segment_file.specs.Image.{CanHold, dictionary_of, front_of, image}
+use Rattle.segment_file.specs.Names.{IsSegmentName}
+use Rattle.segment_file.specs.Ordered.{ordered}
+use Rattle.segment_file.specs.Parts.{columns_of}
+use Rattle.segment_file.specs.Rules.{FailsAt, KeepsAll}
 
 -- where a rule fails, not all hold
 abbrev pub FailsNotAll : Type 0
 FailsNotAll = (table : Table) (name bytes : List ℕ) (p : Part) → KeepsRules table name bytes → ¬ FailsAt table name bytes p
+
+-- the image of rows that a segment may have keeps all rules of a head, with the front and the dictionaries that the rows give
+abbrev pub ImageKeeps : Type 0
+ImageKeeps =
+    (table : Table) (name : List ℕ) (rows : List (List Value)) → IsValidTable table → IsSegmentName name → CanHold table rows
+    → KeepsAll table name (image 1 table name rows) (front_of 1 table (ordered table.settings.sorted rows)) (map (dictionary_of table (ordered table.settings.sorted rows)) (columns_of table))

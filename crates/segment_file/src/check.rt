@@ -3,7 +3,7 @@ ghost use Rattle.std.specs.Prelude.{◌≡◌, ◌≤◌, ◌<◌, ◌+◌, ◌^
 ghost use Rattle.table_schema.specs.ValidTable.{IsValidTable};
 ghost use Rattle.segment_file.specs.Bounds.{bounds_bytes, bounds_of, ends_of};
 ghost use Rattle.segment_file.specs.Front.{extents_from, file_end, head_end};
-ghost use Rattle.segment_file.specs.Heads.{IsHead, placed};
+ghost use Rattle.segment_file.specs.Heads.{IsHead, IsPlaced, placed};
 ghost use Rattle.segment_file.specs.Parts.{sections_of};
 ghost use Rattle.segment_file.specs.Rules.{FailsAt, HasFront};
 ghost use Rattle.segment_file.specs.declared.part.Part.{Part};
@@ -38,6 +38,8 @@ pub fn check_head(
         HasFront table.now name.now whole front.now →
         bytes.now ≡ take (head_end table.now name.now front.now) whole →
         IsHead table.now name.now file.now whole head) }
+    ensures placed { IfOk result
+        (IsPlaced table.now name.now file.now front.now) }
     ensures bad { IfErr result (λ fault. (p : Part) → fault ≡ NotASegment p → (whole : List ℕ) →
         HasFront table.now name.now whole front.now →
         bytes.now ≡ take (head_end table.now name.now front.now) whole →
@@ -70,8 +72,8 @@ fn sections_after(sections: &[Section], count: usize) -> &[Section]
     &sections[count..]
 }
 
-// Sections that begin at a place of a file, one after the other.
-fn place_sections(
+/// Sections that begin at a place of a file, one after the other.
+pub fn place_sections(
     alloc: Global,
     file: &str,
     parts: &[Part],

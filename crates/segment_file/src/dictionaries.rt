@@ -87,8 +87,8 @@ fn keep(dictionary: Dictionary, dictionaries: &mut Vec<Dictionary>) -> Result<()
     Ok(())
 }
 
-// What a fault of a dictionary is for the head.
-fn of_dictionary(fault: DictFault, column: u16) -> HeadFault
+/// What a fault of a dictionary is for the head.
+pub fn of_dictionary(fault: DictFault, column: u16) -> HeadFault
     ensures bad { fault ≡ DictFault.BadDictionary →
         result ≡ NotASegment (part.Dictionary column) }
     ensures memory { fault ≡ DictFault.NoMemory → result ≡ HeadFault.NoMemory }

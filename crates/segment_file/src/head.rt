@@ -14,10 +14,10 @@ use values::Value;
 /// sections are, the bounds of each column where there are rows, and the dictionaries.
 #[derive(Drop)]
 pub struct Head {
-    rows: u32,
-    sections: Vec<Section>,
+    pub(crate) rows: u32,
+    pub(crate) sections: Vec<Section>,
     bounds: Vec<Ends>,
-    dictionaries: Vec<Option<Dictionary>>,
+    pub(crate) dictionaries: Vec<Option<Dictionary>>,
 }
 
 impl Model for Head {

@@ -8,6 +8,7 @@ mod fault;
 mod front;
 mod head;
 mod laws;
+mod loading;
 mod numbers;
 mod opening;
 mod part;
@@ -15,6 +16,7 @@ mod reading;
 mod section;
 mod sections;
 mod sizes;
+mod stepwise;
 
 pub use bounds::{Ends, push_bounds, read_bounds};
 pub use check::check_head;
@@ -22,13 +24,14 @@ pub use dictionaries::check_dictionary;
 pub use fault::HeadFault;
 pub use front::{Front, front_size};
 pub use head::Head;
-pub use laws::head_rules_law;
+pub use laws::{head_rules_law, image_keeps_law};
 pub use opening::read_head;
 pub use part::Part;
 pub use reading::{file_length, read_exactly};
 pub use section::Section;
 pub use sections::sections_of;
 pub use sizes::size_for;
+pub use stepwise::open_head;
 
 /// A growth was refused.
 pub type NoMemory = std::alloc::AllocError;

@@ -6,7 +6,7 @@ ghost use Rattle.outside.specs.Seen.{OnlyReads, seen};
 ghost use Rattle.table_schema.specs.ValidTable.{IsValidTable};
 ghost use Rattle.segment_file.specs.Front as spec;
 ghost use Rattle.segment_file.specs.Front.{front_size, head_end};
-ghost use Rattle.segment_file.specs.Heads.{IsHead, LogsHead};
+ghost use Rattle.segment_file.specs.Heads.{IsHead, IsHeadOf, LogsHead};
 ghost use Rattle.segment_file.specs.Names.{IsSegmentName};
 ghost use Rattle.segment_file.specs.Parts.{IsPlainTable, sections_of};
 ghost use Rattle.segment_file.specs.Reading.{IsFrontOf};
@@ -35,6 +35,7 @@ pub fn read_head<S: Shelf>(
     requires valid { IsValidTable table.now }
     requires plain { IsPlainTable table.now }
     requires name { IsSegmentName name.now }
+    ensures of { IfOk result (IsHeadOf table.now) }
     ensures head { IfOk result (λ head. IfSome (S.held shelf.old) (λ files.
         IsHead table.now name.now file.now (bytes_of (Some files) file.now) head)) }
     ensures refused { IfErr result (λ fault. (p : Part) → fault ≡ NotASegment p →
@@ -57,15 +58,15 @@ pub fn read_head<S: Shelf>(
     check_head(alloc, table, file, name, &read.front, &parts, &bytes)
 }
 
-// The front of a file, and its bytes.
+/// The front of a file, and its bytes.
 #[derive(Drop)]
-struct FrontRead {
-    front: Front,
-    bytes: Vec<u8>,
+pub struct FrontRead {
+    pub front: Front,
+    pub bytes: Vec<u8>,
 }
 
-// The front of a file.
-fn read_front<S: Shelf>(
+/// The front of a file.
+pub fn read_front<S: Shelf>(
     alloc: Global,
     shelf: &mut S,
     file: &str,

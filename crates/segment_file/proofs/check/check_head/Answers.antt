@@ -1,5 +1,6 @@
-use Rattle.std.proofs.Common.{◌≡◌, ◌≢◌, ◌∙◌, ◌+◌, Bool, true, false, All, [], length, map, get_or, drop, ap, sym, subst, arith}
+use Rattle.std.proofs.Common.{◌≡◌, ◌≢◌, ◌∙◌, ◌+◌, Bool, true, false, All, Some, [], length, map, get_or, drop, ap, sym, subst, arith}
 use Rattle.std.proofs.lemmas.Bool.{false≢true}
+use Rattle.std.proofs.lemmas.List.{length-map}
 use Rattle.std.specs.Bool.{MatchBool}
 use Rattle.segment_file.specs.declared.part.Part.TheVariants as parts
 use Rattle.segment_file.specs.Bounds.{bounds_bytes, bounds_of}
@@ -138,4 +139,23 @@ returns-clause-ok c = λ whole has cut.
       sections_are = ap (λ h. h.sections) c.new.ensures ∙ sym c.deref.ensures.value ∙ made;
       dictionaries_are = ap (λ h. h.dictionaries) c.new.ensures ∙ c.in_ok-dictionaries.ensures;
       bounds_are = ap (λ h. h.bounds) c.new.ensures ∙ c.in_ok-bounds.ensures ∙ ap bounds_of c.deref-5.ensures.value;
+    }
+
+pub returns-clause-placed : goal.returns-clause-placed
+returns-clause-placed c =
+    let table = c.args.table.now in
+    let name = c.args.name.now in
+    let file = c.args.file.now in
+    let front = c.args.front.now in
+    let made : c.deref.result.now ≡ map (placed file) (extents_of table name front) =
+    made_is table name file front c.args.parts.now c.deref.result.now c.in_ok-sections.sections.items c.front_size-start.result c.sizes.result.now c.front_size-start.ensures c.requires.parts c.sizes.ensures c.in_ok-sections.ensures c.deref.ensures.value in
+    let ds = c.in-Ok.dictionaries.items in
+    record {
+      rows_are = ap (λ h. h.rows) c.new.ensures ∙ c.rows-3.ensures;
+      sections_are = ap (λ h. h.sections) c.new.ensures ∙ sym c.deref.ensures.value ∙ made;
+      slots =
+          ap (λ h. length h.dictionaries) c.new.ensures
+          ∙ ap length c.in_ok-dictionaries.ensures
+          ∙ length-map ds Some
+          ∙ sym (spelled_length table c.rows.result (heads_of (length table.schema.fields + 1) c.deref.result.now c.args.bytes.now) ds c.in-Ok.ensures.ok);
     }

@@ -1,0 +1,125 @@
+//! The head of a segment's file is opened without its dictionaries.
+ghost use Rattle.std.specs.Prelude.{◌≡◌, [], ℕ, List, IfOk, IfErr, IfSome, IsErrOf, None, Some, length, replicate, slice_index_or, sum, take};
+ghost use Rattle.outside.specs.Files.{bytes_of};
+ghost use Rattle.outside.specs.Reads.{LogsUpTo};
+ghost use Rattle.outside.specs.Seen.{OnlyReads, seen};
+ghost use Rattle.dictionary.specs.Dictionary.{Distinct};
+ghost use Rattle.table_schema.specs.ValidTable.{IsValidTable};
+ghost use Rattle.segment_file.specs.Bounds.{AreBounds};
+ghost use Rattle.segment_file.specs.Front.{bounds_end, front_size};
+ghost use Rattle.segment_file.specs.Heads as spec;
+ghost use Rattle.segment_file.specs.Heads.{IsHead, IsHeadOf, IsLoaded, IsOpened, IsPartOf, KeepsRules, LogsOpened, bounded};
+ghost use Rattle.segment_file.specs.Names.{IsSegmentName};
+ghost use Rattle.segment_file.specs.Parts.{IsPlainTable};
+ghost use Rattle.segment_file.specs.Reading.{IsFrontOf};
+ghost use Rattle.segment_file.specs.Rules.{heads_in};
+ghost use Rattle.segment_file.specs.declared.bounds.Ends.{Ends};
+ghost use Rattle.segment_file.specs.declared.fault.HeadFault.TheVariants.{NotASegment};
+ghost use Rattle.segment_file.specs.declared.part.Part.{Part};
+
+use crate::check::place_sections;
+use crate::opening::{FrontRead, read_front};
+use crate::{Ends, Head, HeadFault, NoMemory, Part, read_bounds, read_exactly, sections_of};
+use dictionary::Dictionary;
+use outside::Shelf;
+use std::alloc::Global;
+use table_schema::{Field, Table};
+
+/// The head of a file that is to be the segment's of this name, without dictionaries. Only the front
+/// and the bounds are read and looked at; each dictionary is looked at when it is loaded, and the
+/// other sections not at all.
+pub fn open_head<S: Shelf>(
+    alloc: Global,
+    shelf: &mut S,
+    file: &str,
+    name: &str,
+    table: &Table,
+) -> Result<Head, HeadFault>
+    requires valid { IsValidTable table.now }
+    requires plain { IsPlainTable table.now }
+    requires name { IsSegmentName name.now }
+    ensures of { IfOk result (IsHeadOf table.now) }
+    ensures none { IfOk result (λ head. (column : ℕ) → ¬ IsLoaded head column) }
+    ensures opened { IfOk result (λ head. IfSome (S.held shelf.old) (λ files.
+        IsOpened table.now name.now file.now (bytes_of (Some files) file.now) head)) }
+    ensures part { IfOk result (λ head. IfSome (S.held shelf.old) (λ files. (whole : spec.Seen) →
+        IsHead table.now name.now file.now (bytes_of (Some files) file.now) whole →
+        IsPartOf whole head)) }
+    ensures refused { IfErr result (λ fault. (p : Part) → fault ≡ NotASegment p →
+        IfSome (S.held shelf.old) (λ files.
+        ¬ KeepsRules table.now name.now (bytes_of (Some files) file.now))) }
+    ensures only_reads { OnlyReads (IsErrOf result HeadFault.ReadFault)
+        (seen S.Shelf shelf.old) (seen S.Shelf shelf.new) }
+    ensures log { LogsOpened table.now name.now file.now (S.held shelf.old)
+        (S.log shelf.old) (S.log shelf.new) }
+{
+    let parts = sections_of(alloc, table)?;
+    let read = match read_front(alloc, shelf, file, name, table, &parts) {
+        Ok(read) => read,
+        Err(fault) => return Err(fault),
+    };
+    let bounds = match bounds_section(alloc, shelf, file, name, table, &read) {
+        Ok(bounds) => bounds,
+        Err(fault) => return Err(fault),
+    };
+    let start = read.bytes.len() as u64;
+    let sections = place_sections(alloc, file, &parts, read.front.sizes(), start)?;
+    let dictionaries = unloaded(alloc, table.schema.fields.len())?;
+    Ok(Head::new(read.front.rows(), sections, bounds, dictionaries))
+}
+
+// The bounds, which are the first section of a file with this front.
+fn bounds_section<S: Shelf>(
+    alloc: Global,
+    shelf: &mut S,
+    file: &str,
+    name: &str,
+    table: &Table,
+    read: &FrontRead,
+) -> Result<Vec<Ends>, HeadFault>
+    requires front { IsFrontOf table.now name.now file.now (S.held shelf.old)
+        read.now.bytes.items read.now.front }
+    ensures bounds { IfOk result (λ bounds. IfSome (S.held shelf.old) (λ files.
+        AreBounds (bounded read.now.front.rows table.now.schema.fields)
+        (slice_index_or (heads_in table.now name.now read.now.front
+        (bytes_of (Some files) file.now)) 0 []) bounds.items)) }
+    ensures refused { IfErr result (λ fault. (p : Part) → fault ≡ NotASegment p →
+        IfSome (S.held shelf.old) (λ files. (bounds : List Ends) →
+        ¬ AreBounds (bounded read.now.front.rows table.now.schema.fields)
+        (slice_index_or (heads_in table.now name.now read.now.front
+        (bytes_of (Some files) file.now)) 0 []) bounds)) }
+    ensures only_reads { OnlyReads (IsErrOf result HeadFault.ReadFault)
+        (seen S.Shelf shelf.old) (seen S.Shelf shelf.new) }
+    ensures log { LogsUpTo file.now (front_size table.now name.now)
+        (bounds_end table.now name.now read.now.front) (S.log shelf.old) (S.log shelf.new) }
+{
+    let start = read.bytes.len() as u64;
+    let size = read.front.sizes()[0];
+    let bytes = match read_exactly(alloc, shelf, file, start, size) {
+        Ok(bytes) => bytes,
+        Err(fault) => return Err(fault),
+    };
+    let fields = bounded(read.front.rows(), table.schema.fields.as_slice());
+    match read_bounds(alloc, fields, bytes.as_slice())? {
+        Some(bounds) => Ok(bounds),
+        None => Err(HeadFault::NotASegment(Part::Bounds)),
+    }
+}
+
+// The fields that have bounds: none where there are no rows.
+fn bounded(rows: u32, fields: &[Field]) -> &[Field]
+    ensures { result.now ≡ bounded rows fields.now }
+{
+    if rows == 0 { &[] } else { fields }
+}
+
+// Room for so many dictionaries, none of which is loaded.
+fn unloaded(alloc: Global, count: usize) -> Result<Vec<Option<Dictionary>>, NoMemory>
+    ensures { IfOk result (λ all. all.items ≡ replicate count None) }
+{
+    let mut all = Vec::with_capacity(alloc, count)?;
+    for _ in 0..count {
+        all.push(None)?;
+    }
+    Ok(all)
+}
