@@ -16,7 +16,7 @@ mod section;
 mod sections;
 mod sizes;
 
-pub use bounds::{Ends, push_bounds, read_bounds};
+pub use bounds::{Ends, push_bounds, push_ends, read_bounds};
 pub use check::check_head;
 pub use dictionaries::check_dictionary;
 pub use fault::HeadFault;
