@@ -1,0 +1,5 @@
+pub mod Fits
+pub mod ColumnLemmas
+pub mod Sizes
+pub mod Built
+pub mod FilesLemmas

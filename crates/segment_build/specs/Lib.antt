@@ -1,0 +1,3 @@
+pub mod Fitting
+pub mod Sections
+pub mod Publishing
