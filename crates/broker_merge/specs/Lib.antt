@@ -1,0 +1,4 @@
+pub mod Order
+pub mod Rank
+pub mod Answer
+pub mod Reply

@@ -1,0 +1,9 @@
+//! The answers of queries: the groups in order, and their text.
+#![tactic(auto)]
+
+mod answer;
+mod laws;
+mod rank;
+
+pub use answer::{Answer, Cell};
+pub use laws::order_law;
