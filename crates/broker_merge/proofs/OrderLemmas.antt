@@ -162,7 +162,7 @@ module _ (order : List OrderKey) where
       let rest = found es (IsDistinct-tail key_eq e.0 (keys_of es) d) in
       let m = finite.from_entries {R = key_order} es in
       let none : find key_order e.0 (finite.entries m) ≡ None = sym (finite.get-entries m e.0) ∙ finite.get-from_entries key_total es e.0
-          ∙ absent e.0 es (IsDistinct-head key_eq e.0 (keys_of es) d) in
+      ∙ absent e.0 es (IsDistinct-head key_eq e.0 (keys_of es) d) in
       ap (in_order order) (finite.entries-insert key_total m e.0 e.1) ∙ put_new e.0 e.1 (finite.entries m) none ∙ ap (put_in order e) rest
 
   -- ---- groups in order are the same groups, in order

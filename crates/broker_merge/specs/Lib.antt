@@ -1,4 +1,5 @@
 pub mod Order
 pub mod Rank
+pub mod Ranked
 pub mod Answer
 pub mod Reply

@@ -1,6 +1,6 @@
 -- What groups are compared by, taken out of them once.
 pub mod Laws
-use Rattle.std.specs.Prelude.{ℕ, ◌<◌, Bool, true, false, List}
+use Rattle.std.specs.Prelude.{ℕ, ◌<◌, Bool, true, false, List, [], ◌∷◌, ◌++◌, map, length}
 use Rattle.std.specs.declared.cmp.Ordering.{Ordering}
 use Rattle.std.specs.declared.cmp.Ordering.TheVariants.{Less, Greater}
 use Rattle.std.specs.Ordering.{ordering_reverse, nat_cmp}
@@ -10,7 +10,13 @@ use Rattle.agg_laws.specs.declared.states.AggState.{AggState}
 use Rattle.agg_laws.specs.Numbers.{most_values}
 use Rattle.agg_laws.specs.States.{Fits}
 use Rattle.agg_laws.specs.Order.{HasValues, state_order}
-use Rattle.group_table.specs.Groups.{key_order}
+use Rattle.table_schema.specs.Conditions.{cell}
+use Rattle.table_schema.specs.declared.query.Item.{Item}
+use Rattle.table_schema.specs.declared.query.Item.TheVariants as item
+use Rattle.table_schema.specs.declared.query.OrderKey.{OrderKey}
+use Rattle.group_table.specs.Groups.{Group, key_order}
+use Rattle.group_table.specs.Kept.{KeptGroups}
+use Rattle.broker_merge.specs.Order.{state_in}
 use Rattle.broker_merge.specs.declared.rank.Rank.{Rank}
 use Rattle.broker_merge.specs.declared.rank.Rank.TheVariants as rank
 
@@ -24,6 +30,31 @@ pub data Seen : Type 0 where
 pub record Placed : Type 0 where
   pub greatest_first : Bool
   pub seen : Seen
+
+-- what a group shows at an item
+abbrev pub seen_at : Group → Item → Seen
+seen_at group (item.Group place) = OfValue (cell group.0 place)
+seen_at group (item.Agg place) = OfState (state_in group place)
+
+-- what a group is compared by for one key of an ORDER BY
+abbrev pub placed_at : Group → OrderKey → Placed
+placed_at group key = record {
+  greatest_first = key.descending;
+  seen = seen_at group key.item;
+}
+
+-- and in the end, its key
+abbrev pub key_place : Group → Placed
+key_place group = record { greatest_first = false; seen = OfKey group.0 }
+
+-- all that a group is compared by
+abbrev pub places_of : List OrderKey → Group → List Placed
+places_of order group = map (placed_at group) order ++ (key_place group ∷ [])
+
+-- the item is a group column of a table, or an aggregate of it
+abbrev pub IsItem : KeptGroups → Item → Type 0
+IsItem table (item.Group place) = place < table.columns
+IsItem table (item.Agg place) = place < length table.kinds
 
 -- what a reference shows
 abbrev pub seen_of : Rank → Seen

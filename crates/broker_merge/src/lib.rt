@@ -3,6 +3,7 @@
 
 mod answer;
 mod laws;
+mod order;
 mod rank;
 
 pub use answer::{Answer, Cell};

@@ -22,6 +22,7 @@ pub enum Rank<'a> {
 }
 
 /// What a group is compared by in one place.
+#[derive(Drop)]
 pub struct Place<'a> {
     greatest_first: bool,
     rank: Rank<'a>,
