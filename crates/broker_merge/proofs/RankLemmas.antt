@@ -112,13 +112,13 @@ pushed places w k ranked r h shown at = record {
   all = map-append (λ (r : Entry). r.1) ranked (r ∷ []) ∙ (λ i. h.all i ++ at i ∷ []) ∙ sym (range_more k);
 }
 
-all_below : (n : ℕ) → All (λ k. k < n) (range_with_len 0 n)
+pub all_below : (n : ℕ) → All (λ k. k < n) (range_with_len 0 n)
 all_below n k d lt =
     let short : k < n = subst (λ m. k < m) (length-range_with_len 0 n) lt in
     let is : get_or (range_with_len 0 n) k d ≡ 0 + k = get_or-range_with_len 0 n k d short in
     omega arith
 
-all_groups : (t : KeptGroups) → t.groups ≡ map (group_at t) (range_with_len 0 (length t.groups))
+pub all_groups : (t : KeptGroups) → t.groups ≡ map (group_at t) (range_with_len 0 (length t.groups))
 all_groups t = fill_by_all (group_at t) t.groups (length t.groups) ([], []) refl (λ k lt. refl)
 
 then_less : (a b : Ordering) → is_lt (ordering_then a b) ≡ false → is_lt a ≡ false

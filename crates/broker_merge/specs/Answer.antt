@@ -1,7 +1,7 @@
 -- The answer of a query: its columns, and of each group that is written a cell a column.
-use Rattle.std.specs.Prelude.{◌≡◌, ℕ, ◌<◌, ℤ, pos, List, [], ◌∷◌, ◌++◌, codes, map, flat_map, take, drop}
+use Rattle.std.specs.Prelude.{◌≡◌, ℕ, ◌<◌, ◌≤◌, ℤ, pos, true, List, [], ◌∷◌, ◌++◌, codes, map, flat_map, take, drop}
 use Rattle.std.specs.Prelude.{length, Option, Some, None}
-use Rattle.std.specs.List.{All}
+use Rattle.std.specs.List.{All, list_all}
 use Rattle.std.specs.Fmt.{decimal, signed_decimal}
 use Rattle.std.specs.FinMap as finite
 use Rattle.csv.specs.Writing.{default_writer, row_text}
@@ -12,6 +12,8 @@ use Rattle.agg_laws.specs.declared.states.AggState.TheVariants.{Average}
 use Rattle.table_schema.specs.Conditions.{cell}
 use Rattle.table_schema.specs.declared.query.Item.{Item}
 use Rattle.table_schema.specs.declared.query.Item.TheVariants as item
+use Rattle.table_schema.specs.declared.query.BoundQuery.{BoundQuery}
+use Rattle.table_schema.specs.ValidQuery.{is_item}
 use Rattle.group_table.specs.Shape.{Shape}
 use Rattle.group_table.specs.Groups.{Group, Groups}
 use Rattle.broker_merge.specs.declared.answer.Answer.{Answer}
@@ -65,3 +67,9 @@ answer_text answer = row_text default_writer answer.labels
 pub record IsWhole (answer : Answer) : Type 0 where
   pub some : 0 < length answer.labels
   pub each : All (λ row. length row ≡ length answer.labels) answer.rows
+
+-- what a query asks for and orders by are of its group columns and its aggregates
+pub record NamesPlaces (query : BoundQuery) : Type 0 where
+  pub items : list_all (is_item query) query.items ≡ true
+  pub keys : list_all (λ key. is_item query key.item) query.order ≡ true
+  pub few : length query.order ≤ 16

@@ -5,6 +5,8 @@ mod answer;
 mod laws;
 mod order;
 mod rank;
+mod rows;
 
 pub use answer::{Answer, Cell};
 pub use laws::order_law;
+pub use rows::finish;
