@@ -1,5 +1,5 @@
 -- The rows of an answer by the places of the groups in order.
-use Rattle.std.proofs.Common.{◌≡◌, ◌∙◌, ℕ, zero, suc, List, [], ◌∷◌, map, take, drop, refl, sym, ap}
+use Rattle.std.proofs.Common.{◌≡◌, ◌∙◌, ℕ, List, [], ◌∷◌, map, take, drop, refl, sym, ap}
 use Rattle.std.specs.FinMap as finite
 use Rattle.std.proofs.lemmas.List.{take-map, drop-map}
 use Rattle.table_schema.specs.declared.query.Item.{Item}

@@ -1,5 +1,5 @@
 -- Without group columns there is one group at most, and few groups are in order as they are.
-use Rattle.std.proofs.Common.{◌≡◌, ◌∙◌, ℕ, zero, suc, ◌+◌, ◌<◌, ◌≤◌, Bool, true, false, List, [], ◌∷◌, map, length, refl, sym, ap, subst, arith}
+use Rattle.std.proofs.Common.{◌≡◌, ◌∙◌, ℕ, zero, suc, ◌<◌, ◌≤◌, true, false, List, [], ◌∷◌, length, refl, sym, arith}
 use Rattle.std.specs.List.{range_with_len, IsDistinct, AllByRecursion}
 use Rattle.std.specs.Map.{keys_of}
 use Rattle.std.proofs.lemmas.List.Sorted.{IsPermutation-refl}
@@ -7,7 +7,7 @@ use Rattle.std.proofs.lemmas.Map.Keys.{IsDistinct-head}
 use Rattle.values.specs.declared.value.Value.{Value}
 use Rattle.table_schema.specs.declared.query.OrderKey.{OrderKey}
 use Rattle.group_table.specs.Groups.{Group}
-use Rattle.group_table.specs.Kept.{KeptGroups, IsGroup, IsTable, group_at, key_eq}
+use Rattle.group_table.specs.Kept.{KeptGroups, IsGroup, IsTable, key_eq}
 use Rattle.broker_merge.specs.Ranked.{AreInOrder}
 use Rattle.broker_merge.proofs.OrderLemmas.{is_in_order}
 use Rattle.broker_merge.proofs.RankLemmas.{all_groups, all_below}

@@ -1,5 +1,5 @@
 -- What groups are compared by orders them as the groups are.
-use Rattle.std.proofs.Common.{◌≡◌, ◌∙◌, ℕ, zero, suc, ◌+◌, ◌*◌, ◌<◌, ◌≤◌, Bool, true, false, List, [], ◌∷◌, ◌++◌, map, flat_map, length, take, drop, get_or, IsPermutation, Some, None, refl, sym, ap, subst, arith, length-append}
+use Rattle.std.proofs.Common.{◌≡◌, ◌∙◌, ℕ, zero, suc, ◌+◌, ◌*◌, ◌<◌, Bool, true, false, List, [], ◌∷◌, ◌++◌, map, flat_map, length, take, drop, get_or, IsPermutation, Some, refl, sym, ap, subst, arith, length-append}
 use Rattle.std.specs.declared.cmp.Ordering.{Ordering}
 use Rattle.std.specs.declared.cmp.Ordering.TheVariants.{Less, Equal, Greater}
 use Rattle.std.specs.Ordering.{ordering_then, is_lt, nat_cmp}
@@ -13,10 +13,8 @@ use Rattle.std.proofs.lemmas.List.Elements.{All-push}
 use Rattle.std.proofs.lemmas.List.FromFn.{map-range_with_len_more, length-range_with_len, get_or-range_with_len, fill_by_all}
 use Rattle.std.proofs.lemmas.List.Sorted.{IsPermutation-map, All-permutation}
 use Rattle.std.proofs.Math.Seq.{drop-append-add, take-append_seam}
-use Rattle.values.specs.declared.value.Value.{Value}
 use Rattle.agg_laws.specs.declared.states.AggState.{AggState}
 use Rattle.agg_laws.specs.Numbers.{most_values}
-use Rattle.agg_laws.specs.Order.{HasValues}
 use Rattle.agg_laws.specs.Rows.{RowFits}
 use Rattle.table_schema.specs.declared.query.Item.{Item}
 use Rattle.table_schema.specs.declared.query.Item.TheVariants as item
@@ -24,7 +22,7 @@ use Rattle.table_schema.specs.declared.query.OrderKey.{OrderKey}
 use Rattle.group_table.specs.Groups.{Group, key_order}
 use Rattle.group_table.specs.Kept.{KeptGroups, IsGroup, IsTable, HaveValues, group_at}
 use Rattle.broker_merge.specs.Order.{item_order, directed, group_order}
-use Rattle.broker_merge.specs.Rank.{Placed, Seen, IsFair, placed_order, turned_order, seen_order, seen_at, placed_at, places_of, key_place}
+use Rattle.broker_merge.specs.Rank.{Placed, IsFair, placed_order, turned_order, seen_order, seen_at, placed_at, places_of, key_place}
 use Rattle.broker_merge.specs.Ranked.{AreRanked, AreInOrder}
 use Rattle.broker_merge.proofs.OrderLemmas.{is_in_order}
 

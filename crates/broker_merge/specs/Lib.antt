@@ -3,3 +3,4 @@ pub mod Rank
 pub mod Ranked
 pub mod Answer
 pub mod Reply
+pub mod Written

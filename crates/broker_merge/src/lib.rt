@@ -6,7 +6,9 @@ mod laws;
 mod order;
 mod rank;
 mod rows;
+mod text;
 
 pub use answer::{Answer, Cell};
 pub use laws::order_law;
 pub use rows::finish;
+pub use text::answer_text;

@@ -1,7 +1,6 @@
 -- The order of what groups are compared by is total.
 use Rattle.std.specs.Prelude.{◌≡◌, Bool, true, false, Some, refl}
-use Rattle.std.specs.declared.cmp.Ordering.{Ordering}
-use Rattle.std.specs.declared.cmp.Ordering.TheVariants.{Less, Equal, Greater}
+use Rattle.std.specs.declared.cmp.Ordering.TheVariants.{Less, Equal}
 use Rattle.std.specs.Ordering.{ordering_reverse, eq_by_cmp}
 use Rattle.std.specs.Cmp.{IsTotalOrder, IsEquivalence, IsPartialEquivalence, IsPartialOrder}
 use Rattle.std.specs.Cmp.{partial_equiv_from_equiv, partial_order_from_agreeing_total}
@@ -11,7 +10,7 @@ use Rattle.std.proofs.lemmas.Cmp.{eq_by_cmp_equiv}
 use Rattle.values.specs.Order.Laws.{value_order-total}
 use Rattle.agg_laws.specs.laws.Order.{state_order_total}
 use Rattle.group_table.specs.Groups.{key_order}
-use Rattle.broker_merge.specs.Rank.{Seen, OfValue, OfState, OfKey, seen_order, Placed}
+use Rattle.broker_merge.specs.Rank.{Seen, OfValue, OfState, OfKey, seen_order}
 use Rattle.broker_merge.specs.Rank.{turned_order, placed_order}
 
 key_total : IsTotalOrder key_order

@@ -1,4 +1,4 @@
-use Rattle.std.proofs.Common.{◌≡◌, refl, sym, subst, List, ◌+◌}
+use Rattle.std.proofs.Common.{refl, sym, subst, List, ◌+◌}
 use Rattle.broker_merge.specs.Ranked.{AreRanked}
 use Rattle.broker_merge.proofs.RankLemmas.{Entry, pushed}
 use Rattle.broker_merge.proofs.order.ranked.Goals as goal

@@ -1,8 +1,7 @@
-use Rattle.std.proofs.Common.{◌≡◌, ◌∙◌, sym, ap, subst, List, ℕ, map, take, drop}
+use Rattle.std.proofs.Common.{◌≡◌, ◌∙◌, ap, map, take, drop}
 use Rattle.table_schema.specs.declared.query.BoundQuery.{BoundQuery}
 use Rattle.group_table.specs.Kept.{KeptGroups, group_at}
-use Rattle.broker_merge.specs.declared.answer.Answer.{Answer}
-use Rattle.broker_merge.specs.Answer.{item_cell, answer_of}
+use Rattle.broker_merge.specs.Answer.{item_cell}
 use Rattle.broker_merge.proofs.AnswerLemmas.{rows_are}
 use Rattle.broker_merge.proofs.rows.finish.Goals as goal
 
