@@ -80,6 +80,26 @@ is_said table name bytes size f is =
     ∙ sizes_back (front_size table name) (sections_of table) f.sizes is.each (omega arith) in
     (λ i. record { format = is.known i; rows = sym rows i; sizes = sym sizes i })
 
+-- the format that bytes say
+abbrev pub format_in : List ℕ → ℕ
+format_in bytes = from_be_bytes w32 (take 4 (drop 8 bytes))
+
+format_back : (table : Table) (name : List ℕ) (f : Front) → f.format < 2 ^ 32 → format_in (front_bytes table name f) ≡ f.format
+unfolding counted
+format_back table name f small = from_be_bytes-to_be_bytes_4 f.format small
+
+-- bytes are of one front
+pub fronts_tell : (table : Table) (name : List ℕ) (f g : Front) → f.format < 2 ^ 32 → g.format < 2 ^ 32 → f.rows < 2 ^ 32 → g.rows < 2 ^ 32 → length f.sizes ≡ length (sections_of table) → length g.sizes ≡ length (sections_of table)
+    → sum f.sizes < 2 ^ 64 → sum g.sizes < 2 ^ 64 → front_bytes table name f ≡ front_bytes table name g → f ≡ g
+fronts_tell table name f g ff gf fr gr f_each g_each fs gs e =
+    let format : f.format ≡ g.format = sym (format_back table name f ff) ∙ ap format_in e ∙ format_back table name g gf in
+    let rows : f.rows ≡ g.rows = sym (rows_back table name f fr) ∙ ap rows_in e ∙ rows_back table name g gr in
+    let back : List ℕ → List ℕ = λ bytes. sizes_from (sections_of table) (drop (38 + length name) bytes) in
+    let f_back : back (front_bytes table name f) ≡ f.sizes = ap (sizes_from (sections_of table)) (directory_behind table name f) ∙ sizes_back (front_size table name) (sections_of table) f.sizes f_each fs in
+    let g_back : back (front_bytes table name g) ≡ g.sizes = ap (sizes_from (sections_of table)) (directory_behind table name g) ∙ sizes_back (front_size table name) (sections_of table) g.sizes g_each gs in
+    let sizes : f.sizes ≡ g.sizes = sym f_back ∙ ap back e ∙ g_back in
+    (λ i. record { format = format i; rows = rows i; sizes = sizes i })
+
 -- what was read is what they say
 pub said_is : (table : Table) (name bytes : List ℕ) (parts : List Part) (f : Front) → parts ≡ sections_of table → f.format ≡ 1 → f.rows ≡ rows_in bytes
     → f.sizes ≡ sizes_from parts (take (length bytes - (38 + length name)) (drop (38 + length name) bytes)) → f ≡ said table name bytes

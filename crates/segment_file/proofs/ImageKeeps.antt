@@ -1,5 +1,5 @@
 -- The file of rows keeps all rules of a head.
-use Rattle.std.proofs.Common.{◌≡◌, ◌∙◌, ◌<◌, ◌≤◌, ◌+◌, ◌*◌, ℕ, zero, suc, All, List, [], ◌∷◌, ◌++◌, length, map, get_or, take, drop, sum, refl, sym, ap, arith, append_assoc}
+use Rattle.std.proofs.Common.{◌≡◌, ◌∙◌, ◌<◌, ◌≤◌, ◌+◌, ◌*◌, ◌^◌, ℕ, zero, suc, All, List, [], ◌∷◌, ◌++◌, length, map, get_or, take, drop, sum, refl, sym, ap, arith, append_assoc}
 use Rattle.std.proofs.Math.Seq.{drop-append_seam, take-append_seam}
 use Rattle.std.proofs.lemmas.List.{get_or-map, length-append, length-map}
 use Rattle.std.proofs.lemmas.List.Elements.{All-cons, All-head, All-nil, All-tail}
@@ -53,7 +53,7 @@ zip_made : {B : Type 0} (R : ℕ → B → Type 0) (f : ℕ → B) (a n limit : 
 zip_made R f a zero limit le each = tt
 zip_made R f a (suc n) limit le each = (each a (omega arith), zip_made R f (a + 1) n limit (omega arith) each)
 
-zero-plus : (n : ℕ) → 0 + n ≡ n
+pub zero-plus : (n : ℕ) → 0 + n ≡ n
 zero-plus n = omega arith
 
 bounded_few : (rows : ℕ) (fields : List Field) → length (bounded rows fields) ≤ length fields
@@ -133,6 +133,9 @@ module _ (table : Table) (name : List ℕ) (os : List (List Value)) (few : lengt
       let there = bounds_there table (length os) heads (bounds_bytes (bounds_of ds)) ds all-spelled refl in
       omega (arith, bounds_few (bounded (length os) table.schema.fields) (bounds_of ds) there.each, bounded_few (length os) table.schema.fields)
 
+  pub rows_small : IsValidTable table → length name ≤ 64 → file_end table name (front_of 1 table os) < 2 ^ 64
+  rows_small valid short_name = image_small table name os valid short_name (omega (arith, few)) each unicode bounds-length
+
   has-front : IsValidTable table → length name ≤ 64 → HasFront table name (file_of_rows 1 table name os) (front_of 1 table os)
   has-front valid short_name =
       let f : Front = front_of 1 table os in
@@ -140,7 +143,7 @@ module _ (table : Table) (name : List ℕ) (os : List (List Value)) (few : lengt
       let sizes : length f.sizes ≡ length (sections_of table) = length-map (sections_of_rows table os) length ∙ length-map (sections_of table) (section_of table os) in
       let front : length (front_bytes table name f) ≡ front_size table name = front_bytes_size table name f sizes in
       let whole : length (front_bytes table name f ++ rest) ≡ file_end table name f = omega (arith, length-append (front_bytes table name f) rest, front, concat_length (sections_of_rows table os)) in
-      let small = image_small table name os valid short_name (omega (arith, few)) each unicode bounds-length in
+      let small = rows_small valid short_name in
       record {
         known = refl;
         few = few;

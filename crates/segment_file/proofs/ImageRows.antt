@@ -64,7 +64,7 @@ and_first : (a b : Bool) → (a && b) ≡ true → a ≡ true
 and_first true b e = refl
 and_first false b e = absurd (false≢true e)
 
-and_second : (a b : Bool) → (a && b) ≡ true → b ≡ true
+pub and_second : (a b : Bool) → (a && b) ≡ true → b ≡ true
 and_second true b e = e
 and_second false b e = absurd (false≢true e)
 
@@ -139,18 +139,18 @@ column_dictionary table rows column lt few each unicode =
 
 -- ---- ids
 
-not_true : (b : Bool) → (b ≡ true → ⊥) → b ≡ false
+pub not_true : (b : Bool) → (b ≡ true → ⊥) → b ≡ false
 not_true true other = absurd (other refl)
 not_true false other = refl
 
-first_member : (v : Value) (vs : List Value) → is_member (v ∷ vs) v ≡ true
+pub first_member : (v : Value) (vs : List Value) → is_member (v ∷ vs) v ≡ true
 first_member v vs = ap (λ b. b || is_member vs v) (value_eq-equiv.refl v)
 
 or_true : (b : Bool) → (b || true) ≡ true
 or_true true = refl
 or_true false = refl
 
-later_member : (v w : Value) (vs : List Value) → is_member vs w ≡ true → is_member (v ∷ vs) w ≡ true
+pub later_member : (v w : Value) (vs : List Value) → is_member vs w ≡ true → is_member (v ∷ vs) w ≡ true
 later_member v w vs is = ap (λ b. value_eq w v || b) is ∙ or_true (value_eq w v)
 
 -- the number of a member is one of a member
@@ -165,7 +165,7 @@ place_below : (vs : List Value) (v : Value) → is_member vs v ≡ true → plac
 place_below [] v is = absurd (false≢true is)
 place_below (w ∷ ws) v is = place_found w ws v (value_eq w v) (λ e. sym (value_eq-equiv.symm v w) ∙ e) is (place_below ws v)
 
-members_all : (P : Value → Type 0) (vs all : List Value) → ((v : Value) → is_member vs v ≡ true → is_member all v ≡ true) → ((v : Value) → is_member all v ≡ true → P v) → All P vs
+pub members_all : (P : Value → Type 0) (vs all : List Value) → ((v : Value) → is_member vs v ≡ true → is_member all v ≡ true) → ((v : Value) → is_member all v ≡ true → P v) → All P vs
 members_all P [] all those holds = All-nil P
 members_all P (v ∷ vs) all those holds =
     All-cons P v vs (holds v (those v (first_member v vs))) (members_all P vs all (λ w is. those w (later_member v w vs is)) holds)

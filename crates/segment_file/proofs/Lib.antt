@@ -10,3 +10,4 @@ mod Steps
 mod ImageRows
 mod ImageSizes
 mod ImageKeeps
+mod ImageTells

@@ -1,5 +1,5 @@
 -- Laws of the rules of heads, and of images.
-use Rattle.std.specs.Prelude.{ℕ, List, map}
+use Rattle.std.specs.Prelude.{◌≡◌, ◌<◌, ◌^◌, ℕ, List, map}
 use Rattle.values.specs.declared.value.Value.{Value}
 use Rattle.table_schema.specs.declared.table.Table.{Table}
 use Rattle.table_schema.specs.ValidTable.{IsValidTable}
@@ -20,3 +20,9 @@ abbrev pub ImageKeeps : Type 0
 ImageKeeps =
     (table : Table) (name : List ℕ) (rows : List (List Value)) → IsValidTable table → IsSegmentName name → CanHold table rows
     → KeepsAll table name (image 1 table name rows) (front_of 1 table (ordered table.settings.sorted rows)) (map (dictionary_of table (ordered table.settings.sorted rows)) (columns_of table))
+
+-- equal images under one table and name are of one format and of the same rows in their order
+abbrev pub ImagesTell : Type 0
+ImagesTell =
+    (table : Table) (name : List ℕ) (rows others : List (List Value)) (format other : ℕ) → IsValidTable table → IsSegmentName name → CanHold table rows → CanHold table others → format < 2 ^ 32 → other < 2 ^ 32
+    → image format table name rows ≡ image other table name others → (format ≡ other) × (ordered table.settings.sorted rows ≡ ordered table.settings.sorted others)

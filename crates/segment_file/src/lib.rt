@@ -24,7 +24,7 @@ pub use dictionaries::check_dictionary;
 pub use fault::HeadFault;
 pub use front::{Front, front_size};
 pub use head::Head;
-pub use laws::{head_rules_law, image_keeps_law};
+pub use laws::{head_rules_law, image_keeps_law, images_tell_law};
 pub use opening::read_head;
 pub use part::Part;
 pub use reading::{file_length, read_exactly};
