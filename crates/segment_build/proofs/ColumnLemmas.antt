@@ -165,3 +165,7 @@ section_appended sections at section start old new lt is so_far more =
     let all : take (at + 1) sections ≡ take at sections ++ section ∷ [] = take_more sections at section lt ∙ ap (λ s. take at sections ++ s ∷ []) (sym is) in
     more ∙ ap (λ x. x ++ section) so_far ∙ append_assoc start (concat (take at sections)) section
     ∙ ap (λ x. start ++ x) (ap (λ x. concat (take at sections) ++ x) (sym (append-nil section)) ∙ sym (concat-append (take at sections) (section ∷ [])) ∙ ap concat (sym all))
+
+pub if_ok_same : {X E : Type 0} (r : Result X E) (a b : X) → a ≡ b → IfOk r (λ x. x ≡ a) → IfOk r (λ x. x ≡ b)
+if_ok_same (Ok x) a b same is = is ∙ same
+if_ok_same (Err e) a b same is = tt

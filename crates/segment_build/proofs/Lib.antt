@@ -3,3 +3,4 @@ pub mod ColumnLemmas
 pub mod Sizes
 pub mod Built
 pub mod FilesLemmas
+pub mod RowLemmas

@@ -1,3 +1,4 @@
 pub mod Fitting
 pub mod Sections
 pub mod Publishing
+pub mod RowColumns
