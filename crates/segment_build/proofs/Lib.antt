@@ -1,3 +1,4 @@
+pub mod Bares
 pub mod Fits
 pub mod ColumnLemmas
 pub mod Sizes

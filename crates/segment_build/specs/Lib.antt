@@ -2,3 +2,4 @@ pub mod Fitting
 pub mod Sections
 pub mod Publishing
 pub mod RowColumns
+pub mod Bare
