@@ -16,6 +16,7 @@ use Rattle.segment_file.specs.Ordered.{ordered}
 use Rattle.segment_build.specs.Fitting.{AreColumns, FitsKind}
 use Rattle.segment_build.specs.Sections.{IsBare}
 use Rattle.segment_build.proofs.ColumnLemmas.{column_values, made_all}
+use Rattle.segment_build.proofs.Bares.{bare_unsorted}
 use Rattle.segment_build.proofs.Fits.{column_fit, rows_few}
 use Rattle.segment_build.proofs.Sizes.{IsModest, IsSmall, file_short, made_small, short_values}
 
@@ -61,7 +62,7 @@ pub built_image : (table : Table) (name : List ℕ) (t : ListedColumns) (rows : 
     → file ≡ front_bytes table name (record { format = 1; rows = rows; sizes = map length sections }) ++ concat sections → file ≡ image 1 table name (rows_of t)
 built_image table name t rows sections file bare counts number are is =
     is ∙ (λ i. front_bytes table name (front_is table t rows sections counts number are i) ++ concat (are i))
-    ∙ ap (λ o. file_of_rows 1 table name (ordered o (rows_of t))) (sym bare.unsorted)
+    ∙ ap (λ o. file_of_rows 1 table name (ordered o (rows_of t))) (sym (bare_unsorted table bare))
 
 -- no table has more rows than 32 bits count
 pub rows_fit : (table : Table) (t : ListedColumns) (rows : ℕ) → All (Counts t.count) t.columns → AreRows table.schema.fields (rows_of t) → rows ≡ t.count → rows < 2 ^ 32

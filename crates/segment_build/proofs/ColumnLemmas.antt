@@ -33,6 +33,7 @@ use Rattle.segment_file.specs.Bounds.{bounds_bytes, bounds_of, ends_of, pair_byt
 use Rattle.segment_file.specs.Image.{dictionary_of, kind_at, kind_or, place_of, section_of, sections_of_rows, values_in}
 use Rattle.segment_file.specs.Ordered.{value_in}
 use Rattle.segment_file.specs.Parts.{columns_of, head_sections, raw_sections}
+use Rattle.segment_build.proofs.Bares.{bare_no_inverted, bare_no_ranged, bare_unsorted}
 use Rattle.segment_build.specs.Sections.{IsBare, Made, ids_in, in_order, made_of, with_column}
 
 -- ---- the values of rows in a column
@@ -116,7 +117,7 @@ column_more table rows at field values made new is of_rows so_far more =
 bare_raw : (table : Table) → IsBare table → raw_sections table ≡ map parts.Forward (columns_of table)
 bare_raw table bare =
     let forwards : List Part = map parts.Forward (columns_of table) in
-    (λ i. forwards ++ (map parts.Sorted (option_to_list (bare.unsorted i)) ++ (map parts.Inverted (bare.no_inverted i) ++ map parts.Range (bare.no_ranged i))))
+    (λ i. forwards ++ (map parts.Sorted (option_to_list (bare_unsorted table bare i)) ++ (map parts.Inverted (bare_no_inverted table bare i) ++ map parts.Range (bare_no_ranged table bare i))))
     ∙ append-nil forwards
 
 -- the sections of all columns are those of the rows
@@ -165,3 +166,7 @@ section_appended sections at section start old new lt is so_far more =
     let all : take (at + 1) sections ≡ take at sections ++ section ∷ [] = take_more sections at section lt ∙ ap (λ s. take at sections ++ s ∷ []) (sym is) in
     more ∙ ap (λ x. x ++ section) so_far ∙ append_assoc start (concat (take at sections)) section
     ∙ ap (λ x. start ++ x) (ap (λ x. concat (take at sections) ++ x) (sym (append-nil section)) ∙ sym (concat-append (take at sections) (section ∷ [])) ∙ ap concat (sym all))
+
+pub if_ok_same : {X E : Type 0} (r : Result X E) (a b : X) → a ≡ b → IfOk r (λ x. x ≡ a) → IfOk r (λ x. x ≡ b)
+if_ok_same (Ok x) a b same is = is ∙ same
+if_ok_same (Err e) a b same is = tt

@@ -1,23 +1,20 @@
 -- The sections of a segment's file as they are made, a column after the other.
-use Rattle.std.specs.Prelude.{◌≡◌, ℕ, None, List, [], ◌∷◌, ◌++◌, length, map}
+use Rattle.std.specs.Prelude.{◌≡◌, ℕ, false, List, [], ◌∷◌, ◌++◌, length, map}
 use Rattle.std.specs.List.{range_with_len}
 use Rattle.values.specs.declared.kind.FieldKind.{FieldKind}
 use Rattle.values.specs.declared.value.Value.{Value}
 use Rattle.table_schema.specs.declared.table.Table.{Table}
+use Rattle.table_schema.specs.Indexes.{names_unbuilt}
 use Rattle.dictionary.specs.Dictionary.{distinct}
 use Rattle.dictionary.specs.Spelling.{spelling}
 use Rattle.bit_column.specs.Column.{spelled, width_of}
 use Rattle.segment_file.specs.declared.part.Part.TheVariants as parts
 use Rattle.segment_file.specs.Bounds.{bounds_bytes, bounds_of, ends_of}
 use Rattle.segment_file.specs.Image.{dictionary_of, place_of, section_of}
-use Rattle.segment_file.specs.Parts.{marked}
 
 -- what is built so far: the segments of a table without a sorted column, other indexes and star-trees
 pub record IsBare (table : Table) : Type 0 where
-  pub unsorted : table.settings.sorted ≡ None
-  pub no_inverted : marked table.settings.inverted ≡ []
-  pub no_ranged : marked table.settings.ranged ≡ []
-  pub no_trees : length table.settings.trees ≡ 0
+  pub built : names_unbuilt table.settings ≡ false
 
 -- sections by their kinds: the bounds, and of each column the dictionary and the forward index
 pub record Made : Type 0 where

@@ -10,13 +10,13 @@ ghost use Rattle.segment_file.specs.Parts.{sections_of};
 ghost use Rattle.segment_build.specs.Fitting.{AreColumns};
 ghost use Rattle.segment_build.specs.Sections.{IsBare};
 
-use crate::BuildFault;
 use crate::sections::Sections;
+use crate::{BuildFault, columns_of};
 use outside::{Bytes, NoMemory, Seq};
 use segment_file::{Front, sections_of};
 use std::alloc::Global;
 use table_schema::Table;
-use values::Columns;
+use values::{Columns, Rows};
 
 /// The file of a segment of these rows, which are kept column by column.
 ///
@@ -40,6 +40,24 @@ pub fn build_columns(
     let sections = sections_of_columns(alloc, table, columns)?;
     let file = file_of(alloc, table, name, rows, &sections)?;
     Ok(Seq::from_vec(file))
+}
+
+/// The file of a segment of these rows.
+pub fn build_image(
+    alloc: Global,
+    table: &Table,
+    name: &str,
+    rows: &Rows,
+) -> Result<Bytes, BuildFault>
+    requires valid { IsValidTable table.now }
+    requires bare { IsBare table.now }
+    requires name { IsSegmentName name.now }
+    requires rows { AreRows table.now.schema.fields rows.now }
+    ensures image { IfOk result (λ bytes. bytes ≡ image 1 table.now name.now rows.now) }
+    ensures only { OnErr result (IsErrOf result BuildFault.NoMemory) }
+{
+    let columns = columns_of(alloc, table.schema.fields.as_slice(), rows)?;
+    build_columns(alloc, table, name, &columns)
 }
 
 // The sections of the columns, in the order of the file.

@@ -9,11 +9,11 @@ ghost use Rattle.segment_file.specs.Names.{IsSegmentName, file_of};
 ghost use Rattle.segment_build.specs.Publishing.{incoming};
 ghost use Rattle.segment_build.specs.Sections.{IsBare};
 
-use crate::{BuildFault, build_columns};
+use crate::{BuildFault, build_columns, columns_of};
 use outside::{Depot, DepotFault, NoMemory};
 use std::alloc::Global;
 use table_schema::Table;
-use values::Columns;
+use values::{Columns, Rows};
 
 /// The part that each file is written as before it is published.
 pub const INCOMING: &str = "incoming";
@@ -48,6 +48,31 @@ pub fn write_columns<D: Depot>(
         Err(DepotFault::NoMemory) => Err(BuildFault::NoMemory),
         Err(DepotFault::Missing) => unreachable!(),
     }
+}
+
+/// The same of rows, as one list of values each.
+pub fn write_segment<D: Depot>(
+    alloc: Global,
+    depot: &mut D,
+    table: &Table,
+    name: &str,
+    rows: &Rows,
+) -> Result<(), BuildFault>
+    requires valid { IsValidTable table.now }
+    requires bare { IsBare table.now }
+    requires name { IsSegmentName name.now }
+    requires rows { AreRows table.now.schema.fields rows.now }
+    ensures published { OnOk result (D.held depot.new ≡ with_file (file_of name.now)
+        (image 1 table.now name.now rows.now) (D.held depot.old)) }
+    ensures kept { OnErr result (D.held depot.new ≡ D.held depot.old) }
+    ensures gone { OnOk result (D.parts depot.new ≡ without_file incoming (D.parts depot.old)) }
+    ensures only_writes { OnlyWrites (IsErrOf result BuildFault.WriteFault) incoming
+        (seen D.Shelf depot.old) (seen D.Shelf depot.new) }
+    ensures only { OnErr result
+        (IsErrOf result BuildFault.WriteFault ⊎ IsErrOf result BuildFault.NoMemory) }
+{
+    let columns = columns_of(alloc, table.schema.fields.as_slice(), rows)?;
+    write_columns(alloc, depot, table, name, &columns)
 }
 
 // The name of a segment's file.
