@@ -1,3 +1,3 @@
 pub mod KeptLemmas
 mod KeptSteps
-mod GroupsLemmas
+pub mod GroupsLemmas
