@@ -237,12 +237,24 @@ impl StarTable {
           spare = self.old.spare - 1;
         } }
     {
-        put_all(&mut self.ids, row.dims.as_slice());
-        push_states(
-            self.columns.as_mut_slice(),
-            row.states.as_slice(),
-            self.count,
-        );
+        self.append_parts(row.dims.as_slice(), row.states.as_slice());
+    }
+
+    /// Adds the document of some ids and states, of the table's shape, for which there is room. It
+    /// takes no memory.
+    pub fn append_parts(&mut self, ids: &[u32], states: &[AggState])
+        requires spare { 1 ≤ self.old.spare }
+        requires dims { length ids.now ≡ self.old.dims }
+        requires kinds { kinds_of states.now ≡ self.old.kinds }
+        requires stored { RowStored states.now }
+        ensures { self.new ≡ record self.old {
+          docs = self.old.docs
+              ++ (ids.now, states.now) ∷ [];
+          spare = self.old.spare - 1;
+        } }
+    {
+        put_all(&mut self.ids, ids);
+        push_states(self.columns.as_mut_slice(), states, self.count);
         self.count += 1;
         self.spare -= 1;
     }

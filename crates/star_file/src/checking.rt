@@ -29,7 +29,7 @@ impl From<AllocError> for NodesFault {
 }
 
 /// The number in four bytes.
-fn number(bytes: &[u8], at: usize) -> u32
+pub fn number(bytes: &[u8], at: usize) -> u32
     requires { at + 4 ≤ length bytes.now }
     ensures { result ≡ number_at at bytes.now }
 {

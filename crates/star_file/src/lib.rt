@@ -1,10 +1,14 @@
-//! The bytes of star-trees: nodes and documents are written, and nodes are checked.
+//! The bytes of star-trees: nodes and documents are written, nodes are checked, documents are read.
 #![tactic(auto)]
 
 mod checking;
+mod doc_reading;
+mod docs_fault;
 mod kids;
 mod laws;
 mod node_list;
+mod part;
+mod reading;
 mod rules;
 mod tree;
 mod words;
@@ -12,8 +16,10 @@ mod writing;
 
 pub use agg_laws::Node;
 pub use checking::{NodesFault, check_nodes};
+pub use docs_fault::DocsFault;
 pub use laws::nodes_law;
 pub use node_list::Nodes;
+pub use reading::read_docs;
 pub use rules::few_bytes;
 pub use tree::StarTree;
 pub use writing::{write_docs, write_nodes};

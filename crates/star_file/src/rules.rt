@@ -78,7 +78,7 @@ fn each_keeps(shape: &TreeShape, counts: &[u32], documents: u32, nodes: &[Node])
 }
 
 /// The bytes of states of some kinds.
-fn widths(kinds: &[AggKind]) -> u32
+pub fn widths(kinds: &[AggKind]) -> u32
     requires { length kinds.now ≤ 16 }
     ensures value { result ≡ widths kinds.now }
     ensures bound { result ≤ 384 }

@@ -1,0 +1,63 @@
+-- The documents that bytes spell, and the documents of a section of a file.
+use Rattle.std.specs.Prelude.{◌≡◌, ℕ, zero, suc, ◌+◌, ◌-◌, ◌*◌, ◌^◌, ◌<◌, ◌≤◌, ◌⊎◌, List, [], ◌∷◌, ◌++◌}
+use Rattle.std.specs.Prelude.{length, take, drop, Option, Some, IfSome}
+use Rattle.outside.specs.Files.{Files, bytes_at, bytes_of}
+use Rattle.outside.specs.declared.place.Place.{Place}
+use Rattle.agg_laws.specs.declared.tree_shape.TreeShape.{TreeShape}
+use Rattle.agg_laws.specs.Rows.{kinds_of, RowStored}
+use Rattle.agg_laws.specs.Tree.{star}
+use Rattle.agg_laws.specs.Docs.{Doc}
+use Rattle.star_file.specs.Bytes.{words, state_bytes}
+use Rattle.star_file.specs.Rules.{widths}
+
+-- how many bytes a document takes
+abbrev pub doc_width : TreeShape → ℕ
+doc_width shape = 4 * shape.dims + widths shape.kinds
+
+-- the number of four bytes is an id of a dimension of so many, or the star
+abbrev pub IsId : ℕ → ℕ → Type 0
+IsId count id = (id < 2 ^ 32) × ((id ≡ star) ⊎ (id < count))
+
+-- each number is an id of its dimension
+abbrev pub AreIds : List ℕ → List ℕ → Type 0
+AreIds [] [] = Unit {0}
+AreIds [] (x ∷ xs) = ⊥
+AreIds (n ∷ ns) [] = ⊥
+AreIds (n ∷ ns) (x ∷ xs) = IsId n x × AreIds ns xs
+
+-- these bytes are those of a document: ids of the dimensions, and a stored state of each kind
+pub record SpellsDoc (shape : TreeShape) (counts bytes : List ℕ) (e : Doc) : Type 0 where
+  pub ids_are : AreIds counts e.0
+  pub kinds_are : kinds_of e.1 ≡ shape.kinds
+  pub stored : RowStored e.1
+  pub bytes_are : bytes ≡ words e.0 ++ state_bytes e.1
+
+-- the first bytes are those of so many documents
+abbrev pub SpellDocs : TreeShape → List ℕ → ℕ → List ℕ → List Doc → Type 0
+SpellDocs shape counts zero bytes [] = Unit {0}
+SpellDocs shape counts zero bytes (e ∷ es) = ⊥
+SpellDocs shape counts (suc n) bytes [] = ⊥
+SpellDocs shape counts (suc n) bytes (e ∷ es) =
+    SpellsDoc shape counts (take (doc_width shape) bytes) e
+    × SpellDocs shape counts n (drop (doc_width shape) bytes) es
+
+-- the bytes of a section: those of its file from the offset on, up to the length, as many as there
+-- are. A file that is not there has none
+abbrev pub section : Files → Place → List ℕ
+section files place = bytes_at files place.file place.offset place.length
+
+-- a section has these documents from one number up to another
+pub record HasDocuments (shape : TreeShape) (counts : List ℕ) (from to : ℕ) (bytes : List ℕ)
+    (docs : List Doc) : Type 0 where
+  pub reach : from < to → to * doc_width shape ≤ length bytes
+  pub are : SpellDocs shape counts (to - from) (drop (from * doc_width shape) bytes) docs
+
+-- these are the bytes of a told file from one offset to another, which it reaches
+abbrev pub IsPart : Option Files → List ℕ → ℕ → ℕ → List ℕ → Type 0
+IsPart held name from to bytes =
+    IfSome held (λ files. (to ≤ length (bytes_of (Some files) name))
+    × (bytes ≡ bytes_at files name from (to - from)))
+
+-- where files are told, the one of this name ends before this offset
+abbrev pub EndsBefore : Option Files → List ℕ → ℕ → Type 0
+EndsBefore held name to = IfSome held (λ files. length (bytes_of (Some files) name) < to)
