@@ -1,3 +1,5 @@
+mod AcceptedLemmas
+mod SegmentLemmas
 mod FilesLemmas
 mod OpenLemmas
 pub mod StandsLemmas
