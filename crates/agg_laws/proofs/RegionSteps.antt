@@ -1,26 +1,29 @@
 -- Changes of the last document of a region.
-use Rattle.std.proofs.Common.{◌≡◌, ℕ, zero, suc, ◌+◌, ◌*◌, ◌-◌, ◌<◌, ◌≤◌, Bool, true, false, nat_le}
-use Rattle.std.proofs.Common.{if◌then◌else◌, List, [], ◌∷◌, ◌++◌, length, take, drop, set, refl}
-use Rattle.std.proofs.Common.{sym, ap, subst, ◌∙◌, arith, length-append, length-drop, length-set}
-use Rattle.std.proofs.lemmas.List.{take-append-drop, length-take-le}
+use Rattle.std.proofs.Common.{◌≡◌, ◌≢◌, ℕ, zero, suc, ◌+◌, ◌*◌, ◌-◌, ◌<◌, ◌≤◌, Bool, true, false}
+use Rattle.std.proofs.Common.{nat_le, if◌then◌else◌, List, [], ◌∷◌, ◌++◌, length, take, drop, set}
+use Rattle.std.proofs.Common.{refl, sym, ap, subst, ◌∙◌, arith, length-set}
+use Rattle.std.proofs.lemmas.List.{length-map, take-set-le}
+use Rattle.std.proofs.lemmas.List.{get_or-set_same, get_or-set_other}
 use Rattle.std.proofs.Math.Seq.{take-length}
 use Rattle.std.proofs.Math.Nat.{mul-le-mul_right}
 use Rattle.agg_laws.specs.declared.aggregate_kind.AggKind.{AggKind}
 use Rattle.agg_laws.specs.declared.states.AggState.{AggState}
 use Rattle.agg_laws.specs.declared.states.AggState.TheVariants.{Count, Sum, Least, Greatest}
 use Rattle.agg_laws.specs.declared.states.AggState.TheVariants.{Average}
-use Rattle.agg_laws.specs.States.{kind_of, rank_of, merged}
+use Rattle.agg_laws.specs.States.{kind_of, rank_of, merged, unit_of}
 use Rattle.agg_laws.specs.Numbers.{most_stored, most_values}
 use Rattle.agg_laws.specs.Rows.{kinds_of, merged_rows, row_weight, RowFits, RowStored}
 use Rattle.agg_laws.specs.Tree.{star, set_star}
 use Rattle.agg_laws.specs.laws.Rows as rows
 use Rattle.agg_laws.specs.laws.States as laws
 use Rattle.agg_laws.specs.Docs.{Doc, doc_at, HaveShape, AreStored}
-use Rattle.agg_laws.specs.Region.{docs_in, IsRegion}
+use Rattle.agg_laws.specs.Columns.{Column, kinds_in, row_at, row_pushed, row_replaced, AreColumns}
+use Rattle.agg_laws.specs.Columns.{AreWider}
+use Rattle.agg_laws.specs.Region.{doc_in, docs_in, IsRegion}
 use Rattle.agg_laws.proofs.Places.{length-kinds_of}
 use Rattle.agg_laws.proofs.FlatLemmas.{append_none}
-use Rattle.agg_laws.proofs.RegionLemmas.{length-docs_in, doc_in, docs_in_more, shape_more}
-use Rattle.agg_laws.proofs.RegionLemmas.{stored_more}
+use Rattle.agg_laws.proofs.RegionLemmas.{docs_more, last_doc, shape_more}
+use Rattle.agg_laws.proofs.RegionLemmas.{stored_more, wider_length}
 
 pub shape_at : (k : ℕ) (ks : List AggKind) (docs : List Doc) (i : ℕ) → HaveShape k ks docs
     → i < length docs → (length (doc_at docs i).0 ≡ k) × (kinds_of (doc_at docs i).1 ≡ ks)
@@ -84,84 +87,105 @@ written n new old a b =
     gone (suc n) [] h = refl
     gone (suc n) (x ∷ xs) h = gone n xs (omega arith)
 
+pub shape_last : (k : ℕ) (ks : List AggKind) (docs : List Doc) (e : Doc)
+    → HaveShape k ks (docs ++ (e ∷ [])) → (length e.0 ≡ k) × (kinds_of e.1 ≡ ks)
+shape_last k ks [] e h = (h.0, h.1)
+shape_last k ks (d ∷ ds) e h = shape_last k ks ds e h.2
+
+stored_last : (docs : List Doc) (e : Doc) → AreStored (docs ++ (e ∷ [])) → RowStored e.1
+stored_last [] e h = h.0
+stored_last (d ∷ ds) e h = stored_last ds e h.1
+
+-- what the columns have in each place, once that in one is another
+pub row_other : (p : ℕ) (cs : List Column) (vs : List AggState) (i : ℕ) → i ≢ p
+    → row_at (row_replaced p cs vs) i ≡ row_at cs i
+row_other p [] vs i h = refl
+row_other p (c ∷ cs) [] i h = refl
+row_other p (c ∷ cs) (v ∷ vs) i h =
+    λ j. get_or-set_other c.states p i v (unit_of c.kind) h j ∷ row_other p cs vs i h j
+
+pub row_own : (n s p : ℕ) (cs : List Column) (vs : List AggState) → AreColumns n s cs → p < n
+    → length vs ≡ length cs → row_at (row_replaced p cs vs) p ≡ vs
+row_own n s p [] [] h lt l = refl
+row_own n s p [] (v ∷ vs) h lt l = absurd (omega (arith, l))
+row_own n s p (c ∷ cs) [] h lt l = absurd (omega (arith, l))
+row_own n s p (c ∷ cs) (v ∷ vs) h lt l =
+    λ j. get_or-set_same c.states p v (unit_of c.kind) (omega (arith, h.0, lt)) j
+    ∷ row_own n s p cs vs h.2 lt (omega (arith, l)) j
+
+pub kinds_replaced : (p : ℕ) (cs : List Column) (vs : List AggState) → kinds_in (row_replaced p cs vs)
+    ≡ kinds_in cs
+kinds_replaced p [] vs = refl
+kinds_replaced p (c ∷ cs) [] = refl
+kinds_replaced p (c ∷ cs) (v ∷ vs) = ap (λ t. c.kind ∷ t) (kinds_replaced p cs vs)
+
+pub columns_replaced : (n s p : ℕ) (cs : List Column) (vs : List AggState) → AreColumns n s cs
+    → AreColumns n s (row_replaced p cs vs)
+columns_replaced n s p [] vs h = tt
+columns_replaced n s p (c ∷ cs) [] h = h
+columns_replaced n s p (c ∷ cs) (v ∷ vs) h =
+    (length-set c.states p v ∙ h.0, h.1, columns_replaced n s p cs vs h.2)
+
+pub replaced_length : (p : ℕ) (cs : List Column) (vs : List AggState) → length (row_replaced p cs vs)
+    ≡ length cs
+replaced_length p [] vs = refl
+replaced_length p (c ∷ cs) [] = refl
+replaced_length p (c ∷ cs) (v ∷ vs) = ap suc (replaced_length p cs vs)
+
 -- a region whose last document is another
-module _ (n k : ℕ) (ks : List AggKind) (ids : List ℕ) (states : List AggState) (spare a b : ℕ)
-    (r : IsRegion n k ks ids states spare a b) (some : 0 < n) where
-  pub m : ℕ
-  m = n - 1
-
-  fewer : (n k : ℕ) → 0 < n → (n - 1) * k + k ≡ n * k
-  fewer zero k h = absurd (omega arith)
-  fewer (suc n) k h = let e : suc n - 1 ≡ n = omega arith in ap (λ x. x * k + k) e
-      ∙ (let q : n * k + k ≡ suc n * k = omega arith in q)
-
-  pub front_ids : length (take ((n - 1) * k) ids) ≡ (n - 1) * k
-  front_ids = length-take-le ((n - 1) * k) ids (omega (arith, r.ids_are, fewer n k some))
-
-  pub front_states : length (take ((n - 1) * length ks) states) ≡ (n - 1) * length ks
-  front_states = length-take-le ((n - 1) * length ks) states
-      (omega (arith, r.states_are, fewer n (length ks) some))
-
-  pub last_ids : length (drop ((n - 1) * k) ids) ≡ k
-  last_ids = omega (arith, length-drop ((n - 1) * k) ids, r.ids_are, fewer n k some)
-
-  pub last_states : length (drop ((n - 1) * length ks) states) ≡ length ks
-  last_states = omega (
-    arith,
-    length-drop ((n - 1) * length ks) states,
-    r.states_are,
-    fewer n
-        (length ks) some,
-  )
-
-  -- the documents before the last
+module _ (n k : ℕ) (ks : List AggKind) (ids : List ℕ) (cs : List Column) (spare a : ℕ)
+    (r : IsRegion n k ks ids cs spare a) (some : 0 < n) where
+  -- the documents before the last, and its ids and states
   abbrev pub front : List Doc
-  front = docs_in (n - 1) k (length ks) (take ((n - 1) * k) ids) (take ((n - 1) * length ks) states)
+  front = docs_in (n - 1) k ids cs
 
-  pub with_last : (xs : List ℕ) (ys : List AggState) → length xs ≡ k → length ys ≡ length ks
-      → docs_in n k (length ks) (take ((n - 1) * k) ids ++ xs)
-      (take ((n - 1) * length ks) states ++ ys) ≡ front ++ ((xs, ys) ∷ [])
-  with_last xs ys lx ly =
-      let e : n ≡ suc (n - 1) = omega (arith, some) in
-      ap (λ i. docs_in i k (length ks) (take ((n - 1) * k) ids ++ xs)
-      (take ((n - 1) * length ks) states ++ ys)) e
-      ∙ docs_in_more (n - 1) k (length ks) (take ((n - 1) * k) ids)
-      (take ((n - 1) * length ks) states) xs ys front_ids front_states lx ly
+  abbrev pub last_ids : List ℕ
+  last_ids = take k (drop ((n - 1) * k) ids)
 
-  pub last_is : docs_in n k (length ks) ids states ≡ front
-      ++ ((drop ((n - 1) * k) ids, drop ((n - 1) * length ks) states) ∷ [])
-  last_is =
-      (λ i. docs_in n k (length ks) (sym (take-append-drop ((n - 1) * k) ids) i)
-      (sym (take-append-drop ((n - 1) * length ks) states) i))
-      ∙ with_last (drop ((n - 1) * k) ids) (drop ((n - 1) * length ks) states) last_ids last_states
+  abbrev pub last_row : List AggState
+  last_row = row_at cs (n - 1)
 
-  pub changed : (xs : List ℕ) (ys : List AggState) (ids' : List ℕ) (states' : List AggState) → ids'
-      ≡ take ((n - 1) * k) ids ++ xs → states' ≡ take ((n - 1) * length ks) states ++ ys
-      → length xs ≡ k → kinds_of ys ≡ ks → RowStored ys → IsRegion n k ks ids' states' spare a b
-  changed xs ys ids' states' is js lx ky st =
-      let ly : length ys ≡ length ks = sym (length-kinds_of ys) ∙ ap length ky in
-      let docs : docs_in n k (length ks) ids' states' ≡ front
-      ++ ((xs, ys) ∷ []) = (λ i. docs_in n k (length ks) (is i) (js i))
-      ∙ with_last xs ys lx ly in
-      let li : length ids' ≡ n * k = ap length is ∙ length-append (take ((n - 1) * k) ids) xs
-      ∙ (λ i. front_ids i + lx i) ∙ fewer n k some in
-      let lj : length states' ≡ n * length ks = ap length js
-      ∙ length-append (take ((n - 1) * length ks) states) ys ∙ (λ i. front_states i + ly i)
-      ∙ fewer n (length ks) some in
-      let shape = subst (HaveShape k ks) last_is r.shape in
-      let stored = subst AreStored last_is r.stored in
-      record {
-        ids_are = li;
-        states_are = lj;
-        few_kinds = r.few_kinds;
-        few = r.few;
-        shape = subst (HaveShape k ks) (sym docs)
-            (shape_more k ks front (xs, ys) (shape_front k ks front _ shape) lx ky);
-        stored = subst AreStored (sym docs)
-            (stored_more front (xs, ys) (stored_front front _ stored) st);
-        ids_fit = omega (arith, li, r.ids_are, r.ids_fit);
-        states_fit = omega (arith, lj, r.states_are, r.states_fit);
-      }
+  pub last_is : docs_in n k ids cs ≡ front ++ ((last_ids, last_row) ∷ [])
+  last_is = last_doc n k ids cs some
+
+  shape_is : HaveShape k ks (front ++ ((last_ids, last_row) ∷ []))
+  shape_is = subst (HaveShape k ks) last_is r.shape
+
+  stored_is : AreStored (front ++ ((last_ids, last_row) ∷ []))
+  stored_is = subst AreStored last_is r.stored
+
+  pub long_last : length last_ids ≡ k
+  long_last = (shape_last k ks front (last_ids, last_row) shape_is).0
+
+  pub kinds_last : kinds_of last_row ≡ ks
+  kinds_last = (shape_last k ks front (last_ids, last_row) shape_is).1
+
+  pub store_last : RowStored last_row
+  store_last = stored_last front (last_ids, last_row) stored_is
+
+  module _ (xs : List ℕ) (ys : List AggState) (ids' : List ℕ) (cs' : List Column)
+      (before : (i : ℕ) → i < n - 1 → doc_in k ids cs i ≡ doc_in k ids' cs' i)
+      (at_ids : take k (drop ((n - 1) * k) ids') ≡ xs) (at_row : row_at cs' (n - 1) ≡ ys) where
+    pub with_last : docs_in n k ids' cs' ≡ front ++ ((xs, ys) ∷ [])
+    with_last =
+        let e : n ≡ suc (n - 1) = omega (arith, some) in
+        ap (λ i. docs_in i k ids' cs') e
+        ∙ docs_more (n - 1) k ids ids' cs cs' xs ys before at_ids at_row
+
+    pub changed : length ids' ≡ length ids → kinds_in cs' ≡ kinds_in cs → AreColumns n spare cs'
+        → length xs ≡ k → kinds_of ys ≡ ks → RowStored ys → IsRegion n k ks ids' cs' spare a
+    changed li lk lc lx ky st = record {
+      ids_are = li ∙ r.ids_are;
+      kinds_are = lk ∙ r.kinds_are;
+      columns_are = lc;
+      few_kinds = r.few_kinds;
+      few = r.few;
+      shape = subst (HaveShape k ks) (sym with_last)
+          (shape_more k ks front (xs, ys) (shape_front k ks front _ shape_is) lx ky);
+      stored = subst AreStored (sym with_last)
+          (stored_more front (xs, ys) (stored_front front _ stored_is) st);
+      ids_fit = omega (arith, li, r.ids_fit);
+    }
 
 -- the kinds of merged states
 either_kind : (b : Bool) (v w : AggState) → kind_of v ≡ kind_of w → kind_of (if b then v else w)
@@ -202,156 +226,140 @@ merged_fits vs ws p q few =
     rows.fits_more (merged_rows vs ws) most_stored most_values
     (row_stored_fits (merged_rows vs ws) (rows.row_stored_both vs ws p q few)) (omega arith)
 
--- setting an item of the last document
-pub set_last : (n k level : ℕ) (ids : List ℕ) (v : ℕ) → length ids ≡ n * k → 0 < n → level < k
-    → set ids ((n - 1) * k + level) v ≡ take ((n - 1) * k) ids
-    ++ set (drop ((n - 1) * k) ids) level v
-set_last n k level ids v l some lt =
-    far ((n - 1) * k) level ids v (let le = less n k some in omega (arith, l, le, lt))
+-- ids of which one is set
+set_far : (m k i v : ℕ) (ids : List ℕ) → m + k ≤ i → take k (drop m (set ids i v))
+    ≡ take k (drop m ids)
+set_far zero k i v ids h = take-set-le k ids i v (omega arith)
+set_far (suc m) k i v [] h = refl
+set_far (suc m) k zero v (x ∷ xs) h = absurd (omega arith)
+set_far (suc m) k (suc i) v (x ∷ xs) h = set_far m k i v xs (omega arith)
+
+set_near : (k i v : ℕ) (ids : List ℕ) → i < k → take k (set ids i v) ≡ set (take k ids) i v
+set_near zero i v ids h = absurd (omega arith)
+set_near (suc k) i v [] h = refl
+set_near (suc k) zero v (x ∷ xs) h = refl
+set_near (suc k) (suc i) v (x ∷ xs) h = ap (λ t. x ∷ t) (set_near k i v xs (omega arith))
+
+set_there : (m k i v : ℕ) (ids : List ℕ) → i < k → take k (drop m (set ids (m + i) v))
+    ≡ set (take k (drop m ids)) i v
+set_there zero k i v ids h =
+    ap (λ p. take k (set ids p v)) (let e : 0 + i ≡ i = omega arith in e) ∙ set_near k i v ids h
+set_there (suc m) k i v [] h = none k i v
   where
-    less : (n k : ℕ) → 0 < n → (n - 1) * k + k ≡ n * k
-    less zero k h = absurd (omega arith)
-    less (suc n) k h = let e : suc n - 1 ≡ n = omega arith in ap (λ x. x * k + k) e
-        ∙ (let q : n * k + k ≡ suc n * k = omega arith in q)
+    none : (k i v : ℕ) → take k [] ≡ set (take k []) i v
+    none zero i v = refl
+    none (suc k) i v = refl
+set_there (suc m) k i v (x ∷ xs) h =
+    ap (λ p. take k (drop (suc m) (set (x ∷ xs) p v)))
+    (let e : suc m + i ≡ suc (m + i) = omega arith in e) ∙ set_there m k i v xs h
 
-    far : (p i : ℕ) (xs : List ℕ) (v : ℕ) → p + i < length xs → set xs (p + i) v ≡ take p xs
-        ++ set (drop p xs) i v
-    far zero i xs v h = ap (λ m. set xs m v) (let e : 0 + i ≡ i = omega arith in e)
-    far (suc p) i [] v h = absurd (omega arith)
-    far (suc p) i (x ∷ xs) v h =
-        ap (λ m. set (x ∷ xs) m v) (let e : suc p + i ≡ suc (p + i) = omega arith in e)
-        ∙ ap (λ t. x ∷ t) (far p i xs v (omega arith))
-
-pub shape_last : (k : ℕ) (ks : List AggKind) (docs : List Doc) (e : Doc)
-    → HaveShape k ks (docs ++ (e ∷ [])) → (length e.0 ≡ k) × (kinds_of e.1 ≡ ks)
-shape_last k ks [] e h = (h.0, h.1)
-shape_last k ks (d ∷ ds) e h = shape_last k ks ds e h.2
-
-stored_last : (docs : List Doc) (e : Doc) → AreStored (docs ++ (e ∷ [])) → RowStored e.1
-stored_last [] e h = h.0
-stored_last (d ∷ ds) e h = stored_last ds e h.1
-
-module _ (n k : ℕ) (ks : List AggKind) (ids : List ℕ) (states : List AggState) (spare a b : ℕ)
-    (r : IsRegion n k ks ids states spare a b) (some : 0 < n) where
+module _ (n k : ℕ) (ks : List AggKind) (ids : List ℕ) (cs : List Column) (spare a : ℕ)
+    (r : IsRegion n k ks ids cs spare a) (some : 0 < n) where
   abbrev xs : List ℕ
-  xs = drop ((n - 1) * k) ids
+  xs = last_ids n k ks ids cs spare a r some
 
   abbrev ys : List AggState
-  ys = drop ((n - 1) * length ks) states
-
-  pub kinds_last : kinds_of ys ≡ ks
-  kinds_last = (shape_last k ks (front n k ks ids states spare a b r some) (xs, ys)
-      (subst (HaveShape k ks) (last_is n k ks ids states spare a b r some) r.shape)).1
-
-  pub store_last : RowStored ys
-  store_last = stored_last (front n k ks ids states spare a b r some) (xs, ys)
-      (subst AreStored (last_is n k ks ids states spare a b r some) r.stored)
+  ys = last_row n k ks ids cs spare a r some
 
   -- a dimension of the last document is starred
   module _ (level : ℕ) (lt : level < k) where
-    pub starred_region : IsRegion n k ks (set ids ((n - 1) * k + level) star) states spare a b
-    starred_region =
-        changed n k ks ids states spare a b r some (set xs level star) ys
-        (set ids ((n - 1) * k + level) star) states
-        (set_last n k level ids star r.ids_are some lt)
-        (sym (take-append-drop ((n - 1) * length ks) states))
-        (length-set xs level star
-        ∙ last_ids n k ks ids states spare a b r some) kinds_last store_last
+    abbrev ids' : List ℕ
+    ids' = set ids ((n - 1) * k + level) star
 
-    pub starred_docs : (docs : List Doc) (e : Doc) → docs_in n k (length ks) ids states ≡ docs
-        ++ (e ∷ []) → docs_in n k (length ks) (set ids ((n - 1) * k + level) star) states ≡ docs
-        ++ ((set_star level e.0, e.1) ∷ [])
+    same : (i : ℕ) → i < n - 1 → doc_in k ids cs i ≡ doc_in k ids' cs i
+    same i small = let le = mul-le-mul_right k small in let s : suc i * k ≡ i * k + k = omega arith
+        in λ j. (
+          sym (set_far (i * k) k ((n - 1) * k + level) star ids
+              (omega (arith, le, s))) j,
+          row_at cs i,
+        )
+
+    pub starred_region : IsRegion n k ks ids' cs spare a
+    starred_region = changed n k ks ids cs spare a r some (set xs level star) ys ids' cs same
+        (set_there ((n - 1) * k) k level star ids lt) refl
+        (length-set ids ((n - 1) * k + level) star) refl r.columns_are
+        (length-set xs level star ∙ long_last n k ks ids cs spare a r some)
+        (kinds_last n k ks ids cs spare a r some) (store_last n k ks ids cs spare a r some)
+
+    pub starred_docs : (docs : List Doc) (e : Doc) → docs_in n k ids cs ≡ docs ++ (e ∷ [])
+        → docs_in n k ids' cs ≡ docs ++ ((set_star level e.0, e.1) ∷ [])
     starred_docs docs e is =
-        let f = front n k ks ids states spare a b r some in
-        let same = sym (last_is n k ks ids states spare a b r some) ∙ is in
-        let own : (xs, ys) ≡ e = last_same f docs (xs, ys) e same in
-        (λ i. docs_in n k (length ks) (set_last n k level ids star r.ids_are some lt i)
-        (sym (take-append-drop ((n - 1) * length ks) states) i))
-        ∙ with_last n k ks ids states spare a b r some (set xs level star) ys
-        (length-set xs level star ∙ last_ids n k ks ids states spare a b r some)
-        (last_states n k ks ids states spare a b r some)
-        ∙ (λ i. front_same f docs (xs, ys) e same i ++ ((set_star level (own i).0, (own i).1) ∷ []))
+        let f = front n k ks ids cs spare a r some in
+        let tie = sym (last_is n k ks ids cs spare a r some) ∙ is in
+        let own : (xs, ys) ≡ e = last_same f docs (xs, ys) e tie in
+        with_last n k ks ids cs spare a r some (set xs level star) ys ids' cs same
+        (set_there ((n - 1) * k) k level star ids lt) refl
+        ∙ (λ i. front_same f docs (xs, ys) e tie i ++ ((set_star level (own i).0, (own i).1) ∷ []))
 
-  -- the states of a document are merged into those of the last one
-  module _ (i : ℕ) (lt : i + 1 < n) where
-    abbrev zs : List AggState
-    zs = take (length ks) (drop (i * length ks) states)
+  -- states are merged into those of the last document, with which they are light
+  module _ (zs : List AggState) (kz : kinds_of zs ≡ ks) (sz : RowStored zs)
+      (light : (docs : List Doc) (e : Doc) → docs_in n k ids cs ≡ docs ++ (e ∷ [])
+      → row_weight e.1 + row_weight zs ≤ most_stored) where
+    few : row_weight ys + row_weight zs ≤ most_stored
+    few = light (front n k ks ids cs spare a r some) (xs, ys) (last_is n k ks ids cs spare a r some)
 
-    pub end_is : length states - length ks ≡ (n - 1) * length ks
-    end_is = let e = last_states n k ks ids states spare a b r some
-        in let l = length-drop ((n - 1) * length ks) states in let p = product n (length ks) some
-        in omega (arith, r.states_are, p)
-      where
-        product : (n w : ℕ) → 0 < n → (n - 1) * w + w ≡ n * w
-        product zero w h = absurd (omega arith)
-        product (suc n) w h = let e : suc n - 1 ≡ n = omega arith in ap (λ x. x * w + w) e
-            ∙ (let q : n * w + w ≡ suc n * w = omega arith in q)
+    both : kinds_of ys ≡ kinds_of zs
+    both = kinds_last n k ks ids cs spare a r some ∙ sym kz
 
-    in_docs : i < length (docs_in n k (length ks) ids states)
-    in_docs = omega (arith, lt, length-docs_in n k (length ks) ids states)
+    pub they_fit : RowFits (merged_rows ys zs) most_values
+    they_fit = merged_fits ys zs (store_last n k ks ids cs spare a r some) sz few
 
-    doc_is : doc_at (docs_in n k (length ks) ids states) i ≡ (take k (drop (i * k) ids), zs)
-    doc_is = doc_in n k (length ks) ids states i (omega (arith, lt))
+    kinds' : kinds_of (merged_rows ys zs) ≡ ks
+    kinds' = kinds_merged ys zs both ∙ kinds_last n k ks ids cs spare a r some
 
-    kinds_there : kinds_of zs ≡ ks
-    kinds_there = sym (ap (λ e. kinds_of e.1) doc_is)
-        ∙ (shape_at k ks (docs_in n k (length ks) ids states) i r.shape in_docs).1
+    long' : length (merged_rows ys zs) ≡ length cs
+    long' = sym (length-kinds_of (merged_rows ys zs)) ∙ ap length (kinds' ∙ sym r.kinds_are)
+        ∙ length-map cs (λ c. c.kind)
 
-    stored_there : RowStored zs
-    stored_there = subst RowStored (ap (λ e. e.1) doc_is)
-        (stored_at (docs_in n k (length ks) ids states) i r.stored in_docs)
+    module _ (cs' : List Column) (js : cs' ≡ row_replaced (n - 1) cs (merged_rows ys zs)) where
+      rows_same : (i : ℕ) → i < n - 1 → doc_in k ids cs i ≡ doc_in k ids cs' i
+      rows_same i small =
+          let apart : i ≢ n - 1 = (λ e. let f : i ≡ n - 1 = e in absurd (omega arith)) in
+          λ j. (
+            take k (drop (i * k) ids),
+            (sym (row_other (n - 1) cs (merged_rows ys zs) i apart)
+                ∙ ap (λ l. row_at l i) (sym js)) j,
+          )
 
-    pub there : i * length ks + length ks + length ks ≤ length states
-    there = let le = mul-le-mul_right (length ks) lt in let s : (i + 1) * length ks + length ks
-        ≡ suc (i + 1) * length ks = omega arith in let q : (i + 1) * length ks ≡ i * length ks
-        + length ks = omega arith in omega (arith, le, s, q, r.states_are)
+      at_end : row_at cs' (n - 1) ≡ merged_rows ys zs
+      at_end = ap (λ l. row_at l (n - 1)) js
+          ∙ row_own n spare (n - 1) cs (merged_rows ys zs) r.columns_are (omega (arith, some)) long'
 
-    pub same_kinds : kinds_of (drop (length states - length ks) states) ≡ kinds_of zs
-    same_kinds = ap (λ m. kinds_of (drop m states)) end_is ∙ kinds_last ∙ sym kinds_there
+      pub merged_region : IsRegion n k ks ids cs' spare a
+      merged_region =
+          changed n k ks ids cs spare a r some xs (merged_rows ys zs) ids cs' rows_same refl at_end refl
+          (ap kinds_in js ∙ kinds_replaced (n - 1) cs (merged_rows ys zs))
+          (subst (AreColumns n spare) (sym js)
+          (columns_replaced n spare (n - 1) cs (merged_rows ys zs) r.columns_are))
+          (long_last n k ks ids cs spare a r some) kinds'
+          (rows.row_stored_both ys zs (store_last n k ks ids cs spare a r some) sz few)
 
-    -- they are light together
-    module _ (light : (docs : List Doc) (e : Doc) → docs_in n k (length ks) ids states ≡ docs
-        ++ (e ∷ []) → row_weight e.1
-        + row_weight (doc_at (docs_in n k (length ks) ids states) i).1 ≤ most_stored) where
-      few : row_weight ys + row_weight zs ≤ most_stored
-      few = let l = light (front n k ks ids states spare a b r some) (xs, ys)
-          (last_is n k ks ids states spare a b r some)
-          in subst (λ e. row_weight ys + row_weight e ≤ most_stored) (ap (λ e. e.1) doc_is) l
+      pub merged_docs_are : (docs : List Doc) (e : Doc) → docs_in n k ids cs ≡ docs ++ (e ∷ [])
+          → docs_in n k ids cs' ≡ docs ++ ((e.0, merged_rows e.1 zs) ∷ [])
+      merged_docs_are docs e is =
+          let f = front n k ks ids cs spare a r some in
+          let tie = sym (last_is n k ks ids cs spare a r some) ∙ is in
+          let own : (xs, ys) ≡ e = last_same f docs (xs, ys) e tie in
+          with_last n k ks ids cs spare a r some xs (merged_rows ys zs) ids cs' rows_same refl at_end
+          ∙ (λ j. front_same f docs (xs, ys) e tie j
+          ++ (((own j).0, merged_rows (own j).1 zs) ∷ []))
 
-      pub they_fit : RowFits (merged_rows (drop (length states - length ks) states) zs) most_values
-      they_fit = subst (λ m. RowFits (merged_rows (drop m states) zs) most_values) (sym end_is)
-          (merged_fits ys zs store_last stored_there few)
+-- columns that are written back
+pushed_length : (cs : List Column) (vs : List AggState) → length (row_pushed cs vs) ≡ length cs
+pushed_length [] vs = refl
+pushed_length (c ∷ cs) [] = refl
+pushed_length (c ∷ cs) (v ∷ vs) = ap suc (pushed_length cs vs)
 
-      module _ (states' : List AggState)
-          (is : states' ≡ take (length states - length ks) states
-          ++ merged_rows (drop (length states - length ks) states) zs) where
-        is' : states' ≡ take ((n - 1) * length ks) states ++ merged_rows ys zs
-        is' = is ∙ ap (λ m. take m states ++ merged_rows (drop m states) zs) end_is
+pub pushed_back : (n : ℕ) (new old : List Column) (vs : List AggState) → length old ≡ n → new
+    ≡ row_pushed old vs → take n (new ++ drop (length new) old) ≡ row_pushed old vs
+pushed_back n new old vs l h =
+    written n new old (ap length h ∙ pushed_length old vs ∙ l) l ∙ h
 
-        kinds' : kinds_of (merged_rows ys zs) ≡ ks
-        kinds' = kinds_merged ys zs (kinds_last ∙ sym kinds_there) ∙ kinds_last
+pub replaced_back : (n p : ℕ) (new old : List Column) (vs : List AggState) → length old ≡ n → new
+    ≡ row_replaced p old vs → take n (new ++ drop (length new) old) ≡ row_replaced p old vs
+replaced_back n p new old vs l h =
+    written n new old (ap length h ∙ replaced_length p old vs ∙ l) l ∙ h
 
-        pub merged_region : IsRegion n k ks ids states' spare a b
-        merged_region =
-            changed n k ks ids states spare a b r some xs (merged_rows ys zs) ids states'
-            (sym (take-append-drop ((n - 1) * k) ids)) is'
-            (last_ids n k ks ids states spare a b r some) kinds'
-            (rows.row_stored_both ys zs store_last stored_there few)
-
-        pub merged_length : length states' ≡ length states
-        merged_length = merged_region.states_are ∙ sym r.states_are
-
-        pub merged_docs_are : (docs : List Doc) (e : Doc) → docs_in n k (length ks) ids states
-            ≡ docs ++ (e ∷ [])
-            → docs_in n k (length ks) ids states' ≡ docs
-            ++ ((e.0, merged_rows e.1 (doc_at (docs_in n k (length ks) ids states) i).1) ∷ [])
-        merged_docs_are docs e same' =
-            let f = front n k ks ids states spare a b r some in
-            let same = sym (last_is n k ks ids states spare a b r some) ∙ same' in
-            let own : (xs, ys) ≡ e = last_same f docs (xs, ys) e same in
-            (λ j. docs_in n k (length ks) (sym (take-append-drop ((n - 1) * k) ids) j) (is' j))
-            ∙ with_last n k ks ids states spare a b r some xs (merged_rows ys zs)
-            (last_ids n k ks ids states spare a b r some)
-            (sym (length-kinds_of (merged_rows ys zs)) ∙ ap length kinds')
-            ∙ (λ j. front_same f docs (xs, ys) e same j
-            ++ (((own j).0, merged_rows (own j).1 (sym doc_is j).1) ∷ []))
+pub wider_back : (n : ℕ) (new old : List Column) → length old ≡ n → AreWider old new
+    → take n (new ++ drop (length new) old) ≡ new
+wider_back n new old l w = written n new old (wider_length old new w ∙ l) l

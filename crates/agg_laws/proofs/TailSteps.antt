@@ -1,14 +1,18 @@
 -- The documents from a number on, and documents of which none is starred.
-use Rattle.std.proofs.Common.{◌≡◌, ℕ, zero, suc, ◌+◌, ◌*◌, ◌-◌, ◌≤◌, List, [], ◌∷◌, ◌++◌, length}
+use Rattle.std.proofs.Common.{◌≡◌, ℕ, zero, suc, ◌+◌, ◌*◌, ◌-◌, ◌≤◌, List, [], ◌∷◌, length}
 use Rattle.std.proofs.Common.{take, drop, set, refl, sym, ap, subst, ◌∙◌, arith, length-drop}
-use Rattle.std.proofs.lemmas.List.{drop-drop}
+use Rattle.std.proofs.Common.{map, get_or}
+use Rattle.std.proofs.lemmas.List.{drop-drop, get_or-drop}
+use Rattle.agg_laws.specs.States.{unit_of}
+use Rattle.agg_laws.specs.Columns.{Column, column_tail, kinds_in, row_at, AreColumns}
 use Rattle.agg_laws.specs.declared.aggregate_kind.AggKind.{AggKind}
 use Rattle.agg_laws.specs.declared.states.AggState.{AggState}
 use Rattle.agg_laws.specs.Merged.{rekey}
 use Rattle.agg_laws.specs.Tree.{star, set_star}
 use Rattle.agg_laws.specs.Docs.{Doc, HaveShape, AreStored}
 use Rattle.agg_laws.specs.Flat.{range}
-use Rattle.agg_laws.specs.Region.{docs_in, IsRegion}
+use Rattle.agg_laws.specs.Region.{doc_in, docs_from, docs_in, IsRegion}
+use Rattle.agg_laws.proofs.RegionLemmas.{same_from}
 
 -- past the end nothing is set
 pub set_none : (xs : List ℕ) (n v : ℕ) → length xs ≤ n → set xs n v ≡ xs
@@ -46,27 +50,56 @@ same_range k start end ks docs h =
     same_docs k ks (range start end docs)
     (shape_take (end - start) k ks (drop start docs) (shape_drop start k ks docs h))
 
+-- the states from a place on, in each place
+dropped_item : (vs : List AggState) (m i : ℕ) (d : AggState) → get_or (drop m vs) i d
+    ≡ get_or vs (m + i) d
+dropped_item vs m i d = get_or-drop m vs i d
+
+row_dropped : (m i : ℕ) (cs : List Column) → row_at (map (column_tail m) cs) i ≡ row_at cs (m + i)
+row_dropped m i [] = refl
+row_dropped m i (c ∷ cs) =
+    λ j. dropped_item c.states m i (unit_of c.kind) j ∷ row_dropped m i cs j
+
+kinds_dropped : (m : ℕ) (cs : List Column) → kinds_in (map (column_tail m) cs) ≡ kinds_in cs
+kinds_dropped m [] = refl
+kinds_dropped m (c ∷ cs) = ap (λ t. c.kind ∷ t) (kinds_dropped m cs)
+
+columns_dropped : (n s m : ℕ) (cs : List Column) → AreColumns n s cs
+    → AreColumns (n - m) 0 (map (column_tail m) cs)
+columns_dropped n s m [] h = tt
+columns_dropped n s m (c ∷ cs) h =
+    (omega (arith, length-drop m c.states, h.0), omega arith, columns_dropped n s m cs h.2)
+
 -- documents left out at the front
-pub docs_drop : (m n k w : ℕ) (ids : List ℕ) (states : List AggState)
-    → docs_in (n - m) k w (drop (m * k) ids) (drop (m * w) states)
-    ≡ drop m (docs_in n k w ids states)
-docs_drop zero n k w ids states =
-    let e : n - 0 ≡ n = omega arith in
-    (λ i. docs_in (e i) k w (drop (z k i) ids) (drop (z w i) states))
+pub docs_drop : (m n k : ℕ) (ids : List ℕ) (cs : List Column) → m ≤ n
+    → docs_in (n - m) k (drop (m * k) ids) (map (column_tail m) cs) ≡ drop m (docs_in n k ids cs)
+docs_drop m n k ids cs le =
+    same_from 0 m (n - m) k (drop (m * k) ids) ids (map (column_tail m) cs) cs (λ i lt.
+    let z : 0 + i ≡ i = omega arith in
+    let p : m * k + i * k ≡ (m + i) * k = omega arith in
+    ap (doc_in k (drop (m * k) ids) (map (column_tail m) cs)) z
+    ∙ (λ j. (
+      take k ((drop-drop (i * k) (m * k) ids ∙ ap (λ n. drop n ids) p) j),
+      row_dropped m i cs j,
+    )))
+    ∙ later m n k ids cs le
   where
-    z : (k : ℕ) → 0 * k ≡ 0
-    z k = omega arith
-docs_drop (suc m) zero k w ids states =
-    let e : 0 - suc m ≡ 0 = omega arith in
-    ap (λ i. docs_in i k w (drop (suc m * k) ids) (drop (suc m * w) states)) e
-docs_drop (suc m) (suc n) k w ids states =
-    let e : suc n - suc m ≡ n - m = omega arith in
-    (λ i. docs_in (e i) k w (dropped k m ids i) (dropped w m states i))
-    ∙ docs_drop m n k w (drop k ids) (drop w states)
-  where
-    dropped : {X : Type 0} (k i : ℕ) (xs : List X) → drop (suc i * k) xs ≡ drop (i * k) (drop k xs)
-    dropped k i xs = sym (drop-drop (i * k) k xs
-        ∙ ap (λ n. drop n xs) (let e : k + i * k ≡ suc i * k = omega arith in e))
+    first : (a m n k : ℕ) (ids : List ℕ) (cs : List Column) → m ≤ n
+        → docs_from (a + m) (n - m) k ids cs ≡ drop m (docs_from a n k ids cs)
+    first a zero n k ids cs le =
+        let e : a + 0 ≡ a = omega arith in
+        let f : n - 0 ≡ n = omega arith in
+        λ j. docs_from (e j) (f j) k ids cs
+    first a (suc m) zero k ids cs le = absurd (omega arith)
+    first a (suc m) (suc n) k ids cs le =
+        let e : a + suc m ≡ suc a + m = omega arith in
+        let f : suc n - suc m ≡ n - m = omega arith in
+        (λ j. docs_from (e j) (f j) k ids cs) ∙ first (suc a) m n k ids cs (omega arith)
+
+    later : (m n k : ℕ) (ids : List ℕ) (cs : List Column) → m ≤ n
+        → docs_from m (n - m) k ids cs ≡ drop m (docs_in n k ids cs)
+    later m n k ids cs le = let e : m ≡ 0 + m = omega arith
+        in ap (λ i. docs_from i (n - m) k ids cs) e ∙ first 0 m n k ids cs le
 
 less_times : (m n k : ℕ) → m ≤ n → (n - m) * k + m * k ≡ n * k
 less_times zero n k h =
@@ -82,34 +115,27 @@ less_times (suc m) (suc n) k h =
     ∙ (let q : (n - m) * k + suc m * k ≡ suc n * k = omega (arith, more, a, b) in q)
 
 -- what is left of a region, with no room for more
-pub tail_region : (m n k : ℕ) (ks : List AggKind) (ids : List ℕ) (states : List AggState)
-    (spare a b a' b' : ℕ) (ids' : List ℕ) (states' : List AggState) (ls : List AggKind)
-    → IsRegion n k ks ids states spare a b → m ≤ n → ls ≡ ks → ids' ≡ drop (m * k) ids
-    → states' ≡ drop (m * length ks) states → length ids' ≤ a' → length states' ≤ b'
-    → IsRegion (n - m) k ls ids' states' 0 a' b'
-tail_region m n k ks ids states spare a b a' b' ids' states' ls r le same is js ia jb =
-    let docs : docs_in (n - m) k (length ls) ids' states'
-    ≡ drop m (docs_in n k (length ks) ids states) =
-    (λ i. docs_in (n - m) k (length (same i)) (is i) (js i))
-    ∙ docs_drop m n k (length ks) ids states in
+pub tail_region : (m n k : ℕ) (ks : List AggKind) (ids : List ℕ) (cs : List Column)
+    (spare a a' : ℕ) (ids' : List ℕ) (cs' : List Column) (ls : List AggKind)
+    → IsRegion n k ks ids cs spare a → m ≤ n → ls ≡ ks → ids' ≡ drop (m * k) ids
+    → cs' ≡ map (column_tail m) cs → length ids' ≤ a' → IsRegion (n - m) k ls ids' cs' 0 a'
+tail_region m n k ks ids cs spare a a' ids' cs' ls r le same is js ia =
+    let docs : docs_in (n - m) k ids' cs' ≡ drop m (docs_in n k ids cs) =
+    (λ i. docs_in (n - m) k (is i) (js i)) ∙ docs_drop m n k ids cs le in
     let lk = ap length same in
     let li = ap length is ∙ length-drop (m * k) ids in
-    let lj = ap length js ∙ length-drop (m * length ks) states in
     let ti = less_times m n k le in
-    let tj = less_times m n (length ks) le in
-    let own : length states' ≡ (n - m) * length ks = omega (arith, lj, tj, r.states_are) in
     record {
       ids_are = omega (arith, li, ti, r.ids_are);
-      states_are = own ∙ ap (λ x. (n - m) * x) (sym lk);
+      kinds_are = ap kinds_in js ∙ kinds_dropped m cs ∙ r.kinds_are ∙ sym same;
+      columns_are = subst (AreColumns (n - m) 0) (sym js)
+          (columns_dropped n spare m cs r.columns_are);
       few_kinds = omega (arith, lk, r.few_kinds);
       few = omega (arith, le, r.few);
-      shape = subst (λ l. HaveShape k l (docs_in (n - m) k (length ls) ids' states')) (sym same)
-          (subst (HaveShape k ks) (sym docs)
-          (shape_drop m k ks (docs_in n k (length ks) ids states) r.shape));
-      stored = subst AreStored (sym docs)
-          (stored_drop m (docs_in n k (length ks) ids states) r.stored);
+      shape = subst (λ l. HaveShape k l (docs_in (n - m) k ids' cs')) (sym same)
+          (subst (HaveShape k ks) (sym docs) (shape_drop m k ks (docs_in n k ids cs) r.shape));
+      stored = subst AreStored (sym docs) (stored_drop m (docs_in n k ids cs) r.stored);
       ids_fit = let z : 0 * k ≡ 0 = omega arith in omega (arith, ia, z);
-      states_fit = let z : 0 * length ls ≡ 0 = omega arith in omega (arith, jb, z);
     }
 
 -- the room that is left in a region's lists is no matter

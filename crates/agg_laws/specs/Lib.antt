@@ -7,6 +7,8 @@ pub mod Merged
 pub mod Tree
 pub mod Shares
 pub mod Docs
+pub mod Columns
+pub mod Cells
 pub mod Region
 pub mod Packing
 pub mod Documents

@@ -19,12 +19,15 @@ ghost use Rattle.agg_laws.specs.Packing.{place, IsWord};
 ghost use Rattle.std.specs.Option.{IfSome};
 
 use crate::NoMemory;
-use crate::aggregate_kind::AggKind;
+use crate::column_list::{
+    add_values_at, merge_places, new_columns, push_copies, push_states, push_values,
+    reserve_columns, tail_columns,
+};
 use crate::id_list::STAR;
 use crate::kind_list::Kinds;
 use crate::packing::{Span, packed, places};
 use crate::star_row::StarRow;
-use crate::state_row::{add_values, merge_states};
+use crate::state_column::{StateColumn, rest};
 use crate::states::AggState;
 use crate::tree_shape::TreeShape;
 use std::alloc::{AllocError, Global};
@@ -32,7 +35,7 @@ use std::cmp::Ordering;
 use std::marker::Model;
 
 /// Documents of one shape: each has one id for each split dimension, and one state of each kind.
-/// They are one after the other, their ids apart from their states.
+/// Their ids are one after the other, their states pair by pair.
 #[derive(Drop)]
 pub struct StarTable {
     dims: u8,
@@ -40,7 +43,7 @@ pub struct StarTable {
     count: usize,
     spare: usize,
     ids: Vec<u32>,
-    states: Vec<AggState>,
+    columns: Vec<StateColumn>,
 }
 
 impl Model for StarTable {
@@ -53,13 +56,12 @@ impl Model for StarTable {
     ghost view = { λ t. record {
       dims = t.dims;
       kinds = t.kinds;
-      docs = docs_in t.count t.dims
-          (length t.kinds) t.ids.items t.states.items;
+      docs = docs_in t.count t.dims t.ids.items t.columns.items;
       spare = t.spare;
     } };
 
-    ghost invariant = { λ t. IsRegion t.count t.dims t.kinds t.ids.items t.states.items t.spare
-        (vec_capacity t.ids) (vec_capacity t.states) };
+    ghost invariant = { λ t. IsRegion t.count t.dims t.kinds t.ids.items t.columns.items t.spare
+        (vec_capacity t.ids) };
 }
 
 /// Adds items, for which there is room.
@@ -99,59 +101,6 @@ fn are_whole(values: &[i64])
     for i in 0..values.len() {
         let _ = values[i];
     }
-}
-
-/// Adds the states of a row of values, for which there is room.
-fn put_values(out: &mut Vec<AggState>, kinds: &[AggKind], values: &[i64])
-    requires values { length values.now ≡ length kinds.now }
-    requires room { length out.old.items + length kinds.now ≤ vec_capacity out.old }
-    ensures items { out.new.items ≡ out.old.items ++ row_of kinds.now (values.now ∷ []) }
-    ensures capacity { vec_capacity out.old ≤ vec_capacity out.new }
-{
-    for i in 0..kinds.len() {
-        if let Err(_) = out.push(AggState::one(kinds[i], values[i])) {
-            unreachable!();
-        }
-    }
-}
-
-/// Adds a row of values to the last states, which are as many.
-fn add_to_last(states: &mut [AggState], values: &[i64])
-    requires there { length values.now ≤ length states.old }
-    requires fits { RowFits (merged_rows (drop (length states.old - length values.now) states.old)
-        (row_of (kinds_of (drop (length states.old - length values.now) states.old)) (values.now ∷
-        []))) most_values }
-    ensures { states.new ≡ take (length states.old - length values.now) states.old
-        ++ merged_rows (drop (length states.old - length values.now) states.old) (row_of (kinds_of
-        (drop (length states.old - length values.now) states.old)) (values.now ∷ [])) }
-{
-    let end = states.len() - values.len();
-    let (_, last) = states.split_at_mut(end);
-    add_values(last, values);
-}
-
-/// The items from one on.
-fn rest<T: Copy>(items: &[T], from: usize) -> &[T]
-    requires { from ≤ length items.now }
-    ensures { result.now ≡ drop from items.now }
-{
-    &items[from..]
-}
-
-/// Merges the states in a place into the last ones, which are as many.
-fn merge_into_last(states: &mut [AggState], from: usize, count: usize)
-    requires there { from + count + count ≤ length states.old }
-    requires kinds { kinds_of (drop (length states.old - count) states.old)
-        ≡ kinds_of (take count (drop from states.old)) }
-    requires fits { RowFits (merged_rows (drop (length states.old - count) states.old) (take count
-        (drop from states.old))) most_values }
-    ensures { states.new ≡ take (length states.old - count) states.old
-        ++ merged_rows (drop (length states.old - count) states.old) (take count (drop from
-        states.old)) }
-{
-    let end = states.len() - count;
-    let (front, last) = states.split_at_mut(end);
-    merge_states(last, &front[from..from + count]);
 }
 
 /// The id of a dimension, where one dimension is starred.
@@ -207,7 +156,7 @@ impl StarTable {
             count: 0,
             spare: 0,
             ids: Vec::new(alloc),
-            states: Vec::new(alloc),
+            columns: new_columns(alloc, shape.kinds.as_slice())?,
         })
     }
 
@@ -255,8 +204,7 @@ impl StarTable {
         requires pair { pair < length self.now.kinds }
         ensures { slice_get (doc_at self.now.docs at).1 pair ≡ Some result }
     {
-        let place = at as usize * self.kinds.len() + pair as usize;
-        self.states[place]
+        self.columns[pair as usize].at(at as usize)
     }
 
     /// Makes room for more documents.
@@ -272,7 +220,7 @@ impl StarTable {
             return Err(AllocError);
         }
         self.ids.reserve(more * self.dims as usize)?;
-        self.states.reserve(more * self.kinds.len())?;
+        reserve_columns(self.columns.as_mut_slice(), more)?;
         self.spare = more;
         Ok(())
     }
@@ -290,7 +238,11 @@ impl StarTable {
         } }
     {
         put_all(&mut self.ids, row.dims.as_slice());
-        put_all(&mut self.states, row.states.as_slice());
+        push_states(
+            self.columns.as_mut_slice(),
+            row.states.as_slice(),
+            self.count,
+        );
         self.count += 1;
         self.spare -= 1;
     }
@@ -310,7 +262,7 @@ impl StarTable {
     {
         are_whole(values);
         put_all(&mut self.ids, ids);
-        put_values(&mut self.states, self.kinds.as_slice(), values);
+        push_values(self.columns.as_mut_slice(), values, self.count);
         self.count += 1;
         self.spare -= 1;
     }
@@ -326,9 +278,8 @@ impl StarTable {
         } }
     {
         let dims = self.dims as usize;
-        let width = self.kinds.len();
         put_again(&mut self.ids, from as usize * dims, dims);
-        put_again(&mut self.states, from as usize * width, width);
+        push_copies(self.columns.as_mut_slice(), from as usize, self.count);
         self.count += 1;
         self.spare -= 1;
     }
@@ -357,8 +308,8 @@ impl StarTable {
                   ++ (e.0, merged_rows e.1 (doc_at self.old.docs from).1) ∷ [];
             } }
     {
-        let width = self.kinds.len();
-        merge_into_last(self.states.as_mut_slice(), from as usize * width, width);
+        let last = self.count - 1;
+        merge_places(self.columns.as_mut_slice(), last, from as usize, self.count);
     }
 
     /// Adds a row of values to the last document. It takes no memory.
@@ -374,7 +325,8 @@ impl StarTable {
             } }
     {
         are_whole(values);
-        add_to_last(self.states.as_mut_slice(), values);
+        let last = self.count - 1;
+        add_values_at(self.columns.as_mut_slice(), last, values, self.count);
     }
 
     /// Adds the aggregated document of a range, whose documents have the same ids below the level.
@@ -616,7 +568,7 @@ impl StarTable {
             count: self.count - from,
             spare: 0,
             ids: Vec::from_slice(alloc, rest(&self.ids, from * self.dims as usize))?,
-            states: Vec::from_slice(alloc, rest(&self.states, from * self.kinds.len()))?,
+            columns: tail_columns(alloc, self.columns.as_slice(), from, self.count)?,
         })
     }
 }

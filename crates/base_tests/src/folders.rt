@@ -3,7 +3,8 @@
 use crate::depots::{expect_depot, expect_removal};
 use crate::expect::{Expectations, TestFault};
 use crate::shelves::{lists, reads, refuses};
-use outside::{Depot, DepotFault, FolderDepot, FolderShelf, ReadAllFault, Shelf, ShelfFault};
+use host_devices::{FolderDepot, FolderShelf};
+use outside::{Depot, DepotFault, ReadAllFault, Shelf, ShelfFault};
 use std::{fs, process};
 
 // A new folder with the file `a`, the file `z.part` and a folder `sub` that has the file `c`.

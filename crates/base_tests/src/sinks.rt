@@ -2,7 +2,8 @@
 
 use crate::expect::{Expectations, TestFault};
 use crate::shelves::calls;
-use outside::{MemorySink, Sink, SinkFault, StreamSink};
+use host_devices::StreamSink;
+use outside::{MemorySink, Sink, SinkFault};
 use std::alloc::Global;
 use std::io;
 use std::io::{ErrorKind, Write};

@@ -10,7 +10,7 @@ use Rattle.values.specs.Columns.{is_text}
 use Rattle.values.specs.Kinds.{fits}
 use Rattle.table_schema.specs.declared.field.Field.{Field}
 use Rattle.table_schema.specs.declared.field.Schema.{Schema}
-use Rattle.table_schema.specs.Fields.{is_text_metric}
+use Rattle.table_schema.specs.Roles.{is_text_metric}
 use Rattle.table_schema.specs.Names.{is_column_name}
 use Rattle.table_schema.specs.Valid.{IsValidSchema, is_short, default_fits, is_valid_field}
 use Rattle.csv_ingest.specs.Columns.{DefaultFits, DefaultsFit, is_text_kind}

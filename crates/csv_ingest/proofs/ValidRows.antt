@@ -16,7 +16,7 @@ use Rattle.values.specs.declared.read.ValueFault.TheVariants.{TooLong}
 use Rattle.values.specs.declared.whole.WholeFault.TheVariants.{OutOfRange}
 use Rattle.table_schema.specs.declared.field.Field.{Field}
 use Rattle.table_schema.specs.declared.field.Schema.{Schema}
-use Rattle.table_schema.specs.Fields.{is_text_metric}
+use Rattle.table_schema.specs.Roles.{is_text_metric}
 use Rattle.table_schema.specs.Names.{is_column_name}
 use Rattle.table_schema.specs.Valid.{is_short, default_fits, is_valid_field, IsValidSchema}
 use Rattle.table_schema.specs.ValidTable.{is_row, IsRow, most_rows, AreRows}

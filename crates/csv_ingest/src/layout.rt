@@ -5,10 +5,9 @@ ghost use Rattle.std.specs.Str.{bytes_eq};
 ghost use Rattle.csv_ingest.specs.Columns.{DefaultsFit};
 ghost use Rattle.csv_ingest.specs.Layouts.{IsLayout, header_of};
 ghost use Rattle.csv_ingest.specs.Rows.{place_of};
-ghost use Rattle.table_schema.specs.ValidTable.{most_rows};
 
 use std::alloc::{AllocError, Global};
-use table_schema::Field;
+use table_schema::{Field, most_rows};
 
 /// The fields of a table over the names of a header, made once for a text.
 #[derive(Drop)]
@@ -70,11 +69,4 @@ fn places_of(
         places.push(place_in(names, fields[i].name.as_slice()))?;
     }
     Ok(places)
-}
-
-// How many rows of so many fields are the most.
-fn most_rows(fields: usize) -> u32
-    ensures { result ≡ most_rows fields }
-{
-    (16_777_216 / fields.max(1)).min(1_048_576) as u32
 }

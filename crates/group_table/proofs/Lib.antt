@@ -1,3 +1,3 @@
-mod KeptLemmas
+pub mod KeptLemmas
 mod KeptSteps
-mod GroupsLemmas
+pub mod GroupsLemmas

@@ -2,4 +2,3 @@ pub mod CountLemmas
 mod Held
 pub mod ReadLemmas
 pub mod SeenLemmas
-mod StreamLemmas

@@ -5,7 +5,6 @@ pub mod Reads
 pub mod Seen
 pub mod ReadLog
 pub mod Sink
-pub mod Stream
 pub mod Told
 pub mod Whole
 pub mod Memory

@@ -1,7 +1,8 @@
 //! The program: a folder, and the words of one command.
 #![tactic(auto)]
 
-use outside::{FolderDepot, FolderShelf, Sink, StreamSink};
+use host_devices::{FolderDepot, FolderShelf, StreamSink};
+use outside::Sink;
 use pinot_run::{Status, run_command};
 use std::io::ErrorKind;
 use std::process::ExitCode;

@@ -2,12 +2,12 @@
 use Rattle.std.specs.Prelude.{ℕ, nat_lt, List, [], length, Option, Some, None, Result, Ok, Err, if◌then◌else◌}
 use Rattle.std.specs.FinMap as map
 use Rattle.outside.specs.Files.{Files}
-use Rattle.table_schema.specs.Schemas.{schema_read}
-use Rattle.table_schema.specs.TableTexts.{settings_read}
-use Rattle.table_schema.specs.declared.fault.KeyKind.{KeyKind}
-use Rattle.table_schema.specs.declared.fault.KeyKind.TheVariants as key
-use Rattle.table_schema.specs.declared.fault.TextFault.{TextFault}
-use Rattle.table_schema.specs.declared.fault.TextFault.TheVariants as fault
+use Rattle.schema_json.specs.Schemas.{schema_read}
+use Rattle.settings_json.specs.TableTexts.{settings_read}
+use Rattle.schema_json.specs.declared.fault.KeyKind.{KeyKind}
+use Rattle.schema_json.specs.declared.fault.KeyKind.TheVariants as key
+use Rattle.schema_json.specs.declared.fault.TextFault.{TextFault}
+use Rattle.schema_json.specs.declared.fault.TextFault.TheVariants as fault
 use Rattle.table_schema.specs.declared.field.Schema.{Schema}
 use Rattle.table_schema.specs.declared.settings.Settings.{Settings}
 use Rattle.table_schema.specs.declared.table.Table.{Table}

@@ -2,9 +2,9 @@
 ghost use Rattle.std.specs.Prelude.{◌≡◌, ◌≤◌, ℕ, List, true, false, [], ◌∷◌, Some, None, option_map, IfOk, IfErr, IfSome, IsErrOf, Ok, length, codes, ◌++◌};
 ghost use Rattle.outside.specs.Counts.{Rose};
 ghost use Rattle.outside.specs.Files.{Has, Lacks};
-ghost use Rattle.table_schema.specs.Schemas.{schema_read};
-ghost use Rattle.table_schema.specs.declared.fault.KeyKind.{KeyKind};
-ghost use Rattle.table_schema.specs.TableTexts.{settings_read};
+ghost use Rattle.schema_json.specs.Schemas.{schema_read};
+ghost use Rattle.schema_json.specs.declared.fault.KeyKind.{KeyKind};
+ghost use Rattle.settings_json.specs.TableTexts.{settings_read};
 ghost use Rattle.table_schema.specs.Valid.{IsValidSchema};
 ghost use Rattle.table_store.specs.TableFile.{FitsTable, table_name, text_limit};
 ghost use Rattle.pinot_run.specs.Command.{Create};
@@ -22,7 +22,9 @@ use crate::note::{Counted, Note};
 use crate::stop::Stop;
 use outside::{Bytes, Depot, Seq, Shelf, ShelfFault};
 use std::alloc::{AllocError, Global};
-use table_schema::{Schema, Settings, Table, TextFault, read_schema, read_settings};
+use schema_json::{TextFault, read_schema};
+use settings_json::read_settings;
+use table_schema::{Schema, Settings, Table};
 use table_store::{StoreFault, TEXT_LIMIT, create_table, has_table};
 
 // A table that is to be made: its texts, and what they are read as.

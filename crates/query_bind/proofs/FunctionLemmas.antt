@@ -8,7 +8,7 @@ use Rattle.values.specs.declared.kind.FieldKind.TheVariants as kind
 use Rattle.table_schema.specs.declared.field.Field.{Field}
 use Rattle.table_schema.specs.declared.table.Table.{Table}
 use Rattle.table_schema.specs.Columns.{number_of}
-use Rattle.table_schema.specs.Pairs as pairs
+use Rattle.table_schema.specs.Roles as pairs
 use Rattle.query_parser.specs.declared.tree.NameAt.{NameAt}
 use Rattle.query_parser.specs.declared.tree.Func.{Func}
 use Rattle.query_parser.specs.declared.tree.Func.TheVariants as func

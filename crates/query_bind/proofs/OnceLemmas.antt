@@ -11,7 +11,7 @@ use Rattle.query_bind.specs.declared.terms.TermAt.{TermAt}
 use Rattle.query_bind.specs.declared.terms.ColumnAt.{ColumnAt}
 use Rattle.query_bind.specs.Terms.{with_new, with_column, columns_from, with_agg, aggs_from}
 use Rattle.query_bind.specs.Once.{GroupsStandOnce, GroupsAreNamed, AggsStandOnce, is_agg, AggsAreWritten}
-use Rattle.query_bind.proofs.PlaceLemmas.{own_agg, agg_is}
+use Rattle.table_schema.proofs.AggLaws.{own_agg, agg_is}
 use Rattle.table_schema.specs.declared.query.Agg.{Agg}
 use Rattle.table_schema.specs.Aggs.{same_agg}
 

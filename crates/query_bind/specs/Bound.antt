@@ -7,7 +7,7 @@ use Rattle.table_schema.specs.declared.query.Item.{Item}
 use Rattle.table_schema.specs.declared.query.Item.TheVariants as item
 use Rattle.table_schema.specs.declared.query.OrderKey.{OrderKey}
 use Rattle.table_schema.specs.declared.query.BoundQuery.{BoundQuery}
-use Rattle.table_schema.specs.Json.{Text}
+use Rattle.table_schema.specs.Names.{Text}
 use Rattle.query_parser.specs.declared.tree.NameAt.{NameAt}
 use Rattle.query_parser.specs.declared.tree.Func.{Func}
 use Rattle.query_parser.specs.declared.tree.Func.TheVariants as func

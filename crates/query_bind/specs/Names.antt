@@ -6,7 +6,7 @@ use Rattle.values.specs.declared.kind.FieldKind.{FieldKind}
 use Rattle.values.specs.declared.kind.FieldKind.TheVariants as kind
 use Rattle.table_schema.specs.declared.field.Field.{Field}
 use Rattle.table_schema.specs.declared.table.Table.{Table}
-use Rattle.table_schema.specs.Json.{Text}
+use Rattle.table_schema.specs.Names.{Text}
 use Rattle.table_schema.specs.Columns.{number_of, is_known}
 use Rattle.query_parser.specs.declared.tree.NameAt.{NameAt}
 use Rattle.query_parser.specs.declared.tree.LiteralAt.{LiteralAt}

@@ -30,7 +30,8 @@ pub fn push_bounds(dictionaries: &[Dictionary], out: &mut Vec<u8>) -> Result<(),
     Ok(())
 }
 
-fn push_ends(dictionary: &Dictionary, out: &mut Vec<u8>) -> Result<(), NoMemory>
+/// Appends the least and the greatest value of one column, if it has values.
+pub fn push_ends(dictionary: &Dictionary, out: &mut Vec<u8>) -> Result<(), NoMemory>
     ensures { OnOk result
         (out.new.items ≡ out.old.items ++ bounds_bytes (ends_of dictionary.now.values)) }
 {

@@ -1,7 +1,7 @@
 //! The front of a segment's file: the header and the directory.
 ghost use Rattle.std.specs.Prelude.{◌≡◌, ◌≢◌, ◌≤◌, ◌<◌, ◌+◌, ◌*◌, ◌^◌, ◌++◌, length, sum, take, drop, MatchBool, MatchOption, IfOk, OnOk};
 ghost use Rattle.std.specs.Int.{w32, from_be_bytes};
-ghost use Rattle.table_schema.specs.ValidTable.{IsValidTable, most_rows};
+ghost use Rattle.table_schema.specs.ValidTable.{IsValidTable};
 ghost use Rattle.segment_file.specs.Front as spec;
 ghost use Rattle.segment_file.specs.Front.{directory, extent_bytes, extents_from, file_end, front_bytes, counts_bytes, title_bytes};
 ghost use Rattle.segment_file.specs.Names.{IsSegmentName};
@@ -13,7 +13,7 @@ use crate::numbers::{eight_at, four_at, push_eight, push_four, push_two};
 use crate::{NoMemory, Part};
 use std::alloc::Global;
 use std::marker::Model;
-use table_schema::Table;
+use table_schema::{Table, most_rows};
 
 const MAGIC: &[u8] = b"STARSEG1";
 
@@ -164,13 +164,6 @@ fn total(sizes: &[u64]) -> u64
     ensures { result ≡ sum sizes.now }
 {
     sizes.iter().sum()
-}
-
-// The most rows of so many fields.
-fn most_rows(fields: usize) -> u32
-    ensures { result ≡ most_rows fields }
-{
-    (16_777_216 / fields.max(1)).min(1_048_576) as u32
 }
 
 // How long each section is, as the last eight bytes of its entry say.

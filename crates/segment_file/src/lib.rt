@@ -18,7 +18,7 @@ mod sections;
 mod sizes;
 mod stepwise;
 
-pub use bounds::{Ends, push_bounds, read_bounds};
+pub use bounds::{Ends, push_bounds, push_ends, read_bounds};
 pub use check::check_head;
 pub use dictionaries::check_dictionary;
 pub use fault::HeadFault;

@@ -14,6 +14,7 @@ pub use agg_laws::Node;
 pub use checking::{NodesFault, check_nodes};
 pub use laws::nodes_law;
 pub use node_list::Nodes;
+pub use rules::few_bytes;
 pub use tree::StarTree;
 pub use writing::{write_docs, write_nodes};
 

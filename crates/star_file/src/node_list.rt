@@ -33,7 +33,7 @@ impl Nodes {
     }
 
     /// The list of a vector's nodes. It takes no memory.
-    pub(crate) fn from_vec(nodes: Vec<Node>) -> Self
+    pub fn from_vec(nodes: Vec<Node>) -> Self
         ensures { result ≡ nodes.items }
     {
         Nodes { nodes }

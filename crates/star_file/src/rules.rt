@@ -91,7 +91,7 @@ fn widths(kinds: &[AggKind]) -> u32
 }
 
 /// Whether a tree takes no more bytes than one may.
-fn few_bytes(shape: &TreeShape, documents: u32, nodes: usize) -> bool
+pub fn few_bytes(shape: &TreeShape, documents: u32, nodes: usize) -> bool
     requires { length shape.now.kinds ≤ 16 }
     ensures { IsTrue result ↔ (documents * (4 * shape.now.dims + widths shape.now.kinds) + 28 *
         nodes ≤ 134217728) }

@@ -1,13 +1,3 @@
 pub mod FirstLaws
-pub mod Items
-pub mod Read
-pub mod Places
-pub mod FieldWalk
-pub mod Answered
-pub mod Numbers
-pub mod SchemaLaw
-pub mod SettingsLaw
 pub mod NumberLaw
-pub mod PairLaw
-pub mod TreeLaw
-pub mod RawLaw
+pub mod AggLaws

@@ -7,9 +7,9 @@ use Rattle.std.proofs.lemmas.Option.{none-some, same_Some}
 use Rattle.std.proofs.lemmas.Slice.Eq.{bytes_eq-Decides}
 use Rattle.std.proofs.lemmas.List.Folds.{list_any-append}
 use Rattle.table_schema.specs.declared.field.Field.{Field}
-use Rattle.table_schema.specs.Json.{Text}
+use Rattle.table_schema.specs.Names.{Text}
 use Rattle.table_schema.specs.Columns.{number_from, number_of}
-use Rattle.table_schema.specs.Fields.{is_among}
+use Rattle.table_schema.specs.Names.{is_among}
 use Rattle.table_schema.specs.Valid.{no_repeat}
 use Rattle.table_schema.specs.ValidSettings.{is_number_of, is_known_number}
 

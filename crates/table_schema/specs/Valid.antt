@@ -7,9 +7,10 @@ use Rattle.values.specs.declared.value.Value.TheVariants as value
 use Rattle.values.specs.Kinds.{fits}
 use Rattle.table_schema.specs.declared.field.Field.{Field}
 use Rattle.table_schema.specs.declared.field.Schema.{Schema}
-use Rattle.table_schema.specs.Json.{Text}
+use Rattle.table_schema.specs.Names.{Text}
 use Rattle.table_schema.specs.Names.{is_column_name}
-use Rattle.table_schema.specs.Fields.{is_among, is_text_metric}
+use Rattle.table_schema.specs.Names.{is_among}
+use Rattle.table_schema.specs.Roles.{is_text_metric}
 
 -- a number, or a text of at most 64 bytes
 abbrev pub is_short : Value → Bool

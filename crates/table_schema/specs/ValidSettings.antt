@@ -8,8 +8,9 @@ use Rattle.table_schema.specs.declared.settings.TreeSetting.{TreeSetting}
 use Rattle.table_schema.specs.declared.settings.Settings.{Settings}
 use Rattle.table_schema.specs.Names.{is_column_name}
 use Rattle.table_schema.specs.Columns.{is_member}
-use Rattle.table_schema.specs.Pairs.{is_numeric}
-use Rattle.table_schema.specs.Indexes.{is_metric_at, is_set, needs_ids}
+use Rattle.table_schema.specs.Roles.{is_numeric}
+use Rattle.table_schema.specs.Roles.{is_metric_at}
+use Rattle.table_schema.specs.NeedIds.{is_set, needs_ids}
 
 abbrev pub is_number_of : List Field → ℕ → Bool
 is_number_of fields n = nat_lt n (length fields)

@@ -1,17 +1,17 @@
 -- What the checks accept.
 use Rattle.std.proofs.Common.{◌≡◌, Option, Some, None, Ok, refl, sym, subst}
 use Rattle.serde_json.specs.Data.{Data}
-use Rattle.table_schema.specs.declared.fault.TextFault.{TextFault}
+use Rattle.schema_json.specs.declared.fault.TextFault.{TextFault}
 use Rattle.table_schema.specs.declared.table.Table as read
-use Rattle.table_schema.specs.Faults.{Finding}
-use Rattle.table_schema.specs.Json.{json_of}
-use Rattle.table_schema.specs.Schemas.{answer, read_by, schema_finding, schema_of, schema_read}
-use Rattle.table_schema.specs.TableTexts.{settings_finding, settings_of, settings_read}
+use Rattle.schema_json.specs.Faults.{Finding}
+use Rattle.schema_json.specs.Json.{json_of}
+use Rattle.schema_json.specs.Schemas.{answer, read_by, schema_finding, schema_of, schema_read}
+use Rattle.settings_json.specs.TableTexts.{settings_finding, settings_of, settings_read}
 use Rattle.table_schema.specs.Valid.{IsValidSchema}
 use Rattle.table_schema.specs.ValidSettings.{IsValidSettings}
 use Rattle.table_schema.specs.ValidTable.{IsValidTable}
-use Rattle.table_schema.proofs.SchemaLaw.{schema_valid}
-use Rattle.table_schema.proofs.SettingsLaw.{settings_valid}
+use Rattle.schema_json.proofs.SchemaLaw.{schema_valid}
+use Rattle.settings_json.proofs.SettingsLaw.{settings_valid}
 use Rattle.table_store.specs.State.{Texts}
 use Rattle.table_store.specs.Accepted.{IsAccepted}
 use Rattle.table_store.proofs.OpenLemmas.{both_read}

@@ -2,10 +2,10 @@
 use Rattle.std.proofs.Common.{◌≡◌, ◌≢◌, ◌∙◌, ℕ, List, Option, Some, None, Result, Ok, Err, IfErr, sym, subst}
 use Rattle.outside.specs.Files.{Files, OfFile}
 use Rattle.outside.specs.Whole.{IsWhole}
-use Rattle.table_schema.specs.Schemas.{schema_read}
-use Rattle.table_schema.specs.TableTexts.{settings_read}
-use Rattle.table_schema.specs.declared.fault.TextFault.{TextFault}
-use Rattle.table_schema.specs.declared.fault.TextFault.TheVariants as text
+use Rattle.schema_json.specs.Schemas.{schema_read}
+use Rattle.settings_json.specs.TableTexts.{settings_read}
+use Rattle.schema_json.specs.declared.fault.TextFault.{TextFault}
+use Rattle.schema_json.specs.declared.fault.TextFault.TheVariants as text
 use Rattle.table_schema.specs.declared.field.Schema.{Schema}
 use Rattle.table_schema.specs.declared.table.Table as read
 use Rattle.table_store.specs.State.{Texts}

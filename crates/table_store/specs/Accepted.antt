@@ -1,7 +1,7 @@
 -- Which texts make a table.
 use Rattle.std.specs.Prelude.{◌≡◌, ℕ, List, Ok}
-use Rattle.table_schema.specs.Schemas.{schema_read}
-use Rattle.table_schema.specs.TableTexts.{settings_read}
+use Rattle.schema_json.specs.Schemas.{schema_read}
+use Rattle.settings_json.specs.TableTexts.{settings_read}
 use Rattle.table_schema.specs.declared.table.Table.{Table}
 use Rattle.table_store.specs.State as state
 use Rattle.table_store.specs.TableFile.{FitsTable, table_file}

@@ -14,7 +14,9 @@ use crate::table_file::{FILE_LIMIT, NAME, texts_of};
 use crate::{Part, StoreFault};
 use outside::{Depot, ReadAllFault, read_all};
 use std::alloc::Global;
-use table_schema::{Table, TextFault, read_schema, read_settings};
+use schema_json::{TextFault, read_schema};
+use settings_json::read_settings;
+use table_schema::Table;
 
 // What a refused text is for the file that it is in.
 fn of_text(fault: TextFault) -> StoreFault

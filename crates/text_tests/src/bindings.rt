@@ -3,11 +3,11 @@
 use crate::schemas::show_fault;
 use query_bind::{BindFault, bind};
 use query_parser::{QueryFault, parse};
+use schema_json::{TextFault, read_schema};
+use settings_json::read_settings;
 use std::alloc::{AllocError, Global};
 use std::fmt::Write;
-use table_schema::{
-    Agg, BoundQuery, Conjunct, Item, Table, TextFault, Wide, read_schema, read_settings,
-};
+use table_schema::{Agg, BoundQuery, Conjunct, Item, Table, Wide};
 use values::{CompareOp, Test, Value};
 
 /// The texts of a table.

@@ -1,8 +1,9 @@
 //! What comes of the text of a schema: its fields, or `Kind key` of the first fault.
 
+use schema_json::{TextFault, read_schema};
 use std::alloc::{AllocError, Global};
 use std::fmt::Write;
-use table_schema::{Field, Role, Schema, TextFault, read_schema};
+use table_schema::{Field, Role, Schema};
 use values::{FieldKind, Value};
 
 /// The kind of a fault and its key.

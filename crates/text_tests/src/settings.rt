@@ -2,9 +2,11 @@
 
 use crate::bindings::V;
 use crate::schemas::show_fault;
+use schema_json::read_schema;
+use settings_json::read_settings;
 use std::alloc::{AllocError, Global};
 use std::fmt::Write;
-use table_schema::{Settings, read_schema, read_settings};
+use table_schema::Settings;
 
 // A letter for each field that is on a list, and a dot for each other.
 fn show_fields(out: &mut String, word: &str, fields: &[bool]) -> Result<(), AllocError> {

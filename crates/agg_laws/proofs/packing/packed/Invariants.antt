@@ -1,4 +1,4 @@
-use Rattle.std.proofs.Common.{◌≡◌, drop, length}
+use Rattle.std.proofs.Common.{◌≡◌, drop}
 use Rattle.agg_laws.specs.Tree.{set_star}
 use Rattle.agg_laws.specs.Packing.{pack, AreWithin}
 use Rattle.agg_laws.proofs.packing.packed.Given as goal

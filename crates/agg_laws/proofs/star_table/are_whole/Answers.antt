@@ -1,4 +1,4 @@
-use Rattle.std.proofs.Common.{◌≡◌, ◌+◌, suc, take, get_or, length, subst, ap, sym, ◌∙◌, arith, rules}
+use Rattle.std.proofs.Common.{◌≡◌, ◌+◌, suc, take, get_or, length, subst, ap, ◌∙◌, arith, rules}
 use Rattle.std.proofs.Common.{FitsSigned, w64, pos}
 use Rattle.std.proofs.Math.Seq.{take-length}
 use Rattle.agg_laws.specs.Numbers.{AreWhole}

@@ -36,7 +36,7 @@ merge_last-requires-clause-from c =
       ap
           (λ v. length v.docs) c.self.view_is,
       length-docs_in t.count t.dims
-          (length t.kinds) t.ids.items t.states.items,
+          t.ids.items t.columns.items,
     )
 
 pub merge_last-requires-clause-light : goal.merge_last-requires-clause-light
@@ -50,7 +50,7 @@ merge_last-requires-clause-light c front e is =
       ap
           (λ v. length v.docs) c.self.view_is,
       length-docs_in t.count t.dims
-          (length t.kinds) t.ids.items t.states.items,
+          t.ids.items t.columns.items,
     ) in
     let l = doc_at docs (length docs - 1) in
     let own : l ≡ e = last_same
@@ -65,7 +65,7 @@ returns-then-is_eq-clause-docs c =
     let docs = c.args.self.now.docs in
     let t = c.self.inside in
     let n : t.count ≡ length docs =
-    sym (length-docs_in t.count t.dims (length t.kinds) t.ids.items t.states.items)
+    sym (length-docs_in t.count t.dims t.ids.items t.columns.items)
     ∙ ap (λ v. length v.docs) c.self.view_is in
     let lt : c.args.before < length docs = omega (arith, c.if-self-before.true, n) in
     let tie : dims_order (doc_at docs (length docs - 1)).0
@@ -88,7 +88,7 @@ returns-then-is_eq-clause-room c =
     let docs = c.args.self.now.docs in
     let t = c.self.inside in
     let n : t.count ≡ length docs =
-    sym (length-docs_in t.count t.dims (length t.kinds) t.ids.items t.states.items)
+    sym (length-docs_in t.count t.dims t.ids.items t.columns.items)
     ∙ ap (λ v. length v.docs) c.self.view_is in
     let lt : c.args.before < length docs = omega (arith, c.if-self-before.true, n) in
     let f = take c.args.before docs ++ (parts c.args.before docs c.requires.before lt).0 in
@@ -106,7 +106,7 @@ returns-then-is_eq-clause-dims c =
     let docs = c.args.self.now.docs in
     let t = c.self.inside in
     let n : t.count ≡ length docs =
-    sym (length-docs_in t.count t.dims (length t.kinds) t.ids.items t.states.items)
+    sym (length-docs_in t.count t.dims t.ids.items t.columns.items)
     ∙ ap (λ v. length v.docs) c.self.view_is in
     let lt : c.args.before < length docs = omega (arith, c.if-self-before.true, n) in
     ap (λ v. v.dims) (c.merge_last.ensures
@@ -118,7 +118,7 @@ returns-then-is_eq-clause-kinds c =
     let docs = c.args.self.now.docs in
     let t = c.self.inside in
     let n : t.count ≡ length docs =
-    sym (length-docs_in t.count t.dims (length t.kinds) t.ids.items t.states.items)
+    sym (length-docs_in t.count t.dims t.ids.items t.columns.items)
     ∙ ap (λ v. length v.docs) c.self.view_is in
     let lt : c.args.before < length docs = omega (arith, c.if-self-before.true, n) in
     ap (λ v. v.kinds) (c.merge_last.ensures
@@ -130,7 +130,7 @@ returns-clause-docs c =
     let docs = c.args.self.now.docs in
     let t = c.self.inside in
     let n : t.count ≡ length docs =
-    sym (length-docs_in t.count t.dims (length t.kinds) t.ids.items t.states.items)
+    sym (length-docs_in t.count t.dims t.ids.items t.columns.items)
     ∙ ap (λ v. length v.docs) c.self.view_is in
     let own = doc_at docs c.args.from in
     ap (λ v. v.docs) (c.star_last.ensures docs own (ap (λ v. v.docs) c.repeat.ensures))

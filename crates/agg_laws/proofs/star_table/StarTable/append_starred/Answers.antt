@@ -24,7 +24,7 @@ add_starred-requires-clause-from c =
     let perm = c.in_ok-order.ensures.0 in
     let le : c.args.start ≤ c.args.end = omega (arith, c.requires.order) in
     let n : s.count ≡ length docs =
-    sym (length-docs_in s.count s.dims (length s.kinds) s.ids.items s.states.items)
+    sym (length-docs_in s.count s.dims s.ids.items s.columns.items)
     ∙ ap (λ v. length v.docs) c.self.view_is in
     let i = c.loop-i.i in
     let long = steps.order_length level c.args.start c.args.end docs le c.requires.within order
@@ -56,7 +56,7 @@ add_starred-requires-clause-before c =
     let perm = c.in_ok-order.ensures.0 in
     let le : c.args.start ≤ c.args.end = omega (arith, c.requires.order) in
     let n : s.count ≡ length docs =
-    sym (length-docs_in s.count s.dims (length s.kinds) s.ids.items s.states.items)
+    sym (length-docs_in s.count s.dims s.ids.items s.columns.items)
     ∙ ap (λ v. length v.docs) c.self.view_is in
     let i = c.loop-i.i in
     let long = steps.order_length level c.args.start c.args.end docs le c.requires.within order
@@ -75,7 +75,7 @@ add_starred-requires-clause-spare c =
     let perm = c.in_ok-order.ensures.0 in
     let le : c.args.start ≤ c.args.end = omega (arith, c.requires.order) in
     let n : s.count ≡ length docs =
-    sym (length-docs_in s.count s.dims (length s.kinds) s.ids.items s.states.items)
+    sym (length-docs_in s.count s.dims s.ids.items s.columns.items)
     ∙ ap (λ v. length v.docs) c.self.view_is in
     let i = c.loop-i.i in
     let long = steps.order_length level c.args.start c.args.end docs le c.requires.within order
@@ -110,7 +110,7 @@ add_starred-requires-clause-light c =
     let perm = c.in_ok-order.ensures.0 in
     let le : c.args.start ≤ c.args.end = omega (arith, c.requires.order) in
     let n : s.count ≡ length docs =
-    sym (length-docs_in s.count s.dims (length s.kinds) s.ids.items s.states.items)
+    sym (length-docs_in s.count s.dims s.ids.items s.columns.items)
     ∙ ap (λ v. length v.docs) c.self.view_is in
     let i = c.loop-i.i in
     let long = steps.order_length level c.args.start c.args.end docs le c.requires.within order
@@ -148,7 +148,7 @@ add_starred-requires-clause-ascending c =
     let perm = c.in_ok-order.ensures.0 in
     let le : c.args.start ≤ c.args.end = omega (arith, c.requires.order) in
     let n : s.count ≡ length docs =
-    sym (length-docs_in s.count s.dims (length s.kinds) s.ids.items s.states.items)
+    sym (length-docs_in s.count s.dims s.ids.items s.columns.items)
     ∙ ap (λ v. length v.docs) c.self.view_is in
     let i = c.loop-i.i in
     let long = steps.order_length level c.args.start c.args.end docs le c.requires.within order
@@ -181,7 +181,7 @@ add_starred-requires-clause-none_above c =
     let perm = c.in_ok-order.ensures.0 in
     let le : c.args.start ≤ c.args.end = omega (arith, c.requires.order) in
     let n : s.count ≡ length docs =
-    sym (length-docs_in s.count s.dims (length s.kinds) s.ids.items s.states.items)
+    sym (length-docs_in s.count s.dims s.ids.items s.columns.items)
     ∙ ap (λ v. length v.docs) c.self.view_is in
     let i = c.loop-i.i in
     let long = steps.order_length level c.args.start c.args.end docs le c.requires.within order
@@ -215,7 +215,7 @@ loop-i-preserved c =
     let perm = c.in_ok-order.ensures.0 in
     let le : c.args.start ≤ c.args.end = omega (arith, c.requires.order) in
     let n : s.count ≡ length docs =
-    sym (length-docs_in s.count s.dims (length s.kinds) s.ids.items s.states.items)
+    sym (length-docs_in s.count s.dims s.ids.items s.columns.items)
     ∙ ap (λ v. length v.docs) c.self.view_is in
     let i = c.loop-i.i in
     let long = steps.order_length level c.args.start c.args.end docs le c.requires.within order
@@ -256,7 +256,7 @@ overflow_sub-result c =
     let perm = c.in_ok-order.ensures.0 in
     let le : c.args.start ≤ c.args.end = omega (arith, c.requires.order) in
     let n : s.count ≡ length docs =
-    sym (length-docs_in s.count s.dims (length s.kinds) s.ids.items s.states.items)
+    sym (length-docs_in s.count s.dims s.ids.items s.columns.items)
     ∙ ap (λ v. length v.docs) c.self.view_is in
     let i = c.loop-i.i in
     let long = steps.order_length level c.args.start c.args.end docs le c.requires.within order
@@ -264,7 +264,7 @@ overflow_sub-result c =
     let m = merged_docs merged_rows (steps.starred_at level docs (take i order)) in
     let u = c.self-2.inside in
     let v : u.count ≡ length c.loop-i.self.docs =
-    sym (length-docs_in u.count u.dims (length u.kinds) u.ids.items u.states.items)
+    sym (length-docs_in u.count u.dims u.ids.items u.columns.items)
     ∙ ap (λ v. length v.docs) c.self-2.view_is in
     let l = ap length c.loop-i.invariant.docs ∙ length-append docs m in
     omega (arith, v, l, n)
@@ -279,7 +279,7 @@ overflow_cast-result c =
     let perm = c.in_ok-order.ensures.0 in
     let le : c.args.start ≤ c.args.end = omega (arith, c.requires.order) in
     let n : s.count ≡ length docs =
-    sym (length-docs_in s.count s.dims (length s.kinds) s.ids.items s.states.items)
+    sym (length-docs_in s.count s.dims s.ids.items s.columns.items)
     ∙ ap (λ v. length v.docs) c.self.view_is in
     let i = c.loop-i.i in
     let long = steps.order_length level c.args.start c.args.end docs le c.requires.within order
@@ -287,7 +287,7 @@ overflow_cast-result c =
     let m = merged_docs merged_rows (steps.starred_at level docs (take i order)) in
     let u = c.self-2.inside in
     let v : u.count ≡ length c.loop-i.self.docs =
-    sym (length-docs_in u.count u.dims (length u.kinds) u.ids.items u.states.items)
+    sym (length-docs_in u.count u.dims u.ids.items u.columns.items)
     ∙ ap (λ v. length v.docs) c.self-2.view_is in
     let l = ap length c.loop-i.invariant.docs ∙ length-append docs m in
     let all : i ≤ length order =
@@ -305,7 +305,7 @@ returns-clause-ok c =
     let perm = c.in_ok-order.ensures.0 in
     let le : c.args.start ≤ c.args.end = omega (arith, c.requires.order) in
     let n : s.count ≡ length docs =
-    sym (length-docs_in s.count s.dims (length s.kinds) s.ids.items s.states.items)
+    sym (length-docs_in s.count s.dims s.ids.items s.columns.items)
     ∙ ap (λ v. length v.docs) c.self.view_is in
     let i = c.loop-i.i in
     let long = steps.order_length level c.args.start c.args.end docs le c.requires.within order
@@ -346,7 +346,7 @@ returns-clause-count c =
     let perm = c.in_ok-order.ensures.0 in
     let le : c.args.start ≤ c.args.end = omega (arith, c.requires.order) in
     let n : s.count ≡ length docs =
-    sym (length-docs_in s.count s.dims (length s.kinds) s.ids.items s.states.items)
+    sym (length-docs_in s.count s.dims s.ids.items s.columns.items)
     ∙ ap (λ v. length v.docs) c.self.view_is in
     let i = c.loop-i.i in
     let long = steps.order_length level c.args.start c.args.end docs le c.requires.within order
@@ -354,7 +354,7 @@ returns-clause-count c =
     let m = merged_docs merged_rows (steps.starred_at level docs (take i order)) in
     let u = c.self-2.inside in
     let v : u.count ≡ length c.loop-i.self.docs =
-    sym (length-docs_in u.count u.dims (length u.kinds) u.ids.items u.states.items)
+    sym (length-docs_in u.count u.dims u.ids.items u.columns.items)
     ∙ ap (λ v. length v.docs) c.self-2.view_is in
     let end : i ≡ length order =
     omega (

@@ -1,50 +1,75 @@
-use Rattle.std.proofs.Common.{◌≡◌, suc, ◌+◌, ◌-◌, ◌≤◌, ◌++◌, ◌∷◌, [], length, sym, ap, ◌∙◌, arith, rules}
-use Rattle.agg_laws.specs.Numbers.{AreWhole}
+use Rattle.std.proofs.Common.{◌≡◌, ◌-◌, ◌++◌, ◌∷◌, [], length, take, drop, sym, ap, subst, ◌∙◌, arith}
+use Rattle.std.proofs.lemmas.List.{length-map}
 use Rattle.agg_laws.specs.Rows.{row_of}
 use Rattle.agg_laws.specs.laws.Rows.{row_weight_least}
-use Rattle.agg_laws.specs.Region.{docs_in}
-use Rattle.agg_laws.proofs.Places.{length-row_of}
-use Rattle.agg_laws.proofs.RegionLemmas.{docs_in_more, more_region}
+use Rattle.agg_laws.specs.Columns.{kinds_in, row_pushed, AreColumns}
+use Rattle.agg_laws.proofs.RegionLemmas as region
+use Rattle.agg_laws.proofs.RegionSteps as last
 use Rattle.agg_laws.proofs.ValueSteps as steps
 use Rattle.agg_laws.proofs.star_table.StarTable.append_values.Goals as goal
+
+pub push_values-requires-clause-values : goal.push_values-requires-clause-values
+push_values-requires-clause-values c =
+    let t = c.self.inside in
+    let xs = c.args.values.now in
+    let ys = row_of t.kinds (xs ∷ []) in
+    let long : length xs ≡ length t.kinds = c.requires.values
+    ∙ sym (ap (λ v. length v.kinds) c.self.view_is) in
+    long ∙ ap length (sym c.self.invariant.kinds_are) ∙ length-map t.columns.items (λ d. d.kind)
+    ∙ ap length (sym c.as_mut_slice.ensures.value)
+
+pub push_values-requires-clause-room : goal.push_values-requires-clause-room
+push_values-requires-clause-room c =
+    let t = c.self.inside in
+    subst (AreColumns t.count 1) (sym c.as_mut_slice.ensures.value)
+    (region.some_room t.count t.spare t.count 1 t.columns.items c.self.invariant.columns_are
+    (λ _. t.count) (omega (arith, c.requires.spare, ap (λ v. v.spare) c.self.view_is)))
 
 pub invariant_of-self : goal.invariant_of-self
 invariant_of-self c =
     let t = c.self.inside in
     let xs = c.args.values.now in
-    let whole : AreWhole xs = c.are_whole.ensures in
+    let ys = row_of t.kinds (xs ∷ []) in
     let long : length xs ≡ length t.kinds = c.requires.values
     ∙ sym (ap (λ v. length v.kinds) c.self.view_is) in
-    more_region t.count t.dims t.kinds t.ids.items t.states.items t.spare _ _ _ _
-    c.args.ids.now (row_of t.kinds (xs ∷ [])) _ _ c.self.invariant
-    (omega (arith, c.requires.spare, ap (λ v. v.spare) c.self.view_is))
-    c.put_all.ensures.items
-    (c.put_values.ensures.items
-    ∙ ap (λ l. t.states.items ++ row_of l (xs ∷ [])) c.as_slice.ensures)
+    let made : c.push_values.new.columns ≡ row_pushed t.columns.items ys = c.push_values.ensures
+    ∙ ap (λ l. row_pushed l (row_of (kinds_in l) (xs ∷ []))) c.as_mut_slice.ensures.value
+    ∙ ap (λ l. row_pushed t.columns.items (row_of l (xs ∷ []))) c.self.invariant.kinds_are in
+    let new : take t.columns.len
+    (c.push_values.new.columns ++ drop (length c.push_values.new.columns) t.columns.items)
+    ≡ row_pushed t.columns.items (ys) =
+    last.pushed_back t.columns.len c.push_values.new.columns t.columns.items (ys)
+    (omega (arith, t.columns.ok.0)) made in
+    region.more_region t.count t.dims t.kinds t.ids.items t.columns.items t.spare _ _
+    c.args.ids.now ys _ _ c.self.invariant c.put_all.ensures.items new
     (c.requires.dims ∙ sym (ap (λ v. v.dims) c.self.view_is))
-    (steps.kinds_row t.kinds (xs ∷ [])) (steps.stored_row t.kinds xs long whole)
-    c.put_all.ensures.capacity c.put_values.ensures.capacity
+    (steps.kinds_row t.kinds (xs ∷ []))
+    (omega (arith, c.requires.spare, ap (λ v. v.spare) c.self.view_is)) (steps.stored_row t.kinds xs long c.are_whole.ensures) c.put_all.ensures.capacity
 
 pub returns-clause-appended : goal.returns-clause-appended
 returns-clause-appended c =
     let t = c.self.inside in
     let xs = c.args.values.now in
-    let w = length t.kinds in
     let ys = row_of t.kinds (xs ∷ []) in
-    let n : t.count + 1 ≡ suc t.count = omega arith in
-    let docs : docs_in (t.count + 1) t.dims w c.put_all.new.out.items c.put_values.new.out.items
-    ≡ c.args.self.now.docs ++ ((c.args.ids.now, row_of c.args.self.now.kinds (xs ∷ [])) ∷ []) =
-    (λ i. docs_in (n i) t.dims w (c.put_all.ensures.items i)
-    ((c.put_values.ensures.items
-    ∙ ap (λ l. t.states.items ++ row_of l (xs ∷ [])) c.as_slice.ensures) i))
-    ∙ docs_in_more t.count t.dims w t.ids.items t.states.items c.args.ids.now ys
-    c.self.invariant.ids_are c.self.invariant.states_are
-    (c.requires.dims ∙ sym (ap (λ v. v.dims) c.self.view_is)) (length-row_of t.kinds (xs ∷ []))
+    let long : length xs ≡ length t.kinds = c.requires.values
+    ∙ sym (ap (λ v. length v.kinds) c.self.view_is) in
+    let made : c.push_values.new.columns ≡ row_pushed t.columns.items ys = c.push_values.ensures
+    ∙ ap (λ l. row_pushed l (row_of (kinds_in l) (xs ∷ []))) c.as_mut_slice.ensures.value
+    ∙ ap (λ l. row_pushed t.columns.items (row_of l (xs ∷ []))) c.self.invariant.kinds_are in
+    let new : take t.columns.len
+    (c.push_values.new.columns ++ drop (length c.push_values.new.columns) t.columns.items)
+    ≡ row_pushed t.columns.items (ys) =
+    last.pushed_back t.columns.len c.push_values.new.columns t.columns.items (ys)
+    (omega (arith, t.columns.ok.0)) made in
+    let all = region.one_more t.count t.dims t.kinds t.ids.items t.columns.items t.spare _ 0
+    c.args.ids.now ys _ _ c.self.invariant c.put_all.ensures.items new
+    (c.requires.dims ∙ sym (ap (λ v. v.dims) c.self.view_is))
+    (steps.kinds_row t.kinds (xs ∷ []))
     ∙ ap (λ v. v.docs ++ ((c.args.ids.now, row_of v.kinds (xs ∷ [])) ∷ [])) c.self.view_is in
     λ i. record {
       dims = (c.self.view_is i).dims;
       kinds = (c.self.view_is i).kinds;
-      docs = docs i;
+      docs = all i;
       spare = (c.self.view_is i).spare - 1;
     }
 

@@ -1,7 +1,7 @@
 use Rattle.std.proofs.Common.{◌≡◌, ◌+◌, ◌*◌, ◌<◌, length, get_or, sym, ap, ◌∙◌, arith}
 use Rattle.agg_laws.specs.Tree.{star, dim}
 use Rattle.agg_laws.specs.Docs.{doc_at}
-use Rattle.agg_laws.proofs.RegionLemmas.{length-docs_in, doc_in, place_in, item_in, any_default}
+use Rattle.agg_laws.proofs.RegionLemmas.{length-docs_in, doc_is, place_in, item_in, any_default}
 use Rattle.agg_laws.proofs.star_table.StarTable.dim.Goals as goal
 
 pub index-requires : goal.index-requires
@@ -14,7 +14,7 @@ index-requires c =
       ap
           (λ v. length v.docs) c.self.view_is,
       length-docs_in t.count t.dims
-          (length t.kinds) t.ids.items t.states.items,
+          t.ids.items t.columns.items,
     ) in
     let l : c.args.level < t.dims =
     omega (arith, c.requires.level, ap (λ v. v.dims) c.self.view_is) in
@@ -32,7 +32,7 @@ returns c =
       ap
           (λ v. length v.docs) c.self.view_is,
       length-docs_in t.count t.dims
-          (length t.kinds) t.ids.items t.states.items,
+          t.ids.items t.columns.items,
     ) in
     let l : c.args.level < t.dims =
     omega (arith, c.requires.level, ap (λ v. v.dims) c.self.view_is) in
@@ -43,5 +43,5 @@ returns c =
     ∙ any_default t.ids.items (c.args.at * t.dims + c.args.level) c.index.result.now star p in
     own ∙ item_in t.dims c.args.at c.args.level t.ids.items star l
     ∙ ap (λ e. dim c.args.level e.0)
-    (sym (doc_in t.count t.dims (length t.kinds) t.ids.items t.states.items c.args.at n))
+    (sym (doc_is t.count t.dims t.ids.items t.columns.items c.args.at n))
     ∙ ap (λ v. dim c.args.level (doc_at v.docs c.args.at).0) c.self.view_is

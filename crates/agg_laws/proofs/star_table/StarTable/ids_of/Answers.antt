@@ -1,7 +1,7 @@
 use Rattle.std.proofs.Common.{◌≡◌, ℕ, zero, suc, ◌+◌, ◌*◌, ◌-◌, ◌≤◌, List, [], ◌∷◌, length, take}
 use Rattle.std.proofs.Common.{drop, refl, sym, ap, ◌∙◌, arith}
 use Rattle.agg_laws.specs.Docs.{Doc, doc_at}
-use Rattle.agg_laws.proofs.RegionLemmas.{length-docs_in, doc_in}
+use Rattle.agg_laws.proofs.RegionLemmas.{length-docs_in, doc_is}
 use Rattle.agg_laws.proofs.star_table.StarTable.ids_of.Goals as goal
 
 no_doc : (docs : List Doc) (i : ℕ) → length docs ≤ i → doc_at docs i ≡ ([], [])
@@ -19,7 +19,7 @@ returns-then-at-self c =
       ap
           (λ v. length v.docs) c.self.view_is,
       length-docs_in t.count t.dims
-          (length t.kinds) t.ids.items t.states.items,
+          t.ids.items t.columns.items,
     ))))
 
 pub returns : goal.returns
@@ -28,6 +28,6 @@ returns c =
     let n : c.args.at * t.dims + t.dims - c.args.at * t.dims ≡ t.dims = omega arith in
     (λ i. take (n i) (drop (c.args.at * t.dims) (c.deref.ensures.value i)))
     ∙ ap (λ e. e.0) (sym
-    (doc_in t.count t.dims (length t.kinds) t.ids.items t.states.items c.args.at
+    (doc_is t.count t.dims t.ids.items t.columns.items c.args.at
     (omega (arith, c.if-at-self.false))))
     ∙ ap (λ v. (doc_at v.docs c.args.at).0) c.self.view_is

@@ -1,174 +1,126 @@
-use Rattle.std.proofs.Common.{◌≡◌, ◌+◌, ◌*◌, ◌-◌, ◌<◌, ◌≤◌, ◌++◌, ◌∷◌, [], List, length, take, drop}
-use Rattle.std.proofs.Common.{sym, ap, subst, ◌∙◌, arith}
+use Rattle.std.proofs.Common.{◌≡◌, ◌+◌, ◌-◌, ◌<◌, ◌≤◌, ◌++◌, ◌∷◌, [], List, length, take, drop, sym, ap, subst, ◌∙◌, arith}
 use Rattle.agg_laws.specs.declared.states.AggState.{AggState}
 use Rattle.agg_laws.specs.Numbers.{most_stored, most_values}
-use Rattle.agg_laws.specs.Rows.{kinds_of, merged_rows, row_weight, RowFits}
+use Rattle.agg_laws.specs.Rows.{kinds_of, merged_rows, row_weight, RowFits, RowStored}
 use Rattle.agg_laws.specs.Docs.{Doc, doc_at}
+use Rattle.agg_laws.specs.Columns.{row_at, row_replaced, AreColumns}
 use Rattle.agg_laws.specs.Region.{docs_in}
-use Rattle.agg_laws.proofs.RegionLemmas.{length-docs_in}
-use Rattle.agg_laws.proofs.RegionSteps as steps
+use Rattle.agg_laws.proofs.RegionLemmas as region
+use Rattle.agg_laws.proofs.RegionSteps as last
 use Rattle.agg_laws.proofs.star_table.StarTable.merge_last.Goals as goal
 
-pub merge_into_last-requires-clause-there : goal.merge_into_last-requires-clause-there
-merge_into_last-requires-clause-there c =
+pub merge_places-requires-clause-from : goal.merge_places-requires-clause-from
+merge_places-requires-clause-from c =
     let t = c.self.inside in
-    let w = length t.kinds in
-    let more : c.args.from
-    + 1 < t.count = omega (
-      arith,
-      c.requires.from,
-      ap
-          (λ v. length v.docs) c.self.view_is,
-      length-docs_in t.count t.dims w t.ids.items
-          t.states.items,
-    ) in
-    let some : 0 < t.count = omega (arith, more) in
-    let light = λ (docs : List Doc) (e : Doc)
-    (is : docs_in t.count t.dims w t.ids.items t.states.items ≡ docs ++ (e ∷ [])).
-    subst (λ (l : List Doc). row_weight e.1 + row_weight (doc_at l c.args.from).1 ≤ most_stored)
-    (sym (ap (λ v. v.docs) c.self.view_is))
-    (c.requires.light docs e (sym (ap (λ v. v.docs) c.self.view_is) ∙ is)) in
-    subst (λ m. c.args.from * m + m + m ≤ length c.as_mut_slice.result.now)
-    (sym c.len-width.ensures)
-    (subst (λ (l : List AggState). c.args.from * w + w + w ≤ length l)
-    (sym c.as_mut_slice.ensures.value)
-    (steps.there t.count t.dims t.kinds t.ids.items t.states.items t.spare _ _ c.self.invariant
-    some c.args.from more))
+    let docs = docs_in t.count t.dims t.ids.items t.columns.items in
+    let l = region.length-docs_in t.count t.dims t.ids.items t.columns.items in
+    let more : c.args.from + 1 < t.count =
+    omega (arith, c.requires.from, ap (λ v. length v.docs) c.self.view_is, l) in
+    omega (arith, more)
 
-pub merge_into_last-requires-clause-kinds : goal.merge_into_last-requires-clause-kinds
-merge_into_last-requires-clause-kinds c =
+pub merge_places-requires-clause-long : goal.merge_places-requires-clause-long
+merge_places-requires-clause-long c =
     let t = c.self.inside in
-    let w = length t.kinds in
-    let more : c.args.from
-    + 1 < t.count = omega (
-      arith,
-      c.requires.from,
-      ap
-          (λ v. length v.docs) c.self.view_is,
-      length-docs_in t.count t.dims w t.ids.items
-          t.states.items,
-    ) in
-    let some : 0 < t.count = omega (arith, more) in
-    let light = λ (docs : List Doc) (e : Doc)
-    (is : docs_in t.count t.dims w t.ids.items t.states.items ≡ docs ++ (e ∷ [])).
-    subst (λ (l : List Doc). row_weight e.1 + row_weight (doc_at l c.args.from).1 ≤ most_stored)
-    (sym (ap (λ v. v.docs) c.self.view_is))
-    (c.requires.light docs e (sym (ap (λ v. v.docs) c.self.view_is) ∙ is)) in
-    subst (λ m. kinds_of (drop (length c.as_mut_slice.result.now - m) c.as_mut_slice.result.now)
-    ≡ kinds_of (take m (drop (c.args.from * m) c.as_mut_slice.result.now)))
-    (sym c.len-width.ensures)
-    (subst (λ (l : List AggState). kinds_of (drop (length l - w) l)
-    ≡ kinds_of (take w (drop (c.args.from * w) l))) (sym c.as_mut_slice.ensures.value)
-    (steps.same_kinds t.count t.dims t.kinds t.ids.items t.states.items t.spare _ _
-    c.self.invariant some c.args.from more))
+    subst (AreColumns t.count 0) (sym c.as_mut_slice.ensures.value)
+    (region.some_room t.count t.spare t.count 0 t.columns.items c.self.invariant.columns_are
+    (λ _. t.count) (omega arith))
 
-pub merge_into_last-requires-clause-fits : goal.merge_into_last-requires-clause-fits
-merge_into_last-requires-clause-fits c =
+pub merge_places-requires-clause-fits : goal.merge_places-requires-clause-fits
+merge_places-requires-clause-fits c =
     let t = c.self.inside in
-    let w = length t.kinds in
-    let more : c.args.from
-    + 1 < t.count = omega (
-      arith,
-      c.requires.from,
-      ap
-          (λ v. length v.docs) c.self.view_is,
-      length-docs_in t.count t.dims w t.ids.items
-          t.states.items,
-    ) in
+    let docs = docs_in t.count t.dims t.ids.items t.columns.items in
+    let l = region.length-docs_in t.count t.dims t.ids.items t.columns.items in
+    let more : c.args.from + 1 < t.count =
+    omega (arith, c.requires.from, ap (λ v. length v.docs) c.self.view_is, l) in
     let some : 0 < t.count = omega (arith, more) in
-    let light = λ (docs : List Doc) (e : Doc)
-    (is : docs_in t.count t.dims w t.ids.items t.states.items ≡ docs ++ (e ∷ [])).
-    subst (λ (l : List Doc). row_weight e.1 + row_weight (doc_at l c.args.from).1 ≤ most_stored)
-    (sym (ap (λ v. v.docs) c.self.view_is))
-    (c.requires.light docs e (sym (ap (λ v. v.docs) c.self.view_is) ∙ is)) in
-    subst (λ m. RowFits (merged_rows
-    (drop (length c.as_mut_slice.result.now - m) c.as_mut_slice.result.now)
-    (take m (drop (c.args.from * m) c.as_mut_slice.result.now))) most_values)
-    (sym c.len-width.ensures)
-    (subst (λ (l : List AggState). RowFits
-    (merged_rows (drop (length l - w) l) (take w (drop (c.args.from * w) l))) most_values)
+    let n : c.args.from < t.count = omega (arith, more) in
+    let in' : c.args.from < length docs = omega (arith, n, l) in
+    let at = region.doc_is t.count t.dims t.ids.items t.columns.items c.args.from n in
+    let shape = last.shape_at t.dims t.kinds docs c.args.from c.self.invariant.shape in' in
+    let zs = row_at t.columns.items c.args.from in
+    let kz = sym (ap (λ e. kinds_of e.1) at) ∙ shape.1 in
+    let sz = subst RowStored (ap (λ e. e.1) at)
+    (last.stored_at docs c.args.from c.self.invariant.stored in') in
+    let light = λ (front : List Doc) (e : Doc) (is : docs ≡ front ++ (e ∷ [])).
+    subst (λ (z : List AggState). row_weight e.1 + row_weight z ≤ most_stored)
+    (ap (λ v. (doc_at v.docs c.args.from).1) (sym c.self.view_is) ∙ ap (λ e. e.1) at)
+    (c.requires.light front e (sym (ap (λ v. v.docs) c.self.view_is) ∙ is)) in
+    let ys = merged_rows (row_at t.columns.items (t.count - 1)) zs in
+    subst (λ l. RowFits (merged_rows (row_at l (t.count - 1)) (row_at l c.args.from)) most_values)
     (sym c.as_mut_slice.ensures.value)
-    (steps.they_fit t.count t.dims t.kinds t.ids.items t.states.items t.spare _ _ c.self.invariant
-    some c.args.from more light))
+    (last.they_fit t.count t.dims t.kinds t.ids.items t.columns.items t.spare _ c.self.invariant
+    some zs kz sz light)
 
 pub invariant_of-self : goal.invariant_of-self
 invariant_of-self c =
     let t = c.self.inside in
-    let w = length t.kinds in
-    let more : c.args.from
-    + 1 < t.count = omega (
-      arith,
-      c.requires.from,
-      ap
-          (λ v. length v.docs) c.self.view_is,
-      length-docs_in t.count t.dims w t.ids.items
-          t.states.items,
-    ) in
+    let docs = docs_in t.count t.dims t.ids.items t.columns.items in
+    let l = region.length-docs_in t.count t.dims t.ids.items t.columns.items in
+    let more : c.args.from + 1 < t.count =
+    omega (arith, c.requires.from, ap (λ v. length v.docs) c.self.view_is, l) in
     let some : 0 < t.count = omega (arith, more) in
-    let light = λ (docs : List Doc) (e : Doc)
-    (is : docs_in t.count t.dims w t.ids.items t.states.items ≡ docs ++ (e ∷ [])).
-    subst (λ (l : List Doc). row_weight e.1 + row_weight (doc_at l c.args.from).1 ≤ most_stored)
-    (sym (ap (λ v. v.docs) c.self.view_is))
-    (c.requires.light docs e (sym (ap (λ v. v.docs) c.self.view_is) ∙ is)) in
-    let same : c.merge_into_last.new.states ≡ take (length t.states.items - w) t.states.items
-    ++ merged_rows (drop (length t.states.items - w) t.states.items)
-    (take w (drop (c.args.from * w) t.states.items)) =
-    c.merge_into_last.ensures
-    ∙ (λ i. let l = c.as_mut_slice.ensures.value i in let m = c.len-width.ensures i
-    in take (length l - m) l
-    ++ merged_rows (drop (length l - m) l) (take m (drop (c.args.from * m) l))) in
-    let long = steps.merged_length t.count t.dims t.kinds t.ids.items t.states.items t.spare _ _
-    c.self.invariant some c.args.from more light c.merge_into_last.new.states same in
-    let back : take t.states.len
-    (c.merge_into_last.new.states ++ drop (length c.merge_into_last.new.states) t.states.items)
-    ≡ c.merge_into_last.new.states =
-    steps.written t.states.len c.merge_into_last.new.states t.states.items
-    (omega (arith, long, t.states.ok.0)) (omega (arith, t.states.ok.0)) in
-    steps.merged_region t.count t.dims t.kinds t.ids.items t.states.items t.spare _ _
-    c.self.invariant some c.args.from more light _ (back ∙ same)
+    let n : c.args.from < t.count = omega (arith, more) in
+    let in' : c.args.from < length docs = omega (arith, n, l) in
+    let at = region.doc_is t.count t.dims t.ids.items t.columns.items c.args.from n in
+    let shape = last.shape_at t.dims t.kinds docs c.args.from c.self.invariant.shape in' in
+    let zs = row_at t.columns.items c.args.from in
+    let kz = sym (ap (λ e. kinds_of e.1) at) ∙ shape.1 in
+    let sz = subst RowStored (ap (λ e. e.1) at)
+    (last.stored_at docs c.args.from c.self.invariant.stored in') in
+    let light = λ (front : List Doc) (e : Doc) (is : docs ≡ front ++ (e ∷ [])).
+    subst (λ (z : List AggState). row_weight e.1 + row_weight z ≤ most_stored)
+    (ap (λ v. (doc_at v.docs c.args.from).1) (sym c.self.view_is) ∙ ap (λ e. e.1) at)
+    (c.requires.light front e (sym (ap (λ v. v.docs) c.self.view_is) ∙ is)) in
+    let ys = merged_rows (row_at t.columns.items (t.count - 1)) zs in
+    let made : c.merge_places.new.columns ≡ row_replaced (t.count - 1) t.columns.items ys =
+    c.merge_places.ensures
+    ∙ ap (λ l. row_replaced (t.count - 1) l (merged_rows (row_at l (t.count - 1))
+    (row_at l c.args.from))) c.as_mut_slice.ensures.value in
+    let new : take t.columns.len
+    (c.merge_places.new.columns ++ drop (length c.merge_places.new.columns) t.columns.items)
+    ≡ row_replaced (t.count - 1) t.columns.items ys =
+    last.replaced_back t.columns.len (t.count - 1) c.merge_places.new.columns t.columns.items ys
+    (omega (arith, t.columns.ok.0)) made in
+    last.merged_region t.count t.dims t.kinds t.ids.items t.columns.items t.spare _
+    c.self.invariant some zs kz sz light _ new
 
 pub returns : goal.returns
 returns c front e is =
     let t = c.self.inside in
-    let w = length t.kinds in
-    let more : c.args.from
-    + 1 < t.count = omega (
-      arith,
-      c.requires.from,
-      ap
-          (λ v. length v.docs) c.self.view_is,
-      length-docs_in t.count t.dims w t.ids.items
-          t.states.items,
-    ) in
+    let docs = docs_in t.count t.dims t.ids.items t.columns.items in
+    let l = region.length-docs_in t.count t.dims t.ids.items t.columns.items in
+    let more : c.args.from + 1 < t.count =
+    omega (arith, c.requires.from, ap (λ v. length v.docs) c.self.view_is, l) in
     let some : 0 < t.count = omega (arith, more) in
-    let light = λ (docs : List Doc) (e : Doc)
-    (is : docs_in t.count t.dims w t.ids.items t.states.items ≡ docs ++ (e ∷ [])).
-    subst (λ (l : List Doc). row_weight e.1 + row_weight (doc_at l c.args.from).1 ≤ most_stored)
-    (sym (ap (λ v. v.docs) c.self.view_is))
-    (c.requires.light docs e (sym (ap (λ v. v.docs) c.self.view_is) ∙ is)) in
-    let same : c.merge_into_last.new.states ≡ take (length t.states.items - w) t.states.items
-    ++ merged_rows (drop (length t.states.items - w) t.states.items)
-    (take w (drop (c.args.from * w) t.states.items)) =
-    c.merge_into_last.ensures
-    ∙ (λ i. let l = c.as_mut_slice.ensures.value i in let m = c.len-width.ensures i
-    in take (length l - m) l
-    ++ merged_rows (drop (length l - m) l) (take m (drop (c.args.from * m) l))) in
-    let long = steps.merged_length t.count t.dims t.kinds t.ids.items t.states.items t.spare _ _
-    c.self.invariant some c.args.from more light c.merge_into_last.new.states same in
-    let back : take t.states.len
-    (c.merge_into_last.new.states ++ drop (length c.merge_into_last.new.states) t.states.items)
-    ≡ c.merge_into_last.new.states =
-    steps.written t.states.len c.merge_into_last.new.states t.states.items
-    (omega (arith, long, t.states.ok.0)) (omega (arith, t.states.ok.0)) in
-    let docs = steps.merged_docs_are t.count t.dims t.kinds t.ids.items t.states.items t.spare _ _
-    c.self.invariant some c.args.from more light _ (back ∙ same) front e
-    (ap (λ v. v.docs) c.self.view_is ∙ is) in
-    let all = docs ∙ ap (λ v. front
-    ++ ((e.0, merged_rows e.1 (doc_at v.docs c.args.from).1) ∷ [])) c.self.view_is in
+    let n : c.args.from < t.count = omega (arith, more) in
+    let in' : c.args.from < length docs = omega (arith, n, l) in
+    let at = region.doc_is t.count t.dims t.ids.items t.columns.items c.args.from n in
+    let shape = last.shape_at t.dims t.kinds docs c.args.from c.self.invariant.shape in' in
+    let zs = row_at t.columns.items c.args.from in
+    let kz = sym (ap (λ e. kinds_of e.1) at) ∙ shape.1 in
+    let sz = subst RowStored (ap (λ e. e.1) at)
+    (last.stored_at docs c.args.from c.self.invariant.stored in') in
+    let light = λ (front : List Doc) (e : Doc) (is : docs ≡ front ++ (e ∷ [])).
+    subst (λ (z : List AggState). row_weight e.1 + row_weight z ≤ most_stored)
+    (ap (λ v. (doc_at v.docs c.args.from).1) (sym c.self.view_is) ∙ ap (λ e. e.1) at)
+    (c.requires.light front e (sym (ap (λ v. v.docs) c.self.view_is) ∙ is)) in
+    let ys = merged_rows (row_at t.columns.items (t.count - 1)) zs in
+    let made : c.merge_places.new.columns ≡ row_replaced (t.count - 1) t.columns.items ys =
+    c.merge_places.ensures
+    ∙ ap (λ l. row_replaced (t.count - 1) l (merged_rows (row_at l (t.count - 1))
+    (row_at l c.args.from))) c.as_mut_slice.ensures.value in
+    let new : take t.columns.len
+    (c.merge_places.new.columns ++ drop (length c.merge_places.new.columns) t.columns.items)
+    ≡ row_replaced (t.count - 1) t.columns.items ys =
+    last.replaced_back t.columns.len (t.count - 1) c.merge_places.new.columns t.columns.items ys
+    (omega (arith, t.columns.ok.0)) made in
+    let all = last.merged_docs_are t.count t.dims t.kinds t.ids.items t.columns.items t.spare _
+    c.self.invariant some zs kz sz light _ new front e (ap (λ v. v.docs) c.self.view_is ∙ is)
+    ∙ ap (λ (z : List AggState). front ++ ((e.0, merged_rows e.1 z) ∷ []))
+    (sym (ap (λ v. (doc_at v.docs c.args.from).1) (sym c.self.view_is) ∙ ap (λ e. e.1) at)) in
     λ i. record {
       dims = (c.self.view_is i).dims;
       kinds = (c.self.view_is i).kinds;
-      docs =
-          all i;
+      docs = all i;
       spare = (c.self.view_is i).spare;
     }

@@ -17,16 +17,16 @@ invariant_of-self c =
       ap
           (λ v. length v.docs) c.self.view_is,
       length-docs_in t.count t.dims
-          (length t.kinds) t.ids.items t.states.items,
+          t.ids.items t.columns.items,
     ) in
-    steps.starred_region t.count t.dims t.kinds t.ids.items t.states.items t.spare _ _
+    steps.starred_region t.count t.dims t.kinds t.ids.items t.columns.items t.spare _
     c.self.invariant some c.args.level
     (omega (arith, c.if-level-self.false))
 
 pub returns-then-level-self : goal.returns-then-level-self
 returns-then-level-self c front e is =
     let t = c.self.inside in
-    let there : docs_in t.count t.dims (length t.kinds) t.ids.items t.states.items
+    let there : docs_in t.count t.dims t.ids.items t.columns.items
     ≡ front ++ (e ∷ []) = ap (λ v. v.docs) c.self.view_is ∙ is in
     let shape = steps.shape_last t.dims t.kinds front e
     (subst (HaveShape t.dims t.kinds) there c.self.invariant.shape) in
@@ -50,9 +50,9 @@ returns c front e is =
       ap
           (λ v. length v.docs) c.self.view_is,
       length-docs_in t.count t.dims
-          (length t.kinds) t.ids.items t.states.items,
+          t.ids.items t.columns.items,
     ) in
-    let docs = steps.starred_docs t.count t.dims t.kinds t.ids.items t.states.items t.spare _ _
+    let docs = steps.starred_docs t.count t.dims t.kinds t.ids.items t.columns.items t.spare _
     c.self.invariant some c.args.level
     (omega (arith, c.if-level-self.false))
     front e (ap (λ v. v.docs) c.self.view_is ∙ is) in

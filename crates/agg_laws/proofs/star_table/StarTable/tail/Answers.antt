@@ -1,19 +1,22 @@
-use Rattle.std.proofs.Common.{◌≡◌, ◌+◌, ◌*◌, ◌-◌, ◌≤◌, length, drop, sym, ap, subst, ◌∙◌, arith, rules}
+use Rattle.std.proofs.Common.{◌≡◌, ◌*◌, ◌-◌, ◌≤◌, length, drop, map, sym, ap, subst, ◌∙◌, arith, rules}
 use Rattle.agg_laws.specs.Docs.{Docs}
+use Rattle.agg_laws.specs.Columns.{AreColumns}
+use Rattle.agg_laws.specs.Columns.{column_tail}
 use Rattle.agg_laws.specs.Region.{docs_in}
-use Rattle.agg_laws.proofs.RegionLemmas.{length-docs_in}
+use Rattle.agg_laws.proofs.RegionLemmas as region
 use Rattle.agg_laws.proofs.TailSteps as steps
 use Rattle.agg_laws.proofs.star_table.StarTable.tail.Goals as goal
 
 pub overflow_sub-result : goal.overflow_sub-result
 overflow_sub-result c =
     let t = c.self.inside in
-    omega (
+    let le : c.args.from ≤ t.count = omega (
       arith,
       c.requires,
       ap (λ v. length v.docs) c.self.view_is,
-      length-docs_in t.count t.dims (length t.kinds) t.ids.items t.states.items,
-    )
+      region.length-docs_in t.count t.dims t.ids.items t.columns.items,
+    ) in
+    le
 
 pub rest-requires : goal.rest-requires
 rest-requires c =
@@ -22,23 +25,28 @@ rest-requires c =
       arith,
       c.requires,
       ap (λ v. length v.docs) c.self.view_is,
-      length-docs_in t.count t.dims (length t.kinds) t.ids.items t.states.items,
+      region.length-docs_in t.count t.dims t.ids.items t.columns.items,
     ) in
     steps.front_there c.args.from t.count t.dims (length c.deref.result.now) le
     (ap length c.deref.ensures.value ∙ c.self.invariant.ids_are)
 
-pub rest-requires-2 : goal.rest-requires-2
-rest-requires-2 c =
+pub tail_columns-requires-clause-from : goal.tail_columns-requires-clause-from
+tail_columns-requires-clause-from c =
     let t = c.self.inside in
     let le : c.args.from ≤ t.count = omega (
       arith,
       c.requires,
       ap (λ v. length v.docs) c.self.view_is,
-      length-docs_in t.count t.dims (length t.kinds) t.ids.items t.states.items,
+      region.length-docs_in t.count t.dims t.ids.items t.columns.items,
     ) in
-    steps.front_there c.args.from t.count c.len.result (length c.deref-2.result.now) le
-    (ap length c.deref-2.ensures.value ∙ c.self.invariant.states_are
-    ∙ ap (λ w. t.count * w) (sym c.len.ensures))
+    le
+
+pub tail_columns-requires-clause-long : goal.tail_columns-requires-clause-long
+tail_columns-requires-clause-long c =
+    let t = c.self.inside in
+    subst (AreColumns t.count 0) (sym c.as_slice.ensures.value)
+    (region.some_room t.count t.spare t.count 0 t.columns.items c.self.invariant.columns_are
+    (λ _. t.count) (omega arith))
 
 pub invariant_of-result : goal.invariant_of-result
 invariant_of-result c =
@@ -47,26 +55,35 @@ invariant_of-result c =
       arith,
       c.requires,
       ap (λ v. length v.docs) c.self.view_is,
-      length-docs_in t.count t.dims (length t.kinds) t.ids.items t.states.items,
+      region.length-docs_in t.count t.dims t.ids.items t.columns.items,
     ) in
-    steps.tail_region c.args.from t.count t.dims t.kinds t.ids.items t.states.items t.spare _ _ _ _
-    c.in_ok-from_slice.field-0.items c.in_ok-from_slice-2.field-0.items c.in_ok-copy.field-0
-    c.self.invariant le c.in_ok-copy.ensures
-    (c.in_ok-from_slice.ensures.items ∙ c.rest.ensures
-    ∙ ap (drop (c.args.from * t.dims)) c.deref.ensures.value)
-    (c.in_ok-from_slice-2.ensures.items ∙ c.rest-2.ensures
-    ∙ (λ i. drop (c.args.from * c.len.ensures i) (c.deref-2.ensures.value i)))
-    (search rules) (search rules)
+    let is : c.in_ok-from_slice.field-0.items ≡ drop (c.args.from * t.dims) t.ids.items =
+    c.in_ok-from_slice.ensures.items ∙ c.rest.ensures
+    ∙ ap (drop (c.args.from * t.dims)) c.deref.ensures.value in
+    let js : c.in_ok-tail_columns.field-0.items ≡ map (column_tail c.args.from) t.columns.items =
+    c.in_ok-tail_columns.ensures
+    ∙ ap (λ l. map (column_tail c.args.from) l) c.as_slice.ensures.value in
+    steps.tail_region c.args.from t.count t.dims t.kinds t.ids.items t.columns.items t.spare _ _
+    c.in_ok-from_slice.field-0.items c.in_ok-tail_columns.field-0.items c.in_ok-copy.field-0
+    c.self.invariant le c.in_ok-copy.ensures is js (search rules)
 
 pub returns : goal.returns
 returns c =
     let t = c.self.inside in
-    let docs = (λ i. docs_in (t.count - c.args.from) t.dims (length (c.in_ok-copy.ensures i))
-    ((c.in_ok-from_slice.ensures.items ∙ c.rest.ensures
-    ∙ ap (drop (c.args.from * t.dims)) c.deref.ensures.value) i)
-    ((c.in_ok-from_slice-2.ensures.items ∙ c.rest-2.ensures
-    ∙ (λ i. drop (c.args.from * c.len.ensures i) (c.deref-2.ensures.value i))) i))
-    ∙ steps.docs_drop c.args.from t.count t.dims (length t.kinds) t.ids.items t.states.items
+    let le : c.args.from ≤ t.count = omega (
+      arith,
+      c.requires,
+      ap (λ v. length v.docs) c.self.view_is,
+      region.length-docs_in t.count t.dims t.ids.items t.columns.items,
+    ) in
+    let is : c.in_ok-from_slice.field-0.items ≡ drop (c.args.from * t.dims) t.ids.items =
+    c.in_ok-from_slice.ensures.items ∙ c.rest.ensures
+    ∙ ap (drop (c.args.from * t.dims)) c.deref.ensures.value in
+    let js : c.in_ok-tail_columns.field-0.items ≡ map (column_tail c.args.from) t.columns.items =
+    c.in_ok-tail_columns.ensures
+    ∙ ap (λ l. map (column_tail c.args.from) l) c.as_slice.ensures.value in
+    let docs = (λ i. docs_in (t.count - c.args.from) t.dims (is i) (js i))
+    ∙ steps.docs_drop c.args.from t.count t.dims t.ids.items t.columns.items le
     ∙ ap (λ (v : Docs). drop c.args.from v.docs) c.self.view_is in
     λ i. record {
       dims = (c.self.view_is i).dims;

@@ -1,4 +1,4 @@
-use Rattle.std.proofs.Common.{◌≡◌, ℕ, ◌<◌, ◌-◌, ◌^◌, List, ap, subst, ◌∙◌, arith}
+use Rattle.std.proofs.Common.{ℕ, ◌<◌, ◌-◌, ◌^◌, List, ap, subst, ◌∙◌, arith}
 use Rattle.agg_laws.specs.Tree.{set_star}
 use Rattle.agg_laws.specs.Packing.{pack, AreWithin}
 use Rattle.agg_laws.proofs.PackSteps as steps

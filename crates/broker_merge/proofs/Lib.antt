@@ -1,0 +1,4 @@
+pub mod OrderLemmas
+pub mod RankLemmas
+pub mod FewLemmas
+pub mod AnswerLemmas

@@ -1,0 +1,194 @@
+-- What groups are compared by orders them as the groups are.
+use Rattle.std.proofs.Common.{◌≡◌, ◌∙◌, ℕ, zero, suc, ◌+◌, ◌*◌, ◌<◌, Bool, true, false, List, [], ◌∷◌, ◌++◌, map, flat_map, length, take, drop, get_or, IsPermutation, Some, refl, sym, ap, subst, arith, length-append}
+use Rattle.std.specs.declared.cmp.Ordering.{Ordering}
+use Rattle.std.specs.declared.cmp.Ordering.TheVariants.{Less, Equal, Greater}
+use Rattle.std.specs.Ordering.{ordering_then, is_lt, nat_cmp}
+use Rattle.std.specs.Borrow.{Bor}
+use Rattle.std.specs.Fork.{slice_chunk}
+use Rattle.std.specs.List.Sorted.{IsSorted}
+use Rattle.std.specs.Cmp.Lexicographic.{slice_cmp}
+use Rattle.std.specs.List.{All, AllByRecursion, slice_get, range_with_len}
+use Rattle.std.proofs.lemmas.List.{length-map, map-append, get_or-map}
+use Rattle.std.proofs.lemmas.List.Elements.{All-push}
+use Rattle.std.proofs.lemmas.List.FromFn.{map-range_with_len_more, length-range_with_len, get_or-range_with_len, fill_by_all}
+use Rattle.std.proofs.lemmas.List.Sorted.{IsPermutation-map, All-permutation}
+use Rattle.std.proofs.Math.Seq.{drop-append-add, take-append_seam}
+use Rattle.agg_laws.specs.declared.states.AggState.{AggState}
+use Rattle.agg_laws.specs.Numbers.{most_values}
+use Rattle.agg_laws.specs.Rows.{RowFits}
+use Rattle.table_schema.specs.declared.query.Item.{Item}
+use Rattle.table_schema.specs.declared.query.Item.TheVariants as item
+use Rattle.table_schema.specs.declared.query.OrderKey.{OrderKey}
+use Rattle.group_table.specs.Groups.{Group, key_order}
+use Rattle.group_table.specs.Kept.{KeptGroups, IsGroup, IsTable, HaveValues, group_at}
+use Rattle.broker_merge.specs.Order.{item_order, directed, group_order}
+use Rattle.broker_merge.specs.Rank.{Placed, IsFair, placed_order, turned_order, seen_order, seen_at, placed_at, places_of, key_place}
+use Rattle.broker_merge.specs.Ranked.{AreRanked, AreInOrder}
+use Rattle.broker_merge.proofs.OrderLemmas.{is_in_order}
+
+-- ---- the groups of a table
+
+at_place : (P : Group → Type 0) (gs : List Group) (i : ℕ) (d : Group) → AllByRecursion P gs → i < length gs → P (get_or gs i d)
+at_place P [] i d h lt = absurd (omega arith)
+at_place P (g ∷ gs) zero d h lt = h.0
+at_place P (g ∷ gs) (suc i) d h lt = at_place P gs i d h.1 (omega arith)
+
+pub each_group : (t : KeptGroups) (at : ℕ) → IsTable t → at < length t.groups → IsGroup t.columns t.kinds (group_at t at)
+each_group t at table lt = at_place (IsGroup t.columns t.kinds) t.groups at ([], []) table.each lt
+
+fair_at : (states : List AggState) (i : ℕ) (s : AggState) → HaveValues states → RowFits states most_values → slice_get states i ≡ Some s → IsFair s
+fair_at [] i s h f e = cc
+fair_at (v ∷ vs) zero s h f e = let is : v ≡ s = cc in subst IsFair is (record { values = h.0; fits = f.0 })
+fair_at (v ∷ vs) (suc i) s h f e = fair_at vs i s h.1 f.1 e
+
+-- each aggregate of a group can be compared, where there are group columns
+pub fair_state : (t : KeptGroups) (at i : ℕ) (s : AggState) → IsTable t → at < length t.groups → 0 < t.columns
+    → slice_get (group_at t at).1 i ≡ Some s → IsFair s
+fair_state t at i s table lt some e =
+    let group = each_group t at table lt in
+    fair_at (group_at t at).1 i s (group.values some) group.fits e
+
+-- ---- the order
+
+then_none : (o : Ordering) → ordering_then o Equal ≡ o
+then_none Less = refl
+then_none Equal = refl
+then_none Greater = refl
+
+at_item : (i : Item) (a b : Group) → seen_order (seen_at a i) (seen_at b i) ≡ item_order i a b
+at_item (item.Group place) a b = refl
+at_item (item.Agg place) a b = refl
+
+at_key : (d : Bool) (i : Item) (a b : Group) → turned_order d d (seen_at a i) (seen_at b i) ≡ directed d (item_order i a b)
+at_key false i a b = at_item i a b
+at_key true i a b = ap (directed true) (at_item i a b)
+
+pub same_order : (order : List OrderKey) (a b : Group) → slice_cmp placed_order (places_of order a) (places_of order b) ≡ group_order order a b
+same_order [] a b = then_none (key_order a.0 b.0)
+same_order (k ∷ ks) a b = λ i. ordering_then (at_key k.descending k.item a b i) (same_order ks a b i)
+
+-- ---- shares of a list that is made of lists of one length
+
+pub length_places : (order : List OrderKey) (g : Group) → length (places_of order g) ≡ length order + 1
+length_places order g = length-append (map (placed_at g) order) (key_place g ∷ []) ∙ ap (λ n. n + 1) (length-map order (placed_at g))
+
+times_suc : (n w : ℕ) → suc n * w ≡ w + n * w
+times_suc n w = omega arith
+
+module _ {X A : Type 0} (f : X → List A) (w : ℕ) (each : (x : X) → length (f x) ≡ w) where
+  pub length_shares : (xs : List X) → length (flat_map f xs) ≡ length xs * w
+  length_shares [] = let e : 0 ≡ 0 * w = omega arith in e
+  length_shares (x ∷ xs) = length-append (f x) (flat_map f xs) ∙ (λ i. each x i + length_shares xs i) ∙ sym (times_suc (length xs) w)
+
+  pub share : (xs : List X) (i : ℕ) (d : X) → i < length xs → slice_chunk (flat_map f xs) w i ≡ f (get_or xs i d)
+  share [] i d lt = absurd (omega arith)
+  share (x ∷ xs) zero d lt =
+      let none : 0 * w ≡ 0 = omega arith in
+      ap (λ n. take w (drop n (f x ++ flat_map f xs))) none
+      ∙ ap (λ n. take n (f x ++ flat_map f xs)) (sym (each x)) ∙ take-append_seam (f x) (flat_map f xs)
+  share (x ∷ xs) (suc i) d lt =
+      ap (λ n. take w (drop n (f x ++ flat_map f xs))) (times_suc i w ∙ ap (λ n. n + i * w) (sym (each x)))
+      ∙ ap (take w) (drop-append-add (f x) (flat_map f xs) (i * w)) ∙ share xs i d (omega arith)
+
+-- ---- groups ranked
+
+map_same : (xs : List ℕ) → map (λ k. k) xs ≡ xs
+map_same [] = refl
+map_same (x ∷ xs) = ap (λ l. x ∷ l) (map_same xs)
+
+range_more : (n : ℕ) → range_with_len 0 (n + 1) ≡ range_with_len 0 n ++ n ∷ []
+range_more n = sym (map_same (range_with_len 0 (n + 1))) ∙ map-range_with_len_more (λ k. k) 0 n n (omega arith)
+    ∙ ap (λ l. l ++ n ∷ []) (map_same (range_with_len 0 n))
+
+abbrev pub Entry : Type 0
+Entry = Bor (List Placed) × ℕ
+
+pub pushed : (places : List Placed) (w k : ℕ) (ranked : List Entry) (r : Entry) → AreRanked places w k ranked
+    → r.0.now ≡ slice_chunk places w k → r.1 ≡ k → AreRanked places w (k + 1) (ranked ++ r ∷ [])
+pushed places w k ranked r h shown at = record {
+  each = All-push (λ (r : Entry). r.0.now ≡ slice_chunk places w r.1) ranked r h.each (shown ∙ ap (slice_chunk places w) (sym at));
+  all = map-append (λ (r : Entry). r.1) ranked (r ∷ []) ∙ (λ i. h.all i ++ at i ∷ []) ∙ sym (range_more k);
+}
+
+pub all_below : (n : ℕ) → All (λ k. k < n) (range_with_len 0 n)
+all_below n k d lt =
+    let short : k < n = subst (λ m. k < m) (length-range_with_len 0 n) lt in
+    let is : get_or (range_with_len 0 n) k d ≡ 0 + k = get_or-range_with_len 0 n k d short in
+    omega arith
+
+pub all_groups : (t : KeptGroups) → t.groups ≡ map (group_at t) (range_with_len 0 (length t.groups))
+all_groups t = fill_by_all (group_at t) t.groups (length t.groups) ([], []) refl (λ k lt. refl)
+
+then_less : (a b : Ordering) → is_lt (ordering_then a b) ≡ false → is_lt a ≡ false
+then_less Less b e = e
+then_less Equal b e = refl
+then_less Greater b e = refl
+
+first_entry : (l : List Entry) → 0 < length l → Entry
+first_entry [] h = absurd (omega arith)
+first_entry (x ∷ xs) h = x
+
+-- what ranks the entries
+abbrev pub entry_order : Entry → Entry → Ordering
+entry_order a b = ordering_then (slice_cmp placed_order a.0.now b.0.now) (nat_cmp a.1 b.1)
+
+module _ (t : KeptGroups) (order : List OrderKey) where
+  abbrev all_places : List Placed
+  all_places = flat_map (places_of order) t.groups
+
+  same_width : (g : Group) → length (places_of order g) ≡ length order + 1
+  same_width = length_places order
+
+  shows : (r : Entry) → r.1 < length t.groups → r.0.now ≡ slice_chunk all_places (length order + 1) r.1 → r.0.now ≡ places_of order (group_at t r.1)
+  shows r lt is = is ∙ share (places_of order) (length order + 1) (same_width) t.groups r.1 ([], []) lt
+
+  ranks : (b a : Entry) → b.1 < length t.groups → a.1 < length t.groups
+      → b.0.now ≡ slice_chunk all_places (length order + 1) b.1 → a.0.now ≡ slice_chunk all_places (length order + 1) a.1
+      → group_order order (group_at t b.1) (group_at t a.1) ≡ slice_cmp placed_order b.0.now a.0.now
+  ranks b a p q x y = sym ((λ i. slice_cmp placed_order (shows b p x i) (shows a q y i)) ∙ same_order order (group_at t b.1) (group_at t a.1))
+
+  at_place_of : (l : List Entry) (k : ℕ) (d : Group) (e : Entry) → k < length l
+      → get_or (map (group_at t) (map (λ (r : Entry). r.1) l)) k d ≡ group_at t (get_or l k e).1
+  at_place_of l k d e lt =
+      let lt' : k < length (map (λ (r : Entry). r.1) l) = subst (λ n. k < n) (sym (length-map l (λ (r : Entry). r.1))) lt in
+      get_or-map (group_at t) (map (λ (r : Entry). r.1) l) k 0 d lt' ∙ ap (group_at t) (get_or-map (λ (r : Entry). r.1) l k e 0 lt)
+
+  -- sorted entries are the places in order
+  pub in_order_places : (ranked new : List Entry) → IsTable t → AreRanked all_places (length order + 1) (length t.groups) ranked
+      → IsPermutation ranked new → IsSorted entry_order new → AreInOrder t order (map (λ (r : Entry). r.1) new)
+  in_order_places ranked new table h p s = record {
+    below = below;
+    groups = is_in_order order t.groups groups (subst (λ (es : List Group). IsPermutation es groups) (sym (all_groups t)) same) table.once sorted;
+  }
+    where
+      places : List ℕ
+      places = map (λ (r : Entry). r.1) new
+
+      moved : IsPermutation (range_with_len 0 (length t.groups)) places
+      moved = subst (λ (l : List ℕ). IsPermutation l places) h.all (IsPermutation-map (λ (r : Entry). r.1) ranked new p)
+
+      below : All (λ k. k < length t.groups) places
+      below = All-permutation (λ k. k < length t.groups) (range_with_len 0 (length t.groups)) places moved (all_below (length t.groups))
+
+      groups : List Group
+      groups = map (group_at t) places
+
+      same : IsPermutation (map (group_at t) (range_with_len 0 (length t.groups))) groups
+      same = IsPermutation-map (group_at t) (range_with_len 0 (length t.groups)) places moved
+
+      each : All (λ (r : Entry). r.0.now ≡ slice_chunk all_places (length order + 1) r.1) new
+      each = All-permutation (λ (r : Entry). r.0.now ≡ slice_chunk all_places (length order + 1) r.1) ranked new p h.each
+
+      sorted : IsSorted (group_order order) groups
+      sorted k d low lt =
+          let len : length groups ≡ length new = length-map places (group_at t) ∙ length-map new (λ (r : Entry). r.1) in
+          let lt' : k + 1 < length new = omega arith in
+          let e = first_entry new (omega arith) in
+          (λ i. is_lt (group_order order (at_place_of new (k + 1) d e lt' i) (at_place_of new k d e (omega arith) i)))
+          ∙ then_less (group_order order (group_at t (get_or new (k + 1) e).1) (group_at t (get_or new k e).1)) (nat_cmp (get_or new (k + 1) e).1 (get_or new k e).1)
+          ((λ i. is_lt (ordering_then (ranks (get_or new (k + 1) e) (get_or new k e)
+          (below_at (k + 1) e lt') (below_at k e (omega arith)) (each (k + 1) e lt') (each k e (omega arith)) i) (nat_cmp (get_or new (k + 1) e).1 (get_or new k e).1)))
+          ∙ s k e low lt')
+        where
+          below_at : (k : ℕ) (e : Entry) → k < length new → (get_or new k e).1 < length t.groups
+          below_at k e lt = subst (λ j. j < length t.groups) (get_or-map (λ (r : Entry). r.1) new k e 0 lt) (below k 0 (subst (λ n. k < n) (sym (length-map new (λ (r : Entry). r.1))) lt))

@@ -1,0 +1,22 @@
+use Rattle.std.proofs.Common.{◌≡◌, ◌∙◌, ap, map, take, drop}
+use Rattle.table_schema.specs.declared.query.BoundQuery.{BoundQuery}
+use Rattle.group_table.specs.Kept.{KeptGroups, group_at}
+use Rattle.broker_merge.specs.Answer.{item_cell}
+use Rattle.broker_merge.proofs.AnswerLemmas.{rows_are}
+use Rattle.broker_merge.proofs.rows.finish.Goals as goal
+
+pub rows_of-requires-clause-table : goal.rows_of-requires-clause-table
+rows_of-requires-clause-table c = c.places_in_order.ensures.table
+
+pub returns : goal.returns
+returns c =
+    let t : KeptGroups = c.args.table.now in
+    let q : BoundQuery = c.args.query.now in
+    let written : c.written_of-written.result.now ≡ take q.limit (drop q.offset c.in_ok-places.places.items) =
+    c.written_of-written.ensures ∙ ap (λ l. take q.limit (drop q.offset l)) c.deref.ensures.value in
+    let made : c.in_ok-rows.rows ≡ map (λ at. map (item_cell (group_at t at)) c.as_slice.result.now) c.written_of-written.result.now = c.in_ok-rows.ensures in
+    let rows = made ∙ ap (λ l. map (λ at. map (item_cell (group_at t at)) l) c.written_of-written.result.now) c.as_slice.ensures
+    ∙ ap (map (λ at. map (item_cell (group_at t at)) q.items)) written
+    ∙ rows_are t q.order q.items q.limit q.offset c.in_ok-places.places.items c.in_ok-places.ensures.order in
+    let labels : c.in_ok-labels.labels ≡ q.labels = c.in_ok-labels.ensures ∙ c.as_slice-2.ensures in
+    λ i. record { labels = labels i; rows = rows i }

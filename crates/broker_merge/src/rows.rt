@@ -1,0 +1,158 @@
+//! From the groups of a table to an answer.
+
+ghost use Rattle.std.specs.Prelude.{◌≡◌, ◌<◌, IfOk, length, map, take, drop};
+ghost use Rattle.std.specs.List.{All, range_with_len};
+ghost use Rattle.group_table.specs.Kept.{IsTable, IsTableOf, group_at, groups_in};
+ghost use Rattle.group_table.specs.Shape.{shape_of};
+ghost use Rattle.broker_merge.specs.Answer as spec;
+ghost use Rattle.broker_merge.specs.Answer.{NamesPlaces};
+ghost use Rattle.broker_merge.specs.Rank.{IsItem};
+ghost use Rattle.broker_merge.specs.Ranked.{AreInOrder};
+
+use crate::answer::{Answer, Cell};
+use crate::order::ordered;
+use agg_laws::AggState;
+use group_table::GroupTable;
+use std::alloc::Global;
+use table_schema::{BoundQuery, Item};
+use values::{Name, NoMemory, Seq};
+
+/// The answer of a query over the groups of its table: in order, those that are passed over left
+/// out, and no more than the query asks for.
+pub fn finish(alloc: Global, table: &GroupTable, query: &BoundQuery) -> Result<Answer, NoMemory>
+    requires table { IsTableOf query.now table.now }
+    requires places { NamesPlaces query.now }
+    ensures { IfOk result (λ answer.
+        answer ≡ spec.answer_of (shape_of query.now) (groups_in table.now)) }
+{
+    let places = places_in_order(alloc, table, query)?;
+    let written = written_of(&places, query.offset, query.limit);
+    let rows = rows_of(alloc, table, written, query.items.as_slice())?;
+    let labels = copy_labels(alloc, query.labels.as_slice())?;
+    Ok(Answer { labels, rows })
+}
+
+// The places of the groups in order. Fewer than two are in order as they are.
+fn places_in_order(
+    alloc: Global,
+    table: &GroupTable,
+    query: &BoundQuery,
+) -> Result<Vec<u32>, NoMemory>
+    requires table { IsTableOf query.now table.now }
+    requires places { NamesPlaces query.now }
+    ensures order { IfOk result (λ v. AreInOrder table.now query.now.order v.items) }
+    ensures table { IsTable table.now }
+{
+    let count = table.groups();
+    if count < 2 {
+        first_places(alloc, count)
+    } else {
+        ordered(alloc, table, query.order.as_slice())
+    }
+}
+
+// The places of so few groups.
+fn first_places(alloc: Global, count: u32) -> Result<Vec<u32>, NoMemory>
+    requires { count < 2 }
+    ensures { IfOk result (λ v. v.items ≡ range_with_len 0 count) }
+{
+    let mut places = Vec::new(alloc);
+    if count == 1 {
+        places.push(0)?;
+    }
+    Ok(places)
+}
+
+// Those after so many, and no more than so many.
+fn written_of(places: &[u32], offset: u64, limit: u64) -> &[u32]
+    ensures { result.now ≡ take limit (drop offset places.now) }
+{
+    let start = offset.min(places.len() as u64) as usize;
+    let rest = &places[start..];
+    let count = limit.min(rest.len() as u64) as usize;
+    &rest[..count]
+}
+
+// The labels of the columns; their texts are shared.
+fn copy_labels(alloc: Global, labels: &[Name]) -> Result<Seq<Name>, NoMemory>
+    ensures { IfOk result (λ copy. copy ≡ labels.now) }
+{
+    let mut copy = Seq::with_capacity(alloc, labels.len())?;
+    for label in labels {
+        copy.push(label.copy()?)?;
+    }
+    Ok(copy)
+}
+
+// What is written of the groups at these places.
+fn rows_of(
+    alloc: Global,
+    table: &GroupTable,
+    places: &[u32],
+    items: &[Item],
+) -> Result<Seq<Seq<Cell>>, NoMemory>
+    requires table { IsTable table.now }
+    requires places { All (λ at. at < length table.now.groups) places.now }
+    requires items { All (IsItem table.now) items.now }
+    ensures { IfOk result (λ rows. rows
+        ≡ map (λ at. map (spec.item_cell (group_at table.now at)) items.now) places.now) }
+{
+    let mut rows = Seq::with_capacity(alloc, places.len())?;
+    for at in places {
+        rows.push(row_of(alloc, table, *at, items)?)?;
+    }
+    Ok(rows)
+}
+
+// What is written of a group.
+fn row_of(alloc: Global, table: &GroupTable, at: u32, items: &[Item]) -> Result<Seq<Cell>, NoMemory>
+    requires table { IsTable table.now }
+    requires at { at < length table.now.groups }
+    requires items { All (IsItem table.now) items.now }
+    ensures { IfOk result (λ row. row
+        ≡ map (spec.item_cell (group_at table.now at)) items.now) }
+{
+    let mut row = Seq::with_capacity(alloc, items.len())?;
+    for item in items {
+        row.push(cell_at(alloc, table, at, *item)?)?;
+    }
+    Ok(row)
+}
+
+// What is written of a group in one column.
+fn cell_at(alloc: Global, table: &GroupTable, at: u32, item: Item) -> Result<Cell, NoMemory>
+    requires table { IsTable table.now }
+    requires at { at < length table.now.groups }
+    requires item { IsItem table.now item }
+    ensures { IfOk result (λ cell. cell ≡ spec.item_cell (group_at table.now at) item) }
+{
+    match item {
+        Item::Group(place) => {
+            let value = table.key_at(at).at(place as usize).copy(alloc)?;
+            Ok(Cell::Kept(value))
+        }
+        Item::Agg(place) => Ok(state_cell(table.state_at(at, place))),
+    }
+}
+
+// What is written of an aggregate.
+fn state_cell(state: &AggState) -> Cell
+    ensures { result ≡ spec.state_cell state.now }
+{
+    match *state {
+        AggState::Count(count) => Cell::Whole(i128::from(count)),
+        AggState::Sum(sum) => Cell::Whole(sum),
+        AggState::Least(least) => number_cell(least),
+        AggState::Greatest(greatest) => number_cell(greatest),
+        AggState::Average(average) => Cell::Fraction(average.sum, average.count),
+    }
+}
+
+fn number_cell(number: Option<i64>) -> Cell
+    ensures { result ≡ spec.number_cell number }
+{
+    match number {
+        Some(number) => Cell::Whole(i128::from(number)),
+        None => Cell::Null,
+    }
+}

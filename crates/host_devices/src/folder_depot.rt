@@ -1,0 +1,112 @@
+//! Depots over real folders.
+ghost use Rattle.std.specs.Prelude.{◌≡◌, ◌≤◌, None, IsErrOf};
+ghost use Rattle.outside.specs.Counts.{Rose};
+
+use crate::folder_files::count_read;
+use crate::folder_parts::{FolderParts, is_published_name};
+use outside::{Depot, DepotFault, Name, Seq, Shelf, ShelfFault};
+use std::alloc::Global;
+use std::rt::Files;
+
+/// A depot over a folder. A published file is a plain file of the folder, and part `P` is the file
+/// `P.part` there; what is published goes to its name by one rename. Files that end in `.part`, folders
+/// and names that are not UTF-8 are no published files. Names are not paths: one that is empty, `.`
+/// or `..`, or has a `/` or a NUL, has no file and cannot be written. The depot tells nothing of
+/// content, and keeps the file that was read last and the part that was written last open.
+#[derive(Drop)]
+pub struct FolderDepot<R: Files + AllocGlobal + Clone + Drop> {
+    parts: FolderParts<R>,
+    read_faults: u64,
+    write_faults: u64,
+}
+
+impl<R: Files + AllocGlobal + Clone + Drop> FolderDepot<R> {
+    /// A depot over the folder at this path, which must be there.
+    pub fn new(rt: R, folder: String) -> Self {
+        FolderDepot {
+            parts: FolderParts::new(rt, folder),
+            read_faults: 0,
+            write_faults: 0,
+        }
+    }
+}
+
+// Counts a failed call.
+fn count_write(faults: &mut u64, answer: Result<(), DepotFault>) -> Result<(), DepotFault>
+    ensures answer { result ≡ answer }
+    ensures later { faults.old ≤ faults.new }
+    ensures rose { IsErrOf answer DepotFault.Failed → Rose faults.old faults.new }
+    ensures still { ¬ IsErrOf answer DepotFault.Failed → faults.new ≡ faults.old }
+{
+    if let Err(DepotFault::Failed) = answer {
+        *faults = faults.saturating_add(1);
+    }
+    answer
+}
+
+impl<R: Files + AllocGlobal + Clone + Drop> Shelf for FolderDepot<R> {
+    ghost held = { λ _. None };
+
+    ghost parts = { λ _. None };
+
+    ghost log = { λ _. None };
+
+    ghost read_faults = { λ depot. depot.read_faults };
+
+    ghost write_faults = { λ depot. depot.write_faults };
+
+    fn names(&mut self, alloc: Global) -> Result<Seq<Name>, ShelfFault> {
+        let answer = self.parts.files.names(alloc);
+        let mut names = count_read(&mut self.read_faults, answer)?;
+        names.retain(|name| is_published_name(name.as_str()));
+        Ok(Seq::from_vec(names))
+    }
+
+    fn length(&mut self, alloc: Global, name: &str) -> Result<u64, ShelfFault> {
+        if !is_published_name(name) {
+            return Err(ShelfFault::Missing);
+        }
+        let answer = self.parts.files.length(alloc, name);
+        count_read(&mut self.read_faults, answer)
+    }
+
+    fn read_at(
+        &mut self,
+        alloc: Global,
+        name: &str,
+        offset: u64,
+        into: &mut [u8],
+    ) -> Result<usize, ShelfFault> {
+        if !is_published_name(name) {
+            return Err(ShelfFault::Missing);
+        }
+        let answer = self.parts.files.read_at(alloc, name, offset, into);
+        count_read(&mut self.read_faults, answer)
+    }
+}
+
+impl<R: Files + AllocGlobal + Clone + Drop> Depot for FolderDepot<R> {
+    ghost use Rattle.outside.specs.Told.{tells_neither};
+
+    ghost tells_both = { λ _. tells_neither };
+
+    fn begin(&mut self, alloc: Global, part: &str) -> Result<(), DepotFault> {
+        let answer = self.parts.begin(alloc, part);
+        count_write(&mut self.write_faults, answer)
+    }
+
+    fn append(&mut self, alloc: Global, part: &str, bytes: &[u8]) -> Result<(), DepotFault> {
+        let answer = self.parts.append(alloc, part, bytes);
+        count_write(&mut self.write_faults, answer)
+    }
+
+    fn publish(&mut self, alloc: Global, part: &str, name: &str) -> Result<(), DepotFault> {
+        let answer = self.parts.publish(alloc, part, name);
+        count_write(&mut self.write_faults, answer)
+    }
+
+    fn remove(&mut self, alloc: Global, name: &str) -> Result<(), DepotFault> {
+        let answer = self.parts.remove(alloc, name);
+        count_write(&mut self.write_faults, answer)
+    }
+}

@@ -1,0 +1,88 @@
+//! Whether a row of a table of numbers satisfies a conjunct of a query.
+
+ghost use Rattle.std.specs.Prelude.{◌≡◌, ◌≤◌, MatchOption, length};
+ghost use Rattle.values.specs.Columns.{row_of};
+ghost use Rattle.values.specs.Tests.{holds};
+ghost use Rattle.values.specs.declared.value.Value.TheVariants as value;
+ghost use Rattle.table_schema.specs.Conditions as spec;
+ghost use Rattle.scan_engine.specs.Numbers.{AreNumbers};
+ghost use Rattle.scan_engine.specs.Selection.{AreNumbersOf};
+
+use table_schema::{Conjunct, Wide};
+use values::{Columns, Test, Value, holds_value};
+
+/// The numbers of a field, a row each, unless the rows end before it.
+#[inline(always)]
+pub fn numbers_of(table: &Columns, field: u16) -> Option<&[i64]>
+    requires { AreNumbers table.now }
+    ensures { MatchOption result
+        (length table.now.columns ≤ field) (λ numbers. AreNumbersOf table.now field numbers.now) }
+{
+    let field = usize::from(field);
+    if field >= table.width() {
+        return None;
+    }
+    match table.column(field).as_numbers() {
+        Some(numbers) => Some(numbers),
+        None => unreachable!(),
+    }
+}
+
+/// The number of a field in a row; beyond the row's end it is 0.
+#[inline(always)]
+pub fn number_in(table: &Columns, at: usize, field: u16) -> i64
+    requires { AreNumbers table.now }
+    ensures { spec.cell (row_of table.now.columns at) field ≡ value.Whole result }
+{
+    let Some(numbers) = numbers_of(table, field) else {
+        return 0;
+    };
+    match numbers.get(at) {
+        Some(number) => *number,
+        None => 0,
+    }
+}
+
+// Whether the value of a field in a row satisfies a test.
+fn test_at(table: &Columns, at: usize, field: u16, test: &Test) -> bool
+    requires { AreNumbers table.now }
+    ensures { result ≡ holds (spec.cell (row_of table.now.columns at) field) test.now }
+{
+    holds_value(test, &Value::Whole(number_in(table, at, field)))
+}
+
+fn wide_holds(table: &Columns, at: usize, wide: &Wide) -> bool
+    requires { AreNumbers table.now }
+    ensures { result ≡ spec.wide_holds (row_of table.now.columns at) wide.now }
+{
+    match wide {
+        Wide::Leaf(field, test) => test_at(table, at, *field, test),
+        Wide::All(inner) => {
+            for member in inner.as_slice() {
+                if !wide_holds(table, at, member) {
+                    return false;
+                }
+            }
+            true
+        }
+        Wide::Any(inner) => {
+            for member in inner.as_slice() {
+                if wide_holds(table, at, member) {
+                    return true;
+                }
+            }
+            false
+        }
+    }
+}
+
+/// Whether a row of a table of numbers satisfies a conjunct.
+pub fn conjunct_holds(table: &Columns, at: usize, conjunct: &Conjunct) -> bool
+    requires { AreNumbers table.now }
+    ensures { result ≡ spec.conjunct_holds (row_of table.now.columns at) conjunct.now }
+{
+    match conjunct {
+        Conjunct::One(field, test) => test_at(table, at, *field, test),
+        Conjunct::Many(wide) => wide_holds(table, at, wide),
+    }
+}

@@ -1,0 +1,8 @@
+//! The scan of rows for a query: those that satisfy its filter are added to its groups.
+#![tactic(auto)]
+
+mod block;
+mod holds;
+mod selection;
+
+pub use block::add_block;

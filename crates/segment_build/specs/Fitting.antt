@@ -1,0 +1,24 @@
+-- Columns of a table, as its dictionaries take them.
+use Rattle.std.specs.Prelude.{◌≡◌, ◌≤◌, ◌<◌, ℕ, List, length, get_or}
+use Rattle.std.specs.List.{All}
+use Rattle.values.specs.declared.kind.FieldKind.{FieldKind}
+use Rattle.values.specs.Columns.{Counts, Listed, ListedColumns, rows_of}
+use Rattle.table_schema.specs.declared.field.Field.{Field}
+use Rattle.table_schema.specs.ValidTable.{AreRows}
+use Rattle.dictionary.specs.Dictionary.{Fits, most_values}
+
+-- columns of one length, one a field, whose rows are rows of a table of these fields
+pub record AreColumns (columns : List Field) (t : ListedColumns) : Type 0 where
+  pub width : length t.columns ≡ length columns
+  pub counts : All (Counts t.count) t.columns
+  pub rows : AreRows columns (rows_of t)
+
+-- the values of a column, of which a dictionary of the kind can be made
+pub record FitsKind (kind : FieldKind) (column : Listed) : Type 0 where
+  pub few : length column.values ≤ most_values
+  pub fit : All (Fits kind) column.values
+
+-- a dictionary can be made of each of these columns, of the kind of its field
+abbrev pub ColumnsFit : Type 0
+ColumnsFit = (fields : List Field) (t : ListedColumns) (at : ℕ) (field : Field) (column : Listed) → AreColumns fields t → at < length fields
+    → field ≡ get_or fields at field → column ≡ get_or t.columns at column → FitsKind field.kind column

@@ -1,0 +1,5 @@
+pub mod Fitting
+pub mod Sections
+pub mod Publishing
+pub mod RowColumns
+pub mod Bare

@@ -1,0 +1,133 @@
+//! The file of a segment is made.
+ghost use Rattle.std.specs.Prelude.{◌≡◌, ◌<◌, ◌≤◌, ◌++◌, ◌^◌, ℕ, length, map, IfOk, OnErr, OnOk, IsErrOf};
+ghost use Rattle.std.specs.List.{concat};
+ghost use Rattle.table_schema.specs.ValidTable.{AreRows, IsValidTable};
+ghost use Rattle.values.specs.Columns.{rows_of};
+ghost use Rattle.segment_file.specs.Front.{file_end, front_bytes};
+ghost use Rattle.segment_file.specs.Image.{image, sections_of_rows};
+ghost use Rattle.segment_file.specs.Names.{IsSegmentName};
+ghost use Rattle.segment_file.specs.Parts.{sections_of};
+ghost use Rattle.segment_build.specs.Fitting.{AreColumns};
+ghost use Rattle.segment_build.specs.Sections.{IsBare};
+
+use crate::sections::Sections;
+use crate::{BuildFault, columns_of};
+use outside::{Bytes, NoMemory, Seq};
+use segment_file::{Front, sections_of};
+use std::alloc::Global;
+use table_schema::Table;
+use values::{Columns, Rows};
+
+/// The file of a segment of these rows, which are kept column by column.
+///
+/// One column after the other is taken, and its dictionary and ids are let go before the next. No
+/// star-tree is built so far, so that none is too large.
+pub fn build_columns(
+    alloc: Global,
+    table: &Table,
+    name: &str,
+    columns: &Columns,
+) -> Result<Bytes, BuildFault>
+    requires valid { IsValidTable table.now }
+    requires bare { IsBare table.now }
+    requires name { IsSegmentName name.now }
+    requires width { length columns.now.columns ≡ length table.now.schema.fields }
+    requires rows { AreRows table.now.schema.fields (rows_of columns.now) }
+    ensures image { IfOk result (λ bytes. bytes ≡ image 1 table.now name.now (rows_of columns.now)) }
+    ensures only { OnErr result (IsErrOf result BuildFault.NoMemory) }
+{
+    let rows = columns.len() as u32;
+    let sections = sections_of_columns(alloc, table, columns)?;
+    let file = file_of(alloc, table, name, rows, &sections)?;
+    Ok(Seq::from_vec(file))
+}
+
+/// The file of a segment of these rows.
+pub fn build_image(
+    alloc: Global,
+    table: &Table,
+    name: &str,
+    rows: &Rows,
+) -> Result<Bytes, BuildFault>
+    requires valid { IsValidTable table.now }
+    requires bare { IsBare table.now }
+    requires name { IsSegmentName name.now }
+    requires rows { AreRows table.now.schema.fields rows.now }
+    ensures image { IfOk result (λ bytes. bytes ≡ image 1 table.now name.now rows.now) }
+    ensures only { OnErr result (IsErrOf result BuildFault.NoMemory) }
+{
+    let columns = columns_of(alloc, table.schema.fields.as_slice(), rows)?;
+    build_columns(alloc, table, name, &columns)
+}
+
+// The sections of the columns, in the order of the file.
+fn sections_of_columns(
+    alloc: Global,
+    table: &Table,
+    columns: &Columns,
+) -> Result<Vec<Bytes>, NoMemory>
+    requires bare { IsBare table.now }
+    requires columns { AreColumns table.now.schema.fields columns.now }
+    ensures { IfOk result (λ all. all.items ≡ sections_of_rows table.now (rows_of columns.now)) }
+{
+    let fields = table.schema.fields.as_slice();
+    let mut sections = Sections::with_capacity(alloc, fields.len())?;
+    'columns: for at in 0..fields.len() {
+        sections.push(alloc, fields[at].kind, columns.column(at))?;
+    }
+    sections.into_list(alloc)
+}
+
+// The file of these sections.
+fn file_of(
+    alloc: Global,
+    table: &Table,
+    name: &str,
+    rows: u32,
+    sections: &[Bytes],
+) -> Result<Vec<u8>, NoMemory>
+    requires valid { IsValidTable table.now }
+    requires name { IsSegmentName name.now }
+    requires each { length sections.now ≡ length (sections_of table.now) }
+    requires short { file_end table.now name.now
+        (record { format = 1; rows = rows; sizes = map length sections.now }) < 2 ^ 64 }
+    ensures { IfOk result (λ file. file.items ≡ front_bytes table.now name.now
+        (record { format = 1; rows = rows; sizes = map length sections.now })
+        ++ concat sections.now) }
+{
+    let parts = sections_of(alloc, table)?;
+    let front = Front::new(rows, sizes_of(alloc, sections)?);
+    let mut file = front.write(alloc, table, name, &parts)?;
+    push_all(sections, &mut file)?;
+    Ok(file)
+}
+
+// Appends sections. Memory is taken once.
+fn push_all(sections: &[Bytes], file: &mut Vec<u8>) -> Result<(), NoMemory>
+    ensures { OnOk result (file.new.items ≡ file.old.items ++ concat sections.now) }
+{
+    file.reserve(total(sections))?;
+    for section in sections {
+        file.extend_from_slice(section.as_slice())?;
+    }
+    Ok(())
+}
+
+// How long each of these sections is.
+fn sizes_of(alloc: Global, sections: &[Bytes]) -> Result<Vec<u64>, NoMemory>
+    ensures { IfOk result (λ sizes. sizes.items ≡ map length sections.now) }
+{
+    sections
+        .iter()
+        .map(|section| section.len() as u64)
+        .collect(alloc)
+}
+
+// How long they are together.
+fn total(sections: &[Bytes]) -> usize {
+    let mut size: usize = 0;
+    for section in sections {
+        size = size.saturating_add(section.len());
+    }
+    size
+}

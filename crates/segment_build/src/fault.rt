@@ -1,0 +1,24 @@
+//! Why a segment is not built.
+
+use std::alloc::AllocError;
+
+/// Why a segment is not built.
+#[derive(Clone, Copy, Debug, PartialEq, Eq)]
+pub enum BuildFault {
+    /// A star-tree has more bytes than it may have.
+    TooLarge,
+    /// The depot failed, and its count of faults rose.
+    WriteFault,
+    NoMemory,
+}
+
+impl From<AllocError> for BuildFault {
+    ghost use Rattle.std.specs.Prelude.{◌≡◌};
+    ghost use Rattle.segment_build.specs.declared.fault.BuildFault.TheVariants.{NoMemory};
+
+    ghost from_gives = { λ _ fault. fault ≡ NoMemory };
+
+    fn from(_: AllocError) -> Self {
+        BuildFault::NoMemory
+    }
+}

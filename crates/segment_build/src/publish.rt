@@ -1,0 +1,105 @@
+//! A segment's file is published.
+ghost use Rattle.std.specs.Prelude.{◌≡◌, ◌⊎◌, ◌++◌, codes, length, IfOk, OnOk, OnErr, IsErrOf, string_bytes};
+ghost use Rattle.outside.specs.Files.{with_file, without_file};
+ghost use Rattle.outside.specs.Seen.{OnlyWrites, seen};
+ghost use Rattle.table_schema.specs.ValidTable.{AreRows, IsValidTable};
+ghost use Rattle.values.specs.Columns.{rows_of};
+ghost use Rattle.segment_file.specs.Image.{image};
+ghost use Rattle.segment_file.specs.Names.{IsSegmentName, file_of};
+ghost use Rattle.segment_build.specs.Publishing.{incoming};
+ghost use Rattle.segment_build.specs.Sections.{IsBare};
+
+use crate::{BuildFault, build_columns, columns_of};
+use outside::{Depot, DepotFault, NoMemory};
+use std::alloc::Global;
+use table_schema::Table;
+use values::{Columns, Rows};
+
+/// The part that each file is written as before it is published.
+pub const INCOMING: &str = "incoming";
+
+/// Publishes the file of a segment of these rows, which are kept column by column.
+pub fn write_columns<D: Depot>(
+    alloc: Global,
+    depot: &mut D,
+    table: &Table,
+    name: &str,
+    columns: &Columns,
+) -> Result<(), BuildFault>
+    requires valid { IsValidTable table.now }
+    requires bare { IsBare table.now }
+    requires name { IsSegmentName name.now }
+    requires width { length columns.now.columns ≡ length table.now.schema.fields }
+    requires rows { AreRows table.now.schema.fields (rows_of columns.now) }
+    ensures published { OnOk result (D.held depot.new ≡ with_file (file_of name.now)
+        (image 1 table.now name.now (rows_of columns.now)) (D.held depot.old)) }
+    ensures kept { OnErr result (D.held depot.new ≡ D.held depot.old) }
+    ensures gone { OnOk result (D.parts depot.new ≡ without_file incoming (D.parts depot.old)) }
+    ensures only_writes { OnlyWrites (IsErrOf result BuildFault.WriteFault) incoming
+        (seen D.Shelf depot.old) (seen D.Shelf depot.new) }
+    ensures only { OnErr result
+        (IsErrOf result BuildFault.WriteFault ⊎ IsErrOf result BuildFault.NoMemory) }
+{
+    let file = file_name(alloc, name)?;
+    let bytes = build_columns(alloc, table, name, columns)?;
+    match publish_file(alloc, depot, file.as_str(), bytes.as_slice()) {
+        Ok(()) => Ok(()),
+        Err(DepotFault::Failed) => Err(BuildFault::WriteFault),
+        Err(DepotFault::NoMemory) => Err(BuildFault::NoMemory),
+        Err(DepotFault::Missing) => unreachable!(),
+    }
+}
+
+/// The same of rows, as one list of values each.
+pub fn write_segment<D: Depot>(
+    alloc: Global,
+    depot: &mut D,
+    table: &Table,
+    name: &str,
+    rows: &Rows,
+) -> Result<(), BuildFault>
+    requires valid { IsValidTable table.now }
+    requires bare { IsBare table.now }
+    requires name { IsSegmentName name.now }
+    requires rows { AreRows table.now.schema.fields rows.now }
+    ensures published { OnOk result (D.held depot.new ≡ with_file (file_of name.now)
+        (image 1 table.now name.now rows.now) (D.held depot.old)) }
+    ensures kept { OnErr result (D.held depot.new ≡ D.held depot.old) }
+    ensures gone { OnOk result (D.parts depot.new ≡ without_file incoming (D.parts depot.old)) }
+    ensures only_writes { OnlyWrites (IsErrOf result BuildFault.WriteFault) incoming
+        (seen D.Shelf depot.old) (seen D.Shelf depot.new) }
+    ensures only { OnErr result
+        (IsErrOf result BuildFault.WriteFault ⊎ IsErrOf result BuildFault.NoMemory) }
+{
+    let columns = columns_of(alloc, table.schema.fields.as_slice(), rows)?;
+    write_columns(alloc, depot, table, name, &columns)
+}
+
+// The name of a segment's file.
+fn file_name(alloc: Global, name: &str) -> Result<String, NoMemory>
+    ensures { IfOk result (λ file. string_bytes file ≡ file_of name.now) }
+{
+    let mut file = String::from_str(alloc, name)?;
+    file.push_str(".seg")?;
+    Ok(file)
+}
+
+/// Puts bytes under a name, as the one part that files are published by.
+pub fn publish_file<D: Depot>(
+    alloc: Global,
+    depot: &mut D,
+    name: &str,
+    bytes: &[u8],
+) -> Result<(), DepotFault>
+    ensures published { OnOk result
+        (D.held depot.new ≡ with_file name.now bytes.now (D.held depot.old)) }
+    ensures kept { OnErr result (D.held depot.new ≡ D.held depot.old) }
+    ensures gone { OnOk result (D.parts depot.new ≡ without_file incoming (D.parts depot.old)) }
+    ensures only_writes { OnlyWrites (IsErrOf result DepotFault.Failed) incoming
+        (seen D.Shelf depot.old) (seen D.Shelf depot.new) }
+    ensures never_missing { ¬ IsErrOf result DepotFault.Missing }
+{
+    depot.begin(alloc, INCOMING)?;
+    depot.append(alloc, INCOMING, bytes)?;
+    depot.publish(alloc, INCOMING, name)
+}

@@ -1,0 +1,5 @@
+pub mod Numbers
+pub mod SettingsLaw
+pub mod PairLaw
+pub mod TreeLaw
+pub mod RawLaw

@@ -1,0 +1,5 @@
+pub mod NamedColumns
+pub mod Pairs
+pub mod Indexes
+pub mod Trees
+pub mod TableTexts

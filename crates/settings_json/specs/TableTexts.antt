@@ -1,0 +1,88 @@
+-- The settings of a table that a text is, or the first check of settings that it fails.
+use Rattle.std.specs.Prelude.{◌-◌, Bool, nat_eq, List, [], ◌∷◌, take, length, codes, Result, unwrap_or, if◌then◌else◌}
+use Rattle.std.specs.List.{ends_with}
+use Rattle.std.specs.Str.{str_eq_ignore_ascii_case}
+use Rattle.serde_json.specs.Data.{Data, null}
+use Rattle.table_schema.specs.declared.field.Field.{Field}
+use Rattle.table_schema.specs.declared.settings.Settings.{Settings}
+use Rattle.schema_json.specs.declared.fault.KeyKind.TheVariants.{BadName, Unsupported}
+use Rattle.schema_json.specs.declared.fault.TextFault.{TextFault}
+use Rattle.table_schema.specs.Names.{Text}
+use Rattle.schema_json.specs.Json.{key_of, json_of}
+use Rattle.schema_json.specs.Faults.{Finding, fault_unless}
+use Rattle.schema_json.specs.Keys.{optional, object_finding, required_text, text_at, unused_key}
+use Rattle.table_schema.specs.Names.{is_column_name}
+use Rattle.schema_json.specs.Schemas.{read_by}
+use Rattle.settings_json.specs.Indexes.{INDEX_KEY, index_checks, index_finding, indexed}
+use Rattle.table_schema.specs.Firsts.{first_of}
+
+-- without `_OFFLINE` at the end
+abbrev pub bare_name : Text → Text
+bare_name name = if ends_with nat_eq name (codes "_OFFLINE") then take (length name - 8) name else name
+
+abbrev pub table_name : Data → Text
+table_name d = bare_name (text_at (codes "tableName") d)
+
+abbrev pub table_finding : Data → Finding
+table_finding d = first_of (
+    required_text [] (codes "tableName") d
+    ∷ fault_unless (is_column_name (table_name d)) BadName (codes "tableName")
+    ∷ [])
+
+abbrev pub is_offline : Text → Bool
+is_offline name = str_eq_ignore_ascii_case name (codes "OFFLINE")
+
+abbrev pub type_finding : Data → Finding
+type_finding d = first_of (
+    required_text [] (codes "tableType") d
+    ∷ fault_unless (is_offline (text_at (codes "tableType") d)) Unsupported (codes "tableType")
+    ∷ [])
+
+abbrev pub INGESTION_KEY : Text
+INGESTION_KEY = codes "ingestionConfig"
+
+-- rows are taken as they come
+abbrev pub ingestion_form : Data → Finding
+ingestion_form d = first_of (
+    object_finding INGESTION_KEY d
+    ∷ unused_key INGESTION_KEY (codes "transformConfigs") d
+    ∷ unused_key INGESTION_KEY (codes "filterConfig") d
+    ∷ unused_key INGESTION_KEY (codes "complexTypeConfig") d
+    ∷ unused_key INGESTION_KEY (codes "aggregationConfigs") d
+    ∷ unused_key INGESTION_KEY (codes "enrichmentConfigs") d
+    ∷ [])
+
+abbrev pub ingestion_finding : Data → Finding
+ingestion_finding d = optional ingestion_form (key_of INGESTION_KEY d)
+
+abbrev pub head_finding : Data → Finding
+head_finding d = first_of (
+    object_finding [] d
+    ∷ table_finding d
+    ∷ type_finding d
+    ∷ unused_key [] (codes "upsertConfig") d
+    ∷ unused_key [] (codes "dedupConfig") d
+    ∷ ingestion_finding d
+    ∷ [])
+
+-- the first fault of the settings of a table
+abbrev pub settings_finding : List Field → Data → Finding
+settings_finding fields d = first_of (
+    head_finding d
+    ∷ optional (index_finding fields (table_name d)) (key_of INDEX_KEY d)
+    ∷ [])
+
+-- the same checks without the refusal of what is not built
+abbrev pub settings_checks : List Field → Data → Finding
+settings_checks fields d = first_of (
+    head_finding d
+    ∷ optional (index_checks fields (table_name d)) (key_of INDEX_KEY d)
+    ∷ [])
+
+-- without `tableIndexConfig` no index is named
+abbrev pub settings_of : List Field → Data → Settings
+settings_of fields d = indexed fields (table_name d) (unwrap_or (key_of INDEX_KEY d) null)
+
+-- the settings of a text, or its first fault
+abbrev pub settings_read : List Field → Text → Result Settings TextFault
+settings_read fields bytes = read_by (settings_finding fields) (settings_of fields) (json_of bytes)

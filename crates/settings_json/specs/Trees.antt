@@ -1,0 +1,160 @@
+-- The settings of star-trees.
+use Rattle.std.specs.Prelude.{ℕ, ◌+◌, ◌*◌, Bool, false, ◌==◌, nat_le, List, [], ◌∷◌, map, length, codes, Option, Some, None, option_and_then, unwrap_or, if◌then◌else◌}
+use Rattle.serde_json.specs.Data.{Data}
+use Rattle.serde_json.specs.Find.{as_number, as_u64}
+use Rattle.agg_laws.specs.declared.tree_shape.TreeShape.{TreeShape}
+use Rattle.table_schema.specs.declared.field.Field.{Field}
+use Rattle.table_schema.specs.declared.query.Agg.{Agg}
+use Rattle.table_schema.specs.declared.settings.TreeSetting.{TreeSetting}
+use Rattle.schema_json.specs.declared.fault.KeyKind.TheVariants.{MissingKey, WrongKind, UnknownColumn, DuplicateColumn, TooMany}
+use Rattle.schema_json.specs.declared.fault.TextFault.TheVariants.{At}
+use Rattle.table_schema.specs.Names.{Text}
+use Rattle.schema_json.specs.Json.{key_of, array_of}
+use Rattle.schema_json.specs.Faults.{Finding, below, at_place, fault_unless, fault_if}
+use Rattle.schema_json.specs.Keys.{required, optional, object_finding, text_finding, unused_key, optional_array, items_at}
+use Rattle.table_schema.specs.Columns.{number_of, is_member}
+use Rattle.settings_json.specs.NamedColumns.{text_of, numbers_of, column_finding}
+use Rattle.settings_json.specs.Pairs.{pairs_of, pairs_finding}
+use Rattle.table_schema.specs.Firsts.{first_of, by_place}
+
+-- ---- arrays that are not empty
+
+abbrev pub some_items : Text → Option (List Data) → Finding
+some_items path None = Some (At WrongKind path)
+some_items path (Some []) = Some (At MissingKey path)
+some_items path (Some (d ∷ ds)) = None
+
+abbrev pub needed_array : Text → Text → Data → Finding
+needed_array base key d = required (below base key) (λ v. some_items (below base key) (array_of v)) (key_of key d)
+
+-- ---- the split order
+
+abbrev pub has_number : List ℕ → Option ℕ → Bool
+has_number ns None = false
+has_number ns (Some n) = is_member ns n
+
+abbrev pub is_taken : List Field → List ℕ → Text → Bool
+is_taken fields split name = has_number split (number_of fields name)
+
+abbrev pub split_place : List Field → Text → List ℕ → Data → Finding
+split_place fields path split d = first_of (
+    column_finding fields path d
+    ∷ fault_if (is_taken fields split (text_of d)) DuplicateColumn path
+    ∷ [])
+
+abbrev pub split_places : List Field → Text → List Data → Finding
+split_places fields path ds = by_place (λ before d. split_place fields (at_place path (length before)) (numbers_of fields before) d) [] ds
+
+abbrev pub SPLIT_KEY : Text
+SPLIT_KEY = codes "dimensionsSplitOrder"
+
+abbrev pub split_finding : List Field → Text → Data → Finding
+split_finding fields base d = first_of (
+    needed_array base SPLIT_KEY d
+    ∷ fault_unless (nat_le (length (items_at SPLIT_KEY d)) 16) TooMany (below base SPLIT_KEY)
+    ∷ split_places fields (below base SPLIT_KEY) (items_at SPLIT_KEY d)
+    ∷ [])
+
+abbrev pub split_of : List Field → Data → List ℕ
+split_of fields d = numbers_of fields (items_at SPLIT_KEY d)
+
+-- ---- the dimensions for which no star child is made
+
+abbrev pub skip_place : List Field → Text → List ℕ → Data → Finding
+skip_place fields path split d = first_of (
+    text_finding path d
+    ∷ fault_unless (is_taken fields split (text_of d)) UnknownColumn path
+    ∷ [])
+
+abbrev pub skip_places : List Field → Text → List ℕ → List Data → Finding
+skip_places fields path split ds = by_place (λ before d. skip_place fields (at_place path (length before)) split d) [] ds
+
+abbrev pub SKIP_KEY : Text
+SKIP_KEY = codes "skipStarNodeCreationForDimensions"
+
+abbrev pub skip_finding : List Field → Text → List ℕ → Data → Finding
+skip_finding fields base split d = first_of (
+    optional_array base SKIP_KEY d
+    ∷ skip_places fields (below base SKIP_KEY) split (items_at SKIP_KEY d)
+    ∷ [])
+
+abbrev pub skips_of : List Field → Data → List ℕ
+skips_of fields d = numbers_of fields (items_at SKIP_KEY d)
+
+-- bit i says whether split dimension i is named
+abbrev pub bits_of : List ℕ → List ℕ → ℕ
+bits_of skipped [] = 0
+bits_of skipped (n ∷ split) = (if is_member skipped n then 1 else 0) + 2 * bits_of skipped split
+
+-- ---- the pairs and the leaf size
+
+abbrev pub PAIRS_KEY : Text
+PAIRS_KEY = codes "functionColumnPairs"
+
+abbrev pub tree_pairs_finding : List Field → Text → Data → Finding
+tree_pairs_finding fields base d = first_of (
+    needed_array base PAIRS_KEY d
+    ∷ pairs_finding fields (below base PAIRS_KEY) (items_at PAIRS_KEY d)
+    ∷ [])
+
+abbrev pub tree_pairs_of : List Field → Data → List Agg
+tree_pairs_of fields d = pairs_of fields (items_at PAIRS_KEY d)
+
+abbrev pub leaf_in_range : Option ℕ → Bool
+leaf_in_range None = false
+leaf_in_range (Some n) = nat_le n 2147483647
+
+abbrev pub count_of : Data → Option ℕ
+count_of d = option_and_then as_u64 (as_number d)
+
+abbrev pub LEAF_KEY : Text
+LEAF_KEY = codes "maxLeafRecords"
+
+abbrev pub leaf_finding : Text → Data → Finding
+leaf_finding base d = optional (λ v. fault_unless (leaf_in_range (count_of v)) WrongKind (below base LEAF_KEY)) (key_of LEAF_KEY d)
+
+-- 0 means the usual size
+abbrev pub leaf_size : ℕ → ℕ
+leaf_size n = if n == 0 then 10000 else n
+
+abbrev pub leaf_of : Data → ℕ
+leaf_of d = leaf_size (unwrap_or (option_and_then count_of (key_of LEAF_KEY d)) 0)
+
+-- ---- the tree
+
+abbrev pub tree_finding : List Field → Text → Data → Finding
+tree_finding fields base d = first_of (
+    object_finding base d
+    ∷ unused_key base (codes "aggregationConfigs") d
+    ∷ split_finding fields base d
+    ∷ skip_finding fields base (split_of fields d) d
+    ∷ tree_pairs_finding fields base d
+    ∷ leaf_finding base d
+    ∷ [])
+
+abbrev pub shape_of : List Field → Data → TreeShape
+shape_of fields d = record {
+  dims = length (split_of fields d);
+  skipped = bits_of (skips_of fields d) (split_of fields d);
+  leaf = leaf_of d;
+  kinds = map (λ p. p.kind) (tree_pairs_of fields d);
+}
+
+abbrev pub tree_of : List Field → Data → TreeSetting
+tree_of fields d = record { split = split_of fields d; pairs = tree_pairs_of fields d; shape = shape_of fields d }
+
+abbrev pub TREES_KEY : Text
+TREES_KEY = codes "starTreeIndexConfigs"
+
+abbrev pub tree_places : List Field → Text → List Data → Finding
+tree_places fields path ds = by_place (λ before d. tree_finding fields (at_place path (length before)) d) [] ds
+
+abbrev pub trees_finding : List Field → Text → Data → Finding
+trees_finding fields base d = first_of (
+    optional_array base TREES_KEY d
+    ∷ fault_unless (nat_le (length (items_at TREES_KEY d)) 8) TooMany (below base TREES_KEY)
+    ∷ tree_places fields (below base TREES_KEY) (items_at TREES_KEY d)
+    ∷ [])
+
+abbrev pub trees_of : List Field → Data → List TreeSetting
+trees_of fields d = map (tree_of fields) (items_at TREES_KEY d)

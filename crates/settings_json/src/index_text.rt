@@ -1,0 +1,188 @@
+//! What is under `tableIndexConfig`.
+
+ghost use Rattle.std.specs.Prelude.{◌≡◌, ◌<◌, ◌≤◌, length, IfOk, IfErr, map, None};
+ghost use Rattle.std.specs.List.{slice_get};
+ghost use Rattle.serde_json.specs.View.{view};
+ghost use Rattle.schema_json.specs.Keys.{items_at};
+ghost use Rattle.settings_json.specs.Indexes as spec;
+ghost use Rattle.table_schema.specs.NeedIds as ids;
+ghost use Rattle.schema_json.specs.Faults.{Gives, Passes, Refuses, at_place};
+
+use crate::columns::{columns, is_member, named};
+use crate::sorted::read_sorted;
+use crate::trees::read_trees;
+use schema_json::{KeyKind, TextFault, below, check_not, check_object, fault_at, place_fault};
+use serde_json::Value as Json;
+use std::alloc::Global;
+use table_schema::{Field, Role, Settings, TreeSetting};
+use values::Name;
+
+pub(crate) const INDEX_KEY: &str = "tableIndexConfig";
+
+const INVERTED_KEY: &str = "invertedIndexColumns";
+
+const RANGE_KEY: &str = "rangeIndexColumns";
+
+const RAW_KEY: &str = "noDictionaryColumns";
+
+/// The settings of a table of that name.
+pub(crate) fn read_indexes(
+    alloc: Global,
+    fields: &[Field],
+    table: Name,
+    json: &Json,
+) -> Result<Settings, TextFault>
+    requires { length fields.now ≤ 64 }
+    ensures { Gives (spec.index_finding fields.now table (view json.now))
+        (spec.indexed fields.now table (view json.now)) result }
+{
+    let (settings, raw) = indexed(alloc, fields, table, json)?;
+    let path = below(alloc, INDEX_KEY, RAW_KEY)?;
+    check_raw(alloc, fields, &settings, path.as_str(), raw)?;
+    check_built(alloc, &settings)?;
+    Ok(settings)
+}
+
+/// The settings, with the columns that are to be kept without a dictionary.
+fn indexed<'v>(
+    alloc: Global,
+    fields: &[Field],
+    table: Name,
+    json: &'v Json,
+) -> Result<(Settings, &'v [Json]), TextFault>
+    requires { length fields.now ≤ 64 }
+    ensures ok { IfOk result (λ both. spec.index_form fields.now (view json.now) ≡ None) }
+    ensures settings { IfOk result
+        (λ both. both.0 ≡ spec.indexed fields.now table (view json.now)) }
+    ensures raw { IfOk result
+        (λ both. map view both.1.now ≡ items_at spec.RAW_KEY (view json.now)) }
+    ensures err { IfErr result (Refuses (spec.index_form fields.now (view json.now))) }
+{
+    check_object(alloc, INDEX_KEY, json)?;
+    check_not(alloc, true, INDEX_KEY, "nullHandlingEnabled", json)?;
+    let sorted = read_sorted(alloc, fields, INDEX_KEY, json)?;
+    let inverted = columns(alloc, fields, INDEX_KEY, INVERTED_KEY, json)?;
+    let ranged = columns(alloc, fields, INDEX_KEY, RANGE_KEY, json)?;
+    let raw = columns(alloc, fields, INDEX_KEY, RAW_KEY, json)?;
+    let trees = read_trees(alloc, fields, INDEX_KEY, json)?;
+    let settings = Settings {
+        table,
+        sorted,
+        inverted: named(alloc, fields, inverted)?,
+        ranged: named(alloc, fields, ranged)?,
+        raw: named(alloc, fields, raw)?,
+        trees,
+    };
+    Ok((settings, raw))
+}
+
+/// No metric that is to be kept without a dictionary needs its ids.
+fn check_raw(
+    alloc: Global,
+    fields: &[Field],
+    settings: &Settings,
+    path: &str,
+    items: &[Json],
+) -> Result<(), TextFault>
+    requires fields { length fields.now ≤ 64 }
+    requires flags { spec.HasFlags fields.now settings.now }
+    ensures { Passes (spec.raw_places fields.now settings.now path.now (map view items.now)) result }
+{
+    for (place, item) in items.iter().enumerate() {
+        check_raw_place(alloc, fields, settings, path, place, item)?;
+    }
+    Ok(())
+}
+
+fn check_raw_place(
+    alloc: Global,
+    fields: &[Field],
+    settings: &Settings,
+    path: &str,
+    place: usize,
+    json: &Json,
+) -> Result<(), TextFault>
+    requires fields { length fields.now ≤ 64 }
+    requires flags { spec.HasFlags fields.now settings.now }
+    ensures { Passes (spec.raw_place fields.now settings.now (at_place path.now place)
+        (view json.now)) result }
+{
+    let name = json.as_str().unwrap_or("");
+    match Field::number_of(fields, name.as_bytes()) {
+        Some(number) if misfits(fields, settings, number) => {
+            Err(place_fault(alloc, KeyKind::Unsupported, path, place))
+        }
+        _ => Ok(()),
+    }
+}
+
+/// Whether the column is a metric that is looked up by its ids.
+fn misfits(fields: &[Field], settings: &Settings, number: u16) -> bool
+    requires number { number < length fields.now }
+    requires flags { spec.HasFlags fields.now settings.now }
+    ensures { result ≡ spec.misfits_at fields.now settings.now number }
+{
+    matches!(fields[usize::from(number)].role, Role::Metric) && needs_ids(settings, number)
+}
+
+fn needs_ids(settings: &Settings, number: u16) -> bool
+    requires inverted { number < length settings.now.inverted }
+    requires ranged { number < length settings.now.ranged }
+    ensures { result ≡ ids.needs_ids settings.now number }
+{
+    is_the_number(number, settings.sorted)
+        || *settings.inverted.at(usize::from(number))
+        || *settings.ranged.at(usize::from(number))
+        || is_split(settings.trees.as_slice(), number)
+}
+
+fn is_the_number(number: u16, other: Option<u16>) -> bool
+    ensures { result ≡ ids.is_the_number number other }
+{
+    match other {
+        Some(other) => other == number,
+        None => false,
+    }
+}
+
+fn is_split(trees: &[TreeSetting], number: u16) -> bool
+    ensures { result ≡ ids.is_split trees.now number }
+{
+    for tree in trees {
+        if is_member(tree.split.as_slice(), number) {
+            return true;
+        }
+    }
+    false
+}
+
+/// Sorted columns, indexes and star-trees are not built yet.
+fn check_built(alloc: Global, settings: &Settings) -> Result<(), TextFault>
+    ensures { Passes (spec.unbuilt_finding settings.now) result }
+{
+    if names_unbuilt(settings) {
+        Err(fault_at(alloc, KeyKind::Unsupported, INDEX_KEY))
+    } else {
+        Ok(())
+    }
+}
+
+fn names_unbuilt(settings: &Settings) -> bool
+    ensures { result ≡ spec.names_unbuilt settings.now }
+{
+    settings.sorted.is_some()
+        || is_set_anywhere(settings.inverted.as_slice())
+        || is_set_anywhere(settings.ranged.as_slice())
+        || !settings.trees.is_empty()
+}
+
+fn is_set_anywhere(flags: &[bool]) -> bool
+    ensures { result ≡ spec.is_set_anywhere flags.now }
+{
+    for flag in flags {
+        if *flag {
+            return true;
+        }
+    }
+    false
+}

@@ -1,0 +1,9 @@
+pub mod Runs
+pub mod Bytes
+pub mod Steps
+pub mod Standing
+pub mod Children
+pub mod Opened
+pub mod Open
+pub mod Visits
+pub mod Whole

@@ -1,0 +1,14 @@
+//! The making of star-trees: the nodes and documents of the tree of some rows, written flat.
+#![tactic(auto)]
+
+mod build;
+mod fault;
+mod groups;
+mod growth;
+mod visit;
+
+pub use build::build_tree;
+pub use fault::TreeFault;
+
+/// A growth was refused.
+pub type NoMemory = std::alloc::AllocError;
