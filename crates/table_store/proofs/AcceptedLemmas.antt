@@ -1,7 +1,6 @@
 -- What the checks accept.
 use Rattle.std.proofs.Common.{◌≡◌, Option, Some, None, Ok, refl, sym, subst}
 use Rattle.serde_json.specs.Data.{Data}
-use Rattle.schema_json.specs.declared.fault.TextFault.{TextFault}
 use Rattle.table_schema.specs.declared.table.Table as read
 use Rattle.schema_json.specs.Faults.{Finding}
 use Rattle.schema_json.specs.Json.{json_of}

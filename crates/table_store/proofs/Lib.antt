@@ -1,3 +1,4 @@
+mod NameLemmas
 mod AcceptedLemmas
 mod SegmentLemmas
 mod FilesLemmas

@@ -1,5 +1,5 @@
 -- The files of segments, by their names.
-use Rattle.std.proofs.Common.{◌≡◌, ◌≢◌, ◌∙◌, ◌<◌, ◌≤◌, ◌+◌, ◌-◌, ◌^◌, ◌⊎◌, ℕ, Bool, true, false, List, [], ◌++◌, length, take, get_or, Option, Some, None, cond, inl, inr, refl, sym, ap, subst, arith}
+use Rattle.std.proofs.Common.{◌≡◌, ◌≢◌, ◌∙◌, ◌<◌, ◌+◌, ◌-◌, ◌⊎◌, ℕ, Bool, true, false, List, ◌++◌, length, take, get_or, Option, Some, None, cond, inl, inr, refl, sym, ap, subst, arith}
 use Rattle.std.specs.Prelude.{codes, if◌then◌else◌, is_some, option_map}
 use Rattle.std.specs.FinMap as map
 use Rattle.std.specs.Cmp.{eq_by_cmp_equiv}
@@ -15,7 +15,6 @@ use Rattle.table_schema.specs.declared.table.Table as schema
 use Rattle.table_schema.specs.ValidTable.{IsValidTable}
 use Rattle.segment_file.specs.Image.{CanHold, file_of_rows, image}
 use Rattle.segment_file.specs.Names.{IsSegmentName, file_of}
-use Rattle.segment_file.specs.Ordered.{ordered}
 use Rattle.segment_file.proofs.ImageTells.{images_tell}
 use Rattle.table_store.specs.State.{Segment, Segments, Texts}
 use Rattle.table_store.specs.Stands.{IsSegment, IsTable, StandsFor, kept_file, kept_segment, most_segments, segment_file, segment_of, stem}
@@ -26,7 +25,7 @@ use Rattle.table_store.proofs.FilesLemmas.{other_name, same_name}
 
 -- ---- names
 
-stem_back : (name : List ℕ) → stem (file_of name) ≡ name
+pub stem_back : (name : List ℕ) → stem (file_of name) ≡ name
 stem_back name =
     let count : length (name ++ codes ".seg") - 4 ≡ length name = omega (arith, length-append name (codes ".seg")) in
     ap (λ n. take n (name ++ codes ".seg")) count ∙ take-append_seam name (codes ".seg")
@@ -41,10 +40,10 @@ not_table name e =
     let same : before ≡ after = sym dot ∙ ap (λ n. get_or (name ++ codes ".seg") n 0) one ∙ ap (λ bytes. get_or bytes 1 0) e in
     absurd (omega arith)
 
-tied_name : (q name : List ℕ) → eq_by_cmp name_order q name ≡ true → q ≡ name
+pub tied_name : (q name : List ℕ) → eq_by_cmp name_order q name ≡ true → q ≡ name
 tied_name q name = elim (name_order q name) as (λ r. name_order q name ≡ r → is_eq r ≡ true → q ≡ name) [ Less ↦ λ o e. absurd (false≢true e) | Equal ↦ λ o e. same_name q name o | Greater ↦ λ o e. absurd (false≢true e) ] refl
 
-is_name : (q name : List ℕ) → (q ≡ name) ⊎ (q ≢ name)
+pub is_name : (q name : List ℕ) → (q ≡ name) ⊎ (q ≢ name)
 is_name q name =
     elim (eq_by_cmp name_order q name) as (λ b. eq_by_cmp name_order q name ≡ b → (q ≡ name) ⊎ (q ≢ name)) [
       | true ↦ λ e. inl (tied_name q name e)

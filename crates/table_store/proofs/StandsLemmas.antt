@@ -1,6 +1,5 @@
 -- Files stand for at most one state.
-use Rattle.std.proofs.Common.{◌≡◌, ◌∙◌, ℕ, List, Option, Some, None, cond, refl, sym, ap, subst, arith}
-use Rattle.std.specs.Prelude.{option_map}
+use Rattle.std.proofs.Common.{◌≡◌, ◌∙◌, ℕ, List, Some, None, cond, refl, sym, ap, subst, arith}
 use Rattle.std.specs.FinMap as map
 use Rattle.std.specs.Ordering.{eq_by_cmp}
 use Rattle.std.specs.Cmp.{eq_by_cmp_equiv}
@@ -9,7 +8,7 @@ use Rattle.outside.specs.Files.{Files, Has, Lacks, OfFile, name_order}
 use Rattle.table_schema.specs.declared.table.Table as schema
 use Rattle.segment_file.specs.Names.{file_of}
 use Rattle.table_store.specs.State.{Segment, Segments, State, NoTable, HasTable, Texts}
-use Rattle.table_store.specs.Stands.{IsSegment, SegmentStands, Stands, StandsFor, kept_file, kept_segment, segment_file}
+use Rattle.table_store.specs.Stands.{IsSegment, SegmentStands, Stands, StandsFor, kept_file, kept_segment}
 use Rattle.table_store.specs.Accepted.{IsAccepted, IsTableFile}
 use Rattle.table_store.specs.TableFile.{table_file, table_name}
 use Rattle.table_store.proofs.AcceptedLemmas.{accepted_valid, one_table}

@@ -14,6 +14,6 @@ pub use laws::{
     create_stands_law, empty_stands_law, one_state_law, segment_stands_law, table_stands_law,
 };
 pub use open::open_table;
-pub use segments::{MOST_SEGMENTS, holds_segment};
 pub use segment_file::Part;
+pub use segments::{MOST_SEGMENTS, holds_segment, segment_names};
 pub use table_file::TEXT_LIMIT;

@@ -13,9 +13,9 @@ ghost use Rattle.table_schema.specs.ValidTable.{IsValidTable};
 use crate::table_file::{FILE_LIMIT, NAME, texts_of};
 use crate::{Part, StoreFault};
 use outside::{Depot, ReadAllFault, read_all};
-use std::alloc::Global;
 use schema_json::{TextFault, read_schema};
 use settings_json::read_settings;
+use std::alloc::Global;
 use table_schema::Table;
 
 // What a refused text is for the file that it is in.
