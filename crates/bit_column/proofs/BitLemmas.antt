@@ -47,7 +47,7 @@ number-bits (suc width) n =
     ∙ sym (mod-pow-add n 1 width)
     ∙ ap (λ k. n % 2 ^ k) (omega arith)
 
--- a number in so many digits and another behind it
+-- a number in so many digits and another after it
 pub bits-join : (a b x y : ℕ) → y < 2 ^ b → bits (a + b) (x * 2 ^ b + y) ≡ bits a x ++ bits b y
 bits-join a b x y h =
     let high : (x * 2 ^ b + y) / 2 ^ b ≡ x = shr_high x b y h in
@@ -117,7 +117,7 @@ length-bits_of width [] = omega arith
 length-bits_of width (n ∷ ns) =
     length-append (bits width n) (bits_of width ns) ∙ ap (λ k. k + length (bits_of width ns)) (length-bits width n) ∙ ap (λ k. width + k) (length-bits_of width ns) ∙ next (length ns) width
 
--- from the bits of numbers to those of the numbers behind the first so many
+-- from the bits of numbers to those of the numbers after the first so many
 pub drop-bits_of : (k width : ℕ) (ns : List ℕ) → drop (k * width) (bits_of width ns) ≡ bits_of width (drop k ns)
 drop-bits_of zero width ns = let none : 0 * width ≡ 0 = omega arith in ap (λ m. drop m (bits_of width ns)) none
 drop-bits_of (suc k) width [] = drop_all (suc k * width) [] (omega arith)

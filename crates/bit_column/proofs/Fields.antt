@@ -20,26 +20,26 @@ window-more bytes i window within few small is =
     ∙ sym (joined window (i * 8) byte 8 (omega arith) small)
     ∙ ap (λ k. bits k (bit_or (window * 2 ^ 8 % 2 ^ 64) byte)) e
 
--- bytes behind a number, as one number in base 256
-behind : ℕ → List ℕ → ℕ
-behind n [] = n
-behind n (byte ∷ bytes) = behind (n * 2 ^ 8 + byte) bytes
+-- bytes after a number, as one number in base 256
+following : ℕ → List ℕ → ℕ
+following n [] = n
+following n (byte ∷ bytes) = following (n * 2 ^ 8 + byte) bytes
 
 AreBytes : List ℕ → Type 0
 AreBytes [] = Unit {0}
 AreBytes (byte ∷ bytes) = (byte < 2 ^ 8) × AreBytes bytes
 
-bits-behind : (k n : ℕ) (bytes : List ℕ) → AreBytes bytes → bits (k * 8) n ++ bits_of 8 bytes ≡ bits ((k + length bytes) * 8) (behind n bytes)
-unfolding behind AreBytes
-bits-behind k n [] h = append-nil (bits (k * 8) n) ∙ ap (λ j. bits j n) (omega arith)
-bits-behind k n (byte ∷ bytes) h =
+bits-following : (k n : ℕ) (bytes : List ℕ) → AreBytes bytes → bits (k * 8) n ++ bits_of 8 bytes ≡ bits ((k + length bytes) * 8) (following n bytes)
+unfolding following AreBytes
+bits-following k n [] h = append-nil (bits (k * 8) n) ∙ ap (λ j. bits j n) (omega arith)
+bits-following k n (byte ∷ bytes) h =
     let e : k * 8 + 8 ≡ (k + 1) * 8 = omega arith in
     let more : (k + 1 + length bytes) * 8 ≡ (k + suc (length bytes)) * 8 = omega arith in
     sym (append_assoc (bits (k * 8) n) (bits 8 byte) (bits_of 8 bytes))
     ∙ ap (λ ds. ds ++ bits_of 8 bytes) (sym (bits-join (k * 8) 8 n byte h.0))
     ∙ ap (λ j. bits j (n * 2 ^ 8 + byte) ++ bits_of 8 bytes) e
-    ∙ bits-behind (k + 1) (n * 2 ^ 8 + byte) bytes h.1
-    ∙ ap (λ j. bits j (behind (n * 2 ^ 8 + byte) bytes)) more
+    ∙ bits-following (k + 1) (n * 2 ^ 8 + byte) bytes h.1
+    ∙ ap (λ j. bits j (following (n * 2 ^ 8 + byte) bytes)) more
 
 -- a list of eight
 eight_of : (xs : List ℕ) → length xs ≡ 8
@@ -58,14 +58,14 @@ eight_of xs e =
 pub bits-eight : (n : ℕ) (xs : List ℕ) → length xs ≡ 8 → ((i : ℕ) → get_or xs i 0 < 2 ^ 8)
     → n ≡ get_or xs 0 0 * 256 ^ 7 + get_or xs 1 0 * 256 ^ 6 + get_or xs 2 0 * 256 ^ 5 + get_or xs 3 0 * 256 ^ 4 + get_or xs 4 0 * 256 ^ 3 + get_or xs 5 0 * 256 ^ 2 + get_or xs 6 0 * 256 + get_or xs 7 0
     → bits_of 8 xs ≡ bits 64 n
-unfolding behind AreBytes bits
+unfolding following AreBytes bits
 bits-eight n xs e small is =
     let ys : List ℕ = get_or xs 0 0 ∷ get_or xs 1 0 ∷ get_or xs 2 0 ∷ get_or xs 3 0 ∷ get_or xs 4 0 ∷ get_or xs 5 0 ∷ get_or xs 6 0 ∷ get_or xs 7 0 ∷ [] in
     let bytes : AreBytes ys = (small 0, (small 1, (small 2, (small 3, (small 4, (small 5, (small 6, (small 7, tt)))))))) in
-    let horner : behind 0 ys ≡ n = omega arith in
-    ap (bits_of 8) (eight_of xs e) ∙ bits-behind 0 0 ys bytes ∙ ap (bits 64) horner
+    let horner : following 0 ys ≡ n = omega arith in
+    ap (bits_of 8) (eight_of xs e) ∙ bits-following 0 0 ys bytes ∙ ap (bits 64) horner
 
--- the digits behind a number's last one do not count
+-- the digits after a number's last one do not count
 field-front : (width first n : ℕ) (digits : List ℕ) → first + width ≤ n → field width first (take n digits) ≡ field width first digits
 unfolding field
 field-front width first n digits h =
@@ -74,9 +74,9 @@ field-front width first n digits h =
     ∙ ap (λ ds. number (take width ds)) (drop-take first (n - first) digits)
     ∙ ap number (take-take width (n - first) (drop first digits) (omega arith))
 
-field-behind : (width first n : ℕ) (digits : List ℕ) → field width first (drop n digits) ≡ field width (n + first) digits
+field-following : (width first n : ℕ) (digits : List ℕ) → field width first (drop n digits) ≡ field width (n + first) digits
 unfolding field
-field-behind width first n digits = ap (λ ds. number (take width ds)) (drop-drop first n digits)
+field-following width first n digits = ap (λ ds. number (take width ds)) (drop-drop first n digits)
 
 -- a number stands in the bytes that have its digits
 pub field-bytes : (width bit first count : ℕ) (bytes : List ℕ) → first * 8 ≤ bit → bit + width ≤ (first + count) * 8
@@ -87,7 +87,7 @@ field-bytes width bit first count bytes begins ends =
     ap (field width at) (sym (take-bits_of count 8 (drop first bytes)))
     ∙ field-front width at (count * 8) (bits_of 8 (drop first bytes)) (omega arith)
     ∙ ap (field width at) (sym (drop-bits_of first 8 bytes))
-    ∙ field-behind width at (first * 8) (bits_of 8 bytes)
+    ∙ field-following width at (first * 8) (bits_of 8 bytes)
     ∙ ap (λ b. field width b (bits_of 8 bytes)) e
 
 -- how many of the eight bytes there are

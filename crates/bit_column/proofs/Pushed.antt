@@ -1,4 +1,4 @@
--- Bytes that are pushed behind others.
+-- Bytes that are pushed after others.
 use Rattle.std.proofs.Common.{◌≡◌, ◌≤◌, ◌<◌, ℕ, ◌+◌, ◌-◌, List, [], ◌∷◌, ◌++◌, length, take, get_or, replicate, sym, ap, ◌∙◌, arith, append_assoc, append-nil, length-take}
 use Rattle.std.proofs.lemmas.List.{take-append-le, take-take, take_all, take_more}
 use Rattle.bit_column.specs.Bits.{bits, bits_of}
@@ -28,7 +28,7 @@ byte-pushed out first byte left window full parts is =
     ∙ ap (λ k. bits_of 8 out ++ bits k window) e
     ∙ is
 
--- an id goes into the window, whose whole bytes go behind the others
+-- an id goes into the window, whose whole bytes go after the others
 pub id-pushed : (old out new ids : List ℕ) (width have left window joined i : ℕ) → i < length ids
     → bits_of 8 out ++ bits have window ≡ bits_of 8 old ++ bits_of width (take i ids)
     → bits (have + width) joined ≡ bits have window ++ bits width (get_or ids i 0)
@@ -43,7 +43,7 @@ id-pushed old out new ids width have left window joined i within is both pushed 
     ∙ append_assoc (bits_of 8 old) (bits_of width (take i ids)) (bits width id)
     ∙ ap (λ ds. bits_of 8 old ++ ds) (sym (bits_of-push width id (take i ids)) ∙ ap (bits_of width) (sym (take_more ids i 0 within)))
 
--- the last bits become a byte with zero bits behind them
+-- the last bits become a byte with zero bits after them
 pub last-pushed : (old out ids : List ℕ) (width have window byte : ℕ) → bits_of 8 out ++ bits have window ≡ bits_of 8 old ++ bits_of width ids
     → bits 8 byte ≡ bits have window ++ replicate (8 - have) 0
     → bits_of 8 (out ++ byte ∷ []) ≡ bits_of 8 old ++ (bits_of width ids ++ replicate (8 - have) 0)

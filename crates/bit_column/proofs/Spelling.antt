@@ -60,12 +60,12 @@ bits-pieces-from width a (suc count) digits h long =
     let all : (a + suc count) * width ≡ a * width + (width + count * width) = grind arith in
     let full : length here ≡ width = omega (arith, length-take width rest, length-drop (a * width) digits) in
     let one : bits width (number here) ≡ here = ap (λ k. bits k (number here)) (sym full) ∙ bits-number here (AreBits-take width rest (AreBits-drop (a * width) digits h)) in
-    let behind : a * width + width ≡ (a + 1) * width = grind arith in
+    let following : a * width + width ≡ (a + 1) * width = grind arith in
     let same : (a + 1 + count) * width ≡ (a + suc count) * width = grind arith in
     ap (λ b. bits width (number (take width (drop b digits))) ++ bits_of width more) e
     ∙ ap (λ ds. ds ++ bits_of width more) one
     ∙ ap (λ ds. here ++ ds) (bits-pieces-from width (a + 1) count digits h (omega (arith, same)))
-    ∙ ap (λ k. here ++ take (count * width) (drop k digits)) (sym behind)
+    ∙ ap (λ k. here ++ take (count * width) (drop k digits)) (sym following)
     ∙ ap (λ ds. here ++ take (count * width) ds) (sym (drop-drop width (a * width) digits))
     ∙ sym (take-add width (count * width) rest)
     ∙ ap (λ k. take k rest) (next count width)
@@ -77,16 +77,16 @@ bits-pieces width count digits h long =
     let none : 0 * width ≡ 0 = omega arith in
     bits-pieces-from width 0 count digits h (omega (arith, e)) ∙ ap (λ k. take (count * width) (drop k digits)) none
 
--- how many zero bits stand behind the ids
-abbrev pub zeros_behind : ℕ → ℕ
-zeros_behind count = 8 * bytes_for count - count
+-- how many zero bits stand after the ids
+abbrev pub zeros_following : ℕ → ℕ
+zeros_following count = 8 * bytes_for count - count
 
 pub length-spelled : (width : ℕ) (ids : List ℕ) → length (spelled width ids) ≡ bytes_for (length ids * width)
 unfolding spelled
 length-spelled width ids = length-map-range_with_len _ 0 (bytes_for (length ids * width))
 
 -- the bits that are written are those of the ids and less than eight zeros
-pub spelled-bits : (width : ℕ) (ids : List ℕ) → bits_of 8 (spelled width ids) ≡ bits_of width ids ++ replicate (zeros_behind (length ids * width)) 0
+pub spelled-bits : (width : ℕ) (ids : List ℕ) → bits_of 8 (spelled width ids) ≡ bits_of width ids ++ replicate (zeros_following (length ids * width)) 0
 unfolding spelled
 spelled-bits width ids =
     let ones = bits_of width ids in
@@ -94,11 +94,11 @@ spelled-bits width ids =
     let n = length ids * width in
     let count : length ones ≡ n = length-bits_of width ids in
     let long : length all ≡ n + 7 = omega (arith, length-append ones (replicate 7 0), count) in
-    let e : bytes_for n * 8 ≡ length ones + zeros_behind n = omega (arith, count) in
+    let e : bytes_for n * 8 ≡ length ones + zeros_following n = omega (arith, count) in
     bits-pieces 8 (bytes_for n) all (AreBits-append ones (replicate 7 0) (AreBits-bits_of width ids) (AreBits-zeros 7)) (omega arith)
     ∙ ap (λ k. take k all) e
-    ∙ take-append-add ones (replicate 7 0) (zeros_behind n)
-    ∙ ap (λ ds. ones ++ ds) (take-replicate (zeros_behind n) 7 0 (omega arith))
+    ∙ take-append-add ones (replicate 7 0) (zeros_following n)
+    ∙ ap (λ ds. ones ++ ds) (take-replicate (zeros_following n) 7 0 (omega arith))
 
 -- bytes with those bits are the ones that are written
 pub written : (old new ids : List ℕ) (width zeros : ℕ) → take (length old) new ≡ old → ((i : ℕ) → i < length new → get_or new i 0 < 2 ^ 8) → zeros < 8
@@ -112,9 +112,9 @@ written old new ids width zeros begins small few is =
     let tail : List ℕ = replicate (7 - zeros) 0 in
     let seven : zeros + (7 - zeros) ≡ 7 = omega arith in
     let all : bits_of 8 rest ++ tail ≡ ones ++ replicate 7 0 = ap (λ ds. ds ++ tail) same ∙ append_assoc ones (replicate zeros 0) tail ∙ ap (λ ds. ones ++ ds) (replicate-append-replicate zeros (7 - zeros) 0 ∙ ap (λ k. replicate k 0) seven) in
-    let behind : List ℕ = replicate zeros 0 in
+    let following : List ℕ = replicate zeros 0 in
     let count : length rest * 8 ≡ length ids * width + zeros =
-    sym (length-bits_of 8 rest) ∙ ap length same ∙ length-append ones behind ∙ ap (λ k. k + length behind) (length-bits_of width ids) ∙ ap (λ k. length ids * width + k) (length-replicate zeros 0) in
+    sym (length-bits_of 8 rest) ∙ ap length same ∙ length-append ones following ∙ ap (λ k. k + length following) (length-bits_of width ids) ∙ ap (λ k. length ids * width + k) (length-replicate zeros 0) in
     let bytes : bytes_for (length ids * width) ≡ length rest = omega (arith, count) in
     let below : (i : ℕ) → i < length rest → get_or rest i 0 < 2 ^ 8 = λ i within. subst (λ n. n < 2 ^ 8) (sym (get_or-drop (length old) new i 0)) (small (length old + i) (omega (arith, length-drop (length old) new))) in
     whole ∙ ap (λ xs. old ++ xs) (sym (
@@ -125,11 +125,11 @@ written old new ids width zeros begins small few is =
 
 pub id-written : (width index : ℕ) (ids : List ℕ) → All (λ id. id < 2 ^ width) ids → index < length ids → id_at width index (spelled width ids) ≡ get_or ids index 0
 id-written width index ids small within =
-    ap (field width (index * width)) (spelled-bits width ids) ∙ field-of width index ids (replicate (zeros_behind (length ids * width)) 0) within (below-all width ids small index within)
+    ap (field width (index * width)) (spelled-bits width ids) ∙ field-of width index ids (replicate (zeros_following (length ids * width)) 0) within (below-all width ids small index within)
 
 pub ids-written : (width from to : ℕ) (ids : List ℕ) → All (λ id. id < 2 ^ width) ids → from ≤ to → to ≤ length ids → ids_between width from to (spelled width ids) ≡ take (to - from) (drop from ids)
 ids-written width from to ids small order within =
-    ap (pieces width (from * width) (to - from)) (spelled-bits width ids) ∙ pieces-of width from (to - from) ids (replicate (zeros_behind (length ids * width)) 0) (omega arith) (below-all width ids small)
+    ap (pieces width (from * width) (to - from)) (spelled-bits width ids) ∙ pieces-of width from (to - from) ids (replicate (zeros_following (length ids * width)) 0) (omega arith) (below-all width ids small)
 
 pub readable-written : (width count from to : ℕ) (ids : List ℕ) → All (λ id. id < 2 ^ width) ids → All (λ id. id < count) ids → from ≤ to → to ≤ length ids → Readable width count from to (spelled width ids)
 readable-written width count from to ids small below order within =

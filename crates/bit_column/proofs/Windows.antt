@@ -21,8 +21,8 @@ joined window have id width room h =
 pub low_byte : (n : ℕ) → bits 8 (bit_and n 255) ≡ bits 8 n
 low_byte n = ap (bits 8) (and_mask n 8) ∙ bits-low 8 8 n (omega arith)
 
-pub whole_byte : (window behind : ℕ) → bits (8 + behind) window ≡ bits 8 (bit_and (window / 2 ^ behind) 255) ++ bits behind window
-whole_byte window behind = bits-split 8 behind window ∙ ap (λ ds. ds ++ bits behind window) (sym (low_byte (window / 2 ^ behind)))
+pub whole_byte : (window following : ℕ) → bits (8 + following) window ≡ bits 8 (bit_and (window / 2 ^ following) 255) ++ bits following window
+whole_byte window following = bits-split 8 following window ∙ ap (λ ds. ds ++ bits following window) (sym (low_byte (window / 2 ^ following)))
 
 pub last_byte : (window have : ℕ) → have ≤ 8 → bits 8 (bit_and (window * 2 ^ (8 - have) % 2 ^ 64) 255) ≡ bits have window ++ replicate (8 - have) 0
 last_byte window have h =
@@ -39,14 +39,14 @@ pub taken : (x width : ℕ) → width ≤ 32 → bit_and x (1 * 2 ^ width % 2 ^ 
 taken x width h = ap (λ m. bit_and x (m - 1)) (one_shl width 64 (omega arith)) ∙ and_mask x width
 
 -- the number of some digits of a window
-pub field-window : (width first behind window : ℕ) (digits : List ℕ) → digits ≡ bits (first + width + behind) window → field width first digits ≡ window / 2 ^ behind % 2 ^ width
+pub field-window : (width first following window : ℕ) (digits : List ℕ) → digits ≡ bits (first + width + following) window → field width first digits ≡ window / 2 ^ following % 2 ^ width
 unfolding field
-field-window width first behind window digits e =
-    let high = window / 2 ^ behind in
+field-window width first following window digits e =
+    let high = window / 2 ^ following in
     let front = bits first (high / 2 ^ width) in
-    let parts : digits ≡ front ++ (bits width high ++ bits behind window) =
-    e ∙ bits-split (first + width) behind window ∙ ap (λ ds. ds ++ bits behind window) (bits-split first width high) ∙ append_assoc front (bits width high) (bits behind window) in
+    let parts : digits ≡ front ++ (bits width high ++ bits following window) =
+    e ∙ bits-split (first + width) following window ∙ ap (λ ds. ds ++ bits following window) (bits-split first width high) ∙ append_assoc front (bits width high) (bits following window) in
     ap (λ ds. number (take width (drop first ds))) parts
-    ∙ ap (λ ds. number (take width ds)) (drop_at front (bits width high ++ bits behind window) first (length-bits first (high / 2 ^ width)))
-    ∙ ap number (take_at (bits width high) (bits behind window) width (length-bits width high))
+    ∙ ap (λ ds. number (take width ds)) (drop_at front (bits width high ++ bits following window) first (length-bits first (high / 2 ^ width)))
+    ∙ ap number (take_at (bits width high) (bits following window) width (length-bits width high))
     ∙ number-bits width high

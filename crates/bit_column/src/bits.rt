@@ -15,11 +15,11 @@ pub fn joined(window: u64, have: u32, id: u32, width: u32) -> u64
 
 // The byte of the window that so many bits follow.
 #[tactic(auto, using(crate::proofs::Windows::whole_byte))]
-pub fn whole_byte(window: u64, behind: u32) -> u8
-    requires { behind < 56 }
-    ensures { bits (8 + behind) window ≡ bits 8 result ++ bits behind window }
+pub fn whole_byte(window: u64, following: u32) -> u8
+    requires { following < 56 }
+    ensures { bits (8 + following) window ≡ bits 8 result ++ bits following window }
 {
-    ((window >> behind) & 255) as u8
+    ((window >> following) & 255) as u8
 }
 
 // The byte of the last few bits of the window, with zero bits after them.
@@ -33,10 +33,10 @@ pub fn last_byte(window: u64, have: u32) -> u8
 
 // So many bits of the window, which so many others follow.
 #[tactic(auto, using(crate::proofs::Windows::taken))]
-pub fn taken(window: u64, behind: u32, width: u32) -> u32
+pub fn taken(window: u64, following: u32, width: u32) -> u32
     requires width { width ≤ 32 }
-    requires behind { behind < 64 }
-    ensures { result ≡ window / 2 ^ behind % 2 ^ width }
+    requires following { following < 64 }
+    ensures { result ≡ window / 2 ^ following % 2 ^ width }
 {
-    ((window >> behind) & ((1u64 << width) - 1)) as u32
+    ((window >> following) & ((1u64 << width) - 1)) as u32
 }

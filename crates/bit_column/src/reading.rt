@@ -26,8 +26,8 @@ pub fn field_at(bytes: &[u8], bit: usize, width: u32) -> u32
     ensures { result ≡ field width bit (bits_of 8 bytes.now) }
 {
     let head = front(&bytes[bit / 8..]);
-    let behind = 8 * head.len() - bit % 8 - width as usize;
-    taken(window(head), behind as u32, width)
+    let following = 8 * head.len() - bit % 8 - width as usize;
+    taken(window(head), following as u32, width)
 }
 
 // At most eight bytes.

@@ -44,9 +44,9 @@ counted_once m n x y lm ln e =
     let same : counted m ≡ counted n = same_fronts (counted m) (counted n) x y (same_length m n) e in
     sym (counted_back m lm) ∙ ap (from_be_bytes w32) same ∙ counted_back n ln
 
-pub counted_behind : (m n : ℕ) (x y : List ℕ) → counted m ++ x ≡ counted n ++ y → x ≡ y
-counted_behind m n x y e = same_rests (counted m) (counted n) x y (same_length m n) e
+pub counted_following : (m n : ℕ) (x y : List ℕ) → counted m ++ x ≡ counted n ++ y → x ≡ y
+counted_following m n x y e = same_rests (counted m) (counted n) x y (same_length m n) e
 
--- bytes, put together again from the number that was read and what is behind it
+-- bytes, put together again from the number that was read and what is after it
 pub counted_whole : (bytes rest : List ℕ) (n : ℕ) → AreBytes bytes → 4 ≤ length bytes → n ≡ from_be_bytes w32 (take 4 bytes) → rest ≡ drop 4 bytes → bytes ≡ counted n ++ rest
-counted_whole bytes rest n small long is behind = sym (take-append-drop 4 bytes) ∙ (λ i. sym (counted_read bytes n small long is) i ++ sym behind i)
+counted_whole bytes rest n small long is following = sym (take-append-drop 4 bytes) ∙ (λ i. sym (counted_read bytes n small long is) i ++ sym following i)

@@ -304,9 +304,9 @@ above a x (y ∷ ys) up lt =
 own_id : (x : ℕ) (xs : List ℕ) → has_id (x ∷ xs) x ≡ true
 own_id x xs = ap (λ b. b || has_id xs x) (eq-eqb x x refl)
 
-not_behind : (x : ℕ) (xs : List ℕ) → IsStrictlySortedBy nat_cmp (x ∷ xs) → has_id xs x ≡ false
-not_behind x [] up = refl
-not_behind x (y ∷ ys) up = above x y ys (sorted_tail nat_cmp x (y ∷ ys) up) (below_from_sorted (x ∷ y ∷ ys) 0 1 0 up (omega arith) (omega arith))
+not_following : (x : ℕ) (xs : List ℕ) → IsStrictlySortedBy nat_cmp (x ∷ xs) → has_id xs x ≡ false
+not_following x [] up = refl
+not_following x (y ∷ ys) up = above x y ys (sorted_tail nat_cmp x (y ∷ ys) up) (below_from_sorted (x ∷ y ∷ ys) 0 1 0 up (omega arith) (omega arith))
 
 same_heads : (x y : ℕ) (xs ys : List ℕ) → IsStrictlySortedBy nat_cmp (x ∷ xs) → IsStrictlySortedBy nat_cmp (y ∷ ys) → ((q : ℕ) → has_id (x ∷ xs) q ≡ has_id (y ∷ ys) q) → x ≡ y
 same_heads x y xs ys up down same =
@@ -326,9 +326,9 @@ same_ids [] (y ∷ ys) up down same = absurd (false≢true (same y ∙ own_id y 
 same_ids (x ∷ xs) [] up down same = absurd (false≢true (sym (same x) ∙ own_id x xs))
 same_ids (x ∷ xs) (y ∷ ys) up down same =
     let e : x ≡ y = same_heads x y xs ys up down same in
-    let none' : has_id ys x ≡ false = ap (has_id ys) e ∙ not_behind y ys down in
+    let none' : has_id ys x ≡ false = ap (has_id ys) e ∙ not_following y ys down in
     (λ i. e i ∷ same_ids xs ys (sorted_tail nat_cmp x xs up) (sorted_tail nat_cmp y ys down)
-    (λ q. same_tail_at x q xs ys (nat_eq q x) refl (not_behind x xs up) none' (same q ∙ ap (λ z. nat_eq q z || has_id ys q) (sym e))) i)
+    (λ q. same_tail_at x q xs ys (nat_eq q x) refl (not_following x xs up) none' (same q ∙ ap (λ z. nat_eq q z || has_id ys q) (sym e))) i)
 
 -- ---- the ids that match, ascending
 

@@ -77,14 +77,14 @@ no_text kind.Long t other e = false≢true e
 no_text kind.Text t other e = other refl
 
 -- the number at the front of a body that begins with the bytes of one
-pub number_front : (kind' : FieldKind) (e : Value) (more : List Value) (z : ℤ) (rest behind : List ℕ) → kind' ≢ kind.Text → Fits kind' e → is_in_range kind.Long z ≡ true
-    → rest ≡ number_bytes (value.Whole z) ++ behind → rest ≡ numbers (e ∷ more) → (e ≡ value.Whole z) × (behind ≡ numbers more)
-number_front kind' (value.Text t) more z rest behind other fit fz front all = absurd (no_text kind' t other fit)
-number_front kind' (value.Whole y) more z rest behind other fit fz front all =
-    let same : number_bytes (value.Whole z) ++ behind ≡ number_bytes (value.Whole y) ++ numbers more = sym front ∙ all in
+pub number_front : (kind' : FieldKind) (e : Value) (more : List Value) (z : ℤ) (rest following : List ℕ) → kind' ≢ kind.Text → Fits kind' e → is_in_range kind.Long z ≡ true
+    → rest ≡ number_bytes (value.Whole z) ++ following → rest ≡ numbers (e ∷ more) → (e ≡ value.Whole z) × (following ≡ numbers more)
+number_front kind' (value.Text t) more z rest following other fit fz front all = absurd (no_text kind' t other fit)
+number_front kind' (value.Whole y) more z rest following other fit fz front all =
+    let same : number_bytes (value.Whole z) ++ following ≡ number_bytes (value.Whole y) ++ numbers more = sym front ∙ all in
     let len : length (number_bytes (value.Whole z)) ≡ length (number_bytes (value.Whole y)) = length-number z ∙ sym (length-number y) in (
-      ap value.Whole (sym (number_once z y fz (fits_long kind' y fit) (same_fronts (number_bytes (value.Whole z)) (number_bytes (value.Whole y)) behind (numbers more) len same))),
-      same_rests (number_bytes (value.Whole z)) (number_bytes (value.Whole y)) behind (numbers more) len same,
+      ap value.Whole (sym (number_once z y fz (fits_long kind' y fit) (same_fronts (number_bytes (value.Whole z)) (number_bytes (value.Whole y)) following (numbers more) len same))),
+      same_rests (number_bytes (value.Whole z)) (number_bytes (value.Whole y)) following (numbers more) len same,
     )
 
 pub length-numbers : (kind' : FieldKind) (vs : List Value) → kind' ≢ kind.Text → All (Fits kind') vs → length (numbers vs) ≡ 8 * length vs
@@ -123,33 +123,33 @@ fits_of kind.Long z other e = e
 fits_of kind.Text z other e = absurd (other refl)
 
 -- eight bytes at the front
-chunk_front : (rest chunk behind : List ℕ) (z : ℤ) → number_bytes (value.Whole z) ≡ chunk → chunk ≡ take 8 rest → behind ≡ drop 8 rest → rest ≡ number_bytes (value.Whole z) ++ behind
-chunk_front rest chunk behind z spelled front back = sym (take-append-drop 8 rest) ∙ (λ i. sym (spelled ∙ front) i ++ sym back i)
+chunk_front : (rest chunk following : List ℕ) (z : ℤ) → number_bytes (value.Whole z) ≡ chunk → chunk ≡ take 8 rest → following ≡ drop 8 rest → rest ≡ number_bytes (value.Whole z) ++ following
+chunk_front rest chunk following z spelled front back = sym (take-append-drop 8 rest) ∙ (λ i. sym (spelled ∙ front) i ++ sym back i)
 
-pub numbers_more : (k : FieldKind) (count : ℕ) (bytes rest chunk behind : List ℕ) (vs new : List Value) (z : ℤ) → k ≢ kind.Text → number_bytes (value.Whole z) ≡ chunk → chunk ≡ take 8 rest → behind ≡ drop 8 rest
-    → is_in_range kind.Long z ≡ true → is_in_range k z ≡ true → is_above_last vs (value.Whole z) ≡ true → NumbersRead k count bytes rest vs → new ≡ vs ++ value.Whole z ∷ [] → NumbersRead k count bytes behind new
-numbers_more k count bytes rest chunk behind vs new z other spelled front back fz within above r is =
-    let split : rest ≡ number_bytes (value.Whole z) ++ behind = chunk_front rest chunk behind z spelled front back in
-    let size : length rest ≡ 8 + length behind = ap length split ∙ length-append (number_bytes (value.Whole z)) behind ∙ ap (λ n. n + length behind) (length-number z) in
+pub numbers_more : (k : FieldKind) (count : ℕ) (bytes rest chunk following : List ℕ) (vs new : List Value) (z : ℤ) → k ≢ kind.Text → number_bytes (value.Whole z) ≡ chunk → chunk ≡ take 8 rest → following ≡ drop 8 rest
+    → is_in_range kind.Long z ≡ true → is_in_range k z ≡ true → is_above_last vs (value.Whole z) ≡ true → NumbersRead k count bytes rest vs → new ≡ vs ++ value.Whole z ∷ [] → NumbersRead k count bytes following new
+numbers_more k count bytes rest chunk following vs new z other spelled front back fz within above r is =
+    let split : rest ≡ number_bytes (value.Whole z) ++ following = chunk_front rest chunk following z spelled front back in
+    let size : length rest ≡ 8 + length following = ap length split ∙ length-append (number_bytes (value.Whole z)) following ∙ ap (λ n. n + length following) (length-number z) in
     let more : length (vs ++ value.Whole z ∷ []) ≡ length vs + 1 = length-append vs (value.Whole z ∷ []) in
     let rsize = r.size in
-    subst (NumbersRead k count bytes behind) (sym is) (record {
-      read = read_more k (Whole k count bytes) (NumbersLeft count rest vs) (NumbersLeft count behind (vs ++ value.Whole z ∷ [])) vs (value.Whole z) r.read (fits_of k z other within) tt above
+    subst (NumbersRead k count bytes following) (sym is) (record {
+      read = read_more k (Whole k count bytes) (NumbersLeft count rest vs) (NumbersLeft count following (vs ++ value.Whole z ∷ [])) vs (value.Whole z) r.read (fits_of k z other within) tt above
           (λ xs h. (omega (arith, h.0), split ∙ ap (λ b. number_bytes (value.Whole z) ++ b) h.1))
           (λ h. absurd (omega (arith, h.0)))
-          (λ e xs fe ue h. let f = number_front k e xs z rest behind other fe fz split h.1 in (f.0, (omega (arith, h.0), f.1)));
+          (λ e xs fe ue h. let f = number_front k e xs z rest following other fe fz split h.1 in (f.0, (omega (arith, h.0), f.1)));
       size = omega arith;
     })
 
-pub numbers_refused : (k : FieldKind) (count : ℕ) (bytes rest chunk behind : List ℕ) (vs : List Value) (z : ℤ) → k ≢ kind.Text → number_bytes (value.Whole z) ≡ chunk → chunk ≡ take 8 rest → behind ≡ drop 8 rest
+pub numbers_refused : (k : FieldKind) (count : ℕ) (bytes rest chunk following : List ℕ) (vs : List Value) (z : ℤ) → k ≢ kind.Text → number_bytes (value.Whole z) ≡ chunk → chunk ≡ take 8 rest → following ≡ drop 8 rest
     → is_in_range kind.Long z ≡ true → NumbersRead k count bytes rest vs → (is_in_range k z ≡ true → is_above_last vs (value.Whole z) ≡ true → ⊥) → NoBody k count bytes
-numbers_refused k count bytes rest chunk behind vs z other spelled front back fz r refused all d n e =
-    let split : rest ≡ number_bytes (value.Whole z) ++ behind = chunk_front rest chunk behind z spelled front back in
-    let size : length rest ≡ 8 + length behind = ap length split ∙ length-append (number_bytes (value.Whole z)) behind ∙ ap (λ n. n + length behind) (length-number z) in
+numbers_refused k count bytes rest chunk following vs z other spelled front back fz r refused all d n e =
+    let split : rest ≡ number_bytes (value.Whole z) ++ following = chunk_front rest chunk following z spelled front back in
+    let size : length rest ≡ 8 + length following = ap length split ∙ length-append (number_bytes (value.Whole z)) following ∙ ap (λ n. n + length following) (length-number z) in
     let rsize = r.size in
     not_whole k (Whole k count bytes) (NumbersLeft count rest vs) vs r.read (λ h. omega (arith, h.0))
     (λ x xs fx ux above h.
-    let f = number_front k x xs z rest behind other fx fz split h.1 in
+    let f = number_front k x xs z rest following other fx fz split h.1 in
     refused (in_range_of k z (ap (fits k) (sym f.0) ∙ fx)) (ap (is_above_last vs) (sym f.0) ∙ above))
     all d (n, e)
 

@@ -40,7 +40,7 @@ is_above_from (Some last) v h = ap is_lt h
 abbrev pub Whole : FieldKind → ℕ → List ℕ → List Value → Type 0
 Whole kind count bytes values = (length values ≡ count) × (bytes ≡ body kind values)
 
--- values are read, so that exactly those that are left behind them make the whole
+-- values are read, so that exactly those that are left after them make the whole
 pub record IsRead (kind : FieldKind) (whole left : List Value → Type 0) (values : List Value) : Type 0 where
   pub forth : (more : List Value) → left more → whole (values ++ more)
   pub back : (all : List Value) → IsDictionary (record { kind = kind; values = all }) → whole all → (more : List Value) × (all ≡ values ++ more) × left more
@@ -62,12 +62,12 @@ none_read kind whole left forth back = record {
 at_seam : (P : Value → Type 0) (vs : List Value) (v : Value) (more : List Value) → All P (vs ++ v ∷ more) → P v
 at_seam P vs v more all = subst P (get_or-append_seam vs v more v) (all (length vs) v (omega (arith, length-append vs (v ∷ more))))
 
-pub read_more : (kind : FieldKind) (whole left behind : List Value → Type 0) (vs : List Value) (v : Value) → IsRead kind whole left vs → Fits kind v → IsUnicode v → is_above_last vs v ≡ true
-    → ((more : List Value) → behind more → left (v ∷ more))
+pub read_more : (kind : FieldKind) (whole left following : List Value → Type 0) (vs : List Value) (v : Value) → IsRead kind whole left vs → Fits kind v → IsUnicode v → is_above_last vs v ≡ true
+    → ((more : List Value) → following more → left (v ∷ more))
     → ¬ (left [])
-    → ((e : Value) (more : List Value) → Fits kind e → IsUnicode e → left (e ∷ more) → (e ≡ v) × behind more)
-    → IsRead kind whole behind (vs ++ v ∷ [])
-read_more kind whole left behind vs v r fit unicode above forth some back = record {
+    → ((e : Value) (more : List Value) → Fits kind e → IsUnicode e → left (e ∷ more) → (e ≡ v) × following more)
+    → IsRead kind whole following (vs ++ v ∷ [])
+read_more kind whole left following vs v r fit unicode above forth some back = record {
   forth = λ more h. subst whole (sym (append_assoc vs (v ∷ []) more)) (r.forth (v ∷ more) (forth more h));
   back = λ all d h.
       let b = r.back all d h in
@@ -76,7 +76,7 @@ read_more kind whole left behind vs v r fit unicode above forth some back = reco
   unicode = All-push IsUnicode vs v r.unicode unicode;
   ascends = push_ascends value_order-total vs v r.ascends (above_from (slice_get vs (length vs - 1)) v above);
 } where
-  more_back : (all more : List Value) → all ≡ vs ++ more → IsDictionary (record { kind = kind; values = all }) → left more → (rest : List Value) × (all ≡ (vs ++ v ∷ []) ++ rest) × behind rest
+  more_back : (all more : List Value) → all ≡ vs ++ more → IsDictionary (record { kind = kind; values = all }) → left more → (rest : List Value) × (all ≡ (vs ++ v ∷ []) ++ rest) × following rest
   more_back all [] e d h = absurd (some h)
   more_back all (x ∷ xs) e d h =
       let fx : Fits kind x = at_seam (Fits kind) vs x xs (subst (All (Fits kind)) e d.fit) in

@@ -26,12 +26,12 @@ all_less ids id less =
 -- of the ids before one, those of which the test holds
 pub record Passed (test : ℕ → Bool) (i : ℕ) (ids : List ℕ) : Type 0 where
   pub before : (q : ℕ) → q < i → has_id ids q ≡ test q
-  pub behind : (q : ℕ) → i ≤ q → has_id ids q ≡ false
+  pub following : (q : ℕ) → i ≤ q → has_id ids q ≡ false
 
 pub pass_none : (test : ℕ → Bool) (i : ℕ) (ids : List ℕ) → ids ≡ [] → ((q : ℕ) → q < i → test q ≡ false) → Passed test i ids
 pass_none test i ids none before = record {
   before = (λ q lt. ap (λ xs. has_id xs q) none ∙ sym (before q lt));
-  behind = (λ q le. ap (λ xs. has_id xs q) none);
+  following = (λ q le. ap (λ xs. has_id xs q) none);
 }
 
 yes_before : (test : ℕ → Bool) (i q : ℕ) (ids : List ℕ) (t : Bool) → nat_eq q i ≡ t → test i ≡ true → Passed test i ids → q < i + 1 → t || has_id ids q ≡ test q
@@ -41,7 +41,7 @@ yes_before test i q ids false e holds p lt = p.before q (let apart = eqb-false q
 pub pass_yes : (test : ℕ → Bool) (i : ℕ) (ids new : List ℕ) → test i ≡ true → Passed test i ids → new ≡ ids ++ i ∷ [] → Passed test (i + 1) new
 pass_yes test i ids new holds p is = record {
   before = (λ q lt. ap (λ xs. has_id xs q) is ∙ has_pushed ids i q ∙ yes_before test i q ids (nat_eq q i) refl holds p lt);
-  behind = (λ q le. ap (λ xs. has_id xs q) is ∙ has_pushed ids i q ∙ ap (λ b. b || has_id ids q) (ne_eqb q i (λ e. omega (arith, e, le))) ∙ p.behind q (omega (arith, le)));
+  following = (λ q le. ap (λ xs. has_id xs q) is ∙ has_pushed ids i q ∙ ap (λ b. b || has_id ids q) (ne_eqb q i (λ e. omega (arith, e, le))) ∙ p.following q (omega (arith, le)));
 }
 
 pub pass_no : (test : ℕ → Bool) (i : ℕ) (ids : List ℕ) → test i ≡ false → Passed test i ids → Passed test (i + 1) ids
@@ -49,9 +49,9 @@ pass_no test i ids fails p = record {
   before = (λ q lt.
       elim (cases_lt q i) [
         | inl below ↦ p.before q below
-        | inr le ↦ (let same : q ≡ i = omega (arith, lt, le) in p.behind q le ∙ sym (ap test same ∙ fails))
+        | inr le ↦ (let same : q ≡ i = omega (arith, lt, le) in p.following q le ∙ sym (ap test same ∙ fails))
       ]);
-  behind = (λ q le. p.behind q (omega (arith, le)));
+  following = (λ q le. p.following q (omega (arith, le)));
 }
 
 pub pass_above : (test : ℕ → Bool) (i : ℕ) (ids : List ℕ) → Passed test i ids → IsAboveLast ids i
@@ -59,14 +59,14 @@ pass_above test i ids p =
     all_less ids i (λ q there.
     elim (cases_lt q i) [
       | inl lt ↦ lt
-      | inr le ↦ absurd (both_ways (has_id ids q) (p.behind q le) there)
+      | inr le ↦ absurd (both_ways (has_id ids q) (p.following q le) there)
     ])
 
 pub pass_end : (test : ℕ → Bool) (i : ℕ) (ids : List ℕ) → ((q : ℕ) → i ≤ q → test q ≡ false) → Passed test i ids → AreThose test ids
 pass_end test i ids none p q =
     elim (cases_lt q i) [
       | inl lt ↦ p.before q lt
-      | inr le ↦ p.behind q le ∙ sym (none q le)
+      | inr le ↦ p.following q le ∙ sym (none q le)
     ]
 
 -- ---- a run
@@ -77,8 +77,8 @@ run_at from to id le lt = (λ i. le-leb from id le i && lt-ltb id to lt i)
 pub run_before : (from to q : ℕ) → q < from → is_within from to q ≡ false
 run_before from to q lt = ap (λ b. b && nat_lt q to) (lt-leb from q lt)
 
-pub run_behind : (from to i q : ℕ) → (from ≤ to → to ≤ i) → (from ≤ i) → i ≤ q → is_within from to q ≡ false
-run_behind from to i q end start le =
+pub run_following : (from to i q : ℕ) → (from ≤ to → to ≤ i) → (from ≤ i) → i ≤ q → is_within from to q ≡ false
+run_following from to i q end start le =
     elim (cases_lt q to) [
       | inl lt ↦ absurd (let past = end (omega (arith, start, le, lt)) in let no : ⊥ = omega (arith, past, le, lt) in no)
       | inr past ↦ ap (λ b. nat_le from q && b) (le-ltb q to past) ∙ and_none (nat_le from q)

@@ -11,7 +11,7 @@ use Rattle.values.specs.declared.value.Value.TheVariants as value
 use Rattle.dictionary.specs.Dictionary.{Distinct, Fits, IsDictionary, most_values}
 use Rattle.dictionary.specs.Reading.{IsBody, NoBody}
 use Rattle.dictionary.specs.Spelling.{SpellsOne, body, counted, numbers, offsets, spelling, texts}
-use Rattle.dictionary.proofs.Bytes.{counted_behind, counted_once, length-counted, same_fronts, same_rests}
+use Rattle.dictionary.proofs.Bytes.{counted_following, counted_once, length-counted, same_fronts, same_rests}
 use Rattle.dictionary.proofs.Numbers.{fits_long, length-numbers, no_text, number_front}
 use Rattle.dictionary.proofs.Texts.{length-offsets, offsets_first, offsets_rest}
 use borrow.Author.Tests.{leb-true}
@@ -73,7 +73,7 @@ bodies_once kind.Text vs ws few fv fw n e =
 pub spells_one : SpellsOne
 spells_one a b da db ke e =
     let n : length a.values ≡ length b.values = counted_once (length a.values) (length b.values) (body a.kind a.values) (body b.kind b.values) (let f = da.few in omega arith) (let f = db.few in omega arith) e in
-    let bodies : body a.kind a.values ≡ body a.kind b.values = counted_behind (length a.values) (length b.values) (body a.kind a.values) (body b.kind b.values) e ∙ ap (λ k. body k b.values) (sym ke) in
+    let bodies : body a.kind a.values ≡ body a.kind b.values = counted_following (length a.values) (length b.values) (body a.kind a.values) (body b.kind b.values) e ∙ ap (λ k. body k b.values) (sym ke) in
     let fb : All (Fits a.kind) b.values = subst (λ k. All (Fits k) b.values) (sym ke) db.fit in
     let values : a.values ≡ b.values = bodies_once a.kind a.values b.values da.few da.fit fb n bodies in
     (λ i. record { kind = ke i; values = values i })
@@ -98,5 +98,5 @@ too_many k count bytes rest fits' front many d stands is e =
 
 pub no_spelling : (k : FieldKind) (count : ℕ) (bytes rest : List ℕ) → count < 2 ^ 32 → bytes ≡ counted count ++ rest → NoBody k count rest → SpellsNone k bytes
 no_spelling k count bytes rest fits' front none d stands is e =
-    let same : rest ≡ body d.kind d.values = counted_behind count (length d.values) rest (body d.kind d.values) (sym front ∙ e) in
+    let same : rest ≡ body d.kind d.values = counted_following count (length d.values) rest (body d.kind d.values) (sym front ∙ e) in
     none d.values (subst (λ x. IsDictionary (record { kind = x; values = d.values })) is stands) (sym (counts count bytes rest d fits' front stands e)) (same ∙ ap (λ x. body x d.values) is)

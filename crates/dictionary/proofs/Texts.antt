@@ -39,20 +39,20 @@ unfolding offsets_rest
 offsets_first start [] = sym (append-nil (counted start))
 offsets_first start (v ∷ vs) = refl
 
--- the offsets behind the first text's
-offs_behind : (left : Left) (t : List ℕ) (more : List Value) → Spells left (value.Text t ∷ more) → left.offsets ≡ offsets (left.start + length t) more
-offs_behind left t more h = append_cancel_left (counted left.start) left.offsets (offsets (left.start + length t) more) h.0
+-- the offsets after the first text's
+offs_following : (left : Left) (t : List ℕ) (more : List Value) → Spells left (value.Text t ∷ more) → left.offsets ≡ offsets (left.start + length t) more
+offs_following left t more h = append_cancel_left (counted left.start) left.offsets (offsets (left.start + length t) more) h.0
 
 -- the offset that is read is where the text ends
 pub end_is : (left : Left) (n : ℕ) (offs t : List ℕ) (more : List Value) → left.start ≤ 536870912 → length t ≤ 512 → n < 2 ^ 32 → left.offsets ≡ counted n ++ offs → Spells left (value.Text t ∷ more) → n ≡ left.start + length t
 end_is left n offs t more near short fits is h =
-    counted_once n (left.start + length t) offs (offsets_rest (left.start + length t) more) fits (omega arith) (sym is ∙ offs_behind left t more h ∙ offsets_first (left.start + length t) more)
+    counted_once n (left.start + length t) offs (offsets_rest (left.start + length t) more) fits (omega arith) (sym is ∙ offs_following left t more h ∙ offsets_first (left.start + length t) more)
 
 -- ---- the next text
 
 pub no_offset : (left : Left) → length left.offsets < 4 → NoNext left
 no_offset left few t more short unicode h =
-    omega (arith, ap length (offs_behind left t more h), length-offsets (left.start + length t) more)
+    omega (arith, ap length (offs_following left t more h), length-offsets (left.start + length t) more)
 
 pub ends_before : (left : Left) (n : ℕ) (offs : List ℕ) → left.start ≤ 536870912 → n < 2 ^ 32 → left.offsets ≡ counted n ++ offs → n < left.start → NoNext left
 ends_before left n offs near fits is before t more short unicode h = omega (arith, end_is left n offs t more near short fits is h)
@@ -92,7 +92,7 @@ next_is left n offs text rest near fits split after short len front back unicode
           let at : n ≡ left.start + length other = end_is left n offs other more near few fits split h in
           let same : length text ≡ length other = omega arith in
           let both : text ++ rest ≡ other ++ texts more = sym parts ∙ h.1 in
-          (sym (same_fronts text other rest (texts more) same both), (sym split ∙ offs_behind left other more h ∙ ap (λ m. offsets m more) (sym at), same_rests text other rest (texts more) same both));
+          (sym (same_fronts text other rest (texts more) same both), (sym split ∙ offs_following left other more h ∙ ap (λ m. offsets m more) (sym at), same_rests text other rest (texts more) same both));
     }
 
 -- ---- the body of texts
@@ -140,24 +140,24 @@ texts_begin count bytes offs rest start vs zero size parts none =
       reached = refl;
     }))
 
-text_back : (left behind : Left) (t : List ℕ) (e : Value) (more : List Value) → IsNext left t behind → Fits kind.Text e → Spells left (e ∷ more) → (e ≡ value.Text t) × Spells behind more
-text_back left behind t (value.Whole z) more next fit h = absurd (false≢true fit)
-text_back left behind t (value.Text other) more next fit h = let b = next.back other more (leb-true (length other) 512 fit) h in (ap value.Text b.0, b.1)
+text_back : (left following : Left) (t : List ℕ) (e : Value) (more : List Value) → IsNext left t following → Fits kind.Text e → Spells left (e ∷ more) → (e ≡ value.Text t) × Spells following more
+text_back left following t (value.Whole z) more next fit h = absurd (false≢true fit)
+text_back left following t (value.Text other) more next fit h = let b = next.back other more (leb-true (length other) 512 fit) h in (ap value.Text b.0, b.1)
 
-pub texts_more : (count done : ℕ) (bytes : List ℕ) (left behind : Left) (vs new : List Value) (t : List ℕ) → IsNext left t behind → is_above_last vs (value.Text t) ≡ true → done < count → TextsRead count bytes left vs done
-    → new ≡ vs ++ value.Text t ∷ [] → TextsRead count bytes behind new (done + 1)
-texts_more count done bytes left behind vs new t next above more r is =
+pub texts_more : (count done : ℕ) (bytes : List ℕ) (left following : Left) (vs new : List Value) (t : List ℕ) → IsNext left t following → is_above_last vs (value.Text t) ≡ true → done < count → TextsRead count bytes left vs done
+    → new ≡ vs ++ value.Text t ∷ [] → TextsRead count bytes following new (done + 1)
+texts_more count done bytes left following vs new t next above more r is =
     let size : length (vs ++ value.Text t ∷ []) ≡ length vs + 1 = length-append vs (value.Text t ∷ []) in
     let rnear = r.near in
     let rsize = r.size in
     let rcount = r.reached in
     let near = next.near in
     let offset = next.offset in
-    subst (λ xs. TextsRead count bytes behind xs (done + 1)) (sym is) (record {
-      read = read_more kind.Text (Whole kind.Text count bytes) (TextsLeft count left vs) (TextsLeft count behind (vs ++ value.Text t ∷ [])) vs (value.Text t) r.read (le-leb (length t) 512 next.short) next.unicode above
+    subst (λ xs. TextsRead count bytes following xs (done + 1)) (sym is) (record {
+      read = read_more kind.Text (Whole kind.Text count bytes) (TextsLeft count left vs) (TextsLeft count following (vs ++ value.Text t ∷ [])) vs (value.Text t) r.read (le-leb (length t) 512 next.short) next.unicode above
           (λ xs h. (omega (arith, h.0), next.forth xs h.1))
           (λ h. absurd (omega (arith, h.0)))
-          (λ e xs fe ue h. let b = text_back left behind t e xs next fe h.1 in (b.0, (omega (arith, h.0), b.1)));
+          (λ e xs fe ue h. let b = text_back left following t e xs next fe h.1 in (b.0, (omega (arith, h.0), b.1)));
       near = omega arith;
       size = omega arith;
       reached = omega arith;
@@ -172,11 +172,11 @@ texts_stop count done bytes left vs none more r all d n e =
     let rcount = r.reached in
     not_whole kind.Text (Whole kind.Text count bytes) (TextsLeft count left vs) vs r.read (λ h. omega (arith, h.0)) (λ x xs fx ux above h. none_next left x xs none fx ux h.1) all d (n, e)
 
-pub texts_fall : (count done : ℕ) (bytes : List ℕ) (left behind : Left) (vs : List Value) (t : List ℕ) → IsNext left t behind → is_above_last vs (value.Text t) ≡ false → done < count → TextsRead count bytes left vs done → NoBody kind.Text count bytes
-texts_fall count done bytes left behind vs t next falls more r all d n e =
+pub texts_fall : (count done : ℕ) (bytes : List ℕ) (left following : Left) (vs : List Value) (t : List ℕ) → IsNext left t following → is_above_last vs (value.Text t) ≡ false → done < count → TextsRead count bytes left vs done → NoBody kind.Text count bytes
+texts_fall count done bytes left following vs t next falls more r all d n e =
     let rcount = r.reached in
     not_whole kind.Text (Whole kind.Text count bytes) (TextsLeft count left vs) vs r.read (λ h. omega (arith, h.0))
-    (λ x xs fx ux above h. let b = text_back left behind t x xs next fx h.1 in false≢true (sym falls ∙ ap (is_above_last vs) (sym b.0) ∙ above))
+    (λ x xs fx ux above h. let b = text_back left following t x xs next fx h.1 in false≢true (sym falls ∙ ap (is_above_last vs) (sym b.0) ∙ above))
     all d (n, e)
 
 pub texts_over : (count done : ℕ) (bytes : List ℕ) (left : Left) (vs : List Value) → left.texts ≢ [] → done ≡ count → TextsRead count bytes left vs done → NoBody kind.Text count bytes

@@ -43,10 +43,10 @@ abbrev pub NoNext : Left → Type 0
 NoNext left = (text : List ℕ) (more : List Value) → length text ≤ 512 → IsUtf8 text → ¬ (Spells left (Text text ∷ more))
 
 -- the text is the next, and what is left after it
-pub record IsNext (left : Left) (text : List ℕ) (behind : Left) : Type 0 where
+pub record IsNext (left : Left) (text : List ℕ) (following : Left) : Type 0 where
   pub short : length text ≤ 512
   pub unicode : IsUtf8 text
-  pub near : behind.start ≤ left.start + 512
-  pub offset : length left.offsets ≡ length behind.offsets + 4
-  pub forth : (more : List Value) → Spells behind more → Spells left (Text text ∷ more)
-  pub back : (other : List ℕ) (more : List Value) → length other ≤ 512 → Spells left (Text other ∷ more) → (other ≡ text) × Spells behind more
+  pub near : following.start ≤ left.start + 512
+  pub offset : length left.offsets ≡ length following.offsets + 4
+  pub forth : (more : List Value) → Spells following more → Spells left (Text text ∷ more)
+  pub back : (other : List ℕ) (more : List Value) → length other ≤ 512 → Spells left (Text other ∷ more) → (other ≡ text) × Spells following more

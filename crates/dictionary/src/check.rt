@@ -17,7 +17,7 @@ impl Dictionary {
         ensures ok { IfOk result (λ d. bytes.now ≡ spelling d) }
         ensures bad { IfErr result (λ fault. fault ≡ DictFault.BadDictionary →
             (d : Distinct) → IsDictionary d → d.kind ≡ kind → bytes.now ≢ spelling d) }
-        ensures stands { IfOk result IsDictionary }
+        ensures valid { IfOk result IsDictionary }
     {
         let Some((count, body)) = split_number(bytes) else {
             return Err(DictFault::BadDictionary);
@@ -76,14 +76,14 @@ fn read_numbers(
     }
     let mut values = Vec::with_capacity(alloc, count)?;
     let mut rest = body;
-    while let Some((chunk, behind)) = rest.split_first_chunk::<8>() {
+    while let Some((chunk, following)) = rest.split_first_chunk::<8>() {
         let number = number_of(chunk);
         let value = Value::Whole(number);
         if !is_in_range(kind, number) || !is_above_last(&values, &value) {
             return Err(DictFault::BadDictionary);
         }
         keep(&mut values, value)?;
-        rest = behind;
+        rest = following;
     }
     Ok(values)
 }
@@ -143,7 +143,7 @@ fn read_texts(alloc: Global, count: usize, body: &[u8]) -> Result<Vec<Value>, Di
     };
     let mut values = Vec::with_capacity(alloc, count)?;
     for _ in 0..count {
-        let Some((text, behind)) = next_text(ahead) else {
+        let Some((text, following)) = next_text(ahead) else {
             return Err(DictFault::BadDictionary);
         };
         let value = Value::Text(Name::from_text(alloc, text)?);
@@ -151,7 +151,7 @@ fn read_texts(alloc: Global, count: usize, body: &[u8]) -> Result<Vec<Value>, Di
             return Err(DictFault::BadDictionary);
         }
         keep(&mut values, value)?;
-        ahead = behind;
+        ahead = following;
     }
     if !ahead.texts.is_empty() {
         return Err(DictFault::BadDictionary);

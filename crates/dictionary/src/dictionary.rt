@@ -49,7 +49,7 @@ impl Dictionary {
         ensures distinct { IfOk result (λ d. d.values ≡ distinct column.now) }
         ensures members { IfOk result (λ d. (value : _) →
             is_member d.values value ≡ is_member column.now value) }
-        ensures stands { IfOk result IsDictionary }
+        ensures valid { IfOk result IsDictionary }
     {
         let values = distinct_values(alloc, column.as_slice())?;
         Ok(Dictionary { kind, values })
@@ -67,7 +67,7 @@ impl Dictionary {
         ensures distinct { IfOk result (λ r. r.0.values ≡ distinct column.now.values) }
         ensures members { IfOk result (λ r. (value : _) →
             is_member r.0.values value ≡ is_member column.now.values value) }
-        ensures stands { IfOk result (λ r. IsDictionary r.0) }
+        ensures valid { IfOk result (λ r. IsDictionary r.0) }
         ensures ids { IfOk result (λ r. Codes r.0.values r.1.items column.now.values) }
     {
         let Coded { values: seen, ids } = code_column(alloc, column)?;
@@ -85,7 +85,7 @@ impl Dictionary {
 
     pub fn count(&self) -> u32
         ensures count { result ≡ length self.now.values }
-        ensures stands { IsDictionary self.now }
+        ensures valid { IsDictionary self.now }
     {
         self.values.len() as u32
     }

@@ -57,7 +57,7 @@ impl IdSet {
 
     pub fn as_slice(&self) -> &[u32]
         ensures same { result.now ≡ self.now }
-        ensures stands { IsIdSet self.now }
+        ensures valid { IsIdSet self.now }
     {
         self.ids.as_slice()
     }

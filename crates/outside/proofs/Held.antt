@@ -188,7 +188,7 @@ pub absent_after : (taken : Option (List ℕ)) (held new : Files) (name : List �
 absent_after None held new name e is = is ∙ remove_absent held name (sym e)
 absent_after (Some bytes) held new name e is = tt
 
--- to take a file away, add to its bytes and put it back is to put it with more behind it
+-- to take a file away, add to its bytes and put it back is to put it with more after it
 pub appended_after : (held rest new : Files) (name key : List ℕ) (taken : Option (List ℕ)) (none bytes all more : List ℕ) → taken ≡ map.get held name → rest ≡ map.remove held name
     → none ≡ [] → bytes ≡ unwrap_or taken none → all ≡ bytes ++ more → key ≡ name → new ≡ map.insert rest key all → new ≡ map.insert held name (bytes_of (Some held) name ++ more)
 appended_after held rest new name key taken none bytes all more at left empty is with same put_in =

@@ -55,14 +55,14 @@ pub front-starts : (held : Option Files) (name : List ℕ) (offset : ℕ) (into 
 front-starts None name offset into = tt
 front-starts (Some files) name offset into = (omega arith, refl)
 
--- where a buffer has the front of a list, it has more of it after a read behind that front
-front_of : (rest into new behind : List ℕ) (done n k : ℕ) → done ≤ length into → done + n ≤ length rest → new ≡ take n (drop done rest) ++ behind → take done into ≡ take done rest
+-- where a buffer has the front of a list, it has more of it after a read after that front
+front_of : (rest into new following : List ℕ) (done n k : ℕ) → done ≤ length into → done + n ≤ length rest → new ≡ take n (drop done rest) ++ following → take done into ≡ take done rest
     → take (done + n) (put_mid done k into new) ≡ take (done + n) rest
-front_of rest into new behind done n k within long is before =
+front_of rest into new following done n k within long is before =
     let first : length (take done into) ≡ done = grind (arith, length-take done into) in
     let more : length (take n (drop done rest)) ≡ n = grind (arith, length-take n (drop done rest), length-drop done rest) in
-    let tail : List ℕ = behind ++ post_of done k into in
-    let shape : put_mid done k into new ≡ take done into ++ (take n (drop done rest) ++ tail) = ap (λ ys. take done into ++ (ys ++ post_of done k into)) is ∙ ap (λ ys. take done into ++ ys) (append_assoc (take n (drop done rest)) behind (post_of done k into)) in
+    let tail : List ℕ = following ++ post_of done k into in
+    let shape : put_mid done k into new ≡ take done into ++ (take n (drop done rest) ++ tail) = ap (λ ys. take done into ++ (ys ++ post_of done k into)) is ∙ ap (λ ys. take done into ++ ys) (append_assoc (take n (drop done rest)) following (post_of done k into)) in
     ap (take (done + n)) shape
     ∙ ap (λ m. take (m + n) (take done into ++ (take n (drop done rest) ++ tail))) (sym first)
     ∙ take-append-add (take done into) (take n (drop done rest) ++ tail) n
@@ -133,10 +133,10 @@ at_most : (b : Bool) (x : ℕ) → x ≡ 0 → (if b then x else 0) ≡ 0
 at_most true x e = e
 at_most false x e = refl
 
--- a read that ends before the stretch, or begins behind it, adds nothing
+-- a read that ends before the stretch, or begins after it, adds nothing
 pub read_by-apart : (entry : Entry) (file : List ℕ) (from to : ℕ) → (entry.offset + entry.count ≤ from) ⊎ (to ≤ entry.offset) → read_by entry file from to ≡ 0
 read_by-apart entry file from to (inl before) = at_most _ (overlap entry.offset (entry.offset + entry.count) from to) (omega (arith, before))
-read_by-apart entry file from to (inr behind) = at_most _ (overlap entry.offset (entry.offset + entry.count) from to) (omega (arith, behind))
+read_by-apart entry file from to (inr following) = at_most _ (overlap entry.offset (entry.offset + entry.count) from to) (omega (arith, following))
 
 -- reads that go back to back do not go back
 pub Consecutive-le : (file : List ℕ) (a b : ℕ) (entries : List Entry) → Consecutive file a b entries → a ≤ b

@@ -210,17 +210,17 @@ module _ (table : Table) (any_table : Bool) (q : Query) (b : Bound) (is : bound 
   limits = first_none (limits_finding terms) _ (rest_none (grouped_finding q) _ (rest_none (aggregate_finding q) _
       (rest_none (names_finding table.schema.fields q) _ (rest_none (table_finding table any_table q) _ own.0))))
 
-  behind_aggs : first_of (groups_finding [] terms.groups ∷ keys_finding 0 (aggs_from [] terms.items) terms.keys ∷ []) ≡ None
-  behind_aggs = rest_none (aggs_finding [] terms.items) _ limits
+  following_aggs : first_of (groups_finding [] terms.groups ∷ keys_finding 0 (aggs_from [] terms.items) terms.keys ∷ []) ≡ None
+  following_aggs = rest_none (aggs_finding [] terms.items) _ limits
 
   keys : (length (aggs_of terms) ≤ 16) × (0 + length terms.keys ≤ 16)
   keys = small_keys 0 (aggs_from [] terms.items) terms.keys (omega arith)
       (small_aggs [] terms.items (omega arith) (first_none (aggs_finding [] terms.items) _ limits))
-      (first_none (keys_finding 0 (aggs_from [] terms.items) terms.keys) _ (rest_none (groups_finding [] terms.groups) _ behind_aggs))
+      (first_none (keys_finding 0 (aggs_from [] terms.items) terms.keys) _ (rest_none (groups_finding [] terms.groups) _ following_aggs))
 
   kept : (length (groups_of terms) ≤ 8) × (length (aggs_of terms) ≤ 16) × (length (keys_of (groups_of terms) (aggs_of terms) terms.keys) ≤ 16)
   kept = (
-    small_groups [] terms.groups (omega arith) (first_none (groups_finding [] terms.groups) _ behind_aggs),
+    small_groups [] terms.groups (omega arith) (first_none (groups_finding [] terms.groups) _ following_aggs),
     keys.0,
     omega (arith, keys.1, as_many_keys (groups_of terms) (aggs_of terms) terms.keys),
   )

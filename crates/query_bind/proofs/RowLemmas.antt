@@ -239,8 +239,8 @@ module _ (row : List Value) where
     named_here w ws e = and_left (named (fields_of w)) (named (flat_map (λ fields. fields) (map fields_of ws)))
         (sym (list_all-append (λ other. other == field) (fields_of w) (flat_map (λ fields. fields) (map fields_of ws))) ∙ e)
 
-    named_behind : (w : Wide) (ws : List Wide) → named (flat_map (λ fields. fields) (map fields_of (w ∷ ws))) ≡ true → named (flat_map (λ fields. fields) (map fields_of ws)) ≡ true
-    named_behind w ws e = and_right (named (fields_of w)) (named (flat_map (λ fields. fields) (map fields_of ws)))
+    named_following : (w : Wide) (ws : List Wide) → named (flat_map (λ fields. fields) (map fields_of (w ∷ ws))) ≡ true → named (flat_map (λ fields. fields) (map fields_of ws)) ≡ true
+    named_following w ws e = and_right (named (fields_of w)) (named (flat_map (λ fields. fields) (map fields_of ws)))
         (sym (list_all-append (λ other. other == field) (fields_of w) (flat_map (λ fields. fields) (map fields_of ws))) ∙ e)
 
     all_tests : (inner : List ((w : Wide) × IsTest w)) → named (flat_map (λ fields. fields) (map fields_of (map (λ e. e.0) inner))) ≡ true
@@ -248,14 +248,14 @@ module _ (row : List Value) where
     all_tests [] e = refl
     all_tests (w ∷ ws) e =
         ap (λ b. b && all_true (map (tests.holds (cell row field)) (map test_of (map (λ e. e.0) ws)))) (w.1 (named_here w.0 (map (λ e. e.0) ws) e))
-        ∙ ap (λ b. wide_holds row w.0 && b) (all_tests ws (named_behind w.0 (map (λ e. e.0) ws) e))
+        ∙ ap (λ b. wide_holds row w.0 && b) (all_tests ws (named_following w.0 (map (λ e. e.0) ws) e))
 
     any_tests : (inner : List ((w : Wide) × IsTest w)) → named (flat_map (λ fields. fields) (map fields_of (map (λ e. e.0) inner))) ≡ true
         → any_true (map (tests.holds (cell row field)) (map test_of (map (λ e. e.0) inner))) ≡ any_true (map (wide_holds row) (map (λ e. e.0) inner))
     any_tests [] e = refl
     any_tests (w ∷ ws) e =
         ap (λ b. b || any_true (map (tests.holds (cell row field)) (map test_of (map (λ e. e.0) ws)))) (w.1 (named_here w.0 (map (λ e. e.0) ws) e))
-        ∙ ap (λ b. wide_holds row w.0 || b) (any_tests ws (named_behind w.0 (map (λ e. e.0) ws) e))
+        ∙ ap (λ b. wide_holds row w.0 || b) (any_tests ws (named_following w.0 (map (λ e. e.0) ws) e))
 
     test_layer : (y : Wide-F ((w : Wide) × IsTest w)) → named (fields_step (map-Wide Wide (List ℕ) fields_of (map-Wide ((w : Wide) × IsTest w) Wide (λ e. e.0) y))) ≡ true
         → tests.holds (cell row field) (test_step (map-Wide Wide Test test_of (map-Wide ((w : Wide) × IsTest w) Wide (λ e. e.0) y)))

@@ -147,10 +147,10 @@ test_compared column k.Between op ts h = absurd (cc)
 test_compared column k.Not op ts h = absurd (cc)
 test_compared column kd op ts h = ap (λ o. c.compared column o ts) h
 
--- a test, from what stands behind its name
-behind_name : (ts mid us : Stream) (column : NameAt) (x : Cond) → SpellsName ts column mid → c.test_by column (kind mid) mid ≡ Ok (x, us) → c.predicate ts ≡ Ok (x, us)
+-- a test, from what stands after its name
+following_name : (ts mid us : Stream) (column : NameAt) (x : Cond) → SpellsName ts column mid → c.test_by column (kind mid) mid ≡ Ok (x, us) → c.predicate ts ≡ Ok (x, us)
 unfolding c.predicate
-behind_name ts mid us column x s e = then name _ ts mid column (name_again ts mid column s) ∙ e
+following_name ts mid us column x s e = then name _ ts mid column (name_again ts mid column s) ∙ e
 
 in_again : (column : NameAt) (b : Bool) (vs : List LiteralAt) (t0 t1 t2 t3 t4 us : Stream) → MayNegate t0 b t1 → Skips k.In t1 t2 → Skips k.LParen t2 t3 → SpellsList k.Comma SpellsLiteral t3 vs t4 → Skips k.RParen t4 us
     → c.test_by column (kind t0) t0 ≡ Ok (OneOf column vs b, us)
@@ -181,11 +181,11 @@ compare_step column op v t rest us is value =
 
 pub test_again : (ts : Stream) (x : Cond) (us : Stream) → SpellsTest ts x us → c.predicate ts ≡ Ok (x, us)
 test_again ts x us s = elim s [
-  | inl t ↦ behind_name ts (t.sign ∷ t.rest) us t.column (Compare t.column t.op t.value) t.spells_column (compare_step t.column t.op t.value t.sign t.rest us t.is_op t.spells_value) ∙ ap (λ y. Ok (y, us)) (sym t.tree)
+  | inl t ↦ following_name ts (t.sign ∷ t.rest) us t.column (Compare t.column t.op t.value) t.spells_column (compare_step t.column t.op t.value t.sign t.rest us t.is_op t.spells_value) ∙ ap (λ y. Ok (y, us)) (sym t.tree)
   | inr r ↦ elim r [
-    | inl t ↦ behind_name ts t.after_column us t.column (OneOf t.column t.values t.negated) t.spells_column
+    | inl t ↦ following_name ts t.after_column us t.column (OneOf t.column t.values t.negated) t.spells_column
         (in_again t.column t.negated t.values t.after_column t.at_in t.at_open t.inside t.at_close us t.negation t.word t.opens t.spells_values t.closes) ∙ ap (λ y. Ok (y, us)) (sym t.tree)
-    | inr t ↦ behind_name ts t.after_column us t.column (Between t.column t.low t.high t.negated) t.spells_column
+    | inr t ↦ following_name ts t.after_column us t.column (Between t.column t.low t.high t.negated) t.spells_column
         (range_again t.column t.negated t.low t.high t.after_column t.at_between t.at_low t.at_and t.at_high us t.negation t.word t.spells_low t.and_word t.spells_high) ∙ ap (λ y. Ok (y, us)) (sym t.tree)
   ]
 ]

@@ -67,7 +67,7 @@ eaten kd ts us l s =
 passed : (kd : Kind) (ts : Stream) → sees kd ts ≡ false → eat kd ts ≡ Ok (false, ts)
 passed kd ts s = ap₂ (λ b r. Ok (b, r)) s (not_after kd ts s)
 
--- ---- options and lists behind a word
+-- ---- options and lists after a word
 
 optional_again : {A : Type 0} (kd : Kind) (rule : Rule A) (p : Parser A) (ts : Stream) (o : Option A) (us : Stream) → is_last kd ≡ false
     → ((ts : Stream) (a : A) → rule ts a us → p ts ≡ Ok (a, us)) → (us ≡ ts → sees kd ts ≡ false) → SpellsOptional kd rule ts o us → q.optional kd p ts ≡ Ok (o, us)
@@ -97,7 +97,7 @@ argument_again f ts a us s = elim s [
   | inr column ↦ ap (λ kd. q.argument_by f kd ts) (kind_again k.Name ts us (column.1.0, column.1.1)) ∙ then name _ ts us column.0 (name_again ts us column.0 column.1) ∙ ap (λ x. Ok (x, us)) (sym column.2)
 ]
 
-called : (n : NameAt) (ts us : Stream) (x : Term) → sees k.LParen ts ≡ true → q.call_of n.offset (q.func_of n.name) ts ≡ Ok (x, us) → q.behind_name n ts ≡ Ok (x, us)
+called : (n : NameAt) (ts us : Stream) (x : Term) → sees k.LParen ts ≡ true → q.call_of n.offset (q.func_of n.name) ts ≡ Ok (x, us) → q.following_name n ts ≡ Ok (x, us)
 called n ts us x s e = ap (λ b. cond b (q.call_of n.offset (q.func_of n.name) ts) (Ok (term.Column n, ts))) s ∙ e
 
 call_again : (ts : Stream) (x : Term) (us : Stream) → SpellsCall ts x us → q.term_of ts ≡ Ok (x, us)
@@ -187,16 +187,16 @@ ending_again ts s = elim s [
   | inr m ↦ (next m.0, then (eat k.Semi) (λ _. expect k.End) ts m.0 true (eaten k.Semi ts m.0 refl m.1) ∙ at_end_again m.0 m.2)
 ]
 
-abbrev limits_behind : Bool → Parser (Option LiteralAt × Option LiteralAt)
-limits_behind found = cond found (q.count >>= (λ l. q.optional k.Offset q.count >>= (λ o. pure (Some l, o)))) (pure (None, None))
+abbrev limits_following : Bool → Parser (Option LiteralAt × Option LiteralAt)
+limits_following found = cond found (q.count >>= (λ l. q.optional k.Offset q.count >>= (λ o. pure (Some l, o)))) (pure (None, None))
 
 limits_again : (ts : Stream) (l o : Option LiteralAt) (us : Stream) → OneIn limit_ends (kind us) → SpellsLimits ts l o us → q.limits ts ≡ Ok ((l, o), us)
 unfolding q.limits is_last same_kind
 limits_again ts None None us one s =
-    then (eat k.Limit) limits_behind ts ts false (passed k.Limit ts (unseen limit_ends k.Limit ts refl (subst (λ (r : Stream). OneIn limit_ends (kind r)) s one))) ∙ ap (λ r. Ok ((None, None), r)) (sym s)
+    then (eat k.Limit) limits_following ts ts false (passed k.Limit ts (unseen limit_ends k.Limit ts refl (subst (λ (r : Stream). OneIn limit_ends (kind r)) s one))) ∙ ap (λ r. Ok ((None, None), r)) (sym s)
 limits_again ts None (Some o) us one s = absurd s
 limits_again ts (Some l) o us one s =
-    then (eat k.Limit) limits_behind ts s.0 true (eaten k.Limit ts s.0 refl s.2)
+    then (eat k.Limit) limits_following ts s.0 true (eaten k.Limit ts s.0 refl s.2)
     ∙ then q.count _ s.0 s.1 l (count_again s.0 l s.1 s.3)
     ∙ then (q.optional k.Offset q.count) _ s.1 us o (optional_again k.Offset SpellsCount q.count s.1 o us refl (λ ts a h. count_again ts a us h)
     (λ e. unseen limit_ends k.Offset s.1 refl (subst (λ (r : Stream). OneIn limit_ends (kind r)) e one)) s.4)

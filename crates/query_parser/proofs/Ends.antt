@@ -1,4 +1,4 @@
--- A text may be cut behind its blanks, and what stands in quotes is a text.
+-- A text may be cut after its blanks, and what stands in quotes is a text.
 use Rattle.std.proofs.Common.{◌≡◌, ℕ, zero, suc, ◌+◌, ◌-◌, ◌<◌, ◌≤◌, Bool, true, false, not, ◌||◌, ◌==◌, cond, [], ◌∷◌, ◌++◌, length, take, drop, get_or, Option, Some, None, refl, sym, ap, ◌∙◌, subst, append_assoc, append-nil, eqb-true, arith}
 use Rattle.std.specs.Str.{IsUtf8, IsAscii, IsCharBoundary}
 use Rattle.std.specs.List.{prefix_len}
@@ -18,14 +18,14 @@ ascii_in class.Blank b e = grind (arith, nat_tests)
 ascii_in class.Digit b e = grind (arith, nat_tests)
 ascii_in class.Word b e = grind (arith, nat_tests)
 
-behind_first : (b : ℕ) (z : Bytes) → b < 128 → IsUtf8 (b ∷ z) → IsUtf8 z
-behind_first b z low u = IsUtf8-drop (b ∷ z) 1 u (IsCharBoundary-after_ascii (b ∷ z) 0 u (omega arith) low)
+following_first : (b : ℕ) (z : Bytes) → b < 128 → IsUtf8 (b ∷ z) → IsUtf8 z
+following_first b z low u = IsUtf8-drop (b ∷ z) 1 u (IsCharBoundary-after_ascii (b ∷ z) 0 u (omega arith) low)
 
 past_step : (b : ℕ) (z : Bytes) (q : Bool) → is_in class.Blank b ≡ q → (IsUtf8 z → IsUtf8 (drop (blanks z) z)) → IsUtf8 (b ∷ z) → IsUtf8 (drop (blanks (b ∷ z)) (b ∷ z))
 past_step b z true e more u =
     let one : 1 + blanks z ≡ suc (blanks z) = omega arith in
     let count : blanks (b ∷ z) ≡ suc (blanks z) = ap (λ q. cond q (1 + blanks z) 0) e ∙ one in
-    subst (λ n. IsUtf8 (drop n (b ∷ z))) (sym count) (more (behind_first b z (ascii_in class.Blank b e) u))
+    subst (λ n. IsUtf8 (drop n (b ∷ z))) (sym count) (more (following_first b z (ascii_in class.Blank b e) u))
 past_step b z false e more u =
     let count : blanks (b ∷ z) ≡ 0 = ap (λ q. cond q (1 + blanks z) 0) e in
     subst (λ n. IsUtf8 (drop n (b ∷ z))) (sym count) u
@@ -59,7 +59,7 @@ cut p z q low u =
       subst IsUtf8 (drop_at p (q ∷ z) (length p) refl) (IsUtf8-drop (p ++ q ∷ z) (length p) u place),
     )
 
--- the value is a text behind what stands before it
+-- the value is a text after what stands before it
 abbrev IsTextBehind : Bytes → Option (Bytes × ℕ) → Type 0
 IsTextBehind p None = Unit {0}
 IsTextBehind p (Some r) = IsUtf8 (p ++ r.0)
@@ -74,7 +74,7 @@ closes p z q low u = subst IsUtf8 (sym (append-nil p)) (cut p z q low u).0
 doubled : (p z : Bytes) (q : ℕ) → q < 128 → IsUtf8 (p ++ q ∷ q ∷ z) → IsUtf8 ((p ++ q ∷ []) ++ z)
 doubled p z q low u =
     let parts = cut (p ++ q ∷ []) z q low (subst IsUtf8 (sym (append_assoc p (q ∷ []) (q ∷ z))) u) in
-    IsUtf8-append (p ++ q ∷ []) z parts.0 (behind_first q z low parts.1)
+    IsUtf8-append (p ++ q ∷ []) z parts.0 (following_first q z low parts.1)
 
 last_step : (q b : ℕ) (p : Bytes) (s : Bool) → (b == q) ≡ s → q < 128 → IsUtf8 (p ++ b ∷ []) → IsTextBehind p (cond s (Some ([], 1)) None)
 last_step q b p true e low u = closes p [] q low (subst (λ x. IsUtf8 (p ++ x ∷ [])) (eqb-true b q e) u)
@@ -107,15 +107,15 @@ value_step z false e u = IsUtf8-from_ascii (take (prefix_len (is_in class.Word) 
 value_step [] true e u = absurd (false≢true e)
 value_step (b ∷ z) true e u =
     let low : b < 128 = grind (arith, nat_tests) in
-    value_text (quoted b z) (quoted_text b z [] low (behind_first b z low u))
+    value_text (quoted b z) (quoted_text b z [] low (following_first b z low u))
 
 pub utf8_value : (z : Bytes) → IsUtf8 z → IsUtf8 (value z)
 unfolding value
 utf8_value z u = value_step z (get_or z 0 0 == 34 || get_or z 0 0 == 39) refl u
 
--- a text may be cut behind an ASCII byte
-pub utf8_behind : (z : Bytes) (n : ℕ) → IsUtf8 z → 0 < n → n ≤ length z → get_or z (n - 1) 0 < 128 → IsUtf8 (drop n z)
-utf8_behind z n u some within low =
+-- a text may be cut after an ASCII byte
+pub utf8_following : (z : Bytes) (n : ℕ) → IsUtf8 z → 0 < n → n ≤ length z → get_or z (n - 1) 0 < 128 → IsUtf8 (drop n z)
+utf8_following z n u some within low =
     let last : n - 1 + 1 ≡ n = omega arith in
     IsUtf8-drop z n u (subst (IsCharBoundary z) last (IsCharBoundary-after_ascii z (n - 1) u (omega arith) low))
 

@@ -233,19 +233,19 @@ negated_found k.In ts mid from column x us n may h e = of_in ts mid from (next f
 negated_found k.Between ts mid from column x us n may h e = of_between ts mid from (next from) column true x us n may (skips_next k.Between from (next from) h refl refl) (between_found column true (next from) x us e)
 negated_found _ ts mid from column x us n may h e = absurd (cc)
 
-behind_found : (kd : Kind) (ts mid : Stream) (column : NameAt) (x : Cond) (us : Stream) → SpellsName ts column mid → kind mid ≡ kd → c.test_by column kd mid ≡ Ok (x, us) → SpellsTest ts x us
+following_found : (kd : Kind) (ts mid : Stream) (column : NameAt) (x : Cond) (us : Stream) → SpellsName ts column mid → kind mid ≡ kd → c.test_by column kd mid ≡ Ok (x, us) → SpellsTest ts x us
 unfolding is_last
-behind_found k.In ts mid column x us n h e = of_in ts mid mid (next mid) column false x us n refl (skips_next k.In mid (next mid) h refl refl) (one_of_found column false (next mid) x us e)
-behind_found k.Between ts mid column x us n h e = of_between ts mid mid (next mid) column false x us n refl (skips_next k.Between mid (next mid) h refl refl) (between_found column false (next mid) x us e)
-behind_found k.Not ts mid column x us n h e =
+following_found k.In ts mid column x us n h e = of_in ts mid mid (next mid) column false x us n refl (skips_next k.In mid (next mid) h refl refl) (one_of_found column false (next mid) x us e)
+following_found k.Between ts mid column x us n h e = of_between ts mid mid (next mid) column false x us n refl (skips_next k.Between mid (next mid) h refl refl) (between_found column false (next mid) x us e)
+following_found k.Not ts mid column x us n h e =
     negated_found (kind (next mid)) ts mid (next mid) column x us n (skips_next k.Not mid (next mid) h refl refl) refl e
-behind_found kd ts mid column x us n h e = compared_found (c.operator kd) ts mid column x us n (ap c.operator h) e
+following_found kd ts mid column x us n h e = compared_found (c.operator kd) ts mid column x us n (ap c.operator h) e
 
 pub test_found : (ts : Stream) (x : Cond) (us : Stream) → c.predicate ts ≡ Ok (x, us) → SpellsTest ts x us
 unfolding c.predicate
 test_found ts x us e =
     let m = bind_ok (name ts) _ (x, us) e in
-    behind_found (kind m.0.1) ts m.0.1 m.0.0 x us (name_found ts m.0.1 m.0.0 m.1) refl m.2
+    following_found (kind m.0.1) ts m.0.1 m.0.0 x us (name_found ts m.0.1 m.0.0 m.1) refl m.2
 
 -- ---- conditions
 

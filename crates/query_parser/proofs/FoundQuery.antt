@@ -57,7 +57,7 @@ optional_found kd rule p ts o us l each e =
     let m = bind_ok (eat kd ts) (λ found. cond found (Some <$> p) (pure None)) (o, us) e in
     optional_step kd rule p m.0.0 ts m.0.1 o us l each m.1 m.2
 
--- a list behind a word has a member
+-- a list after a word has a member
 listed_cons : {A : Type 0} (kd : Kind) (rule : Rule A) (ts mid : Stream) (xs : List A) (us : Stream) → Skips kd ts mid → SpellsBy rule mid xs us → SpellsListed kd (SpellsBy rule) ts xs us
 listed_cons kd rule ts mid [] us s by = absurd by.2
 listed_cons kd rule ts mid (x ∷ xs) us s by = (mid, s, by)
@@ -117,17 +117,17 @@ call_step (Some f) n ts mid x us s is h e =
       tree = value_is t x r.0.1 us r.2;
     }
 
-behind_step : (b : Bool) (n : NameAt) (ts mid : Stream) (x : Term) (us : Stream) → SpellsName ts n mid → sees k.LParen mid ≡ b → cond b (q.call_of n.offset (q.func_of n.name) mid) (ok (term.Column n) mid) ≡ Ok (x, us) → SpellsTerm ts x us
-behind_step true n ts mid x us s h e = inr (call_step (q.func_of n.name) n ts mid x us s refl (sees_kind k.LParen mid h) e)
-behind_step false n ts mid x us s h e =
+following_step : (b : Bool) (n : NameAt) (ts mid : Stream) (x : Term) (us : Stream) → SpellsName ts n mid → sees k.LParen mid ≡ b → cond b (q.call_of n.offset (q.func_of n.name) mid) (ok (term.Column n) mid) ≡ Ok (x, us) → SpellsTerm ts x us
+following_step true n ts mid x us s h e = inr (call_step (q.func_of n.name) n ts mid x us s refl (sees_kind k.LParen mid h) e)
+following_step false n ts mid x us s h e =
     let rest = rest_is (term.Column n) x mid us e in
     inl (n, subst (λ (r : Stream). SpellsName ts n r) (sym rest) s, value_is (term.Column n) x mid us e)
 
 term_found : (ts : Stream) (x : Term) (us : Stream) → q.term_of ts ≡ Ok (x, us) → SpellsTerm ts x us
 unfolding q.term_of
 term_found ts x us e =
-    let m = bind_ok (name ts) q.behind_name (x, us) e in
-    behind_step (sees k.LParen m.0.1) m.0.0 ts m.0.1 x us (name_found ts m.0.1 m.0.0 m.1) refl m.2
+    let m = bind_ok (name ts) q.following_name (x, us) e in
+    following_step (sees k.LParen m.0.1) m.0.0 ts m.0.1 x us (name_found ts m.0.1 m.0.0 m.1) refl m.2
 
 item_found : (ts : Stream) (i : QueryItem) (us : Stream) → q.item ts ≡ Ok (i, us) → SpellsItem ts i us
 unfolding q.item q.label is_last

@@ -32,18 +32,18 @@ drop_one zero ts = refl
 drop_one (suc j) [] = refl
 drop_one (suc j) (t ∷ ts) = drop_one j ts
 
--- The first n tokens of the two agree, and behind a token of the one that is not the last stands another.
+-- The first n tokens of the two agree, and after a token of the one that is not the last stands another.
 pub record Agree (A B : Stream) (n : ℕ) : Type 0 where
   pub same : (j : ℕ) → j < n → first (drop j A) ≡ first (drop j B)
   pub ends : (j : ℕ) → j < length A → is_last (kind (drop j A)) ≡ false → suc j < length A
 
 module _ (A B : Stream) (n : ℕ) (agree : Agree A B n) where
-  -- a fault that wants a token behind those that agree
+  -- a fault that wants a token after those that agree
   abbrev pub PastFault : QueryFault → Type 0
   PastFault NoMemory = Unit {0}
   PastFault (At r p) = (r ≡ reason.TooDeep) ⊎ ((j : ℕ) × (j < length A) × (p ≡ place (drop j A)) × (n ≤ j + wanted r))
 
-  -- the reading is behind them, or looked at a token there
+  -- the reading is after them, or looked at a token there
   abbrev pub Past : {X : Type 0} → Outcome X → Type 0
   Past (Ok p) = (j : ℕ) × (j < length A) × (p.1 ≡ drop j A) × (n ≤ j)
   Past (Err e) = PastFault e
@@ -70,7 +70,7 @@ module _ (A B : Stream) (n : ℕ) (agree : Agree A B n) where
     pub shared : j ≤ n → Alike (p (drop j A)) (p (drop j B))
     pub past : n ≤ j → Past (p (drop j A))
 
-  -- from behind a token on
+  -- from after a token on
   pub record Behind {X : Type 0} (j : ℕ) (p : Parser X) : Type 0 where
     pub shared : j < n → Alike (p (drop (suc j) A)) (p (drop (suc j) B))
     pub past : n ≤ j → Past (p (drop (suc j) A))
@@ -78,8 +78,8 @@ module _ (A B : Stream) (n : ℕ) (agree : Agree A B n) where
   pub record Local {X : Type 0} (p : Parser X) : Type 0 where
     pub from : (j : ℕ) → j < length A → From j p
 
-  pub behind : {X : Type 0} (j : ℕ) (p : Parser X) → From (suc j) p → Behind j p
-  behind j p f = record { shared = λ lt. f.shared (omega (arith, lt)); past = λ le. f.past (omega (arith, le)) }
+  pub following : {X : Type 0} (j : ℕ) (p : Parser X) → From (suc j) p → Behind j p
+  following j p f = record { shared = λ lt. f.shared (omega (arith, lt)); past = λ le. f.past (omega (arith, le)) }
 
   -- what looks at the first token
   at_end : {X : Type 0} (j : ℕ) (p : Parser X) → (j < n → Alike (p (drop j A)) (p (drop j B))) → (n ≤ j → Past (p (drop j A))) → (j < n) ⊎ (n ≤ j) → Alike (p (drop j A)) (p (drop j B))
@@ -210,7 +210,7 @@ module _ (A B : Stream) (n : ℕ) (agree : Agree A B n) where
   alike_along : {X : Type 0} (o p u r : Outcome X) → o ≡ p → u ≡ r → Alike p r → Alike o u
   alike_along o p u r e f own = subst (λ a. Alike a u) (sym e) (subst (λ b. Alike p b) (sym f) own)
 
-  -- A token of some kind, and what is read behind it, which may name its place.
+  -- A token of some kind, and what is read after it, which may name its place.
   module _ {X Y : Type 0} (test : Stream → Bool) (g : Stream → X) (f : X → Parser Y)
       (goes : (ts : Stream) → test ts ≡ true → is_last (kind ts) ≡ false)
       (tests : (ts us : Stream) → first ts ≡ first us → test ts ≡ test us)

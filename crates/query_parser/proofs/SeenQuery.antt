@@ -22,7 +22,7 @@ use Rattle.query_parser.specs.Cond as c
 use Rattle.query_parser.specs.Query as q
 use Rattle.query_parser.specs.Shrinks.{Shrinks, sees_kind, name_goes_on, name_shrinks, literal_shrinks, test_shrinks, conjunction_shrinks, factor_shrinks}
 use Rattle.query_parser.proofs.Takes.{item_shrinks, key_shrinks, option_shrinks}
-use Rattle.query_parser.proofs.Seen.{Agree, Past, Alike, chosen_alike, chosen_past, token_from, From, Behind, Local, behind, looks, bind_local, pure_local, look_local, stop_local, refuse_local, too_deep_local, choose_local, take_local, peek_local, token_local, sees_same, expect_local, eat_local, name_local, literal_local, separated_local}
+use Rattle.query_parser.proofs.Seen.{Agree, Past, Alike, chosen_alike, chosen_past, token_from, From, Behind, Local, following, looks, bind_local, pure_local, look_local, stop_local, refuse_local, too_deep_local, choose_local, take_local, peek_local, token_local, sees_same, expect_local, eat_local, name_local, literal_local, separated_local}
 
 module _ (A B : Stream) (n : ℕ) (agree : Agree A B n) where
   abbrev L : {X : Type 0} → Parser X → Type 0
@@ -128,9 +128,9 @@ module _ (A B : Stream) (n : ℕ) (agree : Agree A B n) where
   some_call_local : (at : ℕ) (f : Func) → L (q.call_of at (Some f))
   some_call_local at f = bind take_token _ took (λ _. bind (q.argument_of f) _ (argument_local f) (λ a. bind (expect k.RParen) _ (skip k.RParen) (λ _. done (term.Call (record { func = f; argument = a; offset = at })))))
 
-  -- behind a name at a place
+  -- after a name at a place
   called : (i : ℕ) (x : NameAt) (f : Option Func) → i < length A → suc i < length A → x.offset ≡ place (drop i A) → Behind A B n agree i (q.call_of x.offset f)
-  called i x (Some f) inside more at = behind A B n agree i (q.call_of x.offset (Some f)) ((some_call_local x.offset f).from (suc i) more)
+  called i x (Some f) inside more at = following A B n agree i (q.call_of x.offset (Some f)) ((some_call_local x.offset f).from (suc i) more)
   called i x None inside more at = record {
     shared = λ lt. inr (inl (record { fault = At reason.UnknownFunction x.offset; one = refl; other = refl }));
     past = λ le. inr (i, inside, at, omega (arith, le));
@@ -140,15 +140,15 @@ module _ (A B : Stream) (n : ℕ) (agree : Agree A B n) where
   called_past i x (Some f) inside more at le = ((some_call_local x.offset f).from (suc i) more).past le
   called_past i x None inside more at le = inr (i, inside, at, omega (arith, le))
 
-  behind_name_at : (i : ℕ) (x : NameAt) → i < length A → suc i < length A → x.offset ≡ place (drop i A) → Behind A B n agree i (q.behind_name x)
-  behind_name_at i x inside more at =
+  following_name_at : (i : ℕ) (x : NameAt) → i < length A → suc i < length A → x.offset ≡ place (drop i A) → Behind A B n agree i (q.following_name x)
+  following_name_at i x inside more at =
       let call = q.call_of x.offset (q.func_of x.name) in
       let own = done (term.Column x) in
       let us = drop (suc i) A in
       let vs = drop (suc i) B in
-      let there : n ≤ suc i → Past A B n agree (q.behind_name x us) = λ le. chosen_past A B n agree (sees k.LParen us) (call us) (pure (term.Column x) us) (called_past i x (q.func_of x.name) inside more at le) ((own.from (suc i) more).past le) in
+      let there : n ≤ suc i → Past A B n agree (q.following_name x us) = λ le. chosen_past A B n agree (sees k.LParen us) (call us) (pure (term.Column x) us) (called_past i x (q.func_of x.name) inside more at le) ((own.from (suc i) more).past le) in
       record {
-        shared = λ lt. (looks A B n agree (suc i) (q.behind_name x)
+        shared = λ lt. (looks A B n agree (suc i) (q.following_name x)
             (λ next. chosen_alike A B n agree (sees k.LParen us) (sees k.LParen vs) (call us) (pure (term.Column x) us) (call vs) (pure (term.Column x) vs)
             (sees_same A B n agree k.LParen us vs (agree.same (suc i) next)) ((called i x (q.func_of x.name) inside more at).shared lt) ((own.from (suc i) more).shared (omega (arith, lt))))
             there).shared (omega (arith, lt));
@@ -161,8 +161,8 @@ module _ (A B : Stream) (n : ℕ) (agree : Agree A B n) where
   term_local : L q.term_of
   unfolding q.term_of name word place
   term_local = record {
-    from = λ i inside. token_from A B n agree (sees k.Name) (λ ts. record { name = word ts; offset = place ts }) q.behind_name name_goes (sees_same A B n agree k.Name)
-        (λ ts us e. ap (λ t. record { name = t.value; offset = t.at }) e) i inside (λ more. behind_name_at i (record { name = word (drop i A); offset = place (drop i A) }) inside more refl);
+    from = λ i inside. token_from A B n agree (sees k.Name) (λ ts. record { name = word ts; offset = place ts }) q.following_name name_goes (sees_same A B n agree k.Name)
+        (λ ts us e. ap (λ t. record { name = t.value; offset = t.at }) e) i inside (λ more. following_name_at i (record { name = word (drop i A); offset = place (drop i A) }) inside more refl);
   }
 
   -- ---- items and keys
@@ -235,11 +235,11 @@ module _ (A B : Stream) (n : ℕ) (agree : Agree A B n) where
   after_local : (b : Bool) → L (expect k.Semi >> pure b)
   after_local b = bind (expect k.Semi) _ (skip k.Semi) (λ _. done b)
 
-  -- behind the value of an option whose name has a place
+  -- after the value of an option whose name has a place
   checked_at : (i : ℕ) (x : NameAt) (r : Result Bool QueryFault) → i < length A → suc (suc (suc i)) < length A → x.offset ≡ place (drop i A) → IsSet x.offset r
       → Behind A B n agree (suc (suc i)) (q.checked r >>= (λ after. expect k.Semi >> pure after))
   checked_at i x r inside more at (inl s) = subst (λ o. Behind A B n agree (suc (suc i)) (q.checked o >>= (λ after. expect k.Semi >> pure after))) (sym s.1)
-      (behind A B n agree (suc (suc i)) (pure s.0 >>= (λ after. expect k.Semi >> pure after)) ((bind (pure s.0) (λ after. expect k.Semi >> pure after) (done s.0) after_local).from (suc (suc (suc i))) more))
+      (following A B n agree (suc (suc i)) (pure s.0 >>= (λ after. expect k.Semi >> pure after)) ((bind (pure s.0) (λ after. expect k.Semi >> pure after) (done s.0) after_local).from (suc (suc (suc i))) more))
   checked_at i x r inside more at (inr s) = subst (λ o. Behind A B n agree (suc (suc i)) (q.checked o >>= (λ after. expect k.Semi >> pure after))) (sym s)
       (record {
         shared = λ lt. inr (inl (record { fault = At reason.UnsupportedOption x.offset; one = refl; other = refl }));
@@ -264,19 +264,19 @@ module _ (A B : Stream) (n : ℕ) (agree : Agree A B n) where
   sign_from : (b : Bool) (i : ℕ) (x : NameAt) → i < length A → suc i < length A → x.offset ≡ place (drop i A) → From A B n agree (suc i) (named b x)
   unfolding expect
   sign_from b i x inside more at = token_from A B n agree (sees k.Eq) (λ ts. tt) (λ _. signed b x) eq_goes (sees_same A B n agree k.Eq) (λ ts us e. refl)
-      (suc i) more (λ then. behind A B n agree (suc i) (signed b x) (value_from b i x inside then at))
+      (suc i) more (λ then. following A B n agree (suc i) (signed b x) (value_from b i x inside then at))
 
   name_from : (b : Bool) (i : ℕ) → i < length A → From A B n agree i (name >>= named b)
   unfolding name word place
   name_from b i inside = token_from A B n agree (sees k.Name) (λ ts. record { name = word ts; offset = place ts }) (named b) name_goes (sees_same A B n agree k.Name)
       (λ ts us e. ap (λ t. record { name = t.value; offset = t.at }) e) i inside
-      (λ more. behind A B n agree i (named b (record { name = word (drop i A); offset = place (drop i A) })) (sign_from b i (record { name = word (drop i A); offset = place (drop i A) }) inside more refl))
+      (λ more. following A B n agree i (named b (record { name = word (drop i A); offset = place (drop i A) })) (sign_from b i (record { name = word (drop i A); offset = place (drop i A) }) inside more refl))
 
   option_local : (b : Bool) → L (q.option b)
   unfolding q.option expect
   option_local b = record {
     from = λ j inside. token_from A B n agree (sees k.Set) (λ ts. tt) (λ _. name >>= named b) set_goes (sees_same A B n agree k.Set) (λ ts us e. refl)
-        j inside (λ more. behind A B n agree j (name >>= named b) (name_from b (suc j) more));
+        j inside (λ more. following A B n agree j (name >>= named b) (name_from b (suc j) more));
   }
 
   options_from_local : (f : ℕ) (b : Bool) → L (q.options_from f b)

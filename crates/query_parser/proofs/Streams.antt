@@ -5,16 +5,16 @@ use Rattle.query_parser.specs.declared.token.Token.{Token}
 use Rattle.query_parser.specs.Lex.{Bytes, is_in, is_last, blanks, token, value}
 use Rattle.query_parser.specs.Stream.{Lexeme, Stream, lexeme, lexemes, first, kind, place, number, word, next}
 
-abbrev behind : Token → Bytes → ℕ → Stream
-behind t z at = cond (is_last t.kind) [] (lexemes (t.len - 1) z (at + 1))
+abbrev following : Token → Bytes → ℕ → Stream
+following t z at = cond (is_last t.kind) [] (lexemes (t.len - 1) z (at + 1))
 
 lexemes-yes : (b : ℕ) (z : Bytes) (at : ℕ) → is_in Blank b ≡ true → lexemes 0 (b ∷ z) at ≡ lexemes 0 z (at + 1)
 unfolding lexemes
-lexemes-yes b z at e = ap (λ q. cond q (lexemes 0 z (at + 1)) (lexeme (token (b ∷ z)) (b ∷ z) at ∷ behind (token (b ∷ z)) z at)) e
+lexemes-yes b z at e = ap (λ q. cond q (lexemes 0 z (at + 1)) (lexeme (token (b ∷ z)) (b ∷ z) at ∷ following (token (b ∷ z)) z at)) e
 
-lexemes-no : (b : ℕ) (z : Bytes) (at : ℕ) → is_in Blank b ≡ false → lexemes 0 (b ∷ z) at ≡ lexeme (token (b ∷ z)) (b ∷ z) at ∷ behind (token (b ∷ z)) z at
+lexemes-no : (b : ℕ) (z : Bytes) (at : ℕ) → is_in Blank b ≡ false → lexemes 0 (b ∷ z) at ≡ lexeme (token (b ∷ z)) (b ∷ z) at ∷ following (token (b ∷ z)) z at
 unfolding lexemes
-lexemes-no b z at e = ap (λ q. cond q (lexemes 0 z (at + 1)) (lexeme (token (b ∷ z)) (b ∷ z) at ∷ behind (token (b ∷ z)) z at)) e
+lexemes-no b z at e = ap (λ q. cond q (lexemes 0 z (at + 1)) (lexeme (token (b ∷ z)) (b ∷ z) at ∷ following (token (b ∷ z)) z at)) e
 
 blanks-yes : (b : ℕ) (z : Bytes) → is_in Blank b ≡ true → blanks (b ∷ z) ≡ suc (blanks z)
 blanks-yes b z e = let one : 1 + blanks z ≡ suc (blanks z) = omega arith in ap (λ q. cond q (1 + blanks z) 0) e ∙ one
@@ -87,14 +87,14 @@ unfolding lexemes
 lexemes-last [] at h e = next-last (lexeme (token []) [] at) [] e
 lexemes-last (b ∷ z) at h e =
     let cons = lexemes-no b z at (no_blank b z (is_in Blank b) refl h) in
-    ap next cons ∙ next-last (lexeme (token (b ∷ z)) (b ∷ z) at) (behind (token (b ∷ z)) z at) e ∙ sym cons
+    ap next cons ∙ next-last (lexeme (token (b ∷ z)) (b ∷ z) at) (following (token (b ∷ z)) z at) e ∙ sym cons
 
 end_last : is_last (token []).kind ≡ true
 unfolding token is_last
 end_last = refl
 
 more_step : (t : Token) (b : ℕ) (z : Bytes) (at len : ℕ) → t.len ≡ len → is_last t.kind ≡ false → 1 ≤ len → len ≤ suc (length z)
-    → behind t z at ≡ lexemes 0 (drop len (b ∷ z)) (at + len)
+    → following t z at ≡ lexemes 0 (drop len (b ∷ z)) (at + len)
 more_step t b z at zero l e some fits = absurd (omega arith)
 more_step t b z at (suc n) l e some fits =
     let one : t.len - 1 ≡ n = omega arith in
@@ -106,7 +106,7 @@ pub lexemes-next : (z : Bytes) (at : ℕ) → blanks z ≡ 0 → is_last (token 
 lexemes-next [] at h e some fits = let conjunction : true ≡ false = sym end_last ∙ e in absurd (cc)
 lexemes-next (b ∷ z) at h e some fits =
     let cons = lexemes-no b z at (no_blank b z (is_in Blank b) refl h) in
-    ap next cons ∙ next-more (lexeme (token (b ∷ z)) (b ∷ z) at) (behind (token (b ∷ z)) z at) e ∙ more_step (token (b ∷ z)) b z at (token (b ∷ z)).len refl e some (omega arith)
+    ap next cons ∙ next-more (lexeme (token (b ∷ z)) (b ∷ z) at) (following (token (b ∷ z)) z at) e ∙ more_step (token (b ∷ z)) b z at (token (b ∷ z)).len refl e some (omega arith)
 
 pub blanks_over : (z : Bytes) → blanks (drop (blanks z) z) ≡ 0
 blanks_over [] = refl

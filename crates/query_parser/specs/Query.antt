@@ -75,12 +75,12 @@ call_of at (Some f) = do
   pure (term.Call (record { func = f; argument = a; offset = at }))
 
 -- a name is a call where a parenthesis follows
-abbrev pub behind_name : NameAt → Parser Term
-behind_name n = λ ts. if sees k.LParen ts then call_of n.offset (func_of n.name) ts else Ok (term.Column n, ts)
+abbrev pub following_name : NameAt → Parser Term
+following_name n = λ ts. if sees k.LParen ts then call_of n.offset (func_of n.name) ts else Ok (term.Column n, ts)
 
 -- a column or a call
 unfoldable pub term_of : Parser Term
-term_of = name >>= behind_name
+term_of = name >>= following_name
 
 -- what the word brings, where it stands there
 abbrev pub optional : {A : Type 0} → Kind → Parser A → Parser (Option A)

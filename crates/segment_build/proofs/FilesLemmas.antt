@@ -90,13 +90,6 @@ gone_after name bytes held0 held1 held2 parts0 parts1 parts2 parts3 is e =
     let all : List ℕ = bytes_of parts1 name ++ bytes in
     e ∙ ap (without_file name) (is.grown ∙ ap (with_file name all) is.begun) ∙ parts_gone parts0 name [] all
 
-pub unknown_after : (name bytes : List ℕ) (held0 held1 held2 parts0 parts1 parts2 parts3 : Option Files)
-    → IsWritten name bytes held0 held1 held2 parts0 parts1 parts2 → SameBut name parts2 parts3 → SameBut name parts0 parts3
-unknown_after name bytes held0 held1 held2 parts0 parts1 parts2 parts3 is same =
-    let all : List ℕ = bytes_of parts1 name ++ bytes in
-    same_but_put name [] parts0 parts3 (same_but_put name all (with_file name [] parts0) parts3
-    (subst (λ p. SameBut name p parts3) (is.grown ∙ ap (with_file name all) is.begun) same))
-
 -- nor does a part that is gone
 same_but_gone : (name : List ℕ) (parts now : Option Files) → now ≡ without_file name parts → SameBut name parts now
 same_but_gone name None now gone = gone

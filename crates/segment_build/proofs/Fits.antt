@@ -11,11 +11,11 @@ use Rattle.table_schema.specs.ValidTable.{IsRow, is_row, most_rows}
 use Rattle.dictionary.specs.Dictionary.{Fits}
 use Rattle.segment_build.specs.Fitting.{AreColumns, ColumnsFit, FitsKind}
 
-both_first : (a b : Bool) → (a && b) ≡ true → a ≡ true
+pub both_first : (a b : Bool) → (a && b) ≡ true → a ≡ true
 both_first true b e = refl
 both_first false b e = absurd cc
 
-both_second : (a b : Bool) → (a && b) ≡ true → b ≡ true
+pub both_second : (a b : Bool) → (a && b) ≡ true → b ≡ true
 both_second true b e = e
 both_second false b e = absurd cc
 

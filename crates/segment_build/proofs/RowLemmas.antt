@@ -1,5 +1,5 @@
 -- Rows are put into columns.
-use Rattle.std.proofs.Common.{◌≡◌, ◌∙◌, ◌<◌, ◌+◌, ◌++◌, ◌∷◌, ◌&&◌, [], false, true, Bool, ℕ, List, length, map, get_or, set, take, drop, append-nil, refl, sym, ap, ap₂, subst, arith}
+use Rattle.std.proofs.Common.{◌≡◌, ◌∙◌, ◌<◌, ◌+◌, ◌++◌, ◌∷◌, [], false, true, ℕ, List, length, map, get_or, set, take, drop, append-nil, refl, sym, ap, ap₂, subst, arith}
 use Rattle.std.proofs.lemmas.List.{get_or-map, length-map, length-drop, length-take, map-append, nil_from_length, take_all, take_more, length-append}
 use Rattle.std.proofs.lemmas.List.Elements.{All-get_or, All-push}
 use Rattle.std.specs.List.{All}
@@ -12,6 +12,7 @@ use Rattle.values.specs.Kinds.{fits, is_of}
 use Rattle.values.proofs.RowLemmas.{counts-push, length-push, length-rows, push-one, rows-push, sorts-push}
 use Rattle.table_schema.specs.declared.field.Field.{Field}
 use Rattle.table_schema.specs.ValidTable.{AreRows, IsRow, is_row}
+use Rattle.segment_build.proofs.Fits.{both_first, both_second}
 use Rattle.segment_build.specs.RowColumns.{AreThose, OfFields, SuitsRow, is_of_texts}
 
 -- ---- one row
@@ -45,14 +46,6 @@ value_more old columns new row at c c' v suits is lt c_is v_is pushes sets =
     ∙ ap (row_pushed old) (sym all)
 
 -- ---- all rows
-
-both_first : (a b : Bool) → (a && b) ≡ true → a ≡ true
-both_first true b e = refl
-both_first false b e = absurd cc
-
-both_second : (a b : Bool) → (a && b) ≡ true → b ≡ true
-both_second true b e = e
-both_second false b e = absurd cc
 
 kind_suits : (k : FieldKind) (v : Value) → fits k v ≡ true → is_of k (Text []) ≡ is_text v
 kind_suits kind.Int (Whole z) e = refl

@@ -2,4 +2,3 @@ pub mod Fitting
 pub mod Sections
 pub mod Publishing
 pub mod RowColumns
-pub mod Bare

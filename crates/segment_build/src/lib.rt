@@ -11,5 +11,5 @@ mod sections;
 pub use build::{build_columns, build_image};
 pub use columns::columns_of;
 pub use fault::BuildFault;
-pub use laws::{bare_law, columns_fit_law};
+pub use laws::columns_fit_law;
 pub use publish::{INCOMING, publish_file, write_columns, write_segment};

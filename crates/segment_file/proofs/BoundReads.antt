@@ -39,7 +39,7 @@ unfolding short
 short_read bytes n small long is = be_bytes_2 (take 2 bytes) n (omega (arith, length-take 2 bytes)) (take_small 2 bytes small) is
 
 pub short_whole : (bytes rest : List ℕ) (n : ℕ) → AreBytes bytes → 2 ≤ length bytes → n ≡ from_be_bytes w16 (take 2 bytes) → rest ≡ drop 2 bytes → bytes ≡ short n ++ rest
-short_whole bytes rest n small long is behind = sym (take-append-drop 2 bytes) ∙ (λ i. sym (short_read bytes n small long is) i ++ sym behind i)
+short_whole bytes rest n small long is following = sym (take-append-drop 2 bytes) ∙ (λ i. sym (short_read bytes n small long is) i ++ sym following i)
 
 same_short : (m n : ℕ) → length (short m) ≡ length (short n)
 same_short m n = length-short m ∙ sym (length-short n)
@@ -58,21 +58,21 @@ pub no_eight : (k : FieldKind) (bytes : List ℕ) → k ≢ kind.Text → length
 no_eight k bytes other few (Whole z) rest is = omega (arith, few, ap length is.spelled, length-append (number_bytes (Whole z)) rest, length-number z)
 no_eight k bytes other few (Text t) rest is = no_text k t other is.may.fit
 
-number_front : (bytes chunk behind : List ℕ) (z : ℤ) → number_bytes (Whole z) ≡ chunk → chunk ≡ take 8 bytes → behind ≡ drop 8 bytes → bytes ≡ number_bytes (Whole z) ++ behind
-number_front bytes chunk behind z spelled front back = sym (take-append-drop 8 bytes) ∙ (λ i. sym (spelled ∙ front) i ++ sym back i)
+number_front : (bytes chunk following : List ℕ) (z : ℤ) → number_bytes (Whole z) ≡ chunk → chunk ≡ take 8 bytes → following ≡ drop 8 bytes → bytes ≡ number_bytes (Whole z) ++ following
+number_front bytes chunk following z spelled front back = sym (take-append-drop 8 bytes) ∙ (λ i. sym (spelled ∙ front) i ++ sym back i)
 
-pub out_of_range : (k : FieldKind) (bytes chunk behind : List ℕ) (z : ℤ) → k ≢ kind.Text → number_bytes (Whole z) ≡ chunk → chunk ≡ take 8 bytes → behind ≡ drop 8 bytes → is_in_range kind.Long z ≡ true → is_in_range k z ≡ false → NoBound k bytes
-out_of_range k bytes chunk behind z other spelled front back long out (Text t) rest is = no_text k t other is.may.fit
-out_of_range k bytes chunk behind z other spelled front back long out (Whole y) rest is =
-    let both : number_bytes (Whole z) ++ behind ≡ number_bytes (Whole y) ++ rest = sym (number_front bytes chunk behind z spelled front back) ∙ is.spelled in
-    let same : number_bytes (Whole z) ≡ number_bytes (Whole y) = same_fronts (number_bytes (Whole z)) (number_bytes (Whole y)) behind rest (length-number z ∙ sym (length-number y)) both in
+pub out_of_range : (k : FieldKind) (bytes chunk following : List ℕ) (z : ℤ) → k ≢ kind.Text → number_bytes (Whole z) ≡ chunk → chunk ≡ take 8 bytes → following ≡ drop 8 bytes → is_in_range kind.Long z ≡ true → is_in_range k z ≡ false → NoBound k bytes
+out_of_range k bytes chunk following z other spelled front back long out (Text t) rest is = no_text k t other is.may.fit
+out_of_range k bytes chunk following z other spelled front back long out (Whole y) rest is =
+    let both : number_bytes (Whole z) ++ following ≡ number_bytes (Whole y) ++ rest = sym (number_front bytes chunk following z spelled front back) ∙ is.spelled in
+    let same : number_bytes (Whole z) ≡ number_bytes (Whole y) = same_fronts (number_bytes (Whole z)) (number_bytes (Whole y)) following rest (length-number z ∙ sym (length-number y)) both in
     let number : z ≡ y = number_once z y long (fits_long k y is.may.fit) same in
     false≢true (sym out ∙ ap (is_in_range k) number ∙ in_range k y other is.may.fit)
 
 -- ---- a text
 
-text_behind : (n : ℕ) (t rest after : List ℕ) → n < 2 ^ 16 → length t ≤ 512 → short n ++ after ≡ bound_bytes (Text t) ++ rest → (n ≡ length t) × (after ≡ t ++ rest)
-text_behind n t rest after fit few e =
+text_following : (n : ℕ) (t rest after : List ℕ) → n < 2 ^ 16 → length t ≤ 512 → short n ++ after ≡ bound_bytes (Text t) ++ rest → (n ≡ length t) × (after ≡ t ++ rest)
+text_following n t rest after fit few e =
     let both : short n ++ after ≡ short (length t) ++ (t ++ rest) = e ∙ append_assoc (short (length t)) t rest in
     (short_once n (length t) after (t ++ rest) fit (omega arith) both, same_rests (short n) (short (length t)) after (t ++ rest) (same_short n (length t)) both)
 
@@ -88,18 +88,18 @@ pub too_long : (bytes after : List ℕ) (n : ℕ) → n < 2 ^ 16 → bytes ≡ s
 too_long bytes after n fit spelled long (Whole z) rest is = no_whole z is.may.fit
 too_long bytes after n fit spelled long (Text t) rest is =
     let few = fits_short kind.Text (Text t) is.may.fit in
-    omega (arith, long, few, (text_behind n t rest after fit few (sym spelled ∙ is.spelled)).0)
+    omega (arith, long, few, (text_following n t rest after fit few (sym spelled ∙ is.spelled)).0)
 
 pub cut_off : (bytes after : List ℕ) (n : ℕ) → n < 2 ^ 16 → bytes ≡ short n ++ after → length after < n → NoBound kind.Text bytes
 cut_off bytes after n fit spelled few (Whole z) rest is = no_whole z is.may.fit
 cut_off bytes after n fit spelled few (Text t) rest is =
-    let both = text_behind n t rest after fit (fits_short kind.Text (Text t) is.may.fit) (sym spelled ∙ is.spelled) in
+    let both = text_following n t rest after fit (fits_short kind.Text (Text t) is.may.fit) (sym spelled ∙ is.spelled) in
     omega (arith, few, both.0, ap length both.1, length-append t rest)
 
 pub not_unicode : (bytes after front : List ℕ) (n : ℕ) → n < 2 ^ 16 → bytes ≡ short n ++ after → front ≡ take n after → ¬ IsUtf8 front → NoBound kind.Text bytes
 not_unicode bytes after front n fit spelled cut other (Whole z) rest is = no_whole z is.may.fit
 not_unicode bytes after front n fit spelled cut other (Text t) rest is =
-    let both = text_behind n t rest after fit (fits_short kind.Text (Text t) is.may.fit) (sym spelled ∙ is.spelled) in
+    let both = text_following n t rest after fit (fits_short kind.Text (Text t) is.may.fit) (sym spelled ∙ is.spelled) in
     let text : front ≡ t = cut ∙ (λ i. take (both.0 i) (both.1 i)) ∙ take-append_seam t rest in
     other (subst IsUtf8 (sym text) is.may.unicode)
 
@@ -110,14 +110,14 @@ two_kinds kind.Int z t number text = false≢true text
 two_kinds kind.Long z t number text = false≢true text
 two_kinds kind.Text z t number text = false≢true number
 
-bound_behind : (k : FieldKind) (v w : Value) (x y : List ℕ) → MayBound k v → MayBound k w → bound_bytes v ++ x ≡ bound_bytes w ++ y → x ≡ y
-bound_behind k (Whole a) (Whole b) x y first second e = same_rests (number_bytes (Whole a)) (number_bytes (Whole b)) x y (length-number a ∙ sym (length-number b)) e
-bound_behind k (Whole a) (Text t) x y first second e = absurd (two_kinds k a t first.fit second.fit)
-bound_behind k (Text t) (Whole a) x y first second e = absurd (two_kinds k a t second.fit first.fit)
-bound_behind k (Text s) (Text t) x y first second e =
+bound_following : (k : FieldKind) (v w : Value) (x y : List ℕ) → MayBound k v → MayBound k w → bound_bytes v ++ x ≡ bound_bytes w ++ y → x ≡ y
+bound_following k (Whole a) (Whole b) x y first second e = same_rests (number_bytes (Whole a)) (number_bytes (Whole b)) x y (length-number a ∙ sym (length-number b)) e
+bound_following k (Whole a) (Text t) x y first second e = absurd (two_kinds k a t first.fit second.fit)
+bound_following k (Text t) (Whole a) x y first second e = absurd (two_kinds k a t second.fit first.fit)
+bound_following k (Text s) (Text t) x y first second e =
     let few = fits_short k (Text s) first.fit in
     let whole : short (length s) ++ (s ++ x) ≡ bound_bytes (Text t) ++ y = sym (append_assoc (short (length s)) s x) ∙ e in
-    let both = text_behind (length s) t y (s ++ x) (omega (arith, few)) (fits_short k (Text t) second.fit) whole in
+    let both = text_following (length s) t y (s ++ x) (omega (arith, few)) (fits_short k (Text t) second.fit) whole in
     same_rests s t x y both.0 both.1
 
 bound_once : (k : FieldKind) (v w : Value) (x y : List ℕ) → MayBound k v → MayBound k w → bound_bytes v ++ x ≡ bound_bytes w ++ y → v ≡ w
@@ -128,7 +128,7 @@ bound_once k (Text t) (Whole a) x y first second e = absurd (two_kinds k a t sec
 bound_once k (Text s) (Text t) x y first second e =
     let few = fits_short k (Text s) first.fit in
     let whole : short (length s) ++ (s ++ x) ≡ bound_bytes (Text t) ++ y = sym (append_assoc (short (length s)) s x) ∙ e in
-    let both = text_behind (length s) t y (s ++ x) (omega (arith, few)) (fits_short k (Text t) second.fit) whole in
+    let both = text_following (length s) t y (s ++ x) (omega (arith, few)) (fits_short k (Text t) second.fit) whole in
     ap Text (same_fronts s t x y both.0 both.1)
 
 -- bytes are the bounds of fields in one way
@@ -143,9 +143,9 @@ bounds_once (f ∷ fs) (x ∷ xs) (y ∷ ys) all others e =
     let second : List ℕ = bound_bytes y.greatest ++ bounds_bytes ys in
     let whole : bound_bytes x.least ++ first ≡ bound_bytes y.least ++ second = sym (append_assoc (bound_bytes x.least) (bound_bytes x.greatest) (bounds_bytes xs)) ∙ e ∙ append_assoc (bound_bytes y.least) (bound_bytes y.greatest) (bounds_bytes ys) in
     let least : x.least ≡ y.least = bound_once f.kind x.least y.least first second all.0.0 others.0.0 whole in
-    let behind : first ≡ second = bound_behind f.kind x.least y.least first second all.0.0 others.0.0 whole in
-    let greatest : x.greatest ≡ y.greatest = bound_once f.kind x.greatest y.greatest (bounds_bytes xs) (bounds_bytes ys) all.0.1 others.0.1 behind in
-    let more : xs ≡ ys = bounds_once fs xs ys all.1 others.1 (bound_behind f.kind x.greatest y.greatest (bounds_bytes xs) (bounds_bytes ys) all.0.1 others.0.1 behind) in
+    let following : first ≡ second = bound_following f.kind x.least y.least first second all.0.0 others.0.0 whole in
+    let greatest : x.greatest ≡ y.greatest = bound_once f.kind x.greatest y.greatest (bounds_bytes xs) (bounds_bytes ys) all.0.1 others.0.1 following in
+    let more : xs ≡ ys = bounds_once fs xs ys all.1 others.1 (bound_following f.kind x.greatest y.greatest (bounds_bytes xs) (bounds_bytes ys) all.0.1 others.0.1 following) in
     (λ i. record { least = least i; greatest = greatest i } ∷ more i)
 
 -- the bounds of the first so many fields were read, and any bounds of all fields go on with the rest
@@ -159,34 +159,34 @@ bounds_begin fields bytes bounds none =
     subst (λ bs. BoundsRead fields bytes 0 bs bytes) (sym none) (record { each = tt; spelled = refl; left = λ all are. (all, are.each, are.spelled) })
 
 -- the pair of the next field
-next_pair : (f : Field) (fs : List Field) (more : List Ends) (least greatest : Value) (rest behind after : List ℕ) → AllZip MayEnd (f ∷ fs) more → rest ≡ bounds_bytes more → IsBound f.kind rest least behind → IsBound f.kind behind greatest after
+next_pair : (f : Field) (fs : List Field) (more : List Ends) (least greatest : Value) (rest following after : List ℕ) → AllZip MayEnd (f ∷ fs) more → rest ≡ bounds_bytes more → IsBound f.kind rest least following → IsBound f.kind following greatest after
     → (others : List Ends) × AllZip MayEnd fs others × (after ≡ bounds_bytes others)
-next_pair f fs [] least greatest rest behind after all e first second = absurd all
-next_pair f fs (ends ∷ others) least greatest rest behind after all e first second =
+next_pair f fs [] least greatest rest following after all e first second = absurd all
+next_pair f fs (ends ∷ others) least greatest rest following after all e first second =
     let tail : List ℕ = bound_bytes ends.greatest ++ bounds_bytes others in
-    let one : behind ≡ tail = bound_behind f.kind least ends.least behind tail first.may all.0.0 (sym first.spelled ∙ e ∙ append_assoc (bound_bytes ends.least) (bound_bytes ends.greatest) (bounds_bytes others)) in
-    (others, all.1, bound_behind f.kind greatest ends.greatest after (bounds_bytes others) second.may all.0.1 (sym second.spelled ∙ one))
+    let one : following ≡ tail = bound_following f.kind least ends.least following tail first.may all.0.0 (sym first.spelled ∙ e ∙ append_assoc (bound_bytes ends.least) (bound_bytes ends.greatest) (bounds_bytes others)) in
+    (others, all.1, bound_following f.kind greatest ends.greatest after (bounds_bytes others) second.may all.0.1 (sym second.spelled ∙ one))
 
 no_first : (f : Field) (fs : List Field) (more : List Ends) (rest : List ℕ) → AllZip MayEnd (f ∷ fs) more → rest ≡ bounds_bytes more → NoBound f.kind rest → ⊥
 no_first f fs [] rest all e none = absurd all
 no_first f fs (ends ∷ others) rest all e none =
     none ends.least (bound_bytes ends.greatest ++ bounds_bytes others) (record { may = all.0.0; spelled = e ∙ append_assoc (bound_bytes ends.least) (bound_bytes ends.greatest) (bounds_bytes others) })
 
-no_second : (f : Field) (fs : List Field) (more : List Ends) (least : Value) (rest behind : List ℕ) → AllZip MayEnd (f ∷ fs) more → rest ≡ bounds_bytes more → IsBound f.kind rest least behind → NoBound f.kind behind → ⊥
-no_second f fs [] least rest behind all e first none = absurd all
-no_second f fs (ends ∷ others) least rest behind all e first none =
+no_second : (f : Field) (fs : List Field) (more : List Ends) (least : Value) (rest following : List ℕ) → AllZip MayEnd (f ∷ fs) more → rest ≡ bounds_bytes more → IsBound f.kind rest least following → NoBound f.kind following → ⊥
+no_second f fs [] least rest following all e first none = absurd all
+no_second f fs (ends ∷ others) least rest following all e first none =
     let tail : List ℕ = bound_bytes ends.greatest ++ bounds_bytes others in
-    let one : behind ≡ tail = bound_behind f.kind least ends.least behind tail first.may all.0.0 (sym first.spelled ∙ e ∙ append_assoc (bound_bytes ends.least) (bound_bytes ends.greatest) (bounds_bytes others)) in
+    let one : following ≡ tail = bound_following f.kind least ends.least following tail first.may all.0.0 (sym first.spelled ∙ e ∙ append_assoc (bound_bytes ends.least) (bound_bytes ends.greatest) (bounds_bytes others)) in
     none ends.greatest (bounds_bytes others) (record { may = all.0.1; spelled = one })
 
 -- the fields that are left begin with this one
 ahead : (fields : List Field) (at : ℕ) (f : Field) → at < length fields → f ≡ get_or fields at f → drop at fields ≡ f ∷ drop (at + 1) fields
 ahead fields at f lt is = drop_more fields at f lt ∙ ap (λ g. g ∷ drop (at + 1) fields) (sym is)
 
-pub bounds_more : (fields : List Field) (bytes : List ℕ) (at : ℕ) (f : Field) (bounds new : List Ends) (least greatest : Value) (rest behind after : List ℕ) → at < length fields → f ≡ get_or fields at f
-    → IsBound f.kind rest least behind → IsBound f.kind behind greatest after → new ≡ bounds ++ record { least = least; greatest = greatest } ∷ []
+pub bounds_more : (fields : List Field) (bytes : List ℕ) (at : ℕ) (f : Field) (bounds new : List Ends) (least greatest : Value) (rest following after : List ℕ) → at < length fields → f ≡ get_or fields at f
+    → IsBound f.kind rest least following → IsBound f.kind following greatest after → new ≡ bounds ++ record { least = least; greatest = greatest } ∷ []
     → BoundsRead fields bytes at bounds rest → BoundsRead fields bytes (at + 1) new after
-bounds_more fields bytes at f bounds new least greatest rest behind after lt is first second pushed so_far =
+bounds_more fields bytes at f bounds new least greatest rest following after lt is first second pushed so_far =
     let ends : Ends = record { least = least; greatest = greatest } in
     let fields_are : take (at + 1) fields ≡ take at fields ++ f ∷ [] = take_more fields at f lt ∙ ap (λ g. take at fields ++ g ∷ []) (sym is) in
     let pair : rest ≡ pair_bytes ends ++ after = first.spelled ∙ ap (λ b. bound_bytes least ++ b) second.spelled ∙ sym (append_assoc (bound_bytes least) (bound_bytes greatest) after) in
@@ -201,7 +201,7 @@ bounds_more fields bytes at f bounds new least greatest rest behind after lt is 
           ∙ ap (λ b. b ++ after) (sym (flat_map-append pair_bytes bounds (ends ∷ [])));
       left = λ all are.
           let (more, zip, e) = so_far.left all are in
-          next_pair f (drop (at + 1) fields) more least greatest rest behind after (subst (λ fs. AllZip MayEnd fs more) (ahead fields at f lt is) zip) e first second;
+          next_pair f (drop (at + 1) fields) more least greatest rest following after (subst (λ fs. AllZip MayEnd fs more) (ahead fields at f lt is) zip) e first second;
     })
 
 pub no_least : (fields : List Field) (bytes : List ℕ) (at : ℕ) (f : Field) (bounds : List Ends) (rest : List ℕ) → at < length fields → f ≡ get_or fields at f → NoBound f.kind rest → BoundsRead fields bytes at bounds rest → (all : List Ends) → ¬ AreBounds fields bytes all
@@ -209,11 +209,11 @@ no_least fields bytes at f bounds rest lt is none so_far all are =
     let (more, zip, e) = so_far.left all are in
     no_first f (drop (at + 1) fields) more rest (subst (λ fs. AllZip MayEnd fs more) (ahead fields at f lt is) zip) e none
 
-pub no_greatest : (fields : List Field) (bytes : List ℕ) (at : ℕ) (f : Field) (bounds : List Ends) (least : Value) (rest behind : List ℕ) → at < length fields → f ≡ get_or fields at f → IsBound f.kind rest least behind → NoBound f.kind behind
+pub no_greatest : (fields : List Field) (bytes : List ℕ) (at : ℕ) (f : Field) (bounds : List Ends) (least : Value) (rest following : List ℕ) → at < length fields → f ≡ get_or fields at f → IsBound f.kind rest least following → NoBound f.kind following
     → BoundsRead fields bytes at bounds rest → (all : List Ends) → ¬ AreBounds fields bytes all
-no_greatest fields bytes at f bounds least rest behind lt is first none so_far all are =
+no_greatest fields bytes at f bounds least rest following lt is first none so_far all are =
     let (more, zip, e) = so_far.left all are in
-    no_second f (drop (at + 1) fields) more least rest behind (subst (λ fs. AllZip MayEnd fs more) (ahead fields at f lt is) zip) e first none
+    no_second f (drop (at + 1) fields) more least rest following (subst (λ fs. AllZip MayEnd fs more) (ahead fields at f lt is) zip) e first none
 
 empty : {X : Type 0} (xs : List X) → length xs ≡ 0 → xs ≡ []
 empty [] e = refl

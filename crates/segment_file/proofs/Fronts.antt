@@ -25,14 +25,14 @@ length-entry : (e : Extent) → length (extent_bytes e) ≡ 19
 unfolding short long
 length-entry e = refl
 
--- an entry is read, and the others are behind it
+-- an entry is read, and the others are after it
 entry_size : (e : Extent) (rest : List ℕ) → e.size < 2 ^ 64 → from_be_bytes w64 (take 8 (drop 11 (extent_bytes e ++ rest))) ≡ e.size
 unfolding short long
 entry_size e rest small = from_be_bytes-to_be_bytes_8 e.size small
 
-entry_behind : (e : Extent) (rest : List ℕ) → drop 19 (extent_bytes e ++ rest) ≡ rest
+entry_following : (e : Extent) (rest : List ℕ) → drop 19 (extent_bytes e ++ rest) ≡ rest
 unfolding short long
-entry_behind e rest = refl
+entry_following e rest = refl
 
 pub directory_size : (offset : ℕ) (parts : List Part) (sizes : List ℕ) → length sizes ≡ length parts → length (directory (extents_from offset parts sizes)) ≡ 19 * length parts
 directory_size offset [] sizes each = refl
@@ -49,7 +49,7 @@ sizes_back offset (p ∷ parts) (size ∷ sizes) each small =
     let e : Extent = record { part = p; offset = offset; size = size } in
     let rest : List ℕ = directory (extents_from (offset + size) parts sizes) in
     let all : sum (size ∷ sizes) ≡ size + sum sizes = sum_by-cons (λ n. n) size sizes in
-    ap₂ ◌∷◌ (entry_size e rest (omega arith)) (ap (sizes_from parts) (entry_behind e rest) ∙ sizes_back (offset + size) parts sizes (omega arith) (omega arith))
+    ap₂ ◌∷◌ (entry_size e rest (omega arith)) (ap (sizes_from parts) (entry_following e rest) ∙ sizes_back (offset + size) parts sizes (omega arith) (omega arith))
 
 -- the rows that bytes say
 abbrev pub rows_in : List ℕ → ℕ
@@ -59,8 +59,8 @@ rows_back : (table : Table) (name : List ℕ) (f : Front) → f.rows < 2 ^ 32 �
 unfolding counted
 rows_back table name f small = from_be_bytes-to_be_bytes_4 f.rows small
 
-directory_behind : (table : Table) (name : List ℕ) (f : Front) → drop (38 + length name) (front_bytes table name f) ≡ directory (extents_of table name f)
-directory_behind table name f =
+directory_following : (table : Table) (name : List ℕ) (f : Front) → drop (38 + length name) (front_bytes table name f) ≡ directory (extents_of table name f)
+directory_following table name f =
     ap (λ n. drop n (front_bytes table name f)) (sym (header_size table name f)) ∙ drop-append_seam (header_bytes table name f) (directory (extents_of table name f))
 
 -- what the bytes say, as they are read
@@ -76,7 +76,7 @@ is_said table name bytes size f is =
     let rows : rows_in bytes ≡ f.rows = ap rows_in is.spelled ∙ rows_back table name f few in
     let sizes : sizes_from (sections_of table) (drop (38 + length name) bytes) ≡ f.sizes =
     ap (λ b. sizes_from (sections_of table) (drop (38 + length name) b)) is.spelled
-    ∙ ap (sizes_from (sections_of table)) (directory_behind table name f)
+    ∙ ap (sizes_from (sections_of table)) (directory_following table name f)
     ∙ sizes_back (front_size table name) (sections_of table) f.sizes is.each (omega arith) in
     (λ i. record { format = is.known i; rows = sym rows i; sizes = sym sizes i })
 
@@ -95,8 +95,8 @@ fronts_tell table name f g ff gf fr gr f_each g_each fs gs e =
     let format : f.format ≡ g.format = sym (format_back table name f ff) ∙ ap format_in e ∙ format_back table name g gf in
     let rows : f.rows ≡ g.rows = sym (rows_back table name f fr) ∙ ap rows_in e ∙ rows_back table name g gr in
     let back : List ℕ → List ℕ = λ bytes. sizes_from (sections_of table) (drop (38 + length name) bytes) in
-    let f_back : back (front_bytes table name f) ≡ f.sizes = ap (sizes_from (sections_of table)) (directory_behind table name f) ∙ sizes_back (front_size table name) (sections_of table) f.sizes f_each fs in
-    let g_back : back (front_bytes table name g) ≡ g.sizes = ap (sizes_from (sections_of table)) (directory_behind table name g) ∙ sizes_back (front_size table name) (sections_of table) g.sizes g_each gs in
+    let f_back : back (front_bytes table name f) ≡ f.sizes = ap (sizes_from (sections_of table)) (directory_following table name f) ∙ sizes_back (front_size table name) (sections_of table) f.sizes f_each fs in
+    let g_back : back (front_bytes table name g) ≡ g.sizes = ap (sizes_from (sections_of table)) (directory_following table name g) ∙ sizes_back (front_size table name) (sections_of table) g.sizes g_each gs in
     let sizes : f.sizes ≡ g.sizes = sym f_back ∙ ap back e ∙ g_back in
     (λ i. record { format = format i; rows = rows i; sizes = sizes i })
 

@@ -36,8 +36,8 @@ cut_at : (before : List ℕ) (offset : ℕ) (ps : List Part) (f : Part → List 
 cut_at before offset [] f whole at is = refl
 cut_at before offset (p ∷ ps) f whole at is =
     let rest : List ℕ = f p ++ concat (map f ps) in
-    let behind : drop offset whole ≡ rest = (λ i. drop (sym at i) (is i)) ∙ drop-append_seam before rest in
-    let here : take (length (f p)) (drop offset whole) ≡ f p = ap (take (length (f p))) behind ∙ take-append_seam (f p) (concat (map f ps)) in
+    let following : drop offset whole ≡ rest = (λ i. drop (sym at i) (is i)) ∙ drop-append_seam before rest in
+    let here : take (length (f p)) (drop offset whole) ≡ f p = ap (take (length (f p))) following ∙ take-append_seam (f p) (concat (map f ps)) in
     let next : length (before ++ f p) ≡ offset + length (f p) = omega (arith, at, length-append before (f p)) in
     let more : map (section_bytes whole) (extents_from (offset + length (f p)) ps (map length (map f ps))) ≡ map f ps =
     cut_at (before ++ f p) (offset + length (f p)) ps f whole next (is ∙ sym (append_assoc before (f p) (concat (map f ps)))) in

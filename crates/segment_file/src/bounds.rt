@@ -70,10 +70,10 @@ pub fn read_bounds(
     let mut bounds = Vec::with_capacity(alloc, fields.len())?;
     let mut rest = bytes;
     for field in fields {
-        let Some((least, behind)) = read_bound(alloc, field.kind, rest)? else {
+        let Some((least, following)) = read_bound(alloc, field.kind, rest)? else {
             return Ok(None);
         };
-        let Some((greatest, after)) = read_bound(alloc, field.kind, behind)? else {
+        let Some((greatest, after)) = read_bound(alloc, field.kind, following)? else {
             return Ok(None);
         };
         bounds.push(Ends { least, greatest })?;
@@ -86,7 +86,7 @@ pub fn read_bounds(
     }
 }
 
-// The value of the kind at the front, and the bytes behind it.
+// The value of the kind at the front, and the bytes after it.
 fn read_bound(
     alloc: Global,
     kind: FieldKind,
@@ -139,7 +139,7 @@ fn is_in_range(kind: FieldKind, number: i64) -> bool
     }
 }
 
-// The text after its length at the front, and the bytes behind it.
+// The text after its length at the front, and the bytes after it.
 fn split_text(bytes: &[u8]) -> Option<(&str, &[u8])>
     ensures { MatchOption result
         (NoBound FieldKind.Text bytes.now)
@@ -149,14 +149,14 @@ fn split_text(bytes: &[u8]) -> Option<(&str, &[u8])>
     if length > MOST_TEXT_BYTES {
         return None;
     }
-    let (text, behind) = rest.split_at_checked(length)?;
+    let (text, following) = rest.split_at_checked(length)?;
     let Ok(text) = str::from_utf8(text) else {
         return None;
     };
-    Some((text, behind))
+    Some((text, following))
 }
 
-// The number that two bytes at the front spell, and the bytes behind them.
+// The number that two bytes at the front spell, and the bytes after them.
 fn split_short(bytes: &[u8]) -> Option<(usize, &[u8])>
     ensures { MatchOption result
         (length bytes.now < 2)

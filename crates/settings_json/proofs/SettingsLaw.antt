@@ -18,7 +18,8 @@ use Rattle.table_schema.specs.Columns.{number_of}
 use Rattle.settings_json.specs.NamedColumns.{columns_finding, named}
 use Rattle.settings_json.specs.Trees.{TREES_KEY, trees_finding, tree_of}
 use Rattle.table_schema.specs.Valid.{no_repeat, IsValidSchema}
-use Rattle.settings_json.specs.Indexes.{INDEX_KEY, INVERTED_KEY, RANGE_KEY, RAW_KEY, SORTED_KEY, sorted_finding, sorted_number, sorted_name, index_form, raw_finding, index_checks, index_finding, indexed, is_set_anywhere, is_no_tree, names_unbuilt, unbuilt_finding}
+use Rattle.settings_json.specs.Indexes.{INDEX_KEY, INVERTED_KEY, RANGE_KEY, RAW_KEY, SORTED_KEY, sorted_finding, sorted_number, sorted_name, index_form, raw_finding, index_checks, index_finding, indexed, unbuilt_finding}
+use Rattle.table_schema.specs.Unbuilt.{is_set_anywhere, is_no_tree, names_unbuilt}
 use Rattle.table_schema.specs.NeedIds.{is_the_number, is_set, is_split, needs_ids}
 use Rattle.settings_json.specs.TableTexts.{table_name, table_finding, type_finding, ingestion_finding, head_finding, settings_checks, settings_finding, settings_of}
 use Rattle.table_schema.specs.ValidSettings.{IsValidTree, is_known_number, IsValidSettings}

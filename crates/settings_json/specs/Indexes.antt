@@ -8,6 +8,7 @@ use Rattle.table_schema.specs.declared.settings.TreeSetting.{TreeSetting}
 use Rattle.table_schema.specs.declared.settings.Settings.{Settings}
 use Rattle.table_schema.specs.Roles.{is_metric_at}
 use Rattle.table_schema.specs.NeedIds.{needs_ids}
+use Rattle.table_schema.specs.Unbuilt.{names_unbuilt}
 use Rattle.schema_json.specs.declared.fault.KeyKind.TheVariants.{WrongKind, Unsupported, UnknownColumn, TooMany}
 use Rattle.schema_json.specs.declared.fault.TextFault.TheVariants.{At}
 use Rattle.table_schema.specs.Names.{Text}
@@ -129,16 +130,6 @@ index_checks fields table d = first_of (
     ∷ [])
 
 -- ---- what is not built yet
-
-abbrev pub is_set_anywhere : List Bool → Bool
-is_set_anywhere bs = list_any (λ b. b) bs
-
-abbrev pub is_no_tree : List TreeSetting → Bool
-is_no_tree [] = true
-is_no_tree (t ∷ ts) = false
-
-abbrev pub names_unbuilt : Settings → Bool
-names_unbuilt s = is_some s.sorted || is_set_anywhere s.inverted || is_set_anywhere s.ranged || not (is_no_tree s.trees)
 
 abbrev pub unbuilt_finding : Settings → Finding
 unbuilt_finding s = fault_if (names_unbuilt s) Unsupported INDEX_KEY

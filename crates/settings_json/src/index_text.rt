@@ -6,6 +6,7 @@ ghost use Rattle.serde_json.specs.View.{view};
 ghost use Rattle.schema_json.specs.Keys.{items_at};
 ghost use Rattle.settings_json.specs.Indexes as spec;
 ghost use Rattle.table_schema.specs.NeedIds as ids;
+ghost use Rattle.table_schema.specs.Unbuilt as unbuilt;
 ghost use Rattle.schema_json.specs.Faults.{Gives, Passes, Refuses, at_place};
 
 use crate::columns::{columns, is_member, named};
@@ -168,7 +169,7 @@ fn check_built(alloc: Global, settings: &Settings) -> Result<(), TextFault>
 }
 
 fn names_unbuilt(settings: &Settings) -> bool
-    ensures { result ≡ spec.names_unbuilt settings.now }
+    ensures { result ≡ unbuilt.names_unbuilt settings.now }
 {
     settings.sorted.is_some()
         || is_set_anywhere(settings.inverted.as_slice())
@@ -177,7 +178,7 @@ fn names_unbuilt(settings: &Settings) -> bool
 }
 
 fn is_set_anywhere(flags: &[bool]) -> bool
-    ensures { result ≡ spec.is_set_anywhere flags.now }
+    ensures { result ≡ unbuilt.is_set_anywhere flags.now }
 {
     for flag in flags {
         if *flag {

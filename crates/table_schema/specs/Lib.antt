@@ -9,3 +9,4 @@ pub mod ValidSettings
 pub mod ValidTable
 pub mod Conditions
 pub mod ValidQuery
+pub mod Unbuilt

@@ -12,14 +12,14 @@ use Rattle.std.specs.Borrow.{Bor}
 use Rattle.table_store.specs.State.{Texts}
 use Rattle.table_store.specs.TableFile.{FitsTable, counted, table_file}
 
--- the length that a text stands behind
+-- the length that a text stands after
 length_first : (text rest : List ℕ) → length text ≤ 1048576 → from_be_bytes w32 (take 4 (counted text ++ rest)) ≡ length text
 length_first text rest le = from_be_bytes-to_be_bytes_4 (length text) (omega arith)
 
-pub text_behind : (text rest : List ℕ) → drop 4 (counted text ++ rest) ≡ text ++ rest
-text_behind text rest = refl
+pub text_following : (text rest : List ℕ) → drop 4 (counted text ++ rest) ≡ text ++ rest
+text_following text rest = refl
 
--- two texts behind their lengths, and what follows them
+-- two texts after their lengths, and what follows them
 same_lengths : (a b x y : List ℕ) → length a ≤ 1048576 → length b ≤ 1048576 → counted a ++ x ≡ counted b ++ y → length a ≡ length b
 same_lengths a b x y la lb e = sym (length_first a x la) ∙ ap (λ bytes. from_be_bytes w32 (take 4 bytes)) e ∙ length_first b y lb
 
@@ -61,7 +61,7 @@ take_small n bytes small i =
       | inr le ↦ rw (get_or_past (take n bytes) i 0 (omega (arith, length-take n bytes))) (omega arith)
     ]
 
--- what was read behind its length is spelled so
+-- what was read after its length is spelled so
 pub counted_parts : (bytes front rest : List ℕ) (n : ℕ) → IsBytes bytes → 4 ≤ length bytes → n ≡ from_be_bytes w32 (take 4 bytes) → length front ≡ n → drop 4 bytes ≡ front ++ rest → bytes ≡ counted front ++ rest
 counted_parts bytes front rest n small long is len parts =
     let number : to_be_bytes w32 (length front) ≡ take 4 bytes = be_bytes_4 (take 4 bytes) (length front) (omega (arith, length-take 4 bytes)) (take_small 4 bytes small) (len ∙ is) in
@@ -82,7 +82,7 @@ ends_early bytes text rest early le e =
     let m : length (drop 4 bytes) ≡ length text + length rest = ap (λ b. length (drop 4 b)) e ∙ length-append text rest in
     absurd (omega arith)
 
--- what the test on the length and the cut behind it say of the front of bytes
+-- what the test on the length and the cut after it say of the front of bytes
 pub splits : {X : Type 0} (first second : X → List ℕ) (bytes : List ℕ) (n : ℕ) (r : Option X) → IsBytes bytes → 4 ≤ length bytes → n ≡ from_be_bytes w32 (take 4 bytes) → n ≤ 1048576
     → MatchOption r (length (drop 4 bytes) < n) (λ x. IsSplitAt (drop 4 bytes) n (first x) (second x))
     → MatchOption r ((text rest : List ℕ) → length text ≤ 1048576 → bytes ≢ counted text ++ rest) (λ x. (length (first x) ≤ 1048576) × (bytes ≡ counted (first x) ++ second x))
@@ -93,7 +93,7 @@ splits first second bytes n (Some x) small long is within (mid, front, back, len
 
 -- ---- reading a file
 
--- the bytes of a file behind its first eight
+-- the bytes of a file after its first eight
 abbrev pub body : Texts → List ℕ
 body t = counted t.schema ++ counted t.settings
 
@@ -104,9 +104,9 @@ no_settings file rest settings schema t fits head short first none same =
     let both = texts_cancel schema t.schema settings (counted t.settings) short fits.schema (sym first ∙ bodies) in
     none t.settings [] fits.settings (both.1 ∙ sym (append-nil (counted t.settings)))
 
-pub more_behind : (file rest settings schema text more : List ℕ) (t : Texts) → FitsTable t → file ≡ codes "PINOTTB1" ++ rest → length schema ≤ 1048576 → rest ≡ counted schema ++ settings
+pub more_following : (file rest settings schema text more : List ℕ) (t : Texts) → FitsTable t → file ≡ codes "PINOTTB1" ++ rest → length schema ≤ 1048576 → rest ≡ counted schema ++ settings
     → length text ≤ 1048576 → settings ≡ counted text ++ more → more ≢ [] → file ≢ table_file t
-more_behind file rest settings schema text more t fits head short first short_text second some same =
+more_following file rest settings schema text more t fits head short first short_text second some same =
     let bodies : rest ≡ body t = append_cancel_left (codes "PINOTTB1") rest (body t) (sym head ∙ same) in
     let both = texts_cancel schema t.schema settings (counted t.settings) short fits.schema (sym first ∙ bodies) in
     let last = texts_cancel text t.settings more [] short_text fits.settings (sym second ∙ both.1 ∙ sym (append-nil (counted t.settings))) in
@@ -123,7 +123,7 @@ no_head file t other same = other (ap (take 8) same)
 
 -- bytes that begin so
 pub begins : (file rest : List ℕ) → pointwise eqb (take 8 file) (codes "PINOTTB1") ≡ true → rest ≡ drop 8 file → file ≡ codes "PINOTTB1" ++ rest
-begins file rest same behind = sym (take-append-drop 8 file) ∙ (λ i. same_text (take 8 file) (codes "PINOTTB1") (sym same) i ++ sym behind i)
+begins file rest same following = sym (take-append-drop 8 file) ∙ (λ i. same_text (take 8 file) (codes "PINOTTB1") (sym same) i ++ sym following i)
 
 pub some_left : (rest : List ℕ) → false ≡ (length rest == 0) → rest ≢ []
 some_left [] e same = cc

@@ -19,7 +19,7 @@ pub returns-then-not-is_in_range-clause-bad : goal.returns-then-not-is_in_range-
 returns-then-not-is_in_range-clause-bad c = λ _.
     let z : ℤ = c.number_of-number.result in
     let same : cast_signed w64 (cast_unsigned w64 z) ≡ z = to_z-of_z w64 z (fits_from_mag z c.number_of-number.type_inv) in
-    numbers_refused c.args.kind c.args.count c.args.body.now c.loop-chunk.rest.now c.in-Some.chunk.now c.in-Some.behind.now c.loop-chunk.values.items z c.requires.numbers
+    numbers_refused c.args.kind c.args.count c.args.body.now c.loop-chunk.rest.now c.in-Some.chunk.now c.in-Some.following.now c.loop-chunk.values.items z c.requires.numbers
     c.number_of-number.ensures.spelled c.in-Some.ensures.cases.0 c.in-Some.ensures.cases.1 c.number_of-number.ensures.within c.loop-chunk.invariant
     (λ within above. elim c.then-not-is_in_range.branch [
       | then-not-is_in_range-via-then-not-is_in_range w ↦ false≢true (w.if-not-is_in_range.ensures ∙ ap (is_in_range c.args.kind) same ∙ within)
@@ -32,7 +32,7 @@ loop-chunk-preserved c =
     let z : ℤ = c.number_of-number.result in
     let same : cast_signed w64 (cast_unsigned w64 z) ≡ z = to_z-of_z w64 z (fits_from_mag z c.number_of-number.type_inv) in
     let above : is_above_last c.deref.result.now (Whole (cast_signed w64 (cast_unsigned w64 z))) ≡ is_above_last c.loop-chunk.values.items (Whole z) = (λ i. is_above_last (c.deref.ensures.value i) (Whole (same i))) in
-    numbers_more c.args.kind c.args.count c.args.body.now c.loop-chunk.rest.now c.in-Some.chunk.now c.in-Some.behind.now c.loop-chunk.values.items c.keep.new.values.items z c.requires.numbers
+    numbers_more c.args.kind c.args.count c.args.body.now c.loop-chunk.rest.now c.in-Some.chunk.now c.in-Some.following.now c.loop-chunk.values.items c.keep.new.values.items z c.requires.numbers
     c.number_of-number.ensures.spelled c.in-Some.ensures.cases.0 c.in-Some.ensures.cases.1 c.number_of-number.ensures.within
     (sym (ap (is_in_range c.args.kind) same) ∙ sym c.if-not-is_in_range.ensures) (sym above ∙ sym c.if-not-is_above_last.ensures) c.loop-chunk.invariant
     (c.in_ok-keep.ensures.ok ∙ ap (λ n. c.loop-chunk.values.items ++ Whole n ∷ []) same)

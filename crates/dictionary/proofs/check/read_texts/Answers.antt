@@ -17,14 +17,14 @@ returns-in_default-next_text-clause-bad c = λ _.
 pub returns-then-not-is_above_last-clause-bad : goal.returns-then-not-is_above_last-clause-bad
 returns-then-not-is_above_last-clause-bad c = λ _.
     let left : Left = record { start = c.loop.ahead.start; offsets = c.loop.ahead.offsets.now; texts = c.loop.ahead.texts.now } in
-    let behind : Left = record { start = c.in-Some-next_text.behind.start; offsets = c.in-Some-next_text.behind.offsets.now; texts = c.in-Some-next_text.behind.texts.now } in
+    let following : Left = record { start = c.in-Some-next_text.following.start; offsets = c.in-Some-next_text.following.offsets.now; texts = c.in-Some-next_text.following.texts.now } in
     let above : is_above_last c.deref.result.now (Text c.in_ok-from_text.field-0) ≡ is_above_last c.loop.values.items (Text c.in-Some-next_text.text.now) = (λ i. is_above_last (c.deref.ensures.value i) (Text (c.in_ok-from_text.ensures i))) in
-    texts_fall c.args.count c.loop.counter c.args.body.now left behind c.loop.values.items c.in-Some-next_text.text.now c.in-Some-next_text.ensures (sym above ∙ sym c.if-not-is_above_last.ensures) c.loop-test.true c.loop.invariant
+    texts_fall c.args.count c.loop.counter c.args.body.now left following c.loop.values.items c.in-Some-next_text.text.now c.in-Some-next_text.ensures (sym above ∙ sym c.if-not-is_above_last.ensures) c.loop-test.true c.loop.invariant
 
 pub loop-preserved : goal.loop-preserved
 loop-preserved c =
     let left : Left = record { start = c.loop.ahead.start; offsets = c.loop.ahead.offsets.now; texts = c.loop.ahead.texts.now } in
-    let behind : Left = record { start = c.in-Some-next_text.behind.start; offsets = c.in-Some-next_text.behind.offsets.now; texts = c.in-Some-next_text.behind.texts.now } in
+    let following : Left = record { start = c.in-Some-next_text.following.start; offsets = c.in-Some-next_text.following.offsets.now; texts = c.in-Some-next_text.following.texts.now } in
     let above : is_above_last c.deref.result.now (Text c.in_ok-from_text.field-0) ≡ is_above_last c.loop.values.items (Text c.in-Some-next_text.text.now) = (λ i. is_above_last (c.deref.ensures.value i) (Text (c.in_ok-from_text.ensures i))) in
-    texts_more c.args.count c.loop.counter c.args.body.now left behind c.loop.values.items c.keep.new.values.items c.in-Some-next_text.text.now c.in-Some-next_text.ensures
+    texts_more c.args.count c.loop.counter c.args.body.now left following c.loop.values.items c.keep.new.values.items c.in-Some-next_text.text.now c.in-Some-next_text.ensures
     (sym above ∙ sym c.if-not-is_above_last.ensures) c.loop-test.true c.loop.invariant (c.in_ok-keep.ensures.ok ∙ ap (λ t. c.loop.values.items ++ Text t ∷ []) c.in_ok-from_text.ensures)

@@ -8,7 +8,7 @@ use Rattle.dictionary.proofs.id_sets.both.Goals as goal
 pub push-requires : goal.push-requires
 push-requires c =
     share_above c.as_slice-list.result.now c.args.b.now c.loop-id.ids c.loop-id.id-index (get_or c.as_slice-list.result.now c.loop-id.id-index 0)
-    (subst (IsStrictlySortedBy nat_cmp) (sym c.as_slice-list.ensures.same) c.as_slice-list.ensures.stands.ascends) c.loop-id-test.true refl c.loop-id.invariant
+    (subst (IsStrictlySortedBy nat_cmp) (sym c.as_slice-list.ensures.same) c.as_slice-list.ensures.valid.ascends) c.loop-id-test.true refl c.loop-id.invariant
 
 pub loop-id-preserved-then-not-contains : goal.loop-id-preserved-then-not-contains
 loop-id-preserved-then-not-contains c =

@@ -1,5 +1,5 @@
 use Rattle.dictionary.specs.Ids.{is_within}
-use Rattle.dictionary.proofs.SetLemmas.{pass_above, pass_end, pass_none, pass_yes, run_at, run_before, run_behind}
+use Rattle.dictionary.proofs.SetLemmas.{pass_above, pass_end, pass_none, pass_yes, run_at, run_before, run_following}
 use Rattle.dictionary.proofs.id_sets.run.Goals as goal
 
 pub push-requires : goal.push-requires
@@ -13,4 +13,4 @@ loop-id-preserved c =
     pass_yes (is_within c.args.from c.args.to) c.loop-id.id c.loop-id.ids c.push.new.self (run_at c.args.from c.args.to c.loop-id.id c.loop-id.auto.id c.loop-id-test.true) c.loop-id.invariant c.in_ok-push.ensures.ok
 
 pub returns : goal.returns
-returns c = pass_end (is_within c.args.from c.args.to) c.loop-id.id c.loop-id.ids (λ q le. run_behind c.args.from c.args.to c.loop-id.id q (λ _. c.loop-id-test.false) c.loop-id.auto.id le) c.loop-id.invariant
+returns c = pass_end (is_within c.args.from c.args.to) c.loop-id.id c.loop-id.ids (λ q le. run_following c.args.from c.args.to c.loop-id.id q (λ _. c.loop-id-test.false) c.loop-id.auto.id le) c.loop-id.invariant

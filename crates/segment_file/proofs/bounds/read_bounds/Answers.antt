@@ -5,14 +5,14 @@ use Rattle.segment_file.proofs.bounds.read_bounds.Goals as goal
 pub returns-in_default-2 : goal.returns-in_default-2
 returns-in_default-2 c =
     let f = c.field-item.result in
-    let first : IsBound f.kind c.loop-field.rest.now c.in-Some.least c.in-Some.behind.now = at_some c.in_ok-least.field-0 (c.in-Some.least, c.in-Some.behind) _ _ c.in-Some.is c.in_ok-least.ensures in
-    let none : NoBound f.kind c.in-Some.behind.now = at_nothing c.in_ok-greatest.field-0 _ _ c.in_default-2.is c.in_ok-greatest.ensures in
-    no_greatest c.args.fields.now c.args.bytes.now c.loop-field.field-index f c.loop-field.bounds.items c.in-Some.least c.loop-field.rest.now c.in-Some.behind.now c.loop-field-test.true c.field-item.is first none c.loop-field.invariant
+    let first : IsBound f.kind c.loop-field.rest.now c.in-Some.least c.in-Some.following.now = at_some c.in_ok-least.field-0 (c.in-Some.least, c.in-Some.following) _ _ c.in-Some.is c.in_ok-least.ensures in
+    let none : NoBound f.kind c.in-Some.following.now = at_nothing c.in_ok-greatest.field-0 _ _ c.in_default-2.is c.in_ok-greatest.ensures in
+    no_greatest c.args.fields.now c.args.bytes.now c.loop-field.field-index f c.loop-field.bounds.items c.in-Some.least c.loop-field.rest.now c.in-Some.following.now c.loop-field-test.true c.field-item.is first none c.loop-field.invariant
 
 pub loop-field-preserved : goal.loop-field-preserved
 loop-field-preserved c =
     let f = c.field-item.result in
-    let first : IsBound f.kind c.loop-field.rest.now c.in-Some.least c.in-Some.behind.now = at_some c.in_ok-least.field-0 (c.in-Some.least, c.in-Some.behind) _ _ c.in-Some.is c.in_ok-least.ensures in
-    let second : IsBound f.kind c.in-Some.behind.now c.in-Some-2.greatest c.in-Some-2.after.now = at_some c.in_ok-greatest.field-0 (c.in-Some-2.greatest, c.in-Some-2.after) _ _ c.in-Some-2.is c.in_ok-greatest.ensures in
-    bounds_more c.args.fields.now c.args.bytes.now c.loop-field.field-index f c.loop-field.bounds.items c.push.new.self.items c.in-Some.least c.in-Some-2.greatest c.loop-field.rest.now c.in-Some.behind.now c.in-Some-2.after.now
+    let first : IsBound f.kind c.loop-field.rest.now c.in-Some.least c.in-Some.following.now = at_some c.in_ok-least.field-0 (c.in-Some.least, c.in-Some.following) _ _ c.in-Some.is c.in_ok-least.ensures in
+    let second : IsBound f.kind c.in-Some.following.now c.in-Some-2.greatest c.in-Some-2.after.now = at_some c.in_ok-greatest.field-0 (c.in-Some-2.greatest, c.in-Some-2.after) _ _ c.in-Some-2.is c.in_ok-greatest.ensures in
+    bounds_more c.args.fields.now c.args.bytes.now c.loop-field.field-index f c.loop-field.bounds.items c.push.new.self.items c.in-Some.least c.in-Some-2.greatest c.loop-field.rest.now c.in-Some.following.now c.in-Some-2.after.now
     c.loop-field-test.true c.field-item.is first second c.in_ok-push.ensures.items c.loop-field.invariant

@@ -1,5 +1,5 @@
 use Rattle.std.proofs.Common.{◌≡◌, drop}
-use Rattle.settings_json.specs.Indexes.{is_set_anywhere}
+use Rattle.table_schema.specs.Unbuilt.{is_set_anywhere}
 use Rattle.settings_json.proofs.index_text.is_set_anywhere.Given as goal
 
 abbrev pub invariant-loop-flag : goal.invariant-loop-flag

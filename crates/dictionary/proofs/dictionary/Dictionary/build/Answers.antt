@@ -10,6 +10,6 @@ invariant_of-result c =
 pub returns-clause-members : goal.returns-clause-members
 returns-clause-members c = members_so c.args.column.now c.in_ok-values.values.items (c.in_ok-values.ensures.distinct ∙ ap distinct c.as_slice.ensures)
 
-pub returns-clause-stands : goal.returns-clause-stands
-returns-clause-stands c =
+pub returns-clause-valid : goal.returns-clause-valid
+returns-clause-valid c =
     stands_so c.args.kind c.args.column.now c.in_ok-values.values.items c.requires.few c.requires.fit (c.in_ok-values.ensures.distinct ∙ ap distinct c.as_slice.ensures) c.in_ok-values.ensures.unicode

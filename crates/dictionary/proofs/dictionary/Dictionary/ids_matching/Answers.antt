@@ -15,6 +15,6 @@ pub returns : goal.returns
 returns c =
     let told : c.deref.result.now ≡ c.args.self.now.values = c.deref.ensures.value ∙ ap (λ d. d.values) c.self.view_is in
     record {
-      ids = subst (λ (vs : List Value). c.in_ok-ids.ids ≡ matching c.args.test.now vs) told (ids_so c.args.test.now c.deref.result.now c.in_ok-ids.ids c.as_slice-list.ensures.stands c.in_ok-ids.ensures);
+      ids = subst (λ (vs : List Value). c.in_ok-ids.ids ≡ matching c.args.test.now vs) told (ids_so c.args.test.now c.deref.result.now c.in_ok-ids.ids c.as_slice-list.ensures.valid c.in_ok-ids.ensures);
       each = subst (λ (vs : List Value). (id : ℕ) → has_id c.in_ok-ids.ids id ≡ satisfies c.args.test.now (slice_get vs id)) told c.in_ok-ids.ensures;
     }

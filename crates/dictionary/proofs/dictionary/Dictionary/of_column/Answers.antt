@@ -38,8 +38,8 @@ returns-clause-members c =
     let so = column_so c.args.column.now.values c.in_ok-seen.field-0.values.items c.deref.result.now c.in_ok-values.values.items c.in_ok-seen.field-0.ids.items c.in_ok-seen.ensures c.deref.ensures.value c.in_ok-values.ensures.distinct in
     members_so c.args.column.now.values c.in_ok-values.values.items so
 
-pub returns-clause-stands : goal.returns-clause-stands
-returns-clause-stands c =
+pub returns-clause-valid : goal.returns-clause-valid
+returns-clause-valid c =
     let so = column_so c.args.column.now.values c.in_ok-seen.field-0.values.items c.deref.result.now c.in_ok-values.values.items c.in_ok-seen.field-0.ids.items c.in_ok-seen.ensures c.deref.ensures.value c.in_ok-values.ensures.distinct in
     stands_so c.args.kind c.args.column.now.values c.in_ok-values.values.items c.requires.few c.requires.fit so c.in_ok-values.ensures.unicode
 
