@@ -22,11 +22,7 @@ const SCHEMA_LIMIT: u64 = 1_048_576;
 const CSV_LIMIT: u64 = 134_217_728;
 
 // The schema of a file, and the columns of a CSV file over it, unless one of the files is refused.
-fn read_files(
-    rt: &HostRuntime,
-    schema: &str,
-    rows: &str,
-) -> io::Result<Option<(Schema, Columns)>>
+fn read_files(rt: &HostRuntime, schema: &str, rows: &str) -> io::Result<Option<(Schema, Columns)>>
     ensures { IfOk result (λ read. IfSome read (λ p. AreColumns p.0.fields p.1)) }
 {
     let alloc = rt.alloc();
