@@ -1,6 +1,7 @@
 //! From the groups of a table to an answer.
 
-ghost use Rattle.std.specs.Prelude.{◌≡◌, ◌<◌, IfOk, length, map, take, drop};
+ghost use Rattle.std.specs.Prelude.{◌≡◌, ◌<◌, ◌≤◌, IfOk, length, map, take, drop};
+ghost use Rattle.std.specs.FinMap as finite;
 ghost use Rattle.std.specs.List.{All, range_with_len};
 ghost use Rattle.group_table.specs.Kept.{IsTable, IsTableOf, group_at, groups_in};
 ghost use Rattle.group_table.specs.Shape.{shape_of};
@@ -22,8 +23,9 @@ use values::{Name, NoMemory, Seq};
 pub fn finish(alloc: Global, table: &GroupTable, query: &BoundQuery) -> Result<Answer, NoMemory>
     requires table { IsTableOf query.now table.now }
     requires places { NamesPlaces query.now }
-    ensures { IfOk result (λ answer.
+    ensures answer { IfOk result (λ answer.
         answer ≡ spec.answer_of (shape_of query.now) (groups_in table.now)) }
+    ensures few { finite.len (groups_in table.now) ≤ table.now.most }
 {
     let places = places_in_order(alloc, table, query)?;
     let written = written_of(&places, query.offset, query.limit);
@@ -42,6 +44,7 @@ fn places_in_order(
     requires places { NamesPlaces query.now }
     ensures order { IfOk result (λ v. AreInOrder table.now query.now.order v.items) }
     ensures table { IsTable table.now }
+    ensures count { length table.now.groups ≡ finite.len (groups_in table.now) }
 {
     let count = table.groups();
     if count < 2 {

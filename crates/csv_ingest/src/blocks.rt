@@ -125,6 +125,7 @@ fn fields_in(alloc: Global, names: &ByteRecord) -> Result<Seq<Field>, CsvFault>
 pub fn number_blocks<'a>(alloc: Global, bytes: &'a [u8]) -> Result<NumberBlocks<'a>, CsvFault>
     requires { length bytes.now ≤ 134217728 }
     ensures blocks { IfOk result IsNumberBlocks }
+    ensures few { IfOk result (λ b. b.left ≤ 134217728) }
     ensures ok { IfOk result (λ b. GivesTable b (plain_in csv_limits (records_of bytes.now))) }
     ensures err { IfErr result (λ fault. fault ≢ CsvFault.NoMemory
         → plain_in csv_limits (records_of bytes.now) ≡ Err fault) }

@@ -10,56 +10,50 @@ use Rattle.query_bind.specs.Bound.{Bound, answer, bound, bound_of, in_normal_for
 use Rattle.query_bind.specs.Conjuncts.{KeepRows}
 use Rattle.query_bind.specs.Faults.{Finding}
 use Rattle.query_bind.specs.Written.{where_holds, where_written}
-use Rattle.pinot_run.specs.Reply.{answer_text, folded, label_of, reply_of, summed}
-use Rattle.pinot_run.specs.Form.{is_answered}
-use Rattle.pinot_run.specs.Gives.{Gives, IsAnswered, IsBound}
+use Rattle.group_table.specs.Groups.{groups_of}
+use Rattle.broker_merge.specs.Reply.{reply_over}
+use Rattle.pinot_run.specs.Reply.{bound_reply, most_groups, reply_of, shape_of}
+use Rattle.pinot_run.specs.Gives.{Gives, IsRead, IsBound}
 use Rattle.csv_ingest.specs.Rows.{csv_limits, plain_in, records_of}
-use Rattle.pinot_run.specs.declared.bad_query.QueryReason.TheVariants.{NotYet}
-use Rattle.pinot_run.specs.Step.{Refuses, Replies, bare_table, bound_answer, formed_answer, parsed_answer, query_answer, sql_answer, sql_limit}
+use Rattle.pinot_run.specs.Step.{Refuses, bare_table, bound_answer, parsed_answer, query_answer, replied, sql_answer, sql_limit}
 use Rattle.pinot_run.specs.declared.note.Counted.TheVariants.{SqlBytes}
-use Rattle.pinot_run.specs.declared.note.Note.TheVariants.{BadQuery, TooLarge}
+use Rattle.pinot_run.specs.declared.note.Note.TheVariants.{TooLarge}
 use Rattle.query_parser.specs.Query.{parsed}
 use Rattle.std.proofs.lemmas.Bool.Decides.{nat_tests}
 use Rattle.table_schema.specs.declared.field.Schema.{Schema}
-use Rattle.pinot_run.specs.Tally.{fold_text}
 use Rattle.pinot_run.specs.declared.stop.Stop.{Stop}
 
 answered : {A : Type 0} (finding : Finding) (value other : A) → answer finding value ≡ Ok other → value ≡ other
 answered None value other is = cc
 answered (Some fault) value other is = absurd cc
 
-same_text : (b : Bound) (rows : List (List Value)) → KeepRows (in_normal_form b).conjuncts b.condition → fold_text (in_normal_form b) rows ≡ reply_of b rows
+same_text : (b : Bound) (rows : List (List Value)) → KeepRows (in_normal_form b).conjuncts b.condition → bound_reply (in_normal_form b) rows ≡ reply_of b rows
 same_text b rows keeps =
-    ap (λ kept. answer_text (label_of b.labels) (folded (summed b.aggs) kept))
+    ap (λ kept. reply_over most_groups (shape_of b) (groups_of (shape_of b) kept))
     (filter_agree (λ row. all_hold row (in_normal_form b).conjuncts) (λ row. where_holds row b.condition) keeps rows)
 
 same_reply : (table : Table) (any_table : Bool) (q : Query) (b : Bound) (found : BoundQuery) (rows : List (List Value)) → bound table any_table q ≡ Ok b → found ≡ in_normal_form b
-    → KeepRows found.conjuncts (where_written table.schema.fields q.condition) → fold_text found rows ≡ reply_of b rows
+    → KeepRows found.conjuncts (where_written table.schema.fields q.condition) → bound_reply found rows ≡ reply_of b rows
 same_reply table any_table q b found rows ok is keeps =
     let same : bound_of table.schema.fields q ≡ b = answered (query_finding table any_table q) (bound_of table.schema.fields q) b ok in
     let own : KeepRows found.conjuncts b.condition = subst (λ c. KeepRows found.conjuncts c.condition) same keeps in
-    subst (λ f. fold_text f rows ≡ reply_of b rows) (sym is) (same_text b rows (subst (λ f. KeepRows f.conjuncts b.condition) is own))
+    subst (λ f. bound_reply f rows ≡ reply_of b rows) (sym is) (same_text b rows (subst (λ f. KeepRows f.conjuncts b.condition) is own))
 
 -- a reply by the conjuncts is the reply to the query
-pub replies : (table : Table) (q : Query) (found : BoundQuery) (rows : List (List Value)) (r : Result (List ℕ) Stop) → IsBound table q found → Gives (Replies (fold_text found rows)) r → Gives (bound_answer rows (bound table true q)) r
+pub replies : (table : Table) (q : Query) (found : BoundQuery) (rows : List (List Value)) (r : Result (List ℕ) Stop) → IsBound table q found → Gives (replied (bound_reply found rows)) r → Gives (bound_answer rows (bound table true q)) r
 replies table q found rows r is gives =
     subst (λ o. Gives (bound_answer rows o) r) (sym is.bound_so)
-    (subst (λ text. Gives (Replies text) r) (same_reply table true q is.meaning found rows is.bound_so is.normal is.keeps) gives)
+    (subst (λ reply. Gives (replied reply) r) (same_reply table true q is.meaning found rows is.bound_so is.normal is.keeps) gives)
 
--- the answer to a query whose form is answered
-formed_so : (schema : Schema) (rows : List (List Value)) (q : Query) (r : Result (List ℕ) Stop) → is_answered q ≡ true → Gives (bound_answer rows (bound (bare_table schema) true q)) r → Gives (formed_answer schema rows q) r
-formed_so schema rows q r form gives =
-    subst (λ t. Gives (cond t (bound_answer rows (bound (bare_table schema) true q)) (Refuses (BadQuery NotYet 0))) r) (sym form) gives
-
-read_so : (sql : List ℕ) (schema : Schema) (rows : List (List Value)) (q : Query) (r : Result (List ℕ) Stop) → length sql ≤ 65536 → parsed sql ≡ Ok q → Gives (formed_answer schema rows q) r → Gives (sql_answer sql schema rows) r
+read_so : (sql : List ℕ) (schema : Schema) (rows : List (List Value)) (q : Query) (r : Result (List ℕ) Stop) → length sql ≤ 65536 → parsed sql ≡ Ok q → Gives (bound_answer rows (bound (bare_table schema) true q)) r → Gives (sql_answer sql schema rows) r
 read_so sql schema rows q r le ok gives =
     let test : nat_lt 65536 (length sql) ≡ false = grind (arith, nat_tests) in
     subst (λ t. Gives (cond t (Refuses (TooLarge SqlBytes sql_limit)) (parsed_answer schema rows (parsed sql))) r) (sym test)
     (subst (λ p. Gives (parsed_answer schema rows p) r) (sym ok) gives)
 
 -- a query's text within the limit, read as a query
-pub query_so : (sql : List ℕ) (schema : Schema) (rows : List (List Value)) (q : Query) (r : Result (List ℕ) Stop) → IsAnswered sql q → Gives (bound_answer rows (bound (bare_table schema) true q)) r → Gives (sql_answer sql schema rows) r
-query_so sql schema rows q r is gives = read_so sql schema rows q r is.short is.parsed_so (formed_so schema rows q r is.form gives)
+pub query_so : (sql : List ℕ) (schema : Schema) (rows : List (List Value)) (q : Query) (r : Result (List ℕ) Stop) → IsRead sql q → Gives (bound_answer rows (bound (bare_table schema) true q)) r → Gives (sql_answer sql schema rows) r
+query_so sql schema rows q r is gives = read_so sql schema rows q r is.short is.parsed_so gives
 
 -- a CSV text's rows
 pub rows_so : (sql text : List ℕ) (schema : Schema) (rows : List (List Value)) (r : Result (List ℕ) Stop) → plain_in csv_limits (records_of text) ≡ Ok (schema, rows) → Gives (sql_answer sql schema rows) r

@@ -18,11 +18,12 @@ use Rattle.query_parser.specs.declared.fault.QueryFault.TheVariants as parse
 use Rattle.table_schema.specs.declared.field.Schema.{Schema}
 use Rattle.values.specs.declared.value.Value.{Value}
 use Rattle.pinot_run.specs.Command.{Scan}
-use Rattle.pinot_run.specs.Form.{is_answered}
+use Rattle.broker_merge.specs.Reply.{Reply, Answers, TooManyGroups}
+use Rattle.pinot_run.specs.Reply.{reply_of}
 use Rattle.pinot_run.specs.Gives.{Gives, StopsRead}
 use Rattle.pinot_run.specs.Profile.{csv_limit, scan_refuses}
 use Rattle.pinot_run.specs.Ran.{Acted, Caused, Counts, Ended, IsAllowed, NoFaults, Over, Ran}
-use Rattle.pinot_run.specs.Step.{Answer, Refuses, Replies, bare_table, bound_answer, parsed_answer, query_answer, scan_answer}
+use Rattle.pinot_run.specs.Step.{Answer, Refuses, Replies, bare_table, bound_answer, parsed_answer, query_answer, replied, scan_answer}
 use Rattle.pinot_run.specs.Touched.{ReadsFront}
 use Rattle.outside.specs.Seen.{Seen}
 use Rattle.pinot_run.specs.World.{Devices}
@@ -82,19 +83,19 @@ abbrev RefusesFew : Answer → Type 0
 RefusesFew (Replies text) = Unit {0}
 RefusesFew (Refuses line) = rows_refuse line ≡ true
 
-few_bound : (rows : List (List Value)) (r : Result Bound BindFault) → RefusesFew (bound_answer rows r)
-few_bound rows (Ok b) = tt
-few_bound rows (Err (bind.At wrong place)) = refl
-few_bound rows (Err bind.NoMemory) = refl
+few_reply : (r : Reply) → RefusesFew (replied r)
+few_reply (Answers text) = tt
+few_reply TooManyGroups = refl
 
-few_formed : (t : Bool) (answer : Answer) (line : Note) → RefusesFew answer → rows_refuse line ≡ true → RefusesFew (cond t answer (Refuses line))
-few_formed true answer line few other = few
-few_formed false answer line few other = other
+few_bound : (rows : List (List Value)) (r : Result Bound BindFault) → RefusesFew (bound_answer rows r)
+few_bound rows (Ok b) = few_reply (reply_of b rows)
+few_bound rows (Err (bind.At wrong place)) = refl
+few_bound rows (Err bind.NoMemory) = tt
 
 few_parsed : (schema : Schema) (rows : List (List Value)) (r : Result Query QueryFault) → RefusesFew (parsed_answer schema rows r)
-few_parsed schema rows (Ok q) = few_formed (is_answered q) _ _ (few_bound rows (bound (bare_table schema) true q)) refl
+few_parsed schema rows (Ok q) = few_bound rows (bound (bare_table schema) true q)
 few_parsed schema rows (Err (parse.At wrong place)) = refl
-few_parsed schema rows (Err parse.NoMemory) = refl
+few_parsed schema rows (Err parse.NoMemory) = tt
 
 few_sql : (t : Bool) (answer : Answer) (line : Note) → RefusesFew answer → rows_refuse line ≡ true → RefusesFew (cond t (Refuses line) answer)
 few_sql true answer line few other = other
@@ -117,6 +118,7 @@ few_line note.NoTable e = absurd cc
 few_line (note.BadCsv wrong row column) e = refl
 few_line (note.TooLarge what limit) e = e
 few_line (note.BadQuery wrong place) e = refl
+few_line (note.TooManyGroups most) e = refl
 
 few_caused : (file sql : List ℕ) (inputs stored : Option Files) (line : Note) → rows_refuse line ≡ true → IfSome inputs (IsOf file sql (Refuses line)) → Caused (Some (Scan file sql)) inputs stored line
 few_caused file sql inputs stored note.BadWords e told = absurd cc
@@ -128,6 +130,7 @@ few_caused file sql inputs stored note.NoTable e told = absurd cc
 few_caused file sql inputs stored (note.BadCsv wrong row column) e told = told_each inputs _ _ (λ files is. sym is) told
 few_caused file sql inputs stored (note.TooLarge what limit) e told = told_each inputs _ _ (λ files is. sym is) told
 few_caused file sql inputs stored (note.BadQuery wrong place) e told = told_each inputs _ _ (λ files is. sym is) told
+few_caused file sql inputs stored (note.TooManyGroups most) e told = told_each inputs _ _ (λ files is. sym is) told
 
 -- ---- the clause of `scan`
 

@@ -1,5 +1,5 @@
 -- The rows of a text, block after block, and what stops there.
-use Rattle.std.proofs.Common.{◌≡◌, ◌≢◌, ◌∙◌, ◌++◌, ℕ, ℤ, List, [], Option, Result, Ok, Err, IfErr, IsErrAnd, refl, sym, ap, subst, append_assoc, append-nil}
+use Rattle.std.proofs.Common.{◌≡◌, ◌≢◌, ◌∙◌, ◌++◌, ℕ, List, [], Result, Ok, Err, IfErr, IsErrAnd, inl, inr, refl, sym, ap, subst, append_assoc, append-nil}
 use Rattle.csv_ingest.specs.Blocks.{RowsOrFault, after}
 use Rattle.csv_ingest.specs.Rows.{with_schema}
 use Rattle.csv_ingest.specs.declared.fault.CsvFault.{CsvFault}
@@ -9,12 +9,10 @@ use Rattle.table_schema.specs.declared.field.Field.{Field}
 use Rattle.table_schema.specs.declared.field.Schema.{Schema}
 use Rattle.table_schema.specs.declared.query.BoundQuery.{BoundQuery}
 use Rattle.values.specs.declared.value.Value.{Value}
-use Rattle.pinot_run.specs.Gives.{Gives, IsAnswered, IsBound, StopsText}
+use Rattle.pinot_run.specs.Gives.{Gives, IsRead, IsBound, RepliesOver, StopsText}
 use Rattle.pinot_run.specs.Notes.{csv_note}
-use Rattle.pinot_run.specs.Step.{Answer, Refuses, Replies, bare_table, query_answer, sql_answer}
-use Rattle.pinot_run.specs.Tally.{IsTallyOf, fold_text}
-use Rattle.table_schema.specs.Conditions.{all_hold}
-use Rattle.table_schema.specs.declared.query.Conjunct.{Conjunct}
+use Rattle.pinot_run.specs.Step.{Answer, Refuses, replied, bare_table, query_answer, sql_answer}
+use Rattle.pinot_run.specs.Reply.{bound_reply}
 use Rattle.pinot_run.proofs.QueryLemmas.{query_so, replies}
 use Rattle.pinot_run.specs.declared.fault.Fault.TheVariants as fault
 use Rattle.pinot_run.specs.declared.stop.Stop.{Stop}
@@ -65,10 +63,10 @@ pub err-halted : {T E : Type 0} (r : Result T E) (P : E → Type 0) (why : E) �
 err-halted (Ok t) P why is p = absurd is
 err-halted (Err e) P why is p = subst P (sym is) p
 
-pub tally-under : (sums sums' : Option ℕ) (conjuncts conjuncts' : List Conjunct) (rows : List (List Value)) (count : ℕ) (sum : ℤ) → sums ≡ sums' → conjuncts ≡ conjuncts'
-    → IsTallyOf sums (λ row. all_hold row conjuncts) rows count sum → IsTallyOf sums' (λ row. all_hold row conjuncts') rows count sum
-tally-under sums sums' conjuncts conjuncts' rows count sum s c tally =
-    subst (λ (x : Option ℕ). IsTallyOf x (λ row. all_hold row conjuncts') rows count sum) s (subst (λ (cs : List Conjunct). IsTallyOf sums (λ row. all_hold row cs) rows count sum) c tally)
+-- and of one that is the answer
+pub err-kept : {T E : Type 0} (r : Result T E) (P : E → Type 0) (why : E) → IsErrAnd r (λ s. s ≡ why) → P why → IsErrAnd r P
+err-kept (Ok t) P why is p = is
+err-kept (Err e) P why is p = subst P (sym is) p
 
 -- a query over a text whose rows, or whose first fault, are these
 module _ (sql : List ℕ) (fields : List Field) (schema : Schema) (of_fields : schema ≡ record { fields = fields }) (whole : RowsOrFault) where
@@ -77,6 +75,12 @@ module _ (sql : List ℕ) (fields : List Field) (schema : Schema) (of_fields : s
       let is : Ok (schema, rows) ≡ with_schema fields whole = ap (λ s. Ok (s, rows)) of_fields ∙ ap (with_schema fields) (sym e) in
       subst (λ p. Gives (query_answer sql p) r) is gives
 
-  pub by-bound : (rows : List (List Value)) → whole ≡ Ok rows → (query : Query) (found : BoundQuery) → IsAnswered sql query → IsBound (bare_table schema) query found → (r : Result (List ℕ) Stop)
-      → Gives (Replies (fold_text found rows)) r → Gives (query_answer sql (with_schema fields whole)) r
+  pub by-bound : (rows : List (List Value)) → whole ≡ Ok rows → (query : Query) (found : BoundQuery) → IsRead sql query → IsBound (bare_table schema) query found → (r : Result (List ℕ) Stop)
+      → Gives (replied (bound_reply found rows)) r → Gives (query_answer sql (with_schema fields whole)) r
   by-bound rows e query found answered bound r gives = by-rows rows e r (query_so sql schema rows query r answered (replies (bare_table schema) query found rows r bound gives))
+
+  pub by-over : (query : Query) (found : BoundQuery) → IsRead sql query → IsBound (bare_table schema) query found → (r : Result (List ℕ) Stop)
+      → RepliesOver found whole r → Gives (query_answer sql (with_schema fields whole)) r
+  by-over query found answered bound r (inl (rows, e, gives)) = by-bound rows e query found answered bound r gives
+  by-over query found answered bound (Ok text) (inr never) = absurd never
+  by-over query found answered bound (Err why) (inr stops) = text-stops sql fields whole why stops

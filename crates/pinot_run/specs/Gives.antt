@@ -1,5 +1,5 @@
 -- What the functions below a command's own answer.
-use Rattle.std.specs.Prelude.{◌≡◌, ◌≤◌, ◌⊎◌, ◌++◌, true, ℕ, List, length, codes, Option, Result, Ok, Err, IfSome}
+use Rattle.std.specs.Prelude.{◌≡◌, ◌<◌, ◌≤◌, ◌⊎◌, ◌++◌, Bool, true, false, ℕ, List, length, codes, Option, Result, Ok, Err, IsErrAnd, IfSome}
 use Rattle.outside.specs.Counts.{Rose}
 use Rattle.outside.specs.Files.{Files, Has, Lacks, with_file}
 use Rattle.outside.specs.Whole.{IsTooLong}
@@ -13,11 +13,17 @@ use Rattle.query_parser.specs.declared.tree.Query.{Query}
 use Rattle.query_bind.specs.Bound.{Bound, bound, in_normal_form}
 use Rattle.query_bind.specs.Conjuncts.{KeepRows}
 use Rattle.query_bind.specs.Written.{where_written}
+use Rattle.std.specs.FinMap as finite
+use Rattle.values.specs.declared.value.Value.{Value}
+use Rattle.group_table.specs.Groups.{groups_of}
+use Rattle.group_table.specs.Kept.{KeptGroups, groups_in}
+use Rattle.group_table.specs.Shape.{shape_of}
+use Rattle.scan_engine.specs.Scanned.{selected}
 use Rattle.csv_ingest.specs.Blocks.{RowsOrFault}
 use Rattle.csv_ingest.specs.declared.fault.CsvFault.{CsvFault}
-use Rattle.pinot_run.specs.Form.{is_answered}
 use Rattle.pinot_run.specs.Notes.{csv_note}
-use Rattle.pinot_run.specs.Step.{Answer, Refuses, Replies, sql_limit}
+use Rattle.pinot_run.specs.Reply.{bound_reply, most_groups}
+use Rattle.pinot_run.specs.Step.{Answer, Refuses, Replies, replied, sql_limit}
 use Rattle.outside.specs.Seen.{Seen}
 use Rattle.pinot_run.specs.declared.fault.Fault.TheVariants as fault
 use Rattle.pinot_run.specs.declared.note.Counted.{Counted}
@@ -32,11 +38,10 @@ Gives answer (Ok text) = answer ≡ Replies text
 Gives answer (Err (stop.Refused line)) = answer ≡ Refuses line
 Gives answer (Err (stop.Fault why)) = why ≡ fault.Memory
 
--- a text within the limit is this query, whose form is answered
-pub record IsAnswered (sql : List ℕ) (query : Query) : Type 0 where
+-- a text within the limit is this query
+pub record IsRead (sql : List ℕ) (query : Query) : Type 0 where
   pub short : length sql ≤ sql_limit
   pub parsed_so : parsed sql ≡ Ok query
-  pub form : is_answered query ≡ true
 
 -- a query of a table has a meaning by its names and types, and this is its normal form
 pub record IsBound (table : Table) (query : Query) (found : BoundQuery) : Type 0 where
@@ -80,3 +85,19 @@ Makes texts table old new (Err (stop.Refused line)) = (line ≡ note.TableExists
 Makes texts table old new (Err (stop.Fault fault.Read)) = (new.held ≡ old.held) × Rose old.read_faults new.read_faults
 Makes texts table old new (Err (stop.Fault fault.Write)) = (new.held ≡ old.held) × Rose old.write_faults new.write_faults
 Makes texts table old new (Err (stop.Fault fault.Memory)) = new.held ≡ old.held
+
+-- ---- the groups of a query over the rows of a text
+
+-- the table has the groups over these rows, if there is room for them; else there are too many
+abbrev pub GroupsRows : Bool → BoundQuery → List (List Value) → KeptGroups → Type 0
+GroupsRows true query rows table = groups_in table ≡ groups_of (shape_of query) (selected query rows)
+GroupsRows false query rows table = most_groups < finite.len (groups_of (shape_of query) (selected query rows))
+
+-- the reply to a query in its normal form over the rows of a text, or what stops there
+abbrev pub RepliesOver : BoundQuery → RowsOrFault → Result (List ℕ) Stop → Type 0
+RepliesOver query whole result = ((rows : List (List Value)) × (whole ≡ Ok rows)
+    × Gives (replied (bound_reply query rows)) result) ⊎ IsErrAnd result (StopsText whole)
+
+-- the same for whatever a text gives
+abbrev pub GivesOver : (RowsOrFault → Type 0) → BoundQuery → Result (List ℕ) Stop → Type 0
+GivesOver Has query result = (whole : RowsOrFault) → Has whole → RepliesOver query whole result

@@ -1,24 +1,19 @@
 //! One command of the store, from its words to its reply.
 #![tactic(auto)]
 
-mod answer;
 mod bad_query;
 mod command;
 mod create;
 mod fault;
 mod finish;
-mod form;
-mod holds;
 mod input;
 mod laws;
 mod line;
 mod note;
 mod run;
 mod scan;
-mod selection;
 mod status;
 mod stop;
-mod tally;
 
 pub use laws::promises_compose_law;
 pub use run::run_command;

@@ -1,80 +1,51 @@
 //! The command `scan`: a query over one CSV file of whole numbers.
-ghost use Rattle.std.specs.Prelude.{◌≡◌, ◌≢◌, ◌≤◌, ◌<◌, ◌+◌, true, false, ℕ, List, [], Some, Ok, Err, IfOk, IfErr, IfSome, MatchOption, length, replicate, string_bytes};
+ghost use Rattle.std.specs.Prelude.{◌≡◌, ◌≢◌, ◌≤◌, ◌<◌, ◌+◌, true, false, ℕ, List, [], Some, Ok, Err, IfOk, IfErr, IfSome, OnOk, MatchOption, length, replicate};
 ghost use Rattle.values.specs.Columns.{rows_of as rows_of_columns};
 ghost use Rattle.values.specs.declared.value.Value.{Value};
 ghost use Rattle.csv_ingest.specs.Blocks.{RowsOrFault, after};
 ghost use Rattle.csv_ingest.specs.NumberBlocks.{Gives as HasLeft, IsNumberBlocks};
 ghost use Rattle.csv_ingest.specs.Rows.{csv_limits, plain_in, records_of, with_schema};
-ghost use Rattle.table_schema.specs.Conditions.{all_hold};
+ghost use Rattle.table_schema.specs.ValidQuery.{IsValidQuery};
+ghost use Rattle.group_table.specs.Kept.{IsNew, IsTableOf, groups_in};
+ghost use Rattle.group_table.specs.Shape.{shape_of};
+ghost use Rattle.broker_merge.specs.Reply.{reply_over};
+ghost use Rattle.scan_engine.specs.Numbers.{AreNumbers};
 ghost use Rattle.query_bind.specs.Bound.{Spelled, bound};
 ghost use Rattle.outside.specs.Seen.{Seen, seen};
 ghost use Rattle.pinot_run.specs.Command.{Scan};
-ghost use Rattle.pinot_run.specs.Gives.{Gives, IsAnswered, IsBound, StopsText};
+ghost use Rattle.pinot_run.specs.Gives.{Gives, GivesOver, GroupsRows, IsRead, IsBound, StopsText};
 ghost use Rattle.pinot_run.specs.Notes.{csv_note};
-ghost use Rattle.pinot_run.specs.Numbers.{AreNumbers};
 ghost use Rattle.pinot_run.specs.Profile.{csv_limit};
 ghost use Rattle.pinot_run.specs.Ran.{Ran};
-ghost use Rattle.pinot_run.specs.Reply.{folded, label_of, summed};
-ghost use Rattle.pinot_run.specs.Step.{Replies, bare_settings, bare_table, bound_answer, query_answer, sql_answer};
-ghost use Rattle.pinot_run.specs.Tally.{IsTallyOf, fold_text, sum_of};
+ghost use Rattle.pinot_run.specs.Reply.{most_groups};
+ghost use Rattle.pinot_run.specs.Step.{bare_settings, bare_table, bound_answer, query_answer, replied, sql_answer};
 
-use crate::answer::answer_text;
 use crate::bad_query::QueryReason;
 use crate::fault::Fault;
-use crate::form::is_answered;
 use crate::input::{CSV_LIMIT, read_input};
 use crate::note::{Counted, Note};
 use crate::stop::Stop;
-use crate::tally::Tally;
+use broker_merge::{answer_text, finish};
 use csv_ingest::{CsvFault, NumberBlocks, number_blocks};
+use group_table::{GroupTable, TableFault};
 use outside::{Bytes, Shelf};
 use query_bind::{BindFault, bind};
 use query_parser::{Query, QueryFault, parse};
+use scan_engine::add_block;
 use std::alloc::{AllocError, Global};
-use table_schema::{Agg, BoundQuery, Conjunct, Field, Schema, Settings, Table};
+use table_schema::{BoundQuery, Schema, Settings, Table};
 use values::{Columns, Name, Seq};
 
-// The column that is added up; none where the rows are counted.
-fn summed(aggs: &[Agg]) -> Option<u16>
-    ensures { result ≡ summed aggs.now }
+// The reply to a query over the groups of its table.
+fn answer(alloc: Global, bound: &BoundQuery, table: &GroupTable) -> Result<Bytes, Stop>
+    requires table { IsTableOf bound.now table.now }
+    requires valid { (over : Table) × IsValidQuery over bound.now }
+    requires most { table.now.most ≡ most_groups }
+    ensures { Gives (replied (reply_over most_groups (shape_of bound.now) (groups_in table.now)))
+        result }
 {
-    match aggs.first() {
-        Some(agg) => agg.column,
-        None => None,
-    }
-}
-
-// The label of the one item.
-fn label_of(labels: &[Name]) -> &[u8]
-    ensures { result.now ≡ label_of labels.now }
-{
-    match labels.first() {
-        Some(label) => label.as_slice(),
-        None => b"",
-    }
-}
-
-// What is written of a tally: its number of rows, or its sum.
-fn folded(alloc: Global, sums: Option<u16>, tally: &Tally) -> Result<String, AllocError>
-    ensures { (rows : List (List Value)) →
-        tally.now.rows ≡ length rows → tally.now.sum ≡ sum_of sums rows
-        → IfOk result (λ text. string_bytes text ≡ folded sums rows) }
-{
-    match sums {
-        None => tally.rows.to_string(alloc),
-        Some(_) => tally.sum.to_string(alloc),
-    }
-}
-
-// The reply to a query by the tally of the rows that satisfy its conjuncts.
-fn answer(alloc: Global, bound: &BoundQuery, tally: &Tally) -> Result<Bytes, Stop>
-    ensures { (rows : List (List Value)) →
-        IsTallyOf (summed bound.now.aggs) (λ row. all_hold row bound.now.conjuncts) rows
-        tally.now.rows tally.now.sum → Gives (Replies (fold_text bound.now rows)) result }
-{
-    let sums = summed(bound.aggs.as_slice());
-    let cell = folded(alloc, sums, tally)?;
-    let text = answer_text(alloc, label_of(bound.labels.as_slice()), cell.as_bytes())?;
+    let answer = finish(alloc, table, bound)?;
+    let text = answer_text(alloc, &answer)?;
     Ok(outside::Seq::from_vec(text))
 }
 
@@ -105,6 +76,7 @@ fn bind_to(alloc: Global, query: &Query, schema: Schema) -> Result<BoundQuery, S
     requires few { length schema.fields ≤ 64 }
     requires spelled { Spelled query.now }
     ensures bound { IfOk result (IsBound (bare_table schema) query.now) }
+    ensures valid { IfOk result (IsValidQuery (bare_table schema)) }
     ensures stops { (rows : List (List Value)) → IfErr result (λ why.
         Gives (bound_answer rows (bound (bare_table schema) true query.now)) (Err why)) }
 {
@@ -118,12 +90,15 @@ fn bind_to(alloc: Global, query: &Query, schema: Schema) -> Result<BoundQuery, S
     }
 }
 
+// The most groups that a query may have.
+const MOST_GROUPS: u32 = 100_000;
+
 // The most bytes that a query may have.
 const SQL_LIMIT: usize = 65_536;
 
-// The query that a text is, where its form is answered.
+// The query that a text is.
 fn query_of(alloc: Global, sql: &str) -> Result<Query, Stop>
-    ensures query { IfOk result (IsAnswered sql.now) }
+    ensures query { IfOk result (IsRead sql.now) }
     ensures spelled { IfOk result (λ query. Spelled query) }
     ensures stops { (schema : Schema) (rows : List (List Value)) → IfErr result (λ why.
         Gives (sql_answer sql.now schema rows) (Err why)) }
@@ -131,17 +106,12 @@ fn query_of(alloc: Global, sql: &str) -> Result<Query, Stop>
     if sql.len() > SQL_LIMIT {
         return Err(Stop::Refused(Note::TooLarge(Counted::SqlBytes, SQL_LIMIT as u64)));
     }
-    let query = match parse(alloc, sql) {
-        Ok(query) => query,
+    match parse(alloc, sql) {
+        Ok(query) => Ok(query),
         Err(QueryFault::At(reason, place)) => {
-            return Err(Stop::Refused(Note::BadQuery(QueryReason::Parse(reason), place)));
+            Err(Stop::Refused(Note::BadQuery(QueryReason::Parse(reason), place)))
         }
-        Err(QueryFault::NoMemory) => return Err(Stop::Fault(Fault::Memory)),
-    };
-    if is_answered(&query) {
-        Ok(query)
-    } else {
-        Err(Stop::Refused(Note::BadQuery(QueryReason::NotYet, 0)))
+        Err(QueryFault::NoMemory) => Err(Stop::Fault(Fault::Memory)),
     }
 }
 
@@ -184,32 +154,56 @@ fn next_rows(alloc: Global, blocks: &mut NumberBlocks<'_>) -> Result<Option<Colu
     }
 }
 
-// The tally of the rows of a text that satisfy all of these, which is read to its end.
-fn tally_text(
-    alloc: Global,
-    blocks: &mut NumberBlocks<'_>,
-    sums: Option<u16>,
-    conjuncts: &[Conjunct],
-) -> Result<Tally, Stop>
+// Reads the rows that are left, and makes nothing of them.
+fn pass_over(alloc: Global, blocks: &mut NumberBlocks<'_>) -> Result<(), Stop>
     requires { IsNumberBlocks blocks.old }
-    ensures ok { IfOk result (λ tally. (whole : RowsOrFault) → HasLeft blocks.old whole →
-        (rows : List (List Value)) × (whole ≡ Ok rows)
-        × IsTallyOf sums (λ row. all_hold row conjuncts.now) rows tally.rows tally.sum) }
+    ensures ok { OnOk result ((whole : RowsOrFault) → HasLeft blocks.old whole →
+        (rows : List (List Value)) × (whole ≡ Ok rows)) }
     ensures stops { IfErr result (λ why. (whole : RowsOrFault) → HasLeft blocks.old whole →
         StopsText whole why) }
 {
-    let mut tally = Tally::new();
-    'tables: while let Some(table) = next_rows(alloc, blocks)? {
-        tally.add_rows(alloc, sums, conjuncts, &table)?;
+    'rest: while let Some(_block) = next_rows(alloc, blocks)? {}
+    Ok(())
+}
+
+// Adds the rows of a text that satisfy a query's filter to its groups, and says whether there is
+// room for all of these. The text is read to its end.
+fn group_text(
+    alloc: Global,
+    blocks: &mut NumberBlocks<'_>,
+    bound: &BoundQuery,
+    table: &mut GroupTable,
+) -> Result<bool, Stop>
+    requires blocks { IsNumberBlocks blocks.old }
+    requires few { blocks.old.left ≤ 134217728 }
+    requires table { IsNew bound.now most_groups table.old }
+    ensures ok { IfOk result (λ room. (whole : RowsOrFault) → HasLeft blocks.old whole →
+        (rows : List (List Value)) × (whole ≡ Ok rows)
+        × GroupsRows room bound.now rows table.new) }
+    ensures table { IfOk result (λ room. room ≡ true → IsTableOf bound.now table.new) }
+    ensures most { IfOk result (λ room. room ≡ true → table.new.most ≡ most_groups) }
+    ensures stops { IfErr result (λ why. (whole : RowsOrFault) → HasLeft blocks.old whole →
+        StopsText whole why) }
+{
+    'reading: while let Some(block) = next_rows(alloc, blocks)? {
+        match add_block(alloc, bound, &block, table) {
+            Ok(()) => {}
+            Err(TableFault::TooManyGroups) => {
+                pass_over(alloc, blocks)?;
+                return Ok(false);
+            }
+            Err(TableFault::NoMemory) => return Err(Stop::Fault(Fault::Memory)),
+        }
     }
-    Ok(tally)
+    Ok(true)
 }
 
 // A query by its text, its names and its types.
 fn bound_query(alloc: Global, sql: &str, schema: Schema) -> Result<BoundQuery, Stop>
     requires { length schema.fields ≤ 64 }
-    ensures bound { IfOk result (λ found. (query : Query) × IsAnswered sql.now query
+    ensures bound { IfOk result (λ found. (query : Query) × IsRead sql.now query
         × IsBound (bare_table schema) query found) }
+    ensures valid { IfOk result (IsValidQuery (bare_table schema)) }
     ensures stops { (rows : List (List Value)) → IfErr result (λ why.
         Gives (sql_answer sql.now schema rows) (Err why)) }
 {
@@ -217,10 +211,30 @@ fn bound_query(alloc: Global, sql: &str, schema: Schema) -> Result<BoundQuery, S
     bind_to(alloc, &query, schema)
 }
 
+// The reply to a query in its normal form over the rows of a text.
+fn group_reply(
+    alloc: Global,
+    blocks: &mut NumberBlocks<'_>,
+    bound: &BoundQuery,
+) -> Result<Bytes, Stop>
+    requires blocks { IsNumberBlocks blocks.old }
+    requires few { blocks.old.left ≤ 134217728 }
+    requires valid { (over : Table) × IsValidQuery over bound.now }
+    ensures { GivesOver (λ whole. HasLeft blocks.old whole) bound.now result }
+{
+    let mut table = GroupTable::new(alloc, bound, MOST_GROUPS)?;
+    if group_text(alloc, blocks, bound, &mut table)? {
+        answer(alloc, bound, &table)
+    } else {
+        Err(Stop::Refused(Note::TooManyGroups(MOST_GROUPS)))
+    }
+}
+
 // The reply to a query over the rows of a text. What is wrong with the text comes before what is
 // wrong with the query, so the text is read to its end for either.
-fn reply_over(alloc: Global, blocks: &mut NumberBlocks<'_>, sql: &str) -> Result<Bytes, Stop>
-    requires { IsNumberBlocks blocks.old }
+fn reply_to_rows(alloc: Global, blocks: &mut NumberBlocks<'_>, sql: &str) -> Result<Bytes, Stop>
+    requires blocks { IsNumberBlocks blocks.old }
+    requires few { blocks.old.left ≤ 134217728 }
     ensures { (whole : RowsOrFault) → HasLeft blocks.old whole →
         Gives (query_answer sql.now (with_schema blocks.old.header.fields whole)) result }
 {
@@ -229,13 +243,9 @@ fn reply_over(alloc: Global, blocks: &mut NumberBlocks<'_>, sql: &str) -> Result
         Err(fault) => return Err(stop_of(fault)),
     };
     match bound_query(alloc, sql, schema) {
-        Ok(bound) => {
-            let sums = summed(bound.aggs.as_slice());
-            let tally = tally_text(alloc, blocks, sums, bound.conjuncts.as_slice())?;
-            answer(alloc, &bound, &tally)
-        }
+        Ok(bound) => group_reply(alloc, blocks, &bound),
         Err(stop) => {
-            tally_text(alloc, blocks, None, &[])?;
+            pass_over(alloc, blocks)?;
             Err(stop)
         }
     }
@@ -247,7 +257,7 @@ fn reply_to_text(alloc: Global, text: &[u8], sql: &str) -> Result<Bytes, Stop>
     ensures { Gives (query_answer sql.now (plain_in csv_limits (records_of text.now))) result }
 {
     match number_blocks(alloc, text) {
-        Ok(mut blocks) => reply_over(alloc, &mut blocks, sql),
+        Ok(mut blocks) => reply_to_rows(alloc, &mut blocks, sql),
         Err(fault) => Err(stop_of(fault)),
     }
 }

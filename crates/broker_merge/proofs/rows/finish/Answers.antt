@@ -8,8 +8,8 @@ use Rattle.broker_merge.proofs.rows.finish.Goals as goal
 pub rows_of-requires-clause-table : goal.rows_of-requires-clause-table
 rows_of-requires-clause-table c = c.places_in_order.ensures.table
 
-pub returns : goal.returns
-returns c =
+pub returns-clause-answer : goal.returns-clause-answer
+returns-clause-answer c =
     let t : KeptGroups = c.args.table.now in
     let q : BoundQuery = c.args.query.now in
     let written : c.written_of-written.result.now ≡ take q.limit (drop q.offset c.in_ok-places.places.items) =

@@ -2,7 +2,7 @@ use Rattle.std.proofs.Common.{Option, Some, None, IfSome, List}
 use Rattle.csv_ingest.specs.NumberBlocks as csv
 use Rattle.table_schema.specs.declared.field.Field.{Field}
 use Rattle.values.specs.Columns.{ListedColumns}
-use Rattle.pinot_run.specs.Numbers.{AreNumbers}
+use Rattle.scan_engine.specs.Numbers.{AreNumbers}
 use Rattle.pinot_run.proofs.TextLemmas.{stops-by}
 use Rattle.pinot_run.proofs.scan.next_rows.Goals as goal
 

@@ -8,7 +8,7 @@ use Rattle.pinot_run.proofs.scan.reply_to_text.Goals as goal
 pub returns-in-Ok : goal.returns-in-Ok
 returns-in-Ok c =
     let t = c.in-Ok.ensures.ok in
-    subst (λ p. Gives (query_answer c.args.sql.now p) c.reply_over.result) (sym t.is) (c.reply_over.ensures t.rows t.gives)
+    subst (λ p. Gives (query_answer c.args.sql.now p) c.reply_to_rows.result) (sym t.is) (c.reply_to_rows.ensures t.rows t.gives)
 
 pub returns-in-Err : goal.returns-in-Err
 returns-in-Err c =
