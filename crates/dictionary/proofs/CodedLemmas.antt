@@ -1,8 +1,8 @@
 -- A column by the places of its values among those that were seen, and by their ids.
-use Rattle.std.proofs.Common.{◌≡◌, ◌∙◌, ◌<◌, ◌+◌, ◌++◌, ◌∷◌, [], ℕ, pos, Bool, true, false, List, length, map, get_or, take, slice_get, Some, refl, ap, ap₂, sym, subst, arith}
+use Rattle.std.proofs.Common.{◌≡◌, ◌∙◌, ◌<◌, ◌+◌, ◌++◌, ◌∷◌, [], ℕ, pos, Bool, true, false, List, length, map, get_or, take, drop, slice_get, Some, refl, ap, ap₂, sym, subst, arith}
 use Rattle.std.specs.List.{All, Contains}
 use Rattle.std.proofs.lemmas.Bool.{false≢true}
-use Rattle.std.proofs.lemmas.List.{get_or-map, get_or_default, length-map, map-append, take_more}
+use Rattle.std.proofs.lemmas.List.{append-nil, get_or-map, get_or_default, length-drop, length-map, map-append, nil_from_length, take_all, take_more}
 use Rattle.std.proofs.lemmas.List.Elements.{All-cons, All-contains, All-contains_itself, All-head, All-nil, All-push, All-tail, All-weaker}
 use Rattle.std.proofs.lemmas.Map.Views.{Contains-from_any, list_any-from_Contains}
 use Rattle.std.proofs.lemmas.Option.{get_or_from_slice_get}
@@ -115,3 +115,9 @@ renumbered_codes values seen column ranks ids ids' r s is =
 -- the distinct values of those that were seen are the column's
 pub column_so : (column seen slice values : List Value) (ids : List ℕ) → Sees column seen ids → slice ≡ seen → values ≡ distinct slice → values ≡ distinct column
 column_so column seen slice values ids s same is = distinct_so column seen values (sees_members column seen ids s) (is ∙ ap distinct same)
+
+-- a slice that was lent and written is all of its vector
+pub lent_back : {X : Type 0} (old new : List X) (n : ℕ) → length old ≡ n → length new ≡ length old → take n (new ++ drop (length new) old) ≡ new
+lent_back old new n count same =
+    let none : length (drop (length new) old) ≡ 0 = omega (arith, length-drop (length new) old, same) in
+    ap (λ rest. take n (new ++ rest)) (nil_from_length (drop (length new) old) none) ∙ ap (take n) (append-nil new) ∙ take_all n new (omega (arith, count, same))

@@ -87,16 +87,15 @@ pub fn ranks(alloc: Global, values: &[Value], seen: &[Value]) -> Result<Vec<u32>
     Ok(ranks)
 }
 
-/// The rank of each of these places.
-pub fn ranked(alloc: Global, ids: &[u32], ranks: &[u32]) -> Result<Vec<u32>, NoMemory>
-    requires { AreBelow (length ranks.now) ids.now }
-    ensures { IfOk result (λ new. new.items ≡ renumbered ranks.now ids.now) }
+/// Puts the rank of each of these places where it is.
+pub fn rank_places(ids: &mut [u32], ranks: &[u32])
+    requires { AreBelow (length ranks.now) ids.old }
+    ensures { ids.new ≡ renumbered ranks.now ids.old }
 {
-    let mut new = Vec::with_capacity(alloc, ids.len())?;
-    for id in ids {
-        new.push(ranks[*id as usize])?;
+    'places: for at in 0..ids.len() {
+        let id = ids[at] as usize;
+        ids[at] = ranks[id];
     }
-    Ok(new)
 }
 
 fn copied(alloc: Global, ids: &[u32]) -> Result<Vec<u32>, NoMemory>

@@ -9,7 +9,7 @@ ghost use Rattle.dictionary.specs.Dictionary.{Fits, Distinct, IsDictionary, IsUn
 ghost use Rattle.dictionary.specs.Ids.{has_id, matching, satisfies};
 
 use crate::IdSet;
-use crate::coded::{Coded, code_column, ranked, ranks};
+use crate::coded::{Coded, code_column, rank_places, ranks};
 use crate::matching::matching_ids;
 use indexmap::IndexSet;
 use std::alloc::Global;
@@ -70,11 +70,14 @@ impl Dictionary {
         ensures valid { IfOk result (λ r. IsDictionary r.0) }
         ensures ids { IfOk result (λ r. Codes r.0.values r.1.items column.now.values) }
     {
-        let Coded { values: seen, ids } = code_column(alloc, column)?;
+        let Coded {
+            values: seen,
+            mut ids,
+        } = code_column(alloc, column)?;
         let values = distinct_values(alloc, &seen)?;
         let ranks = ranks(alloc, &values, &seen)?;
-        let row_ids = ranked(alloc, &ids, &ranks)?;
-        Ok((Dictionary { kind, values }, row_ids))
+        rank_places(&mut ids, &ranks);
+        Ok((Dictionary { kind, values }, ids))
     }
 
     pub fn kind(&self) -> FieldKind

@@ -1,6 +1,6 @@
 -- Rows are put into columns.
-use Rattle.std.proofs.Common.{◌≡◌, ◌∙◌, ◌<◌, ◌+◌, ◌++◌, ◌∷◌, [], false, true, ℕ, List, length, map, get_or, set, take, drop, append-nil, refl, sym, ap, ap₂, subst, arith}
-use Rattle.std.proofs.lemmas.List.{get_or-map, length-map, length-drop, length-take, map-append, nil_from_length, take_all, take_more, length-append}
+use Rattle.std.proofs.Common.{◌≡◌, ◌∙◌, ◌<◌, ◌+◌, ◌++◌, ◌∷◌, [], false, true, ℕ, List, length, map, get_or, set, take, refl, sym, ap, ap₂, subst, arith}
+use Rattle.std.proofs.lemmas.List.{get_or-map, length-map, length-take, map-append, nil_from_length, take_more, length-append}
 use Rattle.std.proofs.lemmas.List.Elements.{All-get_or, All-push}
 use Rattle.std.specs.List.{All}
 use Rattle.values.specs.declared.kind.FieldKind.{FieldKind}
@@ -104,9 +104,3 @@ field_more fields columns new at field c lt is c_is so_far more =
           ∙ sym (map-append is_of_texts (take at fields) (field ∷ [])) ∙ ap (map is_of_texts) (sym all),
       subst (All (Counts 0)) (sym more) (All-push (Counts 0) columns c so_far.1 (ap (λ x. length x.values) c_is)),
     )
-
--- a slice that was lent and written is all of its vector
-pub lent_back : {X : Type 0} (old new : List X) (n : ℕ) → length old ≡ n → length new ≡ length old → take n (new ++ drop (length new) old) ≡ new
-lent_back old new n count same =
-    let none : length (drop (length new) old) ≡ 0 = omega (arith, length-drop (length new) old, same) in
-    ap (λ rest. take n (new ++ rest)) (nil_from_length (drop (length new) old) none) ∙ ap (take n) (append-nil new) ∙ take_all n new (omega (arith, count, same))

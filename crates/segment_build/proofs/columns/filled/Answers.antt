@@ -1,7 +1,8 @@
 use Rattle.std.proofs.Common.{◌≡◌, ◌∙◌, ◌+◌, length, sym, ap, subst, take}
 use Rattle.values.specs.Columns.{row_pushed}
+use Rattle.dictionary.proofs.CodedLemmas.{lent_back}
 use Rattle.segment_build.specs.RowColumns.{AreThose, SuitsRow}
-use Rattle.segment_build.proofs.RowLemmas.{lent_back, next_suits, none_yet, row_more}
+use Rattle.segment_build.proofs.RowLemmas.{next_suits, none_yet, row_more}
 use Rattle.segment_build.proofs.columns.filled.Goals as goal
 
 pub loop-row-init : goal.loop-row-init

@@ -2,7 +2,7 @@ use Rattle.std.proofs.Common.{◌≡◌, ◌∙◌, ◌≤◌, ℕ, List, ap, ap
 use Rattle.values.specs.declared.value.Value.{Value}
 use Rattle.dictionary.specs.Coding.{AreAmong, AreBelow, Codes, renumbered}
 use Rattle.dictionary.specs.Dictionary.{Ascends, distinct, most_values}
-use Rattle.dictionary.proofs.CodedLemmas.{column_so, ranks_all, renumbered_codes, seen_among}
+use Rattle.dictionary.proofs.CodedLemmas.{column_so, lent_back, ranks_all, renumbered_codes, seen_among}
 use Rattle.dictionary.proofs.Distinct.{members_so, stands_so}
 use Rattle.dictionary.proofs.dictionary.Dictionary.of_column.Goals as goal
 
@@ -45,18 +45,22 @@ returns-clause-valid c =
 
 pub returns-clause-ids : goal.returns-clause-ids
 returns-clause-ids c =
+    let values : List Value = c.in_ok-values.values.items in
     let seen : List Value = c.in_ok-seen.field-0.values.items in
+    let ids = c.in_ok-seen.field-0.ids in
     let ranks : List ℕ = c.in_ok-ranks.ranks.items in
-    let ranked : Codes c.in_ok-values.values.items ranks seen =
+    let new : List ℕ = c.rank_places.new.ids in
+    let ranked : Codes values ranks seen =
     subst (λ (vs : List Value). Codes vs ranks seen) c.deref-2.ensures.value (subst (λ (vs : List Value). Codes c.deref-2.result.now ranks vs) c.deref-3.ensures.value c.in_ok-ranks.ensures) in
-    renumbered_codes c.in_ok-values.values.items seen c.args.column.now.values ranks c.in_ok-seen.field-0.ids.items c.in_ok-row_ids.row_ids.items ranked c.in_ok-seen.ensures.codes
-    (c.in_ok-row_ids.ensures ∙ ap₂ renumbered c.deref-5.ensures.value c.deref-4.ensures.value)
+    let wide : length new ≡ length ids.items = c.rank_places.auto.ids ∙ ap length c.deref_mut.ensures.value in
+    renumbered_codes values seen c.args.column.now.values ranks ids.items _ ranked c.in_ok-seen.ensures.codes
+    (lent_back ids.items new ids.len (sym ids.ok.0) wide ∙ c.rank_places.ensures ∙ ap₂ renumbered c.deref-4.ensures.value c.deref_mut.ensures.value)
 
-pub ranked-requires : goal.ranked-requires
-ranked-requires c =
+pub rank_places-requires : goal.rank_places-requires
+rank_places-requires c =
     let seen : List Value = c.in_ok-seen.field-0.values.items in
     let ranks : List ℕ = c.in_ok-ranks.ranks.items in
     let ranked : Codes c.in_ok-values.values.items ranks seen =
     subst (λ (vs : List Value). Codes vs ranks seen) c.deref-2.ensures.value (subst (λ (vs : List Value). Codes c.deref-2.result.now ranks vs) c.deref-3.ensures.value c.in_ok-ranks.ensures) in
-    subst (λ (xs : List ℕ). AreBelow (length xs) c.deref-4.result.now) (sym c.deref-5.ensures.value)
-    (subst (AreBelow (length ranks)) (sym c.deref-4.ensures.value) (ranks_all c.in_ok-values.values.items seen c.args.column.now.values ranks c.in_ok-seen.field-0.ids.items ranked c.in_ok-seen.ensures.codes))
+    subst (λ (xs : List ℕ). AreBelow (length xs) c.deref_mut.result.now) (sym c.deref-4.ensures.value)
+    (subst (AreBelow (length ranks)) (sym c.deref_mut.ensures.value) (ranks_all c.in_ok-values.values.items seen c.args.column.now.values ranks c.in_ok-seen.field-0.ids.items ranked c.in_ok-seen.ensures.codes))
