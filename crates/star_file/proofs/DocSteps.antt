@@ -118,13 +118,13 @@ front a b ks ls e = cc
 rest : (a b : AggKind) (ks ls : List AggKind) → a ∷ ks ≡ b ∷ ls → ks ≡ ls
 rest a b ks ls e = cc
 
-past : (xs ys : List ℕ) (n m : ℕ) → length xs ≡ n → drop (n + m) (xs ++ ys) ≡ drop m ys
+pub past : (xs ys : List ℕ) (n m : ℕ) → length xs ≡ n → drop (n + m) (xs ++ ys) ≡ drop m ys
 past [] ys n m h = let e : n + m ≡ m = omega (arith, h) in ap (λ k. drop k ys) e
 past (x ∷ xs) ys zero m h = absurd (omega (arith, h))
 past (x ∷ xs) ys (suc n) m h = ap (λ k. drop k (x ∷ (xs ++ ys))) (let e : suc n + m ≡ suc (n + m) = omega arith in e)
     ∙ past xs ys n m (omega (arith, h))
 
-own_part : (xs ys : List ℕ) (n : ℕ) → length xs ≡ n → take n (xs ++ ys) ≡ xs
+pub own_part : (xs ys : List ℕ) (n : ℕ) → length xs ≡ n → take n (xs ++ ys) ≡ xs
 own_part xs ys n h = ap (λ k. take k (xs ++ ys)) (sym h) ∙ take-append_seam xs ys
 
 -- the state in a place of a row that bytes spell
@@ -230,7 +230,7 @@ word_bytes m x bytes le small is =
     (length-take-le 4 (drop m bytes) (omega (arith, length-drop m bytes)))
     (small_take 4 (drop m bytes) (small_drop m bytes small)) is
 
-length_words : (xs : List ℕ) → length (words xs) ≡ 4 * length xs
+pub length_words : (xs : List ℕ) → length (words xs) ≡ 4 * length xs
 length_words [] = refl
 length_words (x ∷ xs) = let more = length_words xs in omega (arith, more)
 

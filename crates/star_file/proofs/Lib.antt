@@ -3,3 +3,4 @@ pub mod KidLemmas
 pub mod SectionLemmas
 pub mod DocSteps
 pub mod RangeSteps
+pub mod DocLaws

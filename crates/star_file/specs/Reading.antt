@@ -25,6 +25,11 @@ AreIds [] (x ∷ xs) = ⊥
 AreIds (n ∷ ns) [] = ⊥
 AreIds (n ∷ ns) (x ∷ xs) = IsId n x × AreIds ns xs
 
+-- each document has such ids
+abbrev pub DocsHaveIds : List ℕ → List Doc → Type 0
+DocsHaveIds counts [] = Unit {0}
+DocsHaveIds counts (e ∷ es) = AreIds counts e.0 × DocsHaveIds counts es
+
 -- these bytes are those of a document: ids of the dimensions, and a stored state of each kind
 pub record SpellsDoc (shape : TreeShape) (counts bytes : List ℕ) (e : Doc) : Type 0 where
   pub ids_are : AreIds counts e.0

@@ -4,11 +4,12 @@ ghost use Rattle.std.specs.Prelude.{◌≡◌, ℕ, ◌+◌, ◌*◌, ◌^◌, �
 ghost use Rattle.agg_laws.specs.declared.node.Node.{Node};
 ghost use Rattle.agg_laws.specs.declared.tree_shape.TreeShape.{TreeShape};
 ghost use Rattle.agg_laws.specs.Rows.{merged_rows};
-ghost use Rattle.agg_laws.specs.Docs.{Doc, HaveIds};
+ghost use Rattle.agg_laws.specs.Docs.{Doc, HaveIds, HaveShape, AreStored};
 ghost use Rattle.agg_laws.specs.Tree.{star, tree_of, HaveNoStar};
-ghost use Rattle.agg_laws.specs.Flat.{flat, tree_bytes};
+ghost use Rattle.agg_laws.specs.Flat.{flat, range, tree_bytes};
 ghost use Rattle.agg_laws.specs.NodeRules.{count_at, AreCounted};
-ghost use Rattle.star_file.specs.Bytes.{nodes_section};
+ghost use Rattle.star_file.specs.Bytes.{doc_bytes, nodes_section};
+ghost use Rattle.star_file.specs.Reading.{DocsHaveIds, HasDocuments, SpellDocs};
 ghost use Rattle.star_file.specs.Rules.{widths, most_bytes, AreWords, KeepAll, KeepsSection};
 
 use agg_laws::node_rules_law;
@@ -29,3 +30,14 @@ pub fn nodes_law()
 {
     node_rules_law();
 }
+
+/// The documents that are written are those that their section has, from any number to any other;
+/// and bytes spell no others.
+pub fn docs_law()
+    ensures written { (shape : TreeShape) (counts : List ℕ) (docs : List Doc) (from to : ℕ)
+        → length counts ≡ shape.dims → HaveShape shape.dims shape.kinds docs → AreStored docs
+        → DocsHaveIds counts docs → from ≤ to → to ≤ length docs
+        → HasDocuments shape counts from to (doc_bytes docs) (range from to docs) }
+    ensures only { (shape : TreeShape) (counts : List ℕ) (n : ℕ) (bytes : List ℕ) (xs ys : List Doc)
+        → SpellDocs shape counts n bytes xs → SpellDocs shape counts n bytes ys → xs ≡ ys }
+{}

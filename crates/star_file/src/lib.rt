@@ -17,7 +17,7 @@ mod writing;
 pub use agg_laws::Node;
 pub use checking::{NodesFault, check_nodes};
 pub use docs_fault::DocsFault;
-pub use laws::nodes_law;
+pub use laws::{docs_law, nodes_law};
 pub use node_list::Nodes;
 pub use reading::read_docs;
 pub use rules::few_bytes;

@@ -52,6 +52,7 @@ pub fn project(
     let mut table = StarTable::new(alloc, shape)?;
     let mut ids = Vec::with_capacity(alloc, dims.len())?;
     let mut values = Vec::with_capacity(alloc, metrics.len())?;
+    table.reserve(u32::try_from(rows).unwrap_or(u32::MAX))?;
     for row in 0..rows {
         read_row(dims, row, &mut ids)?;
         read_row(metrics, row, &mut values)?;

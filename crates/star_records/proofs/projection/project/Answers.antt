@@ -11,7 +11,7 @@ loop-row-preserved c =
     let metrics = c.args.metrics.now in
     let row = c.loop-row.row in
     let v = c.loop-row.table in
-    let u = c.reserve.new.self in
+    let u = c.reserve-in-loop-row.new.self in
     let w = c.append_values.new.self in
     let inv = c.loop-row.invariant in
     let some : 0 < length dims = omega (arith, c.requires.dims, c.requires.some) in
@@ -25,7 +25,7 @@ loop-row-preserved c =
     ∙ rows.is_row (pos 0) row metrics c.read_row-in-loop-row.new.out.items
     c.in_ok-read_row-2.ensures.items
     (rows.in_all (row_count dims) row metrics lt c.requires.values_long) in
-    let room = c.in_ok-reserve.ensures.ok in
+    let room = c.in_ok-reserve-2.ensures.ok in
     let is = c.append_values.ensures.appended in
     let e : Doc = (c.as_slice.result.now, row_of u.kinds (c.as_slice-in-loop-row.result.now ∷ [])) in
     let same = ap (λ (d : Docs). d.kinds) room ∙ inv.kinds in
