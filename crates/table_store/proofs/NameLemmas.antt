@@ -1,8 +1,8 @@
 -- The names of the segments that have files.
-use Rattle.std.proofs.Common.{◌≡◌, ◌≢◌, ◌∙◌, ◌<◌, ◌+◌, ℕ, Bool, true, false, ◌&&◌, ◌||◌, T, List, [], ◌∷◌, ◌++◌, length, map, get_or, take, drop, append_assoc, Option, Some, None, IfSome, cond, inl, inr, refl, sym, ap, subst, arith}
-use Rattle.std.specs.Prelude.{codes}
+use Rattle.std.proofs.Common.{◌≡◌, ◌≢◌, ◌∙◌, ◌<◌, ◌≤◌, ◌+◌, ℕ, Bool, true, false, ◌&&◌, ◌||◌, T, List, [], ◌∷◌, ◌++◌, length, map, get_or, take, drop, append_assoc, length-take, Option, Some, None, IfSome, cond, inl, inr, refl, sym, ap, subst, arith}
+use Rattle.std.specs.Prelude.{codes, is_some, option_map}
 use Rattle.std.specs.Str.Pattern.{FindsTextSuffix, StripsSuffix}
-use Rattle.std.proofs.lemmas.List.{drop_more}
+use Rattle.std.proofs.lemmas.List.{drop_more, length-map}
 use Rattle.std.specs.FinMap as tree
 use Rattle.std.specs.FinMap.Entries.{below_all, is_sorted}
 use Rattle.std.specs.Cmp.{eq_by_cmp_equiv}
@@ -15,13 +15,16 @@ use Rattle.std.proofs.lemmas.Bool.{false≢true}
 use Rattle.std.proofs.lemmas.Cmp.{nat_list_cmp_total}
 use Rattle.std.proofs.lemmas.List.Folds.{list_any-append}
 use Rattle.std.proofs.lemmas.List.Sorted.{list_any-IsPermutation}
-use Rattle.std.proofs.lemmas.Map.Keys.{IsDistinct-IsPermutation, IsDistinct-cons, apart_from_distinct, sorted_from_all_adjacent}
+use Rattle.std.proofs.lemmas.Map.Keys.{IsDistinct-IsPermutation, IsDistinct-cons, IsDistinct-from_sorted, apart_from_distinct, sorted_from_all_adjacent}
+use Rattle.std.proofs.lemmas.Map.Made.{length-from_same_keys}
 use Rattle.outside.specs.Files.{Files, IsNames, name_order}
-use Rattle.segment_file.specs.Names.{file_of, is_segment_name}
-use Rattle.table_store.specs.Segments.{AreFirstNames, is_segment_file, name_in, names_among}
-use Rattle.table_store.specs.Stands.{most_segments, stem}
+use Rattle.segment_file.specs.Names.{IsSegmentName, file_of, is_segment_name}
+use Rattle.table_store.specs.Segments.{AreFirstNames, HasRoom, IsFull, NamesCount, has_segment, is_segment_file, name_in, names_among}
+use Rattle.table_schema.specs.declared.table.Table as schema
+use Rattle.table_store.specs.State.{Segment, Segments, Texts}
+use Rattle.table_store.specs.Stands.{IsTable, StandsFor, most_segments, segment_file, stem}
 use Rattle.table_store.proofs.FilesLemmas.{other_name}
-use Rattle.table_store.proofs.SegmentLemmas.{is_name, stem_back, tied_name}
+use Rattle.table_store.proofs.SegmentLemmas.{file_kept, is_name, stem_back, tied_name}
 
 abbrev same : List ℕ → List ℕ → Bool
 same = eq_by_cmp name_order
@@ -126,13 +129,13 @@ both_true : (a b : Bool) → T (a && b) → T a × T b
 both_true true b h = (tt, h)
 both_true false b h = absurd h
 
-below_differ : (name : List ℕ) (es : List (List ℕ × List ℕ)) → T (below_all name_order name es) → AllByRecursion (λ y. same name y ≡ false) (map (λ e. e.0) es)
+below_differ : {X : Type 0} (name : List ℕ) (es : List (List ℕ × X)) → T (below_all name_order name es) → AllByRecursion (λ y. same name y ≡ false) (map (λ e. e.0) es)
 below_differ name [] h = tt
 below_differ name (e ∷ es) h =
     let parts = both_true (is_lt (name_order name e.0)) (below_all name_order name es) h in
     (less_differ (name_order name e.0) parts.0, below_differ name es parts.1)
 
-entries_apart : (es : List (List ℕ × List ℕ)) → T (is_sorted name_order es) → IsDistinct same (map (λ e. e.0) es)
+entries_apart : {X : Type 0} (es : List (List ℕ × X)) → T (is_sorted name_order es) → IsDistinct same (map (λ e. e.0) es)
 unfolding IsDistinct
 entries_apart [] h = tt
 entries_apart (e ∷ es) h =
@@ -200,3 +203,40 @@ names_more files old new i file d lt is pushed so_far =
     ∙ ap (λ f. old ++ (name_in f ++ rest)) is
     ∙ ap (λ fs. old ++ names_among fs) (sym (drop_more files i d lt))
     ∙ so_far
+
+-- ---- how many there are
+
+pub first_room : (held : Option Files) (names : List (List ℕ)) → IfSome held (λ told. AreFirstNames told names) → length names < most_segments → IfSome held HasRoom
+first_room None names first few = tt
+first_room (Some told) names (all, are, is) few = (all, are, omega (arith, few, ap length is, length-take most_segments all))
+
+pub first_full : (held : Option Files) (names : List (List ℕ)) → IfSome held (λ told. AreFirstNames told names) → most_segments ≤ length names → IfSome held IsFull
+first_full None names first many = tt
+first_full (Some told) names (all, are, is) many = (all, are, omega (arith, many, ap length is, length-take most_segments all))
+
+some_mapped : {A B : Type 0} (f : A → B) (o : Option A) → is_some (option_map f o) ≡ is_some o
+some_mapped f None = refl
+some_mapped f (Some x) = refl
+
+named_true : (name : List ℕ) → IsSegmentName name → is_segment_name name ≡ true
+named_true name is = (λ i. (is.some i && is.few i) && is.each i)
+
+-- a segment has a file exactly where the state has it
+has_by : (table : schema.Table) (texts : Texts) (segments : Segments) (name : List ℕ) → IsTable table texts segments → (o : Option Segment) → tree.get segments name ≡ o → (is_segment_name name && is_some o) ≡ is_some o
+has_by table texts segments name valid None got = and_false (is_segment_name name)
+has_by table texts segments name valid (Some segment) got = ap (λ b. b && true) (named_true name (valid.named name segment got))
+
+has_kept : (files : Files) (texts : Texts) (segments : Segments) (name : List ℕ) → StandsFor files texts segments → has_segment files name ≡ is_some (tree.get segments name)
+has_kept files texts segments name stands =
+    ap (λ o. is_segment_name name && is_some o) (stands.kept (file_of name) ∙ file_kept stands.table texts segments name)
+    ∙ ap (λ b. is_segment_name name && b) (some_mapped (segment_file stands.table name) (tree.get segments name))
+    ∙ has_by stands.table texts segments name stands.valid (tree.get segments name) refl
+
+-- files that stand for a state have as many names of segments as it has segments
+pub names_count : NamesCount
+names_count files texts segments all stands are =
+    let keys : List (List ℕ) = tree.keys segments in
+    let mine : IsDistinct same all = IsDistinct-from_sorted name_order all are.ascend in
+    let theirs : IsDistinct same keys = entries_apart (tree.entries segments) (tree.entries_sorted segments) in
+    let members : (q : List ℕ) → list_any (same q) all ≡ list_any (same q) keys = λ q. are.those q ∙ has_kept files texts segments q stands ∙ tree.contains_key-keys segments q in
+    length-from_same_keys (eq_by_cmp_equiv nat_list_cmp_total) all keys mine theirs members ∙ length-map (tree.entries segments) (λ e. e.0) ∙ sym (tree.len-entries segments)

@@ -1,12 +1,13 @@
 -- The segments whose files are published.
-use Rattle.std.specs.Prelude.{◌≡◌, ℕ, Bool, ◌&&◌, List, [], ◌∷◌, ◌++◌, take, is_some, if◌then◌else◌}
+use Rattle.std.specs.Prelude.{◌≡◌, ◌<◌, ◌≤◌, ℕ, Bool, ◌&&◌, List, [], ◌∷◌, ◌++◌, take, is_some, if◌then◌else◌, length}
 use Rattle.std.specs.FinMap as map
 use Rattle.std.specs.List.{list_any}
 use Rattle.std.specs.List.Sorted.{IsStrictlySortedBy}
 use Rattle.std.specs.Ordering.{eq_by_cmp}
 use Rattle.outside.specs.Files.{Files, name_order}
 use Rattle.segment_file.specs.Names.{file_of, is_segment_name}
-use Rattle.table_store.specs.Stands.{most_segments, stem}
+use Rattle.table_store.specs.State.{Segments, Texts}
+use Rattle.table_store.specs.Stands.{StandsFor, most_segments, stem}
 
 -- whether a segment of this name has a file
 abbrev pub has_segment : Files → List ℕ → Bool
@@ -20,6 +21,18 @@ pub record AreNames (files : Files) (names : List (List ℕ)) : Type 0 where
 -- the first of them, where there are more than the most
 abbrev pub AreFirstNames : Files → List (List ℕ) → Type 0
 AreFirstNames files names = (all : List (List ℕ)) × AreNames files all × (names ≡ take most_segments all)
+
+-- there are fewer segments than the most
+abbrev pub HasRoom : Files → Type 0
+HasRoom files = (all : List (List ℕ)) × AreNames files all × (length all < most_segments)
+
+-- there are as many segments as there may be, or more
+abbrev pub IsFull : Files → Type 0
+IsFull files = (all : List (List ℕ)) × AreNames files all × (most_segments ≤ length all)
+
+-- files that stand for a state have as many names of segments as it has segments
+abbrev pub NamesCount : Type 0
+NamesCount = (files : Files) (texts : Texts) (segments : Segments) (all : List (List ℕ)) → StandsFor files texts segments → AreNames files all → length all ≡ map.len segments
 
 -- ---- files by their names
 

@@ -1,4 +1,5 @@
 //! Laws of the files that a state is kept in.
+ghost use Rattle.table_store.specs.Segments.{NamesCount};
 ghost use Rattle.table_store.specs.Stands.{CreateStands, EmptyStands, SegmentStands, StandsForOne, TableStands};
 
 /// Files stand for at most one state.
@@ -26,4 +27,9 @@ pub fn table_stands_law()
 /// name makes a store that stands for the state with them.
 pub fn segment_stands_law()
     ensures { SegmentStands }
+{}
+
+/// Files that stand for a state have as many names of segments as it has segments.
+pub fn names_count_law()
+    ensures { NamesCount }
 {}

@@ -1,17 +1,26 @@
 //! The segments of a store.
 
-ghost use Rattle.std.specs.Prelude.{◌≡◌, ◌⊎◌, ◌++◌, ℕ, List, take, true, false, Ok, IfOk, IfSome, OnErr, OnOk, IsErrOf, string_bytes};
+ghost use Rattle.std.specs.Prelude.{◌≡◌, ◌⊎◌, ◌++◌, ℕ, List, take, length, true, false, Ok, IfOk, IfSome, OnErr, OnOk, IsErrOf, string_bytes};
 ghost use Rattle.std.specs.List.Sorted.{IsPermutation, IsSorted};
-ghost use Rattle.outside.specs.Files.{Has, Lacks, name_order};
+ghost use Rattle.outside.specs.Counts.{Rose};
+ghost use Rattle.outside.specs.Files.{Has, Lacks, SameBut, name_order, with_file, without_file};
+ghost use Rattle.table_schema.specs.ValidTable.{AreRows, IsValidTable};
+ghost use Rattle.values.specs.Columns.{rows_of};
+ghost use Rattle.segment_build.specs.Sections.{IsBare};
+ghost use Rattle.segment_file.specs.Image.{image};
 ghost use Rattle.outside.specs.Seen.{OnlyReads, seen};
-ghost use Rattle.segment_file.specs.Names.{file_of};
-ghost use Rattle.table_store.specs.Segments.{AreFirstNames, name_in, names_among};
+ghost use Rattle.segment_file.specs.Names.{IsSegmentName, file_of};
+ghost use Rattle.table_store.specs.Segments.{AreFirstNames, HasRoom, IsFull, name_in, names_among};
 ghost use Rattle.table_store.specs.Stands.{most_segments};
+ghost use Rattle.table_store.specs.TableFile.{incoming};
 
 use crate::StoreFault;
 use outside::{Depot, Name, NoMemory, Seq, ShelfFault};
+use segment_build::{BuildFault, write_columns};
 use segment_file::is_segment_name;
 use std::alloc::Global;
+use table_schema::Table;
+use values::Columns;
 
 /// The most segments of a store.
 pub const MOST_SEGMENTS: usize = 512;
@@ -32,6 +41,89 @@ pub fn holds_segment<D: Depot>(alloc: Global, depot: &mut D, name: &str) -> Resu
         Err(ShelfFault::Missing) => Ok(false),
         Err(ShelfFault::Failed) => Err(StoreFault::ReadFault),
         Err(ShelfFault::NoMemory) => Err(StoreFault::NoMemory),
+    }
+}
+
+/// Publishes a segment of rows, which are kept column by column: its file is put among the published
+/// ones, by the one part that files are published by.
+pub fn publish_columns<D: Depot>(
+    alloc: Global,
+    depot: &mut D,
+    table: &Table,
+    name: &str,
+    columns: &Columns,
+) -> Result<(), StoreFault>
+    requires valid { IsValidTable table.now }
+    requires bare { IsBare table.now }
+    requires name { IsSegmentName name.now }
+    requires width { length columns.now.columns ≡ length table.now.schema.fields }
+    requires rows { AreRows table.now.schema.fields (rows_of columns.now) }
+    ensures published { OnOk result (D.held depot.new ≡ with_file (file_of name.now)
+        (image 1 table.now name.now (rows_of columns.now)) (D.held depot.old)) }
+    ensures free { OnOk result (Lacks (D.held depot.old) (file_of name.now)) }
+    ensures room { OnOk result (IfSome (D.held depot.old) HasRoom) }
+    ensures kept { OnErr result (D.held depot.new ≡ D.held depot.old) }
+    ensures taken { IsErrOf result StoreFault.NameTaken →
+        Has (D.held depot.old) (file_of name.now) }
+    ensures many { IsErrOf result StoreFault.TooManySegments →
+        Lacks (D.held depot.old) (file_of name.now) × IfSome (D.held depot.old) IsFull }
+    ensures only { OnErr result
+        (IsErrOf result StoreFault.NameTaken ⊎ IsErrOf result StoreFault.TooManySegments
+        ⊎ IsErrOf result StoreFault.ReadFault ⊎ IsErrOf result StoreFault.WriteFault
+        ⊎ IsErrOf result StoreFault.NoMemory) }
+    ensures gone { OnOk result (D.parts depot.new ≡ without_file incoming (D.parts depot.old)) }
+    ensures other_parts { SameBut incoming (D.parts depot.old) (D.parts depot.new) }
+    ensures log { D.log depot.new ≡ D.log depot.old }
+    ensures read_failed { IsErrOf result StoreFault.ReadFault →
+        Rose (D.read_faults depot.old) (D.read_faults depot.new) }
+    ensures reads_still { ¬ IsErrOf result StoreFault.ReadFault →
+        D.read_faults depot.new ≡ D.read_faults depot.old }
+    ensures write_failed { IsErrOf result StoreFault.WriteFault →
+        Rose (D.write_faults depot.old) (D.write_faults depot.new) }
+    ensures writes_still { ¬ IsErrOf result StoreFault.WriteFault →
+        D.write_faults depot.new ≡ D.write_faults depot.old }
+{
+    match find_room(alloc, depot, name) {
+        Ok(()) => {}
+        Err(fault) => return Err(fault),
+    }
+    match write_columns(alloc, depot, table, name, columns) {
+        Ok(()) => Ok(()),
+        Err(BuildFault::WriteFault) => Err(StoreFault::WriteFault),
+        Err(BuildFault::NoMemory) => Err(StoreFault::NoMemory),
+        Err(BuildFault::TooLarge) => unreachable!(),
+    }
+}
+
+// Whether a segment of this name may be put in: there is none, and there are fewer than the most.
+fn find_room<D: Depot>(alloc: Global, depot: &mut D, name: &str) -> Result<(), StoreFault>
+    ensures free { OnOk result (Lacks (D.held depot.old) (file_of name.now)) }
+    ensures room { OnOk result (IfSome (D.held depot.old) HasRoom) }
+    ensures taken { IsErrOf result StoreFault.NameTaken →
+        Has (D.held depot.old) (file_of name.now) }
+    ensures many { IsErrOf result StoreFault.TooManySegments →
+        Lacks (D.held depot.old) (file_of name.now) × IfSome (D.held depot.old) IsFull }
+    ensures only { OnErr result
+        (IsErrOf result StoreFault.NameTaken ⊎ IsErrOf result StoreFault.TooManySegments
+        ⊎ IsErrOf result StoreFault.ReadFault ⊎ IsErrOf result StoreFault.NoMemory) }
+    ensures only_reads { OnlyReads (IsErrOf result StoreFault.ReadFault)
+        (seen D.Shelf depot.old) (seen D.Shelf depot.new) }
+    ensures log { D.log depot.new ≡ D.log depot.old }
+{
+    match holds_segment(alloc, depot, name) {
+        Ok(true) => return Err(StoreFault::NameTaken),
+        Ok(false) => {}
+        Err(fault) => return Err(fault),
+    }
+    match segment_names(alloc, depot) {
+        Ok(names) => {
+            if names.len() < MOST_SEGMENTS {
+                Ok(())
+            } else {
+                Err(StoreFault::TooManySegments)
+            }
+        }
+        Err(fault) => Err(fault),
     }
 }
 
