@@ -1,5 +1,6 @@
 -- A column of one kind, whose states are kept as that kind needs.
-use Rattle.std.proofs.Common.{◌≡◌, ℕ, ◌<◌, List, map, length, drop, get_or, set, sym, ap, ◌∙◌, arith}
+use Rattle.std.proofs.Common.{◌≡◌, ℕ, ◌<◌, List, map, length, drop, get_or, set, sym, ap, ◌∙◌}
+use Rattle.std.proofs.Common.{arith}
 use Rattle.std.proofs.lemmas.List.{map-set, get_or-map, length-map, drop-map}
 use Rattle.agg_laws.specs.declared.aggregate_kind.AggKind.{AggKind}
 use Rattle.agg_laws.specs.declared.states.AggState.{AggState}

@@ -141,7 +141,8 @@ pub widened_all : (more n : ℕ) (cs : List Column) → n ≡ length cs → wide
 widened_all more zero [] h = refl
 widened_all more (suc n) [] h = refl
 widened_all more zero (c ∷ cs) h = absurd (omega arith)
-widened_all more (suc n) (c ∷ cs) h = ap (λ t. widened more c ∷ t) (widened_all more n cs (omega arith))
+widened_all more (suc n) (c ∷ cs) h = ap (λ t. widened more c ∷ t) (widened_all more n cs (omega
+    arith))
 
 same_wider : (cs : List Column) → AreWider cs cs
 same_wider [] = tt

@@ -139,7 +139,8 @@ row_after n s [] [] h l = refl
 row_after n s [] (v ∷ vs) h l = absurd (omega (arith, l))
 row_after n s (c ∷ cs) [] h l = absurd (omega (arith, l))
 row_after n s (c ∷ cs) (v ∷ vs) h l =
-    λ j. last_item c.states v (unit_of c.kind) n h.0 j ∷ row_after n s cs vs h.2 (omega (arith, l)) j
+    λ j. last_item c.states v (unit_of c.kind) n h.0 j ∷ row_after n s cs vs h.2 (omega (arith, l))
+    j
 
 pub kinds_pushed : (cs : List Column) (vs : List AggState) → kinds_in (row_pushed cs vs)
     ≡ kinds_in cs
@@ -147,7 +148,8 @@ kinds_pushed [] vs = refl
 kinds_pushed (c ∷ cs) [] = refl
 kinds_pushed (c ∷ cs) (v ∷ vs) = ap (λ t. c.kind ∷ t) (kinds_pushed cs vs)
 
-pub columns_pushed : (n s : ℕ) (cs : List Column) (vs : List AggState) → AreColumns n s cs → length vs
+pub columns_pushed : (n s : ℕ) (cs : List Column) (vs : List AggState) → AreColumns n s cs
+    → length vs
     ≡ length cs → AreColumns (n + 1) (s - 1) (row_pushed cs vs)
 columns_pushed n s [] [] h l = tt
 columns_pushed n s [] (v ∷ vs) h l = absurd (omega (arith, l))
@@ -162,7 +164,12 @@ columns_pushed n s (c ∷ cs) (v ∷ vs) h l = (
 pub some_room : (n s m t : ℕ) (cs : List Column) → AreColumns n s cs → m ≡ n → t ≤ s
     → AreColumns m t cs
 some_room n s m t [] h e l = tt
-some_room n s m t (c ∷ cs) h e l = (h.0 ∙ sym e, omega (arith, h.1, l), some_room n s m t cs h.2 e l)
+some_room n s m t (c ∷ cs) h e l = (
+  h.0 ∙ sym e,
+  omega (arith, h.1, l),
+  some_room n s m t cs h.2 e
+      l,
+)
 
 -- the ids of each document, once more are after them
 pub ids_before : (n k i : ℕ) (ids xs : List ℕ) → length ids ≡ n * k → i < n
@@ -204,7 +211,8 @@ module _ (n k : ℕ) (ks : List AggKind) (ids : List ℕ) (cs : List Column) (sp
       (ap (λ l. take k (drop (n * k) l)) is ∙ ids_after n k ids xs r.ids_are lx)
       (ap (λ l. row_at l n) js ∙ row_after n spare cs ys r.columns_are long)
 
-  pub more_region : 1 ≤ spare → RowStored ys → a ≤ a' → IsRegion (n + 1) k ks ids' cs' (spare - 1) a'
+  pub more_region : 1 ≤ spare → RowStored ys → a ≤ a'
+      → IsRegion (n + 1) k ks ids' cs' (spare - 1) a'
   more_region some st la =
       let li : length ids' ≡ length ids + k = ap length is ∙ length-append ids xs
       ∙ ap (λ m. length ids + m) lx in

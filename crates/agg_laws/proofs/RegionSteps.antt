@@ -113,7 +113,8 @@ row_own n s p (c ∷ cs) (v ∷ vs) h lt l =
     λ j. get_or-set_same c.states p v (unit_of c.kind) (omega (arith, h.0, lt)) j
     ∷ row_own n s p cs vs h.2 lt (omega (arith, l)) j
 
-pub kinds_replaced : (p : ℕ) (cs : List Column) (vs : List AggState) → kinds_in (row_replaced p cs vs)
+pub kinds_replaced : (p : ℕ) (cs : List Column) (vs : List AggState)
+    → kinds_in (row_replaced p cs vs)
     ≡ kinds_in cs
 kinds_replaced p [] vs = refl
 kinds_replaced p (c ∷ cs) [] = refl
@@ -126,7 +127,8 @@ columns_replaced n s p (c ∷ cs) [] h = h
 columns_replaced n s p (c ∷ cs) (v ∷ vs) h =
     (length-set c.states p v ∙ h.0, h.1, columns_replaced n s p cs vs h.2)
 
-pub replaced_length : (p : ℕ) (cs : List Column) (vs : List AggState) → length (row_replaced p cs vs)
+pub replaced_length : (p : ℕ) (cs : List Column) (vs : List AggState)
+    → length (row_replaced p cs vs)
     ≡ length cs
 replaced_length p [] vs = refl
 replaced_length p (c ∷ cs) [] = refl
@@ -327,7 +329,8 @@ module _ (n k : ℕ) (ks : List AggKind) (ids : List ℕ) (cs : List Column) (sp
 
       pub merged_region : IsRegion n k ks ids cs' spare a
       merged_region =
-          changed n k ks ids cs spare a r some xs (merged_rows ys zs) ids cs' rows_same refl at_end refl
+          changed n k ks ids cs spare a r some xs (merged_rows ys zs) ids cs' rows_same refl at_end
+          refl
           (ap kinds_in js ∙ kinds_replaced (n - 1) cs (merged_rows ys zs))
           (subst (AreColumns n spare) (sym js)
           (columns_replaced n spare (n - 1) cs (merged_rows ys zs) r.columns_are))
@@ -340,7 +343,8 @@ module _ (n k : ℕ) (ks : List AggKind) (ids : List ℕ) (cs : List Column) (sp
           let f = front n k ks ids cs spare a r some in
           let tie = sym (last_is n k ks ids cs spare a r some) ∙ is in
           let own : (xs, ys) ≡ e = last_same f docs (xs, ys) e tie in
-          with_last n k ks ids cs spare a r some xs (merged_rows ys zs) ids cs' rows_same refl at_end
+          with_last n k ks ids cs spare a r some xs (merged_rows ys zs) ids cs' rows_same refl
+          at_end
           ∙ (λ j. front_same f docs (xs, ys) e tie j
           ++ (((own j).0, merged_rows (own j).1 zs) ∷ []))
 

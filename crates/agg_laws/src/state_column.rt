@@ -1,10 +1,12 @@
 //! Columns of states of one kind.
 
-ghost use Rattle.std.specs.Prelude.{◌≡◌, ◌+◌, ◌-◌, ◌<◌, ◌≤◌, [], ◌∷◌, ◌++◌, length, max, OnOk, OnErr};
+ghost use Rattle.std.specs.Prelude.{◌≡◌, ◌+◌, ◌-◌, ◌<◌, ◌≤◌, [], ◌∷◌, ◌++◌, length, max, OnOk};
+ghost use Rattle.std.specs.Prelude.{OnErr};
 ghost use Rattle.std.specs.Prelude.{IfOk, vec_capacity, drop};
 ghost use Rattle.agg_laws.specs.Numbers.{most_values};
 ghost use Rattle.agg_laws.specs.States.{kind_of, unit_of, state_of, merged, Fits};
-ghost use Rattle.agg_laws.specs.Columns.{column_of, column_tail, pushed, replaced, state_at, widened};
+ghost use Rattle.agg_laws.specs.Columns.{column_of, column_tail, pushed, replaced, state_at};
+ghost use Rattle.agg_laws.specs.Columns.{widened};
 
 use crate::NoMemory;
 use crate::aggregate_kind::AggKind;

@@ -37,10 +37,12 @@ none_after join d v n es low up run =
 
 pub joined_all : (join : Join) (fuel d : ℕ) (docs : List Doc) → Rising d docs
     → runs.joined join d docs (ids_at join d docs) ≡ docs
-joined_all join fuel d docs up = runs.joined_all join (length docs) d docs (omega arith) (rising d docs up)
+joined_all join fuel d docs up = runs.joined_all join (length docs) d docs (omega arith) (rising d
+    docs up)
 
 -- the nodes of the ids above v are those of the documents after the run
-pub kids_after : (below : List Doc → Tree) (d v n : ℕ) (es : List Doc) (last : Tree) → RunOf d v n es
+pub kids_after : (below : List Doc → Tree) (d v n : ℕ) (es : List Doc) (last : Tree)
+    → RunOf d v n es
     → (vs : List ℕ) → NoneBelow (suc v) vs
     → kids_of below d es last vs ≡ kids_of below d (drop n es) last vs
 kids_after below d v n es last run [] h = refl

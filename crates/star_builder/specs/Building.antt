@@ -11,7 +11,8 @@ use Rattle.agg_laws.specs.Merged.{weights}
 use Rattle.agg_laws.specs.Tree.{star, dims_order, dim, Nodes, none, node, ids_at, kids_of, star_kid}
 use Rattle.agg_laws.specs.Tree.{under}
 use Rattle.agg_laws.specs.Docs.{Doc, doc_at}
-use Rattle.agg_laws.specs.Flat.{Flat, node_at, range, kid_nodes, visited_one, closed, filled, with_total}
+use Rattle.agg_laws.specs.Flat.{Flat, node_at, range, kid_nodes, visited_one, closed, filled}
+use Rattle.agg_laws.specs.Flat.{with_total}
 use Rattle.star_file.specs.Rules.{widths}
 
 -- the nodes of documents of states

@@ -84,7 +84,8 @@ nothing (suc k) (suc b) = refl
 pub take_more : (a b : ℕ) (xs : List ℕ) → take (a + b) xs ≡ take a xs ++ take b (drop a xs)
 take_more zero b xs = ap (λ k. take k xs) (let e : 0 + b ≡ b = omega arith in e)
 take_more (suc a) b [] = nothing {X = ℕ} (suc a + b) b
-take_more (suc a) b (x ∷ xs) = ap (λ k. take k (x ∷ xs)) (let e : suc a + b ≡ suc (a + b) = omega arith in e)
+take_more (suc a) b (x ∷ xs) = ap (λ k. take k (x ∷ xs)) (let e : suc a + b
+    ≡ suc (a + b) = omega arith in e)
     ∙ ap (λ t. x ∷ t) (take_more a b xs)
 
 pub words_more : (bytes xs new : List ℕ) (i x : ℕ) → take (4 * i) bytes ≡ words xs
@@ -121,7 +122,8 @@ rest a b ks ls e = cc
 pub past : (xs ys : List ℕ) (n m : ℕ) → length xs ≡ n → drop (n + m) (xs ++ ys) ≡ drop m ys
 past [] ys n m h = let e : n + m ≡ m = omega (arith, h) in ap (λ k. drop k ys) e
 past (x ∷ xs) ys zero m h = absurd (omega (arith, h))
-past (x ∷ xs) ys (suc n) m h = ap (λ k. drop k (x ∷ (xs ++ ys))) (let e : suc n + m ≡ suc (n + m) = omega arith in e)
+past (x ∷ xs) ys (suc n) m h = ap (λ k. drop k (x ∷ (xs ++ ys))) (let e : suc n + m
+    ≡ suc (n + m) = omega arith in e)
     ∙ past xs ys n m (omega (arith, h))
 
 pub own_part : (xs ys : List ℕ) (n : ℕ) → length xs ≡ n → take n (xs ++ ys) ≡ xs

@@ -14,7 +14,8 @@ use Rattle.star_file.proofs.DocSteps.{in_part, of_part}
 pub span : (width from to : ℕ) → from ≤ to → to * width ≡ from * width + (to - from) * width
 span width from to h =
     let e : to ≡ from + (to - from) = omega arith in
-    let products : (from + (to - from)) * width ≡ from * width + (to - from) * width = grind arith in
+    let products : (from + (to - from)) * width ≡ from * width + (to - from) * width = grind arith
+    in
     ap (λ k. k * width) e ∙ products
 
 -- the bytes of a section between two places are those of the file

@@ -1,6 +1,7 @@
 //! Documents out of bytes.
 
-ghost use Rattle.std.specs.Prelude.{◌≡◌, ◌+◌, ◌-◌, ◌*◌, ◌≤◌, ◌<◌, ◌^◌, [], length, take, drop, IfOk, OnOk, IsErrOf, IsTrue, ◌↔◌, List, ℕ};
+ghost use Rattle.std.specs.Prelude.{◌≡◌, ◌+◌, ◌-◌, ◌*◌, ◌≤◌, ◌<◌, ◌^◌, [], length, take, drop};
+ghost use Rattle.std.specs.Prelude.{IfOk, OnOk, IsErrOf, IsTrue, ◌↔◌, List, ℕ};
 ghost use Rattle.agg_laws.specs.declared.states.AggState.{AggState};
 ghost use Rattle.agg_laws.specs.Rows.{kinds_of, RowStored};
 ghost use Rattle.agg_laws.specs.Docs.{Doc};

@@ -1,5 +1,6 @@
 //! A part of a file is read.
-ghost use Rattle.std.specs.Prelude.{◌≡◌, ◌≤◌, ◌<◌, ◌+◌, ◌-◌, ◌^◌, ◌↔◌, IfOk, OnErr, IsErrOf, length};
+ghost use Rattle.std.specs.Prelude.{◌≡◌, ◌≤◌, ◌<◌, ◌+◌, ◌-◌, ◌^◌, ◌↔◌, IfOk, OnErr, IsErrOf};
+ghost use Rattle.std.specs.Prelude.{length};
 ghost use Rattle.outside.specs.Reads.{LogsOn, LogsUpTo};
 ghost use Rattle.outside.specs.Seen.{OnlyReads, seen};
 ghost use Rattle.star_file.specs.Reading.{IsPart, EndsBefore};

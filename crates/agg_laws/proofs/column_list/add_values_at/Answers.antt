@@ -1,4 +1,5 @@
-use Rattle.std.proofs.Common.{◌≡◌, ◌<◌, [], ◌∷◌, List, length, get_or, ap, sym, subst, ◌∙◌, arith, rules, ℤ, pos, FitsSigned, w64}
+use Rattle.std.proofs.Common.{◌≡◌, ◌<◌, [], ◌∷◌, List, length, get_or, ap, sym, subst, ◌∙◌, arith}
+use Rattle.std.proofs.Common.{rules, ℤ, pos, FitsSigned, w64}
 use Rattle.std.specs.Int.{cast_signed, cast_unsigned}
 use Rattle.std.proofs.lemmas.Int.{to_z-of_z}
 use Rattle.agg_laws.specs.declared.aggregate_kind.AggKind.TheVariants as kinds
@@ -57,7 +58,12 @@ add_at-requires-clause-fits c =
     let item : state_of (get_or old i d).kind (x ∷ []) ≡ get_or one i (Count 0) =
     (λ j. state_of (sym (steps.kind_item old i d kinds.Count lt) j) (cast j ∷ []))
     ∙ sym (steps.value_item ks xs i kinds.Count (pos 0) (Count 0)
-    (c.requires.values ∙ sym (steps.length-kinds_in old)) (omega (arith, lt, steps.length-kinds_in old))) in
+    (c.requires.values ∙ sym (steps.length-kinds_in old)) (omega (
+      arith,
+      lt,
+      steps.length-kinds_in
+          old,
+    ))) in
     let own = steps.own f i c.loop-i.columns old vs c.loop-i.invariant lt d in
     let fits = fits_at us one most_values i (Count 0) (Count 0) c.requires.fits ab
     (omega (arith, lt, la)) in
@@ -88,7 +94,12 @@ loop-i-preserved c =
     let item : state_of (get_or old i d).kind (x ∷ []) ≡ get_or one i (Count 0) =
     (λ j. state_of (sym (steps.kind_item old i d kinds.Count lt) j) (cast j ∷ []))
     ∙ sym (steps.value_item ks xs i kinds.Count (pos 0) (Count 0)
-    (c.requires.values ∙ sym (steps.length-kinds_in old)) (omega (arith, lt, steps.length-kinds_in old))) in
+    (c.requires.values ∙ sym (steps.length-kinds_in old)) (omega (
+      arith,
+      lt,
+      steps.length-kinds_in
+          old,
+    ))) in
     let own = steps.own f i c.loop-i.columns old vs c.loop-i.invariant lt d in
     let g = λ (c' : Column). merged (state_at c' c.args.place) (state_of c'.kind (x ∷ [])) in
     steps.next f i c.loop-i.columns old vs c.loop-i.invariant lt d

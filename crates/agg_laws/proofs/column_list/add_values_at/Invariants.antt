@@ -5,4 +5,5 @@ use Rattle.agg_laws.proofs.EachSteps.{stepped}
 use Rattle.agg_laws.proofs.column_list.add_values_at.Given as goal
 
 abbrev pub invariant-loop-i : goal.invariant-loop-i
-invariant-loop-i l = l.columns ≡ stepped (replaced l.place) l.i l.initial.columns (merged_rows (row_at l.initial.columns l.place) (row_of (kinds_in l.initial.columns) (l.values ∷ [])))
+invariant-loop-i l = l.columns ≡ stepped (replaced l.place) l.i l.initial.columns (merged_rows
+    (row_at l.initial.columns l.place) (row_of (kinds_in l.initial.columns) (l.values ∷ [])))

@@ -64,7 +64,8 @@ merge_at-requires-clause-fits c =
     subst (λ (v : AggState). Fits v most_values)
     ((λ j. merged (steps.row_item old c.args.into i d (Count 0) lt j)
     (steps.row_item old c.args.from i d (Count 0) lt j))
-    ∙ ap (λ (c' : Column). merged (state_at c' c.args.into) (state_at c' c.args.from)) (sym own)) fits
+    ∙ ap (λ (c' : Column). merged (state_at c' c.args.into) (state_at c' c.args.from)) (sym own))
+    fits
 
 pub loop-i-preserved : goal.loop-i-preserved
 loop-i-preserved c =

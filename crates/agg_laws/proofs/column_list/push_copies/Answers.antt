@@ -10,7 +10,8 @@ push_copy-requires-clause-spare c =
     let i = c.loop-i.i in
     let d = c.index-columns-i.result in
     let lt : i < length old = c.loop-i-test.true in
-    let own = steps.own pushed i c.loop-i.columns old (row_at old c.args.from) c.loop-i.invariant lt d in
+    let own = steps.own pushed i c.loop-i.columns old (row_at old c.args.from) c.loop-i.invariant
+    lt d in
     let room = steps.room_at c.args.count 1 old i d c.requires.room lt in
     let e = ap (λ (c : Column). c.spare) own in
     omega (arith, e, room)
@@ -21,7 +22,8 @@ push_copy-requires-clause-from c =
     let i = c.loop-i.i in
     let d = c.index-columns-i.result in
     let lt : i < length old = c.loop-i-test.true in
-    let own = steps.own pushed i c.loop-i.columns old (row_at old c.args.from) c.loop-i.invariant lt d in
+    let own = steps.own pushed i c.loop-i.columns old (row_at old c.args.from) c.loop-i.invariant
+    lt d in
     let long = steps.long_at c.args.count 1 old i d c.requires.room lt in
     let e = ap (λ (c : Column). length c.states) own in
     omega (arith, e, long, c.requires.from)

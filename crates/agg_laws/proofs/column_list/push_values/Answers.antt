@@ -1,4 +1,5 @@
-use Rattle.std.proofs.Common.{◌≡◌, ◌<◌, [], ◌∷◌, List, length, get_or, ap, sym, ◌∙◌, arith, rules, ℤ, pos, FitsSigned, w64}
+use Rattle.std.proofs.Common.{◌≡◌, ◌<◌, [], ◌∷◌, List, length, get_or, ap, sym, ◌∙◌, arith, rules}
+use Rattle.std.proofs.Common.{ℤ, pos, FitsSigned, w64}
 use Rattle.std.specs.Int.{cast_signed, cast_unsigned}
 use Rattle.std.proofs.lemmas.Int.{to_z-of_z}
 use Rattle.agg_laws.specs.declared.aggregate_kind.AggKind.TheVariants as kinds
@@ -43,7 +44,12 @@ loop-i-preserved c =
     let item : state_of (get_or old i d).kind (x ∷ []) ≡ get_or one i (Count 0) =
     (λ j. state_of (sym (steps.kind_item old i d kinds.Count lt) j) (cast j ∷ []))
     ∙ sym (steps.value_item ks xs i kinds.Count (pos 0) (Count 0)
-    (c.requires.values ∙ sym (steps.length-kinds_in old)) (omega (arith, lt, steps.length-kinds_in old))) in
+    (c.requires.values ∙ sym (steps.length-kinds_in old)) (omega (
+      arith,
+      lt,
+      steps.length-kinds_in
+          old,
+    ))) in
     let own = steps.own pushed i c.loop-i.columns old one c.loop-i.invariant lt d in
     steps.next pushed i c.loop-i.columns old one c.loop-i.invariant lt d
     (Count 0) (state_of (get_or c.loop-i.columns i d).kind (x ∷ [])) c.push_one.new.self

@@ -5,4 +5,5 @@ use Rattle.agg_laws.proofs.EachSteps.{stepped}
 use Rattle.agg_laws.proofs.column_list.push_values.Given as goal
 
 abbrev pub invariant-loop-i : goal.invariant-loop-i
-invariant-loop-i l = l.columns ≡ stepped pushed l.i l.initial.columns (row_of (kinds_in l.initial.columns) (l.values ∷ []))
+invariant-loop-i l = l.columns ≡ stepped pushed l.i l.initial.columns (row_of (kinds_in
+    l.initial.columns) (l.values ∷ []))

@@ -1,4 +1,5 @@
-use Rattle.std.proofs.Common.{◌≡◌, ◌+◌, ◌*◌, ◌<◌, ◌≤◌, ◌∷◌, [], List, length, ap, subst, ◌∙◌, arith, rules, Err}
+use Rattle.std.proofs.Common.{◌≡◌, ◌+◌, ◌*◌, ◌<◌, ◌≤◌, ◌∷◌, [], List, length, ap, subst, ◌∙◌, arith}
+use Rattle.std.proofs.Common.{rules, Err}
 use Rattle.agg_laws.specs.declared.node.Node.{Node}
 use Rattle.agg_laws.specs.Tree.{star}
 use Rattle.agg_laws.specs.Flat.{blank}

@@ -18,8 +18,10 @@ invariant-visit_kids-loop-i l =
     let now : Written = (l.nodes.items, l.docs.docs) in
     let kids = kids_in l.shape l.level l.start l.end before in
     record {
-      left : visited merged_rows (l.level + 1) (l.first + l.i) (drop_kids l.i kids) now ≡ visited merged_rows (l.level + 1) l.first kids before;
-      stand : Standing l.shape (l.shape.dims - (l.level + 1)) (l.level + 1) (l.first + l.i) (drop_kids l.i kids) now;
+      left : visited merged_rows (l.level + 1) (l.first + l.i) (drop_kids l.i kids) now
+          ≡ visited merged_rows (l.level + 1) l.first kids before;
+      stand : Standing l.shape (l.shape.dims - (l.level + 1)) (l.level + 1) (l.first + l.i)
+          (drop_kids l.i kids) now;
       longer : length before.0 ≤ length now.0;
       dims : l.docs.dims ≡ l.fn.docs.dims;
       kinds : l.docs.kinds ≡ l.fn.docs.kinds;

@@ -5,18 +5,33 @@ use Rattle.star_builder.proofs.visit.open_node.Goals as goal
 pub push_groups-requires-clause-rising : goal.push_groups-requires-clause-rising
 push_groups-requires-clause-rising c =
     rw (c.bounds-start.ensures.start, c.bounds-start.ensures.end)
-    (rising_at c.args.shape.now c.args.level c.args.at (c.args.nodes.now.items, c.args.docs.now.docs) c.requires.stands c.requires.levels)
+    (rising_at c.args.shape.now c.args.level c.args.at (
+      c.args.nodes.now.items,
+      c.args.docs.now.docs,
+    ) c.requires.stands c.requires.levels)
 
 pub push_groups-requires-clause-ordinary : goal.push_groups-requires-clause-ordinary
 push_groups-requires-clause-ordinary c =
     rw (c.bounds-start.ensures.start, c.bounds-start.ensures.end)
-    (ordinary_at c.args.shape.now c.args.level c.args.at (c.args.nodes.now.items, c.args.docs.now.docs) c.requires.stands c.requires.levels)
+    (ordinary_at c.args.shape.now c.args.level c.args.at (
+      c.args.nodes.now.items,
+      c.args.docs.now.docs,
+    ) c.requires.stands c.requires.levels)
 
-plain : (c : goal.Then-not-takes_star) → OpenedTo c.args.shape.now c.args.level c.args.at (c.args.nodes.now.items, c.args.docs.now.docs) (c.push_groups.new.nodes.items, c.args.docs.now.docs) false
+plain : (c : goal.Then-not-takes_star) → OpenedTo c.args.shape.now c.args.level c.args.at
+    (c.args.nodes.now.items, c.args.docs.now.docs) (
+      c.push_groups.new.nodes.items,
+      c.args.docs.now.docs,
+    ) false
 plain c =
-    let groups : c.len.result - c.len-first.result ≡ length c.push_groups.new.nodes.items - length c.args.nodes.now.items = search rules in
-    open_plain c.args.shape.now c.args.level c.args.at (c.args.nodes.now.items, c.args.docs.now.docs) c.requires.stands c.requires.levels
-    c.bounds-start.result.0 c.bounds-start.result.1 (c.len.result - c.len-first.result) c.push_groups.new.nodes.items c.bounds-start.ensures.start c.bounds-start.ensures.end
+    let groups : c.len.result - c.len-first.result ≡ length c.push_groups.new.nodes.items - length
+    c.args.nodes.now.items = search rules in
+    open_plain c.args.shape.now c.args.level c.args.at (
+      c.args.nodes.now.items,
+      c.args.docs.now.docs,
+    ) c.requires.stands c.requires.levels
+    c.bounds-start.result.0 c.bounds-start.result.1 (c.len.result - c.len-first.result)
+    c.push_groups.new.nodes.items c.bounds-start.ensures.start c.bounds-start.ensures.end
     c.in_ok-push_groups.ensures groups (sym c.takes_star.ensures ∙ c.if-not-takes_star.true)
 
 pub returns-then-not-takes_star-clause-opened : goal.returns-then-not-takes_star-clause-opened
@@ -25,15 +40,26 @@ returns-then-not-takes_star-clause-opened c = (plain c).is
 pub returns-then-not-takes_star-clause-star : goal.returns-then-not-takes_star-clause-star
 returns-then-not-takes_star-clause-star c = (plain c).has
 
-starred : (c : goal.In_ok-push) → OpenedTo c.args.shape.now c.args.level c.args.at (c.args.nodes.now.items, c.args.docs.now.docs) (c.push.new.self.items, c.add_starred.new.docs.docs) true
+starred : (c : goal.In_ok-push) → OpenedTo c.args.shape.now c.args.level c.args.at
+    (c.args.nodes.now.items, c.args.docs.now.docs) (
+      c.push.new.self.items,
+      c.add_starred.new.docs.docs,
+    ) true
 starred c =
-    let groups : c.len.result - c.len-first.result ≡ length c.push_groups.new.nodes.items - length c.args.nodes.now.items = search rules in
-    open_star c.args.shape.now c.args.level c.args.at (c.args.nodes.now.items, c.args.docs.now.docs) c.requires.stands c.requires.levels
-    c.bounds-start.result.0 c.bounds-start.result.1 (c.len.result - c.len-first.result) c.push_groups.new.nodes.items c.bounds-start.ensures.start c.bounds-start.ensures.end
+    let groups : c.len.result - c.len-first.result ≡ length c.push_groups.new.nodes.items - length
+    c.args.nodes.now.items = search rules in
+    open_star c.args.shape.now c.args.level c.args.at (
+      c.args.nodes.now.items,
+      c.args.docs.now.docs,
+    ) c.requires.stands c.requires.levels
+    c.bounds-start.result.0 c.bounds-start.result.1 (c.len.result - c.len-first.result)
+    c.push_groups.new.nodes.items c.bounds-start.ensures.start c.bounds-start.ensures.end
     c.in_ok-push_groups.ensures groups (sym c.takes_star.ensures ∙ c.if-not-takes_star.false)
-    c.count_of-from.result (c.count_of-from.result + c.in_ok-more.more) 0 c.push.new.self.items c.add_starred.new.docs.docs
+    c.count_of-from.result (c.count_of-from.result + c.in_ok-more.more) 0 c.push.new.self.items
+    c.add_starred.new.docs.docs
     c.in_ok-more.ensures.docs c.count_of-from.ensures.value
-    (let n = c.in_ok-more.ensures.count in let m = c.count_of-from.ensures.value in omega (arith, n, m))
+    (let n = c.in_ok-more.ensures.count in let m = c.count_of-from.ensures.value in
+    omega (arith, n, m))
     c.in_ok-push.ensures.items
 
 pub returns-clause-opened : goal.returns-clause-opened

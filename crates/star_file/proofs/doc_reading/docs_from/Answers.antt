@@ -1,4 +1,5 @@
-use Rattle.std.proofs.Common.{◌≡◌, ◌+◌, ◌-◌, ◌*◌, ◌≤◌, ◌++◌, ◌∷◌, [], List, ℕ, length, take, drop, ap, sym, subst, ◌∙◌, arith, Err}
+use Rattle.std.proofs.Common.{◌≡◌, ◌+◌, ◌-◌, ◌*◌, ◌≤◌, ◌++◌, ◌∷◌, [], List, ℕ, length, take, drop}
+use Rattle.std.proofs.Common.{ap, sym, subst, ◌∙◌, arith, Err}
 use Rattle.star_file.specs.declared.docs_fault.DocsFault.TheVariants.{BadDocs}
 use Rattle.agg_laws.specs.Docs.{Doc}
 use Rattle.agg_laws.proofs.RegionLemmas.{room_in}
@@ -18,7 +19,8 @@ between-part-requires-clause-within c =
     let w = doc_width c.args.shape.now in
     subst (λ (n : ℕ). c.loop-i.i * n + n ≤ length c.args.bytes.now)
     (sym c.width_of-width.ensures.value)
-    (room_in c.args.number c.loop-i.i w (length c.args.bytes.now) c.requires.width c.loop-i-test.true)
+    (room_in c.args.number c.loop-i.i w (length c.args.bytes.now) c.requires.width
+    c.loop-i-test.true)
 
 pub returns-in-Err-clause-bad : goal.returns-in-Err-clause-bad
 returns-in-Err-clause-bad c bad docs h =

@@ -11,5 +11,6 @@ returns-in-Err-clause-bad c bad e s =
 pub returns-clause-bad : goal.returns-clause-bad
 returns-clause-bad c bad e s =
     c.read_states.ensures.bad bad e.1 (s.kinds_are ∙ sym c.as_slice.ensures) s.stored
-    (steps.states_part c.args.shape.now c.args.counts.now c.args.bytes.now e s c.between-2.result.now
+    (steps.states_part c.args.shape.now c.args.counts.now c.args.bytes.now e s
+    c.between-2.result.now
     c.between-2.ensures.part)

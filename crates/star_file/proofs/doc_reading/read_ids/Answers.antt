@@ -11,7 +11,8 @@ returns-then-not-is_id-clause-bad c e xs ids is =
     let counts = c.args.counts.now in
     let i = c.loop-i.i in
     let there = steps.id_there counts xs c.args.bytes.now i 0 ids is c.loop-i-test.true in
-    clash (sym (c.is_id.ensures.1 (subst (IsId (get_or counts i 0)) (sym c.number-id.ensures) there))
+    clash (sym (c.is_id.ensures.1 (subst (IsId (get_or counts i 0)) (sym c.number-id.ensures)
+    there))
     ∙ c.if-not-is_id.true)
 
 pub loop-i-preserved : goal.loop-i-preserved
@@ -22,7 +23,8 @@ loop-i-preserved c =
     let id = c.number-id.result in
     record {
       ids = steps.ids_more counts c.loop-i.ids.items c.push.new.self.items i 0 id c.loop-i-test.true
-          c.loop-i.invariant.ids (c.is_id.ensures.0 c.if-not-is_id.false) c.in_ok-push.ensures.items;
+          c.loop-i.invariant.ids (c.is_id.ensures.0 c.if-not-is_id.false)
+          c.in_ok-push.ensures.items;
       bytes = steps.words_more bytes c.loop-i.ids.items c.push.new.self.items i id
           c.loop-i.invariant.bytes
           (steps.word_bytes (4 * i) id bytes (omega (arith, c.requires, c.loop-i-test.true))

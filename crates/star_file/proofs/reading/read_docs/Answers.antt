@@ -1,4 +1,5 @@
-use Rattle.std.proofs.Common.{◌≡◌, ◌<◌, ◌≤◌, ◌+◌, ◌-◌, ◌*◌, length, arith, le_refl, refl, subst, ap, ◌∙◌}
+use Rattle.std.proofs.Common.{◌≡◌, ◌<◌, ◌≤◌, ◌+◌, ◌-◌, ◌*◌, length, arith, le_refl, refl, subst, ap}
+use Rattle.std.proofs.Common.{◌∙◌}
 use Rattle.std.proofs.lemmas.Result.{IfOk-weaker}
 use Rattle.outside.specs.Reads.{LogsOn, LogsUpTo}
 use Rattle.outside.proofs.ReadLemmas.{logs-none, logs-up, on-err}
@@ -42,7 +43,8 @@ returns-clause-docs g c =
     c.args.to w c.width_of-width.result c.in-Ok.bytes c.as_slice.result.now c.as_str.ensures
     c.as_slice.ensures c.width_of-width.ensures.value c.in-Ok.ensures.part in
     IfOk-weaker c.docs_from.result _ _ (λ table h.
-    steps.docs_read place s c.args.counts.now c.args.from c.args.to c.as_slice.result.now some within
+    steps.docs_read place s c.args.counts.now c.args.from c.args.to c.as_slice.result.now some
+    within
     held part table.docs h) c.docs_from.ensures.docs
 
 pub returns-clause-log_of_fault : goal.returns-clause-log_of_fault

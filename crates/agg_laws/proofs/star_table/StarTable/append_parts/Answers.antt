@@ -1,4 +1,5 @@
-use Rattle.std.proofs.Common.{◌≡◌, ◌-◌, ◌≤◌, ◌++◌, ◌∷◌, [], length, take, drop, sym, ap, subst, ◌∙◌, arith}
+use Rattle.std.proofs.Common.{◌≡◌, ◌-◌, ◌≤◌, ◌++◌, ◌∷◌, [], length, take, drop, sym, ap, subst, ◌∙◌}
+use Rattle.std.proofs.Common.{arith}
 use Rattle.agg_laws.specs.Rows.{kinds_of}
 use Rattle.agg_laws.specs.Docs.{doc_of}
 use Rattle.agg_laws.specs.Columns.{kinds_in, row_pushed, AreColumns}
@@ -39,7 +40,8 @@ invariant_of-self c =
     c.put_all.ensures.items new
     (c.requires.dims ∙ sym (ap (λ v. v.dims) c.self.view_is))
     (c.requires.kinds ∙ sym (ap (λ v. v.kinds) c.self.view_is))
-    (omega (arith, c.requires.spare, ap (λ v. v.spare) c.self.view_is)) c.requires.stored c.put_all.ensures.capacity
+    (omega (arith, c.requires.spare, ap (λ v. v.spare) c.self.view_is)) c.requires.stored
+    c.put_all.ensures.capacity
 
 pub returns : goal.returns
 returns c =

@@ -1,4 +1,5 @@
-use Rattle.std.proofs.Common.{◌≡◌, ◌-◌, ◌++◌, ◌∷◌, [], length, take, drop, sym, ap, subst, ◌∙◌, arith}
+use Rattle.std.proofs.Common.{◌≡◌, ◌-◌, ◌++◌, ◌∷◌, [], length, take, drop, sym, ap, subst, ◌∙◌}
+use Rattle.std.proofs.Common.{arith}
 use Rattle.std.proofs.lemmas.List.{length-map}
 use Rattle.agg_laws.specs.Rows.{row_of}
 use Rattle.agg_laws.specs.laws.Rows.{row_weight_least}
@@ -44,7 +45,8 @@ invariant_of-self c =
     c.args.ids.now ys _ _ c.self.invariant c.put_all.ensures.items new
     (c.requires.dims ∙ sym (ap (λ v. v.dims) c.self.view_is))
     (steps.kinds_row t.kinds (xs ∷ []))
-    (omega (arith, c.requires.spare, ap (λ v. v.spare) c.self.view_is)) (steps.stored_row t.kinds xs long c.are_whole.ensures) c.put_all.ensures.capacity
+    (omega (arith, c.requires.spare, ap (λ v. v.spare) c.self.view_is)) (steps.stored_row t.kinds
+    xs long c.are_whole.ensures) c.put_all.ensures.capacity
 
 pub returns-clause-appended : goal.returns-clause-appended
 returns-clause-appended c =

@@ -1,4 +1,5 @@
-use Rattle.std.proofs.Common.{◌≡◌, ◌*◌, ◌-◌, ◌≤◌, length, drop, map, sym, ap, subst, ◌∙◌, arith, rules}
+use Rattle.std.proofs.Common.{◌≡◌, ◌*◌, ◌-◌, ◌≤◌, length, drop, map, sym, ap, subst, ◌∙◌, arith}
+use Rattle.std.proofs.Common.{rules}
 use Rattle.agg_laws.specs.Docs.{Docs}
 use Rattle.agg_laws.specs.Columns.{AreColumns}
 use Rattle.agg_laws.specs.Columns.{column_tail}

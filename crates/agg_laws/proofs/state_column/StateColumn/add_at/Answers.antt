@@ -7,7 +7,8 @@ use Rattle.agg_laws.specs.Columns.{Column, state_at}
 use Rattle.agg_laws.specs.contracts.state_column.StateColumn.{the_view}
 use Rattle.agg_laws.proofs.ColumnSteps as steps
 use Rattle.agg_laws.proofs.state_column.StateColumn.add_at.Goals as goal
-use Rattle.agg_laws.proofs.state_column.StateColumn.add_at.Goals.{in-Counts, in-Sums, in-Leasts, in-Greatests, in-Averages}
+use Rattle.agg_laws.proofs.state_column.StateColumn.add_at.Goals.{in-Counts, in-Sums, in-Leasts}
+use Rattle.agg_laws.proofs.state_column.StateColumn.add_at.Goals.{in-Greatests, in-Averages}
 
 pub returns : goal.returns
 returns c = elim c.match-self.branch [
@@ -31,7 +32,8 @@ returns c = elim c.match-self.branch [
       let at = steps.state_is states.Sum kinds.Sum xs n c.args.self.now is c.args.place old
       c.requires.place w.index_mut-in-Sums.ensures.value in
       ap the_view w.self-inside-is
-      ∙ steps.put_back states.Sum kinds.Sum xs n c.args.self.now is c.args.place w.add-in-Sums.new.state
+      ∙ steps.put_back states.Sum kinds.Sum xs n c.args.self.now is c.args.place
+      w.add-in-Sums.new.state
       (λ (d : Column). merged (state_at d c.args.place) (state_of d.kind (c.args.value ∷ [])))
       (ap (λ s. merged s (state_of kinds.Sum (c.args.value ∷ []))) at
       ∙ search rules)
@@ -43,7 +45,8 @@ returns c = elim c.match-self.branch [
       let at = steps.state_is states.Least kinds.Least xs n c.args.self.now is c.args.place old
       c.requires.place w.index_mut-in-Leasts.ensures.value in
       ap the_view w.self-inside-is
-      ∙ steps.put_back states.Least kinds.Least xs n c.args.self.now is c.args.place w.add-in-Leasts.new.state
+      ∙ steps.put_back states.Least kinds.Least xs n c.args.self.now is c.args.place
+      w.add-in-Leasts.new.state
       (λ (d : Column). merged (state_at d c.args.place) (state_of d.kind (c.args.value ∷ [])))
       (ap (λ s. merged s (state_of kinds.Least (c.args.value ∷ []))) at
       ∙ search rules)
@@ -52,10 +55,12 @@ returns c = elim c.match-self.branch [
       let n = c.self.inside.spare in
       let is = (λ j. column_in (sym w.in-Greatests.is j) n) ∙ c.self.view_is in
       let old = w.index_mut-in-Greatests.result.now in
-      let at = steps.state_is states.Greatest kinds.Greatest xs n c.args.self.now is c.args.place old
+      let at = steps.state_is states.Greatest kinds.Greatest xs n c.args.self.now is c.args.place
+      old
       c.requires.place w.index_mut-in-Greatests.ensures.value in
       ap the_view w.self-inside-is
-      ∙ steps.put_back states.Greatest kinds.Greatest xs n c.args.self.now is c.args.place w.add-in-Greatests.new.state
+      ∙ steps.put_back states.Greatest kinds.Greatest xs n c.args.self.now is c.args.place
+      w.add-in-Greatests.new.state
       (λ (d : Column). merged (state_at d c.args.place) (state_of d.kind (c.args.value ∷ [])))
       (ap (λ s. merged s (state_of kinds.Greatest (c.args.value ∷ []))) at
       ∙ search rules)
@@ -67,7 +72,8 @@ returns c = elim c.match-self.branch [
       let at = steps.state_is states.Average kinds.Average xs n c.args.self.now is c.args.place old
       c.requires.place w.index_mut-in-Averages.ensures.value in
       ap the_view w.self-inside-is
-      ∙ steps.put_back states.Average kinds.Average xs n c.args.self.now is c.args.place w.add-in-Averages.new.state
+      ∙ steps.put_back states.Average kinds.Average xs n c.args.self.now is c.args.place
+      w.add-in-Averages.new.state
       (λ (d : Column). merged (state_at d c.args.place) (state_of d.kind (c.args.value ∷ [])))
       (ap (λ s. merged s (state_of kinds.Average (c.args.value ∷ []))) at
       ∙ search rules)

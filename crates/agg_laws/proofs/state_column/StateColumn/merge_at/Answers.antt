@@ -7,7 +7,8 @@ use Rattle.agg_laws.specs.Columns.{Column, state_at}
 use Rattle.agg_laws.specs.contracts.state_column.StateColumn.{the_view}
 use Rattle.agg_laws.proofs.ColumnSteps as steps
 use Rattle.agg_laws.proofs.state_column.StateColumn.merge_at.Goals as goal
-use Rattle.agg_laws.proofs.state_column.StateColumn.merge_at.Goals.{in-Counts, in-Sums, in-Leasts, in-Greatests, in-Averages}
+use Rattle.agg_laws.proofs.state_column.StateColumn.merge_at.Goals.{in-Counts, in-Sums, in-Leasts}
+use Rattle.agg_laws.proofs.state_column.StateColumn.merge_at.Goals.{in-Greatests, in-Averages}
 
 pub returns : goal.returns
 returns c = elim c.match-self.branch [
@@ -32,7 +33,8 @@ returns c = elim c.match-self.branch [
       let from = steps.state_is states.Sum kinds.Sum xs n c.args.self.now is c.args.from
       w.index-in-Sums.result.now c.requires.from w.index-in-Sums.ensures in
       ap the_view w.self-inside-is
-      ∙ steps.put_back states.Sum kinds.Sum xs n c.args.self.now is c.args.into w.merge-in-Sums.new.into
+      ∙ steps.put_back states.Sum kinds.Sum xs n c.args.self.now is c.args.into
+      w.merge-in-Sums.new.into
       (λ (d : Column). merged (state_at d c.args.into) (state_at d c.args.from))
       ((λ j. merged (into j) (from j)) ∙ search rules)
   | in-Leasts w ↦
@@ -44,7 +46,8 @@ returns c = elim c.match-self.branch [
       let from = steps.state_is states.Least kinds.Least xs n c.args.self.now is c.args.from
       w.index-in-Leasts.result.now c.requires.from w.index-in-Leasts.ensures in
       ap the_view w.self-inside-is
-      ∙ steps.put_back states.Least kinds.Least xs n c.args.self.now is c.args.into w.merge-in-Leasts.new.into
+      ∙ steps.put_back states.Least kinds.Least xs n c.args.self.now is c.args.into
+      w.merge-in-Leasts.new.into
       (λ (d : Column). merged (state_at d c.args.into) (state_at d c.args.from))
       ((λ j. merged (into j) (from j)) ∙ search rules)
   | in-Greatests w ↦
@@ -56,7 +59,8 @@ returns c = elim c.match-self.branch [
       let from = steps.state_is states.Greatest kinds.Greatest xs n c.args.self.now is c.args.from
       w.index-in-Greatests.result.now c.requires.from w.index-in-Greatests.ensures in
       ap the_view w.self-inside-is
-      ∙ steps.put_back states.Greatest kinds.Greatest xs n c.args.self.now is c.args.into w.merge-in-Greatests.new.into
+      ∙ steps.put_back states.Greatest kinds.Greatest xs n c.args.self.now is c.args.into
+      w.merge-in-Greatests.new.into
       (λ (d : Column). merged (state_at d c.args.into) (state_at d c.args.from))
       ((λ j. merged (into j) (from j)) ∙ search rules)
   | in-Averages w ↦
@@ -68,7 +72,8 @@ returns c = elim c.match-self.branch [
       let from = steps.state_is states.Average kinds.Average xs n c.args.self.now is c.args.from
       w.index-in-Averages.result.now c.requires.from w.index-in-Averages.ensures in
       ap the_view w.self-inside-is
-      ∙ steps.put_back states.Average kinds.Average xs n c.args.self.now is c.args.into w.merge-in-Averages.new.into
+      ∙ steps.put_back states.Average kinds.Average xs n c.args.self.now is c.args.into
+      w.merge-in-Averages.new.into
       (λ (d : Column). merged (state_at d c.args.into) (state_at d c.args.from))
       ((λ j. merged (into j) (from j)) ∙ search rules)
 ]

@@ -4,7 +4,11 @@ use Rattle.agg_laws.specs.declared.states.AggState.TheVariants as states
 use Rattle.agg_laws.specs.Cells.{column_in}
 use Rattle.agg_laws.proofs.ColumnSteps as steps
 use Rattle.agg_laws.proofs.state_column.StateColumn.tail.Goals as goal
-use Rattle.agg_laws.proofs.state_column.StateColumn.tail.Goals.{in-Counts+in_ok-from_slice-in-Counts, in-Sums+in_ok-from_slice-in-Sums, in-Leasts+in_ok-from_slice-in-Leasts, in-Greatests+in_ok-from_slice-in-Greatests, in-Averages+in_ok-from_slice-in-Averages}
+use Rattle.agg_laws.proofs.state_column.StateColumn.tail.Goals.{in-Counts+in_ok-from_slice-in-Counts}
+use Rattle.agg_laws.proofs.state_column.StateColumn.tail.Goals.{in-Sums+in_ok-from_slice-in-Sums}
+use Rattle.agg_laws.proofs.state_column.StateColumn.tail.Goals.{in-Leasts+in_ok-from_slice-in-Leasts}
+use Rattle.agg_laws.proofs.state_column.StateColumn.tail.Goals.{in-Greatests+in_ok-from_slice-in-Greatests}
+use Rattle.agg_laws.proofs.state_column.StateColumn.tail.Goals.{in-Averages+in_ok-from_slice-in-Averages}
 
 pub returns : goal.returns
 returns c = elim c.match-self.branch [
