@@ -2,6 +2,7 @@
 #![tactic(auto)]
 
 mod block;
+mod fold;
 mod holds;
 mod selection;
 
