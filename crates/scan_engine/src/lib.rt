@@ -3,7 +3,10 @@
 
 mod block;
 mod fold;
+mod gather;
 mod holds;
+mod places;
+mod run;
 mod selection;
 
 pub use block::add_block;

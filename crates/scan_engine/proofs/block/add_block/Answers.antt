@@ -11,8 +11,8 @@ use Rattle.scan_engine.proofs.AddLemmas.{at_most_more}
 use Rattle.scan_engine.proofs.RunLemmas.{adds_as_more}
 use Rattle.scan_engine.proofs.block.add_block.Goals as goal
 
-pub add_whole-requires-clause-fits : goal.add_whole-requires-clause-fits
-add_whole-requires-clause-fits c =
+pub add_places-requires-clause-fits : goal.add_places-requires-clause-fits
+add_places-requires-clause-fits c =
     let count : ℕ = c.args.block.now.count in
     let few : length c.as_slice.result.now ≤ count = subst (λ (l : List ℕ). length l ≤ count) (sym c.as_slice.ensures.value) c.in_ok-places.ensures.count in
     at_most_more (groups_in c.args.table.now) (most_values - count) (most_values - length c.as_slice.result.now) (omega (arith, few)) c.requires.fits
@@ -23,5 +23,5 @@ returns-clause-ok c =
     let b : ListedColumns = c.args.block.now in
     let few : length c.as_slice.result.now ≤ b.count = subst (λ (l : List ℕ). length l ≤ b.count) (sym c.as_slice.ensures.value) c.in_ok-places.ensures.count in
     let rows : rows_at b.columns c.as_slice.result.now ≡ selected q (rows_of b) = ap (rows_at b.columns) c.as_slice.ensures.value ∙ c.in_ok-places.ensures.rows in
-    IfOk-weaker c.add_whole.result _ _ (λ u a. subst (λ (l : List (List Value)). AddsRows q b.count l c.args.table.now c.add_whole.new.table) rows
-    (adds_as_more q (length c.as_slice.result.now) b.count (rows_at b.columns c.as_slice.result.now) c.args.table.now c.add_whole.new.table few a)) c.add_whole.ensures.ok
+    IfOk-weaker c.add_places.result _ _ (λ u a. subst (λ (l : List (List Value)). AddsRows q b.count l c.args.table.now c.add_places.new.table) rows
+    (adds_as_more q (length c.as_slice.result.now) b.count (rows_at b.columns c.as_slice.result.now) c.args.table.now c.add_places.new.table few a)) c.add_places.ensures.ok

@@ -8,7 +8,7 @@ use Rattle.scan_engine.specs.Places.{rows_at}
 use Rattle.scan_engine.specs.Scanned.{marked, selected}
 use Rattle.scan_engine.proofs.AddLemmas.{mark_is, selected_more}
 use Rattle.scan_engine.proofs.FoldLemmas.{count_marked, rows_marked}
-use Rattle.scan_engine.proofs.block.selected_places.Goals as goal
+use Rattle.scan_engine.proofs.places.selected_places.Goals as goal
 
 pub loop-at-preserved : goal.loop-at-preserved
 loop-at-preserved c =

@@ -8,7 +8,7 @@ use Rattle.agg_laws.specs.Rows.{kinds_of}
 use Rattle.scan_engine.specs.Places.{rows_at}
 use Rattle.scan_engine.proofs.AddLemmas.{merged_within}
 use Rattle.scan_engine.proofs.RunLemmas.{adds_run, kinds_states, no_room_for_run, states_have}
-use Rattle.scan_engine.proofs.block.add_run.Goals as goal
+use Rattle.scan_engine.proofs.run.add_run.Goals as goal
 
 pub merge_row-requires-clause-kinds : goal.merge_row-requires-clause-kinds
 merge_row-requires-clause-kinds c =
