@@ -1,5 +1,5 @@
 -- The groups of rows, one more row at a time.
-use Rattle.std.proofs.Common.{◌≡◌, ◌∙◌, ℕ, zero, suc, ◌+◌, ◌<◌, ◌≤◌, Bool, true, false, cond, List, [], ◌∷◌, ◌++◌, map, length, take, drop, get_or, slice_get, Option, Some, None, IfSome, refl, sym, ap, subst, arith, append_assoc, append-nil, is_some}
+use Rattle.std.proofs.Common.{◌≡◌, ◌∙◌, ℕ, zero, suc, ◌+◌, ◌-◌, ◌<◌, ◌≤◌, Bool, true, false, cond, List, [], ◌∷◌, ◌++◌, map, length, take, drop, get_or, slice_get, Option, Some, None, IfSome, refl, sym, ap, subst, arith, append_assoc, append-nil, is_some}
 use Rattle.std.proofs.lemmas.Int.{ints}
 use Rattle.std.specs.Prelude.{ℤ}
 use Rattle.std.specs.Option.{option_map_or}
@@ -13,7 +13,7 @@ use Rattle.values.proofs.RowLemmas.{rows-more}
 use Rattle.scan_engine.specs.Selection.{Marks}
 use Rattle.agg_laws.specs.declared.aggregate_kind.AggKind.{AggKind}
 use Rattle.agg_laws.specs.declared.states.AggState.{AggState}
-use Rattle.agg_laws.specs.Numbers.{IsWhole, AreWhole}
+use Rattle.agg_laws.specs.Numbers.{IsWhole, AreWhole, most_values}
 use Rattle.agg_laws.specs.Rows.{row_of, merged_rows, RowFits, head_of, tail_of}
 use Rattle.agg_laws.specs.laws.Rows as rows
 use Rattle.agg_laws.specs.laws.States as states
@@ -37,7 +37,7 @@ with_fits groups key s n m h f = by (finite.get groups key) (h key)
     by None k = rows.fits_more s m (n + m) f (omega arith)
     by (Some own) k = rows.fits_both own s n m k f
 
-merged_fits : (groups : Groups) (key : List Value) (s : List AggState) (n m : ℕ) → HaveAtMost n groups → RowFits s m → HaveAtMost (n + m) (merged_in groups key s)
+pub merged_fits : (groups : Groups) (key : List Value) (s : List AggState) (n m : ℕ) → HaveAtMost n groups → RowFits s m → HaveAtMost (n + m) (merged_in groups key s)
 merged_fits groups key s n m h f q = subst (λ (o : Option (List AggState)). IfSome o (λ states. RowFits states (n + m)))
     (sym (finite.get-insert key_total groups key (with_states groups key s) q)) (by (eq_by_cmp key_order q key) (finite.get groups q) (h q))
   where
@@ -46,6 +46,11 @@ merged_fits groups key s n m h f q = subst (λ (o : Option (List AggState)). IfS
     by true o k = with_fits groups key s n m h f
     by false None k = tt
     by false (Some own) k = rows.fits_more own n (n + m) k (omega arith)
+
+-- states of so many values may be merged where there is room for them
+pub merged_within : (groups : Groups) (key : List Value) (s : List AggState) (n : ℕ) → n ≤ most_values → HaveAtMost (most_values - n) groups → RowFits s n → RowFits (with_states groups key s) most_values
+merged_within groups key s n le h f = let all : (most_values - n) + n ≡ most_values = omega (arith, le) in
+    subst (RowFits (with_states groups key s)) all (with_fits groups key s (most_values - n) n h f)
 
 pub at_most_more : (groups : Groups) (n m : ℕ) → n ≤ m → HaveAtMost n groups → HaveAtMost m groups
 at_most_more groups n m le h q = by (finite.get groups q) (h q)
@@ -123,7 +128,7 @@ adds_nothing query count t table = record {
   fits = λ n h. at_most_more (groups_in t) n (n + count) (omega arith) h;
 }
 
-new_one : (b : Bool) (n most : ℕ) → b ≡ false → n ≡ most → most < cond b n (n + 1)
+pub new_one : (b : Bool) (n most : ℕ) → b ≡ false → n ≡ most → most < cond b n (n + 1)
 new_one true n most e h = cc
 new_one false n most e h = omega arith
 

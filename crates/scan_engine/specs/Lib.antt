@@ -1,3 +1,4 @@
 pub mod Numbers
 pub mod Selection
 pub mod Scanned
+pub mod Places

@@ -1,21 +1,19 @@
 //! The rows of a block, added to the groups of a query.
 
-ghost use Rattle.std.specs.Prelude.{◌≡◌, ◌<◌, ◌≤◌, ◌-◌, ◌+◌, [], ◌∷◌, Err, IfOk, OnOk, length, map};
-ghost use Rattle.agg_laws.specs.Numbers.{AreWhole, IsWhole, most_values};
-ghost use Rattle.values.specs.Columns.{row_of, rows_of};
+ghost use Rattle.std.specs.Prelude.{◌≡◌, ◌≤◌, ◌-◌, Err, OnOk};
+ghost use Rattle.agg_laws.specs.Numbers.{most_values};
+ghost use Rattle.values.specs.Columns.{rows_of};
 ghost use Rattle.group_table.specs.declared.fault.TableFault.TheVariants.{TooManyGroups};
-ghost use Rattle.group_table.specs.Groups as groups;
 ghost use Rattle.group_table.specs.Kept.{IsTableOf, groups_in};
 ghost use Rattle.scan_engine.specs.Numbers.{AreNumbers};
-ghost use Rattle.scan_engine.specs.Scanned.{AddsRows, HaveAtMost, IsOverfull, marked, selected};
-ghost use Rattle.scan_engine.specs.Selection.{Marks};
+ghost use Rattle.scan_engine.specs.Scanned.{AddsRows, HaveAtMost, IsOverfull, selected};
 
-use crate::holds::number_in;
-use crate::selection::mark_rows;
+use crate::places::selected_places;
+use crate::run::add_places;
 use group_table::{GroupTable, TableFault};
 use std::alloc::Global;
-use table_schema::{Agg, BoundQuery};
-use values::{Columns, NoMemory, Row, Seq, Value};
+use table_schema::BoundQuery;
+use values::Columns;
 
 /// Adds the rows of a block of whole numbers that satisfy the filter of a query to its groups.
 pub fn add_block(
@@ -33,83 +31,6 @@ pub fn add_block(
     ensures full { result ≡ Err TooManyGroups
         → IsOverfull query.now (selected query.now (rows_of block.now)) table.old }
 {
-    let marks = mark_rows(alloc, block, query.conjuncts.as_slice())?;
-    let mut values = Vec::with_capacity(alloc, query.aggs.len())?;
-    for at in 0..block.len() {
-        let mark = marks[at];
-        if let Err(fault) = add_marked(alloc, query, block, at, mark, &mut values, table) {
-            return Err(fault);
-        }
-    }
-    Ok(())
-}
-
-// Adds a row where it is marked.
-fn add_marked(
-    alloc: Global,
-    query: &BoundQuery,
-    block: &Columns,
-    at: usize,
-    mark: bool,
-    values: &mut Vec<i64>,
-    table: &mut GroupTable,
-) -> Result<(), TableFault>
-    requires numbers { AreNumbers block.now }
-    requires table { IsTableOf query.now table.old }
-    requires fits { HaveAtMost (most_values - 1) (groups_in table.old) }
-    ensures ok { OnOk result (AddsRows query.now 1
-        (marked mark (row_of block.now.columns at)) table.old table.new) }
-    ensures full { result ≡ Err TooManyGroups
-        → IsOverfull query.now (marked mark (row_of block.now.columns at)) table.old }
-{
-    if !mark {
-        return Ok(());
-    }
-    let key = key_at(alloc, block, at, query.groups.as_slice())?;
-    fill_values(block, at, query.aggs.as_slice(), values)?;
-    table.add_row(alloc, &key, values)
-}
-
-// The key of a row: its numbers in the group columns.
-fn key_at(alloc: Global, block: &Columns, at: usize, columns: &[u16]) -> Result<Row, NoMemory>
-    requires { AreNumbers block.now }
-    ensures { IfOk result (λ key. key
-        ≡ groups.key_of columns.now (row_of block.now.columns at)) }
-{
-    let mut key = Seq::with_capacity(alloc, columns.len())?;
-    for column in columns {
-        key.push(Value::Whole(number_in(block, at, *column)))?;
-    }
-    Ok(key)
-}
-
-// The numbers of a row for the aggregates.
-fn fill_values(
-    block: &Columns,
-    at: usize,
-    aggs: &[Agg],
-    values: &mut Vec<i64>,
-) -> Result<(), NoMemory>
-    requires { AreNumbers block.now }
-    ensures values { OnOk result (values.new.items
-        ≡ map (λ agg. groups.number_for agg (row_of block.now.columns at)) aggs.now) }
-    ensures whole { OnOk result (AreWhole values.new.items) }
-{
-    values.clear();
-    for agg in aggs {
-        values.push(number_for(block, at, agg))?;
-    }
-    Ok(())
-}
-
-// The number of a row for an aggregate; rows are counted by any.
-fn number_for(block: &Columns, at: usize, agg: &Agg) -> i64
-    requires { AreNumbers block.now }
-    ensures value { result ≡ groups.number_for agg.now (row_of block.now.columns at) }
-    ensures whole { IsWhole result }
-{
-    match agg.column {
-        Some(column) => number_in(block, at, column),
-        None => 0,
-    }
+    let places = selected_places(alloc, query, block)?;
+    add_places(alloc, query, block, places.as_slice(), table)
 }

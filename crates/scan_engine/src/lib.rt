@@ -2,7 +2,11 @@
 #![tactic(auto)]
 
 mod block;
+mod fold;
+mod gather;
 mod holds;
+mod places;
+mod run;
 mod selection;
 
 pub use block::add_block;

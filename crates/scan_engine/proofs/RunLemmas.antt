@@ -1,0 +1,265 @@
+-- Rows of one key, which are added to the group of that key at once.
+use Rattle.std.proofs.Common.{◌≡◌, ◌∙◌, ℕ, ◌+◌, ◌<◌, ◌≤◌, Bool, true, false, cond, ◌||◌, List, [], ◌∷◌, ◌++◌, map, length, suc, zero, Option, Some, None, Result, Ok, Err, IsPermutation, append-nil, take, drop, refl, sym, ap, subst, arith, is_some}
+use Rattle.std.specs.Prelude.{ℤ}
+use Rattle.std.proofs.lemmas.List.Elements.{All-cons, All-head, All-map, All-nil, All-tail, All-weaker}
+use Rattle.std.proofs.lemmas.Map.Views.{tells_apart}
+use Rattle.std.specs.List.{All, filter, list_any}
+use Rattle.std.specs.Option.{option_map_or}
+use Rattle.std.specs.Ordering.{eq_by_cmp}
+use Rattle.std.specs.FinMap as finite
+use Rattle.values.specs.declared.value.Value.{Value}
+use Rattle.values.specs.Columns.{Listed, row_of}
+use Rattle.table_schema.specs.Conditions.{cell}
+use Rattle.std.proofs.lemmas.List.{length-map, map-append, take-append-drop}
+use Rattle.std.proofs.lemmas.List.Sorted.{IsPermutation-append_right}
+use Rattle.group_table.specs.declared.fault.TableFault.{TableFault}
+use Rattle.group_table.specs.declared.fault.TableFault.TheVariants.{NoMemory}
+use Rattle.agg_laws.specs.declared.aggregate_kind.AggKind.{AggKind}
+use Rattle.agg_laws.specs.declared.aggregate_kind.AggKind.TheVariants as kinds
+use Rattle.agg_laws.specs.declared.states.AggState.{AggState}
+use Rattle.agg_laws.specs.Merged.{IsJoin, join_some}
+use Rattle.agg_laws.specs.Numbers.{greater, greatest_of, least_of, lesser}
+use Rattle.agg_laws.specs.Order.{HasValues}
+use Rattle.agg_laws.specs.Rows.{kinds_of, merged_rows, RowFits}
+use Rattle.agg_laws.specs.States.{kind_of, state_of}
+use Rattle.agg_laws.specs.declared.states.AggState.TheVariants.{Least, Greatest}
+use Rattle.agg_laws.specs.laws.Rows as rows
+use Rattle.agg_laws.proofs.MergedLemmas.{join_none}
+use Rattle.table_schema.specs.declared.query.Agg.{Agg}
+use Rattle.table_schema.specs.declared.query.BoundQuery.{BoundQuery}
+use Rattle.group_table.specs.Groups.{Groups, groups_of, has_key, is_key, key_of, key_order, merged_in, number_for, states_of, with_states}
+use Rattle.group_table.specs.Kept.{HaveValues, IsNewKey, IsTableOf, KeptGroups, Merges, groups_in}
+use Rattle.group_table.specs.Shape.{Shape, shape_of}
+use Rattle.group_table.proofs.KeptLemmas.{key_same, key_total}
+use Rattle.group_table.proofs.GroupsLemmas.{found, of_both, one, same_permuted}
+use Rattle.scan_engine.specs.Places.{IsRun, rows_at}
+use Rattle.scan_engine.specs.Scanned.{AddsRows, HaveAtMost, IsOverfull}
+use Rattle.scan_engine.proofs.AddLemmas.{adds_nothing, at_most_more, merged_fits, new_one, overfull_later}
+
+-- ---- what the states of rows are
+
+kind_state : (k : AggKind) (xs : List ℤ) → kind_of (state_of k xs) ≡ k
+kind_state kinds.Count xs = refl
+kind_state kinds.Sum xs = refl
+kind_state kinds.Least xs = refl
+kind_state kinds.Greatest xs = refl
+kind_state kinds.Average xs = refl
+
+pub kinds_states : (aggs : List Agg) (rows : List (List Value)) → kinds_of (states_of aggs rows) ≡ map (λ agg. agg.kind) aggs
+kinds_states [] rows = refl
+kinds_states (agg ∷ aggs) rows = λ i. kind_state agg.kind (map (number_for agg) rows) i ∷ kinds_states aggs rows i
+
+least_has : (x : ℤ) (o : Option ℤ) → HasValues (Least (lesser (Some x) o))
+least_has x None = tt
+least_has x (Some y) = tt
+
+greatest_has : (x : ℤ) (o : Option ℤ) → HasValues (Greatest (greater (Some x) o))
+greatest_has x None = tt
+greatest_has x (Some y) = tt
+
+state_has : (k : AggKind) (x : ℤ) (xs : List ℤ) → HasValues (state_of k (x ∷ xs))
+state_has kinds.Count x xs = omega arith
+state_has kinds.Sum x xs = tt
+state_has kinds.Least x xs = least_has x (least_of xs)
+state_has kinds.Greatest x xs = greatest_has x (greatest_of xs)
+state_has kinds.Average x xs = omega arith
+
+some_have : (aggs : List Agg) (row : List Value) (rest : List (List Value)) → HaveValues (states_of aggs (row ∷ rest))
+some_have [] row rest = tt
+some_have (agg ∷ aggs) row rest = (state_has agg.kind (number_for agg row) (map (number_for agg) rest), some_have aggs row rest)
+
+pub states_have : (aggs : List Agg) (rows : List (List Value)) → 0 < length rows → HaveValues (states_of aggs rows)
+states_have aggs [] lt = absurd (omega (arith, lt))
+states_have aggs (row ∷ rest) lt = some_have aggs row rest
+
+-- ---- the group of a run
+
+either_same : {X : Type 0} (b : Bool) (x : X) → x ≡ cond b x x
+either_same true x = refl
+either_same false x = refl
+
+more_or_none : {X : Type 0} (b : Bool) (x : X) (xs : List X) → cond b (x ∷ cond b xs []) (cond b xs []) ≡ cond b (x ∷ xs) []
+more_or_none true x xs = refl
+more_or_none false x xs = refl
+
+or_false : (b : Bool) → b || false ≡ b
+or_false true = refl
+or_false false = refl
+
+or_self : (b : Bool) → b || b ≡ b
+or_self true = refl
+or_self false = refl
+
+-- the row has this key
+abbrev OfKey : List ℕ → List Value → List Value → Type 0
+OfKey groups key row = key_of groups row ≡ key
+
+-- all rows of the run have a key, or none has
+run_filter : (groups : List ℕ) (key q : List Value) (run : List (List Value)) → All (OfKey groups key) run
+    → filter (has_key groups q) run ≡ cond (eq_by_cmp key_order q key) run []
+run_filter groups key q [] all = either_same (eq_by_cmp key_order q key) []
+run_filter groups key q (row ∷ rest) all =
+    let here : key_of groups row ≡ key = All-head (OfKey groups key) row rest all in
+    let more = run_filter groups key q rest (All-tail (OfKey groups key) row rest all) in
+    (λ i. cond (eq_by_cmp key_order q (here i)) (row ∷ more i) (more i))
+    ∙ more_or_none (eq_by_cmp key_order q key) row rest
+
+run_any : (groups : List ℕ) (key q : List Value) (row : List Value) (rest : List (List Value)) → All (OfKey groups key) (row ∷ rest)
+    → list_any (has_key groups q) (row ∷ rest) ≡ eq_by_cmp key_order q key
+run_any groups key q row [] all =
+    let here : key_of groups row ≡ key = All-head (OfKey groups key) row [] all in
+    ap (λ k. eq_by_cmp key_order q k || false) here ∙ or_false (eq_by_cmp key_order q key)
+run_any groups key q row (next ∷ rest) all =
+    let here : key_of groups row ≡ key = All-head (OfKey groups key) row (next ∷ rest) all in
+    let more = run_any groups key q next rest (All-tail (OfKey groups key) row (next ∷ rest) all) in
+    (λ i. eq_by_cmp key_order q (here i) || more i) ∙ or_self (eq_by_cmp key_order q key)
+
+none_left : (key : List Value) → length key ≡ 0 → key ≡ []
+none_left [] h = refl
+none_left (v ∷ vs) h = absurd (omega (arith, h))
+
+run_key : (groups : List ℕ) (key q : List Value) (rows : List (List Value)) → IsRun groups key rows → is_key groups rows q ≡ eq_by_cmp key_order q key
+run_key [] key q rows r = ap (eq_by_cmp key_order q) (sym (none_left key r.width))
+run_key (column ∷ columns) key q [] r = absurd (omega (arith, r.some (omega arith)))
+run_key (column ∷ columns) key q (row ∷ rest) r = run_any (column ∷ columns) key q row rest r.each
+
+run_each : (shape : Shape) (key : List Value) (run : List (List Value)) (old : Groups) (q : List Value) → IsRun shape.groups key run
+    → finite.get (merged_in old key (states_of shape.aggs run)) q ≡ join_some merged_rows (finite.get old q) (finite.get (groups_of shape run) q)
+run_each shape key run old q r =
+    finite.get-insert key_total old key (with_states old key (states_of shape.aggs run)) q
+    ∙ by (eq_by_cmp key_order q key) refl
+    ∙ ap (join_some merged_rows (finite.get old q)) (sym (found shape run q
+    ∙ (λ i. cond (run_key shape.groups key q run r i) (Some (states_of shape.aggs (run_filter shape.groups key q run r.each i))) None)))
+  where
+    is_join : IsJoin merged_rows
+    is_join = record { assoc = rows.any_grouping; comm = rows.any_order }
+
+    with_own : (o : Option (List AggState)) (s : List AggState) → Some (option_map_or (λ own. merged_rows own s) o s) ≡ join_some merged_rows o (Some s)
+    with_own None s = refl
+    with_own (Some own) s = refl
+
+    by : (b : Bool) → eq_by_cmp key_order q key ≡ b
+        → cond b (Some (with_states old key (states_of shape.aggs run))) (finite.get old q)
+        ≡ join_some merged_rows (finite.get old q) (cond b (Some (states_of shape.aggs (cond b run []))) None)
+    by true t = with_own (finite.get old key) (states_of shape.aggs run)
+        ∙ ap (λ k. join_some merged_rows (finite.get old k) (Some (states_of shape.aggs run))) (sym (tells_apart key_same q key t))
+    by false t = sym (join_none merged_rows is_join (finite.get old q))
+
+pub run_added : (shape : Shape) (done : List (List Value)) (key : List Value) (run : List (List Value)) → IsRun shape.groups key run
+    → merged_in (groups_of shape done) key (states_of shape.aggs run) ≡ groups_of shape (done ++ run)
+run_added shape done key run r = one shape run (groups_of shape done) _ _
+    (record { each = λ q. run_each shape key run (groups_of shape done) q r }) (of_both shape done run)
+
+-- ---- a run that is added, and one that there is no room for
+
+pub adds_run : (query : BoundQuery) (count : ℕ) (run : List (List Value)) (key : List Value) (states : List AggState) (old new : KeptGroups) → IsTableOf query old
+    → IsRun query.groups key run → states ≡ states_of query.aggs run → RowFits states count
+    → Merges key states old new → AddsRows query count run old new
+adds_run query count run key states old new table r are fits m = record {
+  of_query = record { columns = m.columns ∙ table.columns; kinds = m.kinds ∙ table.kinds };
+  most = m.most;
+  groups = λ done so. m.groups ∙ (λ i. merged_in (so i) key (are i)) ∙ run_added (shape_of query) done key run r;
+  fits = λ n h. subst (HaveAtMost (n + count)) (sym m.groups) (merged_fits (groups_in old) key states n count h fits);
+}
+
+pub no_room_for_run : (query : BoundQuery) (run : List (List Value)) (key : List Value) (t : KeptGroups) → IsRun query.groups key run
+    → IsNewKey t key → finite.len (groups_in t) ≡ t.most → IsOverfull query run t
+no_room_for_run query run key t r new full done so =
+    let g = groups_of (shape_of query) done in
+    let states = states_of query.aggs run in
+    let none : finite.get g key ≡ None = ap (λ (g : Groups). finite.get g key) (sym so) ∙ new in
+    subst (λ (g : Groups). t.most < finite.len g) (run_added (shape_of query) done key run r)
+    (subst (λ n. t.most < n) (sym (finite.len-insert key_total g key (with_states g key states)))
+    (new_one (finite.contains_key g key) (finite.len g) t.most (ap is_some none) (ap finite.len (sym so) ∙ full)))
+
+-- ---- the run of all rows where there are no group columns
+
+all_whole : (rows : List (List Value)) → All (OfKey [] []) rows
+all_whole [] = All-nil (OfKey [] [])
+all_whole (row ∷ rows) = All-cons (OfKey [] []) row rows refl (all_whole rows)
+
+pub whole_run : (groups : List ℕ) (key : List Value) (rows : List (List Value)) → groups ≡ [] → key ≡ [] → IsRun groups key rows
+whole_run groups key rows none empty = subst (λ (groups : List ℕ). IsRun groups key rows) (sym none) (subst (λ (key : List Value). IsRun [] key rows) (sym empty)
+    (record { width = refl; each = all_whole rows; some = λ lt. absurd (omega (arith, lt)) }))
+
+-- the rows may be counted as more
+pub adds_as_more : (query : BoundQuery) (n m : ℕ) (rows : List (List Value)) (old new : KeptGroups) → n ≤ m → AddsRows query n rows old new → AddsRows query m rows old new
+adds_as_more query n m rows old new le a = record {
+  of_query = a.of_query;
+  most = a.most;
+  groups = a.groups;
+  fits = λ k h. at_most_more (groups_in new) (k + n) (k + m) (omega (arith, le)) (a.fits k h);
+}
+
+-- rows in places that all have the key of one of them
+pub run_of : (groups : List ℕ) (columns : List Listed) (key : List Value) (first : ℕ) (places : List ℕ) → 0 < length places
+    → key ≡ key_of groups (row_of columns first) → All (λ at. key_of groups (row_of columns at) ≡ key_of groups (row_of columns first)) places
+    → IsRun groups key (rows_at columns places)
+run_of groups columns key first places lt is all = record {
+  width = ap length is ∙ length-map groups (cell (row_of columns first));
+  each = All-map (OfKey groups key) (row_of columns) places
+      (All-weaker (λ at. key_of groups (row_of columns at) ≡ key_of groups (row_of columns first)) (λ at. OfKey groups key (row_of columns at)) (λ at same. same ∙ sym is) places all);
+  some = λ any. subst (λ n. 0 < n) (sym (length-map places (row_of columns))) lt;
+}
+
+-- ---- runs one after the other
+
+pub rows_apart : (columns : List Listed) (n : ℕ) (places : List ℕ) → rows_at columns (take n places) ++ rows_at columns (drop n places) ≡ rows_at columns places
+rows_apart columns n places = sym (map-append (row_of columns) (take n places) (drop n places)) ∙ ap (rows_at columns) (take-append-drop n places)
+
+abbrev no_places : List ℕ
+no_places = []
+
+nothing_left : (n : ℕ) → [] ≡ take n no_places
+nothing_left zero = refl
+nothing_left (suc n) = refl
+
+take_both : (n m : ℕ) (places : List ℕ) → take n places ++ take m (drop n places) ≡ take (n + m) places
+take_both zero m places = let same : m ≡ 0 + m = omega arith in ap (λ k. take k places) same
+take_both (suc n) m [] = sym (nothing_left m) ∙ nothing_left (suc n + m)
+take_both (suc n) m (at ∷ places) =
+    let same : suc (n + m) ≡ suc n + m = omega arith in
+    ap (λ l. at ∷ l) (take_both n m places) ∙ ap (λ k. take k (at ∷ places)) same
+
+pub rows_both : (columns : List Listed) (n m : ℕ) (places : List ℕ) → rows_at columns (take n places) ++ rows_at columns (take m (drop n places)) ≡ rows_at columns (take (n + m) places)
+rows_both columns n m places = sym (map-append (row_of columns) (take n places) (take m (drop n places))) ∙ ap (rows_at columns) (take_both n m places)
+
+-- too many groups with the first rows already
+pub overfull_first : (query : BoundQuery) (columns : List Listed) (n : ℕ) (places : List ℕ) (t : KeptGroups) → IsTableOf query t
+    → IsOverfull query (rows_at columns (take n places)) t → IsOverfull query (rows_at columns places) t
+overfull_first query columns n places t table over = subst (λ (l : List (List Value)). IsOverfull query l t) (rows_apart columns n places)
+    (overfull_later query 0 [] (rows_at columns (take n places)) (rows_at columns (drop n places)) t t (adds_nothing query 0 t table) over)
+
+-- too many groups with the rows that are left
+pub overfull_rest : (query : BoundQuery) (columns : List Listed) (n : ℕ) (places : List ℕ) (old mid : KeptGroups) → AddsRows query n (rows_at columns (take n places)) old mid
+    → IsOverfull query (rows_at columns (drop n places)) mid → IsOverfull query (rows_at columns places) old
+overfull_rest query columns n places old mid a over =
+    let front = rows_at columns (take n places) in
+    let rest = rows_at columns (drop n places) in
+    let same : front ++ (rest ++ []) ≡ rows_at columns places = ap (λ (l : List (List Value)). front ++ l) (append-nil rest) ∙ rows_apart columns n places in
+    subst (λ (l : List (List Value)). IsOverfull query l old) same (overfull_later query n front rest [] old mid a over)
+
+-- ---- rows in another order
+
+groups_permuted : (shape : Shape) (done xs ys : List (List Value)) → IsPermutation xs ys → groups_of shape (done ++ ys) ≡ groups_of shape (done ++ xs)
+groups_permuted shape done xs ys h = same_permuted shape (done ++ xs) (done ++ ys) (IsPermutation-append_right done xs ys h)
+
+pub adds_permuted : (query : BoundQuery) (n : ℕ) (xs ys : List (List Value)) (old new : KeptGroups) → IsPermutation xs ys → AddsRows query n ys old new → AddsRows query n xs old new
+adds_permuted query n xs ys old new h a = record {
+  of_query = a.of_query;
+  most = a.most;
+  groups = λ done so. a.groups done so ∙ groups_permuted (shape_of query) done xs ys h;
+  fits = a.fits;
+}
+
+pub overfull_permuted : (query : BoundQuery) (xs ys : List (List Value)) (t : KeptGroups) → IsPermutation xs ys → IsOverfull query ys t → IsOverfull query xs t
+overfull_permuted query xs ys t h over done so = subst (λ (g : Groups). t.most < finite.len g) (groups_permuted (shape_of query) done xs ys h) (over done so)
+
+fault_of : {X : Type 0} → Result X TableFault → TableFault
+fault_of (Ok x) = NoMemory
+fault_of (Err fault) = fault
+
+-- the fault of a refusal goes by itself, whatever was asked for
+pub same_fault : {X Y : Type 0} (fault other : TableFault) → ◌≡◌ {A = Result X TableFault} (Err fault) (Err other) → ◌≡◌ {A = Result Y TableFault} (Err fault) (Err other)
+unfolding fault_of
+same_fault fault other is = ap Err (ap fault_of is)
