@@ -193,7 +193,12 @@ fn make<D: Depot>(alloc: Global, new: &NewTable, depot: &mut D) -> Result<Bytes,
         Err(StoreFault::ReadFault) => Err(Stop::Fault(Fault::Read)),
         Err(StoreFault::WriteFault) => Err(Stop::Fault(Fault::Write)),
         Err(StoreFault::NoMemory) => Err(Stop::Fault(Fault::Memory)),
-        Err(StoreFault::NoTable | StoreFault::NotASegment(_)) => unreachable!(),
+        Err(
+            StoreFault::NoTable
+            | StoreFault::NameTaken
+            | StoreFault::TooManySegments
+            | StoreFault::NotASegment(_),
+        ) => unreachable!(),
     }
 }
 

@@ -9,5 +9,5 @@ mod Openings
 mod Steps
 mod ImageRows
 mod ImageSizes
-mod ImageKeeps
-mod ImageTells
+pub mod ImageKeeps
+pub mod ImageTells

@@ -12,6 +12,10 @@ pub record IsSegmentName (name : List ℕ) : Type 0 where
   pub few : nat_le (length name) 64 ≡ true
   pub each : list_all is_name_byte name ≡ true
 
+-- the same as a test
+abbrev pub is_segment_name : List ℕ → Bool
+is_segment_name name = nat_lt 0 (length name) && nat_le (length name) 64 && list_all is_name_byte name
+
 -- the file that a segment is published as
 abbrev pub file_of : List ℕ → List ℕ
 file_of name = name ++ codes ".seg"

@@ -9,12 +9,12 @@ use Rattle.std.specs.Ordering.{eq_by_cmp, is_eq}
 use Rattle.std.specs.Cmp.{eq_by_cmp_equiv}
 use Rattle.std.specs.declared.cmp.Ordering.TheVariants.{Less, Equal, Greater}
 use Rattle.std.proofs.lemmas.Cmp.{nat_list_cmp_total}
-use Rattle.outside.specs.Files.{Files, SameBut, bytes_of, name_order, with_file, without_file}
+use Rattle.outside.specs.Files.{Files, Has, IsLengthOf, SameBut, bytes_of, name_order, with_file, without_file}
 
-same_name : (x y : List ℕ) → name_order x y ≡ Equal → x ≡ y
+pub same_name : (x y : List ℕ) → name_order x y ≡ Equal → x ≡ y
 same_name = map.slice_cmp-IsAntisymmetric map.nat_cmp-IsAntisymmetric
 
-other_name : (q name : List ℕ) → q ≢ name → eq_by_cmp name_order q name ≡ false
+pub other_name : (q name : List ℕ) → q ≢ name → eq_by_cmp name_order q name ≡ false
 other_name q name ne = elim (name_order q name) as (λ r. name_order q name ≡ r → is_eq r ≡ false) [ Less ↦ λ e. refl | Equal ↦ λ e. absurd (ne (same_name q name e)) | Greater ↦ λ e. refl ] refl
 
 -- the file that was put under a name, and those of other names
@@ -138,3 +138,8 @@ writes_after Fails part first between last before now =
 pub writes_handed : {A : Type 0} (r : Result A DepotFault) (fault : DepotFault) (part : List ℕ) (old new : Seen) → IsErrAnd r (λ f. f ≡ fault) → OnlyWrites (◌≡◌ {A = Result A DepotFault} (Err fault) (Err Failed)) part old new → OnlyWrites (IsErrOf r Failed) part old new
 writes_handed (Ok x) fault part old new is writes = absurd is
 writes_handed {A = A} (Err f) fault part old new is writes = subst (λ e. OnlyWrites (◌≡◌ {A = Result A DepotFault} (Err e) (Err Failed)) part old new) (sym is) writes
+
+-- a file that has a length is there
+pub long_there : (held : Option Files) (name : List ℕ) (n : ℕ) → IsLengthOf held name n → Has held name
+long_there None name n there = tt
+long_there (Some files) name n (bytes, got, long) = (bytes, got)

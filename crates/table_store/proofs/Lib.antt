@@ -1,3 +1,6 @@
+mod NameLemmas
+mod AcceptedLemmas
+mod SegmentLemmas
 mod FilesLemmas
 mod OpenLemmas
 pub mod StandsLemmas

@@ -11,12 +11,12 @@ use Rattle.table_schema.specs.declared.table.Table as read
 use Rattle.table_store.specs.State.{Texts}
 use Rattle.table_store.specs.Accepted.{IsAccepted, IsNoTableFile, IsTableFile}
 use Rattle.table_store.specs.TableFile.{FitsTable, table_file}
-use Rattle.table_store.specs.declared.fault.Part.TheVariants as part
+use Rattle.segment_file.specs.declared.part.Part.TheVariants as part
 use Rattle.table_store.specs.declared.fault.StoreFault.{StoreFault}
 use Rattle.table_store.specs.declared.fault.StoreFault.TheVariants.{NoMemory, NotASegment}
 use Rattle.table_store.proofs.TableFileLemmas.{same_table}
 
-both_read : {A : Type 0} (r : Result A TextFault) (a b : A) → r ≡ Ok a → r ≡ Ok b → a ≡ b
+pub both_read : {A : Type 0} (r : Result A TextFault) (a b : A) → r ≡ Ok a → r ≡ Ok b → a ≡ b
 both_read r a b x y = cc
 
 refused_and_read : {A B : Type 0} (r : Result A TextFault) (a : A) (fault : TextFault) → r ≡ Err fault → r ≡ Ok a → B

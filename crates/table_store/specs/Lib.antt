@@ -3,3 +3,4 @@ pub mod TableFile
 pub mod Accepted
 pub mod Faults
 pub mod Stands
+pub mod Segments

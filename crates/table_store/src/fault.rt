@@ -1,20 +1,18 @@
 //! Why a call on a store is refused.
 
 use outside::ShelfFault;
+use segment_file::Part;
 use std::alloc::AllocError;
-
-/// The part of a stored file that is wrong. There is one so far, since no command makes a segment.
-#[derive(Clone, Copy, Debug, PartialEq, Eq)]
-pub enum Part {
-    /// The file of the table.
-    Table,
-}
 
 /// Why a call on a store is refused.
 #[derive(Clone, Copy, Debug, PartialEq, Eq)]
 pub enum StoreFault {
     TableExists,
     NoTable,
+    /// There is a segment of the name.
+    NameTaken,
+    /// There are as many segments as there may be.
+    TooManySegments,
     /// A stored file is not what it stands for.
     NotASegment(Part),
     ReadFault,

@@ -1,5 +1,5 @@
 //! Laws of the files that a state is kept in.
-ghost use Rattle.table_store.specs.Stands.{CreateStands, EmptyStands, StandsForOne, TableStands};
+ghost use Rattle.table_store.specs.Stands.{CreateStands, EmptyStands, SegmentStands, StandsForOne, TableStands};
 
 /// Files stand for at most one state.
 pub fn one_state_law()
@@ -20,4 +20,10 @@ pub fn create_stands_law()
 /// Where a store stands for a table, the file of the table is of that one.
 pub fn table_stands_law()
     ensures { TableStands }
+{}
+
+/// Where there are fewer than the most segments and none of a name, the image of rows under that
+/// name makes a store that stands for the state with them.
+pub fn segment_stands_law()
+    ensures { SegmentStands }
 {}

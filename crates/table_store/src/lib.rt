@@ -5,10 +5,15 @@ mod create;
 mod fault;
 mod laws;
 mod open;
+mod segments;
 mod table_file;
 
 pub use create::{create_table, has_table};
-pub use fault::{Part, StoreFault};
-pub use laws::{create_stands_law, empty_stands_law, one_state_law, table_stands_law};
+pub use fault::StoreFault;
+pub use laws::{
+    create_stands_law, empty_stands_law, one_state_law, segment_stands_law, table_stands_law,
+};
 pub use open::open_table;
+pub use segment_file::Part;
+pub use segments::{MOST_SEGMENTS, holds_segment, segment_names};
 pub use table_file::TEXT_LIMIT;

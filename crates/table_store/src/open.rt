@@ -1,12 +1,12 @@
 //! The table of a store.
 
-ghost use Rattle.std.specs.Prelude.{◌≡◌, ◌≢◌, IfOk, IfErr, IsErrOf};
+ghost use Rattle.std.specs.Prelude.{◌≡◌, ◌≢◌, ◌⊎◌, IfOk, IfErr, IsErrOf, OnErr};
 ghost use Rattle.outside.specs.Files.{Has, Lacks, OfFile};
 ghost use Rattle.outside.specs.Seen.{OnlyReads, seen};
 ghost use Rattle.outside.specs.Whole.{LogsFront};
 ghost use Rattle.table_store.specs.Accepted.{IsNoTableFile, IsTableFile};
 ghost use Rattle.table_store.specs.TableFile.{file_limit, table_name};
-ghost use Rattle.table_store.specs.declared.fault.Part.TheVariants as part;
+ghost use Rattle.segment_file.specs.declared.part.Part.TheVariants as part;
 ghost use Rattle.table_store.specs.declared.fault.StoreFault.TheVariants.{NoMemory, NotASegment};
 ghost use Rattle.table_schema.specs.ValidTable.{IsValidTable};
 
@@ -61,8 +61,9 @@ pub fn open_table<D: Depot>(alloc: Global, depot: &mut D) -> Result<Table, Store
     ensures present { IsErrOf result StoreFault.NoMemory → Has (D.held depot.old) table_name }
     ensures only_reads { OnlyReads (IsErrOf result StoreFault.ReadFault)
         (seen D.Shelf depot.old) (seen D.Shelf depot.new) }
-    ensures no_write { ¬ IsErrOf result StoreFault.WriteFault }
-    ensures never_exists { ¬ IsErrOf result StoreFault.TableExists }
+    ensures only { OnErr result
+        (IsErrOf result StoreFault.NoTable ⊎ IsErrOf result (StoreFault.NotASegment Part.Table)
+        ⊎ IsErrOf result StoreFault.ReadFault ⊎ IsErrOf result StoreFault.NoMemory) }
     ensures log { LogsFront table_name file_limit (D.log depot.old) (D.log depot.new) }
 {
     match read_all(alloc, depot, NAME, FILE_LIMIT) {

@@ -3,4 +3,4 @@ use Rattle.outside.specs.Files.{name_order}
 use Rattle.table_store.proofs.laws.empty_stands_law.Goals as goal
 
 pub returns : goal.returns
-returns c = record { valid = tt; kept = λ name. get-empty name_order name }
+returns c = λ name. get-empty name_order name
