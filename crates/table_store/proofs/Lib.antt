@@ -4,4 +4,5 @@ mod SegmentLemmas
 mod FilesLemmas
 mod OpenLemmas
 pub mod StandsLemmas
+pub mod KeyLemmas
 mod TableFileLemmas

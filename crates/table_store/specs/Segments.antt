@@ -6,7 +6,8 @@ use Rattle.std.specs.List.Sorted.{IsStrictlySortedBy}
 use Rattle.std.specs.Ordering.{eq_by_cmp}
 use Rattle.outside.specs.Files.{Files, name_order}
 use Rattle.segment_file.specs.Names.{file_of, is_segment_name}
-use Rattle.table_store.specs.Stands.{most_segments, stem}
+use Rattle.table_store.specs.State.{Segments, HasTable, Texts}
+use Rattle.table_store.specs.Stands.{Stands, most_segments, stem}
 
 -- whether a segment of this name has a file
 abbrev pub has_segment : Files → List ℕ → Bool
@@ -20,6 +21,10 @@ pub record AreNames (files : Files) (names : List (List ℕ)) : Type 0 where
 -- the first of them, where there are more than the most
 abbrev pub AreFirstNames : Files → List (List ℕ) → Type 0
 AreFirstNames files names = (all : List (List ℕ)) × AreNames files all × (names ≡ take most_segments all)
+
+-- where a store stands for a table, the names of the segments that have files are those of its segments
+abbrev pub NamesStand : Type 0
+NamesStand = (files : Files) (texts : Texts) (segments : Segments) (names : List (List ℕ)) → Stands files (HasTable texts segments) → AreNames files names → names ≡ map.keys segments
 
 -- ---- files by their names
 

@@ -1,4 +1,5 @@
 //! Laws of the files that a state is kept in.
+ghost use Rattle.table_store.specs.Segments.{NamesStand};
 ghost use Rattle.table_store.specs.Stands.{CreateStands, EmptyStands, SegmentStands, StandsForOne, TableStands};
 
 /// Files stand for at most one state.
@@ -26,4 +27,10 @@ pub fn table_stands_law()
 /// name makes a store that stands for the state with them.
 pub fn segment_stands_law()
     ensures { SegmentStands }
+{}
+
+/// Where a store stands for a table, the names of the segments that have files are those of its
+/// segments.
+pub fn names_stand_law()
+    ensures { NamesStand }
 {}

@@ -11,7 +11,8 @@ mod table_file;
 pub use create::{create_table, has_table};
 pub use fault::StoreFault;
 pub use laws::{
-    create_stands_law, empty_stands_law, one_state_law, segment_stands_law, table_stands_law,
+    create_stands_law, empty_stands_law, names_stand_law, one_state_law, segment_stands_law,
+    table_stands_law,
 };
 pub use open::open_table;
 pub use segment_file::Part;

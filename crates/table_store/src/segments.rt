@@ -1,10 +1,11 @@
 //! The segments of a store.
 
 ghost use Rattle.std.specs.Prelude.{◌≡◌, ◌⊎◌, ◌++◌, ℕ, List, take, true, false, Ok, IfOk, IfSome, OnErr, OnOk, IsErrOf, string_bytes};
+ghost use Rattle.std.specs.List.{All};
 ghost use Rattle.std.specs.List.Sorted.{IsPermutation, IsSorted};
 ghost use Rattle.outside.specs.Files.{Has, Lacks, name_order};
 ghost use Rattle.outside.specs.Seen.{OnlyReads, seen};
-ghost use Rattle.segment_file.specs.Names.{file_of};
+ghost use Rattle.segment_file.specs.Names.{IsSegmentName, file_of};
 ghost use Rattle.table_store.specs.Segments.{AreFirstNames, name_in, names_among};
 ghost use Rattle.table_store.specs.Stands.{most_segments};
 
@@ -40,6 +41,7 @@ pub fn holds_segment<D: Depot>(alloc: Global, depot: &mut D, name: &str) -> Resu
 pub fn segment_names<D: Depot>(alloc: Global, depot: &mut D) -> Result<Seq<Name>, StoreFault>
     ensures names { IfOk result (λ names. IfSome (D.held depot.old) (λ files.
         AreFirstNames files names)) }
+    ensures named { IfOk result (λ names. All IsSegmentName names) }
     ensures only { OnErr result
         (IsErrOf result StoreFault.ReadFault ⊎ IsErrOf result StoreFault.NoMemory) }
     ensures only_reads { OnlyReads (IsErrOf result StoreFault.ReadFault)
