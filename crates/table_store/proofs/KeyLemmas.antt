@@ -1,6 +1,7 @@
 -- The names of the segments of a standing store.
 use Rattle.std.proofs.Common.{◌≡◌, ◌∙◌, ℕ, Bool, true, false, T, ◌&&◌, List, [], ◌∷◌, map, length, Option, Some, None, refl, sym, ap, subst}
-use Rattle.std.specs.Prelude.{is_some, option_map}
+use Rattle.std.specs.Prelude.{is_some, option_map, unwrap_or}
+use Rattle.std.proofs.lemmas.Bool.{false≢true}
 use Rattle.std.specs.FinMap as tree
 use Rattle.std.specs.FinMap.Entries.{below_all, is_some-find, is_sorted, same_entries}
 use Rattle.std.specs.List.{AllByRecursion, list_any}
@@ -8,12 +9,22 @@ use Rattle.std.specs.List.Sorted.{IsStrictlySortedBy}
 use Rattle.std.specs.Ordering.{eq_by_cmp, is_lt}
 use Rattle.std.specs.declared.cmp.Ordering.{Ordering}
 use Rattle.std.specs.declared.cmp.Ordering.TheVariants as order
-use Rattle.outside.specs.Files.{Files, name_order}
+use Rattle.outside.specs.Files.{Files, bytes_of, name_order}
 use Rattle.std.proofs.lemmas.Cmp.{nat_list_cmp_total}
+use Rattle.table_schema.specs.declared.table.Table.{Table}
+use Rattle.table_schema.specs.ValidTable.{IsValidTable}
+use Rattle.segment_file.specs.Image.{dictionary_of, file_of_rows, front_of, image}
+use Rattle.segment_file.specs.Ordered.{ordered}
+use Rattle.segment_file.specs.Parts.{columns_of}
+use Rattle.segment_file.specs.Rules.{HasFront}
+use Rattle.segment_file.specs.Heads.{KeepsRules}
+use Rattle.segment_file.proofs.ImageKeeps.{image_keeps}
 use Rattle.segment_file.specs.Names.{IsSegmentName, file_of, is_segment_name}
 use Rattle.table_store.specs.State.{Segment, Segments, HasTable, Texts}
 use Rattle.table_store.specs.Segments.{AreNames, NamesStand, has_segment}
-use Rattle.table_store.specs.Stands.{Stands, segment_file}
+use Rattle.table_store.specs.Accepted.{IsAccepted}
+use Rattle.table_store.specs.Stands.{IsSegment, Stands, segment_file}
+use Rattle.table_store.proofs.AcceptedLemmas.{accepted_valid, one_table}
 use Rattle.table_store.proofs.FilesLemmas.{same_name}
 use Rattle.table_store.proofs.SegmentLemmas.{file_kept}
 
@@ -105,3 +116,45 @@ names_stand files texts segments names stands are =
     ∙ ap (λ o. is_segment_name q && is_some o) (segment_there files texts segments stands q)
     ∙ named_there q (tree.get segments q) (segment_file stands.table q) (stands.valid.named q)
     ∙ tree.contains_key-keys segments q)
+
+-- ---- the file of a segment of a standing store keeps all rules of a head
+
+bytes_there : (files : Files) (name bytes : List ℕ) → tree.get files name ≡ Some bytes → bytes_of (Some files) name ≡ bytes
+bytes_there files name bytes got = ap (λ o. unwrap_or o []) got
+
+-- what a head of the segment of this name says
+pub record IsKept (files : Files) (segments : Segments) (read : Table) (name : List ℕ) : Type 0 where
+  pub segment : Segment
+  pub got : tree.get segments name ≡ Some segment
+  pub keeps : KeepsRules read name (bytes_of (Some files) (file_of name))
+  pub front_is : HasFront read name (bytes_of (Some files) (file_of name)) (front_of 1 read segment.rows)
+
+one_kept : (files : Files) (segments : Segments) (read : Table) (name : List ℕ) (o : Option Segment) → IsValidTable read → ((segment : Segment) → o ≡ Some segment → IsSegmentName name × IsSegment read segment)
+    → tree.get segments name ≡ o → tree.get files (file_of name) ≡ option_map (segment_file read name) o → is_some (tree.get files (file_of name)) ≡ true → IsKept files segments read name
+one_kept files segments read name None valid is got file there = absurd (false≢true (sym (ap is_some file) ∙ there))
+one_kept files segments read name (Some segment) valid is got file there =
+    let (named, of) = is segment refl in
+    let format : segment.format ≡ 1 = of.format_is in
+    let rows : segment.rows ≡ ordered read.settings.sorted of.came = of.in_order in
+    let bytes : bytes_of (Some files) (file_of name) ≡ image 1 read name of.came =
+        bytes_there files (file_of name) (segment_file read name segment) file ∙ (λ i. file_of_rows (format i) read name (rows i)) in
+    let kept = image_keeps read name of.came valid named of.can in
+    record {
+      segment = segment;
+      got = got;
+      keeps = subst (KeepsRules read name) (sym bytes) (front_of 1 read (ordered read.settings.sorted of.came), map (dictionary_of read (ordered read.settings.sorted of.came)) (columns_of read), kept);
+      front_is = subst (λ b. HasFront read name b (front_of 1 read segment.rows)) (sym bytes) (subst (λ rs. HasFront read name (image 1 read name of.came) (front_of 1 read rs)) (sym rows) kept.front_is);
+    }
+
+second : (a b : Bool) → (a && b) ≡ true → b ≡ true
+second true b e = e
+second false b e = absurd (false≢true e)
+
+pub segment_kept_so : (files : Files) (texts : Texts) (segments : Segments) (read : Table) (name : List ℕ) (stands : Stands files (HasTable texts segments)) → IsAccepted texts read → has_segment files name ≡ true
+    → IsKept files segments read name
+segment_kept_so files texts segments read name stands accepted there =
+    let tables : stands.table ≡ read = one_table texts stands.table read stands.valid.accepted accepted in
+    let each = subst (λ t. (q : List ℕ) (segment : Segment) → tree.get segments q ≡ Some segment → IsSegment t segment) tables stands.valid.each in
+    one_kept files segments read name (tree.get segments name) (accepted_valid texts read accepted) (λ segment got. (stands.valid.named name segment got, each name segment got)) refl
+    (segment_there files texts segments stands name ∙ ap (λ t. option_map (segment_file t name) (tree.get segments name)) tables)
+    (second (is_segment_name name) (is_some (tree.get files (file_of name))) there)

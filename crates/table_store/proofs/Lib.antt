@@ -1,5 +1,5 @@
 mod NameLemmas
-mod AcceptedLemmas
+pub mod AcceptedLemmas
 mod SegmentLemmas
 mod FilesLemmas
 mod OpenLemmas

@@ -16,5 +16,5 @@ pub use laws::{
 };
 pub use open::open_table;
 pub use segment_file::Part;
-pub use segments::{MOST_SEGMENTS, holds_segment, segment_names};
+pub use segments::{MOST_SEGMENTS, holds_segment, segment_file_name, segment_names};
 pub use table_file::TEXT_LIMIT;

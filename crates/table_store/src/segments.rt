@@ -27,7 +27,7 @@ pub fn holds_segment<D: Depot>(alloc: Global, depot: &mut D, name: &str) -> Resu
         (seen D.Shelf depot.old) (seen D.Shelf depot.new) }
     ensures log { D.log depot.new ≡ D.log depot.old }
 {
-    let file = file_name(alloc, name)?;
+    let file = segment_file_name(alloc, name)?;
     match depot.length(alloc, file.as_str()) {
         Ok(_) => Ok(true),
         Err(ShelfFault::Missing) => Ok(false),
@@ -94,8 +94,8 @@ fn push_name(alloc: Global, file: &str, names: &mut Vec<Name>) -> Result<(), NoM
     Ok(())
 }
 
-// The name of the file of a segment.
-fn file_name(alloc: Global, name: &str) -> Result<String, NoMemory>
+/// The name of the file of a segment.
+pub fn segment_file_name(alloc: Global, name: &str) -> Result<String, NoMemory>
     ensures { IfOk result (λ file. string_bytes file ≡ file_of name.now) }
 {
     let mut file = String::from_str(alloc, name)?;
