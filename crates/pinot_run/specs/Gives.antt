@@ -1,12 +1,19 @@
 -- What the functions below a command's own answer.
-use Rattle.std.specs.Prelude.{◌≡◌, ◌≤◌, ◌⊎◌, ◌++◌, true, ℕ, List, length, codes, Option, Result, Ok, Err, IfSome}
+use Rattle.std.specs.Prelude.{◌≡◌, ◌≤◌, ◌⊎◌, ◌++◌, true, ℕ, List, length, codes, Option, Result, Ok, Err, IfErr, IfOk, IfSome, IsErrAnd}
 use Rattle.outside.specs.Counts.{Rose}
 use Rattle.outside.specs.Files.{Files, Has, Lacks, with_file}
 use Rattle.outside.specs.Whole.{IsTooLong}
 use Rattle.table_schema.specs.declared.table.Table.{Table}
 use Rattle.table_store.specs.State as state
 use Rattle.table_store.specs.TableFile.{table_file, table_name}
-use Rattle.pinot_run.specs.Profile.{texts_refuse}
+use Rattle.pinot_run.specs.Profile.{Opens, store_refuses, texts_refuse}
+use Rattle.pinot_run.specs.Stored.{part_text}
+use Rattle.pinot_run.specs.Touched.{LogsOpened}
+use Rattle.segment_file.specs.declared.fault.HeadFault.{HeadFault}
+use Rattle.segment_file.specs.declared.fault.HeadFault.TheVariants as head
+use Rattle.table_schema.specs.declared.field.Field.{Field}
+use Rattle.table_store.specs.declared.fault.StoreFault.{StoreFault}
+use Rattle.table_store.specs.declared.fault.StoreFault.TheVariants as store
 use Rattle.table_schema.specs.declared.query.BoundQuery.{BoundQuery}
 use Rattle.query_parser.specs.Query.{parsed}
 use Rattle.query_parser.specs.declared.tree.Query.{Query}
@@ -18,7 +25,7 @@ use Rattle.csv_ingest.specs.declared.fault.CsvFault.{CsvFault}
 use Rattle.pinot_run.specs.Form.{is_answered}
 use Rattle.pinot_run.specs.Notes.{csv_note}
 use Rattle.pinot_run.specs.Step.{Answer, Refuses, Replies, sql_limit}
-use Rattle.outside.specs.Seen.{Seen}
+use Rattle.outside.specs.Seen.{OnlyReads, Seen}
 use Rattle.pinot_run.specs.declared.fault.Fault.TheVariants as fault
 use Rattle.pinot_run.specs.declared.note.Counted.{Counted}
 use Rattle.pinot_run.specs.declared.note.Note.{Note}
@@ -80,3 +87,32 @@ Makes texts table old new (Err (stop.Refused line)) = (line ≡ note.TableExists
 Makes texts table old new (Err (stop.Fault fault.Read)) = (new.held ≡ old.held) × Rose old.read_faults new.read_faults
 Makes texts table old new (Err (stop.Fault fault.Write)) = (new.held ≡ old.held) × Rose old.write_faults new.write_faults
 Makes texts table old new (Err (stop.Fault fault.Memory)) = new.held ≡ old.held
+
+-- ---- the store is looked at
+
+-- a look at the store ends: the files are refused so, or a look failed, or memory ran out
+abbrev pub StopsStore : (Files → Note → Type 0) → Option Files → Stop → Type 0
+StopsStore Refusal held (stop.Refused line) = (store_refuses line ≡ true) × IfSome held (λ files. Refusal files line)
+StopsStore Refusal held (stop.Fault fault.Read) = Unit {0}
+StopsStore Refusal held (stop.Fault fault.Write) = ⊥
+StopsStore Refusal held (stop.Fault fault.Memory) = Unit {0}
+
+-- a call read such files of the store and changed nothing; where the files are told, they are of what it found, or are refused so
+pub record LooksFor {A : Type 0} (Found : Files → A → Type 0) (Refusal : Files → Note → Type 0) (opens : Opens) (old new : Seen) (result : Result A Stop) : Type 0 where
+  pub reads : OnlyReads (IsErrAnd result (λ s. s ≡ stop.Fault fault.Read)) old new
+  pub log : LogsOpened opens old.log new.log
+  pub found : IfOk result (λ a. IfSome old.held (λ files. Found files a))
+  pub stops : IfErr result (StopsStore Refusal old.held)
+
+-- what the fault of a store is for a command that opens the table's file alone
+abbrev pub IsStopOf : StoreFault → Stop → Type 0
+IsStopOf store.NoTable s = s ≡ stop.Refused note.NoTable
+IsStopOf (store.NotASegment part) s = (s ≡ stop.Refused (note.NotASegment table_name (codes "table"))) ⊎ (s ≡ stop.Fault fault.Memory)
+IsStopOf store.ReadFault s = s ≡ stop.Fault fault.Read
+IsStopOf other s = s ≡ stop.Fault fault.Memory
+
+-- what the fault of a head of a segment of this name is
+abbrev pub IsHeadStop : List ℕ → List Field → HeadFault → Stop → Type 0
+IsHeadStop name fields (head.NotASegment part) s = (s ≡ stop.Refused (note.NotASegment name (part_text fields part))) ⊎ (s ≡ stop.Fault fault.Memory)
+IsHeadStop name fields head.ReadFault s = s ≡ stop.Fault fault.Read
+IsHeadStop name fields head.NoMemory s = s ≡ stop.Fault fault.Memory

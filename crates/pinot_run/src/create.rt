@@ -21,9 +21,9 @@ use crate::input::read_input;
 use crate::note::{Counted, Note};
 use crate::stop::Stop;
 use outside::{Bytes, Depot, Seq, Shelf, ShelfFault};
-use std::alloc::{AllocError, Global};
 use schema_json::{TextFault, read_schema};
 use settings_json::read_settings;
+use std::alloc::{AllocError, Global};
 use table_schema::{Schema, Settings, Table};
 use table_store::{StoreFault, TEXT_LIMIT, create_table, has_table};
 

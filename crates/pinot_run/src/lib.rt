@@ -12,12 +12,15 @@ mod holds;
 mod input;
 mod laws;
 mod line;
+mod list;
 mod note;
+mod part_name;
 mod run;
 mod scan;
 mod selection;
 mod status;
 mod stop;
+mod store;
 mod tally;
 
 pub use laws::promises_compose_law;
