@@ -90,6 +90,7 @@ allowed_line (note.BadCsv wrong row column) e = absurd cc
 allowed_line (note.TooLarge what limit) e = e
 allowed_line (note.BadQuery wrong place) e = absurd cc
 allowed_line (note.TooManyGroups most) e = absurd cc
+allowed_line (note.NotASegment name part) e = absurd cc
 
 caused_line : (schema settings : List ℕ) (inputs stored : Option Files) (line : Note) → texts_refuse line ≡ true → IfSome inputs (λ files. new_table schema settings files ≡ Err line) → Caused (Some (Create schema settings)) inputs stored line
 caused_line schema settings inputs stored note.BadWords e told = absurd cc
@@ -102,6 +103,7 @@ caused_line schema settings inputs stored (note.BadCsv wrong row column) e told 
 caused_line schema settings inputs stored (note.TooLarge what limit) e told = told
 caused_line schema settings inputs stored (note.BadQuery wrong place) e told = absurd cc
 caused_line schema settings inputs stored (note.TooManyGroups most) e told = absurd cc
+caused_line schema settings inputs stored (note.NotASegment name part) e told = absurd cc
 
 -- how far the files were looked at
 looked_line : (schema settings : List ℕ) (old new : Devices) (line : Note) → texts_refuse line ≡ true → ((wrong : KeyKind) (path : List ℕ) → line ≡ note.BadSchema wrong path → ReadsFront schema text_limit old.inputs new.inputs)
@@ -116,6 +118,7 @@ looked_line schema settings old new (note.BadCsv wrong row column) e alone = tt
 looked_line schema settings old new (note.TooLarge what limit) e alone = tt
 looked_line schema settings old new (note.BadQuery wrong place) e alone = tt
 looked_line schema settings old new (note.TooManyGroups most) e alone = tt
+looked_line schema settings old new (note.NotASegment name part) e alone = tt
 
 -- there is no table where there is one
 both_told : (held : Option Files) (P : Type 0) → Has held table_name → Lacks held table_name → IfSome held (λ _. P)
@@ -211,6 +214,7 @@ module _ (schema settings : List ℕ) (inputs inputs_new depot looked depot_new 
   moved_looked (note.TooLarge what limit) is = is
   moved_looked (note.BadQuery wrong place) is = is
   moved_looked (note.TooManyGroups most) is = is
+  moved_looked (note.NotASegment name part) is = is
 
   moved_allowed : (answer : Answer) → IsAllowed (Some (Create schema settings)) (Before looked) Now answer → IsAllowed (Some (Create schema settings)) (Before depot) Now answer
   moved_allowed (Replies text) is = is

@@ -1,8 +1,15 @@
 -- What a command does to stored files is its step on the state that they stand for.
-use Rattle.std.proofs.Common.{◌≡◌, ◌≤◌, ℕ, Bool, true, false, List, length, nat_lt, Option, Some, None, Result, Ok, Err, IfSome, IsSomeAnd, refl, sym, ap, subst, arith, cond}
+use Rattle.std.proofs.Common.{◌≡◌, ◌∙◌, ◌≤◌, ◌<◌, ◌+◌, ◌&&◌, inl, inr, ℕ, suc, Bool, true, false, List, [], ◌∷◌, length, get_or, take, option_map, nat_lt, Option, Some, None, Result, Ok, Err, IfSome, IsSomeAnd, refl, sym, ap, subst, arith, cond}
 use Rattle.std.proofs.lemmas.Bool.Decides.{nat_tests}
+use Rattle.std.specs.Prelude.{is_some, map as each}
 use Rattle.std.specs.FinMap as map
-use Rattle.outside.specs.Files.{Files}
+use Rattle.std.specs.Cmp.{eq_by_cmp_equiv}
+use Rattle.std.specs.List.{AllZip}
+use Rattle.std.specs.Ordering.{eq_by_cmp}
+use Rattle.std.proofs.lemmas.Cmp.{nat_list_cmp_total}
+use Rattle.std.proofs.lemmas.List.{length-map, take_all}
+use Rattle.std.proofs.lemmas.List.Folds.{list_any_at}
+use Rattle.outside.specs.Files.{Files, OfFile, bytes_of, name_order}
 use Rattle.schema_json.specs.Schemas.{schema_read}
 use Rattle.settings_json.specs.TableTexts.{settings_read}
 use Rattle.schema_json.specs.declared.fault.KeyKind.{KeyKind}
@@ -11,18 +18,25 @@ use Rattle.schema_json.specs.declared.fault.TextFault.TheVariants as fault
 use Rattle.table_schema.specs.declared.field.Schema.{Schema}
 use Rattle.table_schema.specs.declared.settings.Settings.{Settings}
 use Rattle.table_schema.specs.declared.table.Table.{Table}
-use Rattle.table_store.specs.Accepted.{IsAccepted}
-use Rattle.table_store.specs.Stands.{Stands}
+use Rattle.segment_file.specs.Image.{front_of}
+use Rattle.segment_file.specs.Names.{file_of}
+use Rattle.segment_file.proofs.RuleLaws.{fronts_one}
+use Rattle.table_store.specs.Accepted.{IsAccepted, IsNoTableFile}
+use Rattle.table_store.specs.Segments.{AreFirstNames, has_segment}
+use Rattle.table_store.specs.Stands.{Stands, segment_file}
 use Rattle.table_store.specs.State as state
-use Rattle.table_store.specs.State.{State, NoTable, HasTable, Segments}
+use Rattle.table_store.specs.State.{Segment, State, NoTable, HasTable, Segments}
 use Rattle.table_store.specs.TableFile.{table_file, table_name}
-use Rattle.table_store.proofs.StandsLemmas.{create_stands, none_there, one_there}
-use Rattle.pinot_run.specs.Command.{Command, Create, Scan}
+use Rattle.table_store.proofs.KeyLemmas.{names_stand, segment_kept_so, segment_there}
+use Rattle.table_store.proofs.StandsLemmas.{create_stands, none_there, one_there, table_stands, table_there}
+use Rattle.pinot_run.specs.Command.{Command, Create, Listing, Scan}
 use Rattle.pinot_run.specs.Create.{Made, beside, json_bytes, json_in, new_table, read_by, schema_in, settings_in, table_of, with_settings}
-use Rattle.pinot_run.specs.Ran.{IsStepped, Over, TableIsThere, WhereStands, files_after}
+use Rattle.pinot_run.specs.Ran.{IsStepped, Lists, Over, TableIsThere, WhereStands, files_after}
+use Rattle.pinot_run.specs.Stored.{HasRows, HasTableFile, IsListed, IsWrongSegment, SegmentsRefuse, count_in, list_text}
 use Rattle.pinot_run.specs.declared.note.Note.{Note}
+use Rattle.pinot_run.specs.declared.note.Note.TheVariants as note
 use Rattle.pinot_run.specs.declared.note.Note.TheVariants.{BadSchema, BadSettings}
-use Rattle.pinot_run.specs.Step.{Answer, create_answer, created, has_table, step_of}
+use Rattle.pinot_run.specs.Step.{Answer, Refuses, Replies, create_answer, created, has_table, list_answer, step_of}
 
 -- ---- the texts that were made are accepted
 
@@ -90,12 +104,105 @@ by_table (Ok (texts, table)) stored answer new NoTable false ok stands known ans
 by_table made stored answer new (HasTable t s) true ok stands known answers leaves = stepped (HasTable t s) made answer new answers (stays stored (HasTable t s) new stands leaves)
 by_table made stored answer new (HasTable t s) false ok stands known answers leaves = one_there stored t s stands known
 
+-- ---- `list`
+
+same_file : (x y : List ℕ) → Some x ≡ Some y → x ≡ y
+same_file x y e = cc
+
+zip_each : (f : List ℕ → ℕ) (R : List ℕ → ℕ → Type 0) (xs : List (List ℕ)) (ys : List ℕ) → ((k : ℕ) → k < length xs → (y : ℕ) → R (get_or xs k []) y → y ≡ f (get_or xs k [])) → AllZip R xs ys → ys ≡ each f xs
+zip_each f R [] [] is all = refl
+zip_each f R [] (y ∷ ys) is all = absurd all
+zip_each f R (x ∷ xs) [] is all = absurd all
+zip_each f R (x ∷ xs) (y ∷ ys) is all = (λ i. is 0 (omega arith) y all.0 i ∷ zip_each f R xs ys (λ k lt. is (suc k) (omega arith)) all.1 i)
+
+none_refused : (stored : Files) → Stands stored NoTable → (line : Note) → SegmentsRefuse stored line → Refuses line ≡ list_answer NoTable
+none_refused stored stands note.BadWords h = absurd h
+none_refused stored stands (note.NoInput file) h = absurd h
+none_refused stored stands (note.BadSchema wrong path) h = absurd h
+none_refused stored stands (note.BadSettings wrong path) h = absurd h
+none_refused stored stands note.TableExists h = absurd h
+none_refused stored stands note.NoTable h = refl
+none_refused stored stands (note.BadCsv wrong row column) h = absurd h
+none_refused stored stands (note.TooLarge what limit) h = absurd h
+none_refused stored stands (note.BadQuery wrong place) h = absurd h
+none_refused stored stands (note.NotASegment name part) (inl w) = let (bytes, got, none) = w.wrong in none_there stored stands (bytes, got)
+none_refused stored stands (note.NotASegment name part) (inr w) = let (bytes, got, is) = w.table_is in none_there stored stands (bytes, got)
+
+module _ (stored : Files) (texts : state.Texts) (segments : Segments) (stands : Stands stored (HasTable texts segments)) where
+  -- the file of the table is one
+  pub table_right : {A : Type 0} → OfFile (Some stored) table_name IsNoTableFile → A
+  table_right (bytes, got, none) =
+      let is : bytes ≡ table_file texts = same_file bytes (table_file texts) (sym got ∙ table_there stored texts segments stands) in
+      absurd (none stands.table (record { texts = texts; accepted = stands.valid.accepted; spelled = is }))
+
+  segment_right : {A : Type 0} (name part : List ℕ) → IsWrongSegment stored name part → A
+  segment_right name part w =
+      let accepted = table_stands stored texts segments w.table stands w.table_is in
+      absurd (w.breaks (segment_kept_so stored texts segments w.table name stands accepted w.there).keeps)
+
+  some_refused : {A : Type 0} (line : Note) → SegmentsRefuse stored line → A
+  some_refused note.BadWords h = absurd h
+  some_refused (note.NoInput file) h = absurd h
+  some_refused (note.BadSchema wrong path) h = absurd h
+  some_refused (note.BadSettings wrong path) h = absurd h
+  some_refused note.TableExists h = absurd h
+  some_refused note.NoTable h = one_there stored texts segments stands h
+  some_refused (note.BadCsv wrong row column) h = absurd h
+  some_refused (note.TooLarge what limit) h = absurd h
+  some_refused (note.BadQuery wrong place) h = absurd h
+  some_refused (note.NotASegment name part) (inl w) = table_right w.wrong
+  some_refused (note.NotASegment name part) (inr w) = segment_right name part w
+
+  -- the names and the rows are those of the state
+  pub names_all : (names : List (List ℕ)) → AreFirstNames stored names → names ≡ map.keys segments
+  names_all names (all, are, first) =
+      let keys : all ≡ map.keys segments = names_stand stored texts segments all stands are in
+      let count : length (map.keys segments) ≡ map.len segments = length-map (map.entries segments) (λ e. e.0) ∙ sym (map.len-entries segments) in
+      first ∙ ap (take 512) keys ∙ take_all 512 (map.keys segments) (omega (arith, count, stands.valid.few))
+
+  count_right : (table : Table) (name : List ℕ) (rows : ℕ) → HasTableFile stored table → has_segment stored name ≡ true → HasRows table stored name rows → rows ≡ count_in (map.get segments name)
+  count_right table name rows is there has =
+      let kept = segment_kept_so stored texts segments table name stands (table_stands stored texts segments table stands is) there in
+      let front : has.front ≡ front_of 1 table kept.segment.rows = fronts_one table name (bytes_of (Some stored) (file_of name)) (front_of 1 table kept.segment.rows) has.front kept.front_is has.front_is in
+      has.rows_are ∙ ap (λ f. f.rows) front ∙ sym (ap count_in kept.got)
+
+  key_named : (key : List ℕ) (o : Option Segment) → map.get segments key ≡ o → is_some o ≡ true → has_segment stored key ≡ true
+  key_named key None got e = absurd cc
+  key_named key (Some segment) got e =
+      let n = stands.valid.named key segment got in
+      let file : map.get stored (file_of key) ≡ Some (segment_file stands.table key segment) = segment_there stored texts segments stands key ∙ ap (option_map (segment_file stands.table key)) got in
+      (λ i. (n.some i && n.few i && n.each i) && is_some (file i))
+
+  key_there : (k : ℕ) → k < length (map.keys segments) → has_segment stored (get_or (map.keys segments) k []) ≡ true
+  key_there k lt =
+      let key : List ℕ = get_or (map.keys segments) k [] in
+      let got : is_some (map.get segments key) ≡ true = map.contains_key-keys segments key ∙ list_any_at (eq_by_cmp name_order key) (map.keys segments) k [] lt ((eq_by_cmp_equiv nat_list_cmp_total).refl key) in
+      key_named key (map.get segments key) refl got
+
+  counts_right : (table : Table) (counts : List ℕ) → HasTableFile stored table → AllZip (HasRows table stored) (map.keys segments) counts → counts ≡ each (λ name. count_in (map.get segments name)) (map.keys segments)
+  counts_right table counts is all =
+      zip_each (λ name. count_in (map.get segments name)) (HasRows table stored) (map.keys segments) counts
+      (λ k lt y has. count_right table (get_or (map.keys segments) k []) y is (key_there k lt) has) all
+
+  pub text_right : (text : List ℕ) → IsListed stored text → Replies text ≡ list_answer (HasTable texts segments)
+  text_right text l =
+      let names : l.names ≡ map.keys segments = names_all l.names l.names_are in
+      let counts = counts_right l.table l.counts l.table_is (subst (λ ns. AllZip (HasRows l.table stored) ns l.counts) names l.rows) in
+      ap Replies (l.text_is ∙ (λ i. list_text (names i) (counts i)))
+
+list_step : (stored : Files) (answer : Answer) (before : State) → Stands stored before → Lists stored answer → answer ≡ list_answer before
+list_step stored (Replies text) NoTable stands l = let (bytes, got, is) = l.table_is in none_there stored stands (bytes, got)
+list_step stored (Refuses line) NoTable stands h = none_refused stored stands line h
+list_step stored (Replies text) (HasTable texts segments) stands l = text_right stored texts segments stands text l
+list_step stored (Refuses line) (HasTable texts segments) stands h = some_refused stored texts segments stands line h
+
 -- what is done over any store is the step where it stands for a state
 over_step : (command : Option Command) (inputs stored : Files) (answer : Answer) (new : Option Files) (before : State) → Stands stored before → Over command inputs (Some stored) answer new → IsStepped (step_of before command inputs) answer new
 over_step None inputs stored answer new before stands (answers, same) = record { answers = answers; stands = stays stored before new stands same }
 over_step (Some (Scan file sql)) inputs stored answer new before stands (answers, same) = record { answers = answers; stands = stays stored before new stands same }
 over_step (Some (Create schema settings)) inputs stored answer new before stands over =
     by_table (new_table schema settings inputs) stored answer new before over.there (accepted schema settings inputs) stands over.known over.answers over.leaves
+over_step (Some Listing) inputs stored answer new before stands (lists, same) = record { answers = list_step stored answer before stands lists; stands = stays stored before new stands same }
 
 pub steps_over : (command : Option Command) (inputs stored : Option Files) (answer : Answer) (new : Option Files) → IfSome inputs (λ files. Over command files stored answer new)
     → WhereStands inputs stored (λ before files. IsStepped (step_of before command files) answer new)

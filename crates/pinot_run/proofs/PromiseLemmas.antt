@@ -135,6 +135,7 @@ module _ (command : Option Command) (old : World) (new : Devices) where
   line_left (note.TooLarge what limit) now is = is
   line_left (note.BadQuery wrong place) now is = is
   line_left (note.TooManyGroups most) now is = is
+  line_left (note.NotASegment name part) now is = is
 
   line_done : (line : Note) (notes : Heard) → Ran command old.devices new (Err (stop.Refused line)) → GaveNote line (status_of line) old.notes notes → Promise command old (status_of line) (after new old.out notes)
   line_done line notes ran gave =

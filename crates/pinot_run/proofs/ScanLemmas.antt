@@ -119,6 +119,7 @@ few_line (note.BadCsv wrong row column) e = refl
 few_line (note.TooLarge what limit) e = e
 few_line (note.BadQuery wrong place) e = refl
 few_line (note.TooManyGroups most) e = refl
+few_line (note.NotASegment name part) e = absurd cc
 
 few_caused : (file sql : List ℕ) (inputs stored : Option Files) (line : Note) → rows_refuse line ≡ true → IfSome inputs (IsOf file sql (Refuses line)) → Caused (Some (Scan file sql)) inputs stored line
 few_caused file sql inputs stored note.BadWords e told = absurd cc
@@ -131,6 +132,7 @@ few_caused file sql inputs stored (note.BadCsv wrong row column) e told = told_e
 few_caused file sql inputs stored (note.TooLarge what limit) e told = told_each inputs _ _ (λ files is. sym is) told
 few_caused file sql inputs stored (note.BadQuery wrong place) e told = told_each inputs _ _ (λ files is. sym is) told
 few_caused file sql inputs stored (note.TooManyGroups most) e told = told_each inputs _ _ (λ files is. sym is) told
+few_caused file sql inputs stored (note.NotASegment name part) e told = absurd cc
 
 -- ---- the clause of `scan`
 

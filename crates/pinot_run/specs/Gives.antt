@@ -1,12 +1,19 @@
 -- What the functions below a command's own answer.
-use Rattle.std.specs.Prelude.{◌≡◌, ◌<◌, ◌≤◌, ◌⊎◌, ◌++◌, Bool, true, false, ℕ, List, length, codes, Option, Result, Ok, Err, IsErrAnd, IfSome}
+use Rattle.std.specs.Prelude.{◌≡◌, ◌<◌, ◌≤◌, ◌⊎◌, ◌++◌, Bool, true, false, ℕ, List, length, codes, Option, Result, Ok, Err, IsErrAnd, IfSome, IfErr, IfOk}
 use Rattle.outside.specs.Counts.{Rose}
 use Rattle.outside.specs.Files.{Files, Has, Lacks, with_file}
 use Rattle.outside.specs.Whole.{IsTooLong}
 use Rattle.table_schema.specs.declared.table.Table.{Table}
 use Rattle.table_store.specs.State as state
 use Rattle.table_store.specs.TableFile.{table_file, table_name}
-use Rattle.pinot_run.specs.Profile.{texts_refuse}
+use Rattle.pinot_run.specs.Profile.{Opens, store_refuses, texts_refuse}
+use Rattle.pinot_run.specs.Stored.{part_text}
+use Rattle.pinot_run.specs.Touched.{LogsOpened}
+use Rattle.segment_file.specs.declared.fault.HeadFault.{HeadFault}
+use Rattle.segment_file.specs.declared.fault.HeadFault.TheVariants as head
+use Rattle.table_schema.specs.declared.field.Field.{Field}
+use Rattle.table_store.specs.declared.fault.StoreFault.{StoreFault}
+use Rattle.table_store.specs.declared.fault.StoreFault.TheVariants as store
 use Rattle.table_schema.specs.declared.query.BoundQuery.{BoundQuery}
 use Rattle.query_parser.specs.Query.{parsed}
 use Rattle.query_parser.specs.declared.tree.Query.{Query}
@@ -24,7 +31,7 @@ use Rattle.csv_ingest.specs.declared.fault.CsvFault.{CsvFault}
 use Rattle.pinot_run.specs.Notes.{csv_note}
 use Rattle.pinot_run.specs.Reply.{bound_reply, most_groups}
 use Rattle.pinot_run.specs.Step.{Answer, Refuses, Replies, replied, sql_limit}
-use Rattle.outside.specs.Seen.{Seen}
+use Rattle.outside.specs.Seen.{Seen, OnlyReads}
 use Rattle.pinot_run.specs.declared.fault.Fault.TheVariants as fault
 use Rattle.pinot_run.specs.declared.note.Counted.{Counted}
 use Rattle.pinot_run.specs.declared.note.Note.{Note}
@@ -101,3 +108,32 @@ RepliesOver query whole result = ((rows : List (List Value)) × (whole ≡ Ok ro
 -- the same for whatever a text gives
 abbrev pub GivesOver : (RowsOrFault → Type 0) → BoundQuery → Result (List ℕ) Stop → Type 0
 GivesOver Has query result = (whole : RowsOrFault) → Has whole → RepliesOver query whole result
+
+-- ---- the store is looked at
+
+-- a look at the store ends: the files are refused so, or a look failed, or memory ran out
+abbrev pub StopsStore : (Files → Note → Type 0) → Option Files → Stop → Type 0
+StopsStore Refusal held (stop.Refused line) = (store_refuses line ≡ true) × IfSome held (λ files. Refusal files line)
+StopsStore Refusal held (stop.Fault fault.Read) = Unit {0}
+StopsStore Refusal held (stop.Fault fault.Write) = ⊥
+StopsStore Refusal held (stop.Fault fault.Memory) = Unit {0}
+
+-- a call read such files of the store and changed nothing; where the files are told, they are of what it found, or are refused so
+pub record LooksFor {A : Type 0} (Found : Files → A → Type 0) (Refusal : Files → Note → Type 0) (opens : Opens) (old new : Seen) (result : Result A Stop) : Type 0 where
+  pub reads : OnlyReads (IsErrAnd result (λ s. s ≡ stop.Fault fault.Read)) old new
+  pub log : LogsOpened opens old.log new.log
+  pub found : IfOk result (λ a. IfSome old.held (λ files. Found files a))
+  pub stops : IfErr result (StopsStore Refusal old.held)
+
+-- what the fault of a store is for a command that opens the table's file alone
+abbrev pub IsStopOf : StoreFault → Stop → Type 0
+IsStopOf store.NoTable s = s ≡ stop.Refused note.NoTable
+IsStopOf (store.NotASegment part) s = (s ≡ stop.Refused (note.NotASegment table_name (codes "table"))) ⊎ (s ≡ stop.Fault fault.Memory)
+IsStopOf store.ReadFault s = s ≡ stop.Fault fault.Read
+IsStopOf other s = s ≡ stop.Fault fault.Memory
+
+-- what the fault of a head of a segment of this name is
+abbrev pub IsHeadStop : List ℕ → List Field → HeadFault → Stop → Type 0
+IsHeadStop name fields (head.NotASegment part) s = (s ≡ stop.Refused (note.NotASegment name (part_text fields part))) ⊎ (s ≡ stop.Fault fault.Memory)
+IsHeadStop name fields head.ReadFault s = s ≡ stop.Fault fault.Read
+IsHeadStop name fields head.NoMemory s = s ≡ stop.Fault fault.Memory

@@ -6,10 +6,11 @@ use Rattle.outside.specs.Files.{Files, Has, Lacks, with_file}
 use Rattle.table_store.specs.State.{State}
 use Rattle.table_store.specs.Stands.{Stands}
 use Rattle.table_store.specs.TableFile.{table_file, table_name, text_limit}
-use Rattle.pinot_run.specs.Command.{Command, Create, Scan}
+use Rattle.pinot_run.specs.Command.{Command, Create, Listing, Scan}
 use Rattle.pinot_run.specs.Create.{Made, new_table}
 use Rattle.pinot_run.specs.Profile.{may_read, profile}
 use Rattle.pinot_run.specs.Step.{After, Answer, Refuses, Replies, create_answer, scan_answer, step_of}
+use Rattle.pinot_run.specs.Stored.{IsListed, IsWrongSegment, IsWrongTable, SegmentsRefuse}
 use Rattle.pinot_run.specs.Touched.{ReadsFront, Touched}
 use Rattle.pinot_run.specs.World.{Devices}
 use Rattle.pinot_run.specs.declared.fault.Fault.{Fault}
@@ -48,11 +49,17 @@ pub record Creates (made : Made) (old : Option Files) (answer : Answer) (new : O
   pub answers : answer ≡ create_answer there made
   pub leaves : new ≡ files_after there made old
 
+-- what `list` answers of any published files
+abbrev pub Lists : Files → Answer → Type 0
+Lists files (Replies text) = IsListed files text
+Lists files (Refuses line) = SegmentsRefuse files line
+
 -- what a command does over any store
 abbrev pub Over : Option Command → Files → Option Files → Answer → Option Files → Type 0
 Over None inputs old answer new = (answer ≡ Refuses note.BadWords) × (new ≡ old)
 Over (Some (Scan file sql)) inputs old answer new = (answer ≡ scan_answer file sql (map.get inputs file)) × (new ≡ old)
 Over (Some (Create schema settings)) inputs old answer new = Creates (new_table schema settings inputs) old answer new
+Over (Some Listing) inputs old answer new = IfSome old (λ files. Lists files answer) × (new ≡ old)
 
 -- ---- refusals
 
@@ -61,12 +68,19 @@ abbrev pub Finds : Option Command → Files → Option Files → Note → Type 0
 Finds None inputs stored line = Unit {0}
 Finds (Some (Scan file sql)) inputs stored line = scan_answer file sql (map.get inputs file) ≡ Refuses line
 Finds (Some (Create schema settings)) inputs stored line = new_table schema settings inputs ≡ Err line
+Finds (Some Listing) inputs stored line = ⊥
+
+-- a published file is not what it stands for; only `list` looks at those of segments
+abbrev pub IsWrong : Option Command → Files → List ℕ → List ℕ → Type 0
+IsWrong (Some Listing) files name part = IsWrongTable files name part ⊎ IsWrongSegment files name part
+IsWrong command files name part = IsWrongTable files name part
 
 -- what is told of the devices where a command is refused so: of the store, or of the bytes of files
 abbrev pub Caused : Option Command → Option Files → Option Files → Note → Type 0
 Caused command inputs stored note.TableExists = Has stored table_name
 Caused command inputs stored note.NoTable = Lacks stored table_name
 Caused command inputs stored (note.NoInput file) = Lacks inputs file
+Caused command inputs stored (note.NotASegment name part) = IfSome stored (λ files. IsWrong command files name part)
 Caused command inputs stored line = IfSome inputs (λ files. Finds command files stored line)
 
 -- how far the inputs were looked at where a command is refused so: at none where there is a table, and at the schema alone where it is refused

@@ -1,10 +1,11 @@
 -- What a command reads and changes on the devices, by its profile.
-use Rattle.std.specs.Prelude.{◌≡◌, ◌≤◌, ℕ, List, [], ◌∷◌, ◌++◌, All, Option, option_map}
+use Rattle.std.specs.Prelude.{◌≡◌, ◌≤◌, ◌⊎◌, ℕ, List, [], ◌∷◌, ◌++◌, All, Option, option_map}
 use Rattle.outside.specs.Reads.{Entry}
 use Rattle.outside.specs.Whole.{LogsFront}
+use Rattle.segment_file.specs.Names.{IsSegmentName, file_of}
 use Rattle.table_store.specs.TableFile.{incoming, table_name}
 use Rattle.pinot_run.specs.Command.{Command}
-use Rattle.pinot_run.specs.Profile.{AnyFile, Apart, Looks, NoFile, Opens, Store, TableFile, Writes, profile}
+use Rattle.pinot_run.specs.Profile.{Apart, Looks, NoFile, Opens, Store, StoreFiles, TableFile, Writes, profile}
 use Rattle.outside.specs.Seen.{Seen}
 use Rattle.pinot_run.specs.World.{Devices, SameButThese}
 
@@ -21,11 +22,15 @@ abbrev pub Reads : List (List ℕ × ℕ) → Seen → Seen → Type 0
 Reads [] old new = new ≡ old
 Reads (file ∷ others) old new = (mid : Seen) × ReadsFront file.0 file.1 old mid × Reads others mid new
 
+-- the table's file, or a segment's
+abbrev pub IsStoreFile : List ℕ → Type 0
+IsStoreFile file = (file ≡ table_name) ⊎ ((name : List ℕ) × IsSegmentName name × (file ≡ file_of name))
+
 -- a told log grew by reads of such files
 abbrev pub LogsOpened : Opens → Option (List Entry) → Option (List Entry) → Type 0
 LogsOpened NoFile old new = new ≡ old
 LogsOpened TableFile old new = (entries : List Entry) × (new ≡ option_map (λ before. before ++ entries) old) × All (λ entry. entry.file ≡ table_name) entries
-LogsOpened AnyFile old new = (entries : List Entry) × (new ≡ option_map (λ before. before ++ entries) old)
+LogsOpened StoreFiles old new = (entries : List Entry) × (new ≡ option_map (λ before. before ++ entries) old) × All (λ entry. IsStoreFile entry.file) entries
 
 -- a store was looked at, and such files of it opened
 pub record OnlyLooks (opens : Opens) (old new : Seen) : Type 0 where

@@ -9,11 +9,14 @@ mod finish;
 mod input;
 mod laws;
 mod line;
+mod list;
 mod note;
+mod part_name;
 mod run;
 mod scan;
 mod status;
 mod stop;
+mod store;
 
 pub use laws::promises_compose_law;
 pub use run::run_command;

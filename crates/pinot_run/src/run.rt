@@ -13,6 +13,7 @@ use crate::Status;
 use crate::command::{Command, read_command};
 use crate::create::create;
 use crate::finish::{give_note, give_text, note_fault, status_of_fault};
+use crate::list::list;
 use crate::note::Note;
 use crate::scan::scan;
 use crate::stop::Stop;
@@ -34,6 +35,7 @@ fn reply_to<I: Shelf, D: Depot>(
     match read_command(words) {
         Some(Command::Scan(file, sql)) => scan(alloc, file, sql, inputs),
         Some(Command::Create(schema, settings)) => create(alloc, schema, settings, inputs, depot),
+        Some(Command::List) => list(alloc, depot),
         None => Err(Stop::Refused(Note::BadWords)),
     }
 }

@@ -1,7 +1,8 @@
 mod NameLemmas
-mod AcceptedLemmas
+pub mod AcceptedLemmas
 mod SegmentLemmas
 mod FilesLemmas
 mod OpenLemmas
 pub mod StandsLemmas
+pub mod KeyLemmas
 mod TableFileLemmas

@@ -1,12 +1,12 @@
 -- The names of the segments that have files.
 use Rattle.std.proofs.Common.{◌≡◌, ◌≢◌, ◌∙◌, ◌<◌, ◌≤◌, ◌+◌, ℕ, Bool, true, false, ◌&&◌, ◌||◌, T, List, [], ◌∷◌, ◌++◌, length, map, get_or, take, drop, append_assoc, length-take, Option, Some, None, IfSome, cond, inl, inr, refl, sym, ap, subst, arith}
-use Rattle.std.specs.Prelude.{codes, is_some, option_map}
+use Rattle.std.specs.Prelude.{codes, is_some, option_map, nat_le, nat_lt}
 use Rattle.std.specs.Str.Pattern.{FindsTextSuffix, StripsSuffix}
 use Rattle.std.proofs.lemmas.List.{drop_more, length-map}
 use Rattle.std.specs.FinMap as tree
 use Rattle.std.specs.FinMap.Entries.{below_all, is_sorted}
 use Rattle.std.specs.Cmp.{eq_by_cmp_equiv}
-use Rattle.std.specs.List.{AllByRecursion, IsDistinct, list_any}
+use Rattle.std.specs.List.{All, AllByRecursion, IsDistinct, list_all, list_any}
 use Rattle.std.specs.List.Sorted.{IsPermutation, IsSorted, IsStrictlySortedBy}
 use Rattle.std.specs.Ordering.{eq_by_cmp, is_eq, is_lt, ordering_reverse}
 use Rattle.std.specs.declared.cmp.Ordering.{Ordering}
@@ -14,15 +14,16 @@ use Rattle.std.specs.declared.cmp.Ordering.TheVariants as order
 use Rattle.std.proofs.lemmas.Bool.{false≢true}
 use Rattle.std.proofs.lemmas.Cmp.{nat_list_cmp_total}
 use Rattle.std.proofs.lemmas.List.Folds.{list_any-append}
-use Rattle.std.proofs.lemmas.List.Sorted.{list_any-IsPermutation}
+use Rattle.std.proofs.lemmas.List.Sorted.{list_any-IsPermutation, All-permutation}
 use Rattle.std.proofs.lemmas.Map.Keys.{IsDistinct-IsPermutation, IsDistinct-cons, IsDistinct-from_sorted, apart_from_distinct, sorted_from_all_adjacent}
 use Rattle.std.proofs.lemmas.Map.Made.{length-from_same_keys}
 use Rattle.outside.specs.Files.{Files, IsNames, name_order}
-use Rattle.segment_file.specs.Names.{IsSegmentName, file_of, is_segment_name}
+use Rattle.segment_file.specs.Names.{IsSegmentName, file_of, is_segment_name, is_name_byte}
 use Rattle.table_store.specs.Segments.{AreFirstNames, HasRoom, IsFull, NamesCount, has_segment, is_segment_file, name_in, names_among}
 use Rattle.table_schema.specs.declared.table.Table as schema
 use Rattle.table_store.specs.State.{Segment, Segments, Texts}
 use Rattle.table_store.specs.Stands.{IsTable, StandsFor, most_segments, segment_file, stem}
+use Rattle.std.proofs.lemmas.List.Elements.{All-append, All-cons, All-nil, All-take}
 use Rattle.table_store.proofs.FilesLemmas.{other_name}
 use Rattle.table_store.proofs.SegmentLemmas.{file_kept, is_name, stem_back, tied_name}
 
@@ -240,3 +241,25 @@ names_count files texts segments all stands are =
     let theirs : IsDistinct same keys = entries_apart (tree.entries segments) (tree.entries_sorted segments) in
     let members : (q : List ℕ) → list_any (same q) all ≡ list_any (same q) keys = λ q. are.those q ∙ has_kept files texts segments q stands ∙ tree.contains_key-keys segments q in
     length-from_same_keys (eq_by_cmp_equiv nat_list_cmp_total) all keys mine theirs members ∙ length-map (tree.entries segments) (λ e. e.0) ∙ sym (tree.len-entries segments)
+
+-- ---- all of them are names of segments
+
+is_named : (name : List ℕ) → is_segment_name name ≡ true → IsSegmentName name
+is_named name e =
+    let some : Bool = nat_lt 0 (length name) in
+    let few : Bool = nat_le (length name) 64 in
+    let each : Bool = list_all is_name_byte name in
+    let front : (some && few) ≡ true = and_first (some && few) each e in
+    record { some = and_first some few front; few = and_second some few front; each = and_second (some && few) each e }
+
+one_named : (file : List ℕ) (b : Bool) → is_segment_file file ≡ b → All IsSegmentName (cond b (stem file ∷ []) [])
+one_named file true e = All-cons IsSegmentName (stem file) [] (is_named (stem file) (and_second (same file (file_of (stem file))) (is_segment_name (stem file)) e)) (All-nil IsSegmentName)
+one_named file false e = All-nil IsSegmentName
+
+all_named : (files : List (List ℕ)) → All IsSegmentName (names_among files)
+all_named [] = All-nil IsSegmentName
+all_named (file ∷ files) = All-append IsSegmentName (name_in file) (names_among files) (one_named file (is_segment_file file) refl) (all_named files)
+
+pub first_named : (files names : List (List ℕ)) → ((all : List (List ℕ)) × IsPermutation (names_among files) all × IsSorted name_order all × (names ≡ take most_segments all)) → All IsSegmentName names
+first_named files names (all, moved, sorted, first) =
+    subst (All IsSegmentName) (sym first) (All-take IsSegmentName most_segments all (All-permutation IsSegmentName (names_among files) all moved (all_named files)))

@@ -6,8 +6,8 @@ use Rattle.std.specs.List.Sorted.{IsStrictlySortedBy}
 use Rattle.std.specs.Ordering.{eq_by_cmp}
 use Rattle.outside.specs.Files.{Files, name_order}
 use Rattle.segment_file.specs.Names.{file_of, is_segment_name}
-use Rattle.table_store.specs.State.{Segments, Texts}
-use Rattle.table_store.specs.Stands.{StandsFor, most_segments, stem}
+use Rattle.table_store.specs.State.{Segments, Texts, HasTable}
+use Rattle.table_store.specs.Stands.{StandsFor, most_segments, stem, Stands}
 
 -- whether a segment of this name has a file
 abbrev pub has_segment : Files → List ℕ → Bool
@@ -33,6 +33,10 @@ IsFull files = (all : List (List ℕ)) × AreNames files all × (most_segments �
 -- files that stand for a state have as many names of segments as it has segments
 abbrev pub NamesCount : Type 0
 NamesCount = (files : Files) (texts : Texts) (segments : Segments) (all : List (List ℕ)) → StandsFor files texts segments → AreNames files all → length all ≡ map.len segments
+
+-- where a store stands for a table, the names of the segments that have files are those of its segments
+abbrev pub NamesStand : Type 0
+NamesStand = (files : Files) (texts : Texts) (segments : Segments) (names : List (List ℕ)) → Stands files (HasTable texts segments) → AreNames files names → names ≡ map.keys segments
 
 -- ---- files by their names
 

@@ -1,5 +1,5 @@
 //! Laws of the files that a state is kept in.
-ghost use Rattle.table_store.specs.Segments.{NamesCount};
+ghost use Rattle.table_store.specs.Segments.{NamesCount, NamesStand};
 ghost use Rattle.table_store.specs.Stands.{CreateStands, EmptyStands, SegmentStands, StandsForOne, TableStands};
 
 /// Files stand for at most one state.
@@ -32,4 +32,10 @@ pub fn segment_stands_law()
 /// Files that stand for a state have as many names of segments as it has segments.
 pub fn names_count_law()
     ensures { NamesCount }
+{}
+
+/// Where a store stands for a table, the names of the segments that have files are those of its
+/// segments.
+pub fn names_stand_law()
+    ensures { NamesStand }
 {}

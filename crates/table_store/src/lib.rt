@@ -11,10 +11,12 @@ mod table_file;
 pub use create::{create_table, has_table};
 pub use fault::StoreFault;
 pub use laws::{
-    create_stands_law, empty_stands_law, names_count_law, one_state_law, segment_stands_law,
-    table_stands_law,
+    create_stands_law, empty_stands_law, names_count_law, names_stand_law, one_state_law,
+    segment_stands_law, table_stands_law,
 };
 pub use open::open_table;
 pub use segment_file::Part;
-pub use segments::{MOST_SEGMENTS, holds_segment, publish_columns, segment_names};
+pub use segments::{
+    MOST_SEGMENTS, holds_segment, publish_columns, segment_file_name, segment_names,
+};
 pub use table_file::TEXT_LIMIT;

@@ -1,6 +1,7 @@
 //! The segments of a store.
 
 ghost use Rattle.std.specs.Prelude.{◌≡◌, ◌⊎◌, ◌++◌, ℕ, List, take, length, true, false, Ok, IfOk, IfSome, OnErr, OnOk, IsErrOf, string_bytes};
+ghost use Rattle.std.specs.List.{All};
 ghost use Rattle.std.specs.List.Sorted.{IsPermutation, IsSorted};
 ghost use Rattle.outside.specs.Counts.{Rose};
 ghost use Rattle.outside.specs.Files.{Has, Lacks, SameBut, name_order, with_file, without_file};
@@ -35,7 +36,7 @@ pub fn holds_segment<D: Depot>(alloc: Global, depot: &mut D, name: &str) -> Resu
         (seen D.Shelf depot.old) (seen D.Shelf depot.new) }
     ensures log { D.log depot.new ≡ D.log depot.old }
 {
-    let file = file_name(alloc, name)?;
+    let file = segment_file_name(alloc, name)?;
     match depot.length(alloc, file.as_str()) {
         Ok(_) => Ok(true),
         Err(ShelfFault::Missing) => Ok(false),
@@ -132,6 +133,7 @@ fn find_room<D: Depot>(alloc: Global, depot: &mut D, name: &str) -> Result<(), S
 pub fn segment_names<D: Depot>(alloc: Global, depot: &mut D) -> Result<Seq<Name>, StoreFault>
     ensures names { IfOk result (λ names. IfSome (D.held depot.old) (λ files.
         AreFirstNames files names)) }
+    ensures named { IfOk result (λ names. All IsSegmentName names) }
     ensures only { OnErr result
         (IsErrOf result StoreFault.ReadFault ⊎ IsErrOf result StoreFault.NoMemory) }
     ensures only_reads { OnlyReads (IsErrOf result StoreFault.ReadFault)
@@ -184,8 +186,8 @@ fn push_name(alloc: Global, file: &str, names: &mut Vec<Name>) -> Result<(), NoM
     Ok(())
 }
 
-// The name of the file of a segment.
-fn file_name(alloc: Global, name: &str) -> Result<String, NoMemory>
+/// The name of the file of a segment.
+pub fn segment_file_name(alloc: Global, name: &str) -> Result<String, NoMemory>
     ensures { IfOk result (λ file. string_bytes file ≡ file_of name.now) }
 {
     let mut file = String::from_str(alloc, name)?;

@@ -9,3 +9,8 @@ pub returns-in-Some-Scan : goal.returns-in-Some-Scan
 returns-in-Some-Scan g c =
     subst (λ command. Ran command (devices g.I.Shelf g.D.Shelf c.args.inputs.now c.args.depot.now) (devices g.I.Shelf g.D.Shelf c.scan.new.inputs c.args.depot.now) c.scan.result)
     (ap (λ command. Some (command_view command)) (sym c.in-Some-Scan.field-0-is) ∙ c.in-Some-Scan.ensures) (c.scan.ensures (seen g.D.Shelf c.args.depot.now))
+
+pub returns-in-Some-List : goal.returns-in-Some-List
+returns-in-Some-List g c =
+    subst (λ command. Ran command (devices g.I.Shelf g.D.Shelf c.args.inputs.now c.args.depot.now) (devices g.I.Shelf g.D.Shelf c.args.inputs.now c.list.new.depot) c.list.result)
+    (ap (λ command. Some (command_view command)) (sym c.in-Some-List.field-0-is) ∙ c.in-Some-List.ensures) (c.list.ensures (seen g.I.Shelf c.args.inputs.now))

@@ -1,0 +1,105 @@
+-- What `list` did, by what its parts did.
+use Rattle.std.proofs.Common.{◌≡◌, ◌∙◌, ◌<◌, ◌≤◌, ◌+◌, ◌++◌, ℕ, true, List, [], ◌∷◌, drop, length, get_or, codes, Option, Some, None, Result, Ok, Err, IfSome, IsErrAnd, refl, sym, ap, subst, append_assoc, append-nil, inr, arith}
+use Rattle.std.specs.Fmt.{decimal}
+use Rattle.std.proofs.lemmas.List.{drop_all, drop_more}
+use Rattle.std.specs.List.{AllZip}
+use Rattle.outside.specs.Files.{Files, Lacks}
+use Rattle.outside.specs.Seen.{OnlyReads, Seen}
+use Rattle.table_schema.specs.declared.table.Table.{Table}
+use Rattle.table_store.specs.Segments.{AreFirstNames}
+use Rattle.pinot_run.specs.Command.{Listing}
+use Rattle.pinot_run.specs.Gives.{LooksFor, StopsStore}
+use Rattle.pinot_run.specs.Profile.{StoreFiles, store_refuses}
+use Rattle.pinot_run.specs.Ran.{Acted, Caused, IsAllowed, Lists, NoFaults, Over, Ran}
+use Rattle.pinot_run.specs.Step.{Answer, Refuses, Replies}
+use Rattle.pinot_run.specs.Stored.{HasRows, HasTableFile, IsListed, SegmentsRefuse, list_text, segment_lines}
+use Rattle.pinot_run.specs.Touched.{LogsOpened, OnlyLooks}
+use Rattle.pinot_run.specs.World.{Devices}
+use Rattle.pinot_run.specs.declared.fault.Fault.TheVariants as fault
+use Rattle.pinot_run.specs.declared.note.Note.{Note}
+use Rattle.pinot_run.specs.declared.note.Note.TheVariants as note
+use Rattle.pinot_run.specs.declared.stop.Stop.{Stop}
+use Rattle.pinot_run.specs.declared.stop.Stop.TheVariants as stop
+use Rattle.pinot_run.proofs.MachineLemmas.{steps_over}
+use Rattle.pinot_run.proofs.StoredLemmas.{reads_as, reads_then}
+
+-- ---- what was found
+
+pub listed_so : (a b c d : Option Files) (table : Table) (names : List (List ℕ)) (counts text : List ℕ) → b ≡ a → c ≡ b → text ≡ list_text names counts → IfSome a (λ files. HasTableFile files table)
+    → IfSome b (λ files. AreFirstNames files names) → IfSome c (λ files. AllZip (HasRows table files) names counts) → IfSome a (λ files. IsListed files text)
+listed_so None b c d table names counts text same next is has are rows = tt
+listed_so (Some files) b c d table names counts text same next is has are rows =
+    record {
+      table = table;
+      table_is = has;
+      names = names;
+      names_are = subst (λ h. IfSome h (λ f. AreFirstNames f names)) same are;
+      counts = counts;
+      rows = subst (λ h. IfSome h (λ f. AllZip (HasRows table f) names counts)) (next ∙ same) rows;
+      text_is = is;
+    }
+
+-- ---- the clause of `list`
+
+told_all : (held : Option Files) (P : Files → Type 0) → ((files : Files) → P files) → IfSome held P
+told_all None P f = tt
+told_all (Some files) P f = f files
+
+caused_line : (inputs stored : Option Files) (line : Note) → store_refuses line ≡ true → IfSome stored (λ files. SegmentsRefuse files line) → Caused (Some Listing) inputs stored line
+caused_line inputs stored note.BadWords e h = absurd cc
+caused_line inputs stored (note.NoInput file) e h = absurd cc
+caused_line inputs stored (note.BadSchema wrong path) e h = absurd cc
+caused_line inputs stored (note.BadSettings wrong path) e h = absurd cc
+caused_line inputs stored note.TableExists e h = absurd cc
+caused_line inputs stored note.NoTable e h = h
+caused_line inputs stored (note.BadCsv wrong row column) e h = absurd cc
+caused_line inputs stored (note.TooLarge what limit) e h = absurd cc
+caused_line inputs stored (note.BadQuery wrong place) e h = absurd cc
+caused_line inputs stored (note.NotASegment name part) e h = h
+
+module _ (inputs old new : Seen) where
+  abbrev Old : Devices
+  Old = record { inputs = inputs; depot = old }
+
+  abbrev New : Devices
+  New = record { inputs = inputs; depot = new }
+
+  abbrev Of : Result (List ℕ) Stop → Type 0
+  Of result = Ran (Some Listing) Old New result
+
+  abbrev Listed : Result (List ℕ) Stop → Type 0
+  Listed result = LooksFor IsListed SegmentsRefuse StoreFiles old new result
+
+  looked : {F : Type 0} → OnlyReads F old new → LogsOpened StoreFiles old.log new.log → OnlyLooks StoreFiles old new
+  looked reads log = record { held = reads.held; parts = reads.parts; writes = reads.writes; later = reads.later; log = log }
+
+  none : {F : Type 0} → OnlyReads F old new → ¬ F → NoFaults Old New
+  none reads fine = record { inputs = refl; depot_reads = reads.still fine; depot_writes = reads.writes }
+
+  acted : (answer : Answer) → new.held ≡ old.held → IfSome old.held (λ files. Lists files answer) → IsAllowed (Some Listing) Old New answer → Acted (Some Listing) Old New answer
+  acted answer kept lists allowed =
+      let over = told_all inputs.held (λ files. Over (Some Listing) files old.held answer new.held) (λ files. (lists, kept)) in
+      record { step = steps_over (Some Listing) inputs.held old.held answer new.held over; over = over; allowed = allowed }
+
+  pub ran_list : (result : Result (List ℕ) Stop) → Listed result → Of result
+  ran_list (Ok text) l = record {
+    touched = record { inputs = refl; depot = looked l.reads l.log };
+    counted = none l.reads (λ e. e);
+    ended = acted (Replies text) l.reads.held l.found refl;
+  }
+  ran_list (Err (stop.Refused line)) l = record {
+    touched = record { inputs = refl; depot = looked l.reads l.log };
+    counted = none l.reads (λ e. cc);
+    ended = acted (Refuses line) l.reads.held l.stops.1 (l.stops.0, caused_line inputs.held old.held line l.stops.0 l.stops.1, l.reads.held, tt);
+  }
+  ran_list (Err (stop.Fault fault.Read)) l = record {
+    touched = record { inputs = refl; depot = looked l.reads l.log };
+    counted = l.reads.writes;
+    ended = record { kept = l.reads.held; cause = (refl, inr (l.reads.rose refl)) };
+  }
+  ran_list (Err (stop.Fault fault.Write)) l = absurd l.stops
+  ran_list (Err (stop.Fault fault.Memory)) l = record {
+    touched = record { inputs = refl; depot = looked l.reads l.log };
+    counted = none l.reads (λ e. cc);
+    ended = record { kept = l.reads.held; cause = tt };
+  }

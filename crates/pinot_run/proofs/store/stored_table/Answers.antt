@@ -1,0 +1,18 @@
+use Rattle.outside.specs.Seen.{seen}
+use Rattle.pinot_run.proofs.StoredLemmas.{front_opened, no_table, reads_as}
+use Rattle.pinot_run.proofs.store.stored_table.Goals as goal
+
+pub returns-in-Ok-clause-looks : goal.returns-in-Ok-clause-looks
+returns-in-Ok-clause-looks g c =
+    let e = c.in-Ok.ensures in
+    record {
+      reads = reads_as (seen g.D.Shelf c.args.depot.now) (seen g.D.Shelf c.open_table.new.depot) e.only_reads (λ f. absurd f) (λ f. cc);
+      log = front_opened 2097168 _ _ e.log;
+      found = e.table;
+      stops = tt;
+    }
+
+pub returns-in-Err-clause-looks : goal.returns-in-Err-clause-looks
+returns-in-Err-clause-looks g c =
+    let e = c.in-Err.ensures in
+    no_table (seen g.D.Shelf c.args.depot.now) (seen g.D.Shelf c.open_table.new.depot) (front_opened 2097168 _ _ e.log) c.in-Err.fault c.stop_of.result c.stop_of.ensures e.none e.other e.only_reads e.only

@@ -1,0 +1,141 @@
+//! The command `list`: the segments of a store, with how many rows each has.
+ghost use Rattle.std.specs.Prelude.{◌≡◌, ◌∷◌, [], ◌++◌, codes, length, true, Some, IfOk, IfSome, OnOk};
+ghost use Rattle.std.specs.Fmt.{decimal};
+ghost use Rattle.std.specs.List.{All, AllZip};
+ghost use Rattle.outside.specs.Seen.{Seen, seen};
+ghost use Rattle.segment_file.specs.Names.{IsSegmentName};
+ghost use Rattle.segment_file.specs.Parts.{IsPlainTable};
+ghost use Rattle.table_schema.specs.ValidTable.{IsValidTable};
+ghost use Rattle.table_store.specs.Segments.{has_segment};
+ghost use Rattle.pinot_run.specs.Command.{Listing};
+ghost use Rattle.pinot_run.specs.Gives.{IsHeadStop, LooksFor};
+ghost use Rattle.pinot_run.specs.Profile.{StoreFiles};
+ghost use Rattle.pinot_run.specs.Ran.{Ran};
+ghost use Rattle.pinot_run.specs.Stored as spec;
+ghost use Rattle.pinot_run.specs.Stored.{HasRows, HasTableFile, SegmentsRefuse, part_text};
+
+use crate::fault::Fault;
+use crate::note::Note;
+use crate::part_name::part_text;
+use crate::stop::Stop;
+use crate::store::{stored_names, stored_table};
+use outside::{Bytes, Depot, Name, Seq};
+use segment_file::{HeadFault, Part, open_head};
+use std::alloc::{AllocError, Global};
+use table_schema::Table;
+use table_store::segment_file_name;
+
+/// The reply to `list`. Of a segment's file no more than the front and the bounds is read.
+pub fn list<D: Depot>(alloc: Global, depot: &mut D) -> Result<Bytes, Stop>
+    ensures { (inputs : Seen) → Ran (Some Listing)
+        (record { inputs = inputs; depot = seen D.Shelf depot.old })
+        (record { inputs = inputs; depot = seen D.Shelf depot.new }) result }
+{
+    let table = stored_table(alloc, depot)?;
+    let names = stored_names(alloc, depot)?;
+    let counts = count_all(alloc, depot, &table, names.as_slice())?;
+    Ok(list_text(alloc, names.as_slice(), counts.as_slice())?)
+}
+
+// How many rows each of these segments has.
+fn count_all<D: Depot>(
+    alloc: Global,
+    depot: &mut D,
+    table: &Table,
+    names: &[Name],
+) -> Result<Seq<u32>, Stop>
+    requires valid { IsValidTable table.now }
+    requires plain { IsPlainTable table.now }
+    requires named { All IsSegmentName names.now }
+    requires there { IfSome (D.held depot.old) (λ files. HasTableFile files table.now
+        × All (λ name. has_segment files name ≡ true) names.now) }
+    ensures looks { LooksFor (λ files counts. AllZip (HasRows table.now files) names.now counts)
+        SegmentsRefuse StoreFiles (seen D.Shelf depot.old) (seen D.Shelf depot.new) result }
+    ensures each { IfOk result (λ counts. length counts ≡ length names.now) }
+{
+    let mut counts = Vec::with_capacity(alloc, names.len())?;
+    'names: for at in 0..names.len() {
+        let rows = count_rows(alloc, depot, table, names[at].as_str())?;
+        push_count(rows, &mut counts)?;
+    }
+    Ok(Seq::from_vec(counts))
+}
+
+// Adds how many rows one has.
+fn push_count(rows: u32, counts: &mut Vec<u32>) -> Result<(), AllocError>
+    ensures { OnOk result (counts.new.items ≡ counts.old.items ++ rows ∷ []) }
+{
+    counts.push(rows)?;
+    Ok(())
+}
+
+// How many rows a segment has, as the front of its file says.
+fn count_rows<D: Depot>(
+    alloc: Global,
+    depot: &mut D,
+    table: &Table,
+    name: &str,
+) -> Result<u32, Stop>
+    requires valid { IsValidTable table.now }
+    requires plain { IsPlainTable table.now }
+    requires name { IsSegmentName name.now }
+    requires there { IfSome (D.held depot.old) (λ files. HasTableFile files table.now
+        × (has_segment files name.now ≡ true)) }
+    ensures { LooksFor (λ files rows. HasRows table.now files name.now rows) SegmentsRefuse
+        StoreFiles (seen D.Shelf depot.old) (seen D.Shelf depot.new) result }
+{
+    let file = segment_file_name(alloc, name)?;
+    match open_head(alloc, depot, file.as_str(), name, table) {
+        Ok(head) => Ok(head.rows()),
+        Err(fault) => Err(stop_of(alloc, table, name, fault)),
+    }
+}
+
+// What a fault of a head is for a command.
+fn stop_of(alloc: Global, table: &Table, name: &str, fault: HeadFault) -> Stop
+    ensures { IsHeadStop name.now table.now.schema.fields fault result }
+{
+    match fault {
+        HeadFault::NotASegment(part) => match not_a_segment(alloc, table, name, part) {
+            Ok(note) => Stop::Refused(note),
+            Err(_) => Stop::Fault(Fault::Memory),
+        },
+        HeadFault::ReadFault => Stop::Fault(Fault::Read),
+        HeadFault::NoMemory => Stop::Fault(Fault::Memory),
+    }
+}
+
+// The refusal of a segment's file.
+fn not_a_segment(alloc: Global, table: &Table, name: &str, part: Part) -> Result<Note, AllocError>
+    ensures { IfOk result (λ note. note
+        ≡ Note.NotASegment name.now (part_text table.now.schema.fields part)) }
+{
+    let part = part_text(alloc, table.schema.fields.as_slice(), part)?;
+    let name = name.as_bytes().to_vec(alloc)?;
+    Ok(Note::NotASegment(Seq::from_vec(name), Seq::from_vec(part)))
+}
+
+// The text of a list of segments.
+fn list_text(alloc: Global, names: &[Name], counts: &[u32]) -> Result<Bytes, AllocError>
+    requires { length counts.now ≡ length names.now }
+    ensures { IfOk result (λ text. text ≡ spec.list_text names.now counts.now) }
+{
+    let mut text = b"segment,rows\n".to_vec(alloc)?;
+    'lines: for at in 0..names.len() {
+        push_line(alloc, names[at].as_slice(), counts[at], &mut text)?;
+    }
+    Ok(Seq::from_vec(text))
+}
+
+// Adds the line of a segment.
+fn push_line(alloc: Global, name: &[u8], rows: u32, text: &mut Vec<u8>) -> Result<(), AllocError>
+    ensures { OnOk result (text.new.items
+        ≡ text.old.items ++ name.now ++ codes "," ++ decimal rows ++ codes "\n") }
+{
+    text.extend_from_slice(name)?;
+    text.push(b',')?;
+    let digits = rows.to_string(alloc)?;
+    text.extend_from_slice(digits.as_bytes())?;
+    text.push(b'\n')?;
+    Ok(())
+}

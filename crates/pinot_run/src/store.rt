@@ -1,0 +1,69 @@
+//! What is looked at in a store.
+ghost use Rattle.std.specs.Prelude.{◌≡◌, false, codes, IfOk};
+ghost use Rattle.std.specs.List.{All};
+ghost use Rattle.outside.specs.Seen.{seen};
+ghost use Rattle.segment_file.specs.Names.{IsSegmentName};
+ghost use Rattle.table_schema.specs.Unbuilt.{names_unbuilt};
+ghost use Rattle.table_schema.specs.ValidTable.{IsValidTable};
+ghost use Rattle.table_store.specs.Segments.{AreFirstNames};
+ghost use Rattle.table_store.specs.TableFile.{table_name};
+ghost use Rattle.pinot_run.specs.Gives.{IsStopOf, LooksFor};
+ghost use Rattle.pinot_run.specs.Profile.{TableFile};
+ghost use Rattle.pinot_run.specs.Stored.{HasTableFile, TableRefuses};
+
+use crate::fault::Fault;
+use crate::note::Note;
+use crate::stop::Stop;
+use outside::{Depot, Name, Seq};
+use std::alloc::{AllocError, Global};
+use table_schema::Table;
+use table_store::{StoreFault, open_table, segment_names};
+
+/// The table of the store.
+pub fn stored_table<D: Depot>(alloc: Global, depot: &mut D) -> Result<Table, Stop>
+    ensures looks { LooksFor HasTableFile TableRefuses TableFile
+        (seen D.Shelf depot.old) (seen D.Shelf depot.new) result }
+    ensures valid { IfOk result (λ table. IsValidTable table) }
+    ensures built { IfOk result (λ table. names_unbuilt table.settings ≡ false) }
+{
+    match open_table(alloc, depot) {
+        Ok(table) => Ok(table),
+        Err(fault) => Err(stop_of(alloc, fault)),
+    }
+}
+
+/// The names of the segments of the store, the first of them where there are more than the most.
+pub fn stored_names<D: Depot>(alloc: Global, depot: &mut D) -> Result<Seq<Name>, Stop>
+    ensures looks { LooksFor AreFirstNames TableRefuses TableFile
+        (seen D.Shelf depot.old) (seen D.Shelf depot.new) result }
+    ensures named { IfOk result (λ names. All IsSegmentName names) }
+{
+    match segment_names(alloc, depot) {
+        Ok(names) => Ok(names),
+        Err(fault) => Err(stop_of(alloc, fault)),
+    }
+}
+
+// What a fault of the store is for a command.
+fn stop_of(alloc: Global, fault: StoreFault) -> Stop
+    ensures { IsStopOf fault result }
+{
+    match fault {
+        StoreFault::NoTable => Stop::Refused(Note::NoTable),
+        StoreFault::NotASegment(_) => match not_a_table(alloc) {
+            Ok(note) => Stop::Refused(note),
+            Err(_) => Stop::Fault(Fault::Memory),
+        },
+        StoreFault::ReadFault => Stop::Fault(Fault::Read),
+        _ => Stop::Fault(Fault::Memory),
+    }
+}
+
+// The refusal of a table's file.
+fn not_a_table(alloc: Global) -> Result<Note, AllocError>
+    ensures { IfOk result (λ note. note ≡ Note.NotASegment table_name (codes "table")) }
+{
+    let name = Seq::from_vec(b"table".to_vec(alloc)?);
+    let part = Seq::from_vec(b"table".to_vec(alloc)?);
+    Ok(Note::NotASegment(name, part))
+}
