@@ -1,1 +1,5 @@
 pub mod Pruning
+pub mod Matched
+pub mod Choices
+pub mod Plan
+pub mod Factors

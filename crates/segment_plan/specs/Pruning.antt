@@ -1,5 +1,5 @@
 -- Segments that the bounds of their columns exclude.
-use Rattle.std.specs.Prelude.{ℕ, Bool, true, false, not, ◌||◌, ◌==◌, List, Option, Some, None, slice_get}
+use Rattle.std.specs.Prelude.{Bool, false, not, ◌||◌, ◌==◌, List, Option, Some, None, slice_get}
 use Rattle.std.specs.List.{list_any}
 use Rattle.values.specs.declared.test.Test.{Test}
 use Rattle.values.specs.Tests.{may_hold}
