@@ -1,3 +1,4 @@
 mod Counted
 mod Ends
 mod Columns
+mod Pruned

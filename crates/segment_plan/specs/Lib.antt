@@ -3,3 +3,4 @@ pub mod Matched
 pub mod Choices
 pub mod Plan
 pub mod Factors
+pub mod Laws

@@ -2,12 +2,14 @@
 #![tactic(auto)]
 
 mod choice;
+mod laws;
 mod matching;
 mod planning;
 mod plans;
 mod pruning;
 mod split_factors;
 
+pub use laws::pruned_law;
 pub use planning::plan;
 pub use plans::{IndexChoice, ScanPlan, SegmentPlan};
 pub use pruning::prune;
