@@ -2,3 +2,4 @@ mod Counted
 mod Ends
 mod Columns
 mod Pruned
+mod Emptied

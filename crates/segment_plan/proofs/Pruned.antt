@@ -1,19 +1,16 @@
 -- No row of a segment that is pruned satisfies the query.
-use Rattle.std.proofs.Common.{◌≡◌, ◌∙◌, ◌<◌, ◌≤◌, ◌+◌, ◌-◌, ◌==◌, ℕ, zero, suc, Bool, true, false, not, ◌&&◌, ◌||◌, List, [], ◌∷◌, ◌++◌, length, map, get_or, Option, Some, None, append_assoc, refl, sym, ap, subst, arith, inl, inr}
+use Rattle.std.proofs.Common.{◌≡◌, ◌∙◌, ◌<◌, ◌≤◌, ◌+◌, ◌==◌, ℕ, zero, suc, Bool, true, false, not, ◌&&◌, ◌||◌, List, [], ◌∷◌, ◌++◌, length, map, get_or, Option, Some, None, append_assoc, refl, sym, ap, subst, arith, inl, inr}
 use Rattle.std.proofs.lemmas.Bool.{cases_lt, eqb-true, false≢true}
-use Rattle.std.proofs.lemmas.List.{get_or_default}
 use Rattle.std.proofs.lemmas.Map.Keys.{Less-from_sorted}
-use Rattle.std.specs.List.{AllByRecursion, list_all, list_any, range_with_len, slice_get}
+use Rattle.std.specs.List.{AllByRecursion, list_any, range_with_len, slice_get}
 use Rattle.std.specs.Ordering.{is_le, ordering_reverse}
 use Rattle.std.specs.declared.cmp.Ordering.{Ordering}
 use Rattle.std.specs.declared.cmp.Ordering.TheVariants as order
 use Rattle.values.specs.declared.value.Value.{Value}
-use Rattle.values.specs.declared.test.Test.{Test}
 use Rattle.values.specs.Order.{value_eq, value_order}
 use Rattle.values.specs.Order.Laws.{value_eq-equiv, value_order-total}
 use Rattle.values.specs.Tests.{holds, is_at_most, is_member, may_hold}
 use Rattle.values.proofs.Bounds.{may_hold-sound, same_value}
-use Rattle.table_schema.specs.declared.query.BoundQuery.{BoundQuery}
 use Rattle.table_schema.specs.declared.query.Conjunct.{Conjunct}
 use Rattle.table_schema.specs.declared.query.Conjunct.TheVariants.{One, Many}
 use Rattle.table_schema.specs.declared.table.Table.{Table}
@@ -22,11 +19,10 @@ use Rattle.dictionary.specs.Dictionary.{Ascends, distinct}
 use Rattle.dictionary.proofs.Distinct.{distinct_ascends, distinct_members}
 use Rattle.segment_file.specs.declared.bounds.Ends.{Ends}
 use Rattle.segment_file.specs.Bounds.{bounds_of, ends_of}
-use Rattle.segment_file.specs.Heads.{Seen}
 use Rattle.segment_file.specs.Image.{dictionary_of, values_in}
 use Rattle.segment_file.specs.Ordered.{value_in}
-use Rattle.segment_plan.specs.Laws.{PrunedHasNone, TellsOf}
-use Rattle.segment_plan.specs.Pruning.{excludes, is_excluded, is_pruned}
+use Rattle.segment_plan.specs.Laws.{PrunedHasNone}
+use Rattle.segment_plan.specs.Pruning.{excludes, is_excluded}
 
 -- ---- ascending values lie between their ends
 
@@ -136,7 +132,7 @@ module _ (table : Table) (rows : List (List Value)) (row : List Value) (there : 
 
 -- ---- each row
 
-member_more : (column : ℕ) (before rows : List (List Value)) (row : List Value) → is_member (values_in column (before ++ row ∷ rows)) (value_in column row) ≡ true
+pub member_more : (column : ℕ) (before rows : List (List Value)) (row : List Value) → is_member (values_in column (before ++ row ∷ rows)) (value_in column row) ≡ true
 member_more column [] rows row = ap (λ b. b || is_member (values_in column rows) (value_in column row)) (value_eq-equiv.refl (value_in column row))
 member_more column (first ∷ before) rows row = ap (λ b. value_eq (value_in column row) (value_in column first) || b) (member_more column before rows row) ∙ or_true (value_eq (value_in column row) (value_in column first))
   where

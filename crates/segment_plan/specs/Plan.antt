@@ -17,6 +17,10 @@ use Rattle.segment_plan.specs.Pruning.{is_pruned}
 abbrev pub leaves_none : List Conjunct → Seen → ℕ → Bool
 leaves_none conjuncts head column = is_filtered conjuncts column && matched conjuncts column (values_in head column) == 0
 
+-- some column is left without a value
+abbrev pub is_emptied : List Conjunct → Table → Seen → Bool
+is_emptied conjuncts table head = list_any (leaves_none conjuncts head) (columns_of table)
+
 -- the tree of this number; without one a scan with these choices
 abbrev pub tree_or : SegmentPlan → Option ℕ → SegmentPlan
 tree_or scan None = scan
@@ -30,5 +34,5 @@ scan_of query table head = Scan (record { choices = map (choice_of table.setting
 abbrev pub plan_of : BoundQuery → Table → Seen → SegmentPlan
 plan_of query table head =
     if is_pruned query head then Pruned else
-    if list_any (leaves_none query.conjuncts head) (columns_of table) then Empty else
+    if is_emptied query.conjuncts table head then Empty else
     tree_or (scan_of query table head) (picked query table.settings.trees)

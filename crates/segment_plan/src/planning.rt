@@ -1,8 +1,6 @@
 //! The plan of a segment.
-ghost use Rattle.std.specs.Prelude.{◌≡◌, ◌<◌, IfOk, length};
-ghost use Rattle.std.specs.List.{list_any};
+ghost use Rattle.std.specs.Prelude.{◌≡◌, IfOk};
 ghost use Rattle.table_schema.specs.ValidTable.{IsValidTable};
-ghost use Rattle.segment_file.specs.Parts.{columns_of};
 ghost use Rattle.segment_plan.specs.Matched.{AreLoaded};
 ghost use Rattle.segment_plan.specs.Plan as spec;
 
@@ -50,8 +48,7 @@ fn is_emptied(
 ) -> Result<bool, NoMemory>
     requires valid { IsValidTable table.now }
     requires loaded { AreLoaded conjuncts.now head.now }
-    ensures { IfOk result (λ b. b
-        ≡ list_any (spec.leaves_none conjuncts.now head.now) (columns_of table.now)) }
+    ensures { IfOk result (λ b. b ≡ spec.is_emptied conjuncts.now table.now head.now) }
 {
     for column in 0..table.schema.fields.len() {
         if leaves_none(alloc, conjuncts, column as u16, head)? {
