@@ -1,0 +1,5 @@
+mod Counted
+mod Ends
+mod Columns
+mod Pruned
+mod Emptied

@@ -1,0 +1,34 @@
+-- What is not looked at has no row for the query.
+use Rattle.std.specs.Prelude.{◌≡◌, ℕ, true, false, List, map, length, Some, slice_get}
+use Rattle.std.specs.List.{AllByRecursion}
+use Rattle.values.specs.declared.value.Value.{Value}
+use Rattle.table_schema.specs.declared.query.BoundQuery.{BoundQuery}
+use Rattle.table_schema.specs.declared.query.Conjunct.{Conjunct}
+use Rattle.table_schema.specs.declared.table.Table.{Table}
+use Rattle.table_schema.specs.Conditions.{all_hold}
+use Rattle.dictionary.specs.Dictionary.{Distinct}
+use Rattle.segment_file.specs.Bounds.{bounds_of}
+use Rattle.segment_file.specs.Heads.{Seen}
+use Rattle.segment_file.specs.Image.{dictionary_of}
+use Rattle.segment_file.specs.Parts.{columns_of}
+use Rattle.segment_plan.specs.Matched.{AreLoaded}
+use Rattle.segment_plan.specs.Plan.{is_emptied}
+use Rattle.segment_plan.specs.Pruning.{is_pruned}
+
+-- a head tells how many these rows are, the bounds of their columns, and dictionaries of these where they are loaded, as that of their image does
+pub record TellsOf (table : Table) (rows : List (List Value)) (head : Seen) : Type 0 where
+  pub rows_are : head.rows ≡ length rows
+  pub bounds_are : head.bounds ≡ bounds_of (map (dictionary_of table rows) (columns_of table))
+  pub dictionaries_are : (column : ℕ) (d : Distinct) → slice_get head.dictionaries column ≡ Some (Some d) → d ≡ dictionary_of table rows column
+
+-- no row satisfies all the conjuncts
+abbrev pub NoneHolds : List Conjunct → List (List Value) → Type 0
+NoneHolds conjuncts rows = AllByRecursion (λ row. all_hold row conjuncts ≡ false) rows
+
+-- no row of a segment that is pruned satisfies the query
+abbrev pub PrunedHasNone : Type 0
+PrunedHasNone = (query : BoundQuery) (table : Table) (rows : List (List Value)) (head : Seen) → TellsOf table rows head → is_pruned query head ≡ true → NoneHolds query.conjuncts rows
+
+-- no row of a segment with a column that is left without a value satisfies the query
+abbrev pub EmptyHasNone : Type 0
+EmptyHasNone = (conjuncts : List Conjunct) (table : Table) (rows : List (List Value)) (head : Seen) → TellsOf table rows head → AreLoaded conjuncts head → is_emptied conjuncts table head ≡ true → NoneHolds conjuncts rows

@@ -1,0 +1,6 @@
+pub mod Pruning
+pub mod Matched
+pub mod Choices
+pub mod Plan
+pub mod Factors
+pub mod Laws

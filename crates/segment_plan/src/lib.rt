@@ -1,0 +1,19 @@
+//! What is to be done with a segment for a query, by its head alone.
+#![tactic(auto)]
+
+mod choice;
+mod laws;
+mod matching;
+mod planning;
+mod plans;
+mod pruning;
+mod split_factors;
+
+pub use laws::{empty_law, pruned_law};
+pub use planning::plan;
+pub use plans::{IndexChoice, ScanPlan, SegmentPlan};
+pub use pruning::prune;
+pub use split_factors::factors;
+
+/// A growth was refused.
+pub type NoMemory = std::alloc::AllocError;
