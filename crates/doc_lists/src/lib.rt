@@ -1,0 +1,9 @@
+//! Ascending lists of documents, which are rows by their places in a segment, and what two lists
+//! have in common or apart.
+#![tactic(auto)]
+
+mod doc_list;
+mod run;
+
+pub use doc_list::{DocList, NoMemory};
+pub use run::Run;
