@@ -1,21 +1,17 @@
 -- Runs of documents: their documents ascend, and a run is added after them.
-use Rattle.std.proofs.Common.{◌≡◌, ◌∙◌, ℕ, zero, suc, ◌+◌, ◌-◌, ◌<◌, ◌≤◌, List, [], ◌∷◌, ◌++◌, length, take, drop, get_or, refl, sym, ap, subst, arith, length-append, append_assoc}
+use Rattle.std.proofs.Common.{◌≡◌, ◌∙◌, ℕ, zero, suc, ◌+◌, ◌-◌, ◌<◌, ◌≤◌, ◌^◌, List, [], ◌∷◌, ◌++◌, length, take, drop, get_or, refl, sym, ap, subst, arith, length-append, append_assoc}
 use Rattle.std.specs.List.{All, flat_map, range_with_len, slice_set}
 use Rattle.std.specs.List.Sorted.{IsStrictlyIncreasing}
 use Rattle.std.proofs.lemmas.List.{append-nil, get_or_append_left, get_or-append-add, take_all, take_more, set_split, drop_all, length-set}
 use Rattle.std.proofs.lemmas.List.Elements.{All-nil, All-cons}
 use Rattle.std.proofs.lemmas.List.FromFn.{length-range_with_len, get_or-range_with_len}
 use Rattle.doc_lists.specs.Docs.{Added, AreRuns, Apart, docs_of, docs_of_run, next_from}
+use Rattle.doc_lists.specs.Sets.{Up}
 use Rattle.doc_lists.specs.declared.run.Run.{Run}
 
 -- ---- documents ascend
 
--- numbers that ascend from one on
-abbrev Up : ℕ → List ℕ → Type 0
-Up from [] = Unit {0}
-Up from (x ∷ xs) = (from ≤ x) × Up (x + 1) xs
-
-up_from_less : (from less : ℕ) (xs : List ℕ) → less ≤ from → Up from xs → Up less xs
+pub up_from_less : (from less : ℕ) (xs : List ℕ) → less ≤ from → Up from xs → Up less xs
 up_from_less from less [] le up = tt
 up_from_less from less (x ∷ xs) le up = (omega (arith, le, up.0), up.1)
 
@@ -23,14 +19,14 @@ up_all : (from : ℕ) (xs : List ℕ) → Up from xs → All (λ x. from ≤ x) 
 up_all from [] up = All-nil (λ x. from ≤ x)
 up_all from (x ∷ xs) up = All-cons (λ x. from ≤ x) x xs up.0 (up_all from xs (up_from_less (x + 1) from xs (omega (arith, up.0)) up.1))
 
-up_increasing : (from : ℕ) (xs : List ℕ) → Up from xs → IsStrictlyIncreasing xs
+pub up_increasing : (from : ℕ) (xs : List ℕ) → Up from xs → IsStrictlyIncreasing xs
 up_increasing from [] up k lt = absurd (omega (arith, lt))
 up_increasing from (x ∷ xs) up zero lt = let above = up_all (x + 1) xs up.1 0 0 (omega (arith, lt)) in omega (arith, above)
 up_increasing from (x ∷ xs) up (suc k) lt =
     let next : suc k + 1 ≡ suc (k + 1) = omega arith in
     subst (λ n. get_or xs k 0 < get_or (x ∷ xs) n 0) (sym next) (up_increasing (x + 1) xs up.1 k (omega (arith, lt)))
 
-up_range : (from a n : ℕ) (rest : List ℕ) → from ≤ a → Up (a + n) rest → Up from (range_with_len a n ++ rest)
+pub up_range : (from a n : ℕ) (rest : List ℕ) → from ≤ a → Up (a + n) rest → Up from (range_with_len a n ++ rest)
 up_range from a zero rest le up = up_from_less (a + 0) from rest (omega (arith, le)) up
 up_range from a (suc n) rest le up =
     let same : a + suc n ≡ a + 1 + n = omega arith in
@@ -41,7 +37,7 @@ up_runs from [] apart = tt
 up_runs from (run ∷ runs) apart =
     let end : run.first + (run.last + 1 - run.first) ≤ run.last + 2 = omega (arith, apart.1) in
     up_range from run.first (run.last + 1 - run.first) (docs_of runs) apart.0
-    (up_from_less (run.last + 2) (run.first + (run.last + 1 - run.first)) (docs_of runs) end (up_runs (run.last + 2) runs apart.2))
+    (up_from_less (run.last + 2) (run.first + (run.last + 1 - run.first)) (docs_of runs) end (up_runs (run.last + 2) runs apart.3))
 
 pub docs_increase : (runs : List Run) → Apart 0 runs → IsStrictlyIncreasing (docs_of runs)
 docs_increase runs apart = up_increasing 0 (docs_of runs) (up_runs 0 runs apart)
@@ -70,31 +66,31 @@ last_below run rest limit order all =
     let below : get_or (range_with_len run.first n ++ rest) k 0 < limit = all k 0 within in
     omega (arith, is, below, order)
 
-all_after : (P : ℕ → Type 0) (xs ys : List ℕ) → All P (xs ++ ys) → All P ys
+pub all_after : (P : ℕ → Type 0) (xs ys : List ℕ) → All P (xs ++ ys) → All P ys
 all_after P xs ys all k d lt = subst P (get_or-append-add xs ys k d) (all (length xs + k) d (omega (arith, length-append xs ys, lt)))
 
 pub next_below : (from next : ℕ) (runs : List Run) (limit : ℕ) → next ≤ limit → Apart from runs → All (λ x. x < limit) (docs_of runs) → next_from next runs ≤ limit
 next_below from next [] limit le apart all = le
 next_below from next (run ∷ runs) limit le apart all =
     let own : run.last < limit = last_below run (docs_of runs) limit apart.1 all in
-    next_below (run.last + 2) (run.last + 1) runs limit (omega (arith, own)) apart.2 (all_after (λ x. x < limit) (docs_of_run run) (docs_of runs) all)
+    next_below (run.last + 2) (run.last + 1) runs limit (omega (arith, own)) apart.3 (all_after (λ x. x < limit) (docs_of_run run) (docs_of runs) all)
 
 -- ---- a run is added
 
-apart_pushed_far : (from next : ℕ) (runs : List Run) (run : Run) → from ≤ next + 1 → Apart from runs → next_from next runs < run.first → run.first ≤ run.last → Apart from (runs ++ run ∷ [])
-apart_pushed_far from next [] run le apart far order = (omega (arith, le, far), order, tt)
-apart_pushed_far from next (first ∷ runs) run le apart far order = (apart.0, apart.1, apart_pushed_far (first.last + 2) (first.last + 1) runs run (omega arith) apart.2 far order)
+apart_pushed_far : (from next : ℕ) (runs : List Run) (run : Run) → from ≤ next + 1 → Apart from runs → next_from next runs < run.first → run.first ≤ run.last → run.last < 2 ^ 32 → Apart from (runs ++ run ∷ [])
+apart_pushed_far from next [] run le apart far order small = (omega (arith, le, far), order, small, tt)
+apart_pushed_far from next (first ∷ runs) run le apart far order small = (apart.0, apart.1, apart.2, apart_pushed_far (first.last + 2) (first.last + 1) runs run (omega arith) apart.3 far order small)
 
 docs_pushed : (runs : List Run) (run : Run) → docs_of (runs ++ run ∷ []) ≡ docs_of runs ++ docs_of_run run
 docs_pushed [] run = append-nil (docs_of_run run)
 docs_pushed (first ∷ runs) run = ap (λ docs. docs_of_run first ++ docs) (docs_pushed runs run) ∙ sym (append_assoc (docs_of_run first) (docs_of runs) (docs_of_run run))
 
-pub added_first : (run : Run) → run.first ≤ run.last → Added [] (run ∷ []) run
-added_first run order = record { apart = (omega arith, order, tt); docs = append-nil (docs_of_run run); next = refl }
+added_first : (run : Run) → run.first ≤ run.last → run.last < 2 ^ 32 → Added [] (run ∷ []) run
+added_first run order small = record { apart = (omega arith, order, small, tt); docs = append-nil (docs_of_run run); next = refl }
 
-pub added_far : (runs : List Run) (run : Run) → Apart 0 runs → next_from 0 runs < run.first → run.first ≤ run.last → Added runs (runs ++ run ∷ []) run
-added_far runs run apart far order = record {
-  apart = apart_pushed_far 0 0 runs run (omega arith) apart far order;
+added_far : (runs : List Run) (run : Run) → Apart 0 runs → next_from 0 runs < run.first → run.first ≤ run.last → run.last < 2 ^ 32 → Added runs (runs ++ run ∷ []) run
+added_far runs run apart far order small = record {
+  apart = apart_pushed_far 0 0 runs run (omega arith) apart far order small;
   docs = docs_pushed runs run;
   next = next_pushed 0 runs run;
 }
@@ -109,13 +105,13 @@ range_join a (suc n) m =
     let same : a + 1 + n ≡ a + suc n = omega arith in
     ap (range_with_len a) up ∙ ap (λ xs. a ∷ xs) (range_join (a + 1) n m ∙ ap (λ b. range_with_len (a + 1) n ++ range_with_len b m) same)
 
-apart_longer : (from : ℕ) (front : List Run) (old new : Run) → old.first ≡ new.first → old.last ≤ new.last → Apart from (front ++ old ∷ []) → Apart from (front ++ new ∷ [])
-apart_longer from [] old new same le apart = (omega (arith, same, apart.0), omega (arith, same, le, apart.1), tt)
-apart_longer from (run ∷ front) old new same le apart = (apart.0, apart.1, apart_longer (run.last + 2) front old new same le apart.2)
+apart_longer : (from : ℕ) (front : List Run) (old new : Run) → old.first ≡ new.first → old.last ≤ new.last → new.last < 2 ^ 32 → Apart from (front ++ old ∷ []) → Apart from (front ++ new ∷ [])
+apart_longer from [] old new same le small apart = (omega (arith, same, apart.0), omega (arith, same, le, apart.1), small, tt)
+apart_longer from (run ∷ front) old new same le small apart = (apart.0, apart.1, apart.2, apart_longer (run.last + 2) front old new same le small apart.3)
 
 last_apart : (from : ℕ) (front : List Run) (old : Run) → Apart from (front ++ old ∷ []) → old.first ≤ old.last
 last_apart from [] old apart = apart.1
-last_apart from (run ∷ front) old apart = last_apart (run.last + 2) front old apart.2
+last_apart from (run ∷ front) old apart = last_apart (run.last + 2) front old apart.3
 
 docs_longer : (old new run : Run) → old.first ≡ new.first → old.first ≤ old.last → old.last + 1 ≡ run.first → run.first ≤ run.last → new.last ≡ run.last → docs_of_run new ≡ docs_of_run old ++ docs_of_run run
 docs_longer old new run same order next more ends =
@@ -126,17 +122,17 @@ docs_longer old new run same order next more ends =
     ap (λ a. range_with_len a (new.last + 1 - new.first)) (sym same) ∙ ap (range_with_len old.first) size ∙ range_join old.first n m
     ∙ ap (λ a. range_with_len old.first n ++ range_with_len a m) start
 
-added_split : (front : List Run) (old new run : Run) → old.first ≡ new.first → Apart 0 (front ++ old ∷ []) → old.last + 1 ≡ run.first → run.first ≤ run.last → new.last ≡ run.last → Added (front ++ old ∷ []) (front ++ new ∷ []) run
-added_split front old new run same apart next order ends =
+added_split : (front : List Run) (old new run : Run) → old.first ≡ new.first → Apart 0 (front ++ old ∷ []) → old.last + 1 ≡ run.first → run.first ≤ run.last → run.last < 2 ^ 32 → new.last ≡ run.last → Added (front ++ old ∷ []) (front ++ new ∷ []) run
+added_split front old new run same apart next order small ends =
     let own = last_apart 0 front old apart in record {
-      apart = apart_longer 0 front old new same (omega (arith, next, order, ends)) apart;
+      apart = apart_longer 0 front old new same (omega (arith, next, order, ends)) (omega (arith, ends, small)) apart;
       docs = docs_pushed front new ∙ ap (λ docs. docs_of front ++ docs) (docs_longer old new run same own next order ends)
           ∙ sym (append_assoc (docs_of front) (docs_of_run old) (docs_of_run run)) ∙ ap (λ docs. docs ++ docs_of_run run) (sym (docs_pushed front old));
       next = next_pushed 0 front new ∙ ap (λ n. n + 1) ends;
     }
 
-pub added_near : (runs : List Run) (old new run : Run) → 0 < length runs → old ≡ get_or runs (length runs - 1) old → old.first ≡ new.first → Apart 0 runs → next_from 0 runs ≡ run.first → run.first ≤ run.last → new.last ≡ run.last → Added runs (slice_set runs (length runs - 1) new) run
-added_near runs old new run some is same apart next order ends =
+pub added_near : (runs : List Run) (old new run : Run) → 0 < length runs → old ≡ get_or runs (length runs - 1) old → old.first ≡ new.first → Apart 0 runs → next_from 0 runs ≡ run.first → run.first ≤ run.last → run.last < 2 ^ 32 → new.last ≡ run.last → Added runs (slice_set runs (length runs - 1) new) run
+added_near runs old new run some is same apart next order small ends =
     let i = length runs - 1 in
     let within : i < length runs = omega (arith, some) in
     let all : i + 1 ≡ length runs = omega (arith, some) in
@@ -145,7 +141,7 @@ added_near runs old new run some is same apart next order ends =
     let none : drop (suc i) runs ≡ [] = drop_all (suc i) runs (omega (arith, all)) in
     let put : slice_set runs i new ≡ front ++ new ∷ [] = set_split runs i new within ∙ ap (λ xs. front ++ new ∷ xs) none in
     let ended : old.last + 1 ≡ run.first = ap (λ x. x.last + 1) is ∙ sym (next_is 0 runs old some) ∙ next in
-    let added = added_split front old new run same (subst (Apart 0) whole apart) ended order ends in
+    let added = added_split front old new run same (subst (Apart 0) whole apart) ended order small ends in
     subst (λ xs. Added runs xs run) (sym put) (subst (λ xs. Added xs (front ++ new ∷ []) run) (sym whole) added)
 
 pub runs_added : (old new : List Run) (count : ℕ) (run : Run) (size : ℕ) → AreRuns old count → Added old new run →
@@ -157,6 +153,6 @@ runs_added old new count run size are added above order is = record {
   few = omega (arith, are.few, added.next, above, order, is);
 }
 
-pub added_new : (runs new : List Run) (run : Run) → new ≡ runs ++ run ∷ [] → Apart 0 runs → (0 < length runs → next_from 0 runs < run.first) → run.first ≤ run.last → Added runs new run
-added_new [] new run is apart far order = subst (λ xs. Added [] xs run) (sym is) (added_first run order)
-added_new (first ∷ runs) new run is apart far order = subst (λ xs. Added (first ∷ runs) xs run) (sym is) (added_far (first ∷ runs) run apart (far (omega arith)) order)
+pub added_new : (runs new : List Run) (run : Run) → new ≡ runs ++ run ∷ [] → Apart 0 runs → (0 < length runs → next_from 0 runs < run.first) → run.first ≤ run.last → run.last < 2 ^ 32 → Added runs new run
+added_new [] new run is apart far order small = subst (λ xs. Added [] xs run) (sym is) (added_first run order small)
+added_new (first ∷ runs) new run is apart far order small = subst (λ xs. Added (first ∷ runs) xs run) (sym is) (added_far (first ∷ runs) run apart (far (omega arith)) order small)

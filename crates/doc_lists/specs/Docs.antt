@@ -1,5 +1,5 @@
 -- Ascending lists of documents, kept as runs of documents that follow one another.
-use Rattle.std.specs.Prelude.{◌≡◌, ◌≤◌, ℕ, Bool, ◌+◌, ◌-◌, nat_eq, List, [], ◌∷◌, ◌++◌, length}
+use Rattle.std.specs.Prelude.{◌≡◌, ◌≤◌, ◌<◌, ◌^◌, ℕ, Bool, ◌+◌, ◌-◌, nat_eq, List, [], ◌∷◌, ◌++◌, length}
 use Rattle.std.specs.List.{flat_map, list_any, range_with_len}
 use Rattle.doc_lists.specs.declared.run.Run.{Run}
 
@@ -18,7 +18,7 @@ docs_of runs = flat_map docs_of_run runs
 -- runs in order, from a document on, each of at least one document, with a document missing between two of them
 abbrev pub Apart : ℕ → List Run → Type 0
 Apart from [] = Unit {0}
-Apart from (run ∷ runs) = (from ≤ run.first) × (run.first ≤ run.last) × Apart (run.last + 2) runs
+Apart from (run ∷ runs) = (from ≤ run.first) × (run.first ≤ run.last) × (run.last < 2 ^ 32) × Apart (run.last + 2) runs
 
 -- the document after the last one of runs, or the one that is given where there is none
 abbrev pub next_from : ℕ → List Run → ℕ

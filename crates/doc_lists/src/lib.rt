@@ -4,6 +4,8 @@
 
 mod doc_list;
 mod run;
+mod sets;
 
 pub use doc_list::{DocList, NoMemory};
 pub use run::Run;
+pub use sets::{join, meet, without};

@@ -15,7 +15,7 @@ returns-then-next-run-clause-added c =
     let next : next_from 0 old ≡ run.first = search (rules) in
     let is = subst (λ n. end ≡ get_or old (n - 1) end) size c.index_mut-end.ensures.value in
     subst (λ n. Added old (slice_set old (n - 1) longer) run) (sym size)
-    (added_near old end longer run (omega (arith, size, c.if-length-gt0.true)) is refl c.requires.apart next c.requires.order refl)
+    (added_near old end longer run (omega (arith, size, c.if-length-gt0.true)) is refl c.requires.apart next c.requires.order (search rules) refl)
 
 pub returns-clause-added : goal.returns-clause-added
 returns-clause-added c =
@@ -27,4 +27,4 @@ returns-clause-added c =
       | else-length-gt0-via-then-length-gt0+else-next-run w ↦ (λ some. let not = w.if-next-run.false in omega (arith, next, not, c.requires.above))
       | else-length-gt0-via-else-length-gt0 w ↦ (λ some. absurd (omega (arith, some, size, w.if-length-gt0.false)))
     ] in
-    added_new old c.push.new.self.items run c.in_ok-push.ensures.items c.requires.apart far c.requires.order
+    added_new old c.push.new.self.items run c.in_ok-push.ensures.items c.requires.apart far c.requires.order (search rules)
