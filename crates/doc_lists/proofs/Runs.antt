@@ -1,8 +1,8 @@
 -- Runs of documents: their documents ascend, and a run is added after them.
 use Rattle.std.proofs.Common.{◌≡◌, ◌∙◌, ℕ, zero, suc, ◌+◌, ◌-◌, ◌<◌, ◌≤◌, ◌^◌, List, [], ◌∷◌, ◌++◌, length, take, drop, get_or, refl, sym, ap, subst, arith, length-append, append_assoc}
-use Rattle.std.specs.List.{All, flat_map, range_with_len, slice_set}
+use Rattle.std.specs.List.{All, range_with_len, slice_set}
 use Rattle.std.specs.List.Sorted.{IsStrictlyIncreasing}
-use Rattle.std.proofs.lemmas.List.{append-nil, get_or_append_left, get_or-append-add, take_all, take_more, set_split, drop_all, length-set}
+use Rattle.std.proofs.lemmas.List.{append-nil, get_or_append_left, get_or-append-add, take_all, take_more, set_split, drop_all}
 use Rattle.std.proofs.lemmas.List.Elements.{All-nil, All-cons}
 use Rattle.std.proofs.lemmas.List.FromFn.{length-range_with_len, get_or-range_with_len}
 use Rattle.doc_lists.specs.Docs.{Added, AreRuns, Apart, docs_of, docs_of_run, next_from}
@@ -76,6 +76,10 @@ next_below from next (run ∷ runs) limit le apart all =
     next_below (run.last + 2) (run.last + 1) runs limit (omega (arith, own)) apart.3 (all_after (λ x. x < limit) (docs_of_run run) (docs_of runs) all)
 
 -- ---- a run is added
+
+pub apart_less : (from less : ℕ) (runs : List Run) → less ≤ from → Apart from runs → Apart less runs
+apart_less from less [] le apart = tt
+apart_less from less (run ∷ runs) le apart = (omega (arith, le, apart.0), apart.1, apart.2, apart.3)
 
 apart_pushed_far : (from next : ℕ) (runs : List Run) (run : Run) → from ≤ next + 1 → Apart from runs → next_from next runs < run.first → run.first ≤ run.last → run.last < 2 ^ 32 → Apart from (runs ++ run ∷ [])
 apart_pushed_far from next [] run le apart far order small = (omega (arith, le, far), order, small, tt)

@@ -1,6 +1,6 @@
 -- Runs of two lists are gone through together, stretch by stretch.
-use Rattle.std.proofs.Common.{◌≡◌, ◌∙◌, ◌⊎◌, inl, inr, ℕ, zero, suc, ◌+◌, ◌-◌, ◌<◌, ◌≤◌, ◌^◌, Bool, true, false, ◌&&◌, ◌||◌, nat_eq, nat_le, List, [], ◌∷◌, ◌++◌, length, drop, get_or, refl, sym, ap, subst, arith}
-use Rattle.std.specs.List.{All, list_any, range_with_len}
+use Rattle.std.proofs.Common.{◌≡◌, ◌∙◌, inl, inr, ℕ, zero, suc, ◌+◌, ◌-◌, ◌<◌, ◌≤◌, ◌^◌, Bool, true, false, ◌&&◌, ◌||◌, nat_eq, nat_le, List, [], ◌∷◌, ◌++◌, length, drop, get_or, refl, sym, ap, subst, arith}
+use Rattle.std.specs.List.{All, range_with_len}
 use Rattle.std.proofs.lemmas.Bool.{cases_lt, eqb-false, leb-true, leb-false, le-leb, lt-leb, ne_eqb}
 use Rattle.std.proofs.lemmas.List.Elements.{All-append, All-cons, All-nil}
 use Rattle.std.proofs.lemmas.List.Folds.{list_any-append, list_any_none}
@@ -8,8 +8,7 @@ use Rattle.doc_lists.specs.Docs.{Apart, docs_of, docs_of_run, has_doc}
 use Rattle.doc_lists.specs.Sets.{Ahead, AreThose, Left, SameFrom, Swept, Up, in_run, in_runs, keeps}
 use Rattle.doc_lists.specs.declared.run.Run.{Run}
 use Rattle.doc_lists.specs.declared.sets.Kept.{Kept}
-use Rattle.doc_lists.specs.declared.sets.Kept.TheVariants.{Both, Either, First}
-use Rattle.doc_lists.proofs.Runs.{up_from_less, up_increasing}
+use Rattle.doc_lists.proofs.Runs.{apart_less, up_from_less, up_increasing}
 
 -- ---- the documents of runs
 
@@ -104,10 +103,6 @@ run_is (run ∷ runs) d start doc some ahead first from to = in_first run runs d
 
 -- ---- runs that end too soon are left out
 
-apart_less : (from less : ℕ) (runs : List Run) → less ≤ from → Apart from runs → Apart less runs
-apart_less from less [] le apart = tt
-apart_less from less (run ∷ runs) le apart = (omega (arith, le, apart.0), apart.1, apart.2, apart.3)
-
 pub rest_apart : (runs : List Run) → Apart 0 runs → Apart 0 (drop 1 runs)
 rest_apart [] apart = tt
 rest_apart (run ∷ runs) apart = apart_less (run.last + 2) 0 runs (omega arith) apart.3
@@ -158,7 +153,7 @@ swept_yes test start end old new order is swept all = subst (Swept test end) (sy
             | inr from ↦ ap (λ b. has_doc old doc || b) (range_yes start n doc from (omega (arith, lt, order))) ∙ or_true (has_doc old doc) ∙ sym (all doc from lt)
           ]);
     }
-)
+    )
 
 pub swept_no : (test : ℕ → Bool) (start end : ℕ) (old : List ℕ) → start ≤ end → Swept test start old → ((doc : ℕ) → start ≤ doc → doc < end → test doc ≡ false) → Swept test end old
 swept_no test start end old order swept none = record {
@@ -216,6 +211,6 @@ all_swept kept start a b docs ours theirs swept left other none = record {
             ap (λ x. keeps kept x (has_doc b doc)) (sym (left.same doc from))
             ∙ ap (keeps kept (in_runs ours doc)) (sym (other.same doc from))
             ∙ none doc
-        )
+            )
       ]);
 }

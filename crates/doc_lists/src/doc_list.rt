@@ -1,5 +1,5 @@
 //! Ascending lists of documents.
-ghost use Rattle.std.specs.Prelude.{◌≡◌, ◌==◌, ◌≤◌, ◌<◌, ◌+◌, ◌-◌, [], ◌∷◌, ◌++◌, All, length, slice_get, Some, OnOk, OnErr, IfOk};
+ghost use Rattle.std.specs.Prelude.{◌≡◌, ◌==◌, ◌≤◌, ◌<◌, ◌+◌, ◌-◌, [], ◌∷◌, ◌++◌, All, length, slice_index, OnOk, OnErr, IfOk};
 ghost use Rattle.std.specs.List.{range_with_len};
 ghost use Rattle.std.specs.List.Sorted.{IsStrictlyIncreasing};
 ghost use Rattle.doc_lists.specs.Docs.{Added, Apart, docs_of, docs_of_run, next_from};
@@ -62,6 +62,14 @@ impl DocList {
         self.count == 0
     }
 
+    /// The document at an index, from 0. The runs before it are gone through.
+    pub fn at(&self, index: usize) -> u32
+        requires { index < length self.now }
+        ensures { result ≡ slice_index self.now index }
+    {
+        doc_at(self.runs.as_slice(), index)
+    }
+
     /// The documents as runs, in order, as few as there can be.
     pub fn runs(&self) -> &[Run]
         ensures docs { docs_of result.now ≡ self.now }
@@ -112,6 +120,25 @@ impl DocList {
         append(&mut self.runs, run)?;
         self.count = count;
         Ok(())
+    }
+}
+
+// The document of runs at an index.
+fn doc_at(runs: &[Run], index: usize) -> u32
+    requires apart { Apart 0 runs.now }
+    requires within { index < length (docs_of runs.now) }
+    ensures { result ≡ slice_index (docs_of runs.now) index }
+{
+    let mut place = 0;
+    let mut left = index;
+    loop {
+        let run = runs[place];
+        let count = run.count();
+        if left < count {
+            return run.first + left as u32;
+        }
+        left -= count;
+        place += 1;
     }
 }
 

@@ -61,12 +61,7 @@ impl Kept {
 }
 
 // The documents that are kept of two lists, by stretches in which no run of either begins or ends.
-fn combine(
-    alloc: Global,
-    kept: Kept,
-    a: &DocList,
-    b: &DocList,
-) -> Result<DocList, NoMemory>
+fn combine(alloc: Global, kept: Kept, a: &DocList, b: &DocList) -> Result<DocList, NoMemory>
     ensures { IfOk result (AreThose (λ doc. keeps kept (has_doc a.now doc) (has_doc b.now doc))) }
 {
     let mut docs = DocList::new(alloc);

@@ -1,4 +1,4 @@
-use Rattle.std.proofs.Common.{◌≡◌, ◌∙◌, ◌<◌, ◌≤◌, [], ℕ, Bool, ap, arith, sym, subst, inl, inr}
+use Rattle.std.proofs.Common.{◌∙◌, ◌≤◌, ap, arith, sym, subst, inl, inr}
 use Rattle.doc_lists.specs.Docs.{has_doc}
 use Rattle.doc_lists.specs.Sets.{Swept, in_runs, keeps}
 use Rattle.doc_lists.proofs.Sweep.{ahead_below, left_first, left_next, one_test, swept_none, all_swept}
@@ -12,7 +12,7 @@ loop-ours-init c = record {
 }
 
 pub end_of_stretch-requires-clause-within : goal.end_of_stretch-requires-clause-within
-end_of_stretch-requires-clause-within c = 
+end_of_stretch-requires-clause-within c =
     elim (c.goes_on.ensures.some c.loop-ours-test.true) [
       | inl some ↦ ahead_below c.loop-ours.start c.loop-ours.ours.now some c.loop-ours.invariant.ours.ahead
       | inr some ↦ ahead_below c.loop-ours.start c.loop-ours.theirs.now some c.loop-ours.invariant.theirs.ahead

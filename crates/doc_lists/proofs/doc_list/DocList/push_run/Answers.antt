@@ -1,4 +1,4 @@
-use Rattle.std.proofs.Common.{ℕ, ◌<◌, ◌+◌, ◌-◌, ◌≤◌, List, arith, subst, sym}
+use Rattle.std.proofs.Common.{ℕ, ◌<◌, ◌≤◌, List, arith, subst, sym}
 use Rattle.std.specs.List.{All}
 use Rattle.doc_lists.proofs.Runs.{next_below, runs_added}
 use Rattle.doc_lists.specs.Docs.{next_from}
