@@ -2,7 +2,9 @@
 //! and how the places of ids are read from them.
 #![tactic(auto)]
 
+mod inverted;
 mod sorted;
 mod words;
 
+pub use inverted::write_inverted;
 pub use sorted::write_sorted;

@@ -1,5 +1,4 @@
-use Rattle.std.proofs.Common.{◌≡◌, ◌∙◌, ◌++◌, ◌∷◌, [], ap, sym, append_assoc}
-use Rattle.bit_column.specs.SortedRuns.{runs}
+use Rattle.std.proofs.Common.{◌∙◌, ◌++◌, ◌∷◌, [], ap, sym, append_assoc}
 use Rattle.inverted_lists.proofs.CutLemmas.{runs_more}
 use Rattle.inverted_lists.proofs.sorted.run_ends.Goals as goal
 
