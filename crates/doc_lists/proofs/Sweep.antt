@@ -188,13 +188,9 @@ left_next start end docs old new order left ahead same = record {
   same = (λ doc from. same doc from ∙ left.same doc (omega (arith, from, order)));
 }
 
--- in a stretch of both lists all documents are kept or none
-pub one_test : (kept : Kept) (start end first second : ℕ) (a b : List ℕ) (ours theirs : List Run) → Left start a ours → Left start b theirs → end ≤ first → end ≤ second →
-    ((doc : ℕ) → start ≤ doc → doc < first → in_runs ours doc ≡ in_runs ours start) → ((doc : ℕ) → start ≤ doc → doc < second → in_runs theirs doc ≡ in_runs theirs start) →
-    (doc : ℕ) → start ≤ doc → doc < end → keeps kept (has_doc a doc) (has_doc b doc) ≡ keeps kept (in_runs ours start) (in_runs theirs start)
-one_test kept start end first second a b ours theirs left other one two same_ours same_theirs doc from to =
-    ap (λ x. keeps kept x (has_doc b doc)) (sym (left.same doc from) ∙ same_ours doc from (omega (arith, to, one)))
-    ∙ ap (keeps kept (in_runs ours start)) (sym (other.same doc from) ∙ same_theirs doc from (omega (arith, to, two)))
+-- up to the end of its stretch, whether a document is in a list is as it is at the start
+pub same_in : (start doc first : ℕ) (a : List ℕ) (ours : List Run) (is : Bool) → Left start a ours → is ≡ in_runs ours start → ((doc : ℕ) → start ≤ doc → doc < first → in_runs ours doc ≡ in_runs ours start) → start ≤ doc → doc < first → has_doc a doc ≡ is
+same_in start doc first a ours is left at same from to = sym (left.same doc from) ∙ same doc from to ∙ sym at
 
 pub ahead_below : (start : ℕ) (runs : List Run) → 0 < length runs → Ahead start runs → start < 2 ^ 32
 ahead_below start [] some ahead = absurd (omega (arith, some))

@@ -1,5 +1,5 @@
 //! The documents that two lists have in common or apart.
-ghost use Rattle.std.specs.Prelude.{◌≡◌, ◌≤◌, ◌<◌, ◌&&◌, ◌||◌, ◌^◌, ◌⊎◌, ℕ, Bool, false, true, not, All, length, IfOk, OnOk};
+ghost use Rattle.std.specs.Prelude.{◌≡◌, ◌≤◌, ◌<◌, ◌&&◌, ◌||◌, ◌^◌, ◌⊎◌, ℕ, Bool, false, true, not, All, length, min, max, IfOk, OnOk};
 ghost use Rattle.doc_lists.specs.Docs.{Apart, has_doc};
 ghost use Rattle.doc_lists.specs.Sets.{Ahead, AreThose, SameFrom, Swept, in_runs, keeps};
 
@@ -46,6 +46,42 @@ impl Kept {
         }
     }
 
+    // Whether the first list says alone whether a document is kept.
+    fn is_by_first(self, first: bool) -> bool
+        ensures { result ≡ true → (x y : Bool) → keeps self first x ≡ keeps self first y }
+    {
+        match self {
+            Kept::Both | Kept::First => !first,
+            Kept::Either => first,
+        }
+    }
+
+    // Whether the second list says alone whether a document is kept.
+    fn is_by_second(self, second: bool) -> bool
+        ensures { result ≡ true → (x y : Bool) → keeps self x second ≡ keeps self y second }
+    {
+        match self {
+            Kept::Both => !second,
+            Kept::Either | Kept::First => second,
+        }
+    }
+
+    // Up to where documents are kept as one is, by where the stretches of both lists end.
+    fn end_of_stretch(self, first: bool, second: bool, ours: u64, theirs: u64) -> u64
+        ensures least { min ours theirs ≤ result }
+        ensures most { result ≤ max ours theirs }
+        ensures same { (doc : ℕ) (x y : Bool) → (doc < ours → x ≡ first) →
+            (doc < theirs → y ≡ second) → doc < result →
+            keeps self x y ≡ keeps self first second }
+    {
+        match (self.is_by_first(first), self.is_by_second(second)) {
+            (true, true) => ours.max(theirs),
+            (true, false) => ours,
+            (false, true) => theirs,
+            (false, false) => ours.min(theirs),
+        }
+    }
+
     // Whether a document may be kept of runs that are left of two lists.
     fn goes_on(self, ours: &[Run], theirs: &[Run]) -> bool
         ensures over { (doc : ℕ) → result ≡ false →
@@ -69,8 +105,15 @@ fn combine(alloc: Global, kept: Kept, a: &DocList, b: &DocList) -> Result<DocLis
     let mut theirs = b.runs();
     let mut start = 0;
     while kept.goes_on(ours, theirs) {
-        let end = end_of_stretch(ours, start).min(end_of_stretch(theirs, start));
-        let keep = kept.keeps(reaches(ours, start), reaches(theirs, start));
+        let first = reaches(ours, start);
+        let second = reaches(theirs, start);
+        let end = kept.end_of_stretch(
+            first,
+            second,
+            end_of_stretch(ours, start),
+            end_of_stretch(theirs, start),
+        );
+        let keep = kept.keeps(first, second);
         push_kept(&mut docs, keep, start, end)?;
         ours = left_from(ours, end);
         theirs = left_from(theirs, end);

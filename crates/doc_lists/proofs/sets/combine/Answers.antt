@@ -1,7 +1,7 @@
-use Rattle.std.proofs.Common.{◌∙◌, ◌≤◌, ap, arith, sym, subst, inl, inr}
+use Rattle.std.proofs.Common.{◌∙◌, ◌≤◌, arith, sym, subst, inl, inr}
 use Rattle.doc_lists.specs.Docs.{has_doc}
-use Rattle.doc_lists.specs.Sets.{Swept, in_runs, keeps}
-use Rattle.doc_lists.proofs.Sweep.{ahead_below, left_first, left_next, one_test, swept_none, all_swept}
+use Rattle.doc_lists.specs.Sets.{Swept, keeps}
+use Rattle.doc_lists.proofs.Sweep.{ahead_below, left_first, left_next, same_in, swept_none, all_swept}
 use Rattle.doc_lists.proofs.sets.combine.Goals as goal
 
 pub loop-ours-init : goal.loop-ours-init
@@ -21,14 +21,22 @@ end_of_stretch-requires-clause-within c =
 pub loop-ours-preserved : goal.loop-ours-preserved
 loop-ours-preserved c =
     let start = c.loop-ours.start in
-    let end = c.min-end.result in
+    let end = c.end_of_stretch-end.result in
     let a = c.args.a.now in
     let b = c.args.b.now in
-    let order : start ≤ end = omega (arith, c.end_of_stretch.ensures.onwards, c.end_of_stretch-in-loop-ours.ensures.onwards, c.min-end.ensures) in
-    let inv = c.loop-ours.invariant in record {
-      swept = c.in_ok-push_kept.ensures _ inv.swept (λ doc from to. one_test c.args.kept start end c.end_of_stretch.result c.end_of_stretch-in-loop-ours.result a b c.loop-ours.ours.now c.loop-ours.theirs.now inv.ours inv.theirs (omega (arith, c.min-end.ensures)) (omega (arith, c.min-end.ensures)) c.end_of_stretch.ensures.stretch c.end_of_stretch-in-loop-ours.ensures.stretch doc from to ∙ sym (c.keeps-keep.ensures ∙ ap (λ x. keeps c.args.kept x c.reaches-in-loop-ours.result) c.reaches.ensures ∙ ap (keeps c.args.kept (in_runs c.loop-ours.ours.now start)) c.reaches-in-loop-ours.ensures));
-      ours = left_next start end a c.loop-ours.ours.now c.left_from-ours.result.now order inv.ours c.left_from-ours.ensures.ahead c.left_from-ours.ensures.same;
-      theirs = left_next start end b c.loop-ours.theirs.now c.left_from-theirs.result.now order inv.theirs c.left_from-theirs.ensures.ahead c.left_from-theirs.ensures.same;
+    let inv = c.loop-ours.invariant in
+    let ours = c.loop-ours.ours.now in
+    let theirs = c.loop-ours.theirs.now in
+    let first = c.end_of_stretch in
+    let second = c.end_of_stretch-in-loop-ours in
+    let order : start ≤ end = omega (arith, first.ensures.onwards, second.ensures.onwards, c.end_of_stretch-end.ensures.least) in record {
+      swept = c.in_ok-push_kept.ensures _ inv.swept (λ doc from to.
+          c.end_of_stretch-end.ensures.same doc (has_doc a doc) (has_doc b doc)
+          (λ lt. same_in start doc first.result a ours c.reaches-first.result inv.ours c.reaches-first.ensures first.ensures.stretch from lt)
+          (λ lt. same_in start doc second.result b theirs c.reaches-second.result inv.theirs c.reaches-second.ensures second.ensures.stretch from lt) to
+          ∙ sym c.keeps-keep.ensures);
+      ours = left_next start end a ours c.left_from-ours.result.now order inv.ours c.left_from-ours.ensures.ahead c.left_from-ours.ensures.same;
+      theirs = left_next start end b theirs c.left_from-theirs.result.now order inv.theirs c.left_from-theirs.ensures.ahead c.left_from-theirs.ensures.same;
     }
 
 pub returns : goal.returns
