@@ -1,11 +1,11 @@
 -- Runs of two lists are gone through together, stretch by stretch.
-use Rattle.std.proofs.Common.{◌≡◌, ◌∙◌, inl, inr, ℕ, zero, suc, ◌+◌, ◌-◌, ◌<◌, ◌≤◌, ◌^◌, Bool, true, false, ◌&&◌, ◌||◌, nat_eq, nat_le, List, [], ◌∷◌, ◌++◌, length, drop, get_or, refl, sym, ap, subst, arith}
+use Rattle.std.proofs.Common.{◌≡◌, ◌∙◌, inl, inr, ℕ, zero, suc, ◌+◌, ◌-◌, ◌<◌, ◌≤◌, ◌^◌, Bool, true, false, ◌&&◌, ◌||◌, nat_eq, nat_le, nat_lt, ◌/◌, List, [], ◌∷◌, ◌++◌, length, drop, get_or, refl, sym, ap, subst, arith}
 use Rattle.std.specs.List.{All, range_with_len}
-use Rattle.std.proofs.lemmas.Bool.{cases_lt, eqb-false, leb-true, leb-false, le-leb, lt-leb, ne_eqb}
+use Rattle.std.proofs.lemmas.Bool.{cases_lt, leb-true, leb-false, le-leb, lt-leb, ltb-true, ltb-false, eqb-false, ne_eqb}
 use Rattle.std.proofs.lemmas.List.Elements.{All-append, All-cons, All-nil}
 use Rattle.std.proofs.lemmas.List.Folds.{list_any-append, list_any_none}
 use Rattle.doc_lists.specs.Docs.{Apart, docs_of, docs_of_run, has_doc}
-use Rattle.doc_lists.specs.Sets.{Ahead, AreThose, Left, SameFrom, Swept, Up, in_run, in_runs, keeps}
+use Rattle.doc_lists.specs.Sets.{Ahead, AreThose, Left, SameFrom, Swept, Up, ends_before, in_run, in_runs, keeps}
 use Rattle.doc_lists.specs.declared.run.Run.{Run}
 use Rattle.doc_lists.specs.declared.sets.Kept.{Kept}
 use Rattle.doc_lists.proofs.Runs.{apart_less, up_from_less, up_increasing}
@@ -107,13 +107,71 @@ pub rest_apart : (runs : List Run) → Apart 0 runs → Apart 0 (drop 1 runs)
 rest_apart [] apart = tt
 rest_apart (run ∷ runs) apart = apart_less (run.last + 2) 0 runs (omega arith) apart.3
 
-pub first_ahead : (runs : List Run) (d : Run) (doc : ℕ) → 1 ≤ length runs → Apart 0 runs → doc ≤ (get_or runs 0 d).last → Ahead doc runs
-first_ahead [] d doc some apart le = tt
-first_ahead (run ∷ runs) d doc some apart le = (le, apart)
+skip_apart : (from n : ℕ) (runs : List Run) → Apart from runs → Apart from (drop n runs)
+skip_apart from zero runs apart = apart
+skip_apart from (suc n) [] apart = tt
+skip_apart from (suc n) (run ∷ runs) apart = skip_apart from n runs (apart_less (run.last + 2) from runs (omega (arith, apart.0, apart.1)) apart.3)
 
-pub rest_same : (old runs : List Run) (d : Run) (doc : ℕ) → 1 ≤ length runs → (get_or runs 0 d).last < doc → SameFrom doc old runs → SameFrom doc old (drop 1 runs)
-rest_same old [] d doc some lt same = same
-rest_same old (run ∷ runs) d doc some lt same = λ other from. ap (λ b. b || in_runs runs other) (sym (run_before run other (omega (arith, lt, from)))) ∙ same other from
+end_from : (from k : ℕ) (runs : List Run) (d : Run) → Apart from runs → k < length runs → from ≤ (get_or runs k d).last
+end_from from k [] d apart lt = absurd (omega (arith, lt))
+end_from from zero (run ∷ runs) d apart lt = omega (arith, apart.0, apart.1)
+end_from from (suc k) (run ∷ runs) d apart lt = end_from from k runs d (apart_less (run.last + 2) from runs (omega (arith, apart.0, apart.1)) apart.3) (omega (arith, lt))
+
+skip_same : (from n doc : ℕ) (runs : List Run) (d : Run) → Apart from runs → n < length runs → (get_or runs n d).last < doc → SameFrom doc runs (drop (suc n) runs)
+skip_same from n doc [] d apart within lt = absurd (omega (arith, within))
+skip_same from zero doc (run ∷ runs) d apart within lt = λ other le. ap (λ b. b || in_runs runs other) (sym (run_before run other (omega (arith, lt, le))))
+skip_same from (suc n) doc (run ∷ runs) d apart within lt =
+    let inner : n < length runs = omega (arith, within) in
+    let later : run.last + 2 ≤ (get_or runs n d).last = end_from (run.last + 2) n runs d apart.3 inner in
+    λ other le. skip_same (run.last + 2) n doc runs d apart.3 inner lt other le ∙ ap (λ b. b || in_runs runs other) (sym (run_before run other (omega (arith, later, lt, le))))
+
+-- what a step over runs finds
+pub record Steps (old runs : List Run) (doc step : ℕ) : Type 0 where
+  pub apart : Apart 0 runs
+  pub same : SameFrom doc old runs
+  pub some : 1 ≤ step
+
+steps_over : (old runs : List Run) (doc step next : ℕ) → Steps old runs doc step → step ≤ length runs → (get_or runs (step - 1) (record { first = 0; last = 0 })).last < doc → 1 ≤ next → Steps old (drop step runs) doc next
+steps_over old runs doc step next steps le lt more =
+    let up : suc (step - 1) ≡ step = omega (arith, steps.some) in
+    let same = skip_same 0 (step - 1) doc runs (record { first = 0; last = 0 }) steps.apart (omega (arith, le, steps.some)) lt in record {
+      apart = skip_apart 0 step runs steps.apart;
+      same = (λ other from. subst (λ n. in_runs (drop n runs) other ≡ in_runs runs other) up (same other from) ∙ steps.same other from);
+      some = more;
+    }
+
+yes_both : (s t : Bool) → s && t ≡ true → (s ≡ true) × (t ≡ true)
+yes_both true true e = (refl, refl)
+yes_both true false e = absurd cc
+yes_both false t e = absurd cc
+
+no_second : (s t : Bool) → s ≡ true → s && t ≡ false → t ≡ false
+no_second true t e fails = fails
+no_second false t e fails = absurd cc
+
+pub no_first : (runs : List Run) (doc : ℕ) → Apart 0 runs → ends_before runs 1 doc ≡ false → Ahead doc runs
+no_first [] doc apart fails = tt
+no_first (run ∷ runs) doc apart fails =
+    let there : nat_le 1 (length (run ∷ runs)) ≡ true = le-leb 1 (length (run ∷ runs)) (omega arith) in
+    (ltb-false run.last doc (no_second (nat_le 1 (length (run ∷ runs))) (nat_lt run.last doc) there fails), apart)
+
+pub step_taken : (old runs : List Run) (doc step next : ℕ) → Steps old runs doc step → ends_before runs step doc ≡ true → 1 ≤ next → Steps old (drop step runs) doc next
+step_taken old runs doc step next steps held more =
+    let parts = yes_both (nat_le step (length runs)) (nat_lt (get_or runs (step - 1) (record { first = 0; last = 0 })).last doc) held in
+    steps_over old runs doc step next steps (leb-true step (length runs) parts.0) (ltb-true (get_or runs (step - 1) (record { first = 0; last = 0 })).last doc parts.1) more
+
+pub step_within : (runs : List Run) (doc step : ℕ) → ends_before runs step doc ≡ true → step ≤ length runs
+step_within runs doc step held = leb-true step (length runs) (yes_both (nat_le step (length runs)) (nat_lt (get_or runs (step - 1) (record { first = 0; last = 0 })).last doc) held).0
+
+pub step_long : (runs : List Run) (doc step : ℕ) → ends_before runs 1 doc ≡ true → ends_before runs step doc ≡ false → 1 ≤ step → 2 ≤ step
+step_long runs doc step held fails some =
+    elim (cases_lt 1 step) [
+      | inl lt ↦ omega (arith, lt)
+      | inr le ↦ absurd (let one : step ≡ 1 = omega (arith, le, some) in let both : true ≡ false = sym held ∙ ap (λ n. ends_before runs n doc) (sym one) ∙ fails in cc)
+    ]
+
+pub step_halved : (old runs : List Run) (doc step : ℕ) → Steps old runs doc step → 2 ≤ step → Steps old runs doc (step / 2)
+step_halved old runs doc step steps two = record { apart = steps.apart; same = steps.same; some = omega (arith, two) }
 
 -- ---- a stretch is swept
 

@@ -1,6 +1,6 @@
 -- Sets of documents made of two others.
-use Rattle.std.specs.Prelude.{◌≡◌, ◌≤◌, ◌<◌, ℕ, Bool, not, ◌&&◌, ◌||◌, nat_le, List, [], ◌∷◌, ◌+◌}
-use Rattle.std.specs.List.{All, list_any}
+use Rattle.std.specs.Prelude.{◌≡◌, ◌≤◌, ◌<◌, ℕ, Bool, not, ◌&&◌, ◌||◌, nat_le, nat_lt, length, ◌-◌, List, [], ◌∷◌, ◌+◌}
+use Rattle.std.specs.List.{All, list_any, slice_index_or}
 use Rattle.std.specs.List.Sorted.{IsStrictlyIncreasing}
 use Rattle.doc_lists.specs.declared.run.Run.{Run}
 use Rattle.doc_lists.specs.declared.sets.Kept.{Kept}
@@ -30,6 +30,10 @@ in_runs runs doc = list_any (in_run doc) runs
 abbrev pub Ahead : ℕ → List Run → Type 0
 Ahead doc [] = Unit {0}
 Ahead doc (run ∷ runs) = (doc ≤ run.last) × Apart 0 (run ∷ runs)
+
+-- whether there are so many runs and the last of them ends before a document
+abbrev pub ends_before : List Run → ℕ → ℕ → Bool
+ends_before runs count doc = nat_le count (length runs) && nat_lt (slice_index_or runs (count - 1) (record { first = 0; last = 0 })).last doc
 
 -- the runs have the same documents from one on
 abbrev pub SameFrom : ℕ → List Run → List Run → Type 0

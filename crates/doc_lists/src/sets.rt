@@ -1,7 +1,7 @@
 //! The documents that two lists have in common or apart.
-ghost use Rattle.std.specs.Prelude.{◌≡◌, ◌≤◌, ◌<◌, ◌&&◌, ◌||◌, ◌^◌, ◌⊎◌, ℕ, Bool, false, true, not, All, length, min, max, IfOk, OnOk};
+ghost use Rattle.std.specs.Prelude.{◌≡◌, ◌≤◌, ◌<◌, ◌&&◌, ◌||◌, ◌^◌, ◌⊎◌, ℕ, Bool, false, true, not, All, drop, length, min, max, IfOk, OnOk};
 ghost use Rattle.doc_lists.specs.Docs.{Apart, has_doc};
-ghost use Rattle.doc_lists.specs.Sets.{Ahead, AreThose, SameFrom, Swept, in_runs, keeps};
+ghost use Rattle.doc_lists.specs.Sets.{Ahead, AreThose, SameFrom, Swept, ends_before, in_runs, keeps};
 
 use crate::{DocList, NoMemory, Run};
 use std::alloc::Global;
@@ -149,20 +149,40 @@ fn end_of_stretch(runs: &[Run], start: u64) -> u64
     }
 }
 
-// The runs from the first on that does not end before a document.
+// The runs from the first on that does not end before a document. It skips twice as many runs each
+// time, and half as many where that is too far.
 fn left_from(runs: &[Run], doc: u64) -> &[Run]
     requires { Apart 0 runs.now }
     ensures ahead { Ahead doc result.now }
     ensures same { SameFrom doc runs.now result.now }
 {
     let mut left = runs;
-    while let [run, rest @ ..] = left {
-        if run.last as u64 >= doc {
-            return left;
+    let mut step = 1;
+    while ends_before(left, 1, doc) {
+        if ends_before(left, step, doc) {
+            left = following(left, step);
+            step = step.saturating_mul(2);
+        } else {
+            step /= 2;
         }
-        left = rest;
     }
     left
+}
+
+// The runs after so many.
+fn following(runs: &[Run], count: usize) -> &[Run]
+    requires { count ≤ length runs.now }
+    ensures { result.now ≡ drop count runs.now }
+{
+    &runs[count..]
+}
+
+// Whether there are so many runs and the last of them ends before a document.
+fn ends_before(runs: &[Run], count: usize, doc: u64) -> bool
+    requires { 1 ≤ count }
+    ensures { result ≡ ends_before runs.now count doc }
+{
+    count <= runs.len() && (runs[count - 1].last as u64) < doc
 }
 
 // Adds a stretch of documents if it is kept.
