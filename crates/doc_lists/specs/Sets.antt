@@ -1,0 +1,56 @@
+-- Sets of documents made of two others.
+use Rattle.std.specs.Prelude.{◌≡◌, ◌≤◌, ◌<◌, ℕ, Bool, not, ◌&&◌, ◌||◌, nat_le, nat_lt, length, ◌-◌, List, [], ◌∷◌, ◌+◌}
+use Rattle.std.specs.List.{All, list_any, slice_index_or}
+use Rattle.std.specs.List.Sorted.{IsStrictlyIncreasing}
+use Rattle.doc_lists.specs.declared.run.Run.{Run}
+use Rattle.doc_lists.specs.declared.sets.Kept.{Kept}
+use Rattle.doc_lists.specs.declared.sets.Kept.TheVariants.{Both, Either, First}
+use Rattle.doc_lists.specs.Docs.{Apart, has_doc}
+
+-- the documents of which the test holds, ascending
+pub record AreThose (test : ℕ → Bool) (docs : List ℕ) : Type 0 where
+  pub ascend : IsStrictlyIncreasing docs
+  pub those : (doc : ℕ) → has_doc docs doc ≡ test doc
+
+-- whether a document is kept, by whether it is in the first of two lists and in the second
+abbrev pub keeps : Kept → Bool → Bool → Bool
+keeps Both first second = first && second
+keeps Either first second = first || second
+keeps First first second = first && not second
+
+-- whether a document is in a run
+abbrev pub in_run : ℕ → Run → Bool
+in_run doc run = nat_le run.first doc && nat_le doc run.last
+
+-- whether a document is in one of the runs
+abbrev pub in_runs : List Run → ℕ → Bool
+in_runs runs doc = list_any (in_run doc) runs
+
+-- runs apart, the first of which ends at a document or after it
+abbrev pub Ahead : ℕ → List Run → Type 0
+Ahead doc [] = Unit {0}
+Ahead doc (run ∷ runs) = (doc ≤ run.last) × Apart 0 (run ∷ runs)
+
+-- whether there are so many runs and the last of them ends before a document
+abbrev pub ends_before : List Run → ℕ → ℕ → Bool
+ends_before runs count doc = nat_le count (length runs) && nat_lt (slice_index_or runs (count - 1) (record { first = 0; last = 0 })).last doc
+
+-- the runs have the same documents from one on
+abbrev pub SameFrom : ℕ → List Run → List Run → Type 0
+SameFrom from old new = (doc : ℕ) → from ≤ doc → in_runs new doc ≡ in_runs old doc
+
+-- runs with the documents of a list from one on
+pub record Left (from : ℕ) (docs : List ℕ) (runs : List Run) : Type 0 where
+  pub ahead : Ahead from runs
+  pub same : (doc : ℕ) → from ≤ doc → in_runs runs doc ≡ has_doc docs doc
+
+-- numbers that ascend from one on
+abbrev pub Up : ℕ → List ℕ → Type 0
+Up from [] = Unit {0}
+Up from (x ∷ xs) = (from ≤ x) × Up (x + 1) xs
+
+-- the documents below one of which the test holds, ascending
+pub record Swept (test : ℕ → Bool) (to : ℕ) (docs : List ℕ) : Type 0 where
+  pub ascend : Up 0 docs
+  pub below : All (λ doc. doc < to) docs
+  pub those : (doc : ℕ) → doc < to → has_doc docs doc ≡ test doc

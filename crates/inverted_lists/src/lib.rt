@@ -1,0 +1,10 @@
+//! The sections of a segment's file that tell where each id of a column is: how they are written,
+//! and how the places of ids are read from them.
+#![tactic(auto)]
+
+mod inverted;
+mod sorted;
+mod words;
+
+pub use inverted::write_inverted;
+pub use sorted::write_sorted;
