@@ -1,5 +1,5 @@
 -- Rows of one key, which are added to the group of that key at once.
-use Rattle.std.proofs.Common.{◌≡◌, ◌∙◌, ℕ, ◌+◌, ◌<◌, ◌≤◌, Bool, true, false, cond, ◌||◌, List, [], ◌∷◌, ◌++◌, map, length, suc, zero, Option, Some, None, Result, Ok, Err, IsPermutation, append-nil, take, drop, refl, sym, ap, subst, arith, is_some}
+use Rattle.std.proofs.Common.{◌≡◌, ◌∙◌, ℕ, ◌+◌, ◌<◌, ◌≤◌, Bool, true, false, cond, ◌||◌, List, [], ◌∷◌, ◌++◌, map, length, suc, zero, Option, Some, None, Result, Ok, Err, IsPermutation, append-nil, append_assoc, get_or, take, drop, refl, sym, ap, subst, arith, is_some}
 use Rattle.std.specs.Prelude.{ℤ}
 use Rattle.std.proofs.lemmas.List.Elements.{All-cons, All-head, All-map, All-nil, All-tail, All-weaker}
 use Rattle.std.proofs.lemmas.Map.Views.{tells_apart}
@@ -10,7 +10,7 @@ use Rattle.std.specs.FinMap as finite
 use Rattle.values.specs.declared.value.Value.{Value}
 use Rattle.values.specs.Columns.{Listed, row_of}
 use Rattle.table_schema.specs.Conditions.{cell}
-use Rattle.std.proofs.lemmas.List.{length-map, map-append, take-append-drop}
+use Rattle.std.proofs.lemmas.List.{length-map, map-append, take-append-drop, take_more}
 use Rattle.std.proofs.lemmas.List.Sorted.{IsPermutation-append_right}
 use Rattle.group_table.specs.declared.fault.TableFault.{TableFault}
 use Rattle.group_table.specs.declared.fault.TableFault.TheVariants.{NoMemory}
@@ -263,3 +263,20 @@ fault_of (Err fault) = fault
 pub same_fault : {X Y : Type 0} (fault other : TableFault) → ◌≡◌ {A = Result X TableFault} (Err fault) (Err other) → ◌≡◌ {A = Result Y TableFault} (Err fault) (Err other)
 unfolding fault_of
 same_fault fault other is = ap Err (ap fault_of is)
+
+-- ---- row by row
+
+pub rows_next : (columns : List Listed) (n : ℕ) (places : List ℕ) → n < length places
+    → rows_at columns (take n places) ++ row_of columns (get_or places n 0) ∷ [] ≡ rows_at columns (take (n + 1) places)
+rows_next columns n places lt = sym (map-append (row_of columns) (take n places) (get_or places n 0 ∷ [])) ∙ ap (rows_at columns) (sym (take_more places n 0 lt))
+
+-- too many groups with the next row
+pub overfull_next : (query : BoundQuery) (columns : List Listed) (n : ℕ) (places : List ℕ) (old mid : KeptGroups) → n < length places
+    → AddsRows query n (rows_at columns (take n places)) old mid → IsOverfull query (row_of columns (get_or places n 0) ∷ []) mid → IsOverfull query (rows_at columns places) old
+overfull_next query columns n places old mid lt a over =
+    let front = rows_at columns (take n places) in
+    let row : List (List Value) = row_of columns (get_or places n 0) ∷ [] in
+    let rest = rows_at columns (drop (n + 1) places) in
+    let same : front ++ (row ++ rest) ≡ rows_at columns places = sym (append_assoc front row rest)
+    ∙ ap (λ (l : List (List Value)). l ++ rest) (rows_next columns n places lt) ∙ rows_apart columns (n + 1) places in
+    subst (λ (l : List (List Value)). IsOverfull query l old) same (overfull_later query n front row rest old mid a over)

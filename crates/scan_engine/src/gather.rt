@@ -5,6 +5,7 @@ ghost use Rattle.std.specs.List.Sorted.{IsPermutation};
 ghost use Rattle.scan_engine.specs.Numbers.{AreNumbers};
 ghost use Rattle.scan_engine.specs.Places.{place_in};
 
+use crate::buckets::gather_buckets;
 use crate::fold::number_at;
 use crate::holds::numbers_of;
 use std::alloc::Global;
@@ -23,7 +24,7 @@ pub fn gathered(
 {
     let hashes = hashes_at(alloc, block, columns, places)?;
     let mut codes = codes_of(alloc, hashes.as_slice(), places)?;
-    codes.sort_unstable();
+    gather_buckets(alloc, &mut codes)?;
     places_in(alloc, codes.as_slice())
 }
 

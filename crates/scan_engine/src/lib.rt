@@ -2,11 +2,13 @@
 #![tactic(auto)]
 
 mod block;
+mod buckets;
 mod fold;
 mod gather;
 mod holds;
 mod places;
 mod run;
 mod selection;
+mod single;
 
 pub use block::add_block;

@@ -15,10 +15,14 @@ ghost use Rattle.scan_engine.specs.Scanned.{AddsRows, HaveAtMost, IsOverfull};
 use crate::fold::states_at;
 use crate::gather::gathered;
 use crate::holds::number_in;
+use crate::single::add_singly;
 use group_table::{GroupTable, TableFault};
 use std::alloc::Global;
 use table_schema::BoundQuery;
 use values::{Columns, NoMemory, Row, Seq, Value};
+
+// Rows of one key are brought together where there are so many of a key, as far as the groups tell.
+const ROWS_FOR_A_RUN: usize = 16;
 
 /// Adds the rows in these places.
 pub fn add_places(
@@ -39,6 +43,9 @@ pub fn add_places(
 {
     if query.groups.is_empty() {
         return add_whole(alloc, query, block, places, table);
+    }
+    if table.groups() as usize > places.len() / ROWS_FOR_A_RUN {
+        return add_singly(alloc, query, block, places, table);
     }
     let sorted = gathered(alloc, block, query.groups.as_slice(), places)?;
     add_runs(alloc, query, block, sorted.as_slice(), table)

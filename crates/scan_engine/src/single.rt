@@ -1,0 +1,123 @@
+//! Rows added one by one, by one key and one list of numbers that are filled again for each.
+
+ghost use Rattle.std.specs.Prelude.{◌≡◌, ◌≤◌, ◌-◌, ◌∷◌, [], Err, IfOk, OnOk, length, map};
+ghost use Rattle.agg_laws.specs.Numbers.{AreWhole, IsWhole, most_values};
+ghost use Rattle.values.specs.Columns.{row_of};
+ghost use Rattle.group_table.specs.declared.fault.TableFault.TheVariants.{TooManyGroups};
+ghost use Rattle.group_table.specs.Groups.{key_of, number_for};
+ghost use Rattle.group_table.specs.Kept.{IsTableOf, groups_in};
+ghost use Rattle.scan_engine.specs.Numbers.{AreNumbers};
+ghost use Rattle.scan_engine.specs.Places.{rows_at};
+ghost use Rattle.scan_engine.specs.Scanned.{AddsRows, HaveAtMost, IsOverfull};
+
+use crate::holds::number_in;
+use group_table::{GroupTable, TableFault};
+use std::alloc::Global;
+use table_schema::{Agg, BoundQuery};
+use values::{Columns, NoMemory, Row, Value};
+
+/// Adds the rows in these places one by one.
+pub fn add_singly(
+    alloc: Global,
+    query: &BoundQuery,
+    block: &Columns,
+    places: &[u32],
+    table: &mut GroupTable,
+) -> Result<(), TableFault>
+    requires numbers { AreNumbers block.now }
+    requires table { IsTableOf query.now table.old }
+    requires few { length places.now ≤ most_values }
+    requires fits { HaveAtMost (most_values - length places.now) (groups_in table.old) }
+    ensures ok { OnOk result (AddsRows query.now (length places.now)
+        (rows_at block.now.columns places.now) table.old table.new) }
+    ensures full { result ≡ Err TooManyGroups
+        → IsOverfull query.now (rows_at block.now.columns places.now) table.old }
+{
+    let mut key = Row::with_capacity(alloc, query.groups.len())?;
+    let mut values = Vec::with_capacity(alloc, query.aggs.len())?;
+    for place in places {
+        match add_one(
+            alloc,
+            query,
+            block,
+            *place as usize,
+            key,
+            &mut values,
+            table,
+        ) {
+            Ok(used) => key = used,
+            Err(fault) => return Err(fault),
+        }
+    }
+    Ok(())
+}
+
+// Adds a row, and gives back what was lent for its key.
+fn add_one(
+    alloc: Global,
+    query: &BoundQuery,
+    block: &Columns,
+    at: usize,
+    spare: Row,
+    values: &mut Vec<i64>,
+    table: &mut GroupTable,
+) -> Result<Row, TableFault>
+    requires numbers { AreNumbers block.now }
+    requires table { IsTableOf query.now table.old }
+    requires fits { HaveAtMost (most_values - 1) (groups_in table.old) }
+    ensures ok { OnOk result (AddsRows query.now 1 (row_of block.now.columns at ∷ [])
+        table.old table.new) }
+    ensures full { result ≡ Err TooManyGroups
+        → IsOverfull query.now (row_of block.now.columns at ∷ []) table.old }
+{
+    let key = key_in(spare, block, at, query.groups.as_slice())?;
+    fill_values(block, at, query.aggs.as_slice(), values)?;
+    if let Err(fault) = table.add_row(alloc, &key, values) {
+        return Err(fault);
+    }
+    Ok(key)
+}
+
+// The key of a row, its numbers in the group columns, in the place of a list that is let go.
+fn key_in(spare: Row, block: &Columns, at: usize, columns: &[u16]) -> Result<Row, NoMemory>
+    requires { AreNumbers block.now }
+    ensures { IfOk result (λ key. key ≡ key_of columns.now (row_of block.now.columns at)) }
+{
+    let mut key = spare.into_vec();
+    key.clear();
+    for column in columns {
+        key.push(Value::Whole(number_in(block, at, *column)))?;
+    }
+    Ok(Row::from_vec(key))
+}
+
+// The numbers of a row for the aggregates.
+fn fill_values(
+    block: &Columns,
+    at: usize,
+    aggs: &[Agg],
+    values: &mut Vec<i64>,
+) -> Result<(), NoMemory>
+    requires { AreNumbers block.now }
+    ensures values { OnOk result (values.new.items
+        ≡ map (λ agg. number_for agg (row_of block.now.columns at)) aggs.now) }
+    ensures whole { OnOk result (AreWhole values.new.items) }
+{
+    values.clear();
+    for agg in aggs {
+        values.push(number_of(block, at, agg))?;
+    }
+    Ok(())
+}
+
+// The number of a row for an aggregate; rows are counted by any.
+fn number_of(block: &Columns, at: usize, agg: &Agg) -> i64
+    requires { AreNumbers block.now }
+    ensures value { result ≡ number_for agg.now (row_of block.now.columns at) }
+    ensures whole { IsWhole result }
+{
+    match agg.column {
+        Some(column) => number_in(block, at, column),
+        None => 0,
+    }
+}
