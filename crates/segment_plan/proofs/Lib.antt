@@ -3,3 +3,5 @@ mod Ends
 mod Columns
 mod Pruned
 mod Emptied
+mod Images
+mod OnePlan

@@ -5,14 +5,17 @@ use Rattle.values.specs.declared.value.Value.{Value}
 use Rattle.table_schema.specs.declared.query.BoundQuery.{BoundQuery}
 use Rattle.table_schema.specs.declared.query.Conjunct.{Conjunct}
 use Rattle.table_schema.specs.declared.table.Table.{Table}
+use Rattle.table_schema.specs.ValidTable.{IsValidTable}
 use Rattle.table_schema.specs.Conditions.{all_hold}
 use Rattle.dictionary.specs.Dictionary.{Distinct}
 use Rattle.segment_file.specs.Bounds.{bounds_of}
-use Rattle.segment_file.specs.Heads.{Seen}
-use Rattle.segment_file.specs.Image.{dictionary_of}
+use Rattle.segment_file.specs.Heads.{IsHead, IsPartOf, Seen}
+use Rattle.segment_file.specs.Image.{CanHold, dictionary_of, image}
+use Rattle.segment_file.specs.Names.{IsSegmentName}
+use Rattle.segment_file.specs.Ordered.{ordered}
 use Rattle.segment_file.specs.Parts.{columns_of}
 use Rattle.segment_plan.specs.Matched.{AreLoaded}
-use Rattle.segment_plan.specs.Plan.{is_emptied}
+use Rattle.segment_plan.specs.Plan.{is_emptied, plan_of}
 use Rattle.segment_plan.specs.Pruning.{is_pruned}
 
 -- a head tells how many these rows are, the bounds of their columns, and dictionaries of these where they are loaded, as that of their image does
@@ -32,3 +35,13 @@ PrunedHasNone = (query : BoundQuery) (table : Table) (rows : List (List Value)) 
 -- no row of a segment with a column that is left without a value satisfies the query
 abbrev pub EmptyHasNone : Type 0
 EmptyHasNone = (conjuncts : List Conjunct) (table : Table) (rows : List (List Value)) (head : Seen) → TellsOf table rows head → AreLoaded conjuncts head → is_emptied conjuncts table head ≡ true → NoneHolds conjuncts rows
+
+-- the head of an image, whole or with some of its dictionaries, tells of the rows of the segment
+abbrev pub HeadTells : Type 0
+HeadTells =
+    (table : Table) (name file : List ℕ) (rows : List (List Value)) (whole head : Seen) → IsValidTable table → IsSegmentName name → CanHold table rows → IsHead table name file (image 1 table name rows) whole → IsPartOf whole head
+    → TellsOf table (ordered table.settings.sorted rows) head
+
+-- rows have one plan, whatever else of their segment is loaded
+abbrev pub OnePlan : Type 0
+OnePlan = (query : BoundQuery) (table : Table) (rows : List (List Value)) (a b : Seen) → TellsOf table rows a → TellsOf table rows b → AreLoaded query.conjuncts a → AreLoaded query.conjuncts b → plan_of query table a ≡ plan_of query table b

@@ -1,5 +1,5 @@
 //! Laws of plans. Each is the contract of a function that does nothing.
-ghost use Rattle.segment_plan.specs.Laws.{EmptyHasNone, PrunedHasNone};
+ghost use Rattle.segment_plan.specs.Laws.{EmptyHasNone, HeadTells, OnePlan, PrunedHasNone};
 
 /// No row of a segment that is pruned satisfies the query.
 pub fn pruned_law()
@@ -10,4 +10,14 @@ pub fn pruned_law()
 /// query.
 pub fn empty_law()
     ensures { EmptyHasNone }
+{}
+
+/// The head of an image tells of the rows of its segment.
+pub fn head_tells_law()
+    ensures { HeadTells }
+{}
+
+/// Rows have one plan, whatever else of their segment is loaded.
+pub fn one_plan_law()
+    ensures { OnePlan }
 {}
