@@ -96,7 +96,7 @@ impl Kept {
     }
 }
 
-// The documents that are kept of two lists, by stretches in which no run of either begins or ends.
+// The documents that are kept of two lists, stretch by stretch: of each all are kept, or none.
 fn combine(alloc: Global, kept: Kept, a: &DocList, b: &DocList) -> Result<DocList, NoMemory>
     ensures { IfOk result (AreThose (λ doc. keeps kept (has_doc a.now doc) (has_doc b.now doc))) }
 {
