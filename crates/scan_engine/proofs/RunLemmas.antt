@@ -1,7 +1,7 @@
 -- Rows of one key, which are added to the group of that key at once.
-use Rattle.std.proofs.Common.{◌≡◌, ◌∙◌, ℕ, ◌+◌, ◌<◌, ◌≤◌, Bool, true, false, cond, ◌||◌, List, [], ◌∷◌, ◌++◌, map, length, suc, zero, Option, Some, None, Result, Ok, Err, IsPermutation, append-nil, append_assoc, get_or, take, drop, refl, sym, ap, subst, arith, is_some}
+use Rattle.std.proofs.Common.{◌≡◌, ◌∙◌, ℕ, ◌+◌, ◌<◌, ◌≤◌, Bool, true, false, cond, ◌||◌, List, [], ◌∷◌, ◌++◌, map, length, Option, Some, None, Result, Ok, Err, append_assoc, get_or, take, drop, refl, sym, ap, subst, arith, is_some}
 use Rattle.std.specs.Prelude.{ℤ}
-use Rattle.std.proofs.lemmas.List.Elements.{All-cons, All-head, All-map, All-nil, All-tail, All-weaker}
+use Rattle.std.proofs.lemmas.List.Elements.{All-cons, All-head, All-nil, All-tail}
 use Rattle.std.proofs.lemmas.Map.Views.{tells_apart}
 use Rattle.std.specs.List.{All, filter, list_any}
 use Rattle.std.specs.Option.{option_map_or}
@@ -9,9 +9,7 @@ use Rattle.std.specs.Ordering.{eq_by_cmp}
 use Rattle.std.specs.FinMap as finite
 use Rattle.values.specs.declared.value.Value.{Value}
 use Rattle.values.specs.Columns.{Listed, row_of}
-use Rattle.table_schema.specs.Conditions.{cell}
-use Rattle.std.proofs.lemmas.List.{length-map, map-append, take-append-drop, take_more}
-use Rattle.std.proofs.lemmas.List.Sorted.{IsPermutation-append_right}
+use Rattle.std.proofs.lemmas.List.{map-append, take-append-drop, take_more}
 use Rattle.group_table.specs.declared.fault.TableFault.{TableFault}
 use Rattle.group_table.specs.declared.fault.TableFault.TheVariants.{NoMemory}
 use Rattle.agg_laws.specs.declared.aggregate_kind.AggKind.{AggKind}
@@ -31,10 +29,10 @@ use Rattle.group_table.specs.Groups.{Groups, groups_of, has_key, is_key, key_of,
 use Rattle.group_table.specs.Kept.{HaveValues, IsNewKey, IsTableOf, KeptGroups, Merges, groups_in}
 use Rattle.group_table.specs.Shape.{Shape, shape_of}
 use Rattle.group_table.proofs.KeptLemmas.{key_same, key_total}
-use Rattle.group_table.proofs.GroupsLemmas.{found, of_both, one, same_permuted}
+use Rattle.group_table.proofs.GroupsLemmas.{found, of_both, one}
 use Rattle.scan_engine.specs.Places.{IsRun, rows_at}
 use Rattle.scan_engine.specs.Scanned.{AddsRows, HaveAtMost, IsOverfull}
-use Rattle.scan_engine.proofs.AddLemmas.{adds_nothing, at_most_more, merged_fits, new_one, overfull_later}
+use Rattle.scan_engine.proofs.AddLemmas.{at_most_more, merged_fits, new_one, overfull_later}
 
 -- ---- what the states of rows are
 
@@ -191,69 +189,10 @@ adds_as_more query n m rows old new le a = record {
   fits = λ k h. at_most_more (groups_in new) (k + n) (k + m) (omega (arith, le)) (a.fits k h);
 }
 
--- rows in places that all have the key of one of them
-pub run_of : (groups : List ℕ) (columns : List Listed) (key : List Value) (first : ℕ) (places : List ℕ) → 0 < length places
-    → key ≡ key_of groups (row_of columns first) → All (λ at. key_of groups (row_of columns at) ≡ key_of groups (row_of columns first)) places
-    → IsRun groups key (rows_at columns places)
-run_of groups columns key first places lt is all = record {
-  width = ap length is ∙ length-map groups (cell (row_of columns first));
-  each = All-map (OfKey groups key) (row_of columns) places
-      (All-weaker (λ at. key_of groups (row_of columns at) ≡ key_of groups (row_of columns first)) (λ at. OfKey groups key (row_of columns at)) (λ at same. same ∙ sym is) places all);
-  some = λ any. subst (λ n. 0 < n) (sym (length-map places (row_of columns))) lt;
-}
-
--- ---- runs one after the other
+-- ---- row by row
 
 pub rows_apart : (columns : List Listed) (n : ℕ) (places : List ℕ) → rows_at columns (take n places) ++ rows_at columns (drop n places) ≡ rows_at columns places
 rows_apart columns n places = sym (map-append (row_of columns) (take n places) (drop n places)) ∙ ap (rows_at columns) (take-append-drop n places)
-
-abbrev no_places : List ℕ
-no_places = []
-
-nothing_left : (n : ℕ) → [] ≡ take n no_places
-nothing_left zero = refl
-nothing_left (suc n) = refl
-
-take_both : (n m : ℕ) (places : List ℕ) → take n places ++ take m (drop n places) ≡ take (n + m) places
-take_both zero m places = let same : m ≡ 0 + m = omega arith in ap (λ k. take k places) same
-take_both (suc n) m [] = sym (nothing_left m) ∙ nothing_left (suc n + m)
-take_both (suc n) m (at ∷ places) =
-    let same : suc (n + m) ≡ suc n + m = omega arith in
-    ap (λ l. at ∷ l) (take_both n m places) ∙ ap (λ k. take k (at ∷ places)) same
-
-pub rows_both : (columns : List Listed) (n m : ℕ) (places : List ℕ) → rows_at columns (take n places) ++ rows_at columns (take m (drop n places)) ≡ rows_at columns (take (n + m) places)
-rows_both columns n m places = sym (map-append (row_of columns) (take n places) (take m (drop n places))) ∙ ap (rows_at columns) (take_both n m places)
-
--- too many groups with the first rows already
-pub overfull_first : (query : BoundQuery) (columns : List Listed) (n : ℕ) (places : List ℕ) (t : KeptGroups) → IsTableOf query t
-    → IsOverfull query (rows_at columns (take n places)) t → IsOverfull query (rows_at columns places) t
-overfull_first query columns n places t table over = subst (λ (l : List (List Value)). IsOverfull query l t) (rows_apart columns n places)
-    (overfull_later query 0 [] (rows_at columns (take n places)) (rows_at columns (drop n places)) t t (adds_nothing query 0 t table) over)
-
--- too many groups with the rows that are left
-pub overfull_rest : (query : BoundQuery) (columns : List Listed) (n : ℕ) (places : List ℕ) (old mid : KeptGroups) → AddsRows query n (rows_at columns (take n places)) old mid
-    → IsOverfull query (rows_at columns (drop n places)) mid → IsOverfull query (rows_at columns places) old
-overfull_rest query columns n places old mid a over =
-    let front = rows_at columns (take n places) in
-    let rest = rows_at columns (drop n places) in
-    let same : front ++ (rest ++ []) ≡ rows_at columns places = ap (λ (l : List (List Value)). front ++ l) (append-nil rest) ∙ rows_apart columns n places in
-    subst (λ (l : List (List Value)). IsOverfull query l old) same (overfull_later query n front rest [] old mid a over)
-
--- ---- rows in another order
-
-groups_permuted : (shape : Shape) (done xs ys : List (List Value)) → IsPermutation xs ys → groups_of shape (done ++ ys) ≡ groups_of shape (done ++ xs)
-groups_permuted shape done xs ys h = same_permuted shape (done ++ xs) (done ++ ys) (IsPermutation-append_right done xs ys h)
-
-pub adds_permuted : (query : BoundQuery) (n : ℕ) (xs ys : List (List Value)) (old new : KeptGroups) → IsPermutation xs ys → AddsRows query n ys old new → AddsRows query n xs old new
-adds_permuted query n xs ys old new h a = record {
-  of_query = a.of_query;
-  most = a.most;
-  groups = λ done so. a.groups done so ∙ groups_permuted (shape_of query) done xs ys h;
-  fits = a.fits;
-}
-
-pub overfull_permuted : (query : BoundQuery) (xs ys : List (List Value)) (t : KeptGroups) → IsPermutation xs ys → IsOverfull query ys t → IsOverfull query xs t
-overfull_permuted query xs ys t h over done so = subst (λ (g : Groups). t.most < finite.len g) (groups_permuted (shape_of query) done xs ys h) (over done so)
 
 fault_of : {X : Type 0} → Result X TableFault → TableFault
 fault_of (Ok x) = NoMemory
@@ -263,8 +202,6 @@ fault_of (Err fault) = fault
 pub same_fault : {X Y : Type 0} (fault other : TableFault) → ◌≡◌ {A = Result X TableFault} (Err fault) (Err other) → ◌≡◌ {A = Result Y TableFault} (Err fault) (Err other)
 unfolding fault_of
 same_fault fault other is = ap Err (ap fault_of is)
-
--- ---- row by row
 
 pub rows_next : (columns : List Listed) (n : ℕ) (places : List ℕ) → n < length places
     → rows_at columns (take n places) ++ row_of columns (get_or places n 0) ∷ [] ≡ rows_at columns (take (n + 1) places)

@@ -1,5 +1,5 @@
 -- Rows of a table by their places, and rows of one key.
-use Rattle.std.specs.Prelude.{◌≡◌, ◌<◌, ◌%◌, ◌^◌, ℕ, List, length, map}
+use Rattle.std.specs.Prelude.{◌≡◌, ◌<◌, ℕ, List, length, map}
 use Rattle.std.specs.List.{All}
 use Rattle.values.specs.declared.value.Value.{Value}
 use Rattle.values.specs.Columns.{Listed, row_of}
@@ -14,7 +14,3 @@ pub record IsRun (groups : List ℕ) (key : List Value) (rows : List (List Value
   pub width : length key ≡ length groups
   pub each : All (λ row. key_of groups row ≡ key) rows
   pub some : 0 < length groups → 0 < length rows
-
--- a code has a place in its lower half
-abbrev pub place_in : ℕ → ℕ
-place_in code = code % 2 ^ 32

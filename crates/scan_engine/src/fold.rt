@@ -78,9 +78,9 @@ fn folded<A: Aggregator>(numbers: &[i64], places: &[u32]) -> A::State
     state
 }
 
-/// The number in a place; beyond the last there is 0.
+// The number in a place; beyond the last there is 0.
 #[inline(always)]
-pub fn number_at(numbers: &[i64], at: usize) -> i64
+fn number_at(numbers: &[i64], at: usize) -> i64
     ensures value { result ≡ get_or numbers.now at (pos 0) }
     ensures whole { IsWhole result }
 {

@@ -2,9 +2,7 @@
 #![tactic(auto)]
 
 mod block;
-mod buckets;
 mod fold;
-mod gather;
 mod holds;
 mod places;
 mod run;
