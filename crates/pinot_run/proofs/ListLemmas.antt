@@ -1,18 +1,16 @@
 -- What `list` did, by what its parts did.
-use Rattle.std.proofs.Common.{◌≡◌, ◌∙◌, ◌<◌, ◌≤◌, ◌+◌, ◌++◌, ℕ, true, List, [], ◌∷◌, drop, length, get_or, codes, Option, Some, None, Result, Ok, Err, IfSome, IsErrAnd, refl, sym, ap, subst, append_assoc, append-nil, inr, arith}
-use Rattle.std.specs.Fmt.{decimal}
-use Rattle.std.proofs.lemmas.List.{drop_all, drop_more}
+use Rattle.std.proofs.Common.{◌≡◌, ◌∙◌, ℕ, true, List, Option, Some, None, Result, Ok, Err, IfSome, refl, subst, inr}
 use Rattle.std.specs.List.{AllZip}
-use Rattle.outside.specs.Files.{Files, Lacks}
+use Rattle.outside.specs.Files.{Files}
 use Rattle.outside.specs.Seen.{OnlyReads, Seen}
 use Rattle.table_schema.specs.declared.table.Table.{Table}
 use Rattle.table_store.specs.Segments.{AreFirstNames}
 use Rattle.pinot_run.specs.Command.{Listing}
-use Rattle.pinot_run.specs.Gives.{LooksFor, StopsStore}
+use Rattle.pinot_run.specs.Gives.{LooksFor}
 use Rattle.pinot_run.specs.Profile.{StoreFiles, store_refuses}
 use Rattle.pinot_run.specs.Ran.{Acted, Caused, IsAllowed, Lists, NoFaults, Over, Ran}
 use Rattle.pinot_run.specs.Step.{Answer, Refuses, Replies}
-use Rattle.pinot_run.specs.Stored.{HasRows, HasTableFile, IsListed, SegmentsRefuse, list_text, segment_lines}
+use Rattle.pinot_run.specs.Stored.{HasRows, HasTableFile, IsListed, SegmentsRefuse, list_text}
 use Rattle.pinot_run.specs.Touched.{LogsOpened, OnlyLooks}
 use Rattle.pinot_run.specs.World.{Devices}
 use Rattle.pinot_run.specs.declared.fault.Fault.TheVariants as fault
@@ -21,7 +19,6 @@ use Rattle.pinot_run.specs.declared.note.Note.TheVariants as note
 use Rattle.pinot_run.specs.declared.stop.Stop.{Stop}
 use Rattle.pinot_run.specs.declared.stop.Stop.TheVariants as stop
 use Rattle.pinot_run.proofs.MachineLemmas.{steps_over}
-use Rattle.pinot_run.proofs.StoredLemmas.{reads_as, reads_then}
 
 -- ---- what was found
 

@@ -1,5 +1,5 @@
 -- What a command does to stored files is its step on the state that they stand for.
-use Rattle.std.proofs.Common.{◌≡◌, ◌∙◌, ◌≤◌, ◌<◌, ◌+◌, ◌&&◌, inl, inr, ℕ, suc, Bool, true, false, List, [], ◌∷◌, length, get_or, take, option_map, nat_lt, Option, Some, None, Result, Ok, Err, IfSome, IsSomeAnd, refl, sym, ap, subst, arith, cond}
+use Rattle.std.proofs.Common.{◌≡◌, ◌∙◌, ◌≤◌, ◌<◌, ◌&&◌, inl, inr, ℕ, suc, Bool, true, false, List, [], ◌∷◌, length, get_or, take, option_map, nat_lt, Option, Some, None, Result, Ok, Err, IfSome, IsSomeAnd, refl, sym, ap, subst, arith, cond}
 use Rattle.std.proofs.lemmas.Bool.Decides.{nat_tests}
 use Rattle.std.specs.Prelude.{is_some, map as each}
 use Rattle.std.specs.FinMap as map

@@ -1,9 +1,8 @@
 -- Looks at a store, one after another.
-use Rattle.std.proofs.Common.{◌≡◌, ◌≢◌, ◌∙◌, ◌≤◌, ◌<◌, ◌+◌, ◌⊎◌, ◌||◌, inl, inr, ℕ, Bool, true, false, not, suc, zero, List, [], ◌∷◌, ◌++◌, append-nil, append_assoc, length, drop, get_or, take, All, Option, Some, None, option_map, Result, Ok, Err, IfSome, IsErrAnd, IsErrOf, OnErr, refl, sym, ap, subst, arith}
+use Rattle.std.proofs.Common.{◌≡◌, ◌≢◌, ◌∙◌, ◌≤◌, ◌<◌, ◌+◌, ◌⊎◌, inl, inr, ℕ, true, suc, zero, List, [], ◌∷◌, ◌++◌, append-nil, append_assoc, length, drop, get_or, All, Option, Some, None, option_map, Result, Ok, Err, IfSome, IsErrAnd, IsErrOf, OnErr, refl, sym, ap, subst, arith}
 use Rattle.std.proofs.lemmas.List.{drop_all, drop_more}
 use Rattle.std.proofs.lemmas.List.Elements.{All-append, All-cons, All-nil, All-take}
 use Rattle.std.proofs.lemmas.List.Folds.{list_any_at}
-use Rattle.std.proofs.lemmas.Bool.{false≢true}
 use Rattle.std.proofs.lemmas.Cmp.{nat_list_cmp_total}
 use Rattle.std.specs.Cmp.{eq_by_cmp_equiv}
 use Rattle.std.specs.List.{AllZip}
@@ -16,18 +15,15 @@ use Rattle.outside.specs.Seen.{OnlyReads, Seen}
 use Rattle.outside.specs.Whole.{LogsFront}
 use Rattle.segment_file.specs.Heads as heads
 use Rattle.segment_file.specs.Names.{IsSegmentName, file_of}
-use Rattle.segment_file.specs.Parts.{IsPlainTable}
 use Rattle.segment_file.specs.Rules.{HasFront}
 use Rattle.segment_file.specs.declared.fault.HeadFault.{HeadFault}
 use Rattle.segment_file.specs.declared.fault.HeadFault.TheVariants as head
 use Rattle.segment_file.specs.declared.part.Part.{Part}
 use Rattle.segment_file.specs.declared.part.Part.TheVariants as parts
-use Rattle.table_schema.specs.Unbuilt.{is_no_tree, names_unbuilt}
-use Rattle.table_schema.specs.declared.settings.TreeSetting.{TreeSetting}
 use Rattle.table_schema.specs.declared.table.Table.{Table}
-use Rattle.table_store.specs.Accepted.{IsNoTableFile, IsTableFile}
+use Rattle.table_store.specs.Accepted.{IsNoTableFile}
 use Rattle.table_store.specs.Segments.{AreFirstNames, has_segment}
-use Rattle.table_store.specs.TableFile.{file_limit, table_name}
+use Rattle.table_store.specs.TableFile.{table_name}
 use Rattle.table_store.specs.declared.fault.StoreFault.{StoreFault}
 use Rattle.table_store.specs.declared.fault.StoreFault.TheVariants as store
 use Rattle.pinot_run.specs.Gives.{IsHeadStop, IsStopOf, LooksFor, StopsStore}
@@ -71,13 +67,6 @@ weaker P Q xs f h = λ k d lt. f (get_or xs k d) (h k d lt)
 pub front_opened : (limit : ℕ) (old new : Option (List Entry)) → LogsFront table_name limit old new → LogsOpened TableFile old new
 front_opened limit old new (to, le, (entries, is, each)) = (entries, is, of_file table_name 0 to entries each)
 
-same_log : (log : Option (List Entry)) → log ≡ option_map (λ before. before ++ []) log
-same_log None = refl
-same_log (Some entries) = ap Some (sym (append-nil entries))
-
-pub unread : (old new : Option (List Entry)) → new ≡ old → LogsOpened TableFile old new
-unread old new same = ([], same ∙ same_log old, All-nil (λ entry. entry.file ≡ table_name))
-
 pub more_opened : (old new : Option (List Entry)) → LogsOpened TableFile old new → LogsOpened StoreFiles old new
 more_opened old new (entries, is, each) = (entries, is, weaker (λ entry. entry.file ≡ table_name) (λ entry. IsStoreFile entry.file) entries (λ entry e. inl e) each)
 
@@ -92,10 +81,6 @@ join_logs (Some entries) x y = ap Some (append_assoc entries x y)
 pub logs_then : (a b c : Option (List Entry)) → LogsOpened StoreFiles a b → LogsOpened StoreFiles b c → LogsOpened StoreFiles a c
 logs_then a b c (x, is_x, each_x) (y, is_y, each_y) =
     (x ++ y, is_y ∙ ap (option_map (λ before. before ++ y)) is_x ∙ join_logs a x y, All-append (λ entry. IsStoreFile entry.file) x y each_x each_y)
-
-pub tables_then : (a b c : Option (List Entry)) → LogsOpened TableFile a b → LogsOpened TableFile b c → LogsOpened TableFile a c
-tables_then a b c (x, is_x, each_x) (y, is_y, each_y) =
-    (x ++ y, is_y ∙ ap (option_map (λ before. before ++ y)) is_x ∙ join_logs a x y, All-append (λ entry. entry.file ≡ table_name) x y each_x each_y)
 
 -- ---- looks one after another
 

@@ -1,6 +1,5 @@
-use Rattle.std.proofs.Common.{◌≡◌, ◌∙◌, ◌<◌, ◌+◌, ◌++◌, ◌∷◌, [], List, ℕ, IfSome, get_or, length, length-append, rules, arith, subst, sym, ap}
+use Rattle.std.proofs.Common.{◌≡◌, ◌∙◌, ◌<◌, ◌+◌, ◌++◌, ◌∷◌, [], List, ℕ, IfSome, get_or, length, length-append, arith, subst, sym, ap}
 use Rattle.std.specs.List.{AllZip}
-use Rattle.outside.specs.Files.{Files}
 use Rattle.outside.specs.Seen.{Seen, seen}
 use Rattle.pinot_run.specs.Profile.{StoreFiles}
 use Rattle.pinot_run.specs.Stored.{HasRows, SegmentsRefuse}

@@ -1,4 +1,4 @@
-use Rattle.std.proofs.Common.{◌≡◌, ◌≤◌, IfSome, length}
+use Rattle.std.proofs.Common.{◌≡◌, IfSome, length}
 use Rattle.outside.specs.Seen.{OnlyReads, seen}
 use Rattle.pinot_run.specs.Profile.{StoreFiles}
 use Rattle.pinot_run.specs.Touched.{LogsOpened}
