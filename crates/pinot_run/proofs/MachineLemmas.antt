@@ -125,6 +125,7 @@ none_refused stored stands note.NoTable h = refl
 none_refused stored stands (note.BadCsv wrong row column) h = absurd h
 none_refused stored stands (note.TooLarge what limit) h = absurd h
 none_refused stored stands (note.BadQuery wrong place) h = absurd h
+none_refused stored stands (note.TooManyGroups most) h = absurd h
 none_refused stored stands (note.NotASegment name part) (inl w) = let (bytes, got, none) = w.wrong in none_there stored stands (bytes, got)
 none_refused stored stands (note.NotASegment name part) (inr w) = let (bytes, got, is) = w.table_is in none_there stored stands (bytes, got)
 
@@ -150,6 +151,7 @@ module _ (stored : Files) (texts : state.Texts) (segments : Segments) (stands : 
   some_refused (note.BadCsv wrong row column) h = absurd h
   some_refused (note.TooLarge what limit) h = absurd h
   some_refused (note.BadQuery wrong place) h = absurd h
+  some_refused (note.TooManyGroups most) h = absurd h
   some_refused (note.NotASegment name part) (inl w) = table_right w.wrong
   some_refused (note.NotASegment name part) (inr w) = segment_right name part w
 

@@ -94,6 +94,7 @@ table_segments files note.NoTable h = h
 table_segments files (note.BadCsv wrong row column) h = absurd h
 table_segments files (note.TooLarge what limit) h = absurd h
 table_segments files (note.BadQuery wrong place) h = absurd h
+table_segments files (note.TooManyGroups most) h = absurd h
 table_segments files (note.NotASegment name part) h = inl h
 
 stops_more : (held : Option Files) (why : Stop) → StopsStore TableRefuses held why → StopsStore SegmentsRefuse held why
