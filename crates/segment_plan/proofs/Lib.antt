@@ -5,3 +5,4 @@ mod Pruned
 mod Emptied
 mod Images
 mod OnePlan
+mod OneFactors

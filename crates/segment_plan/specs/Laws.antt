@@ -4,6 +4,7 @@ use Rattle.std.specs.List.{AllByRecursion}
 use Rattle.values.specs.declared.value.Value.{Value}
 use Rattle.table_schema.specs.declared.query.BoundQuery.{BoundQuery}
 use Rattle.table_schema.specs.declared.query.Conjunct.{Conjunct}
+use Rattle.table_schema.specs.declared.settings.TreeSetting.{TreeSetting}
 use Rattle.table_schema.specs.declared.table.Table.{Table}
 use Rattle.table_schema.specs.ValidTable.{IsValidTable}
 use Rattle.table_schema.specs.Conditions.{all_hold}
@@ -14,6 +15,7 @@ use Rattle.segment_file.specs.Image.{CanHold, dictionary_of, image}
 use Rattle.segment_file.specs.Names.{IsSegmentName}
 use Rattle.segment_file.specs.Ordered.{ordered}
 use Rattle.segment_file.specs.Parts.{columns_of}
+use Rattle.segment_plan.specs.Factors.{AreWholeLoaded, factors_of}
 use Rattle.segment_plan.specs.Matched.{AreLoaded}
 use Rattle.segment_plan.specs.Plan.{is_emptied, plan_of}
 use Rattle.segment_plan.specs.Pruning.{is_pruned}
@@ -45,3 +47,9 @@ HeadTells =
 -- rows have one plan, whatever else of their segment is loaded
 abbrev pub OnePlan : Type 0
 OnePlan = (query : BoundQuery) (table : Table) (rows : List (List Value)) (a b : Seen) → TellsOf table rows a → TellsOf table rows b → AreLoaded query.conjuncts a → AreLoaded query.conjuncts b → plan_of query table a ≡ plan_of query table b
+
+-- rows give a tree one list of factors, whatever else of their segment is loaded
+abbrev pub OneFactors : Type 0
+OneFactors =
+    (query : BoundQuery) (table : Table) (rows : List (List Value)) (tree : TreeSetting) (a b : Seen) → TellsOf table rows a → TellsOf table rows b → AreLoaded query.conjuncts a → AreLoaded query.conjuncts b → AreWholeLoaded query a tree → AreWholeLoaded query b tree
+    → factors_of query a tree ≡ factors_of query b tree

@@ -1,5 +1,5 @@
 //! Laws of plans. Each is the contract of a function that does nothing.
-ghost use Rattle.segment_plan.specs.Laws.{EmptyHasNone, HeadTells, OnePlan, PrunedHasNone};
+ghost use Rattle.segment_plan.specs.Laws.{EmptyHasNone, HeadTells, OneFactors, OnePlan, PrunedHasNone};
 
 /// No row of a segment that is pruned satisfies the query.
 pub fn pruned_law()
@@ -20,4 +20,9 @@ pub fn head_tells_law()
 /// Rows have one plan, whatever else of their segment is loaded.
 pub fn one_plan_law()
     ensures { OnePlan }
+{}
+
+/// Rows give a tree one list of factors, whatever else of their segment is loaded.
+pub fn one_factors_law()
+    ensures { OneFactors }
 {}

@@ -9,7 +9,7 @@ mod plans;
 mod pruning;
 mod split_factors;
 
-pub use laws::{empty_law, head_tells_law, one_plan_law, pruned_law};
+pub use laws::{empty_law, head_tells_law, one_factors_law, one_plan_law, pruned_law};
 pub use planning::plan;
 pub use plans::{IndexChoice, ScanPlan, SegmentPlan};
 pub use pruning::prune;

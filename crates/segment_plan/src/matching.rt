@@ -9,8 +9,8 @@ use dictionary::{Dictionary, IdSet};
 use std::alloc::Global;
 use table_schema::Conjunct;
 
-/// How many values of the dictionary of a column satisfy each conjunct that names it alone. Bounds are
-/// looked up, and no value is tested.
+/// How many values of the dictionary of a column satisfy each conjunct that names it alone. Bounds
+/// are looked up, and no value is tested.
 pub fn matched(
     alloc: Global,
     conjuncts: &[Conjunct],
