@@ -13,3 +13,5 @@ mod RowLemmas
 mod SchemaLemmas
 pub mod ValidLemmas
 pub mod ValidRows
+pub mod UnicodeRows
+pub mod FaultLemmas

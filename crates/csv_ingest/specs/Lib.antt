@@ -6,3 +6,4 @@ pub mod NumberBlocks
 pub mod Reading
 pub mod Rows
 pub mod FaultTexts
+pub mod Unicode

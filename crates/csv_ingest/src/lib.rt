@@ -17,6 +17,6 @@ mod schema_rows;
 pub use blocks::{NumberBlocks, NumberHeader, number_blocks};
 pub use defaults::defaults_fit;
 pub use fault::{CsvFault, CsvKind};
-pub use laws::{defaults_law, rows_law};
+pub use laws::{defaults_law, rows_law, unicode_law};
 pub use numbers::{read_plain, read_plain_columns};
 pub use schema_rows::{read_columns, read_rows};

@@ -1,4 +1,4 @@
-use Rattle.std.proofs.Common.{◌≡◌, Ok, sym, ◌∙◌, arith}
+use Rattle.std.proofs.Common.{arith}
 use Rattle.csv.specs.Records.{fields_of}
 use Rattle.csv_ingest.proofs.NumberLemmas.{header_width}
 use Rattle.csv_ingest.proofs.blocks.NumberHeader.schema.Goals as goal
