@@ -1,4 +1,4 @@
-mod NameLemmas
+pub mod NameLemmas
 pub mod AcceptedLemmas
 mod SegmentLemmas
 mod FilesLemmas

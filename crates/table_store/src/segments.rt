@@ -96,8 +96,8 @@ pub fn publish_columns<D: Depot>(
     }
 }
 
-// Whether a segment of this name may be put in: there is none, and there are fewer than the most.
-fn find_room<D: Depot>(alloc: Global, depot: &mut D, name: &str) -> Result<(), StoreFault>
+/// Whether a segment of this name may be put in: there is none, and there are fewer than the most.
+pub fn find_room<D: Depot>(alloc: Global, depot: &mut D, name: &str) -> Result<(), StoreFault>
     ensures free { OnOk result (Lacks (D.held depot.old) (file_of name.now)) }
     ensures room { OnOk result (IfSome (D.held depot.old) HasRoom) }
     ensures taken { IsErrOf result StoreFault.NameTaken →
