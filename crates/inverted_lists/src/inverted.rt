@@ -1,4 +1,4 @@
-//! The section of an inverted index is written.
+//! The section of an inverted index is written, and places are put in the order of their ids.
 ghost use Rattle.std.specs.Prelude.{◌≡◌, ◌≤◌, ◌<◌, ◌+◌, ◌++◌, All, length, OnOk, OnErr, IfOk};
 ghost use Rattle.bit_column.specs.Postings.{entries, inverted, offsets};
 ghost use Rattle.inverted_lists.specs.Counting.{Counted};
@@ -20,6 +20,17 @@ pub fn write_inverted(ids: &[u32], count: u32, out: &mut Vec<u8>) -> Result<(), 
     let places = places_of(alloc, ids, words.as_slice(), counts.as_mut_slice())?;
     words.extend_from_slice(places.as_slice())?;
     write_words(words.as_slice(), out)
+}
+
+/// The places of the ids, id by id: those of a lesser id come first, and those of one id ascend.
+pub fn places_by_id(alloc: Global, ids: &[u32], count: u32) -> Result<Vec<u32>, NoMemory>
+    requires few { length ids.now ≤ 1048576 }
+    requires below { All (λ id. id < count) ids.now }
+    ensures { IfOk result (λ places. places.items ≡ entries count ids.now) }
+{
+    let mut counts = counts_of(alloc, ids, count as usize)?;
+    let starts = offsets_of(alloc, ids, counts.as_slice())?;
+    places_of(alloc, ids, starts.as_slice(), counts.as_mut_slice())
 }
 
 // How many rows have each id.

@@ -6,5 +6,5 @@ mod inverted;
 mod sorted;
 mod words;
 
-pub use inverted::write_inverted;
+pub use inverted::{places_by_id, write_inverted};
 pub use sorted::write_sorted;

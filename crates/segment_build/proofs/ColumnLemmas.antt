@@ -63,7 +63,7 @@ column_values count (c ∷ cs) (suc at) d counts lt =
 less_other : (a b : Value) → value_order a b ≡ Less → value_eq a b ≡ false
 less_other a b e = value_eq-ties a b ∙ ap is_eq e
 
-below_at : (v : Value) (vs : List Value) (id : ℕ) (d : Value) → AllByRecursion (λ w. value_order v w ≡ Less) vs → id < length vs → value_order v (get_or vs id d) ≡ Less
+pub below_at : (v : Value) (vs : List Value) (id : ℕ) (d : Value) → AllByRecursion (λ w. value_order v w ≡ Less) vs → id < length vs → value_order v (get_or vs id d) ≡ Less
 below_at v [] id d all lt = absurd (omega (arith, lt))
 below_at v (w ∷ ws) zero d all lt = all.0
 below_at v (w ∷ ws) (suc id) d all lt = below_at v ws id d all.1 (omega (arith, lt))

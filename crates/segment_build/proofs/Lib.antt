@@ -5,3 +5,4 @@ pub mod Sizes
 pub mod Built
 pub mod FilesLemmas
 pub mod RowLemmas
+pub mod Stable
