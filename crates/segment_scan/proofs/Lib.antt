@@ -1,0 +1,5 @@
+pub mod CodedLemmas
+pub mod RankSteps
+pub mod SlotLemmas
+pub mod FoldSteps
+pub mod MergeSteps
