@@ -1,0 +1,59 @@
+use Rattle.std.proofs.Common.{◌∙◌, ◌++◌, ◌+◌, ◌-◌, ◌≤◌, [], Err, sym, ap, subst, arith}
+use Rattle.csv_ingest.specs.Blocks.{after}
+use Rattle.values.specs.Columns.{rows_of}
+use Rattle.group_table.specs.Kept.{groups_in}
+use Rattle.group_table.specs.Groups.{Groups}
+use Rattle.group_table.specs.Shape.{shape_of}
+use Rattle.scan_engine.specs.Scanned.{HaveAtMost}
+use Rattle.scan_engine.proofs.AddLemmas.{at_most_more}
+use Rattle.text_scan.proofs.GroupLemmas.{block_added, none_fit, overfull_text}
+use Rattle.text_scan.proofs.TextLemmas.{after-more, after-none}
+use Rattle.text_scan.proofs.groups.group_text.Goals as goal
+
+pub reading-init : goal.reading-init
+reading-init c = record {
+  blocks = c.requires.blocks;
+  table = c.requires.table.of_query;
+  most = c.requires.table.most_is;
+  fits = (0, subst (λ (g : Groups). HaveAtMost 0 g) (sym c.requires.table.groups_are) (none_fit (shape_of c.args.bound.now)), omega (arith, c.requires.few));
+  so_far = λ whole h. ([], whole, h, after-none whole, c.requires.table.groups_are);
+}
+
+pub add_block-requires-clause-fits : goal.add_block-requires-clause-fits
+add_block-requires-clause-fits c =
+    let (n, h, le) = c.reading.invariant.fits in
+    let count : c.in-Some.block.count + c.next_rows.new.blocks.left ≤ c.reading.blocks.left = rw c.in-Some.is at c.in_ok-block.ensures.count in
+    at_most_more (groups_in c.reading.table) n (536870912 - c.in-Some.block.count) (omega arith) h
+
+pub returns-in-Err-TooManyGroups-clause-ok : goal.returns-in-Err-TooManyGroups-clause-ok
+returns-in-Err-TooManyGroups-clause-ok c = λ whole h.
+    let (done, more, left, is, so) = c.reading.invariant.so_far whole h in
+    let (rest, next, is_next) = rw c.in-Some.is at (c.in_ok-block.ensures.ok more left) in
+    let (tail, is_tail) = c.in_ok-pass_over-in-Err-TooManyGroups.ensures.ok rest next in
+    let rows = rows_of c.in-Some.block in (
+      (done ++ rows) ++ tail,
+      is ∙ ap (after done) is_next ∙ after-more done rows rest ∙ ap (after (done ++ rows)) is_tail,
+      overfull_text c.args.bound.now done rows tail c.reading.table c.reading.invariant.most
+          (c.add_block.ensures.full (c.in-Err-TooManyGroups.is ∙ ap Err c.in-Err-TooManyGroups.field-0-is)) so,
+    )
+
+pub reading-preserved : goal.reading-preserved
+reading-preserved c =
+    let added = c.in-Ok.ensures.ok in
+    let e = c.in_ok-block.ensures in
+    let count : c.in-Some.block.count + c.next_rows.new.blocks.left ≤ c.reading.blocks.left = rw c.in-Some.is at e.count in
+    record {
+      blocks = e.blocks;
+      table = added.of_query;
+      most = added.most ∙ c.reading.invariant.most;
+      fits = let (n, h, le) = c.reading.invariant.fits in (n + c.in-Some.block.count, added.fits n h, omega arith);
+      so_far = λ whole h.
+          let (done, more, left, is, so) = c.reading.invariant.so_far whole h in
+          let (rest, next, is_next) = rw c.in-Some.is at (e.ok more left) in (
+            done ++ rows_of c.in-Some.block,
+            rest,
+            next,
+            is ∙ ap (after done) is_next ∙ after-more done (rows_of c.in-Some.block) rest,
+            block_added c.args.bound.now c.in-Some.block.count done (rows_of c.in-Some.block) c.reading.table c.add_block.new.table added so,
+          );
+    }

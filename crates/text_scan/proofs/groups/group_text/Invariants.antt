@@ -1,0 +1,23 @@
+use Rattle.std.proofs.Common.{◌≡◌, ◌+◌, ◌≤◌, ℕ, List}
+use Rattle.values.specs.declared.value.Value.{Value}
+use Rattle.csv_ingest.specs.Blocks.{RowsOrFault, after}
+use Rattle.csv_ingest.specs.NumberBlocks.{Gives, IsNumberBlocks}
+use Rattle.group_table.specs.Groups.{groups_of}
+use Rattle.group_table.specs.Kept.{IsTableOf, groups_in}
+use Rattle.group_table.specs.Shape.{shape_of}
+use Rattle.scan_engine.specs.Scanned.{HaveAtMost, selected}
+use Rattle.text_scan.specs.Reply.{most_groups}
+use Rattle.text_scan.proofs.groups.group_text.Given as goal
+
+abbrev pub invariant-reading : goal.invariant-reading
+invariant-reading l = record {
+  blocks : IsNumberBlocks l.blocks;
+  table : IsTableOf l.bound l.table;
+  most : l.table.most ≡ most_groups;
+  fits : (n : ℕ) × HaveAtMost n (groups_in l.table) × (n + l.blocks.left ≤ 134217728);
+  so_far : (whole : RowsOrFault) → Gives l.fn.blocks whole → (done : List (List Value)) × (more : RowsOrFault) × Gives l.blocks more × (whole ≡ after done more)
+      × (groups_in l.table ≡ groups_of (shape_of l.bound) (selected l.bound done));
+}
+
+abbrev pub decreases-reading : goal.decreases-reading
+decreases-reading l = l.blocks.left
