@@ -5,25 +5,15 @@ use Rattle.std.specs.FinMap as map
 use Rattle.outside.specs.Counts.{Rose}
 use Rattle.outside.specs.Files.{Files, Lacks}
 use Rattle.outside.specs.Whole.{IsTooLong, IsWhole}
-use Rattle.csv_ingest.specs.Rows.{csv_limits, plain_in, records_of}
-use Rattle.csv_ingest.specs.declared.fault.CsvFault.{CsvFault}
-use Rattle.csv_ingest.specs.declared.fault.CsvFault.TheVariants as csv
-use Rattle.query_bind.specs.Bound.{Bound, bound}
-use Rattle.query_bind.specs.declared.fault.BindFault.{BindFault}
-use Rattle.query_bind.specs.declared.fault.BindFault.TheVariants as bind
-use Rattle.query_parser.specs.Query.{parsed}
-use Rattle.query_parser.specs.declared.tree.Query.{Query}
-use Rattle.query_parser.specs.declared.fault.QueryFault.{QueryFault}
-use Rattle.query_parser.specs.declared.fault.QueryFault.TheVariants as parse
-use Rattle.table_schema.specs.declared.field.Schema.{Schema}
-use Rattle.values.specs.declared.value.Value.{Value}
 use Rattle.pinot_run.specs.Command.{Scan}
-use Rattle.broker_merge.specs.Reply.{Reply, Answers, TooManyGroups}
-use Rattle.pinot_run.specs.Reply.{reply_of}
-use Rattle.pinot_run.specs.Gives.{Gives, StopsRead}
+use Rattle.text_scan.specs.TextReply.{Replies as RepliesTo, TextReply, text_reply}
+use Rattle.text_scan.specs.declared.fault.ScanFault.{ScanFault}
+use Rattle.text_scan.specs.declared.fault.ScanFault.TheVariants as scan
+use Rattle.pinot_run.specs.Gives.{StopsRead, stop_of}
+use Rattle.pinot_run.specs.Notes.{scan_note}
 use Rattle.pinot_run.specs.Profile.{csv_limit, scan_refuses}
 use Rattle.pinot_run.specs.Ran.{Acted, Caused, Counts, Ended, IsAllowed, NoFaults, Over, Ran}
-use Rattle.pinot_run.specs.Step.{Answer, Refuses, Replies, bare_table, bound_answer, parsed_answer, query_answer, replied, scan_answer}
+use Rattle.pinot_run.specs.Step.{Answer, Refuses, Replies, answered, scan_answer}
 use Rattle.pinot_run.specs.Touched.{ReadsFront}
 use Rattle.outside.specs.Seen.{Seen}
 use Rattle.pinot_run.specs.World.{Devices}
@@ -41,7 +31,7 @@ told_each (Some files) P Q f h = f files h
 
 -- ---- the answer by what is told of the file
 
-within_limit : (file sql bytes : List ℕ) → length bytes ≤ 134217728 → query_answer sql (plain_in csv_limits (records_of bytes)) ≡ scan_answer file sql (Some bytes)
+within_limit : (file sql bytes : List ℕ) → length bytes ≤ 134217728 → answered (text_reply sql bytes) ≡ scan_answer file sql (Some bytes)
 unfolding scan_answer
 within_limit file sql bytes le =
     let test : nat_lt 134217728 (length bytes) ≡ false = grind (arith, nat_tests) in
@@ -60,7 +50,7 @@ not_there file sql = refl
 abbrev IsOf : List ℕ → List ℕ → Answer → Files → Type 0
 IsOf file sql answer files = answer ≡ scan_answer file sql (map.get files file)
 
-of_whole : (held : Option Files) (file sql bytes : List ℕ) → IsWhole held file 134217728 bytes → IfSome held (IsOf file sql (query_answer sql (plain_in csv_limits (records_of bytes))))
+of_whole : (held : Option Files) (file sql bytes : List ℕ) → IsWhole held file 134217728 bytes → IfSome held (IsOf file sql (answered (text_reply sql bytes)))
 of_whole None file sql bytes whole = tt
 of_whole (Some files) file sql bytes (told, got, (same, le)) =
     within_limit file sql bytes (subst (λ bs. length bs ≤ 134217728) (sym same) le) ∙ ap (λ bs. scan_answer file sql (Some bs)) same ∙ ap (scan_answer file sql) (sym got)
@@ -79,34 +69,15 @@ abbrev rows_refuse : Note → Bool
 rows_refuse (note.NoInput file) = false
 rows_refuse line = scan_refuses line
 
-abbrev RefusesFew : Answer → Type 0
-RefusesFew (Replies text) = Unit {0}
-RefusesFew (Refuses line) = rows_refuse line ≡ true
-
-few_reply : (r : Reply) → RefusesFew (replied r)
-few_reply (Answers text) = tt
-few_reply TooManyGroups = refl
-
-few_bound : (rows : List (List Value)) (r : Result Bound BindFault) → RefusesFew (bound_answer rows r)
-few_bound rows (Ok b) = few_reply (reply_of b rows)
-few_bound rows (Err (bind.At wrong place)) = refl
-few_bound rows (Err bind.NoMemory) = tt
-
-few_parsed : (schema : Schema) (rows : List (List Value)) (r : Result Query QueryFault) → RefusesFew (parsed_answer schema rows r)
-few_parsed schema rows (Ok q) = few_bound rows (bound (bare_table schema) true q)
-few_parsed schema rows (Err (parse.At wrong place)) = refl
-few_parsed schema rows (Err parse.NoMemory) = tt
-
-few_sql : (t : Bool) (answer : Answer) (line : Note) → RefusesFew answer → rows_refuse line ≡ true → RefusesFew (cond t (Refuses line) answer)
-few_sql true answer line few other = other
-few_sql false answer line few other = few
-
-few_query : (sql : List ℕ) (r : Result (Schema × List (List Value)) CsvFault) → RefusesFew (query_answer sql r)
-few_query sql (Ok (schema, rows)) = few_sql (nat_lt 65536 (length sql)) _ _ (few_parsed schema rows (parsed sql)) refl
-few_query sql (Err (csv.At wrong row column)) = refl
-few_query sql (Err (csv.TooManyRows most)) = refl
-few_query sql (Err csv.TooManyColumns) = refl
-few_query sql (Err csv.NoMemory) = refl
+few_note : (wrong : ScanFault) → rows_refuse (scan_note wrong) ≡ true
+few_note (scan.BadText wrong row column) = refl
+few_note (scan.TooManyRows most) = refl
+few_note (scan.TooManyColumns most) = refl
+few_note (scan.LongQuery most) = refl
+few_note (scan.BadQuery wrong place) = refl
+few_note (scan.Unbound wrong place) = refl
+few_note (scan.TooManyGroups most) = refl
+few_note scan.NoMemory = refl
 
 few_line : (line : Note) → rows_refuse line ≡ true → scan_refuses line ≡ true
 few_line note.BadWords e = absurd cc
@@ -173,17 +144,27 @@ module _ (file sql : List ℕ) (inputs inputs_new depot : Seen) (reads : ReadsFr
   ran_unread (stop.Fault fault.Write) by still = absurd by
   ran_unread (stop.Fault fault.Memory) by still = ran (Err (stop.Fault fault.Memory)) (none (still (λ e. cc))) (record { kept = refl; cause = tt })
 
-  pub ran_whole : (bytes : List ℕ) (result : Result (List ℕ) Stop) → inputs_new.read_faults ≡ inputs.read_faults → IsWhole inputs.held file 134217728 bytes → Gives (query_answer sql (plain_in csv_limits (records_of bytes))) result → Of result
-  ran_whole bytes (Ok text) still whole gives =
-      ran _ (none still) (acted (Replies text) (subst (λ a. IfSome inputs.held (IsOf file sql a)) gives (of_whole inputs.held file sql bytes whole)) refl)
-  ran_whole bytes (Err (stop.Refused line)) still whole gives =
-      let told = subst (λ a. IfSome inputs.held (IsOf file sql a)) gives (of_whole inputs.held file sql bytes whole) in
-      let few : rows_refuse line ≡ true = subst RefusesFew gives (few_query sql (plain_in csv_limits (records_of bytes))) in
-      ran _ (none still) (acted (Refuses line) told (few_line line few, few_caused file sql inputs.held depot.held line few told, refl, tt))
-  ran_whole bytes (Err (stop.Fault why)) still whole gives =
-      subst (λ f. Of (Err (stop.Fault f))) (sym gives) (ran (Err (stop.Fault fault.Memory)) (none still) (record { kept = refl; cause = tt }))
+  -- the file was read, and the query over it has this reply
+  pub ran_replied : (bytes text : List ℕ) → inputs_new.read_faults ≡ inputs.read_faults → IsWhole inputs.held file 134217728 bytes → text_reply sql bytes ≡ Ok text → Of (Ok text)
+  ran_replied bytes text still whole is =
+      ran _ (none still) (acted (Replies text) (subst (λ r. IfSome inputs.held (IsOf file sql (answered r))) is (of_whole inputs.held file sql bytes whole)) refl)
+
+  ran_refused : (bytes : List ℕ) (wrong : ScanFault) → inputs_new.read_faults ≡ inputs.read_faults → IsWhole inputs.held file 134217728 bytes → text_reply sql bytes ≡ Err wrong → Of (Err (stop.Refused (scan_note wrong)))
+  ran_refused bytes wrong still whole is =
+      let line = scan_note wrong in
+      let told = subst (λ r. IfSome inputs.held (IsOf file sql (answered r))) is (of_whole inputs.held file sql bytes whole) in
+      ran _ (none still) (acted (Refuses line) told (few_line line (few_note wrong), few_caused file sql inputs.held depot.held line (few_note wrong) told, refl, tt))
+
+  -- and it has none
+  pub ran_stopped : (bytes : List ℕ) (wrong : ScanFault) → inputs_new.read_faults ≡ inputs.read_faults → IsWhole inputs.held file 134217728 bytes → RepliesTo (text_reply sql bytes) (Err wrong) → Of (Err (stop_of wrong))
+  ran_stopped bytes scan.NoMemory still whole is = ran (Err (stop.Fault fault.Memory)) (none still) (record { kept = refl; cause = tt })
+  ran_stopped bytes wrong still whole is = ran_refused bytes wrong still whole (is (λ e. cc))
 
   -- a stop on the way is the one of the whole
   pub ran_halted : (result : Result (List ℕ) Stop) (why : Stop) → IsErrAnd result (λ s. s ≡ why) → Of (Err why) → Of result
   ran_halted (Ok text) why is by = absurd is
   ran_halted (Err other) why is by = subst (λ s. Of (Err s)) (sym is) by
+
+  -- and so is the one that the code answers
+  pub of_stop : (wrong : ScanFault) (why : Stop) → why ≡ stop_of wrong → Of (Err (stop_of wrong)) → Of (Err why)
+  of_stop wrong why is by = subst (λ s. Of (Err s)) (sym is) by

@@ -14,23 +14,9 @@ use Rattle.segment_file.specs.declared.fault.HeadFault.TheVariants as head
 use Rattle.table_schema.specs.declared.field.Field.{Field}
 use Rattle.table_store.specs.declared.fault.StoreFault.{StoreFault}
 use Rattle.table_store.specs.declared.fault.StoreFault.TheVariants as store
-use Rattle.table_schema.specs.declared.query.BoundQuery.{BoundQuery}
-use Rattle.query_parser.specs.Query.{parsed}
-use Rattle.query_parser.specs.declared.tree.Query.{Query}
-use Rattle.query_bind.specs.Bound.{Bound, bound, in_normal_form}
-use Rattle.query_bind.specs.Conjuncts.{KeepRows}
-use Rattle.query_bind.specs.Written.{where_written}
-use Rattle.std.specs.FinMap as finite
-use Rattle.values.specs.declared.value.Value.{Value}
-use Rattle.group_table.specs.Groups.{groups_of}
-use Rattle.group_table.specs.Kept.{KeptGroups, groups_in}
-use Rattle.group_table.specs.Shape.{shape_of}
-use Rattle.scan_engine.specs.Scanned.{selected}
-use Rattle.csv_ingest.specs.Blocks.{RowsOrFault}
-use Rattle.csv_ingest.specs.declared.fault.CsvFault.{CsvFault}
-use Rattle.pinot_run.specs.Notes.{csv_note}
-use Rattle.pinot_run.specs.Reply.{bound_reply, most_groups}
-use Rattle.pinot_run.specs.Step.{Answer, Refuses, Replies, replied, sql_limit}
+use Rattle.text_scan.specs.declared.fault.ScanFault.{ScanFault}
+use Rattle.text_scan.specs.declared.fault.ScanFault.TheVariants as scan
+use Rattle.pinot_run.specs.Notes.{scan_note}
 use Rattle.outside.specs.Seen.{Seen, OnlyReads}
 use Rattle.pinot_run.specs.declared.fault.Fault.TheVariants as fault
 use Rattle.pinot_run.specs.declared.note.Counted.{Counted}
@@ -39,23 +25,10 @@ use Rattle.pinot_run.specs.declared.note.Note.TheVariants as note
 use Rattle.pinot_run.specs.declared.stop.Stop.{Stop}
 use Rattle.pinot_run.specs.declared.stop.Stop.TheVariants as stop
 
--- a function over texts gives this answer, unless memory runs out
-abbrev pub Gives : Answer → Result (List ℕ) Stop → Type 0
-Gives answer (Ok text) = answer ≡ Replies text
-Gives answer (Err (stop.Refused line)) = answer ≡ Refuses line
-Gives answer (Err (stop.Fault why)) = why ≡ fault.Memory
-
--- a text within the limit is this query
-pub record IsRead (sql : List ℕ) (query : Query) : Type 0 where
-  pub short : length sql ≤ sql_limit
-  pub parsed_so : parsed sql ≡ Ok query
-
--- a query of a table has a meaning by its names and types, and this is its normal form
-pub record IsBound (table : Table) (query : Query) (found : BoundQuery) : Type 0 where
-  pub meaning : Bound
-  pub bound_so : bound table true query ≡ Ok meaning
-  pub normal : found ≡ in_normal_form meaning
-  pub keeps : KeepRows found.conjuncts (where_written table.schema.fields query.condition)
+-- what a query over a text that has no reply is for a command
+abbrev pub stop_of : ScanFault → Stop
+stop_of scan.NoMemory = stop.Fault fault.Memory
+stop_of wrong = stop.Refused (scan_note wrong)
 
 -- a text is refused for what was found first in it; or, where it can be, a read failed; or memory ran out
 abbrev pub StopsBy : {A : Type 0} → Option (Result A Note) → Type 0 → Stop → Type 0
@@ -63,11 +36,6 @@ StopsBy found Failing (stop.Refused line) = (texts_refuse line ≡ true) × IfSo
 StopsBy found Failing (stop.Fault fault.Read) = Failing
 StopsBy found Failing (stop.Fault fault.Write) = ⊥
 StopsBy found Failing (stop.Fault fault.Memory) = Unit {0}
-
--- a text is refused for its first fault, or memory ran out
-abbrev pub StopsText : RowsOrFault → Stop → Type 0
-StopsText whole (stop.Refused line) = (fault : CsvFault) × (whole ≡ Err fault) × (line ≡ csv_note fault)
-StopsText whole (stop.Fault why) = why ≡ fault.Memory
 
 -- an input file was not read whole: it is not there, or too long, or a read failed, or memory ran out
 abbrev pub StopsRead : List ℕ → Counted → ℕ → Option Files → Type 0 → Stop → Type 0
@@ -92,22 +60,6 @@ Makes texts table old new (Err (stop.Refused line)) = (line ≡ note.TableExists
 Makes texts table old new (Err (stop.Fault fault.Read)) = (new.held ≡ old.held) × Rose old.read_faults new.read_faults
 Makes texts table old new (Err (stop.Fault fault.Write)) = (new.held ≡ old.held) × Rose old.write_faults new.write_faults
 Makes texts table old new (Err (stop.Fault fault.Memory)) = new.held ≡ old.held
-
--- ---- the groups of a query over the rows of a text
-
--- the table has the groups over these rows, if there is room for them; else there are too many
-abbrev pub GroupsRows : Bool → BoundQuery → List (List Value) → KeptGroups → Type 0
-GroupsRows true query rows table = groups_in table ≡ groups_of (shape_of query) (selected query rows)
-GroupsRows false query rows table = most_groups < finite.len (groups_of (shape_of query) (selected query rows))
-
--- the reply to a query in its normal form over the rows of a text, or what stops there
-abbrev pub RepliesOver : BoundQuery → RowsOrFault → Result (List ℕ) Stop → Type 0
-RepliesOver query whole result = ((rows : List (List Value)) × (whole ≡ Ok rows)
-    × Gives (replied (bound_reply query rows)) result) ⊎ IsErrAnd result (StopsText whole)
-
--- the same for whatever a text gives
-abbrev pub GivesOver : (RowsOrFault → Type 0) → BoundQuery → Result (List ℕ) Stop → Type 0
-GivesOver Has query result = (whole : RowsOrFault) → Has whole → RepliesOver query whole result
 
 -- ---- the store is looked at
 

@@ -15,7 +15,7 @@ use Rattle.group_table.specs.Shape.{Shape, shape_of}
 use Rattle.group_table.proofs.GroupsLemmas.{found}
 use Rattle.scan_engine.specs.Scanned.{AddsRows, HaveAtMost, IsOverfull, selected}
 use Rattle.scan_engine.proofs.AddLemmas.{len_more}
-use Rattle.pinot_run.specs.Reply.{most_groups}
+use Rattle.text_scan.specs.Reply.{most_groups}
 
 no_row : (aggs : List Agg) → RowFits (states_of aggs []) 0
 no_row [] = tt

@@ -6,9 +6,9 @@ use Rattle.group_table.specs.Groups.{Groups}
 use Rattle.group_table.specs.Shape.{shape_of}
 use Rattle.scan_engine.specs.Scanned.{HaveAtMost}
 use Rattle.scan_engine.proofs.AddLemmas.{at_most_more}
-use Rattle.pinot_run.proofs.GroupLemmas.{block_added, none_fit, overfull_text}
-use Rattle.pinot_run.proofs.TextLemmas.{after-more, after-none}
-use Rattle.pinot_run.proofs.scan.group_text.Goals as goal
+use Rattle.text_scan.proofs.GroupLemmas.{block_added, none_fit, overfull_text}
+use Rattle.text_scan.proofs.TextLemmas.{after-more, after-none}
+use Rattle.text_scan.proofs.groups.group_text.Goals as goal
 
 pub reading-init : goal.reading-init
 reading-init c = record {

@@ -2,9 +2,9 @@ use Rattle.std.proofs.Common.{◌∙◌, ◌++◌, [], ap}
 use Rattle.csv_ingest.specs.Blocks.{RowsOrFault, after}
 use Rattle.csv_ingest.specs.NumberBlocks.{Gives}
 use Rattle.values.specs.Columns.{rows_of}
-use Rattle.pinot_run.specs.Gives.{StopsText}
-use Rattle.pinot_run.proofs.TextLemmas.{after-all, after-more, after-none, err-halted, stops-after}
-use Rattle.pinot_run.proofs.scan.pass_over.Goals as goal
+use Rattle.text_scan.specs.Parts.{IsTextFault}
+use Rattle.text_scan.proofs.TextLemmas.{after-all, after-more, after-none, err-halted, stops-after}
+use Rattle.text_scan.proofs.groups.pass_over.Goals as goal
 
 pub rest-init : goal.rest-init
 rest-init c = record {
@@ -21,12 +21,12 @@ rest-preserved c = record {
       (done ++ rows_of c.in-Some._block, rest, next, is ∙ ap (after done) is_next ∙ after-more done (rows_of c.in-Some._block) rest);
 }
 
-pub returns-in_err-_block-clause-stops : goal.returns-in_err-_block-clause-stops
-returns-in_err-_block-clause-stops c =
-    err-halted c.from_residual.result (λ why. (whole : RowsOrFault) → Gives c.args.blocks.now whole → StopsText whole why) c.in_err-_block.field-0.0 c.from_residual.ensures.1
+pub returns-in_err-_block-clause-err : goal.returns-in_err-_block-clause-err
+returns-in_err-_block-clause-err c =
+    err-halted c.from_residual.result (λ why. (whole : RowsOrFault) → Gives c.args.blocks.now whole → IsTextFault whole why) c.in_err-_block.field-0.0 c.from_residual.ensures.1
     (λ whole h.
     let (done, more, left, is) = c.rest.invariant.so_far whole h in
-    stops-after done whole more c.in_err-_block.field-0.0 is (c.in_err-_block.ensures.stops more left))
+    stops-after done whole more c.in_err-_block.field-0.0 is (c.in_err-_block.ensures.err more left))
 
 pub returns-clause-ok : goal.returns-clause-ok
 returns-clause-ok c = λ whole h.

@@ -2,7 +2,7 @@ use Rattle.std.proofs.Common.{◌≡◌, List}
 use Rattle.values.specs.declared.value.Value.{Value}
 use Rattle.csv_ingest.specs.Blocks.{RowsOrFault, after}
 use Rattle.csv_ingest.specs.NumberBlocks.{Gives, IsNumberBlocks}
-use Rattle.pinot_run.proofs.scan.pass_over.Given as goal
+use Rattle.text_scan.proofs.groups.pass_over.Given as goal
 
 abbrev pub invariant-rest : goal.invariant-rest
 invariant-rest l = record {

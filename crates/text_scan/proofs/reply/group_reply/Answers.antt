@@ -1,4 +1,4 @@
-use Rattle.pinot_run.proofs.scan.group_reply.Goals as goal
+use Rattle.text_scan.proofs.reply.group_reply.Goals as goal
 
 pub answer-requires-clause-table : goal.answer-requires-clause-table
 answer-requires-clause-table c = c.in_ok-group_text.ensures.table c.if-branch.true

@@ -1,0 +1,3 @@
+mod GroupLemmas
+mod QueryLemmas
+mod TextLemmas

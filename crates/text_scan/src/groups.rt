@@ -1,0 +1,98 @@
+//! The groups of a query over the rows of a text, block after block.
+ghost use Rattle.std.specs.Prelude.{◌≡◌, ◌≤◌, ◌<◌, ◌+◌, true, List, [], Ok, IfOk, IfErr, IfSome, OnOk, MatchOption};
+ghost use Rattle.values.specs.Columns.{rows_of as rows_of_columns};
+ghost use Rattle.values.specs.declared.value.Value.{Value};
+ghost use Rattle.csv_ingest.specs.Blocks.{RowsOrFault, after};
+ghost use Rattle.csv_ingest.specs.NumberBlocks.{Gives, IsNumberBlocks};
+ghost use Rattle.group_table.specs.Kept.{IsNew, IsTableOf};
+ghost use Rattle.scan_engine.specs.Numbers.{AreNumbers};
+ghost use Rattle.text_scan.specs.Parts.{GroupsRows, IsTextFault};
+ghost use Rattle.text_scan.specs.Reply.{most_groups};
+ghost use Rattle.text_scan.specs.TextReply.{text_fault, text_limit};
+
+use crate::ScanFault;
+use csv_ingest::{CsvFault, NumberBlocks};
+use group_table::{GroupTable, TableFault};
+use scan_engine::add_block;
+use std::alloc::Global;
+use table_schema::BoundQuery;
+use values::Columns;
+
+// The most columns that a text of whole numbers may have.
+const MOST_COLUMNS: u32 = 64;
+
+/// Adds the rows of a text that satisfy a query's filter to its groups, and says whether there is
+/// room for all of these. The text is read to its end.
+pub fn group_text(
+    alloc: Global,
+    blocks: &mut NumberBlocks<'_>,
+    bound: &BoundQuery,
+    table: &mut GroupTable,
+) -> Result<bool, ScanFault>
+    requires blocks { IsNumberBlocks blocks.old }
+    requires few { blocks.old.left ≤ text_limit }
+    requires table { IsNew bound.now most_groups table.old }
+    ensures ok { IfOk result (λ room. (whole : RowsOrFault) → Gives blocks.old whole →
+        (rows : List (List Value)) × (whole ≡ Ok rows)
+        × GroupsRows room bound.now rows table.new) }
+    ensures table { IfOk result (λ room. room ≡ true → IsTableOf bound.now table.new) }
+    ensures most { IfOk result (λ room. room ≡ true → table.new.most ≡ most_groups) }
+    ensures err { IfErr result (λ fault. (whole : RowsOrFault) → Gives blocks.old whole →
+        IsTextFault whole fault) }
+{
+    'reading: while let Some(block) = next_rows(alloc, blocks)? {
+        match add_block(alloc, bound, &block, table) {
+            Ok(()) => {}
+            Err(TableFault::TooManyGroups) => {
+                pass_over(alloc, blocks)?;
+                return Ok(false);
+            }
+            Err(TableFault::NoMemory) => return Err(ScanFault::NoMemory),
+        }
+    }
+    Ok(true)
+}
+
+/// Reads the rows that are left, and makes nothing of them.
+pub fn pass_over(alloc: Global, blocks: &mut NumberBlocks<'_>) -> Result<(), ScanFault>
+    requires { IsNumberBlocks blocks.old }
+    ensures ok { OnOk result ((whole : RowsOrFault) → Gives blocks.old whole →
+        (rows : List (List Value)) × (whole ≡ Ok rows)) }
+    ensures err { IfErr result (λ fault. (whole : RowsOrFault) → Gives blocks.old whole →
+        IsTextFault whole fault) }
+{
+    'rest: while let Some(_block) = next_rows(alloc, blocks)? {}
+    Ok(())
+}
+
+// The next rows of a text, if any are left.
+fn next_rows(alloc: Global, blocks: &mut NumberBlocks<'_>) -> Result<Option<Columns>, ScanFault>
+    requires { IsNumberBlocks blocks.old }
+    ensures blocks { IsNumberBlocks blocks.new }
+    ensures ok { IfOk result (λ block. (whole : RowsOrFault) → Gives blocks.old whole
+        → MatchOption block (whole ≡ Ok []) (λ columns. (more : RowsOrFault)
+        × Gives blocks.new more × (whole ≡ after (rows_of_columns columns) more))) }
+    ensures numbers { IfOk result (λ block. IfSome block AreNumbers) }
+    ensures count { IfOk result (λ block. IfSome block (λ columns.
+        columns.count + blocks.new.left ≤ blocks.old.left)) }
+    ensures fewer { IfOk result (λ block. IfSome block (λ _. blocks.new.left < blocks.old.left)) }
+    ensures err { IfErr result (λ fault. (whole : RowsOrFault) → Gives blocks.old whole →
+        IsTextFault whole fault) }
+{
+    match blocks.next(alloc) {
+        Ok(block) => Ok(block),
+        Err(fault) => Err(csv_fault(fault)),
+    }
+}
+
+/// What a text without rows is refused for.
+pub fn csv_fault(fault: CsvFault) -> ScanFault
+    ensures { result ≡ text_fault fault }
+{
+    match fault {
+        CsvFault::At(kind, row, column) => ScanFault::BadText(kind, row, column),
+        CsvFault::TooManyRows(most) => ScanFault::TooManyRows(most),
+        CsvFault::TooManyColumns => ScanFault::TooManyColumns(MOST_COLUMNS),
+        CsvFault::NoMemory => ScanFault::NoMemory,
+    }
+}

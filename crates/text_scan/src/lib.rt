@@ -1,0 +1,10 @@
+//! The reply to a query over the rows of a CSV text of whole numbers.
+#![tactic(auto)]
+
+mod bound;
+mod fault;
+mod groups;
+mod reply;
+
+pub use fault::ScanFault;
+pub use reply::reply_to_text;
