@@ -15,7 +15,7 @@ use Rattle.values.specs.declared.test.CompareOp.{CompareOp}
 use Rattle.query_parser.specs.declared.tree.Func.{Func}
 use Rattle.query_parser.specs.declared.tree.Query.{Query}
 use Rattle.query_parser.specs.Lex.{Bytes}
-use Rattle.query_parser.specs.Stream.{Stream, kind, place, number, word, next, tokens}
+use Rattle.query_parser.specs.Stream.{Stream, kind, number, tokens}
 use Rattle.query_parser.specs.Reading.{Outcome, Parser, and_then, ◌>>=◌, ◌>>◌, ◌<$>◌, pure, refusal, refuse, too_deep, peek, take_token, sees, eat, expect, name, literal_by, literal, separated_from, separated}
 use Rattle.query_parser.specs.Cond as c
 use Rattle.query_parser.specs.Query as q

@@ -15,7 +15,7 @@ use Rattle.query_bind.specs.declared.fault.BindFault.TheVariants as bind
 use Rattle.broker_merge.specs.Reply as groups
 use Rattle.text_scan.specs.Reply.{reply_of}
 use Rattle.text_scan.specs.Laws.{NeverForMemory}
-use Rattle.text_scan.specs.TextReply.{TextReply, bare_table, bound_reply, parsed_reply, replied, rows_reply, sql_reply, text_reply}
+use Rattle.text_scan.specs.TextReply.{TextReply, bare_table, bound_reply, parsed_reply, replied, rows_reply, text_reply}
 use Rattle.text_scan.specs.declared.fault.ScanFault.TheVariants.{NoMemory}
 use Rattle.text_scan.proofs.FindingLemmas as findings
 use Rattle.text_scan.proofs.ParsedLemmas as parses
