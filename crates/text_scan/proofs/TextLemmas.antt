@@ -10,8 +10,7 @@ use Rattle.csv_ingest.specs.declared.fault.CsvFault.{CsvFault}
 use Rattle.csv_ingest.specs.declared.fault.CsvFault.TheVariants as csv
 use Rattle.query_parser.specs.declared.tree.Query.{Query}
 use Rattle.text_scan.specs.Parts.{IsBound, IsRead, IsTextFault, RepliesOver}
-use Rattle.text_scan.specs.Reply.{conjuncts_reply}
-use Rattle.text_scan.specs.TextReply.{Replies, TextReply, bare_table, replied, rows_reply, sql_reply, text_fault, text_reply}
+use Rattle.text_scan.specs.TextReply.{Replies, TextReply, bare_table, rows_reply, sql_reply, text_fault, text_reply}
 use Rattle.text_scan.specs.declared.fault.ScanFault.{ScanFault}
 use Rattle.text_scan.specs.declared.fault.ScanFault.TheVariants.{NoMemory}
 use Rattle.text_scan.proofs.QueryLemmas.{by_conjuncts, query_so}

@@ -4,7 +4,9 @@
 mod bound;
 mod fault;
 mod groups;
+mod laws;
 mod reply;
 
 pub use fault::ScanFault;
+pub use laws::reply_law;
 pub use reply::reply_to_text;

@@ -17,8 +17,8 @@ returns-in-Ok g c = λ depot.
     ran_replied c.args.file.now c.args.sql.now (seen g.I.Shelf c.args.inputs.now) (seen g.I.Shelf c.read_input.new.inputs) depot e.reads c.in_ok-text.text c.in-Ok.reply (e.still (λ e. cc)) e.whole
     (subst (λ (bytes : List ℕ). Replies (text_reply c.args.sql.now bytes) (Ok c.in-Ok.reply)) c.as_slice.ensures c.in-Ok.ensures)
 
-pub returns-in-Err : goal.returns-in-Err
-returns-in-Err g c = λ depot.
+pub returns : goal.returns
+returns g c = λ depot.
     let e = c.in_ok-text.ensures in
     of_stop c.args.file.now c.args.sql.now (seen g.I.Shelf c.args.inputs.now) (seen g.I.Shelf c.read_input.new.inputs) depot e.reads c.in-Err.fault c.stop_of.result c.stop_of.ensures
     (ran_stopped c.args.file.now c.args.sql.now (seen g.I.Shelf c.args.inputs.now) (seen g.I.Shelf c.read_input.new.inputs) depot e.reads c.in_ok-text.text c.in-Err.fault (e.still (λ e. cc)) e.whole
