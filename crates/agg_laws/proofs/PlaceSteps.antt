@@ -1,6 +1,6 @@
 -- Changes of one document of a region.
-use Rattle.std.proofs.Common.{◌≡◌, ◌≢◌, ℕ, zero, suc, ◌+◌, ◌*◌, ◌-◌, ◌<◌, ◌≤◌, List, [], ◌∷◌, length}
-use Rattle.std.proofs.Common.{take, drop, set, refl, sym, ap, subst, ◌∙◌, arith, length-set}
+use Rattle.std.proofs.Common.{◌≡◌, ◌≢◌, ℕ, zero, suc, ◌+◌, ◌*◌, ◌<◌, ◌≤◌, List, [], ◌∷◌, length}
+use Rattle.std.proofs.Common.{take, drop, set, sym, ap, subst, ◌∙◌, arith}
 use Rattle.std.proofs.lemmas.List.{length-map}
 use Rattle.agg_laws.specs.declared.aggregate_kind.AggKind.{AggKind}
 use Rattle.agg_laws.specs.declared.states.AggState.{AggState}

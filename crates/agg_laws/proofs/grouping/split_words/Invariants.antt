@@ -1,4 +1,4 @@
-use Rattle.std.proofs.Common.{◌≡◌, ◌<◌, ◌≤◌, ◌++◌, ◌^◌, length, take, All}
+use Rattle.std.proofs.Common.{◌<◌, ◌≤◌, ◌++◌, ◌^◌, length, take, All}
 use Rattle.std.specs.List.Sorted.{IsPermutation}
 use Rattle.agg_laws.specs.Grouping.{entry_of, first_words}
 use Rattle.agg_laws.proofs.grouping.split_words.Given as goal

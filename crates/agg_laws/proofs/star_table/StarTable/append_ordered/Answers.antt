@@ -9,7 +9,7 @@ use Rattle.agg_laws.specs.Merged.{total, add, rekey, weights}
 use Rattle.agg_laws.specs.Tree.{dims_order, set_star, merged_docs}
 use Rattle.agg_laws.specs.Docs.{Doc, doc_at}
 use Rattle.agg_laws.specs.Flat.{range}
-use Rattle.agg_laws.proofs.RegionLemmas.{length-docs_in, any_default}
+use Rattle.agg_laws.proofs.RegionLemmas.{length-docs_in}
 use Rattle.agg_laws.proofs.TotalSteps.{doc_before}
 use Rattle.agg_laws.proofs.StarSteps as steps
 use Rattle.agg_laws.proofs.star_table.StarTable.append_ordered.Goals as goal

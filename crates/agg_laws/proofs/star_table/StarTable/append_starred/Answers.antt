@@ -1,9 +1,8 @@
-use Rattle.std.proofs.Common.{◌≡◌, ◌+◌, ◌-◌, ◌<◌, ◌≤◌, ◌++◌, List, length, sym, ap, ◌∙◌, arith}
-use Rattle.std.proofs.Common.{length-append, length-take}
+use Rattle.std.proofs.Common.{◌≡◌, ◌++◌, length, sym, ap, ◌∙◌, arith}
+use Rattle.std.proofs.Common.{length-append}
 use Rattle.agg_laws.specs.Rows.{merged_rows}
 use Rattle.agg_laws.specs.Merged.{rekey}
 use Rattle.agg_laws.specs.Tree.{set_star, merged_docs}
-use Rattle.agg_laws.specs.Docs.{Doc}
 use Rattle.agg_laws.specs.Flat.{range}
 use Rattle.agg_laws.proofs.FlatNodes.{merged_fewer, length-rekey, range_length}
 use Rattle.agg_laws.proofs.RegionLemmas.{length-docs_in}
