@@ -11,6 +11,7 @@ pub mod Columns
 pub mod Cells
 pub mod Region
 pub mod Packing
+pub mod Grouping
 pub mod Documents
 pub mod Picks
 pub mod Reads

@@ -8,6 +8,7 @@ mod column_list;
 mod compare;
 mod counts;
 mod extremes;
+mod grouping;
 mod id_list;
 mod kind_list;
 mod laws;

@@ -16,12 +16,16 @@ ghost use Rattle.agg_laws.specs.Documents.{aggregated, AreAlike};
 ghost use Rattle.agg_laws.specs.Flat.{range};
 ghost use Rattle.agg_laws.specs.Region.{numbers};
 ghost use Rattle.agg_laws.specs.Packing.{place, IsWord};
+ghost use Rattle.agg_laws.specs.Grouping.{starred_docs, with_states, AreGroups};
 ghost use Rattle.std.specs.Option.{IfSome};
 
 use crate::NoMemory;
 use crate::column_list::{
     add_values_at, merge_places, new_columns, push_copies, push_states, push_values,
     reserve_columns, tail_columns,
+};
+use crate::grouping::{
+    Groups, combinations, first_numbers, slots_of, split_words, word_key, word_place,
 };
 use crate::id_list::STAR;
 use crate::kind_list::Kinds;
@@ -309,6 +313,20 @@ impl StarTable {
         self.ids[place] = STAR;
     }
 
+    /// Merges the states of a document into those of another one.
+    fn merge_at(&mut self, into: usize, from: u32)
+        requires into { into < length self.old.docs }
+        requires from { from < length self.old.docs }
+        requires light { row_weight (doc_at self.old.docs into).1
+            + row_weight (doc_at self.old.docs from).1 ≤ most_stored }
+        ensures { self.new ≡ record self.old {
+          docs = with_states into (merged_rows (doc_at self.old.docs into).1
+              (doc_at self.old.docs from).1) self.old.docs;
+        } }
+    {
+        merge_places(self.columns.as_mut_slice(), into, from as usize, self.count);
+    }
+
     /// Merges the states of a document into those of the last one.
     fn merge_last(&mut self, from: u32)
         requires from { from + 1 < length self.old.docs }
@@ -472,15 +490,20 @@ impl StarTable {
 
     /// The numbers of a range, in the ascending order of their documents once a dimension is
     /// starred.
-    fn starred_order(&self, start: u32, end: u32, level: u8) -> Result<Vec<u32>, NoMemory>
+    fn starred_order(
+        &self,
+        start: u32,
+        end: u32,
+        level: u8,
+        spans: &[Span],
+    ) -> Result<Vec<u32>, NoMemory>
         requires order { start ≤ end }
         requires within { end ≤ length self.now.docs }
         ensures { IfOk result (λ order. IsPermutation (numbers start end) order.items
             × IsSortedBy (λ a b. is_lt (dims_order (set_star level (doc_at self.now.docs a).0)
             (set_star level (doc_at self.now.docs b).0))) order.items) }
     {
-        let spans = self.spans(start, end, level)?;
-        match self.words(start, end, level, spans.as_slice())? {
+        match self.words(start, end, level, spans)? {
             None => self.compared_order(start, end, level),
             Some(mut words) => {
                 words.sort()?;
@@ -519,6 +542,100 @@ impl StarTable {
         self.star_last(level as usize);
     }
 
+    /// Adds the documents of a range with a dimension starred, merged, given their numbers in the
+    /// ascending order that they have then.
+    fn append_ordered(&mut self, start: u32, end: u32, level: u8, order: &[u32])
+        requires order { start ≤ end }
+        requires within { end ≤ length self.old.docs }
+        requires spare { end - start ≤ self.old.spare }
+        requires light { weights row_weight (range start end self.old.docs) ≤ most_stored }
+        requires all { IsPermutation (numbers start end) order.now }
+        requires ascending { IsSortedBy (λ a b. is_lt (dims_order (set_star level (doc_at
+            self.old.docs a).0) (set_star level (doc_at self.old.docs b).0))) order.now }
+        ensures { self.new ≡ record self.old {
+          docs = self.old.docs ++ merged_docs merged_rows (rekey (set_star level) (range start
+              end self.old.docs));
+          spare = self.old.spare - length (merged_docs merged_rows (rekey (set_star level) (range
+              start end self.old.docs)));
+        } }
+    {
+        let before = self.count;
+        for i in 0..order.len() {
+            self.add_starred(before, order[i], level);
+        }
+    }
+
+    /// The documents of a range by combination, once a dimension is starred. None where there may be
+    /// more combinations than documents, or they take more bits than a word has.
+    fn groups(
+        &self,
+        start: u32,
+        end: u32,
+        level: u8,
+        spans: &[Span],
+    ) -> Result<Option<Groups>, NoMemory>
+        requires { start ≤ end }
+        ensures { IfOk result (λ found. IfSome found (λ groups. AreGroups start end level
+            self.now.docs groups.firsts.items groups.slots.items groups.others.items)) }
+    {
+        let Some(keys) = combinations(spans, end - start) else {
+            return Ok(None);
+        };
+        let Some(words) = self.words(start, end, level, spans)? else {
+            return Ok(None);
+        };
+        let alloc = *self.ids.allocator();
+        let Some(parts) = split_words(alloc, words, keys)? else {
+            return Ok(None);
+        };
+        let firsts = first_numbers(alloc, parts.table.as_slice(), start)?;
+        let slots = slots_of(alloc, parts.table.as_slice())?;
+        Ok(Some(Groups {
+            firsts,
+            slots,
+            others: parts.others,
+        }))
+    }
+
+    /// Adds documents with a dimension starred, one by one.
+    fn append_firsts(&mut self, firsts: &[u32], level: u8)
+        requires there { All (λ i. i < length self.old.docs) firsts.now }
+        requires spare { length firsts.now ≤ self.old.spare }
+        ensures { self.new ≡ record self.old {
+          docs = self.old.docs ++ starred_docs level self.old.docs firsts.now;
+          spare = self.old.spare - length firsts.now;
+        } }
+    {
+        for i in 0..firsts.len() {
+            self.repeat(firsts[i]);
+            self.star_last(level as usize);
+        }
+    }
+
+    /// Adds the documents of a range with a dimension starred, merged, given by combination.
+    fn append_groups(&mut self, start: u32, end: u32, level: u8, groups: &Groups)
+        requires order { start ≤ end }
+        requires within { end ≤ length self.old.docs }
+        requires spare { end - start ≤ self.old.spare }
+        requires light { weights row_weight (range start end self.old.docs) ≤ most_stored }
+        requires groups { AreGroups start end level self.old.docs groups.now.firsts.items
+            groups.now.slots.items groups.now.others.items }
+        ensures { self.new ≡ record self.old {
+          docs = self.old.docs ++ merged_docs merged_rows (rekey (set_star level) (range start
+              end self.old.docs));
+          spare = self.old.spare - length (merged_docs merged_rows (rekey (set_star level) (range
+              start end self.old.docs)));
+        } }
+    {
+        let before = self.count;
+        self.append_firsts(groups.firsts.as_slice(), level);
+        for i in 0..groups.others.len() {
+            let word = groups.others[i];
+            let slot = groups.slots[word_key(word)];
+            self.merge_at(before + slot as usize - 1, word_place(word, start));
+        }
+    }
+
     /// Adds the documents of a range with a dimension starred, merged and ascending, and answers
     /// how many they are. There is room for as many as the range has. Past the last dimension none
     /// is starred.
@@ -539,9 +656,14 @@ impl StarTable {
         ensures err { OnErr result (self.new ≡ self.old) }
     {
         let before = self.count;
-        let order = self.starred_order(start, end, level)?;
-        for i in 0..order.len() {
-            self.add_starred(before, order[i], level);
+        let spans = self.spans(start, end, level)?;
+        let spans = spans.as_slice();
+        match self.groups(start, end, level, spans)? {
+            Some(groups) => self.append_groups(start, end, level, &groups),
+            None => {
+                let order = self.starred_order(start, end, level, spans)?;
+                self.append_ordered(start, end, level, order.as_slice());
+            }
         }
         Ok((self.count - before) as u32)
     }

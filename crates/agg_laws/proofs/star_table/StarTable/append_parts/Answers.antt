@@ -1,7 +1,5 @@
 use Rattle.std.proofs.Common.{◌≡◌, ◌-◌, ◌≤◌, ◌++◌, ◌∷◌, [], length, take, drop, sym, ap, subst, ◌∙◌}
 use Rattle.std.proofs.Common.{arith}
-use Rattle.agg_laws.specs.Rows.{kinds_of}
-use Rattle.agg_laws.specs.Docs.{doc_of}
 use Rattle.agg_laws.specs.Columns.{kinds_in, row_pushed, AreColumns}
 use Rattle.agg_laws.proofs.RegionLemmas as region
 use Rattle.agg_laws.proofs.RegionSteps as last

@@ -1,375 +1,76 @@
-use Rattle.std.proofs.Common.{◌≡◌, ℕ, ◌-◌, ◌<◌, ◌≤◌, ◌++◌, List, length, take, drop, get_or, sym}
-use Rattle.std.proofs.Common.{ap, ◌∙◌, arith, length-append}
-use Rattle.std.specs.Ordering.{is_gt}
-use Rattle.std.specs.FinMap.{is_sorted}
-use Rattle.std.proofs.Math.Seq.{take-length}
-use Rattle.agg_laws.specs.Numbers.{most_stored}
-use Rattle.agg_laws.specs.Rows.{merged_rows, row_weight}
-use Rattle.agg_laws.specs.Merged.{total, add, rekey, weights}
-use Rattle.agg_laws.specs.Tree.{dims_order, set_star, merged_docs}
-use Rattle.agg_laws.specs.Docs.{Doc, doc_at}
+use Rattle.std.proofs.Common.{◌≡◌, ◌++◌, length, sym, ap, ◌∙◌, arith}
+use Rattle.std.proofs.Common.{length-append}
+use Rattle.agg_laws.specs.Rows.{merged_rows}
+use Rattle.agg_laws.specs.Merged.{rekey}
+use Rattle.agg_laws.specs.Tree.{set_star, merged_docs}
 use Rattle.agg_laws.specs.Flat.{range}
-use Rattle.agg_laws.proofs.RegionLemmas.{length-docs_in, any_default}
-use Rattle.agg_laws.proofs.TotalSteps.{doc_before}
-use Rattle.agg_laws.proofs.StarSteps as steps
+use Rattle.agg_laws.proofs.FlatNodes.{merged_fewer, length-rekey, range_length}
+use Rattle.agg_laws.proofs.RegionLemmas.{length-docs_in}
 use Rattle.agg_laws.proofs.star_table.StarTable.append_starred.Goals as goal
-
-pub add_starred-requires-clause-from : goal.add_starred-requires-clause-from
-add_starred-requires-clause-from c =
-    let t = c.args.self.now in
-    let docs = t.docs in
-    let s = c.self.inside in
-    let level = c.args.level in
-    let order = c.in_ok-order.order.items in
-    let perm = c.in_ok-order.ensures.0 in
-    let le : c.args.start ≤ c.args.end = omega (arith, c.requires.order) in
-    let n : s.count ≡ length docs =
-    sym (length-docs_in s.count s.dims s.ids.items s.columns.items)
-    ∙ ap (λ v. length v.docs) c.self.view_is in
-    let i = c.loop-i.i in
-    let long = steps.order_length level c.args.start c.args.end docs le c.requires.within order
-    perm in
-    let m = merged_docs merged_rows (steps.starred_at level docs (take i order)) in
-    let lt : i < length order =
-    omega (arith, c.loop-i-test.true, c.len-i-end.ensures, c.in_ok-order.order.ok.0) in
-    let at : c.index.result.now ≡ get_or order i 0 = c.index.ensures
-    ∙ any_default order i c.index.result.now 0 lt in
-    let in' : get_or order i 0 < length docs = let b =
-    steps.below level c.args.start c.args.end docs le c.requires.within order perm i 0 lt
-    in omega (arith, b, c.requires.within) in
-    let own : doc_at c.loop-i.self.docs c.index.result.now
-    ≡ doc_at docs (get_or order i 0) = (λ j. doc_at (c.loop-i.invariant.docs j) (at j))
-    ∙ doc_before docs m (get_or order i 0) in' in
-    let after : drop s.count c.loop-i.self.docs ≡ m = (λ j. drop (n j) (c.loop-i.invariant.docs j))
-    ∙ steps.drop_own docs m in
-    let first : take s.count c.loop-i.self.docs
-    ≡ docs = (λ j. take (n j) (c.loop-i.invariant.docs j)) ∙ steps.take_own docs m in
-    omega (arith, at, in', n)
-
-pub add_starred-requires-clause-before : goal.add_starred-requires-clause-before
-add_starred-requires-clause-before c =
-    let t = c.args.self.now in
-    let docs = t.docs in
-    let s = c.self.inside in
-    let level = c.args.level in
-    let order = c.in_ok-order.order.items in
-    let perm = c.in_ok-order.ensures.0 in
-    let le : c.args.start ≤ c.args.end = omega (arith, c.requires.order) in
-    let n : s.count ≡ length docs =
-    sym (length-docs_in s.count s.dims s.ids.items s.columns.items)
-    ∙ ap (λ v. length v.docs) c.self.view_is in
-    let i = c.loop-i.i in
-    let long = steps.order_length level c.args.start c.args.end docs le c.requires.within order
-    perm in
-    let m = merged_docs merged_rows (steps.starred_at level docs (take i order)) in
-    let l = ap length c.loop-i.invariant.docs ∙ length-append docs m in
-    omega (arith, l, n)
-
-pub add_starred-requires-clause-spare : goal.add_starred-requires-clause-spare
-add_starred-requires-clause-spare c =
-    let t = c.args.self.now in
-    let docs = t.docs in
-    let s = c.self.inside in
-    let level = c.args.level in
-    let order = c.in_ok-order.order.items in
-    let perm = c.in_ok-order.ensures.0 in
-    let le : c.args.start ≤ c.args.end = omega (arith, c.requires.order) in
-    let n : s.count ≡ length docs =
-    sym (length-docs_in s.count s.dims s.ids.items s.columns.items)
-    ∙ ap (λ v. length v.docs) c.self.view_is in
-    let i = c.loop-i.i in
-    let long = steps.order_length level c.args.start c.args.end docs le c.requires.within order
-    perm in
-    let m = merged_docs merged_rows (steps.starred_at level docs (take i order)) in
-    let lt : i < length order =
-    omega (arith, c.loop-i-test.true, c.len-i-end.ensures, c.in_ok-order.order.ok.0) in
-    let at : c.index.result.now ≡ get_or order i 0 = c.index.ensures
-    ∙ any_default order i c.index.result.now 0 lt in
-    let in' : get_or order i 0 < length docs = let b =
-    steps.below level c.args.start c.args.end docs le c.requires.within order perm i 0 lt
-    in omega (arith, b, c.requires.within) in
-    let own : doc_at c.loop-i.self.docs c.index.result.now
-    ≡ doc_at docs (get_or order i 0) = (λ j. doc_at (c.loop-i.invariant.docs j) (at j))
-    ∙ doc_before docs m (get_or order i 0) in' in
-    let after : drop s.count c.loop-i.self.docs ≡ m = (λ j. drop (n j) (c.loop-i.invariant.docs j))
-    ∙ steps.drop_own docs m in
-    let first : take s.count c.loop-i.self.docs
-    ≡ docs = (λ j. take (n j) (c.loop-i.invariant.docs j)) ∙ steps.take_own docs m in
-    let l = ap length c.loop-i.invariant.docs ∙ length-append docs m in
-    let f = steps.fewer level c.args.start c.args.end docs le c.requires.within order perm i
-    (omega (arith, lt)) in
-    omega (arith, l, f, lt, long, c.loop-i.invariant.room, c.requires.spare)
-
-pub add_starred-requires-clause-light : goal.add_starred-requires-clause-light
-add_starred-requires-clause-light c =
-    let t = c.args.self.now in
-    let docs = t.docs in
-    let s = c.self.inside in
-    let level = c.args.level in
-    let order = c.in_ok-order.order.items in
-    let perm = c.in_ok-order.ensures.0 in
-    let le : c.args.start ≤ c.args.end = omega (arith, c.requires.order) in
-    let n : s.count ≡ length docs =
-    sym (length-docs_in s.count s.dims s.ids.items s.columns.items)
-    ∙ ap (λ v. length v.docs) c.self.view_is in
-    let i = c.loop-i.i in
-    let long = steps.order_length level c.args.start c.args.end docs le c.requires.within order
-    perm in
-    let m = merged_docs merged_rows (steps.starred_at level docs (take i order)) in
-    let lt : i < length order =
-    omega (arith, c.loop-i-test.true, c.len-i-end.ensures, c.in_ok-order.order.ok.0) in
-    let at : c.index.result.now ≡ get_or order i 0 = c.index.ensures
-    ∙ any_default order i c.index.result.now 0 lt in
-    let in' : get_or order i 0 < length docs = let b =
-    steps.below level c.args.start c.args.end docs le c.requires.within order perm i 0 lt
-    in omega (arith, b, c.requires.within) in
-    let own : doc_at c.loop-i.self.docs c.index.result.now
-    ≡ doc_at docs (get_or order i 0) = (λ j. doc_at (c.loop-i.invariant.docs j) (at j))
-    ∙ doc_before docs m (get_or order i 0) in' in
-    let after : drop s.count c.loop-i.self.docs ≡ m = (λ j. drop (n j) (c.loop-i.invariant.docs j))
-    ∙ steps.drop_own docs m in
-    let first : take s.count c.loop-i.self.docs
-    ≡ docs = (λ j. take (n j) (c.loop-i.invariant.docs j)) ∙ steps.take_own docs m in
-    let light = steps.light level c.args.start c.args.end docs le c.requires.within order perm i lt
-    most_stored c.requires.light in
-    let a : weights row_weight (drop s.count c.loop-i.self.docs)
-    ≡ weights row_weight m = ap (weights row_weight) after in
-    let b : row_weight (doc_at c.loop-i.self.docs c.index.result.now).1
-    ≡ row_weight (doc_at docs (get_or order i 0)).1 = ap (λ (e : Doc). row_weight e.1) own in
-    omega (arith, light, a, b)
-
-pub add_starred-requires-clause-ascending : goal.add_starred-requires-clause-ascending
-add_starred-requires-clause-ascending c =
-    let t = c.args.self.now in
-    let docs = t.docs in
-    let s = c.self.inside in
-    let level = c.args.level in
-    let order = c.in_ok-order.order.items in
-    let perm = c.in_ok-order.ensures.0 in
-    let le : c.args.start ≤ c.args.end = omega (arith, c.requires.order) in
-    let n : s.count ≡ length docs =
-    sym (length-docs_in s.count s.dims s.ids.items s.columns.items)
-    ∙ ap (λ v. length v.docs) c.self.view_is in
-    let i = c.loop-i.i in
-    let long = steps.order_length level c.args.start c.args.end docs le c.requires.within order
-    perm in
-    let m = merged_docs merged_rows (steps.starred_at level docs (take i order)) in
-    let lt : i < length order =
-    omega (arith, c.loop-i-test.true, c.len-i-end.ensures, c.in_ok-order.order.ok.0) in
-    let at : c.index.result.now ≡ get_or order i 0 = c.index.ensures
-    ∙ any_default order i c.index.result.now 0 lt in
-    let in' : get_or order i 0 < length docs = let b =
-    steps.below level c.args.start c.args.end docs le c.requires.within order perm i 0 lt
-    in omega (arith, b, c.requires.within) in
-    let own : doc_at c.loop-i.self.docs c.index.result.now
-    ≡ doc_at docs (get_or order i 0) = (λ j. doc_at (c.loop-i.invariant.docs j) (at j))
-    ∙ doc_before docs m (get_or order i 0) in' in
-    let after : drop s.count c.loop-i.self.docs ≡ m = (λ j. drop (n j) (c.loop-i.invariant.docs j))
-    ∙ steps.drop_own docs m in
-    let first : take s.count c.loop-i.self.docs
-    ≡ docs = (λ j. take (n j) (c.loop-i.invariant.docs j)) ∙ steps.take_own docs m in
-    ap (is_sorted dims_order) after
-    ∙ steps.ascending level c.args.start c.args.end docs le c.requires.within order perm i
-
-pub add_starred-requires-clause-none_above : goal.add_starred-requires-clause-none_above
-add_starred-requires-clause-none_above c =
-    let t = c.args.self.now in
-    let docs = t.docs in
-    let s = c.self.inside in
-    let level = c.args.level in
-    let order = c.in_ok-order.order.items in
-    let perm = c.in_ok-order.ensures.0 in
-    let le : c.args.start ≤ c.args.end = omega (arith, c.requires.order) in
-    let n : s.count ≡ length docs =
-    sym (length-docs_in s.count s.dims s.ids.items s.columns.items)
-    ∙ ap (λ v. length v.docs) c.self.view_is in
-    let i = c.loop-i.i in
-    let long = steps.order_length level c.args.start c.args.end docs le c.requires.within order
-    perm in
-    let m = merged_docs merged_rows (steps.starred_at level docs (take i order)) in
-    let lt : i < length order =
-    omega (arith, c.loop-i-test.true, c.len-i-end.ensures, c.in_ok-order.order.ok.0) in
-    let at : c.index.result.now ≡ get_or order i 0 = c.index.ensures
-    ∙ any_default order i c.index.result.now 0 lt in
-    let in' : get_or order i 0 < length docs = let b =
-    steps.below level c.args.start c.args.end docs le c.requires.within order perm i 0 lt
-    in omega (arith, b, c.requires.within) in
-    let own : doc_at c.loop-i.self.docs c.index.result.now
-    ≡ doc_at docs (get_or order i 0) = (λ j. doc_at (c.loop-i.invariant.docs j) (at j))
-    ∙ doc_before docs m (get_or order i 0) in' in
-    let after : drop s.count c.loop-i.self.docs ≡ m = (λ j. drop (n j) (c.loop-i.invariant.docs j))
-    ∙ steps.drop_own docs m in
-    let first : take s.count c.loop-i.self.docs
-    ≡ docs = (λ j. take (n j) (c.loop-i.invariant.docs j)) ∙ steps.take_own docs m in
-    (λ j. total merged_rows (λ x. is_gt (dims_order x (set_star level (own j).0))) (after j))
-    ∙ steps.low level c.args.start c.args.end docs le c.requires.within order perm i lt
-    (steps.sorted_docs level docs order c.in_ok-order.ensures.1)
-
-pub loop-i-preserved : goal.loop-i-preserved
-loop-i-preserved c =
-    let t = c.args.self.now in
-    let docs = t.docs in
-    let s = c.self.inside in
-    let level = c.args.level in
-    let order = c.in_ok-order.order.items in
-    let perm = c.in_ok-order.ensures.0 in
-    let le : c.args.start ≤ c.args.end = omega (arith, c.requires.order) in
-    let n : s.count ≡ length docs =
-    sym (length-docs_in s.count s.dims s.ids.items s.columns.items)
-    ∙ ap (λ v. length v.docs) c.self.view_is in
-    let i = c.loop-i.i in
-    let long = steps.order_length level c.args.start c.args.end docs le c.requires.within order
-    perm in
-    let m = merged_docs merged_rows (steps.starred_at level docs (take i order)) in
-    let lt : i < length order =
-    omega (arith, c.loop-i-test.true, c.len-i-end.ensures, c.in_ok-order.order.ok.0) in
-    let at : c.index.result.now ≡ get_or order i 0 = c.index.ensures
-    ∙ any_default order i c.index.result.now 0 lt in
-    let in' : get_or order i 0 < length docs = let b =
-    steps.below level c.args.start c.args.end docs le c.requires.within order perm i 0 lt
-    in omega (arith, b, c.requires.within) in
-    let own : doc_at c.loop-i.self.docs c.index.result.now
-    ≡ doc_at docs (get_or order i 0) = (λ j. doc_at (c.loop-i.invariant.docs j) (at j))
-    ∙ doc_before docs m (get_or order i 0) in' in
-    let after : drop s.count c.loop-i.self.docs ≡ m = (λ j. drop (n j) (c.loop-i.invariant.docs j))
-    ∙ steps.drop_own docs m in
-    let first : take s.count c.loop-i.self.docs
-    ≡ docs = (λ j. take (n j) (c.loop-i.invariant.docs j)) ∙ steps.take_own docs m in
-    record {
-      docs = c.add_starred.ensures.docs
-          ∙ (λ j. first j ++ add dims_order merged_rows (set_star level (own j).0) (own j).1
-          (after j))
-          ∙ ap (λ l. docs ++ l)
-          (steps.next level c.args.start c.args.end docs le c.requires.within order perm i lt);
-      room = c.add_starred.ensures.room ∙ c.loop-i.invariant.room;
-      dims = c.add_starred.ensures.dims ∙ c.loop-i.invariant.dims;
-      kinds = c.add_starred.ensures.kinds ∙ c.loop-i.invariant.kinds;
-    }
+use Rattle.agg_laws.proofs.star_table.StarTable.append_starred.Goals.{in-Some}
+use Rattle.agg_laws.proofs.star_table.StarTable.append_starred.Goals.{in-None+in_ok-order-in-None}
 
 pub overflow_sub-result : goal.overflow_sub-result
 overflow_sub-result c =
-    let t = c.args.self.now in
-    let docs = t.docs in
+    let docs = c.args.self.now.docs in
+    let whole = merged_docs merged_rows
+    (rekey (set_star c.args.level) (range c.args.start c.args.end docs)) in
     let s = c.self.inside in
-    let level = c.args.level in
-    let order = c.in_ok-order.order.items in
-    let perm = c.in_ok-order.ensures.0 in
-    let le : c.args.start ≤ c.args.end = omega (arith, c.requires.order) in
     let n : s.count ≡ length docs =
     sym (length-docs_in s.count s.dims s.ids.items s.columns.items)
     ∙ ap (λ v. length v.docs) c.self.view_is in
-    let i = c.loop-i.i in
-    let long = steps.order_length level c.args.start c.args.end docs le c.requires.within order
-    perm in
-    let m = merged_docs merged_rows (steps.starred_at level docs (take i order)) in
+    let is : c.match-branch-3.self.docs ≡ docs ++ whole = elim c.match-branch-3.branch [
+      | in-Some w ↦ ap (λ t. t.docs) (w.self-is ∙ w.append_groups.ensures)
+      | in-None+in_ok-order-in-None w ↦ ap (λ t. t.docs) (w.self-is ∙ w.append_ordered.ensures)
+    ] in
     let u = c.self-2.inside in
-    let v : u.count ≡ length c.loop-i.self.docs =
+    let v : u.count ≡ length c.match-branch-3.self.docs =
     sym (length-docs_in u.count u.dims u.ids.items u.columns.items)
     ∙ ap (λ v. length v.docs) c.self-2.view_is in
-    let l = ap length c.loop-i.invariant.docs ∙ length-append docs m in
+    let l = ap length is ∙ length-append docs whole in
     omega (arith, v, l, n)
 
 pub overflow_cast-result : goal.overflow_cast-result
 overflow_cast-result c =
-    let t = c.args.self.now in
-    let docs = t.docs in
+    let docs = c.args.self.now.docs in
+    let whole = merged_docs merged_rows
+    (rekey (set_star c.args.level) (range c.args.start c.args.end docs)) in
     let s = c.self.inside in
-    let level = c.args.level in
-    let order = c.in_ok-order.order.items in
-    let perm = c.in_ok-order.ensures.0 in
-    let le : c.args.start ≤ c.args.end = omega (arith, c.requires.order) in
     let n : s.count ≡ length docs =
     sym (length-docs_in s.count s.dims s.ids.items s.columns.items)
     ∙ ap (λ v. length v.docs) c.self.view_is in
-    let i = c.loop-i.i in
-    let long = steps.order_length level c.args.start c.args.end docs le c.requires.within order
-    perm in
-    let m = merged_docs merged_rows (steps.starred_at level docs (take i order)) in
+    let is : c.match-branch-3.self.docs ≡ docs ++ whole = elim c.match-branch-3.branch [
+      | in-Some w ↦ ap (λ t. t.docs) (w.self-is ∙ w.append_groups.ensures)
+      | in-None+in_ok-order-in-None w ↦ ap (λ t. t.docs) (w.self-is ∙ w.append_ordered.ensures)
+    ] in
     let u = c.self-2.inside in
-    let v : u.count ≡ length c.loop-i.self.docs =
+    let v : u.count ≡ length c.match-branch-3.self.docs =
     sym (length-docs_in u.count u.dims u.ids.items u.columns.items)
     ∙ ap (λ v. length v.docs) c.self-2.view_is in
-    let l = ap length c.loop-i.invariant.docs ∙ length-append docs m in
-    let all : i ≤ length order =
-    omega (arith, c.loop-i.auto.i-end, c.len-i-end.ensures, c.in_ok-order.order.ok.0) in
-    let f = steps.fewer level c.args.start c.args.end docs le c.requires.within order perm i all in
-    omega (arith, v, l, n, f, all, long, c.ranges.end.fits)
-
-pub returns-clause-ok : goal.returns-clause-ok
-returns-clause-ok c =
-    let t = c.args.self.now in
-    let docs = t.docs in
-    let s = c.self.inside in
-    let level = c.args.level in
-    let order = c.in_ok-order.order.items in
-    let perm = c.in_ok-order.ensures.0 in
-    let le : c.args.start ≤ c.args.end = omega (arith, c.requires.order) in
-    let n : s.count ≡ length docs =
-    sym (length-docs_in s.count s.dims s.ids.items s.columns.items)
-    ∙ ap (λ v. length v.docs) c.self.view_is in
-    let i = c.loop-i.i in
-    let long = steps.order_length level c.args.start c.args.end docs le c.requires.within order
-    perm in
-    let m = merged_docs merged_rows (steps.starred_at level docs (take i order)) in
-    let end : i ≡ length order =
-    omega (
-      arith,
-      c.loop-i.auto.i-end,
-      c.loop-i-test.false,
-      c.len-i-end.ensures,
-      c.in_ok-order.order.ok.0,
-    ) in
-    let whole = merged_docs merged_rows
-    (rekey (set_star level) (range c.args.start c.args.end docs)) in
-    let same : m ≡ whole =
-    ap (λ (l : List ℕ). merged_docs merged_rows (steps.starred_at level docs l))
-    (ap (λ k. take k order) end ∙ take-length order)
-    ∙ steps.same_merged level c.args.start c.args.end docs le c.requires.within order perm in
-    let l = ap length c.loop-i.invariant.docs ∙ length-append docs m in
-    let k = ap length same in
-    let spare : c.loop-i.self.spare
-    ≡ t.spare - length whole = omega (arith, l, k, c.loop-i.invariant.room) in
-    λ j. record {
-      dims = c.loop-i.invariant.dims j;
-      kinds = c.loop-i.invariant.kinds j;
-      docs = (c.loop-i.invariant.docs ∙ ap (λ x. docs ++ x) same) j;
-      spare = spare j;
-    }
+    let l = ap length is ∙ length-append docs whole in
+    let rows = range c.args.start c.args.end docs in
+    let f = merged_fewer merged_rows (rekey (set_star c.args.level) rows) in
+    let k = length-rekey merged_rows (set_star c.args.level) rows in
+    let r = range_length merged_rows c.args.start c.args.end docs
+    (omega (arith, c.requires.order)) c.requires.within in
+    omega (arith, v, l, n, f, k, r, c.ranges.end.fits)
 
 pub returns-clause-count : goal.returns-clause-count
 returns-clause-count c =
-    let t = c.args.self.now in
-    let docs = t.docs in
+    let docs = c.args.self.now.docs in
+    let whole = merged_docs merged_rows
+    (rekey (set_star c.args.level) (range c.args.start c.args.end docs)) in
     let s = c.self.inside in
-    let level = c.args.level in
-    let order = c.in_ok-order.order.items in
-    let perm = c.in_ok-order.ensures.0 in
-    let le : c.args.start ≤ c.args.end = omega (arith, c.requires.order) in
     let n : s.count ≡ length docs =
     sym (length-docs_in s.count s.dims s.ids.items s.columns.items)
     ∙ ap (λ v. length v.docs) c.self.view_is in
-    let i = c.loop-i.i in
-    let long = steps.order_length level c.args.start c.args.end docs le c.requires.within order
-    perm in
-    let m = merged_docs merged_rows (steps.starred_at level docs (take i order)) in
+    let is : c.match-branch-3.self.docs ≡ docs ++ whole = elim c.match-branch-3.branch [
+      | in-Some w ↦ ap (λ t. t.docs) (w.self-is ∙ w.append_groups.ensures)
+      | in-None+in_ok-order-in-None w ↦ ap (λ t. t.docs) (w.self-is ∙ w.append_ordered.ensures)
+    ] in
     let u = c.self-2.inside in
-    let v : u.count ≡ length c.loop-i.self.docs =
+    let v : u.count ≡ length c.match-branch-3.self.docs =
     sym (length-docs_in u.count u.dims u.ids.items u.columns.items)
     ∙ ap (λ v. length v.docs) c.self-2.view_is in
-    let end : i ≡ length order =
-    omega (
-      arith,
-      c.loop-i.auto.i-end,
-      c.loop-i-test.false,
-      c.len-i-end.ensures,
-      c.in_ok-order.order.ok.0,
-    ) in
-    let whole = merged_docs merged_rows
-    (rekey (set_star level) (range c.args.start c.args.end docs)) in
-    let same : m ≡ whole =
-    ap (λ (l : List ℕ). merged_docs merged_rows (steps.starred_at level docs l))
-    (ap (λ k. take k order) end ∙ take-length order)
-    ∙ steps.same_merged level c.args.start c.args.end docs le c.requires.within order perm in
-    let l = ap length c.loop-i.invariant.docs ∙ length-append docs m in
-    let k = ap length same in
-    omega (arith, v, l, n, k)
+    let l = ap length is ∙ length-append docs whole in
+    omega (arith, v, l, n)

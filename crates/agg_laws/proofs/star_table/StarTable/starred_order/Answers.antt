@@ -11,11 +11,11 @@ use Rattle.agg_laws.specs.Packing.{place, IsWord}
 use Rattle.agg_laws.proofs.PackSteps as steps
 use Rattle.agg_laws.proofs.star_table.StarTable.starred_order.Goals as goal
 
-pub returns : goal.returns
-returns c =
+pub returns-in_ok-sort-in-Some : goal.returns-in_ok-sort-in-Some
+returns-in_ok-sort-in-Some c =
     let start = c.args.start in
     let docs = c.args.self.now.docs in
-    let spans = c.as_slice.result.now in
+    let spans = c.args.spans.now in
     let words = c.in-Some.words.items in
     let sorted = c.sort.new.self.items in
     let found : (map (place start) words ≡ numbers start c.args.end)
@@ -25,7 +25,7 @@ returns c =
     let perm = c.in_ok-sort-in-Some.ensures.permutation in
     IfOk-weaker c.places.result _ _ (λ order is.
     let same : order.items ≡ map (place start) sorted =
-    is ∙ ap (map (place start)) c.as_slice-in-Some.ensures.value in (
+    is ∙ ap (map (place start)) c.as_slice.ensures.value in (
       subst (IsPermutation (numbers start c.args.end)) (sym same)
           (subst (λ (l : List ℕ). IsPermutation l (map (place start) sorted)) found.0
           (IsPermutation-map (place start) words sorted perm)),
