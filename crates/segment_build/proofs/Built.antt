@@ -1,5 +1,5 @@
 -- The file of the sections of columns is the image of their rows.
-use Rattle.std.proofs.Common.{◌≡◌, ◌<◌, ◌≤◌, ◌^◌, ◌∙◌, ◌∷◌, ◌++◌, [], false, ℕ, List, length, map, get_or, sym, ap, subst, arith}
+use Rattle.std.proofs.Common.{◌≡◌, ◌<◌, ◌≤◌, ◌+◌, ◌^◌, ◌∙◌, ◌∷◌, ◌++◌, [], Bool, true, false, ℕ, List, Option, Some, Result, Ok, Err, IfOk, length, map, get_or, slice_get, sym, ap, subst, arith}
 use Rattle.std.specs.List.{All, concat}
 use Rattle.values.specs.declared.value.Value.{Value}
 use Rattle.values.specs.Columns.{Counts, Listed, ListedColumns, rows_of}
@@ -7,17 +7,28 @@ use Rattle.values.proofs.RowLemmas.{length-rows}
 use Rattle.table_schema.specs.ValidTable.{AreRows, IsValidTable}
 use Rattle.table_schema.specs.declared.field.Field.{Field}
 use Rattle.table_schema.specs.declared.table.Table.{Table}
-use Rattle.dictionary.specs.Dictionary.{distinct, most_values}
+use Rattle.dictionary.specs.Dictionary.{Distinct, distinct, most_values}
 use Rattle.segment_file.specs.Bounds.{IsShort}
 use Rattle.segment_file.specs.Front.{Front, file_end, front_bytes}
-use Rattle.segment_file.specs.Image.{file_of_rows, front_of, image, sections_of_rows, values_in}
+use Rattle.segment_file.specs.Image.{count_of, dictionary_of, front_of, ids_of, image, kind_or, sections_of_rows, values_in}
 use Rattle.segment_file.specs.Names.{IsSegmentName}
-use Rattle.segment_file.specs.Ordered.{ordered}
+use Rattle.segment_file.specs.Ordered.{ordered, value_in}
 use Rattle.segment_build.specs.Fitting.{AreColumns, FitsKind}
-use Rattle.segment_build.specs.Sections.{IsBare}
-use Rattle.segment_build.proofs.ColumnLemmas.{column_values, made_all}
-use Rattle.segment_build.proofs.Bares.{bare_unsorted}
-use Rattle.segment_build.proofs.Fits.{column_fit, rows_few}
+use Rattle.segment_build.specs.declared.indexes.Indexes.{Indexes}
+use Rattle.segment_build.specs.declared.order.RowOrder.{RowOrder}
+use Rattle.segment_build.specs.Arranging.{Orders, OrdersBy, arranged, places_in}
+use Rattle.segment_build.specs.Sections.{HasNoRangeOrTree, Made, ids_in, made_of, with_column}
+use Rattle.segment_build.proofs.Arranged.{ids_arranged, sorted_up}
+use Rattle.segment_build.proofs.ColumnLemmas.{column_values, made_all, made_more}
+use Rattle.segment_build.proofs.Stable.{ids_below, ids_count, ordered_count, same_distinct}
+use Rattle.table_schema.specs.NeedIds.{is_the_number}
+use Rattle.dictionary.specs.Coding.{AreBelow}
+use Rattle.std.proofs.lemmas.List.{length-map}
+use Rattle.std.proofs.lemmas.Bool.{ltb-true}
+use Rattle.std.proofs.lemmas.Option.{get_or_from_slice_get, slice_get-get_or}
+use Rattle.table_schema.specs.ValidSettings.{is_known_number}
+use Rattle.std.specs.List.Sorted.{IsNonDecreasing}
+use Rattle.segment_build.proofs.Fits.{column_fit, columns_fit, rows_few}
 use Rattle.segment_build.proofs.Sizes.{IsModest, IsSmall, file_short, made_small, short_values}
 
 no_column : Listed
@@ -39,33 +50,114 @@ modest : (fields : List Field) (t : ListedColumns) (at : ℕ) → AreColumns fie
 modest [] t at are lt = absurd (omega (arith, lt))
 modest (f ∷ fs) t at are lt = modest_at (f ∷ fs) t at f are lt
 
-sections_small : (table : Table) (t : ListedColumns) → IsValidTable table → IsBare table → AreColumns table.schema.fields t → All IsSmall (sections_of_rows table (rows_of t))
-sections_small table t valid bare are =
-    subst (All IsSmall) (made_all table (rows_of t) bare)
-    (made_small table (rows_of t) (length table.schema.fields) valid.schema.few (λ c below. modest table.schema.fields t c are below))
+-- the rows of a table in their order
+abbrev in_rows : Table → ListedColumns → List (List Value)
+in_rows table t = ordered table.settings.sorted (rows_of t)
+
+-- rows in their order have the values of the rows as they came
+still_modest : (sorted : Option ℕ) (rows : List (List Value)) (at : ℕ) → IsModest rows at → IsModest (ordered sorted rows) at
+still_modest sorted rows at modest = record {
+  few = omega (arith, length-map (ordered sorted rows) (value_in at), length-map rows (value_in at), ordered_count sorted rows, modest.few);
+  short = subst (All IsShort) (sym (same_distinct at sorted rows)) modest.short;
+}
+
+rows_most : (fields : List Field) (t : ListedColumns) → AreColumns fields t → length (rows_of t) ≤ most_values
+rows_most fields t are =
+    let few = are.rows.few in
+    omega (arith, few)
+
+sections_small : (table : Table) (t : ListedColumns) → IsValidTable table → HasNoRangeOrTree table → AreColumns table.schema.fields t → All IsSmall (sections_of_rows table (in_rows table t))
+sections_small table t valid built are =
+    let sorted : Option ℕ = table.settings.sorted in
+    subst (All IsSmall) (made_all table (in_rows table t) valid built)
+    (made_small table (in_rows table t) (length table.schema.fields) valid.schema.few (omega (arith, ordered_count sorted (rows_of t), rows_most table.schema.fields t are))
+    (λ c below. still_modest sorted (rows_of t) c (modest table.schema.fields t c are below)))
 
 -- what the front says of these columns
-front_is : (table : Table) (t : ListedColumns) (rows : ℕ) (sections : List (List ℕ)) → All (Counts t.count) t.columns → rows ≡ t.count → sections ≡ sections_of_rows table (rows_of t)
-    → ◌≡◌ {A = Front} (record { format = 1; rows = rows; sizes = map length sections }) (front_of 1 table (rows_of t))
+front_is : (table : Table) (t : ListedColumns) (rows : ℕ) (sections : List (List ℕ)) → All (Counts t.count) t.columns → rows ≡ t.count → sections ≡ sections_of_rows table (in_rows table t)
+    → ◌≡◌ {A = Front} (record { format = 1; rows = rows; sizes = map length sections }) (front_of 1 table (in_rows table t))
 front_is table t rows sections counts number are =
-    let count : rows ≡ length (rows_of t) = number ∙ sym (length-rows t.count t.columns counts) in
+    let count : rows ≡ length (in_rows table t) = number ∙ sym (length-rows t.count t.columns counts) ∙ sym (ordered_count table.settings.sorted (rows_of t)) in
     (λ i. record { format = 1; rows = count i; sizes = map length (are i) })
 
-pub built_short : (table : Table) (name : List ℕ) (t : ListedColumns) (rows : ℕ) (sections : List (List ℕ)) → IsValidTable table → IsBare table → IsSegmentName name → AreColumns table.schema.fields t
-    → rows ≡ t.count → sections ≡ sections_of_rows table (rows_of t) → file_end table name (record { format = 1; rows = rows; sizes = map length sections }) < 2 ^ 64
-built_short table name t rows sections valid bare named columns number are =
+pub built_short : (table : Table) (name : List ℕ) (t : ListedColumns) (rows : ℕ) (sections : List (List ℕ)) → IsValidTable table → HasNoRangeOrTree table → IsSegmentName name → AreColumns table.schema.fields t
+    → rows ≡ t.count → sections ≡ sections_of_rows table (in_rows table t) → file_end table name (record { format = 1; rows = rows; sizes = map length sections }) < 2 ^ 64
+built_short table name t rows sections valid built named columns number are =
     subst (λ (f : Front). file_end table name f < 2 ^ 64) (sym (front_is table t rows sections columns.counts number are))
-    (file_short table name (rows_of t) valid named (sections_small table t valid bare columns))
+    (file_short table name (in_rows table t) valid named (sections_small table t valid built columns))
 
-pub built_image : (table : Table) (name : List ℕ) (t : ListedColumns) (rows : ℕ) (sections : List (List ℕ)) (file : List ℕ) → IsBare table → All (Counts t.count) t.columns
-    → rows ≡ t.count → sections ≡ sections_of_rows table (rows_of t)
+pub built_image : (table : Table) (name : List ℕ) (t : ListedColumns) (rows : ℕ) (sections : List (List ℕ)) (file : List ℕ) → All (Counts t.count) t.columns
+    → rows ≡ t.count → sections ≡ sections_of_rows table (in_rows table t)
     → file ≡ front_bytes table name (record { format = 1; rows = rows; sizes = map length sections }) ++ concat sections → file ≡ image 1 table name (rows_of t)
-built_image table name t rows sections file bare counts number are is =
+built_image table name t rows sections file counts number are is =
     is ∙ (λ i. front_bytes table name (front_is table t rows sections counts number are i) ++ concat (are i))
-    ∙ ap (λ o. file_of_rows 1 table name (ordered o (rows_of t))) (sym (bare_unsorted table bare))
+
+-- the ids of one more column, and its sections
+pub record IsCoded (table : Table) (t : ListedColumns) (at : ℕ) (d : Distinct) (ids : List ℕ) : Type 0 where
+  pub distinct_is : d ≡ dictionary_of table (in_rows table t) at
+  pub ids_is : ids ≡ ids_of (in_rows table t) at
+
+pub coded_is : (table : Table) (t : ListedColumns) (at : ℕ) (field : Field) (column : Listed) (o : RowOrder) (d : Distinct) (ids : List ℕ) → AreColumns table.schema.fields t → at < length table.schema.fields
+    → field ≡ get_or table.schema.fields at field → column ≡ get_or t.columns at column → Orders table.settings.sorted (rows_of t) o
+    → d ≡ record { kind = field.kind; values = distinct column.values } → ids ≡ arranged 0 o (ids_in column.values) → IsCoded table t at d ids
+coded_is table t at field column o d ids are lt field_is column_is orders d_is i_is =
+    let below : at < length t.columns = omega (arith, lt, are.width) in
+    let found : slice_get table.schema.fields at ≡ Some field = slice_get-get_or table.schema.fields at field lt ∙ ap Some (sym field_is) in
+    let values : values_in at (rows_of t) ≡ column.values = column_values t.count t.columns at column are.counts below ∙ ap (λ c. c.values) (sym column_is) in
+    let same : distinct column.values ≡ distinct (values_in at (in_rows table t)) = ap distinct (sym values) ∙ sym (same_distinct at table.settings.sorted (rows_of t)) in
+    record {
+      distinct_is = d_is ∙ (λ i. record { kind = ap kind_or (sym found) i; values = same i });
+      ids_is = i_is ∙ ap (λ vs. arranged 0 o (ids_in vs)) (sym values) ∙ sym (ids_arranged table.settings.sorted (rows_of t) o at orders);
+    }
+
+pub coded_few : (table : Table) (t : ListedColumns) (at : ℕ) (d : Distinct) (ids : List ℕ) → AreColumns table.schema.fields t → IsCoded table t at d ids → length ids ≤ 1048576
+coded_few table t at d ids are coded =
+    omega (arith, ap length coded.ids_is, ids_count (in_rows table t) at, ordered_count table.settings.sorted (rows_of t), rows_most table.schema.fields t are)
+
+pub coded_below : (table : Table) (t : ListedColumns) (at : ℕ) (d : Distinct) (ids : List ℕ) → IsCoded table t at d ids → AreBelow (length d.values) ids
+coded_below table t at d ids coded =
+    subst (λ (x : Distinct). AreBelow (length x.values) ids) (sym coded.distinct_is) (subst (AreBelow (count_of (in_rows table t) at)) (sym coded.ids_is) (ids_below (in_rows table t) at))
+
+pub coded_up : (table : Table) (t : ListedColumns) (at : ℕ) (o : RowOrder) (d : Distinct) (ids : List ℕ) (is : Bool) → Orders table.settings.sorted (rows_of t) o → IsCoded table t at d ids
+    → is ≡ is_the_number at table.settings.sorted → is ≡ true → IsNonDecreasing ids
+coded_up table t at o d ids is orders coded number holds = subst IsNonDecreasing (sym coded.ids_is) (sorted_up table.settings.sorted (rows_of t) o at orders (sym number ∙ holds))
+
+-- the places of the order are among the values of each column
+pub places_within : (table : Table) (t : ListedColumns) (at : ℕ) (column : Listed) (o : RowOrder) → AreColumns table.schema.fields t → Counts t.count column → Orders table.settings.sorted (rows_of t) o
+    → AreBelow (length column.values) (places_in o)
+places_within table t at column o are counts orders =
+    subst (λ n. AreBelow n (places_in o)) (length-rows t.count t.columns are.counts ∙ sym counts) orders.within
+
+pub coded_more : (table : Table) (t : ListedColumns) (at : ℕ) (d : Distinct) (ids : List ℕ) (indexes : Indexes) (made new : Made) → IsValidTable table → at < length table.schema.fields → IsCoded table t at d ids
+    → indexes.sorted ≡ is_the_number at table.settings.sorted → indexes.inverted ≡ get_or table.settings.inverted at false
+    → made ≡ made_of table (in_rows table t) at → new ≡ with_column d ids indexes made → new ≡ made_of table (in_rows table t) (at + 1)
+coded_more table t at d ids indexes made new valid lt coded is_sorted is_inverted so_far more =
+    more ∙ (λ i. with_column (coded.distinct_is i) (coded.ids_is i) indexes (so_far i))
+    ∙ made_more table (in_rows table t) at indexes (omega (arith, lt, valid.settings.each_inverted)) is_sorted is_inverted
 
 -- no table has more rows than 32 bits count
 pub rows_fit : (table : Table) (t : ListedColumns) (rows : ℕ) → All (Counts t.count) t.columns → AreRows table.schema.fields (rows_of t) → rows ≡ t.count → rows < 2 ^ 32
 rows_fit table t rows counts are number =
     let few = rows_few t table.schema.fields counts are.few in
     omega (arith, few, number)
+
+-- ---- the sorted column
+
+known_below : (table : Table) (m : ℕ) → IsValidTable table → table.settings.sorted ≡ Some m → m < length table.schema.fields
+known_below table m valid is = ltb-true m (length table.schema.fields) (subst (λ (o : Option ℕ). is_known_number table.schema.fields o ≡ true) is valid.settings.sorted_known)
+
+-- a dictionary can be made of the sorted column
+pub chosen_fits : (table : Table) (t : ListedColumns) (m : ℕ) (field : Field) (column : Listed) (fields : List Field) → IsValidTable table → AreColumns table.schema.fields t → table.settings.sorted ≡ Some m
+    → fields ≡ table.schema.fields → field ≡ get_or fields m field → slice_get t.columns m ≡ Some column → FitsKind (get_or fields m field).kind column
+chosen_fits table t m field column fields valid are is same field_is column_is =
+    subst (λ (f : Field). FitsKind f.kind column) field_is
+    (columns_fit table.schema.fields t m field column are (known_below table m valid is) (field_is ∙ ap (λ fs. get_or fs m field) same) (sym (get_or_from_slice_get t.columns m column column column_is)))
+
+-- the order by the values of the sorted column is that of the rows
+pub order_found : {E : Type 0} (table : Table) (t : ListedColumns) (m : ℕ) (column : Listed) (found : Result RowOrder E) → IsValidTable table → AreColumns table.schema.fields t → table.settings.sorted ≡ Some m
+    → slice_get t.columns m ≡ Some column → IfOk found (OrdersBy column.values) → IfOk found (Orders table.settings.sorted (rows_of t))
+order_found table t m column (Err e) valid are is column_is by = tt
+order_found table t m column (Ok o) valid are is column_is by =
+    let below : m < length t.columns = omega (arith, known_below table m valid is, are.width) in
+    let values : values_in m (rows_of t) ≡ column.values = column_values t.count t.columns m column are.counts below ∙ ap (λ c. c.values) (get_or_from_slice_get t.columns m column column column_is) in
+    subst (λ (s : Option ℕ). Orders s (rows_of t) o) (sym is) (by m (rows_of t) values)

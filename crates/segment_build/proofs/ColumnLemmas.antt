@@ -1,6 +1,7 @@
 -- The columns of rows, and the sections that come of them.
-use Rattle.std.proofs.Common.{◌≡◌, ◌<◌, ◌+◌, ◌∙◌, ◌∷◌, ◌++◌, [], false, ℕ, zero, suc, List, length, map, get_or, option_to_list, if◌then◌else◌, sym, ap, subst, arith, refl, Some, Ok, Err, Result, IfOk, Vec, Global, pos, take, append-nil, append_assoc}
-use Rattle.std.proofs.lemmas.List.{map-append, take_more}
+use Rattle.std.proofs.Common.{◌≡◌, ◌<◌, ◌+◌, ◌==◌, ◌∙◌, ◌∷◌, ◌++◌, [], Bool, true, false, nat_lt, ℕ, zero, suc, List, Option, None, length, map, get_or, option_to_list, if◌then◌else◌, sym, ap, subst, arith, refl, Some, Ok, Err, Result, IfOk, Vec, Global, pos, take, append-nil, append_assoc, rules, tests}
+use Rattle.std.proofs.lemmas.Bool.{eqb-false, eqb-true, ltb-false, ltb-true}
+use Rattle.std.proofs.lemmas.List.{length-take, map-append, take_all, take_more}
 use Rattle.std.proofs.lemmas.List.Folds.{concat-append}
 use Rattle.std.proofs.lemmas.Simd.{map-map}
 use Rattle.std.proofs.lemmas.List.Elements.{All-head, All-tail}
@@ -30,11 +31,17 @@ use Rattle.segment_file.specs.declared.bounds.Ends.{Ends}
 use Rattle.segment_file.specs.declared.part.Part.{Part}
 use Rattle.segment_file.specs.declared.part.Part.TheVariants as parts
 use Rattle.segment_file.specs.Bounds.{bounds_bytes, bounds_of, ends_of, pair_bytes}
-use Rattle.segment_file.specs.Image.{dictionary_of, kind_at, kind_or, place_of, section_of, sections_of_rows, values_in}
+use Rattle.segment_file.specs.Image.{dictionary_of, ids_of, kind_at, kind_or, place_of, section_of, sections_of_rows, values_in}
 use Rattle.segment_file.specs.Ordered.{value_in}
-use Rattle.segment_file.specs.Parts.{columns_of, head_sections, raw_sections}
-use Rattle.segment_build.proofs.Bares.{bare_no_inverted, bare_no_ranged, bare_unsorted}
-use Rattle.segment_build.specs.Sections.{IsBare, Made, ids_in, in_order, made_of, with_column}
+use Rattle.segment_file.specs.Parts.{columns_of, head_sections, marked, marked_from, raw_sections}
+use Rattle.table_schema.specs.NeedIds.{is_the_number}
+use Rattle.table_schema.specs.ValidSettings.{is_known_number}
+use Rattle.table_schema.specs.ValidTable.{IsValidTable}
+use Rattle.bit_column.specs.Postings.{inverted}
+use Rattle.bit_column.specs.SortedRuns.{sorted_runs}
+use Rattle.segment_build.proofs.Bares.{no_ranged}
+use Rattle.segment_build.specs.declared.indexes.Indexes.{Indexes}
+use Rattle.segment_build.specs.Sections.{HasNoRangeOrTree, Made, ids_in, in_order, made_of, only, sorted_among, with_column}
 
 -- ---- the values of rows in a column
 
@@ -97,62 +104,124 @@ bounds_more ds d =
     ap bounds_bytes (flat_map-append ends ds (d ∷ []) ∙ ap (λ one. bounds_of ds ++ one) (append-nil (ends_of d.values)))
     ∙ flat_map-append pair_bytes (bounds_of ds) (ends_of d.values)
 
+-- ---- the columns that have other indexes
+
+sorted_by_case : {A : Type 0} (f : ℕ → A) (m at : ℕ) (a b c : Bool) → nat_lt m at ≡ a → (m == at) ≡ b → nat_lt m (at + 1) ≡ c → map f (only a m) ++ only b (f at) ≡ map f (only c m)
+sorted_by_case f m at true true c l e u = absurd (omega (arith, ltb-true m at l, eqb-true m at e))
+sorted_by_case f m at true false true l e u = refl
+sorted_by_case f m at true false false l e u = absurd (omega (arith, ltb-true m at l, ltb-false m (at + 1) u))
+sorted_by_case f m at false true true l e u = ap (λ n. f n ∷ []) (sym (eqb-true m at e))
+sorted_by_case f m at false true false l e u = absurd (omega (arith, eqb-true m at e, ltb-false m (at + 1) u))
+sorted_by_case f m at false false true l e u = absurd (eqb-false m at e (omega (arith, ltb-false m at l, ltb-true m (at + 1) u)))
+sorted_by_case f m at false false false l e u = refl
+
+-- the sorted column is the next one, or another
+sorted_more : {A : Type 0} (f : ℕ → A) (at : ℕ) (sorted : Option ℕ) → map f (sorted_among at sorted) ++ only (is_the_number at sorted) (f at) ≡ map f (sorted_among (at + 1) sorted)
+sorted_more f at None = refl
+sorted_more f at (Some m) = sorted_by_case f m at (nat_lt m at) (m == at) (nat_lt m (at + 1)) refl refl refl
+
+sorted_all : (count : ℕ) (fields : List Field) (sorted : Option ℕ) → count ≡ length fields → is_known_number fields sorted ≡ true → sorted_among count sorted ≡ option_to_list sorted
+sorted_all count fields None e known = refl
+sorted_all count fields (Some m) e known = ap (λ b. only b m) (ap (nat_lt m) e ∙ known)
+
+marked_push : (at : ℕ) (marks : List Bool) (b : Bool) → marked_from at (marks ++ b ∷ []) ≡ marked_from at marks ++ only b (at + length marks)
+marked_push at [] true = let same : at ≡ at + 0 = omega arith in ap (λ n. n ∷ []) same
+marked_push at [] false = refl
+marked_push at (true ∷ marks) b =
+    let same : at + 1 + length marks ≡ at + length (true ∷ marks) = omega arith in
+    ap (λ ns. at ∷ ns) (marked_push (at + 1) marks b ∙ ap (λ n. marked_from (at + 1) marks ++ only b n) same)
+marked_push at (false ∷ marks) b =
+    let same : at + 1 + length marks ≡ at + length (false ∷ marks) = omega arith in
+    marked_push (at + 1) marks b ∙ ap (λ n. marked_from (at + 1) marks ++ only b n) same
+
+map_only : {A : Type 0} (f : ℕ → A) (b : Bool) (n : ℕ) → map f (only b n) ≡ only b (f n)
+map_only f true n = refl
+map_only f false n = refl
+
+-- the next column is marked, or it is not
+marked_more : {A : Type 0} (f : ℕ → A) (at : ℕ) (marks : List Bool) → at < length marks → map f (marked (take at marks)) ++ only (get_or marks at false) (f at) ≡ map f (marked (take (at + 1) marks))
+marked_more f at marks lt =
+    let b : Bool = get_or marks at false in
+    let size : 0 + length (take at marks) ≡ at = omega (arith, length-take at marks, lt) in
+    sym (
+      ap (λ ms. map f (marked ms)) (take_more marks at false lt)
+      ∙ ap (map f) (marked_push 0 (take at marks) b ∙ ap (λ n. marked (take at marks) ++ only b n) size)
+      ∙ map-append f (marked (take at marks)) (only b at)
+      ∙ ap (λ one. map f (marked (take at marks)) ++ one) (map_only f b at)
+    )
+
+-- ---- the sections of more columns
+
+none_among : (sorted : Option ℕ) → sorted_among 0 sorted ≡ []
+none_among None = refl
+none_among (Some m) = let no : nat_lt m 0 ≡ false = search (rules, tests) in ap (λ b. only b m) no
+
+pub made_none : (table : Table) (rows : List (List Value)) (made : Made) → made ≡ record { bounds = []; dictionaries = []; forwards = []; runs = []; lists = [] } → made ≡ made_of table rows 0
+made_none table rows made e =
+    e ∙ (λ i. record {
+      bounds = [];
+      dictionaries = [];
+      forwards = [];
+      runs = map (λ c. section_of table rows (parts.Sorted c)) (sym (none_among table.settings.sorted) i);
+      lists = [];
+    })
+
 -- the sections of one more column of rows
-pub made_more : (table : Table) (rows : List (List Value)) (at : ℕ) → with_column (kind_at table at) (values_in at rows) (made_of table rows at) ≡ made_of table rows (at + 1)
-made_more table rows at =
+pub made_more : (table : Table) (rows : List (List Value)) (at : ℕ) (indexes : Indexes) → at < length table.settings.inverted → indexes.sorted ≡ is_the_number at table.settings.sorted
+    → indexes.inverted ≡ get_or table.settings.inverted at false → with_column (dictionary_of table rows at) (ids_of rows at) indexes (made_of table rows at) ≡ made_of table rows (at + 1)
+made_more table rows at indexes lt is_sorted is_inverted =
     let dictionaries : ℕ → List ℕ = λ c. section_of table rows (parts.Dictionary c) in
     let forwards : ℕ → List ℕ = λ c. section_of table rows (parts.Forward c) in
-    let b : (with_column (kind_at table at) (values_in at rows) (made_of table rows at)).bounds ≡ (made_of table rows (at + 1)).bounds =
+    let runs : ℕ → List ℕ = λ c. section_of table rows (parts.Sorted c) in
+    let lists : ℕ → List ℕ = λ c. section_of table rows (parts.Inverted c) in
+    let old : Made = made_of table rows at in
+    let b : old.bounds ++ bounds_bytes (ends_of (dictionary_of table rows at).values) ≡ (made_of table rows (at + 1)).bounds =
     sym (ap (λ ds. bounds_bytes (bounds_of ds)) (map-range_with_len_more (dictionary_of table rows) 0 at at (omega arith)) ∙ bounds_more (map (dictionary_of table rows) (range_with_len 0 at)) (dictionary_of table rows at)) in
     let d = sym (map-range_with_len_more dictionaries 0 at at (omega arith)) in
     let f = sym (map-range_with_len_more forwards 0 at at (omega arith)) in
-    (λ i. record { bounds = b i; dictionaries = d i; forwards = f i })
+    let r : old.runs ++ only indexes.sorted (runs at) ≡ (made_of table rows (at + 1)).runs =
+    ap (λ x. old.runs ++ only x (runs at)) is_sorted ∙ sorted_more runs at table.settings.sorted in
+    let l : old.lists ++ only indexes.inverted (lists at) ≡ (made_of table rows (at + 1)).lists =
+    ap (λ x. old.lists ++ only x (lists at)) is_inverted ∙ marked_more lists at table.settings.inverted lt in
+    (λ i. record { bounds = b i; dictionaries = d i; forwards = f i; runs = r i; lists = l i })
 
--- one more column, of which the kind and the values are known
-pub column_more : (table : Table) (rows : List (List Value)) (at : ℕ) (field : Field) (values : List Value) (made new : Made) → slice_get table.schema.fields at ≡ Some field → values_in at rows ≡ values
-    → made ≡ made_of table rows at → new ≡ with_column field.kind values made → new ≡ made_of table rows (at + 1)
-column_more table rows at field values made new is of_rows so_far more =
-    more ∙ (λ i. with_column (ap kind_or (sym is) i) (sym of_rows i) (so_far i)) ∙ made_more table rows at
-
-bare_raw : (table : Table) → IsBare table → raw_sections table ≡ map parts.Forward (columns_of table)
-bare_raw table bare =
+built_raw : (table : Table) → HasNoRangeOrTree table
+    → raw_sections table ≡ map parts.Forward (columns_of table) ++ (map parts.Sorted (option_to_list table.settings.sorted) ++ map parts.Inverted (marked table.settings.inverted))
+built_raw table built =
     let forwards : List Part = map parts.Forward (columns_of table) in
-    (λ i. forwards ++ (map parts.Sorted (option_to_list (bare_unsorted table bare i)) ++ (map parts.Inverted (bare_no_inverted table bare i) ++ map parts.Range (bare_no_ranged table bare i))))
-    ∙ append-nil forwards
+    let sorted : List Part = map parts.Sorted (option_to_list table.settings.sorted) in
+    let inverted : List Part = map parts.Inverted (marked table.settings.inverted) in
+    (λ i. forwards ++ (sorted ++ (inverted ++ map parts.Range (no_ranged table built i))))
+    ∙ ap (λ ps. forwards ++ (sorted ++ ps)) (append-nil inverted)
 
 -- the sections of all columns are those of the rows
-pub made_all : (table : Table) (rows : List (List Value)) → IsBare table → in_order (made_of table rows (length table.schema.fields)) ≡ sections_of_rows table rows
-made_all table rows bare =
+pub made_all : (table : Table) (rows : List (List Value)) → IsValidTable table → HasNoRangeOrTree table → in_order (made_of table rows (length table.schema.fields)) ≡ sections_of_rows table rows
+made_all table rows valid built =
     let section : Part → List ℕ = section_of table rows in
     let columns : List ℕ = columns_of table in
+    let marks : List Bool = table.settings.inverted in
+    let count : ℕ = length table.schema.fields in
+    let sorted : List ℕ = option_to_list table.settings.sorted in
     let heads : List Part = head_sections table in
     let forwards : List Part = map parts.Forward columns in
-    (λ i. section parts.Bounds ∷ (sym (map-map section parts.Dictionary columns) i ++ sym (map-map section parts.Forward columns) i))
-    ∙ sym (map-append section heads forwards)
-    ∙ ap (λ raw. map section (heads ++ raw)) (sym (bare_raw table bare))
+    let runs : List Part = map parts.Sorted sorted in
+    let lists : List Part = map parts.Inverted (marked marks) in
+    let s = sorted_all count table.schema.fields table.settings.sorted refl valid.settings.sorted_known in
+    let m = take_all count marks (omega (arith, valid.settings.each_inverted)) in
+    (λ i. section parts.Bounds ∷ (map (λ c. section (parts.Dictionary c)) columns ++ (map (λ c. section (parts.Forward c)) columns ++ (map (λ c. section (parts.Sorted c)) (s i) ++ map (λ c. section (parts.Inverted c)) (marked (m i))))))
+    ∙ (λ i. section parts.Bounds ∷ (sym (map-map section parts.Dictionary columns) i ++ (sym (map-map section parts.Forward columns) i ++ (sym (map-map section parts.Sorted sorted) i ++ sym (map-map section parts.Inverted (marked marks)) i))))
+    ∙ ap (λ rest. map section heads ++ (map section forwards ++ rest)) (sym (map-append section runs lists))
+    ∙ ap (λ rest. map section heads ++ rest) (sym (map-append section forwards (runs ++ lists)))
+    ∙ sym (map-append section heads (forwards ++ (runs ++ lists)))
+    ∙ ap (λ raw. map section (heads ++ raw)) (sym (built_raw table built))
 
 -- the sections of a column, as they are pushed
-pub column_pushed : (kind : FieldKind) (values : List Value) (d : Distinct) (ids : List ℕ) (old new : Made) → d.kind ≡ kind → d.values ≡ distinct values → Codes d.values ids values
+pub column_pushed : (d : Distinct) (ids : List ℕ) (indexes : Indexes) (old new : Made)
     → new.bounds ≡ old.bounds ++ bounds_bytes (ends_of d.values) → new.dictionaries ≡ old.dictionaries ++ spelling d ∷ []
-    → new.forwards ≡ old.forwards ++ spelled (width_of (length d.values)) ids ∷ [] → new ≡ with_column kind values old
-column_pushed kind values d ids old new k v codes b ds fs =
-    (λ i. record { bounds = b i; dictionaries = ds i; forwards = fs i })
-    ∙ (λ i. record {
-      bounds = old.bounds ++ bounds_bytes (ends_of (v i));
-      dictionaries = old.dictionaries ++ spelling (record { kind = k i; values = v i }) ∷ [];
-      forwards = old.forwards ++ spelled (width_of (length (v i))) (ids_are d.values values ids v codes i) ∷ [];
-    })
-
--- one more column of a table
-pub table_column_more : (table : Table) (t : ListedColumns) (at : ℕ) (field : Field) (column : Listed) (made new : Made) → AreColumns table.schema.fields t → at < length table.schema.fields
-    → field ≡ get_or table.schema.fields at field → column ≡ get_or t.columns at column → made ≡ made_of table (rows_of t) at → new ≡ with_column field.kind column.values made
-    → new ≡ made_of table (rows_of t) (at + 1)
-table_column_more table t at field column made new are lt field_is column_is so_far more =
-    let below : at < length t.columns = omega (arith, lt, are.width) in
-    column_more table (rows_of t) at field column.values made new
-    (slice_get-get_or table.schema.fields at field lt ∙ ap Some (sym field_is))
-    (column_values t.count t.columns at column are.counts below ∙ ap (λ c. c.values) (sym column_is))
-    so_far more
+    → new.forwards ≡ old.forwards ++ spelled (width_of (length d.values)) ids ∷ []
+    → new.runs ≡ old.runs ++ only indexes.sorted (sorted_runs (length d.values) ids) → new.lists ≡ old.lists ++ only indexes.inverted (inverted (length d.values) ids)
+    → new ≡ with_column d ids indexes old
+column_pushed d ids indexes old new b ds fs rs ls = (λ i. record { bounds = b i; dictionaries = ds i; forwards = fs i; runs = rs i; lists = ls i })
 
 -- an answer with these items has equal ones
 pub if_ok_items : {X E : Type 0} (r : Result (Vec X Global) E) (a b : List X) → a ≡ b → IfOk r (λ v. v.items ≡ a) → IfOk r (λ v. v.items ≡ b)

@@ -1,8 +1,9 @@
 pub mod Bares
 pub mod Fits
 pub mod ColumnLemmas
+pub mod Stable
+pub mod Arranged
 pub mod Sizes
 pub mod Built
 pub mod FilesLemmas
 pub mod RowLemmas
-pub mod Stable

@@ -1,8 +1,8 @@
 -- No section is so long that the places in a file are not numbers of 64 bits.
-use Rattle.std.proofs.Common.{◌≡◌, ◌<◌, ◌≤◌, ◌+◌, ◌*◌, ◌^◌, ◌∷◌, ◌++◌, [], ℕ, zero, suc, List, length, map, sum, get_or, ap, arith, refl}
+use Rattle.std.proofs.Common.{◌≡◌, ◌<◌, ◌≤◌, ◌+◌, ◌*◌, ◌^◌, ◌∷◌, ◌++◌, [], ℕ, zero, suc, List, length, map, sum, take, get_or, ap, arith, refl}
 use Rattle.std.proofs.Math.Nat.{mul-le-mul_right}
 use Rattle.std.proofs.lemmas.List.{length-append, length-map}
-use Rattle.std.proofs.lemmas.List.Elements.{All-append, All-cons, All-get_or, All-head, All-nil, All-tail}
+use Rattle.std.proofs.lemmas.List.Elements.{All-append, All-cons, All-get_or, All-head, All-map, All-nil, All-tail}
 use Rattle.std.proofs.lemmas.List.FromFn.{length-map-range_with_len}
 use Rattle.std.proofs.lemmas.Grind.{flat_map-append}
 use Rattle.std.proofs.lemmas.List.Sums.{sum-map, sum_by-cons}
@@ -27,13 +27,17 @@ use Rattle.segment_file.specs.Bounds.{IsShort, bound_bytes, bounds_bytes, bounds
 use Rattle.segment_file.specs.Front.{file_end, short}
 use Rattle.segment_file.specs.Image.{count_of, dictionary_of, front_of, ids_of, kind_at, place_of, section_of, sections_of_rows, values_in}
 use Rattle.segment_file.specs.Names.{IsSegmentName}
-use Rattle.segment_file.specs.Parts.{sections_of}
+use Rattle.segment_file.specs.Ordered.{value_in}
+use Rattle.segment_file.specs.Parts.{marked, sections_of}
 use Rattle.segment_file.specs.declared.part.Part.TheVariants as parts
 use Rattle.segment_file.proofs.BoundLemmas.{fits_short}
 use Rattle.segment_file.proofs.Counts.{few_sections}
+use Rattle.segment_build.proofs.Stable.{ids_below, ids_count}
+use Rattle.bit_column.proofs.PostingLaws.{posting_length}
+use Rattle.bit_column.proofs.SortedLaws.{sorted_length}
 use Rattle.table_schema.specs.ValidTable.{IsValidTable}
 use Rattle.table_schema.specs.declared.table.Table.{Table}
-use Rattle.segment_build.specs.Sections.{in_order, made_of}
+use Rattle.segment_build.specs.Sections.{in_order, made_of, sorted_among}
 use borrow.Author.Tests.{leb-true}
 
 -- ---- the distinct values of a column
@@ -160,20 +164,39 @@ forward_modest rows c modest =
     (omega (arith, length-map (values_in c rows) (place_of (distinct (values_in c rows))), modest.few))
     (omega (arith, few_distinct (values_in c rows), modest.few))
 
+every : (P : ℕ → Type 0) (cs : List ℕ) → ((c : ℕ) → P c) → All P cs
+every P [] each = All-nil P
+every P (c ∷ cs) each = All-cons P c cs (each c) (every P cs each)
+
+runs_small : (table : Table) (rows : List (List Value)) (c : ℕ) → length rows ≤ most_values → IsSmall (section_of table rows (parts.Sorted c))
+runs_small table rows c few = omega (arith, sorted_length (count_of rows c) (ids_of rows c), few_distinct (values_in c rows), length-map rows (value_in c), few)
+
+lists_small : (table : Table) (rows : List (List Value)) (c : ℕ) → length rows ≤ most_values → IsSmall (section_of table rows (parts.Inverted c))
+lists_small table rows c few = omega (arith, posting_length (count_of rows c) (ids_of rows c) (ids_below rows c), ids_count rows c, few_distinct (values_in c rows), length-map rows (value_in c), few)
+
 -- none of the sections of the first so many columns is long
-pub made_small : (table : Table) (rows : List (List Value)) (count : ℕ) → count ≤ 64 → ((c : ℕ) → c < count → IsModest rows c) → All IsSmall (in_order (made_of table rows count))
-made_small table rows count few modest =
+pub made_small : (table : Table) (rows : List (List Value)) (count : ℕ) → count ≤ 64 → length rows ≤ most_values → ((c : ℕ) → c < count → IsModest rows c) → All IsSmall (in_order (made_of table rows count))
+made_small table rows count few most modest =
     let columns : List ℕ = range_with_len 0 count in
     let ds : List Distinct = map (dictionary_of table rows) columns in
     let dictionaries : ℕ → List ℕ = λ c. section_of table rows (parts.Dictionary c) in
     let forwards : ℕ → List ℕ = λ c. section_of table rows (parts.Forward c) in
+    let runs : ℕ → List ℕ = λ c. section_of table rows (parts.Sorted c) in
+    let lists : ℕ → List ℕ = λ c. section_of table rows (parts.Inverted c) in
+    let sorted : List ℕ = sorted_among count table.settings.sorted in
+    let marks : List ℕ = marked (take count table.settings.inverted) in
     let here : (c : ℕ) → c < 0 + count → IsModest rows c = λ c below. modest c (omega (arith, below)) in
     let bounds = bounds_small ds (all_range (λ d. All IsShort d.values) (dictionary_of table rows) 0 count (λ c below. (here c below).short)) in
     let number : length ds ≡ count = length-map-range_with_len (dictionary_of table rows) 0 count in
-    All-cons IsSmall (bounds_bytes (bounds_of ds)) (map dictionaries columns ++ map forwards columns) (omega (arith, bounds, number, few))
-    (All-append IsSmall (map dictionaries columns) (map forwards columns)
-    (all_range IsSmall dictionaries 0 count (λ c below. small_dictionary (kind_at table c) (values_in c rows) (here c below).few (here c below).short))
-    (all_range IsSmall forwards 0 count (λ c below. forward_modest rows c (here c below))))
+    let more : All IsSmall (map runs sorted ++ map lists marks) =
+    All-append IsSmall (map runs sorted) (map lists marks)
+    (All-map IsSmall runs sorted (every (λ c. IsSmall (runs c)) sorted (λ c. runs_small table rows c most)))
+    (All-map IsSmall lists marks (every (λ c. IsSmall (lists c)) marks (λ c. lists_small table rows c most))) in
+    let raw : All IsSmall (map forwards columns ++ (map runs sorted ++ map lists marks)) =
+    All-append IsSmall (map forwards columns) (map runs sorted ++ map lists marks) (all_range IsSmall forwards 0 count (λ c below. forward_modest rows c (here c below))) more in
+    All-cons IsSmall (bounds_bytes (bounds_of ds)) (map dictionaries columns ++ (map forwards columns ++ (map runs sorted ++ map lists marks))) (omega (arith, bounds, number, few))
+    (All-append IsSmall (map dictionaries columns) (map forwards columns ++ (map runs sorted ++ map lists marks))
+    (all_range IsSmall dictionaries 0 count (λ c below. small_dictionary (kind_at table c) (values_in c rows) (here c below).few (here c below).short)) raw)
 
 sum_by_small : (xs : List (List ℕ)) → All IsSmall xs → sum_by length xs ≤ 2 ^ 30 * length xs
 sum_by_small [] all = omega arith

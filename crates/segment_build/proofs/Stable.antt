@@ -1,6 +1,6 @@
 -- Rows by the places of ascending ids are in the stable order of their column.
-use Rattle.std.proofs.Common.{◌≡◌, ◌∙◌, ◌<◌, ◌≤◌, ◌+◌, ◌==◌, ◌⊎◌, inl, inr, cond, Bool, true, false, ◌||◌, ℕ, zero, suc, List, [], ◌∷◌, ◌++◌, length, map, get_or, drop, Option, Some, None, refl, sym, ap, ap₂, subst, arith, append_assoc, append-nil, pos, eq-eqb}
-use Rattle.std.proofs.lemmas.Bool.{cases_lt, eqb-true, ne_eqb}
+use Rattle.std.proofs.Common.{◌≡◌, ◌∙◌, ◌<◌, ◌≤◌, ◌+◌, ◌==◌, ◌⊎◌, inl, inr, cond, if◌then◌else◌, Bool, true, false, ◌||◌, ℕ, zero, suc, List, [], ◌∷◌, ◌++◌, length, map, get_or, drop, Option, Some, None, refl, sym, ap, ap₂, subst, arith, append_assoc, append-nil, pos, eq-eqb}
+use Rattle.std.proofs.lemmas.Bool.{cases_lt, eqb-true, false≢true, ne_eqb}
 use Rattle.std.proofs.lemmas.List.{length-append, length-map, map-append}
 use Rattle.std.proofs.lemmas.List.Elements.{All-append, All-cons, All-head, All-nil, All-tail, All-weaker}
 use Rattle.std.proofs.lemmas.Map.Keys.{sorted_head, sorted_tail}
@@ -13,14 +13,14 @@ use Rattle.std.specs.declared.cmp.Ordering.TheVariants as order
 use Rattle.values.specs.declared.value.Value.{Value}
 use Rattle.values.specs.declared.value.Value.TheVariants.{Whole}
 use Rattle.values.specs.Order.{value_eq, value_order}
-use Rattle.values.specs.Order.Laws.{value_order-total}
+use Rattle.values.specs.Order.Laws.{value_eq-equiv, value_order-total}
 use Rattle.values.specs.Tests.{is_member}
 use Rattle.dictionary.specs.Coding.{AreBelow, Codes, values_at}
 use Rattle.dictionary.specs.Dictionary.{Ascends, distinct}
 use Rattle.dictionary.proofs.Distinct.{distinct_ascends, distinct_members, same_ascending}
 use Rattle.bit_column.specs.Postings.{entries, places_from, places_of}
 use Rattle.inverted_lists.proofs.CountLemmas.{places_cons}
-use Rattle.segment_file.specs.Image.{values_in}
+use Rattle.segment_file.specs.Image.{count_of, ids_of, place_of, values_in}
 use Rattle.segment_file.specs.Ordered.{ordered, placed, sorted_by, value_in}
 use Rattle.segment_build.proofs.ColumnLemmas.{below_at}
 
@@ -149,7 +149,7 @@ not_after d column i n row other up within own its le =
       )
     ]
 
-picked_one : {A : Type 0} (P : A → Type 0) (b : Bool) (x : A) → (b ≡ true → P x) → All P (cond b (x ∷ []) [])
+pub picked_one : {A : Type 0} (P : A → Type 0) (b : Bool) (x : A) → (b ≡ true → P x) → All P (cond b (x ∷ []) [])
 picked_one P true x h = All-cons P x [] (h refl) (All-nil P)
 picked_one P false x h = All-nil P
 
@@ -316,3 +316,55 @@ same_distinct of sorted rows =
     let os : List Value = values_in of (ordered sorted rows) in
     let vs : List Value = values_in of rows in
     same_ascending (distinct os) (distinct vs) (distinct_ascends os) (distinct_ascends vs) (λ q. distinct_members q os ∙ ordered_members q of sorted rows ∙ sym (distinct_members q vs))
+
+-- ---- how many rows and ids there are, and which ids
+
+placed_count : (column : ℕ) (row : List Value) (rows : List (List Value)) → length (placed column row rows) ≡ suc (length rows)
+placed_count column row [] = refl
+placed_count column row (x ∷ xs) =
+    elim (value_order (value_in column row) (value_in column x)) as (λ o. length (match_ordering o (row ∷ x ∷ xs) (row ∷ x ∷ xs) (x ∷ placed column row xs)) ≡ suc (length (x ∷ xs))) [
+      | order.Less ↦ refl
+      | order.Equal ↦ refl
+      | order.Greater ↦ ap suc (placed_count column row xs)
+    ]
+
+sorted_count : (column : ℕ) (rows : List (List Value)) → length (sorted_by column rows) ≡ length rows
+sorted_count column [] = refl
+sorted_count column (row ∷ rows) = placed_count column row (sorted_by column rows) ∙ ap suc (sorted_count column rows)
+
+pub ordered_count : (sorted : Option ℕ) (rows : List (List Value)) → length (ordered sorted rows) ≡ length rows
+ordered_count None rows = refl
+ordered_count (Some column) rows = sorted_count column rows
+
+pub ids_count : (rows : List (List Value)) (column : ℕ) → length (ids_of rows column) ≡ length rows
+ids_count rows column = length-map (values_in column rows) (place_of (distinct (values_in column rows))) ∙ length-map rows (value_in column)
+
+place_found : (w : Value) (ws : List Value) (v : Value) (same : Bool) → (value_eq v w ≡ true → same ≡ true) → (b : Bool) → value_eq v w ≡ b → b || is_member ws v ≡ true → (is_member ws v ≡ true → place_of ws v < length ws)
+    → (if same then 0 else suc (place_of ws v)) < suc (length ws)
+place_found w ws v true turn b e is rest = omega arith
+place_found w ws v false turn true e is rest = absurd (false≢true (turn e))
+place_found w ws v false turn false e is rest = let lt = rest is in omega (arith, lt)
+
+place_below : (vs : List Value) (v : Value) → is_member vs v ≡ true → place_of vs v < length vs
+place_below [] v is = absurd (false≢true is)
+place_below (w ∷ ws) v is = place_found w ws v (value_eq w v) (λ e. sym (value_eq-equiv.symm v w) ∙ e) (value_eq v w) refl is (place_below ws v)
+
+places_within : (all vs : List Value) → All (λ v. is_member all v ≡ true) vs → All (λ id. id < length (distinct all)) (map (place_of (distinct all)) vs)
+places_within all [] those = All-nil (λ id. id < length (distinct all))
+places_within all (v ∷ vs) those =
+    let P : Value → Type 0 = λ v. is_member all v ≡ true in
+    All-cons (λ id. id < length (distinct all)) (place_of (distinct all) v) (map (place_of (distinct all)) vs)
+    (place_below (distinct all) v (distinct_members v all ∙ All-head P v vs those)) (places_within all vs (All-tail P v vs those))
+
+or_true : (b : Bool) → (b || true) ≡ true
+or_true true = refl
+or_true false = refl
+
+own_members : (vs : List Value) → All (λ v. is_member vs v ≡ true) vs
+own_members [] = All-nil (λ v. is_member [] v ≡ true)
+own_members (v ∷ vs) =
+    All-cons (λ w. is_member (v ∷ vs) w ≡ true) v vs (ap (λ b. b || is_member vs v) (value_eq-equiv.refl v))
+    (All-weaker (λ w. is_member vs w ≡ true) (λ w. is_member (v ∷ vs) w ≡ true) (λ w is. ap (λ b. value_eq w v || b) is ∙ or_true (value_eq w v)) vs (own_members vs))
+
+pub ids_below : (rows : List (List Value)) (column : ℕ) → All (λ id. id < count_of rows column) (ids_of rows column)
+ids_below rows column = places_within (values_in column rows) (values_in column rows) (own_members (values_in column rows))

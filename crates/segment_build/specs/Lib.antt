@@ -1,4 +1,5 @@
 pub mod Fitting
+pub mod Arranging
 pub mod Sections
 pub mod Publishing
 pub mod RowColumns

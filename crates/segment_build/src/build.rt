@@ -6,12 +6,14 @@ ghost use Rattle.values.specs.Columns.{rows_of};
 ghost use Rattle.segment_file.specs.Front.{file_end, front_bytes};
 ghost use Rattle.segment_file.specs.Image.{image, sections_of_rows};
 ghost use Rattle.segment_file.specs.Names.{IsSegmentName};
+ghost use Rattle.segment_file.specs.Ordered.{ordered};
 ghost use Rattle.segment_file.specs.Parts.{sections_of};
+ghost use Rattle.segment_build.specs.Arranging.{Orders};
 ghost use Rattle.segment_build.specs.Fitting.{AreColumns};
-ghost use Rattle.segment_build.specs.Sections.{IsBare};
+ghost use Rattle.segment_build.specs.Sections.{HasNoRangeOrTree};
 
 use crate::sections::Sections;
-use crate::{BuildFault, columns_of};
+use crate::{BuildFault, RowOrder, coded, columns_of, indexes_at, row_order};
 use outside::{Bytes, NoMemory, Seq};
 use segment_file::{Front, sections_of};
 use std::alloc::Global;
@@ -20,8 +22,9 @@ use values::{Columns, Rows};
 
 /// The file of a segment of these rows, which are kept column by column.
 ///
-/// One column after the other is taken, and its dictionary and ids are let go before the next. No
-/// star-tree is built so far, so that none is too large.
+/// They are put in the stable order of the sorted column, where there is one. One column after the
+/// other is taken, and its dictionary and ids are let go before the next. No star-tree is built so
+/// far, so that none is too large.
 pub fn build_columns(
     alloc: Global,
     table: &Table,
@@ -29,7 +32,7 @@ pub fn build_columns(
     columns: &Columns,
 ) -> Result<Bytes, BuildFault>
     requires valid { IsValidTable table.now }
-    requires bare { IsBare table.now }
+    requires built { HasNoRangeOrTree table.now }
     requires name { IsSegmentName name.now }
     requires width { length columns.now.columns ≡ length table.now.schema.fields }
     requires rows { AreRows table.now.schema.fields (rows_of columns.now) }
@@ -50,7 +53,7 @@ pub fn build_image(
     rows: &Rows,
 ) -> Result<Bytes, BuildFault>
     requires valid { IsValidTable table.now }
-    requires bare { IsBare table.now }
+    requires built { HasNoRangeOrTree table.now }
     requires name { IsSegmentName name.now }
     requires rows { AreRows table.now.schema.fields rows.now }
     ensures image { IfOk result (λ bytes. bytes ≡ image 1 table.now name.now rows.now) }
@@ -66,14 +69,36 @@ fn sections_of_columns(
     table: &Table,
     columns: &Columns,
 ) -> Result<Vec<Bytes>, NoMemory>
-    requires bare { IsBare table.now }
+    requires valid { IsValidTable table.now }
+    requires built { HasNoRangeOrTree table.now }
     requires columns { AreColumns table.now.schema.fields columns.now }
-    ensures { IfOk result (λ all. all.items ≡ sections_of_rows table.now (rows_of columns.now)) }
+    ensures { IfOk result (λ all. all.items ≡ sections_of_rows table.now
+        (ordered table.now.settings.sorted (rows_of columns.now))) }
+{
+    let order = row_order(alloc, table, columns)?;
+    sections_in(alloc, table, columns, &order)
+}
+
+// The same, where the order of the rows is known.
+fn sections_in(
+    alloc: Global,
+    table: &Table,
+    columns: &Columns,
+    order: &RowOrder,
+) -> Result<Vec<Bytes>, NoMemory>
+    requires valid { IsValidTable table.now }
+    requires built { HasNoRangeOrTree table.now }
+    requires columns { AreColumns table.now.schema.fields columns.now }
+    requires order { Orders table.now.settings.sorted (rows_of columns.now) order.now }
+    ensures { IfOk result (λ all. all.items ≡ sections_of_rows table.now
+        (ordered table.now.settings.sorted (rows_of columns.now))) }
 {
     let fields = table.schema.fields.as_slice();
     let mut sections = Sections::with_capacity(alloc, fields.len())?;
     'columns: for at in 0..fields.len() {
-        sections.push(alloc, fields[at].kind, columns.column(at))?;
+        let (dictionary, ids) = coded(alloc, fields[at].kind, columns.column(at), order)?;
+        let indexes = indexes_at(&table.settings, at);
+        sections.push(alloc, &dictionary, ids.as_slice(), indexes)?;
     }
     sections.into_list(alloc)
 }

@@ -1,27 +1,32 @@
 //! The sections of a segment's file are made, a column after the other.
-ghost use Rattle.std.specs.Prelude.{◌≡◌, ◌<◌, ◌≤◌, ℕ, [], length, map, IfOk, OnOk};
-ghost use Rattle.std.specs.List.{All};
+ghost use Rattle.std.specs.Prelude.{◌≡◌, ◌<◌, ◌≤◌, ◌++◌, ℕ, true, [], length, map, IfOk, OnOk};
+ghost use Rattle.std.specs.List.Sorted.{IsNonDecreasing};
 ghost use Rattle.dictionary.specs.Coding.{AreBelow};
 ghost use Rattle.dictionary.specs.Spelling.{spelling};
 ghost use Rattle.bit_column.specs.Column.{spelled, width_of};
-ghost use Rattle.segment_build.specs.Fitting.{FitsKind};
-ghost use Rattle.segment_build.specs.Sections.{in_order, with_column};
+ghost use Rattle.bit_column.specs.Postings.{inverted};
+ghost use Rattle.bit_column.specs.SortedRuns.{sorted_runs};
+ghost use Rattle.segment_build.specs.Sections.{in_order, only, with_column};
 
+use crate::Indexes;
 use bit_column::width_for;
 use dictionary::Dictionary;
+use inverted_lists::{write_inverted, write_sorted};
 use outside::{Bytes, NoMemory, Seq};
 use segment_file::push_ends;
 use std::alloc::Global;
 use std::marker::Model;
-use values::{Column, FieldKind};
 
 /// The sections of the columns that were taken so far. The bounds are of all columns, and each column
-/// has a dictionary and a forward index.
+/// has a dictionary and a forward index; the sorted one has runs of places, and inverted ones have
+/// lists of places.
 #[derive(Drop)]
 pub struct Sections {
     bounds: Vec<u8>,
     dictionaries: Vec<Bytes>,
     forwards: Vec<Bytes>,
+    runs: Vec<Bytes>,
+    lists: Vec<Bytes>,
 }
 
 impl Model for Sections {
@@ -33,32 +38,45 @@ impl Model for Sections {
       bounds = s.bounds.items;
       dictionaries = s.dictionaries.items;
       forwards = s.forwards.items;
+      runs = s.runs.items;
+      lists = s.lists.items;
     } };
 }
 
 impl Sections {
     /// The sections of no column yet, with room for those of so many.
     pub fn with_capacity(alloc: Global, columns: usize) -> Result<Self, NoMemory>
-        ensures { IfOk result (λ s. s ≡ record { bounds = []; dictionaries = []; forwards = [] }) }
+        ensures { IfOk result (λ s. s ≡ record {
+            bounds = []; dictionaries = []; forwards = []; runs = []; lists = [] }) }
     {
         Ok(Sections {
             bounds: Vec::new(alloc),
             dictionaries: Vec::with_capacity(alloc, columns)?,
             forwards: Vec::with_capacity(alloc, columns)?,
+            runs: Vec::new(alloc),
+            lists: Vec::new(alloc),
         })
     }
 
-    /// Adds those of a column. Its dictionary and ids are let go.
-    pub fn push(&mut self, alloc: Global, kind: FieldKind, column: &Column) -> Result<(), NoMemory>
-        requires { FitsKind kind column.now }
-        ensures { OnOk result (self.new ≡ with_column kind column.now.values self.old) }
+    /// Adds those of a column that has this dictionary, these ids and these indexes.
+    pub fn push(
+        &mut self,
+        alloc: Global,
+        dictionary: &Dictionary,
+        ids: &[u32],
+        indexes: Indexes,
+    ) -> Result<(), NoMemory>
+        requires few { length ids.now ≤ 1048576 }
+        requires below { AreBelow (length dictionary.now.values) ids.now }
+        requires ascend { indexes.sorted ≡ true → IsNonDecreasing ids.now }
+        ensures { OnOk result (self.new ≡ with_column dictionary.now ids.now indexes self.old) }
     {
-        let (dictionary, ids) = Dictionary::of_column(alloc, kind, column)?;
-        push_ends(&dictionary, &mut self.bounds)?;
-        self.dictionaries
-            .push(dictionary_section(alloc, &dictionary)?)?;
-        self.forwards
-            .push(forward_section(alloc, &ids, dictionary.count())?)?;
+        let count = dictionary.count();
+        push_ends(dictionary, &mut self.bounds)?;
+        self.dictionaries.push(dictionary_section(alloc, dictionary)?)?;
+        self.forwards.push(forward_section(alloc, ids, count)?)?;
+        push_runs(alloc, indexes.sorted, ids, count, &mut self.runs)?;
+        push_lists(alloc, indexes.inverted, ids, count, &mut self.lists)?;
         Ok(())
     }
 
@@ -70,11 +88,15 @@ impl Sections {
             bounds,
             mut dictionaries,
             mut forwards,
+            mut runs,
+            mut lists,
         } = self;
-        let mut all = Vec::with_capacity(alloc, 1 + dictionaries.len() + forwards.len())?;
+        let mut all = Vec::with_capacity(alloc, 1 + 2 * dictionaries.len())?;
         all.push(Seq::from_vec(bounds))?;
         all.append(&mut dictionaries)?;
         all.append(&mut forwards)?;
+        all.append(&mut runs)?;
+        all.append(&mut lists)?;
         Ok(all)
     }
 }
@@ -95,4 +117,49 @@ fn forward_section(alloc: Global, ids: &[u32], count: u32) -> Result<Bytes, NoMe
     let mut out = Vec::new(alloc);
     bit_column::write(ids, width_for(count), &mut out)?;
     Ok(Seq::from_vec(out))
+}
+
+// Adds the section of the sorted column, where the ids are its.
+fn push_runs(
+    alloc: Global,
+    is_sorted: bool,
+    ids: &[u32],
+    count: u32,
+    out: &mut Vec<Bytes>,
+) -> Result<(), NoMemory>
+    requires few { length ids.now ≤ 1048576 }
+    requires below { AreBelow count ids.now }
+    requires ascend { is_sorted ≡ true → IsNonDecreasing ids.now }
+    ensures { OnOk result
+        (out.new.items ≡ out.old.items ++ only is_sorted (sorted_runs count ids.now)) }
+{
+    if !is_sorted {
+        return Ok(());
+    }
+    let mut bytes = Vec::new(alloc);
+    write_sorted(ids, count, &mut bytes)?;
+    out.push(Seq::from_vec(bytes))?;
+    Ok(())
+}
+
+// Adds the section of an inverted column, where the ids are those of one.
+fn push_lists(
+    alloc: Global,
+    is_inverted: bool,
+    ids: &[u32],
+    count: u32,
+    out: &mut Vec<Bytes>,
+) -> Result<(), NoMemory>
+    requires few { length ids.now ≤ 1048576 }
+    requires below { AreBelow count ids.now }
+    ensures { OnOk result
+        (out.new.items ≡ out.old.items ++ only is_inverted (inverted count ids.now)) }
+{
+    if !is_inverted {
+        return Ok(());
+    }
+    let mut bytes = Vec::new(alloc);
+    write_inverted(ids, count, &mut bytes)?;
+    out.push(Seq::from_vec(bytes))?;
+    Ok(())
 }

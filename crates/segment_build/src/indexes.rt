@@ -1,0 +1,35 @@
+//! The indexes of a column.
+ghost use Rattle.std.specs.Prelude.{◌≡◌, ◌<◌, false, get_or, length};
+ghost use Rattle.table_schema.specs.NeedIds.{is_the_number};
+
+use table_schema::Settings;
+
+/// Which sections a column has beside its dictionary and its forward index.
+#[derive(Clone, Copy)]
+pub struct Indexes {
+    /// The rows are in the order of the column.
+    pub sorted: bool,
+    pub inverted: bool,
+}
+
+/// Those of one column.
+pub fn indexes_at(settings: &Settings, at: usize) -> Indexes
+    requires { at < length settings.now.inverted }
+    ensures sorted { result.sorted ≡ is_the_number at settings.now.sorted }
+    ensures inverted { result.inverted ≡ get_or settings.now.inverted at false }
+{
+    Indexes {
+        sorted: is_number(settings.sorted, at),
+        inverted: settings.inverted.as_slice()[at],
+    }
+}
+
+// Whether there is a number, and it is this one.
+fn is_number(number: Option<u16>, at: usize) -> bool
+    ensures { result ≡ is_the_number at number }
+{
+    match number {
+        Some(n) => n as usize == at,
+        None => false,
+    }
+}

@@ -1,0 +1,89 @@
+//! The order in which a segment has its rows.
+ghost use Rattle.std.specs.Prelude.{◌≡◌, ◌<◌, ◌≤◌, length, map, get_or, IfOk};
+ghost use Rattle.values.specs.Columns.{rows_of};
+ghost use Rattle.table_schema.specs.ValidTable.{IsValidTable};
+ghost use Rattle.dictionary.specs.Coding.{AreBelow};
+ghost use Rattle.dictionary.specs.Dictionary.{distinct};
+ghost use Rattle.segment_build.specs.Arranging.{Orders, OrdersBy, arranged, places_in};
+ghost use Rattle.segment_build.specs.Fitting.{AreColumns, FitsKind};
+ghost use Rattle.segment_build.specs.Sections.{ids_in};
+
+use dictionary::Dictionary;
+use inverted_lists::places_by_id;
+use outside::NoMemory;
+use std::alloc::Global;
+use table_schema::Table;
+use values::{Column, Columns, FieldKind};
+
+/// How the rows of a segment are put in their order.
+#[derive(Drop)]
+pub enum RowOrder {
+    /// They came in it.
+    AsGiven,
+    /// The places at which they came, in the order of the segment.
+    ByPlaces(Vec<u32>),
+}
+
+/// The order of the rows of a table: the stable one of its sorted column, where it has one.
+pub fn row_order(alloc: Global, table: &Table, columns: &Columns) -> Result<RowOrder, NoMemory>
+    requires valid { IsValidTable table.now }
+    requires columns { AreColumns table.now.schema.fields columns.now }
+    ensures { IfOk result (λ order. Orders table.now.settings.sorted (rows_of columns.now) order) }
+{
+    let Some(number) = table.settings.sorted else {
+        return Ok(RowOrder::AsGiven);
+    };
+    let at = number as usize;
+    let fields = table.schema.fields.as_slice();
+    order_by(alloc, fields[at].kind, columns.column(at))
+}
+
+// The stable order of rows by a column. Its ids are sorted by counting, and where they ascend, the
+// rows stay as they came.
+fn order_by(alloc: Global, kind: FieldKind, column: &Column) -> Result<RowOrder, NoMemory>
+    requires { FitsKind kind column.now }
+    ensures { IfOk result (λ order. OrdersBy column.now.values order) }
+{
+    let (dictionary, ids) = Dictionary::of_column(alloc, kind, column)?;
+    if ids.as_slice().is_sorted() {
+        return Ok(RowOrder::AsGiven);
+    }
+    let places = places_by_id(alloc, ids.as_slice(), dictionary.count())?;
+    Ok(RowOrder::ByPlaces(places))
+}
+
+/// The dictionary of a column, and the ids of the rows in their order.
+pub fn coded(
+    alloc: Global,
+    kind: FieldKind,
+    column: &Column,
+    order: &RowOrder,
+) -> Result<(Dictionary, Vec<u32>), NoMemory>
+    requires fits { FitsKind kind column.now }
+    requires within { AreBelow (length column.now.values) (places_in order.now) }
+    ensures dictionary { IfOk result (λ r.
+        r.0 ≡ record { kind = kind; values = distinct column.now.values }) }
+    ensures ids { IfOk result (λ r.
+        r.1.items ≡ arranged 0 order.now (ids_in column.now.values)) }
+{
+    let (dictionary, ids) = Dictionary::of_column(alloc, kind, column)?;
+    match order {
+        RowOrder::AsGiven => Ok((dictionary, ids)),
+        RowOrder::ByPlaces(places) => {
+            let gathered = gathered(alloc, places.as_slice(), ids.as_slice())?;
+            Ok((dictionary, gathered))
+        }
+    }
+}
+
+// The ids at these places.
+fn gathered(alloc: Global, places: &[u32], ids: &[u32]) -> Result<Vec<u32>, NoMemory>
+    requires { AreBelow (length ids.now) places.now }
+    ensures { IfOk result (λ v. v.items ≡ map (λ place. get_or ids.now place 0) places.now) }
+{
+    let mut gathered = Vec::with_capacity(alloc, places.len())?;
+    for place in places {
+        gathered.push(ids[*place as usize])?;
+    }
+    Ok(gathered)
+}
