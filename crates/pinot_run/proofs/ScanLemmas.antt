@@ -1,12 +1,12 @@
 -- What `scan` did, by what its parts did.
-use Rattle.std.proofs.Common.{◌≡◌, ◌≢◌, ◌≤◌, ◌<◌, ◌∙◌, inl, inr, IsErrAnd, ℕ, Bool, List, length, true, false, nat_lt, cond, Option, Some, None, Result, Ok, Err, IfSome, refl, sym, ap, subst, arith}
+use Rattle.std.proofs.Common.{◌≡◌, ◌≢◌, ◌≤◌, ◌<◌, ◌∙◌, inl, inr, IsErrAnd, ℕ, Bool, List, length, true, false, nat_lt, Option, Some, None, Result, Ok, Err, IfSome, refl, sym, ap, subst, arith}
 use Rattle.std.proofs.lemmas.Bool.Decides.{nat_tests}
 use Rattle.std.specs.FinMap as map
 use Rattle.outside.specs.Counts.{Rose}
 use Rattle.outside.specs.Files.{Files, Lacks}
 use Rattle.outside.specs.Whole.{IsTooLong, IsWhole}
 use Rattle.pinot_run.specs.Command.{Scan}
-use Rattle.text_scan.specs.TextReply.{Replies as RepliesTo, TextReply, text_reply}
+use Rattle.text_scan.specs.TextReply.{Replies as RepliesTo, text_reply}
 use Rattle.text_scan.specs.declared.fault.ScanFault.{ScanFault}
 use Rattle.text_scan.specs.declared.fault.ScanFault.TheVariants as scan
 use Rattle.pinot_run.specs.Gives.{StopsRead, stop_of}
