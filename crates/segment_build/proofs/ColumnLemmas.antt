@@ -144,10 +144,10 @@ marked_more f at marks lt =
     let b : Bool = get_or marks at false in
     let size : 0 + length (take at marks) ≡ at = omega (arith, length-take at marks, lt) in
     sym (
-      ap (λ ms. map f (marked ms)) (take_more marks at false lt)
-      ∙ ap (map f) (marked_push 0 (take at marks) b ∙ ap (λ n. marked (take at marks) ++ only b n) size)
-      ∙ map-append f (marked (take at marks)) (only b at)
-      ∙ ap (λ one. map f (marked (take at marks)) ++ one) (map_only f b at)
+    ap (λ ms. map f (marked ms)) (take_more marks at false lt)
+    ∙ ap (map f) (marked_push 0 (take at marks) b ∙ ap (λ n. marked (take at marks) ++ only b n) size)
+    ∙ map-append f (marked (take at marks)) (only b at)
+    ∙ ap (λ one. map f (marked (take at marks)) ++ one) (map_only f b at)
     )
 
 -- ---- the sections of more columns

@@ -144,9 +144,9 @@ not_after d column i n row other up within own its le =
     elim (cases_lt i n) [
       | inl lt ↦ inl ((λ k. value_order (own k) (its k)) ∙ apart d i n z up lt within)
       | inr ge ↦ inr (
-        let same : i ≡ n = omega (arith, le, ge) in
-        (λ k. value_order (own k) (its k)) ∙ ap (λ m. value_order (get_or d m z) (get_or d n z)) same ∙ own_order (value_order (get_or d n z) (get_or d n z)) (value_order-total.antisymm (get_or d n z) (get_or d n z))
-      )
+          let same : i ≡ n = omega (arith, le, ge) in
+          (λ k. value_order (own k) (its k)) ∙ ap (λ m. value_order (get_or d m z) (get_or d n z)) same ∙ own_order (value_order (get_or d n z) (get_or d n z)) (value_order-total.antisymm (get_or d n z) (get_or d n z))
+          )
     ]
 
 pub picked_one : {A : Type 0} (P : A → Type 0) (b : Bool) (x : A) → (b ≡ true → P x) → All P (cond b (x ∷ []) [])
@@ -190,13 +190,13 @@ head_placed d column i (suc n) row ids rows up k own lt few =
     let follow : All (IsNotAfter column row) here = picked_not_after d column i n row ids rows up k (omega (arith, few)) own (omega (arith, lt)) in
     elim (cases_lt i n) [
       | inl less ↦
-        ap₂ ◌++◌ (head_placed d column i n row ids rows up k own less (omega (arith, few))) (ap (λ b. cond b (row ∷ []) [] ++ here) (ne_eqb i n (λ e. omega (arith, e, less))))
-        ∙ sym (placed_before column row lower here follow)
+          ap₂ ◌++◌ (head_placed d column i n row ids rows up k own less (omega (arith, few))) (ap (λ b. cond b (row ∷ []) [] ++ here) (ne_eqb i n (λ e. omega (arith, e, less))))
+          ∙ sym (placed_before column row lower here follow)
       | inr ge ↦
-        let same : i ≡ n = omega (arith, lt, ge) in
-        ap₂ ◌++◌ (head_above n i row ids rows ge) (ap (λ b. cond b (row ∷ []) [] ++ here) (eq-eqb i n same))
-        ∙ ap (λ rest. lower ++ rest) (sym (placed_front column row here follow))
-        ∙ sym (placed_past column row lower here (grouped_after d column i n row ids rows up k (omega (arith, few, lt)) own ge))
+          let same : i ≡ n = omega (arith, lt, ge) in
+          ap₂ ◌++◌ (head_above n i row ids rows ge) (ap (λ b. cond b (row ∷ []) [] ++ here) (eq-eqb i n same))
+          ∙ ap (λ rest. lower ++ rest) (sym (placed_front column row here follow))
+          ∙ sym (placed_past column row lower here (grouped_after d column i n row ids rows up k (omega (arith, few, lt)) own ge))
     ]
 
 sorted_grouped : (d : List Value) (column : ℕ) (ids : List ℕ) (rows : List (List Value)) → Ascends d → Keyed d column ids rows → sorted_by column rows ≡ grouped (length d) ids rows

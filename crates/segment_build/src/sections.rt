@@ -47,7 +47,12 @@ impl Sections {
     /// The sections of no column yet, with room for those of so many.
     pub fn with_capacity(alloc: Global, columns: usize) -> Result<Self, NoMemory>
         ensures { IfOk result (λ s. s ≡ record {
-            bounds = []; dictionaries = []; forwards = []; runs = []; lists = [] }) }
+          bounds = [];
+          dictionaries = [];
+          forwards = [];
+          runs = [];
+          lists = [];
+        }) }
     {
         Ok(Sections {
             bounds: Vec::new(alloc),
@@ -73,7 +78,8 @@ impl Sections {
     {
         let count = dictionary.count();
         push_ends(dictionary, &mut self.bounds)?;
-        self.dictionaries.push(dictionary_section(alloc, dictionary)?)?;
+        self.dictionaries
+            .push(dictionary_section(alloc, dictionary)?)?;
         self.forwards.push(forward_section(alloc, ids, count)?)?;
         push_runs(alloc, indexes.sorted, ids, count, &mut self.runs)?;
         push_lists(alloc, indexes.inverted, ids, count, &mut self.lists)?;
