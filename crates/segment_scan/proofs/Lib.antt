@@ -3,3 +3,4 @@ pub mod RankSteps
 pub mod SlotLemmas
 pub mod FoldSteps
 pub mod MergeSteps
+pub mod ScanLemmas

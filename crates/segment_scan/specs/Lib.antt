@@ -1,2 +1,5 @@
 pub mod Coded
 pub mod Slots
+pub mod Faults
+pub mod Forward
+pub mod Scans

@@ -4,12 +4,20 @@
 
 mod adding;
 mod coded;
+mod columns;
+mod fault;
 mod folding;
 mod merging;
 mod places;
 mod ranking;
+mod reading;
+mod scan;
 mod selection;
 mod slots;
 
 pub use adding::add_segment;
 pub use coded::{Coded, SegmentColumns};
+pub use columns::read_columns;
+pub use fault::EngineFault;
+pub use reading::{read_column, read_ids};
+pub use scan::scan_columns;

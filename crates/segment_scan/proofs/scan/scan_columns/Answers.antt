@@ -1,0 +1,72 @@
+use Rattle.std.proofs.Common.{◌≡◌, ◌∙◌, ◌<◌, ◌-◌, ℕ, Bool, List, Option, None, Err, false, length, get_or, ap, sym, subst, arith}
+use Rattle.values.specs.Columns.{rows_of}
+use Rattle.agg_laws.specs.Numbers.{most_values}
+use Rattle.group_table.specs.Kept.{groups_in}
+use Rattle.scan_engine.specs.Scanned.{AddsRows, HaveAtMost, selected}
+use Rattle.segment_file.specs.Heads.{Seen}
+use Rattle.segment_scan.specs.declared.coded.Coded.{Coded}
+use Rattle.segment_scan.specs.declared.coded.SegmentColumns.{SegmentColumns}
+use Rattle.segment_scan.specs.Coded.{table_of}
+use Rattle.segment_scan.specs.Scans.{IsCodedOf}
+use Rattle.segment_scan.proofs.ScanLemmas.{coded-all, named-of, overfull-read, rows-read}
+use Rattle.segment_scan.proofs.scan.scan_columns.Goals as goal
+
+pub coded_columns-requires-clause-loaded : goal.coded_columns-requires-clause-loaded
+coded_columns-requires-clause-loaded g c = λ column list lt got.
+    let within : column < length c.args.named.now = omega (arith, lt, ap length c.as_slice-ids.ensures.value, c.in-Ok.ensures.count) in
+    let same : get_or c.in-Ok.ids.items column None ≡ get_or c.as_slice-ids.result.now column None = ap (λ (l : List (Option (List ℕ))). get_or l column None) (sym c.as_slice-ids.ensures.value) in
+    (c.requires.readable column (named-of (g.S.Shelf.held c.args.shelf.now) c.args.head.now column (get_or c.args.named.now column false) (get_or c.in-Ok.ids.items column None) list (c.in-Ok.ensures.ids column within) (same ∙ got))).loaded
+
+pub add_segment-requires-clause-coded : goal.add_segment-requires-clause-coded
+add_segment-requires-clause-coded g c =
+    let held = g.S.Shelf.held c.args.shelf.now in
+    let head : Seen = c.args.head.now in
+    let named : List Bool = c.args.named.now in
+    let ids : List (Option (List ℕ)) = c.in-Ok.ids.items in
+    let segment : SegmentColumns = record { columns = c.as_slice.result; count = c.rows.result } in
+    let long : length segment.columns.now ≡ length named = ap length c.as_slice.ensures.value ∙ c.in_ok-columns.ensures.count ∙ ap length c.as_slice-ids.ensures.value ∙ c.in-Ok.ensures.count in
+    let within : (column : ℕ) → column < length named → column < length c.as_slice-ids.result.now = λ column lt. omega (arith, lt, ap length c.as_slice-ids.ensures.value, c.in-Ok.ensures.count) in
+    let of : (column : ℕ) → column < length named → IsCodedOf head column (get_or ids column None) (get_or segment.columns.now column None) = λ column lt.
+    subst (λ (l : List (Option (List ℕ))). IsCodedOf head column (get_or l column None) (get_or segment.columns.now column None)) c.as_slice-ids.ensures.value
+    (subst (λ (l : List (Option Coded)). IsCodedOf head column (get_or c.as_slice-ids.result.now column None) (get_or l column None)) (sym c.as_slice.ensures.value)
+    (c.in_ok-columns.ensures.each column (within column lt))) in
+    coded-all held head named ids segment c.rows.ensures c.requires.few_rows long c.in-Ok.ensures.ids of
+
+pub add_segment-requires-clause-fits : goal.add_segment-requires-clause-fits
+add_segment-requires-clause-fits g c = subst (λ n. HaveAtMost (most_values - n) (groups_in c.args.groups.now)) (sym c.rows.ensures) c.requires.fits
+
+pub returns-in-Ok-add_segment-clause-ok : goal.returns-in-Ok-add_segment-clause-ok
+returns-in-Ok-add_segment-clause-ok g c =
+    let held = g.S.Shelf.held c.args.shelf.now in
+    let head : Seen = c.args.head.now in
+    let named : List Bool = c.args.named.now in
+    let ids : List (Option (List ℕ)) = c.in-Ok.ids.items in
+    let segment : SegmentColumns = record { columns = c.as_slice.result; count = c.rows.result } in
+    let long : length segment.columns.now ≡ length named = ap length c.as_slice.ensures.value ∙ c.in_ok-columns.ensures.count ∙ ap length c.as_slice-ids.ensures.value ∙ c.in-Ok.ensures.count in
+    let within : (column : ℕ) → column < length named → column < length c.as_slice-ids.result.now = λ column lt. omega (arith, lt, ap length c.as_slice-ids.ensures.value, c.in-Ok.ensures.count) in
+    let of : (column : ℕ) → column < length named → IsCodedOf head column (get_or ids column None) (get_or segment.columns.now column None) = λ column lt.
+    subst (λ (l : List (Option (List ℕ))). IsCodedOf head column (get_or l column None) (get_or segment.columns.now column None)) c.as_slice-ids.ensures.value
+    (subst (λ (l : List (Option Coded)). IsCodedOf head column (get_or c.as_slice-ids.result.now column None) (get_or l column None)) (sym c.as_slice.ensures.value)
+    (c.in_ok-columns.ensures.each column (within column lt))) in
+    record {
+      rows = selected c.args.query.now (rows_of (table_of segment));
+      adds = subst (λ n. AddsRows c.args.query.now n (selected c.args.query.now (rows_of (table_of segment))) c.args.groups.now c.add_segment.new.table) c.rows.ensures c.in-Ok-add_segment.ensures.ok;
+      told = rows-read held head named ids segment c.rows.ensures c.requires.few_rows long c.in-Ok.ensures.ids of c.args.query.now;
+    }
+
+pub returns-in-Err-TooManyGroups-clause-full : goal.returns-in-Err-TooManyGroups-clause-full
+returns-in-Err-TooManyGroups-clause-full g c = λ bad.
+    let held = g.S.Shelf.held c.args.shelf.now in
+    let head : Seen = c.args.head.now in
+    let named : List Bool = c.args.named.now in
+    let ids : List (Option (List ℕ)) = c.in-Ok.ids.items in
+    let segment : SegmentColumns = record { columns = c.as_slice.result; count = c.rows.result } in
+    let long : length segment.columns.now ≡ length named = ap length c.as_slice.ensures.value ∙ c.in_ok-columns.ensures.count ∙ ap length c.as_slice-ids.ensures.value ∙ c.in-Ok.ensures.count in
+    let within : (column : ℕ) → column < length named → column < length c.as_slice-ids.result.now = λ column lt. omega (arith, lt, ap length c.as_slice-ids.ensures.value, c.in-Ok.ensures.count) in
+    let of : (column : ℕ) → column < length named → IsCodedOf head column (get_or ids column None) (get_or segment.columns.now column None) = λ column lt.
+    subst (λ (l : List (Option (List ℕ))). IsCodedOf head column (get_or l column None) (get_or segment.columns.now column None)) c.as_slice-ids.ensures.value
+    (subst (λ (l : List (Option Coded)). IsCodedOf head column (get_or c.as_slice-ids.result.now column None) (get_or l column None)) (sym c.as_slice.ensures.value)
+    (c.in_ok-columns.ensures.each column (within column lt))) in
+    overfull-read held c.args.query.now head named (selected c.args.query.now (rows_of (table_of segment))) c.args.groups.now
+    (rows-read held head named ids segment c.rows.ensures c.requires.few_rows long c.in-Ok.ensures.ids of c.args.query.now)
+    (c.add_segment.ensures.full (c.in-Err-TooManyGroups.is ∙ ap Err c.in-Err-TooManyGroups.field-0-is))

@@ -1,0 +1,91 @@
+//! The ids of a column, read from a segment's file.
+
+ghost use Rattle.std.specs.Prelude.{◌≡◌, ◌<◌, ◌+◌, All, IfErr, IfOk, IfSome, IsErrOf, OnErr, length};
+ghost use Rattle.outside.specs.Reads.{LogsOn, LogsUpTo};
+ghost use Rattle.outside.specs.Seen.{OnlyReads, seen};
+ghost use Rattle.bit_column.specs.Column.{ids_between, width_of};
+ghost use Rattle.bit_column.specs.Sections.{Readable, end_byte, first_byte, section};
+ghost use Rattle.segment_file.specs.declared.part.Part.TheVariants.{Forward};
+ghost use Rattle.segment_scan.specs.Faults.{IsFaultOf, fault_of};
+ghost use Rattle.segment_scan.specs.Forward.{AreIdsOf, HasIds, IsReadable, LogsForward, LogsPart};
+ghost use Rattle.segment_scan.specs.declared.fault.EngineFault.TheVariants.{NotASegment, ReadFault};
+
+use crate::EngineFault;
+use bit_column::{ColumnFault, read_range, width_for};
+use outside::{Place, Seq, Shelf};
+use segment_file::{Head, Part};
+use std::alloc::Global;
+
+/// The ids of the rows in a column of so many values: its forward section is read, each byte once,
+/// and nothing else.
+pub fn read_ids<S: Shelf>(
+    alloc: Global,
+    shelf: &mut S,
+    place: &Place,
+    count: u32,
+    rows: u32,
+    column: u16,
+) -> Result<Seq<u32>, EngineFault>
+    ensures ids { IfOk result (λ ids. IfSome (S.held shelf.old) (λ files.
+        Readable (width_of count) count 0 rows (section files place.now)
+        × (ids ≡ ids_between (width_of count) 0 rows (section files place.now)))) }
+    ensures number { IfOk result (λ ids. length ids ≡ rows) }
+    ensures below { IfOk result (λ ids. All (λ id. id < count) ids) }
+    ensures bad { IsErrOf result (NotASegment (Forward column)) →
+        IfSome (S.held shelf.old) (λ files.
+        ¬ Readable (width_of count) count 0 rows (section files place.now)) }
+    ensures only { IfErr result (IsFaultOf column) }
+    ensures only_reads { OnlyReads (IsErrOf result ReadFault)
+        (seen S.Shelf shelf.old) (seen S.Shelf shelf.new) }
+    ensures log { IfOk result (λ ids. LogsOn place.now.file
+        (place.now.offset + first_byte (width_of count) 0)
+        (place.now.offset + end_byte (width_of count) 0 rows)
+        (S.log shelf.old) (S.log shelf.new)) }
+    ensures log_of_fault { OnErr result (LogsUpTo place.now.file
+        (place.now.offset + first_byte (width_of count) 0)
+        (place.now.offset + end_byte (width_of count) 0 rows)
+        (S.log shelf.old) (S.log shelf.new)) }
+{
+    match read_range(alloc, shelf, place, width_for(count), count, 0, rows) {
+        Ok(ids) => Ok(ids),
+        Err(fault) => Err(of_column(fault, column)),
+    }
+}
+
+// What the fault of a column is for a scan.
+fn of_column(fault: ColumnFault, column: u16) -> EngineFault
+    ensures { result ≡ fault_of fault column }
+{
+    match fault {
+        ColumnFault::ReadFault => EngineFault::ReadFault,
+        ColumnFault::BadId => EngineFault::NotASegment(Part::Forward(column)),
+        ColumnFault::NoMemory => EngineFault::NoMemory,
+    }
+}
+
+/// The ids of the rows in a column of a segment: its forward section is read, each byte once, and
+/// nothing else.
+pub fn read_column<S: Shelf>(
+    alloc: Global,
+    shelf: &mut S,
+    head: &Head,
+    column: u16,
+) -> Result<Seq<u32>, EngineFault>
+    requires { IsReadable head.now column }
+    ensures ids { IfOk result (AreIdsOf (S.held shelf.old) head.now column) }
+    ensures bad { IsErrOf result (NotASegment (Forward column)) →
+        IfSome (S.held shelf.old) (λ files. ¬ HasIds files head.now column) }
+    ensures only { IfErr result (IsFaultOf column) }
+    ensures only_reads { OnlyReads (IsErrOf result ReadFault)
+        (seen S.Shelf shelf.old) (seen S.Shelf shelf.new) }
+    ensures log { IfOk result (λ _.
+        LogsForward head.now column (S.log shelf.old) (S.log shelf.new)) }
+    ensures log_of_fault { OnErr result
+        (LogsPart head.now column (S.log shelf.old) (S.log shelf.new)) }
+{
+    let Some(place) = head.place(Part::Forward(column)) else {
+        unreachable!();
+    };
+    let count = head.dictionary(column).count();
+    read_ids(alloc, shelf, place, count, head.rows(), column)
+}

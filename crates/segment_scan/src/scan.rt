@@ -1,0 +1,107 @@
+//! A segment is scanned for a query: what the query names is read, and the rows are added.
+
+ghost use Rattle.std.specs.Prelude.{◌≡◌, ◌<◌, ◌≤◌, ◌-◌, ℕ, List, Err, IfOk, IfSome, IsErrOf, None, OnOk, Some, false, get_or, length, true};
+ghost use Rattle.outside.specs.Seen.{OnlyReads, seen};
+ghost use Rattle.agg_laws.specs.Numbers.{most_values};
+ghost use Rattle.group_table.specs.Kept.{IsTableOf, groups_in};
+ghost use Rattle.scan_engine.specs.Scanned.{HaveAtMost, IsOverfull};
+ghost use Rattle.segment_file.specs.Heads.{IsLoaded};
+ghost use Rattle.segment_file.specs.declared.part.Part.{Part};
+ghost use Rattle.segment_file.specs.declared.part.Part.TheVariants.{Forward};
+ghost use Rattle.segment_scan.specs.Coded.{most_rows};
+ghost use Rattle.segment_scan.specs.Forward.{HasIds, IsReadable, LogsColumns};
+ghost use Rattle.segment_scan.specs.Scans.{AddsSegment, IsCodedOf, selected_read};
+ghost use Rattle.segment_scan.specs.declared.fault.EngineFault.TheVariants.{NotASegment, ReadFault, TooManyGroups};
+
+use crate::EngineFault;
+use crate::adding::add_segment;
+use crate::coded::{Coded, SegmentColumns};
+use crate::columns::read_columns;
+use group_table::{GroupTable, TableFault};
+use outside::{Seq, Shelf};
+use segment_file::Head;
+use std::alloc::Global;
+use table_schema::BoundQuery;
+use values::NoMemory;
+
+/// Adds the rows of a segment that satisfy the filter of a query to its groups, by the columns that
+/// are named, and answers how many rows there are. The forward section of each of these is read
+/// once, and nothing else.
+pub fn scan_columns<S: Shelf>(
+    alloc: Global,
+    shelf: &mut S,
+    head: &Head,
+    named: &[bool],
+    query: &BoundQuery,
+    groups: &mut GroupTable,
+) -> Result<u32, EngineFault>
+    requires few { length named.now ≤ 65535 }
+    requires few_rows { head.now.rows ≤ most_rows }
+    requires readable { (column : ℕ) → get_or named.now column false ≡ true
+        → IsReadable head.now column }
+    requires table { IsTableOf query.now groups.old }
+    requires fits { HaveAtMost (most_values - head.now.rows) (groups_in groups.old) }
+    ensures count { IfOk result (λ n. n ≡ head.now.rows) }
+    ensures ok { OnOk result (AddsSegment query.now (S.held shelf.old) head.now named.now
+        groups.old groups.new) }
+    ensures full { result ≡ Err TooManyGroups → IfSome (S.held shelf.old) (λ files.
+        IsOverfull query.now (selected_read query.now files head.now named.now) groups.old) }
+    ensures bad { (part : Part) → result ≡ Err (NotASegment part) → (column : ℕ)
+        × (get_or named.now column false ≡ true) × (part ≡ Forward column)
+        × IfSome (S.held shelf.old) (λ files. ¬ HasIds files head.now column) }
+    ensures only_reads { OnlyReads (IsErrOf result ReadFault)
+        (seen S.Shelf shelf.old) (seen S.Shelf shelf.new) }
+    ensures log { IfOk result (λ _. LogsColumns head.now named.now (length named.now)
+        (S.log shelf.old) (S.log shelf.new)) }
+{
+    let ids = match read_columns(alloc, shelf, head, named) {
+        Ok(ids) => ids,
+        Err(fault) => return Err(fault),
+    };
+    let ids = ids.as_slice();
+    let columns = coded_columns(alloc, head, ids)?;
+    let segment = SegmentColumns {
+        columns: columns.as_slice(),
+        count: head.rows() as usize,
+    };
+    match add_segment(alloc, query, &segment, groups) {
+        Ok(()) => Ok(head.rows()),
+        Err(TableFault::TooManyGroups) => Err(EngineFault::TooManyGroups),
+        Err(TableFault::NoMemory) => Err(EngineFault::NoMemory),
+    }
+}
+
+// The ids of the columns beside their dictionaries.
+fn coded_columns<'a>(
+    alloc: Global,
+    head: &'a Head,
+    ids: &'a [Option<Seq<u32>>],
+) -> Result<Vec<Option<Coded<'a>>>, NoMemory>
+    requires few { length ids.now ≤ 65535 }
+    requires loaded { (column : ℕ) → (list : List ℕ) → column < length ids.now
+        → get_or ids.now column None ≡ Some list → IsLoaded head.now column }
+    ensures count { IfOk result (λ columns. length columns.items ≡ length ids.now) }
+    ensures each { IfOk result (λ columns. (column : ℕ) → column < length ids.now
+        → IsCodedOf head.now column (get_or ids.now column None)
+        (get_or columns.items column None)) }
+{
+    let mut columns = Vec::with_capacity(alloc, ids.len())?;
+    for column in 0..ids.len() {
+        columns.push(coded_column(head, column as u16, &ids[column]))?;
+    }
+    Ok(columns)
+}
+
+// The ids of a column beside its dictionary.
+fn coded_column<'a>(head: &'a Head, column: u16, ids: &'a Option<Seq<u32>>) -> Option<Coded<'a>>
+    requires { (list : List ℕ) → ids.now ≡ Some list → IsLoaded head.now column }
+    ensures { IsCodedOf head.now column ids.now result }
+{
+    match ids {
+        Some(ids) => Some(Coded {
+            dictionary: head.dictionary(column),
+            ids: ids.as_slice(),
+        }),
+        None => None,
+    }
+}
