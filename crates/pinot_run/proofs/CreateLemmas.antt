@@ -86,6 +86,7 @@ allowed_line (note.BadSchema wrong path) e = refl
 allowed_line (note.BadSettings wrong path) e = refl
 allowed_line note.TableExists e = absurd cc
 allowed_line note.NoTable e = absurd cc
+allowed_line (note.NameTaken name) e = absurd cc
 allowed_line (note.BadCsv wrong row column) e = absurd cc
 allowed_line (note.TooLarge what limit) e = e
 allowed_line (note.BadQuery wrong place) e = absurd cc
@@ -99,6 +100,7 @@ caused_line schema settings inputs stored (note.BadSchema wrong path) e told = t
 caused_line schema settings inputs stored (note.BadSettings wrong path) e told = told
 caused_line schema settings inputs stored note.TableExists e told = absurd cc
 caused_line schema settings inputs stored note.NoTable e told = absurd cc
+caused_line schema settings inputs stored (note.NameTaken name) e told = absurd cc
 caused_line schema settings inputs stored (note.BadCsv wrong row column) e told = absurd cc
 caused_line schema settings inputs stored (note.TooLarge what limit) e told = told
 caused_line schema settings inputs stored (note.BadQuery wrong place) e told = absurd cc
@@ -114,6 +116,7 @@ looked_line schema settings old new (note.BadSchema wrong path) e alone = alone 
 looked_line schema settings old new (note.BadSettings wrong path) e alone = tt
 looked_line schema settings old new note.TableExists e alone = absurd cc
 looked_line schema settings old new note.NoTable e alone = tt
+looked_line schema settings old new (note.NameTaken name) e alone = tt
 looked_line schema settings old new (note.BadCsv wrong row column) e alone = tt
 looked_line schema settings old new (note.TooLarge what limit) e alone = tt
 looked_line schema settings old new (note.BadQuery wrong place) e alone = tt
@@ -126,7 +129,7 @@ both_told None P has lacks = tt
 both_told (Some files) P (bytes, got) lacks = let e : Some bytes ≡ None = sym got ∙ lacks in absurd cc
 
 -- nothing was written
-names_same : (names : List (List ℕ)) (told : Option Files) → SameButThese names told told
+pub names_same : (names : List (List ℕ)) (told : Option Files) → SameButThese names told told
 names_same names None = refl
 names_same names (Some files) = λ other is. refl
 
@@ -210,6 +213,7 @@ module _ (schema settings : List ℕ) (inputs inputs_new depot looked depot_new 
   moved_looked (note.BadSettings wrong path) is = is
   moved_looked note.TableExists is = subst (λ h. IfSome h (λ _. inputs_new ≡ inputs)) looks.held is
   moved_looked note.NoTable is = is
+  moved_looked (note.NameTaken name) is = is
   moved_looked (note.BadCsv wrong row column) is = is
   moved_looked (note.TooLarge what limit) is = is
   moved_looked (note.BadQuery wrong place) is = is
@@ -286,7 +290,7 @@ looked_at depot looked looks = record {
   log = looks.log;
 }
 
-no_front : (file : List ℕ) (limit : ℕ) (s : Seen) → ReadsFront file limit s s
+pub no_front : (file : List ℕ) (limit : ℕ) (s : Seen) → ReadsFront file limit s s
 no_front file limit s = record { held = refl; parts = refl; writes = refl; later = le_refl _; log = no_reads file limit s.log }
 
 pub no_files : (schema settings : List ℕ) (s : Seen) → Reads ((schema, text_limit) ∷ (settings, text_limit) ∷ []) s s

@@ -1,5 +1,5 @@
 -- What a command does to stored files is its step on the state that they stand for.
-use Rattle.std.proofs.Common.{◌≡◌, ◌∙◌, ◌≤◌, ◌<◌, ◌&&◌, inl, inr, ℕ, suc, Bool, true, false, List, [], ◌∷◌, length, get_or, take, option_map, nat_lt, Option, Some, None, Result, Ok, Err, IfSome, IsSomeAnd, refl, sym, ap, subst, arith, cond}
+use Rattle.std.proofs.Common.{◌≡◌, ◌∙◌, ◌≤◌, ◌<◌, ◌&&◌, inl, inr, ℕ, suc, Bool, true, false, List, [], ◌∷◌, length, get_or, take, option_map, nat_le, nat_lt, Option, Some, None, Result, Ok, Err, IfSome, IsSomeAnd, refl, sym, ap, subst, arith, cond}
 use Rattle.std.proofs.lemmas.Bool.Decides.{nat_tests}
 use Rattle.std.specs.Prelude.{is_some, map as each}
 use Rattle.std.specs.FinMap as map
@@ -9,7 +9,8 @@ use Rattle.std.specs.Ordering.{eq_by_cmp}
 use Rattle.std.proofs.lemmas.Cmp.{nat_list_cmp_total}
 use Rattle.std.proofs.lemmas.List.{length-map, take_all}
 use Rattle.std.proofs.lemmas.List.Folds.{list_any_at}
-use Rattle.outside.specs.Files.{Files, OfFile, bytes_of, name_order}
+use Rattle.outside.specs.Files.{Files, Has, Lacks, OfFile, bytes_of, name_order}
+use Rattle.values.specs.declared.value.Value.{Value}
 use Rattle.schema_json.specs.Schemas.{schema_read}
 use Rattle.settings_json.specs.TableTexts.{settings_read}
 use Rattle.schema_json.specs.declared.fault.KeyKind.{KeyKind}
@@ -22,21 +23,25 @@ use Rattle.segment_file.specs.Image.{front_of}
 use Rattle.segment_file.specs.Names.{file_of}
 use Rattle.segment_file.proofs.RuleLaws.{fronts_one}
 use Rattle.table_store.specs.Accepted.{IsAccepted, IsNoTableFile}
-use Rattle.table_store.specs.Segments.{AreFirstNames, has_segment}
-use Rattle.table_store.specs.Stands.{Stands, segment_file}
+use Rattle.table_store.specs.Segments.{AreFirstNames, IsFull, has_segment}
+use Rattle.table_store.specs.Stands.{Stands, most_segments, segment_file, segment_of}
 use Rattle.table_store.specs.State as state
 use Rattle.table_store.specs.State.{Segment, State, NoTable, HasTable, Segments}
 use Rattle.table_store.specs.TableFile.{table_file, table_name}
 use Rattle.table_store.proofs.KeyLemmas.{names_stand, segment_kept_so, segment_there}
-use Rattle.table_store.proofs.StandsLemmas.{create_stands, none_there, one_there, table_stands, table_there}
-use Rattle.pinot_run.specs.Command.{Command, Create, Listing, Scan}
+use Rattle.table_store.proofs.NameLemmas.{names_count}
+use Rattle.table_store.proofs.StandsLemmas.{create_stands, none_there, one_there, segment_stands, table_stands, table_there}
+use Rattle.pinot_run.specs.Build.{BuildRefuses, HasPlace, IsBuilt, csv_rows, new_rows, table_of as table_in, with_schema, with_settings as settled}
+use Rattle.pinot_run.specs.Command.{Build, Command, Create, Listing, Scan}
 use Rattle.pinot_run.specs.Create.{Made, beside, json_bytes, json_in, new_table, read_by, schema_in, settings_in, table_of, with_settings}
-use Rattle.pinot_run.specs.Ran.{IsStepped, Lists, Over, TableIsThere, WhereStands, files_after}
+use Rattle.pinot_run.proofs.StoredLemmas.{table_segments}
+use Rattle.pinot_run.specs.Ran.{Builds, IsStepped, Lists, Over, TableIsThere, WhereStands, files_after}
 use Rattle.pinot_run.specs.Stored.{HasRows, HasTableFile, IsListed, IsWrongSegment, SegmentsRefuse, count_in, list_text}
+use Rattle.pinot_run.specs.declared.note.Counted.TheVariants as counted
 use Rattle.pinot_run.specs.declared.note.Note.{Note}
 use Rattle.pinot_run.specs.declared.note.Note.TheVariants as note
 use Rattle.pinot_run.specs.declared.note.Note.TheVariants.{BadSchema, BadSettings}
-use Rattle.pinot_run.specs.Step.{Answer, Refuses, Replies, create_answer, created, has_table, list_answer, step_of}
+use Rattle.pinot_run.specs.Step.{After, Answer, Refuses, Replies, built, create_answer, created, has_table, list_answer, step_of, with_rows, with_table}
 
 -- ---- the texts that were made are accepted
 
@@ -122,6 +127,7 @@ none_refused stored stands (note.BadSchema wrong path) h = absurd h
 none_refused stored stands (note.BadSettings wrong path) h = absurd h
 none_refused stored stands note.TableExists h = absurd h
 none_refused stored stands note.NoTable h = refl
+none_refused stored stands (note.NameTaken name) h = absurd h
 none_refused stored stands (note.BadCsv wrong row column) h = absurd h
 none_refused stored stands (note.TooLarge what limit) h = absurd h
 none_refused stored stands (note.BadQuery wrong place) h = absurd h
@@ -148,6 +154,7 @@ module _ (stored : Files) (texts : state.Texts) (segments : Segments) (stands : 
   some_refused (note.BadSettings wrong path) h = absurd h
   some_refused note.TableExists h = absurd h
   some_refused note.NoTable h = one_there stored texts segments stands h
+  some_refused (note.NameTaken name) h = absurd h
   some_refused (note.BadCsv wrong row column) h = absurd h
   some_refused (note.TooLarge what limit) h = absurd h
   some_refused (note.BadQuery wrong place) h = absurd h
@@ -198,12 +205,99 @@ list_step stored (Refuses line) NoTable stands h = none_refused stored stands li
 list_step stored (Replies text) (HasTable texts segments) stands l = text_right stored texts segments stands text l
 list_step stored (Refuses line) (HasTable texts segments) stands h = some_refused stored texts segments stands line h
 
+-- ---- `build`
+
+read_as : (texts : state.Texts) (table : Table) → IsAccepted texts table → table_in texts ≡ Some table
+unfolding table_in
+read_as texts table accepted = ap (with_schema texts.settings) accepted.schema ∙ ap (settled table.schema) accepted.settings
+
+none_mapped : (f : Segment → List ℕ) (o : Option Segment) → option_map f o ≡ None → o ≡ None
+none_mapped f None e = refl
+none_mapped f (Some segment) e = absurd cc
+
+some_mapped : (f : Segment → List ℕ) (o : Option Segment) (bytes : List ℕ) → option_map f o ≡ Some bytes → is_some o ≡ true
+some_mapped f None bytes e = absurd cc
+some_mapped f (Some segment) bytes e = refl
+
+as_many : (n : ℕ) → 512 ≤ n → nat_le 512 n ≡ true
+as_many n le = grind (arith, nat_tests)
+
+fewer_still : (n : ℕ) → n < 512 → nat_le 512 n ≡ false
+fewer_still n lt = grind (arith, nat_tests)
+
+no_place : (stored : Files) → Stands stored NoTable → (name csv : List ℕ) (inputs : Files) (line : Note) → BuildRefuses name csv inputs stored line → Refuses line ≡ (built NoTable name csv inputs).answer
+no_place stored stands name csv inputs line (inl (inl h)) = none_refused stored stands line (table_segments stored line h)
+no_place stored stands name csv inputs line (inl (inr (inl t))) = let (bytes, got, is) = t.table_is in none_there stored stands (bytes, got)
+no_place stored stands name csv inputs line (inl (inr (inr m))) = let (bytes, got, is) = m.table_is in none_there stored stands (bytes, got)
+no_place stored stands name csv inputs line (inr l) = let (bytes, got, is) = l.place.table_is in none_there stored stands (bytes, got)
+
+module _ (stored : Files) (texts : state.Texts) (segments : Segments) (stands : Stands stored (HasTable texts segments)) (name csv : List ℕ) (inputs : Files) where
+  abbrev Built : After
+  Built = built (HasTable texts segments) name csv inputs
+
+  accepted_as : (table : Table) → HasTableFile stored table → IsAccepted texts table
+  accepted_as table is = table_stands stored texts segments table stands is
+
+  -- what is left by the rows for the new segment
+  by_rows : (table : Table) (rows : Result (List (List Value)) Note) → HasTableFile stored table → new_rows table segments name csv inputs ≡ rows → Built ≡ with_rows texts segments name table rows
+  by_rows table rows is are = ap (with_table texts segments name csv inputs) (read_as texts table (accepted_as table is)) ∙ ap (with_rows texts segments name table) are
+
+  taken_rows : (table : Table) → Has (Some stored) (file_of name) → new_rows table segments name csv inputs ≡ Err (note.NameTaken name)
+  taken_rows table (bytes, got) =
+      let there : is_some (map.get segments name) ≡ true = some_mapped (segment_file stands.table name) (map.get segments name) bytes (sym (segment_there stored texts segments stands name) ∙ got) in
+      rw there refl
+
+  free_name : Lacks (Some stored) (file_of name) → map.get segments name ≡ None
+  free_name lacks = none_mapped (segment_file stands.table name) (map.get segments name) (sym (segment_there stored texts segments stands name) ∙ lacks)
+
+  many_rows : (table : Table) → Lacks (Some stored) (file_of name) → IsFull stored → new_rows table segments name csv inputs ≡ Err (note.TooLarge counted.Segments most_segments)
+  many_rows table lacks (all, are, most) =
+      let free : is_some (map.get segments name) ≡ false = ap is_some (free_name lacks) in
+      let count : length all ≡ map.len segments = names_count stored texts segments all stands are in
+      let test : nat_le 512 (map.len segments) ≡ true = as_many (map.len segments) (omega (arith, count, most)) in
+      rw free (rw test refl)
+
+  placed_rows : (table : Table) (rows : Result (List (List Value)) Note) → HasPlace stored name table → csv_rows table.schema.fields csv (map.get inputs csv) ≡ rows → new_rows table segments name csv inputs ≡ rows
+  placed_rows table rows place are =
+      let free : is_some (map.get segments name) ≡ false = ap is_some (free_name place.free) in
+      let (all, names, fewer) = place.room in
+      let count : length all ≡ map.len segments = names_count stored texts segments all stands names in
+      let test : nat_le 512 (map.len segments) ≡ false = fewer_still (map.len segments) (omega (arith, count, fewer)) in
+      rw free (rw test are)
+
+  left_as : (table : Table) (line : Note) (new : Option Files) → Built ≡ with_rows texts segments name table (Err line) → new ≡ Some stored → IsStepped Built (Refuses line) new
+  left_as table line new is same =
+      subst (λ after. IsStepped after (Refuses line) new) (sym is) (record { answers = refl; stands = stays stored (HasTable texts segments) new stands same })
+
+  refused_step : (line : Note) (new : Option Files) → BuildRefuses name csv inputs stored line → new ≡ Some stored → IsStepped Built (Refuses line) new
+  refused_step line new (inl (inl h)) same = some_refused stored texts segments stands line (table_segments stored line h)
+  refused_step line new (inl (inr (inl t))) same =
+      left_as t.table line new (by_rows t.table (Err (note.NameTaken name)) t.table_is (taken_rows t.table t.there) ∙ ap (λ l. with_rows texts segments name t.table (Err l)) (sym t.line_is)) same
+  refused_step line new (inl (inr (inr m))) same =
+      left_as m.table line new (by_rows m.table (Err (note.TooLarge counted.Segments most_segments)) m.table_is (many_rows m.table m.free m.full) ∙ ap (λ l. with_rows texts segments name m.table (Err l)) (sym m.line_is)) same
+  refused_step line new (inr l) same = left_as l.table line new (by_rows l.table (Err line) l.place.table_is (placed_rows l.table (Err line) l.place l.rows_are)) same
+
+  built_step : (text : List ℕ) (new : Option Files) → IsBuilt inputs stored name csv text new → IsStepped Built (Replies text) new
+  built_step text new b =
+      let (all, are, fewer) = b.place.room in
+      let count : length all ≡ map.len segments = names_count stored texts segments all stands are in
+      let stands_so = segment_stands stored texts segments b.table name b.rows stands (accepted_as b.table b.place.table_is) b.named b.can (omega (arith, count, fewer)) (free_name b.place.free) in
+      subst (λ after. IsStepped after (Replies text) new) (sym (by_rows b.table (Ok b.rows) b.place.table_is (placed_rows b.table (Ok b.rows) b.place b.rows_are)))
+      (record { answers = ap Replies b.text_is; stands = subst (λ n. IsSomeAnd n (λ files. Stands files (HasTable texts (map.insert segments name (segment_of b.table b.rows))))) (sym b.leaves) stands_so })
+
+build_step : (stored : Files) (name csv : List ℕ) (inputs : Files) (answer : Answer) (new : Option Files) (before : State) → Stands stored before → Builds name csv inputs stored answer new → IsStepped (built before name csv inputs) answer new
+build_step stored name csv inputs (Replies text) new NoTable stands b = let (bytes, got, is) = b.place.table_is in none_there stored stands (bytes, got)
+build_step stored name csv inputs (Refuses line) new NoTable stands (why, same) = record { answers = no_place stored stands name csv inputs line why; stands = stays stored NoTable new stands same }
+build_step stored name csv inputs (Replies text) new (HasTable texts segments) stands b = built_step stored texts segments stands name csv inputs text new b
+build_step stored name csv inputs (Refuses line) new (HasTable texts segments) stands (why, same) = refused_step stored texts segments stands name csv inputs line new why same
+
 -- what is done over any store is the step where it stands for a state
 over_step : (command : Option Command) (inputs stored : Files) (answer : Answer) (new : Option Files) (before : State) → Stands stored before → Over command inputs (Some stored) answer new → IsStepped (step_of before command inputs) answer new
 over_step None inputs stored answer new before stands (answers, same) = record { answers = answers; stands = stays stored before new stands same }
 over_step (Some (Scan file sql)) inputs stored answer new before stands (answers, same) = record { answers = answers; stands = stays stored before new stands same }
 over_step (Some (Create schema settings)) inputs stored answer new before stands over =
     by_table (new_table schema settings inputs) stored answer new before over.there (accepted schema settings inputs) stands over.known over.answers over.leaves
+over_step (Some (Build name csv)) inputs stored answer new before stands builds = build_step stored name csv inputs answer new before stands builds
 over_step (Some Listing) inputs stored answer new before stands (lists, same) = record { answers = list_step stored answer before stands lists; stands = stays stored before new stands same }
 
 pub steps_over : (command : Option Command) (inputs stored : Option Files) (answer : Answer) (new : Option Files) → IfSome inputs (λ files. Over command files stored answer new)

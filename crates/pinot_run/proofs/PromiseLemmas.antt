@@ -131,6 +131,7 @@ module _ (command : Option Command) (old : World) (new : Devices) where
   line_left (note.BadSettings wrong path) now is = is
   line_left note.TableExists now is = is
   line_left note.NoTable now is = is
+  line_left (note.NameTaken name) now is = is
   line_left (note.BadCsv wrong row column) now is = is
   line_left (note.TooLarge what limit) now is = is
   line_left (note.BadQuery wrong place) now is = is

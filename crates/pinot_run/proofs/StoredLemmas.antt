@@ -84,13 +84,14 @@ logs_then a b c (x, is_x, each_x) (y, is_y, each_y) =
 
 -- ---- looks one after another
 
-table_segments : (files : Files) (line : Note) → TableRefuses files line → SegmentsRefuse files line
+pub table_segments : (files : Files) (line : Note) → TableRefuses files line → SegmentsRefuse files line
 table_segments files note.BadWords h = absurd h
 table_segments files (note.NoInput file) h = absurd h
 table_segments files (note.BadSchema wrong path) h = absurd h
 table_segments files (note.BadSettings wrong path) h = absurd h
 table_segments files note.TableExists h = absurd h
 table_segments files note.NoTable h = h
+table_segments files (note.NameTaken name) h = absurd h
 table_segments files (note.BadCsv wrong row column) h = absurd h
 table_segments files (note.TooLarge what limit) h = absurd h
 table_segments files (note.BadQuery wrong place) h = absurd h

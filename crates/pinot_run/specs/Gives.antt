@@ -6,9 +6,12 @@ use Rattle.outside.specs.Whole.{IsTooLong}
 use Rattle.table_schema.specs.declared.table.Table.{Table}
 use Rattle.table_store.specs.State as state
 use Rattle.table_store.specs.TableFile.{table_file, table_name}
-use Rattle.pinot_run.specs.Profile.{Opens, store_refuses, texts_refuse}
+use Rattle.pinot_run.specs.Build.{HasPlace, PlaceRefuses, built_text, csv_rows}
+use Rattle.pinot_run.specs.Profile.{Opens, TableFile, place_refuses, rows_refuse, store_refuses, texts_refuse}
 use Rattle.pinot_run.specs.Stored.{part_text}
 use Rattle.pinot_run.specs.Touched.{LogsOpened}
+use Rattle.segment_file.specs.Image.{image}
+use Rattle.segment_file.specs.Names.{file_of}
 use Rattle.segment_file.specs.declared.fault.HeadFault.{HeadFault}
 use Rattle.segment_file.specs.declared.fault.HeadFault.TheVariants as head
 use Rattle.table_schema.specs.declared.field.Field.{Field}
@@ -36,6 +39,11 @@ StopsBy found Failing (stop.Refused line) = (texts_refuse line ≡ true) × IfSo
 StopsBy found Failing (stop.Fault fault.Read) = Failing
 StopsBy found Failing (stop.Fault fault.Write) = ⊥
 StopsBy found Failing (stop.Fault fault.Memory) = Unit {0}
+
+-- a text is refused for its first fault, or memory ran out
+abbrev pub StopsText : RowsOrFault → Stop → Type 0
+StopsText whole (stop.Refused line) = (fault : CsvFault) × (whole ≡ Err fault) × (line ≡ csv_note fault)
+StopsText whole (stop.Fault why) = why ≡ fault.Memory
 
 -- an input file was not read whole: it is not there, or too long, or a read failed, or memory ran out
 abbrev pub StopsRead : List ℕ → Counted → ℕ → Option Files → Type 0 → Stop → Type 0
@@ -89,3 +97,38 @@ abbrev pub IsHeadStop : List ℕ → List Field → HeadFault → Stop → Type 
 IsHeadStop name fields (head.NotASegment part) s = (s ≡ stop.Refused (note.NotASegment name (part_text fields part))) ⊎ (s ≡ stop.Fault fault.Memory)
 IsHeadStop name fields head.ReadFault s = s ≡ stop.Fault fault.Read
 IsHeadStop name fields head.NoMemory s = s ≡ stop.Fault fault.Memory
+
+-- ---- a segment is built
+
+-- a look for a place for a segment ends: the files refuse it so, or a look failed, or memory ran out
+abbrev pub StopsPlace : List ℕ → Option Files → Stop → Type 0
+StopsPlace name held (stop.Refused line) = (place_refuses line ≡ true) × IfSome held (λ files. PlaceRefuses name files line)
+StopsPlace name held (stop.Fault fault.Read) = Unit {0}
+StopsPlace name held (stop.Fault fault.Write) = ⊥
+StopsPlace name held (stop.Fault fault.Memory) = Unit {0}
+
+-- a call read the table's file alone and changed nothing; where the files are told, they have this table with a place for a segment of this name, or refuse it so
+pub record FindsPlace (name : List ℕ) (old new : Seen) (result : Result Table Stop) : Type 0 where
+  pub reads : OnlyReads (IsErrAnd result (λ s. s ≡ stop.Fault fault.Read)) old new
+  pub log : LogsOpened TableFile old.log new.log
+  pub found : IfOk result (λ table. IfSome old.held (λ files. HasPlace files name table))
+  pub stops : IfErr result (StopsPlace name old.held)
+
+-- a name is taken, or memory ran out
+abbrev pub IsTakenStop : List ℕ → Stop → Type 0
+IsTakenStop name s = (s ≡ stop.Refused (note.NameTaken name)) ⊎ (s ≡ stop.Fault fault.Memory)
+
+-- a CSV file has no rows over these fields, or a read failed, or memory ran out
+abbrev pub StopsRows : List Field → List ℕ → Option Files → Type 0 → Stop → Type 0
+StopsRows fields csv held Failing (stop.Refused line) = (rows_refuse line ≡ true) × IfSome held (λ files. csv_rows fields csv (finite.get files csv) ≡ Err line)
+StopsRows fields csv held Failing (stop.Fault fault.Read) = Failing
+StopsRows fields csv held Failing (stop.Fault fault.Write) = ⊥
+StopsRows fields csv held Failing (stop.Fault fault.Memory) = Unit {0}
+
+-- a segment of these rows was published, or the store could not be written, or memory ran out
+abbrev pub Publishes : Table → List ℕ → List (List Value) → Seen → Seen → Result (List ℕ) Stop → Type 0
+Publishes table name rows old new (Ok text) = (new.held ≡ with_file (file_of name) (image 1 table name rows) old.held) × (text ≡ built_text name rows)
+Publishes table name rows old new (Err (stop.Refused line)) = ⊥
+Publishes table name rows old new (Err (stop.Fault fault.Read)) = ⊥
+Publishes table name rows old new (Err (stop.Fault fault.Write)) = (new.held ≡ old.held) × Rose old.write_faults new.write_faults
+Publishes table name rows old new (Err (stop.Fault fault.Memory)) = new.held ≡ old.held

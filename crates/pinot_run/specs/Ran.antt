@@ -6,9 +6,11 @@ use Rattle.outside.specs.Files.{Files, Has, Lacks, with_file}
 use Rattle.table_store.specs.State.{State}
 use Rattle.table_store.specs.Stands.{Stands}
 use Rattle.table_store.specs.TableFile.{table_file, table_name, text_limit}
-use Rattle.pinot_run.specs.Command.{Command, Create, Listing, Scan}
+use Rattle.segment_file.specs.Names.{file_of}
+use Rattle.pinot_run.specs.Build.{BuildRefuses, IsBuilt}
+use Rattle.pinot_run.specs.Command.{Build, Command, Create, Listing, Scan}
 use Rattle.pinot_run.specs.Create.{Made, new_table}
-use Rattle.pinot_run.specs.Profile.{may_read, profile}
+use Rattle.pinot_run.specs.Profile.{may_read, place_refuses, profile}
 use Rattle.pinot_run.specs.Step.{After, Answer, Refuses, Replies, create_answer, scan_answer, step_of}
 use Rattle.pinot_run.specs.Stored.{IsListed, IsWrongSegment, IsWrongTable, SegmentsRefuse}
 use Rattle.pinot_run.specs.Touched.{ReadsFront, Touched}
@@ -54,20 +56,27 @@ abbrev pub Lists : Files → Answer → Type 0
 Lists files (Replies text) = IsListed files text
 Lists files (Refuses line) = SegmentsRefuse files line
 
+-- what `build` does over any published files: a segment's file is put among them, or none
+abbrev pub Builds : List ℕ → List ℕ → Files → Files → Answer → Option Files → Type 0
+Builds name csv inputs files (Replies text) new = IsBuilt inputs files name csv text new
+Builds name csv inputs files (Refuses line) new = BuildRefuses name csv inputs files line × (new ≡ Some files)
+
 -- what a command does over any store
 abbrev pub Over : Option Command → Files → Option Files → Answer → Option Files → Type 0
 Over None inputs old answer new = (answer ≡ Refuses note.BadWords) × (new ≡ old)
 Over (Some (Scan file sql)) inputs old answer new = (answer ≡ scan_answer file sql (map.get inputs file)) × (new ≡ old)
 Over (Some (Create schema settings)) inputs old answer new = Creates (new_table schema settings inputs) old answer new
+Over (Some (Build name csv)) inputs old answer new = IfSome old (λ files. Builds name csv inputs files answer new)
 Over (Some Listing) inputs old answer new = IfSome old (λ files. Lists files answer) × (new ≡ old)
 
 -- ---- refusals
 
--- the bytes of the input files and of the table's file are refused so
+-- the bytes of the input files are refused so, and for `build` the files of the store
 abbrev pub Finds : Option Command → Files → Option Files → Note → Type 0
 Finds None inputs stored line = Unit {0}
 Finds (Some (Scan file sql)) inputs stored line = scan_answer file sql (map.get inputs file) ≡ Refuses line
 Finds (Some (Create schema settings)) inputs stored line = new_table schema settings inputs ≡ Err line
+Finds (Some (Build name csv)) inputs stored line = IfSome stored (λ files. BuildRefuses name csv inputs files line)
 Finds (Some Listing) inputs stored line = ⊥
 
 -- a published file is not what it stands for; only `list` looks at those of segments
@@ -79,14 +88,16 @@ IsWrong command files name part = IsWrongTable files name part
 abbrev pub Caused : Option Command → Option Files → Option Files → Note → Type 0
 Caused command inputs stored note.TableExists = Has stored table_name
 Caused command inputs stored note.NoTable = Lacks stored table_name
+Caused command inputs stored (note.NameTaken name) = Has stored (file_of name)
 Caused command inputs stored (note.NoInput file) = Lacks inputs file
 Caused command inputs stored (note.NotASegment name part) = IfSome stored (λ files. IsWrong command files name part)
 Caused command inputs stored line = IfSome inputs (λ files. Finds command files stored line)
 
--- how far the inputs were looked at where a command is refused so: at none where there is a table, and at the schema alone where it is refused
+-- how far the inputs were looked at where a command is refused so: by `create` at none where there is a table, and at the schema alone where it is refused; by `build` at none where the store has no place
 abbrev pub Looked : Option Command → Note → Devices → Devices → Type 0
 Looked (Some (Create schema settings)) note.TableExists old new = IfSome old.depot.held (λ _. new.inputs ≡ old.inputs)
 Looked (Some (Create schema settings)) (note.BadSchema wrong path) old new = ReadsFront schema text_limit old.inputs new.inputs
+Looked (Some (Build name csv)) line old new = place_refuses line ≡ true → new.inputs ≡ old.inputs
 Looked command line old new = Unit {0}
 
 -- an answer that the command's row has; a refusal has its cause, and leaves the store

@@ -2,6 +2,7 @@
 #![tactic(auto)]
 
 mod bad_query;
+mod build;
 mod command;
 mod create;
 mod fault;

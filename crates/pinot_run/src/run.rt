@@ -10,6 +10,7 @@ ghost use Rattle.outside.specs.Seen.{heard};
 ghost use Rattle.pinot_run.specs.World.{devices, world};
 
 use crate::Status;
+use crate::build::build;
 use crate::command::{Command, read_command};
 use crate::create::create;
 use crate::finish::{give_note, give_text, note_fault, status_of_fault};
@@ -35,6 +36,7 @@ fn reply_to<I: Shelf, D: Depot>(
     match read_command(words) {
         Some(Command::Scan(file, sql)) => scan(alloc, file, sql, inputs),
         Some(Command::Create(schema, settings)) => create(alloc, schema, settings, inputs, depot),
+        Some(Command::Build(name, csv)) => build(alloc, name, csv, inputs, depot),
         Some(Command::List) => list(alloc, depot),
         None => Err(Stop::Refused(Note::BadWords)),
     }

@@ -3,21 +3,22 @@ ghost use Rattle.std.specs.Prelude.{◌≡◌, false, codes, IfOk};
 ghost use Rattle.std.specs.List.{All};
 ghost use Rattle.outside.specs.Seen.{seen};
 ghost use Rattle.segment_file.specs.Names.{IsSegmentName};
+ghost use Rattle.segment_build.specs.Sections.{IsBare};
 ghost use Rattle.table_schema.specs.Unbuilt.{names_unbuilt};
 ghost use Rattle.table_schema.specs.ValidTable.{IsValidTable};
 ghost use Rattle.table_store.specs.Segments.{AreFirstNames};
 ghost use Rattle.table_store.specs.TableFile.{table_name};
-ghost use Rattle.pinot_run.specs.Gives.{IsStopOf, LooksFor};
+ghost use Rattle.pinot_run.specs.Gives.{FindsPlace, IsStopOf, IsTakenStop, LooksFor};
 ghost use Rattle.pinot_run.specs.Profile.{TableFile};
 ghost use Rattle.pinot_run.specs.Stored.{HasTableFile, TableRefuses};
 
 use crate::fault::Fault;
-use crate::note::Note;
+use crate::note::{Counted, Note};
 use crate::stop::Stop;
 use outside::{Depot, Name, Seq};
 use std::alloc::{AllocError, Global};
 use table_schema::Table;
-use table_store::{StoreFault, open_table, segment_names};
+use table_store::{MOST_SEGMENTS, StoreFault, find_room, open_table, segment_names};
 
 /// The table of the store.
 pub fn stored_table<D: Depot>(alloc: Global, depot: &mut D) -> Result<Table, Stop>
@@ -41,6 +42,41 @@ pub fn stored_names<D: Depot>(alloc: Global, depot: &mut D) -> Result<Seq<Name>,
     match segment_names(alloc, depot) {
         Ok(names) => Ok(names),
         Err(fault) => Err(stop_of(alloc, fault)),
+    }
+}
+
+/// The table of the store, where there is no segment of this name, and fewer than the most.
+pub fn table_with_place<D: Depot>(alloc: Global, name: &str, depot: &mut D) -> Result<Table, Stop>
+    ensures place { FindsPlace name.now (seen D.Shelf depot.old) (seen D.Shelf depot.new) result }
+    ensures valid { IfOk result (λ table. IsValidTable table) }
+    ensures bare { IfOk result (λ table. IsBare table) }
+{
+    let table = stored_table(alloc, depot)?;
+    match find_room(alloc, depot, name) {
+        Ok(()) => Ok(table),
+        Err(StoreFault::NameTaken) => Err(name_taken(alloc, name)),
+        Err(StoreFault::TooManySegments) => Err(Stop::Refused(Note::TooLarge(
+            Counted::Segments,
+            MOST_SEGMENTS as u64,
+        ))),
+        Err(StoreFault::ReadFault) => Err(Stop::Fault(Fault::Read)),
+        Err(StoreFault::NoMemory) => Err(Stop::Fault(Fault::Memory)),
+        Err(
+            StoreFault::TableExists
+            | StoreFault::NoTable
+            | StoreFault::NotASegment(_)
+            | StoreFault::WriteFault,
+        ) => unreachable!(),
+    }
+}
+
+// The refusal of a name that a segment has.
+fn name_taken(alloc: Global, name: &str) -> Stop
+    ensures { IsTakenStop name.now result }
+{
+    match name.as_bytes().to_vec(alloc) {
+        Ok(name) => Stop::Refused(Note::NameTaken(Seq::from_vec(name))),
+        Err(_) => Stop::Fault(Fault::Memory),
     }
 }
 

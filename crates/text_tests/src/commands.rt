@@ -1,7 +1,8 @@
 //! Cases of commands: what has to come, the calls that fail, and the words, with bars between them.
 //!
 //! `file NAME TEXT` and `ones NAME COUNT` give a file to be read by the commands after it, that text or a column of so
-//! many ones; `stored NAME TEXT` gives a published file of the store. The calls that fail are `DEVICE:NUMBER`, with
+//! many ones; `stored NAME TEXT` gives a published file of the store, and `segments COUNT` so many with names of segments'
+//! files, from `g1.seg` on. The calls that fail are `DEVICE:NUMBER`, with
 //! blanks between them; in their place `then` keeps the devices of the command before, and `long` makes every input file
 //! too long. A word `pad COUNT TEXT` is the text with so many bytes, by blanks at its end. The word `open?` opens the
 //! table, and `file?` shows its file.
@@ -131,6 +132,15 @@ impl Given {
         Ok(())
     }
 
+    // Adds so many published files with names of segments' files.
+    fn add_segments(&mut self, alloc: Global, count: u32) -> Result<(), AllocError> {
+        for at in 0..count {
+            let name = format!(in alloc; "g{}.seg", u64::from(at) + 1)?;
+            self.stored.push((name, Vec::new(alloc)))?;
+        }
+        Ok(())
+    }
+
     fn devices(&self, alloc: Global, calls: &str) -> Result<Devices, AllocError> {
         let files = copies(alloc, self.files.as_slice())?;
         let stored = copies(alloc, self.stored.as_slice())?;
@@ -183,6 +193,9 @@ impl Run {
     fn line(&mut self, alloc: Global, line: &str) -> Result<(), AllocError> {
         if line.starts_with('#') {
             return Ok(());
+        }
+        if let Some(count) = line.strip_prefix("segments ") {
+            return self.given.add_segments(alloc, number(count));
         }
         match file_line(alloc, line)? {
             Some(file) => self.given.add(alloc, file),
