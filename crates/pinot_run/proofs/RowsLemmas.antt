@@ -1,5 +1,5 @@
 -- The rows of the CSV file of `build`.
-use Rattle.std.proofs.Common.{◌≡◌, ◌∙◌, ◌≤◌, ◌<◌, inl, inr, ℕ, suc, List, [], ◌∷◌, length, All, nat_lt, Bool, true, false, cond, Option, Some, None, Result, Ok, Err, IfOk, IfSome, IsErrAnd, refl, sym, ap, subst, arith}
+use Rattle.std.proofs.Common.{◌≡◌, ◌≢◌, ◌∙◌, ◌≤◌, ◌<◌, inl, inr, ℕ, suc, List, [], ◌∷◌, length, All, nat_lt, Bool, true, false, cond, Option, Some, None, Result, Ok, Err, IfOk, IfSome, IsErrAnd, refl, sym, ap, subst, arith}
 use Rattle.std.specs.Prelude.{IfErr}
 use Rattle.std.specs.FinMap as tree
 use Rattle.std.specs.List.{AllByRecursion}
@@ -11,6 +11,7 @@ use Rattle.values.specs.declared.value.Value.{Value}
 use Rattle.values.specs.declared.value.Value.TheVariants.{Whole, Text}
 use Rattle.table_schema.specs.declared.field.Field.{Field}
 use Rattle.dictionary.specs.Dictionary as dictionary
+use Rattle.csv_ingest.specs.Blocks.{RowsOrFault}
 use Rattle.csv_ingest.specs.Rows.{csv_limits, records_of, rows_in}
 use Rattle.csv_ingest.specs.Unicode.{IsUnicode}
 use Rattle.csv_ingest.specs.declared.fault.CsvFault.{CsvFault}

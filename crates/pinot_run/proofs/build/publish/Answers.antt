@@ -1,4 +1,5 @@
 use Rattle.std.proofs.Common.{◌∙◌, ◌∷◌, [], sym, subst, arith}
+use Rattle.segment_build.proofs.Bares.{bare_built}
 use Rattle.segment_file.specs.Image.{image}
 use Rattle.segment_file.specs.Names.{file_of}
 use Rattle.table_store.specs.TableFile.{incoming}
@@ -24,3 +25,6 @@ returns-in-Ok-clause-writes g c = record {
   writes_later = c.write_columns.ensures.only_writes.later;
   log = c.write_columns.ensures.only_writes.log;
 }
+
+pub write_columns-requires-clause-built : goal.write_columns-requires-clause-built
+write_columns-requires-clause-built g c = bare_built c.args.table.now c.requires.bare
