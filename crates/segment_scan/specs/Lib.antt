@@ -3,3 +3,4 @@ pub mod Slots
 pub mod Faults
 pub mod Forward
 pub mod Scans
+pub mod Named

@@ -1,0 +1,37 @@
+-- Which columns a query names.
+use Rattle.std.specs.Prelude.{ℕ, Bool, false, ◌||◌, ◌==◌, List}
+use Rattle.std.specs.List.{list_any}
+use Rattle.std.specs.Option.{option_map_or}
+use Rattle.table_schema.specs.declared.query.Agg.{Agg}
+use Rattle.table_schema.specs.declared.query.BoundQuery.{BoundQuery}
+use Rattle.table_schema.specs.declared.query.Conjunct.{Conjunct}
+use Rattle.table_schema.specs.declared.query.Conjunct.TheVariants.{One, Many}
+use Rattle.table_schema.specs.declared.query.Wide.{Wide}
+use Rattle.table_schema.specs.declared.query.Wide.TheOpen.{Wide-F}
+use Rattle.table_schema.specs.declared.query.Wide.TheFolds.{fold-Wide}
+use Rattle.values.specs.Tests.{any_true}
+
+-- a number is in a list
+abbrev pub is_in : List ℕ → ℕ → Bool
+is_in numbers column = list_any (λ other. other == column) numbers
+
+-- one condition, with whether each inner one names the column in its place
+abbrev pub names_step : ℕ → Wide-F Bool → Bool
+names_step column (Wide-F.Leaf other test) = other == column
+names_step column (Wide-F.All inner) = any_true inner
+names_step column (Wide-F.Any inner) = any_true inner
+
+-- whether a test in the condition is of the column
+abbrev pub wide_names : ℕ → Wide → Bool
+wide_names column = fold-Wide Bool (names_step column)
+
+abbrev pub conjunct_names : ℕ → Conjunct → Bool
+conjunct_names column (One other test) = other == column
+conjunct_names column (Many wide) = wide_names column wide
+
+abbrev pub agg_names : ℕ → Agg → Bool
+agg_names column agg = option_map_or (λ other. other == column) agg.column false
+
+-- a condition, a group column or an aggregate of the query is of this column
+abbrev pub query_names : BoundQuery → ℕ → Bool
+query_names query column = list_any (conjunct_names column) query.conjuncts || is_in query.groups column || list_any (agg_names column) query.aggs
