@@ -1,11 +1,11 @@
 //! Cases of commands: what has to come, the calls that fail, and the words, with bars between them.
 //!
-//! `file NAME TEXT` and `ones NAME COUNT` give a file to be read by the commands after it, that text or a column of so
-//! many ones; `stored NAME TEXT` gives a published file of the store, and `segments COUNT` so many with names of segments'
-//! files, from `g1.seg` on. The calls that fail are `DEVICE:NUMBER`, with
-//! blanks between them; in their place `then` keeps the devices of the command before, and `long` makes every input file
-//! too long. A word `pad COUNT TEXT` is the text with so many bytes, by blanks at its end. The word `open?` opens the
-//! table, and `file?` shows its file.
+//! `file NAME TEXT`, `ones NAME COUNT` and `numbers NAME COUNT` give a file to be read by the commands after it, that
+//! text, a column of so many ones, or one of the numbers from 1 on; `stored NAME TEXT` gives a published file of the
+//! store, and `segments COUNT` so many with names of segments' files, from `g1.seg` on. The calls that fail are
+//! `DEVICE:NUMBER`, with blanks between them; in their place `then` keeps the devices of the command before, and `long`
+//! makes every input file too long. A word `pad COUNT TEXT` is the text with so many bytes, by blanks at its end. The
+//! word `open?` opens the table, and `file?` shows its file.
 
 use crate::cases::{Report, compared};
 use crate::devices::{Devices, Failing, Files, run_over_long_files};
@@ -29,6 +29,15 @@ fn ones(alloc: Global, count: u32) -> Result<Vec<u8>, AllocError> {
     Ok(text)
 }
 
+fn numbers(alloc: Global, count: u32) -> Result<Vec<u8>, AllocError> {
+    let mut text = Vec::from_slice(alloc, b"k\n")?;
+    for at in 0..count {
+        let line = format!(in alloc; "{}\n", u64::from(at) + 1)?;
+        text.extend_from_slice(line.as_bytes())?;
+    }
+    Ok(text)
+}
+
 fn number(text: &str) -> u32 {
     text.parse::<u32>().unwrap_or(0)
 }
@@ -44,6 +53,7 @@ fn file_line<'a>(alloc: Global, line: &'a str) -> Result<Option<FileLine<'a>>, A
     let bytes = match word {
         "file" | "stored" => unescaped(alloc, text)?,
         "ones" => ones(alloc, number(text))?,
+        "numbers" => numbers(alloc, number(text))?,
         _ => return Ok(None),
     };
     let is_stored = word == "stored";
