@@ -1,8 +1,10 @@
 -- What the functions below a command's own answer.
 use Rattle.std.specs.Prelude.{◌≡◌, ◌⊎◌, ◌++◌, true, ℕ, List, codes, Option, Result, Ok, Err, IsErrAnd, IfSome, IfErr, IfOk}
+use Rattle.std.specs.FinMap as finite
 use Rattle.outside.specs.Counts.{Rose}
 use Rattle.outside.specs.Files.{Files, Has, Lacks, with_file}
 use Rattle.outside.specs.Whole.{IsTooLong}
+use Rattle.values.specs.declared.value.Value.{Value}
 use Rattle.csv_ingest.specs.Blocks.{RowsOrFault}
 use Rattle.csv_ingest.specs.declared.fault.CsvFault.{CsvFault}
 use Rattle.table_schema.specs.declared.table.Table.{Table}

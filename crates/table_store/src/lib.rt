@@ -17,6 +17,7 @@ pub use laws::{
 pub use open::open_table;
 pub use segment_file::Part;
 pub use segments::{
-    MOST_SEGMENTS, find_room, holds_segment, publish_columns, segment_file_name, segment_names,
+    MOST_SEGMENTS, find_room, holds_segment, publish_columns, publish_segment, segment_file_name,
+    segment_names,
 };
 pub use table_file::TEXT_LIMIT;

@@ -17,11 +17,11 @@ ghost use Rattle.table_store.specs.TableFile.{incoming};
 
 use crate::StoreFault;
 use outside::{Depot, Name, NoMemory, Seq, ShelfFault};
-use segment_build::{BuildFault, write_columns};
+use segment_build::{BuildFault, columns_of, write_columns};
 use segment_file::is_segment_name;
 use std::alloc::Global;
 use table_schema::Table;
-use values::Columns;
+use values::{Columns, Rows};
 
 /// The most segments of a store.
 pub const MOST_SEGMENTS: usize = 512;
@@ -94,6 +94,47 @@ pub fn publish_columns<D: Depot>(
         Err(BuildFault::NoMemory) => Err(StoreFault::NoMemory),
         Err(BuildFault::TooLarge) => unreachable!(),
     }
+}
+
+/// The same of rows, as one list of values each.
+pub fn publish_segment<D: Depot>(
+    alloc: Global,
+    depot: &mut D,
+    table: &Table,
+    name: &str,
+    rows: &Rows,
+) -> Result<(), StoreFault>
+    requires valid { IsValidTable table.now }
+    requires bare { IsBare table.now }
+    requires name { IsSegmentName name.now }
+    requires rows { AreRows table.now.schema.fields rows.now }
+    ensures published { OnOk result (D.held depot.new ≡ with_file (file_of name.now)
+        (image 1 table.now name.now rows.now) (D.held depot.old)) }
+    ensures free { OnOk result (Lacks (D.held depot.old) (file_of name.now)) }
+    ensures room { OnOk result (IfSome (D.held depot.old) HasRoom) }
+    ensures kept { OnErr result (D.held depot.new ≡ D.held depot.old) }
+    ensures taken { IsErrOf result StoreFault.NameTaken →
+        Has (D.held depot.old) (file_of name.now) }
+    ensures many { IsErrOf result StoreFault.TooManySegments →
+        Lacks (D.held depot.old) (file_of name.now) × IfSome (D.held depot.old) IsFull }
+    ensures only { OnErr result
+        (IsErrOf result StoreFault.NameTaken ⊎ IsErrOf result StoreFault.TooManySegments
+        ⊎ IsErrOf result StoreFault.ReadFault ⊎ IsErrOf result StoreFault.WriteFault
+        ⊎ IsErrOf result StoreFault.NoMemory) }
+    ensures gone { OnOk result (D.parts depot.new ≡ without_file incoming (D.parts depot.old)) }
+    ensures other_parts { SameBut incoming (D.parts depot.old) (D.parts depot.new) }
+    ensures log { D.log depot.new ≡ D.log depot.old }
+    ensures read_failed { IsErrOf result StoreFault.ReadFault →
+        Rose (D.read_faults depot.old) (D.read_faults depot.new) }
+    ensures reads_still { ¬ IsErrOf result StoreFault.ReadFault →
+        D.read_faults depot.new ≡ D.read_faults depot.old }
+    ensures write_failed { IsErrOf result StoreFault.WriteFault →
+        Rose (D.write_faults depot.old) (D.write_faults depot.new) }
+    ensures writes_still { ¬ IsErrOf result StoreFault.WriteFault →
+        D.write_faults depot.new ≡ D.write_faults depot.old }
+{
+    let columns = columns_of(alloc, table.schema.fields.as_slice(), rows)?;
+    publish_columns(alloc, depot, table, name, &columns)
 }
 
 /// Whether a segment of this name may be put in: there is none, and there are fewer than the most.
