@@ -31,7 +31,11 @@ pub fn compared(
     let _rows = columns.len();
     match build_columns(alloc, table, name, &columns) {
         Ok(made) => {
-            let found = if made.as_slice() == file { "the same file" } else { "another file" };
+            let found = if made.as_slice() == file {
+                "the same file"
+            } else {
+                "another file"
+            };
             String::from_str(alloc, found)
         }
         Err(fault) => format!(in alloc; "{fault:?}"),

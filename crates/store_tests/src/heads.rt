@@ -53,7 +53,10 @@ fn try_costs(
 ) -> Result<String, HeadFault>
     requires { IsValidTable table.now }
 {
-    if !is_segment_name(name) || !table.settings.trees.is_empty() || table.schema.fields.is_empty() {
+    if !is_segment_name(name)
+        || !table.settings.trees.is_empty()
+        || table.schema.fields.is_empty()
+    {
         return Ok(String::from_str(alloc, "not tried")?);
     }
     let mut head = open_head(alloc, shelf, file, name, table)?;

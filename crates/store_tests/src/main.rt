@@ -19,6 +19,7 @@ use table_store::open_table;
 
 // The name of the segment, and its file.
 const NAME: &str = "s";
+
 const FILE: &str = "s.seg";
 
 // Runs everything over the file of this table's segment.
