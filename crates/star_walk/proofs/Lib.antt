@@ -1,0 +1,4 @@
+pub mod WalkSteps
+pub mod ImageSteps
+pub mod WithinSteps
+pub mod JoinSteps
