@@ -2,3 +2,4 @@ pub mod WalkSteps
 pub mod ImageSteps
 pub mod WithinSteps
 pub mod JoinSteps
+pub mod TestSteps
