@@ -1,0 +1,5 @@
+pub mod WalkSteps
+pub mod ImageSteps
+pub mod WithinSteps
+pub mod JoinSteps
+pub mod TestSteps

@@ -1,0 +1,19 @@
+//! The walk through a star-tree: which documents answer a query.
+#![tactic(auto)]
+
+mod joining;
+mod laws;
+mod pick;
+mod task;
+mod testing;
+mod walking;
+
+pub use joining::joined;
+pub use laws::{joined_law, walk_law, walkable_law};
+pub use pick::{Pick, Picks};
+pub use task::Task;
+pub use testing::passing;
+pub use walking::walk;
+
+/// A growth was refused.
+pub type NoMemory = std::alloc::AllocError;
