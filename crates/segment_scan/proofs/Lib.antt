@@ -6,3 +6,4 @@ pub mod MergeSteps
 pub mod ScanLemmas
 pub mod AgreementLemmas
 pub mod ImageLemmas
+pub mod SegmentLemmas

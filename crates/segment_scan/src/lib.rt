@@ -14,6 +14,7 @@ mod places;
 mod ranking;
 mod reading;
 mod scan;
+mod segment;
 mod selection;
 mod slots;
 
@@ -25,3 +26,4 @@ pub use laws::{agreement_law, image_law, readable_law};
 pub use named::named_columns;
 pub use reading::{read_column, read_ids};
 pub use scan::scan_columns;
+pub use segment::scan_segment;
