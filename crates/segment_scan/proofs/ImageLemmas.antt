@@ -351,7 +351,7 @@ images_read law query table files rows head valid is loaded of =
     let sizes : length front.sizes ≡ length (sections_of table) = length-map (sections_of_rows table os) length ∙ length-map (sections_of table) (section_of table os) in
     let forward : (c : ℕ) → c < length table.schema.fields → forward_in files head c ≡ section_of table os (parts.Forward c) =
     (λ c lt. ap (λ (s : List Section). bytes_in files (place_in s (parts.Forward c))) sections
-        ∙ cut_forward files of.file (section_of table os) c (front_bytes table of.name front) (front_size table of.name) (sections_of table) (front_bytes_size table of.name front sizes) of.stored (has_forward table c lt)) in
+    ∙ cut_forward files of.file (section_of table os) c (front_bytes table of.name front) (front_size table of.name) (sections_of table) (front_bytes_size table of.name front sizes) of.stored (has_forward table c lt)) in
     let few : length os ≤ 1048576 = omega (arith, tells.rows_are, is.few, is.has.rows_are) in
     record {
       count = tells.rows_are ∙ ordered_count table.settings.sorted rows;

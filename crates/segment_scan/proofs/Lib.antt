@@ -7,3 +7,4 @@ pub mod ScanLemmas
 pub mod AgreementLemmas
 pub mod ImageLemmas
 pub mod SegmentLemmas
+pub mod LogLemmas

@@ -76,7 +76,7 @@ module _ (law : ImagesRead) (query : BoundQuery) (table : Table) (held : Option 
           let read : by.rows ≡ selected_read query files head (names_in query table) = rows_are ∙ ap (λ (l : List Bool). selected_read query files head l) is in (
             reads.count,
             same.adds (length rows) old new
-            (subst (λ n. AddsRows query n (selected_read query files head (names_in query table)) old new) reads.count (subst (λ (l : List (List Value)). AddsRows query head.rows l old new) read by.adds)),
+                (subst (λ n. AddsRows query n (selected_read query files head (names_in query table)) old new) reads.count (subst (λ (l : List (List Value)). AddsRows query head.rows l old new) read by.adds)),
           )
 
   pub overfull_image : (old : KeptGroups) → IfSome held (λ files. IsOverfull query (selected_read query files head named) old) → IsImageOverfull query table held head old

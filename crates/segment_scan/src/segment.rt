@@ -1,6 +1,6 @@
 //! A segment of a table is scanned for a query.
 
-ghost use Rattle.std.specs.Prelude.{◌≡◌, ◌-◌, Err, IfOk, IsErrOf, OnOk, length};
+ghost use Rattle.std.specs.Prelude.{◌≡◌, ◌-◌, Err, IfOk, IsErrOf, OnErr, OnOk, length};
 ghost use Rattle.std.specs.List.{All};
 ghost use Rattle.outside.specs.Seen.{OnlyReads, seen};
 ghost use Rattle.agg_laws.specs.Numbers.{most_values};
@@ -10,7 +10,7 @@ ghost use Rattle.scan_engine.specs.Scanned.{HaveAtMost};
 ghost use Rattle.segment_file.specs.Heads.{IsHeadOf};
 ghost use Rattle.segment_file.specs.declared.part.Part.{Part};
 ghost use Rattle.segment_plan.specs.declared.plans.IndexChoice.TheVariants.{Unindexed};
-ghost use Rattle.segment_scan.specs.Forward.{LogsColumns};
+ghost use Rattle.segment_scan.specs.Forward.{LogsColumns, LogsSome};
 ghost use Rattle.segment_scan.specs.Images.{AddsImage, AreNamedLoaded, IsBadIn, IsImageOverfull, names_in};
 ghost use Rattle.segment_scan.specs.declared.fault.EngineFault.TheVariants.{NotASegment, ReadFault, TooManyGroups};
 
@@ -54,6 +54,8 @@ pub fn scan_segment<S: Shelf>(
         (seen S.Shelf shelf.old) (seen S.Shelf shelf.new) }
     ensures log { IfOk result (λ _. LogsColumns head.now (names_in query.now table.now)
         (length table.now.schema.fields) (S.log shelf.old) (S.log shelf.new)) }
+    ensures log_of_fault { OnErr result (LogsSome head.now (names_in query.now table.now)
+        (S.log shelf.old) (S.log shelf.new)) }
 {
     image_law();
     let named = named_columns(alloc, query, table.schema.fields.len())?;

@@ -1,10 +1,11 @@
 use Rattle.std.proofs.Common.{◌≡◌, ◌∙◌, ◌<◌, ◌≤◌, ℕ, Bool, List, Option, false, length, get_or, ap, arith}
 use Rattle.outside.specs.Files.{Files}
 use Rattle.segment_file.specs.Heads.{Seen}
-use Rattle.segment_scan.specs.Forward.{LogsColumns}
+use Rattle.segment_scan.specs.Forward.{LogsColumns, LogsSome}
 use Rattle.segment_scan.specs.Images.{AddsImage, names_in}
 use Rattle.segment_scan.specs.Scans.{AddsSegment}
 use Rattle.segment_scan.proofs.ImageLemmas.{loaded_readable}
+use Rattle.segment_scan.proofs.LogLemmas.{err_is, err_so, logs_as, logs_none}
 use Rattle.segment_scan.proofs.SegmentLemmas.{adds_image, bad_image, logs_names, mark_named, marks_are, marks_few, ok_so, overfull_image}
 use Rattle.segment_scan.proofs.segment.scan_segment.Goals as goal
 
@@ -60,3 +61,17 @@ returns-clause-log g c =
     ok_so c.scan_columns.result (LogsColumns c.args.head.now named (length named) (g.S.Shelf.log c.args.shelf.now) (g.S.Shelf.log c.scan_columns.new.shelf)) (LogsColumns c.args.head.now (names_in c.args.query.now c.args.table.now) (length c.args.table.now.schema.fields) (g.S.Shelf.log c.args.shelf.now) (g.S.Shelf.log c.scan_columns.new.shelf))
     (logs_names c.args.query.now c.args.table.now named is c.args.head.now (g.S.Shelf.log c.args.shelf.now) (g.S.Shelf.log c.scan_columns.new.shelf))
     c.scan_columns.ensures.log
+
+pub returns-clause-log_of_fault : goal.returns-clause-log_of_fault
+returns-clause-log_of_fault g c =
+    let named : List Bool = c.as_slice-named.result.now in
+    let is : named ≡ names_in c.args.query.now c.args.table.now =
+    marks_are c.args.query.now c.args.table.now named c.len.result c.len.ensures (ap length c.as_slice-named.ensures.value ∙ c.in_ok-named.ensures.count) (λ column lt. ap (λ (l : List Bool). get_or l column false) c.as_slice-named.ensures.value ∙ c.in_ok-named.ensures.each column lt) in
+    err_so c.scan_columns.result (LogsSome c.args.head.now named (g.S.Shelf.log c.args.shelf.now) (g.S.Shelf.log c.scan_columns.new.shelf)) (LogsSome c.args.head.now (names_in c.args.query.now c.args.table.now) (g.S.Shelf.log c.args.shelf.now) (g.S.Shelf.log c.scan_columns.new.shelf))
+    (logs_as c.args.head.now named (names_in c.args.query.now c.args.table.now) (g.S.Shelf.log c.args.shelf.now) (g.S.Shelf.log c.scan_columns.new.shelf) is)
+    c.scan_columns.ensures.log_of_fault
+
+pub returns-in_err-named-clause-log_of_fault : goal.returns-in_err-named-clause-log_of_fault
+returns-in_err-named-clause-log_of_fault g c =
+    let log = g.S.Shelf.log c.args.shelf.now in
+    err_is c.from_residual.result (LogsSome c.args.head.now (names_in c.args.query.now c.args.table.now) log log) (logs_none c.args.head.now (names_in c.args.query.now c.args.table.now) log)
