@@ -65,7 +65,12 @@ ok_so (Err e) A B f h = tt
 
 module _ (law : ImagesRead) (query : BoundQuery) (table : Table) (held : Option Files) (head : Seen) (valid : IsValidTable table) (of_table : IsHeadOf table head) (loaded : AreNamedLoaded query head) (named : List Bool) (is : named ≡ names_in query table) where
   pub adds_image : (old new : KeptGroups) → AddsSegment query held head named old new → AddsImage query table held head old new
-  adds_image old new by = record { added = by.rows; adds = by.adds; told = go held by.told }
+  adds_image old new by = record {
+    added = by.rows;
+    adds = by.adds;
+    read = subst (λ (l : List Bool). IfSome held (λ files. by.rows ≡ selected_read query files head l)) is by.told;
+    told = go held by.told;
+  }
     where
       go : (told : Option Files) → IfSome told (λ files. by.rows ≡ selected_read query files head named)
           → IfSome told (λ files. (rows : List (List Value)) → IsOfImage table files rows head → (head.rows ≡ length rows) × AddsRows query (length rows) (selected query (ordered table.settings.sorted rows)) old new)
@@ -84,10 +89,14 @@ module _ (law : ImagesRead) (query : BoundQuery) (table : Table) (held : Option 
     where
       go : (told : Option Files) → IfSome told (λ files. IsOverfull query (selected_read query files head named) old) → IsImageOverfull query table told head old
       go None full = tt
-      go (Some files) full = λ rows of.
-          let reads = law query table files rows head valid of_table loaded of in
-          let same = agreeing_same query (rows_of (table_read files head (names_in query table))) (ordered table.settings.sorted rows) reads.agree in
-          same.overfull old (subst (λ (l : List Bool). IsOverfull query (selected_read query files head l) old) is full)
+      go (Some files) full =
+          let read : IsOverfull query (selected_read query files head (names_in query table)) old = subst (λ (l : List Bool). IsOverfull query (selected_read query files head l) old) is full in (
+            read,
+            λ rows of.
+                let reads = law query table files rows head valid of_table loaded of in
+                let same = agreeing_same query (rows_of (table_read files head (names_in query table))) (ordered table.settings.sorted rows) reads.agree in
+                same.overfull old read,
+          )
 
   pub bad_image : (part : Part) → (column : ℕ) × (get_or named column false ≡ true) × (part ≡ Forward column) × IfSome held (λ files. ¬ HasIds files head column) → IsBadIn query table held head part
   bad_image part bad =

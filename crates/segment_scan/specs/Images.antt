@@ -18,7 +18,7 @@ use Rattle.segment_file.specs.Ordered.{ordered}
 use Rattle.segment_scan.specs.Agreement.{AgreeAll}
 use Rattle.segment_scan.specs.Forward.{HasIds, IsReadable}
 use Rattle.segment_scan.specs.Named.{query_names}
-use Rattle.segment_scan.specs.Scans.{table_read}
+use Rattle.segment_scan.specs.Scans.{selected_read, table_read}
 
 -- the file of the head is told to be the image of these rows, which the table can hold
 pub record IsOfImage (table : Table) (files : Files) (rows : List (List Value)) (head : Seen) : Type 0 where
@@ -54,16 +54,19 @@ ImagesRead =
 abbrev pub LoadedAreReadable : Type 0
 LoadedAreReadable = (table : Table) (head : Seen) (column : ℕ) → IsHeadOf table head → IsLoaded head column → IsReadable head column
 
--- some rows were added, as many as the segment has at most; where its file is told to be the image
--- of rows, those of them that satisfy the filter
+-- some rows were added, as many as the segment has at most: where files are told, the rows of the
+-- segment that satisfy the filter; where its file is told to be the image of rows, those of them that do
 pub record AddsImage (query : BoundQuery) (table : Table) (held : Option Files) (head : Seen) (old new : KeptGroups) : Type 0 where
   pub added : List (List Value)
   pub adds : AddsRows query head.rows added old new
+  pub read : IfSome held (λ files. added ≡ selected_read query files head (names_in query table))
   pub told : IfSome held (λ files. (rows : List (List Value)) → IsOfImage table files rows head → (head.rows ≡ length rows) × AddsRows query (length rows) (selected query (ordered table.settings.sorted rows)) old new)
 
--- on the image of rows: with those that satisfy the filter there are more groups than there may be
+-- where files are told: with the rows of the segment that satisfy the filter there are more groups
+-- than there may be; on the image of rows, with those of them that do
 abbrev pub IsImageOverfull : BoundQuery → Table → Option Files → Seen → KeptGroups → Type 0
-IsImageOverfull query table held head old = IfSome held (λ files. (rows : List (List Value)) → IsOfImage table files rows head → IsOverfull query (selected query (ordered table.settings.sorted rows)) old)
+IsImageOverfull query table held head old =
+    IfSome held (λ files. IsOverfull query (selected_read query files head (names_in query table)) old × ((rows : List (List Value)) → IsOfImage table files rows head → IsOverfull query (selected query (ordered table.settings.sorted rows)) old))
 
 -- the part is the forward section of a column that the query names; where files are told it has no id
 -- below the count for each row, so that its file is the image of no rows
