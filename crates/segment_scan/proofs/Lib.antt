@@ -4,3 +4,7 @@ pub mod SlotLemmas
 pub mod FoldSteps
 pub mod MergeSteps
 pub mod ScanLemmas
+pub mod AgreementLemmas
+pub mod ImageLemmas
+pub mod SegmentLemmas
+pub mod LogLemmas

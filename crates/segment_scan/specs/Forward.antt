@@ -1,5 +1,5 @@
 -- What is read of the columns of a segment.
-use Rattle.std.specs.Prelude.{◌≡◌, ◌<◌, ◌+◌, ℕ, zero, suc, Bool, true, false, All, List, length, Option, Some, None, IfSome, IsSome, get_or}
+use Rattle.std.specs.Prelude.{◌≡◌, ◌≤◌, ◌<◌, ◌+◌, ◌⊎◌, ℕ, zero, suc, Bool, true, false, All, List, length, Option, Some, None, IfSome, IsSome, get_or}
 use Rattle.outside.specs.Files.{Files}
 use Rattle.outside.specs.Reads.{Entry, LogsOn, LogsUpTo}
 use Rattle.bit_column.specs.Column.{ids_between, width_of}
@@ -63,6 +63,18 @@ LogsNamed head column true old new = LogsForward head column old new
 abbrev pub LogsColumns : Seen → List Bool → ℕ → Option (List Entry) → Option (List Entry) → Type 0
 LogsColumns head named zero old new = new ≡ old
 LogsColumns head named (suc n) old new = (between : Option (List Entry)) × LogsColumns head named n old between × LogsNamed head n (get_or named n false) between new
+
+-- nothing was read of the column, or where it is named a part of its forward section
+abbrev pub LogsPartly : Seen → ℕ → Bool → Option (List Entry) → Option (List Entry) → Type 0
+LogsPartly head column named old new = (new ≡ old) ⊎ ((named ≡ true) × LogsPart head column old new)
+
+-- the reads of the first so many columns, and then no more than a part of those of the next one
+pub record LogsSome (head : Seen) (named : List Bool) (old new : Option (List Entry)) : Type 0 where
+  pub upto : ℕ
+  pub within : upto ≤ length named
+  pub between : Option (List Entry)
+  pub before : LogsColumns head named upto old between
+  pub rest : LogsPartly head upto (get_or named upto false) between new
 
 -- why columns are not read: a forward section is named only where it belongs to a column that is
 -- named, and has no id below the count for each row

@@ -4,3 +4,5 @@ pub mod Faults
 pub mod Forward
 pub mod Scans
 pub mod Named
+pub mod Agreement
+pub mod Images

@@ -1,8 +1,8 @@
 //! The ids of the columns of a segment that are named, read from its file.
 
-ghost use Rattle.std.specs.Prelude.{◌≡◌, ◌<◌, ◌≤◌, ◌++◌, ◌∷◌, [], ℕ, IfErr, IfOk, IsErrOf, OnOk, None, false, true, get_or, length};
+ghost use Rattle.std.specs.Prelude.{◌≡◌, ◌<◌, ◌≤◌, ◌++◌, ◌∷◌, [], ℕ, IfErr, IfOk, IsErrOf, OnErr, OnOk, None, false, true, get_or, length};
 ghost use Rattle.outside.specs.Seen.{OnlyReads, seen};
-ghost use Rattle.segment_scan.specs.Forward.{IsFaultAt, IsFaultIn, IsRead, IsReadable, LogsColumns, LogsNamed};
+ghost use Rattle.segment_scan.specs.Forward.{IsFaultAt, IsFaultIn, IsRead, IsReadable, LogsColumns, LogsNamed, LogsPartly, LogsSome};
 ghost use Rattle.segment_scan.specs.declared.fault.EngineFault.TheVariants.{NoMemory, ReadFault};
 
 use crate::EngineFault;
@@ -30,6 +30,8 @@ pub fn read_columns<S: Shelf>(
     ensures only_reads { OnlyReads (IsErrOf result ReadFault)
         (seen S.Shelf shelf.old) (seen S.Shelf shelf.new) }
     ensures log { IfOk result (λ _. LogsColumns head.now named.now (length named.now)
+        (S.log shelf.old) (S.log shelf.new)) }
+    ensures log_of_fault { OnErr result (LogsSome head.now named.now
         (S.log shelf.old) (S.log shelf.new)) }
 {
     let mut all = Vec::with_capacity(alloc, named.len())?;
@@ -68,6 +70,8 @@ fn read_named<S: Shelf>(
     ensures only_reads { OnlyReads (IsErrOf result ReadFault)
         (seen S.Shelf shelf.old) (seen S.Shelf shelf.new) }
     ensures log { IfOk result (λ _. LogsNamed head.now column is_named
+        (S.log shelf.old) (S.log shelf.new)) }
+    ensures log_of_fault { OnErr result (LogsPartly head.now column is_named
         (S.log shelf.old) (S.log shelf.new)) }
 {
     if !is_named {

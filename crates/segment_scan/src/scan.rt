@@ -1,6 +1,6 @@
 //! A segment is scanned for a query: what the query names is read, and the rows are added.
 
-ghost use Rattle.std.specs.Prelude.{◌≡◌, ◌<◌, ◌≤◌, ◌-◌, ℕ, List, Err, IfOk, IfSome, IsErrOf, None, OnOk, Some, false, get_or, length, true};
+ghost use Rattle.std.specs.Prelude.{◌≡◌, ◌<◌, ◌≤◌, ◌-◌, ℕ, List, Err, IfOk, IfSome, IsErrOf, None, OnErr, OnOk, Some, false, get_or, length, true};
 ghost use Rattle.outside.specs.Seen.{OnlyReads, seen};
 ghost use Rattle.agg_laws.specs.Numbers.{most_values};
 ghost use Rattle.group_table.specs.Kept.{IsTableOf, groups_in};
@@ -9,7 +9,7 @@ ghost use Rattle.segment_file.specs.Heads.{IsLoaded};
 ghost use Rattle.segment_file.specs.declared.part.Part.{Part};
 ghost use Rattle.segment_file.specs.declared.part.Part.TheVariants.{Forward};
 ghost use Rattle.segment_scan.specs.Coded.{most_rows};
-ghost use Rattle.segment_scan.specs.Forward.{HasIds, IsReadable, LogsColumns};
+ghost use Rattle.segment_scan.specs.Forward.{HasIds, IsReadable, LogsColumns, LogsSome};
 ghost use Rattle.segment_scan.specs.Scans.{AddsSegment, IsCodedOf, selected_read};
 ghost use Rattle.segment_scan.specs.declared.fault.EngineFault.TheVariants.{NotASegment, ReadFault, TooManyGroups};
 
@@ -52,6 +52,8 @@ pub fn scan_columns<S: Shelf>(
     ensures only_reads { OnlyReads (IsErrOf result ReadFault)
         (seen S.Shelf shelf.old) (seen S.Shelf shelf.new) }
     ensures log { IfOk result (λ _. LogsColumns head.now named.now (length named.now)
+        (S.log shelf.old) (S.log shelf.new)) }
+    ensures log_of_fault { OnErr result (LogsSome head.now named.now
         (S.log shelf.old) (S.log shelf.new)) }
 {
     let ids = match read_columns(alloc, shelf, head, named) {

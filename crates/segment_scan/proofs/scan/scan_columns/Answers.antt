@@ -7,8 +7,10 @@ use Rattle.segment_file.specs.Heads.{Seen}
 use Rattle.segment_scan.specs.declared.coded.Coded.{Coded}
 use Rattle.segment_scan.specs.declared.coded.SegmentColumns.{SegmentColumns}
 use Rattle.segment_scan.specs.Coded.{table_of}
+use Rattle.segment_scan.specs.Forward.{LogsSome}
 use Rattle.segment_scan.specs.Scans.{IsCodedOf}
 use Rattle.segment_scan.proofs.ScanLemmas.{coded-all, named-of, overfull-read, rows-read}
+use Rattle.segment_scan.proofs.LogLemmas.{err_is, logs_all}
 use Rattle.segment_scan.proofs.scan.scan_columns.Goals as goal
 
 pub coded_columns-requires-clause-loaded : goal.coded_columns-requires-clause-loaded
@@ -70,3 +72,14 @@ returns-in-Err-TooManyGroups-clause-full g c = λ bad.
     overfull-read held c.args.query.now head named (selected c.args.query.now (rows_of (table_of segment))) c.args.groups.now
     (rows-read held head named ids segment c.rows.ensures c.requires.few_rows long c.in-Ok.ensures.ids of c.args.query.now)
     (c.add_segment.ensures.full (c.in-Err-TooManyGroups.is ∙ ap Err c.in-Err-TooManyGroups.field-0-is))
+
+pub returns-in_err-columns-clause-log_of_fault : goal.returns-in_err-columns-clause-log_of_fault
+returns-in_err-columns-clause-log_of_fault g c =
+    err_is c.from_residual.result (LogsSome c.args.head.now c.args.named.now (g.S.Shelf.log c.args.shelf.now) (g.S.Shelf.log c.read_columns.new.shelf))
+    (logs_all c.args.head.now c.args.named.now (g.S.Shelf.log c.args.shelf.now) (g.S.Shelf.log c.read_columns.new.shelf) c.in-Ok.ensures.log)
+
+pub returns-in-Err-TooManyGroups-clause-log_of_fault : goal.returns-in-Err-TooManyGroups-clause-log_of_fault
+returns-in-Err-TooManyGroups-clause-log_of_fault g c = logs_all c.args.head.now c.args.named.now (g.S.Shelf.log c.args.shelf.now) (g.S.Shelf.log c.read_columns.new.shelf) c.in-Ok.ensures.log
+
+pub returns-clause-log_of_fault : goal.returns-clause-log_of_fault
+returns-clause-log_of_fault g c = logs_all c.args.head.now c.args.named.now (g.S.Shelf.log c.args.shelf.now) (g.S.Shelf.log c.read_columns.new.shelf) c.in-Ok.ensures.log
