@@ -3,3 +3,4 @@ pub mod ImageSteps
 pub mod WithinSteps
 pub mod JoinSteps
 pub mod TestSteps
+pub mod KeySteps

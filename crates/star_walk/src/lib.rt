@@ -2,6 +2,7 @@
 #![tactic(auto)]
 
 mod joining;
+mod keys;
 mod laws;
 mod pick;
 mod task;
@@ -9,6 +10,7 @@ mod testing;
 mod walking;
 
 pub use joining::joined;
+pub use keys::key_of;
 pub use laws::{joined_law, walk_law, walkable_law};
 pub use pick::{Pick, Picks};
 pub use task::Task;
