@@ -1,6 +1,9 @@
 pub mod DocsOfRuns
 pub mod FaultLemmas
 pub mod FirstPlaces
+pub mod MarkLemmas
+pub mod PostingEntries
+pub mod PostingSteps
 pub mod RunLemmas
 pub mod SortedSteps
 pub mod WordLemmas

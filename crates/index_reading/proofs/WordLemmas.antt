@@ -1,9 +1,8 @@
 -- Numbers of 32 bits that are read from a section.
-use Rattle.std.proofs.Common.{◌≡◌, ◌∙◌, ◌≤◌, ◌<◌, ◌+◌, ◌-◌, ◌*◌, ◌/◌, ◌^◌, ℕ, List, All, Option, Some, None, IfSome, if◌then◌else◌, length, take, drop, get_or, inl, inr, sym, ap, subst, arith}
+use Rattle.std.proofs.Common.{◌≡◌, ◌∙◌, ◌≤◌, ◌<◌, ◌+◌, ◌-◌, ◌*◌, ◌/◌, ◌^◌, ℕ, List, All, Option, Some, None, IfSome, if◌then◌else◌, length, take, drop, inl, inr, sym, ap, subst, arith}
 use Rattle.std.proofs.Math.Nat.{eq-or-lt_of_le}
 use Rattle.std.proofs.lemmas.Bool.{le-ltb}
-use Rattle.std.proofs.lemmas.List.{get_or-drop, get_or-take}
-use Rattle.std.proofs.lemmas.List.Elements.{All-drop, All-same, All-take}
+use Rattle.std.proofs.lemmas.List.Elements.{All-same}
 use Rattle.outside.specs.Files.{Files}
 use Rattle.outside.specs.Reads.{Entry, LogsOn, LogsUpTo}
 use Rattle.outside.specs.declared.place.Place.{Place}
@@ -26,30 +25,6 @@ words_bad (Some files) place limit from to order bad = λ list small below le is
       All-same (λ n. n < limit) (ids_between 32 from to (spelled 32 list)) (take (to - from) (drop from list)) (ids-written 32 from to list small order le) below,
     ) in
     bad (subst (Readable 32 limit from to) (sym is) there)
-
--- where all numbers are below a limit, those between two indexes are
-pub ends_below : (held : Option Files) (place : Place) (limit from to : ℕ)
-    → IfSome held (λ files. (list : List ℕ) → All (λ n. n < 2 ^ 32) list → All (λ n. n < limit) (take (to - from) (drop from list)) → to ≤ length list → section files place ≡ spelled 32 list → ⊥)
-    → IfSome held (λ files. (list : List ℕ) → All (λ n. n < 2 ^ 32) list → All (λ n. n < limit) list → to ≤ length list → section files place ≡ spelled 32 list → ⊥)
-ends_below None place limit from to bad = tt
-ends_below (Some files) place limit from to bad = λ list small all le is.
-    bad list small (All-take (λ n. n < limit) (to - from) (drop from list) (All-drop (λ n. n < limit) from list all)) le is
-
-taken_at : (list : List ℕ) (from n i : ℕ) → i < n → get_or (take n (drop from list)) i 0 ≡ get_or list (from + i) 0
-taken_at list from n i lt = get_or-take n (drop from list) i 0 lt ∙ get_or-drop from list i 0
-
--- the first and the last of the numbers that were read
-pub ends_read : (held : Option Files) (place : Place) (from to a b : ℕ) (words : List ℕ) → from < to → length words ≡ to - from → a ≡ get_or words 0 0 → b ≡ get_or words (length words - 1) 0
-    → IfSome held (λ files. (list : List ℕ) → All (λ n. n < 2 ^ 32) list → to ≤ length list → section files place ≡ spelled 32 list → words ≡ take (to - from) (drop from list))
-    → IfSome held (λ files. (list : List ℕ) → All (λ n. n < 2 ^ 32) list → to ≤ length list → section files place ≡ spelled 32 list → (a ≡ get_or list from 0) × (b ≡ get_or list (to - 1) 0))
-ends_read None place from to a b words order long first last read = tt
-ends_read (Some files) place from to a b words order long first last read = λ list small le is.
-    let same = read list small le is in
-    let start : from + 0 ≡ from = omega arith in
-    let end : from + (length words - 1) ≡ to - 1 = omega (arith, order, long) in (
-      first ∙ ap (λ ws. get_or ws 0 0) same ∙ taken_at list from (to - from) 0 (omega (arith, order)) ∙ ap (λ n. get_or list n 0) start,
-      last ∙ ap (λ ws. get_or ws (length words - 1) 0) same ∙ taken_at list from (to - from) (length words - 1) (omega (arith, order, long)) ∙ ap (λ n. get_or list n 0) end,
-    )
 
 -- four bytes a number
 pub four_first : (from : ℕ) → from * 32 / 8 ≡ 4 * from

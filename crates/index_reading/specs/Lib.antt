@@ -1,3 +1,5 @@
 pub mod Documents
-pub mod Stretches
+pub mod Entries
+pub mod Logs
 pub mod Runs
+pub mod Stretches

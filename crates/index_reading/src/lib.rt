@@ -2,13 +2,17 @@
 //! ids.
 #![tactic(auto)]
 
+mod documents;
 mod ends;
 mod fault;
+mod inverted;
 mod kind;
+mod marks;
+mod postings;
 mod runs;
 mod sorted;
 mod word_reading;
 
+pub use documents::docs_of_ids;
 pub use fault::ListFault;
 pub use kind::ListKind;
-pub use sorted::sorted_docs;

@@ -1,0 +1,49 @@
+//! The documents of ids.
+ghost use Rattle.std.specs.Prelude.{◌≡◌, ◌≤◌, ◌<◌, ℕ, List, All, IfOk, OnErr, IfSome, IsErrOf};
+ghost use Rattle.outside.specs.Seen.{OnlyReads, seen};
+ghost use Rattle.bit_column.specs.Sections.{section};
+ghost use Rattle.doc_lists.specs.Sets.{AreThose};
+ghost use Rattle.index_reading.specs.Documents.{Tells, is_doc_of};
+ghost use Rattle.index_reading.specs.Logs.{LogsIds, LogsIdsPartly};
+
+use crate::inverted::inverted_docs;
+use crate::sorted::sorted_docs;
+use crate::{ListFault, ListKind};
+use dictionary::IdSet;
+use doc_lists::DocList;
+use outside::{Place, Shelf};
+use std::alloc::Global;
+
+/// The documents whose ids are in a set, ascending, by the section of a sorted column or of an
+/// inverted index. Of the section what it has of these ids is read, each byte once, and nothing
+/// else: one read for the ids of a run that follow one another, or in an inverted index two.
+pub fn docs_of_ids<S: Shelf>(
+    alloc: Global,
+    shelf: &mut S,
+    place: &Place,
+    kind: ListKind,
+    count: u32,
+    rows: u32,
+    ids: &IdSet,
+) -> Result<DocList, ListFault>
+    requires below { All (λ id. id < count) ids.now }
+    requires few { count ≤ 1048576 }
+    requires rows { rows ≤ 1048576 }
+    ensures docs { IfOk result (λ docs. IfSome (S.held shelf.old) (λ files. (told : List ℕ) →
+        Tells kind count rows (section files place.now) told →
+        AreThose (is_doc_of ids.now told) docs)) }
+    ensures within { IfOk result (λ docs. All (λ doc. doc < rows) docs) }
+    ensures only_reads { OnlyReads (IsErrOf result ListFault.ReadFault)
+        (seen S.Shelf shelf.old) (seen S.Shelf shelf.new) }
+    ensures log { IfOk result (λ _. LogsIds kind ids.now (S.held shelf.old) place.now count rows
+        (S.log shelf.old) (S.log shelf.new)) }
+    ensures log_of_fault { OnErr result (LogsIdsPartly kind ids.now (S.held shelf.old) place.now
+        count rows (S.log shelf.old) (S.log shelf.new)) }
+    ensures bad { IsErrOf result ListFault.BadList → IfSome (S.held shelf.old) (λ files.
+        (told : List ℕ) → Tells kind count rows (section files place.now) told → ⊥) }
+{
+    match kind {
+        ListKind::Sorted => sorted_docs(alloc, shelf, place, count, rows, ids),
+        ListKind::Inverted => inverted_docs(alloc, shelf, place, count, rows, ids),
+    }
+}

@@ -1,0 +1,101 @@
+//! The documents of keys in postings: the offsets of the keys are read first, and then their entries.
+ghost use Rattle.std.specs.Prelude.{◌≡◌, ◌≤◌, ◌<◌, ℕ, List, All, IfOk, OnErr, OnOk, IfSome, IsErrOf, length, map};
+ghost use Rattle.outside.specs.Seen.{OnlyReads, seen};
+ghost use Rattle.bit_column.specs.Sections.{section};
+ghost use Rattle.doc_lists.specs.Docs.{Apart};
+ghost use Rattle.index_reading.specs.Entries.{ArePartsOf, Marked, Rising, TellsPostings, entries_at, entries_in, offsets_of};
+ghost use Rattle.index_reading.specs.Stretches.{LogsOver, LogsPartly};
+
+use crate::ListFault;
+use crate::ends::{Ends, read_ends};
+use crate::marks::mark_all;
+use crate::word_reading::read_words;
+use doc_lists::Run;
+use outside::{Place, Shelf};
+use std::alloc::Global;
+
+/// Where the entries of runs of keys begin and end. Of each run the offsets of its keys are read, in
+/// one read, and nothing else.
+pub fn read_parts<S: Shelf>(
+    alloc: Global,
+    shelf: &mut S,
+    place: &Place,
+    count: u32,
+    rows: u32,
+    runs: &[Run],
+) -> Result<Vec<Ends>, ListFault>
+    requires apart { Apart 0 runs.now }
+    requires within { All (λ run. run.last < count) runs.now }
+    requires few { count ≤ 1048576 }
+    requires rows { rows ≤ 1048576 }
+    ensures parts { IfOk result (λ parts.
+        ArePartsOf (S.held shelf.old) place.now count rows runs.now parts.items) }
+    ensures rising { IfOk result (λ parts. Rising 0 rows parts.items) }
+    ensures number { IfOk result (λ parts. length parts.items ≡ length runs.now) }
+    ensures only_reads { OnlyReads (IsErrOf result ListFault.ReadFault)
+        (seen S.Shelf shelf.old) (seen S.Shelf shelf.new) }
+    ensures log { IfOk result (λ _. LogsOver place.now.file
+        (map (offsets_of place.now.offset) runs.now) (S.log shelf.old) (S.log shelf.new)) }
+    ensures log_of_fault { OnErr result (LogsPartly place.now.file
+        (map (offsets_of place.now.offset) runs.now) (S.log shelf.old) (S.log shelf.new)) }
+    ensures bad { IsErrOf result ListFault.BadList → IfSome (S.held shelf.old) (λ files.
+        (keys : List ℕ) → TellsPostings count rows (section files place.now) keys → ⊥) }
+{
+    let mut parts = match Vec::with_capacity(alloc, runs.len()) {
+        Ok(parts) => parts,
+        Err(_) => return Err(ListFault::NoMemory),
+    };
+    let mut end = 0;
+    for run in runs {
+        let part = match read_ends(alloc, shelf, place, rows + 1, run.first, run.last + 2) {
+            Ok(part) => part,
+            Err(fault) => return Err(fault),
+        };
+        if part.first < end || part.last < part.first {
+            return Err(ListFault::BadList);
+        }
+        match parts.push(part) {
+            Ok(()) => end = part.last,
+            Err(_) => return Err(ListFault::NoMemory),
+        }
+    }
+    Ok(parts)
+}
+
+/// Marks the documents that are the entries of parts. Each part is read in one read, and nothing else.
+pub fn mark_entries<S: Shelf>(
+    alloc: Global,
+    shelf: &mut S,
+    place: &Place,
+    count: u32,
+    parts: &[Ends],
+    marks: &mut [bool],
+) -> Result<(), ListFault>
+    requires rising { Rising 0 (length marks.old) parts.now }
+    requires few { count ≤ 1048576 }
+    requires rows { length marks.old ≤ 1048576 }
+    ensures marked { OnOk result (IfSome (S.held shelf.old) (λ files. (keys : List ℕ) →
+        TellsPostings count (length marks.old) (section files place.now) keys →
+        Marked (entries_in count keys parts.now) marks.old marks.new)) }
+    ensures only_reads { OnlyReads (IsErrOf result ListFault.ReadFault)
+        (seen S.Shelf shelf.old) (seen S.Shelf shelf.new) }
+    ensures log { OnOk result (LogsOver place.now.file
+        (map (entries_at place.now.offset count) parts.now) (S.log shelf.old) (S.log shelf.new)) }
+    ensures log_of_fault { OnErr result (LogsPartly place.now.file
+        (map (entries_at place.now.offset count) parts.now) (S.log shelf.old) (S.log shelf.new)) }
+    ensures bad { IsErrOf result ListFault.BadList → IfSome (S.held shelf.old) (λ files.
+        (keys : List ℕ) →
+        TellsPostings count (length marks.old) (section files place.now) keys → ⊥) }
+{
+    let rows = marks.len() as u32;
+    for part in parts {
+        let first = count + 1 + part.first;
+        let last = count + 1 + part.last;
+        let words = match read_words(alloc, shelf, place, rows, first, last) {
+            Ok(words) => words,
+            Err(fault) => return Err(fault),
+        };
+        mark_all(words.as_slice(), marks);
+    }
+    Ok(())
+}
