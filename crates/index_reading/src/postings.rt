@@ -1,4 +1,4 @@
-//! The documents of keys in postings: the offsets of the keys are read first, and then their entries.
+//! The documents of keys in postings: the offsets of the keys are read, and then their entries.
 ghost use Rattle.std.specs.Prelude.{◌≡◌, ◌≤◌, ◌<◌, ℕ, List, All, IfOk, OnErr, OnOk, IfSome, IsErrOf, length, map};
 ghost use Rattle.outside.specs.Seen.{OnlyReads, seen};
 ghost use Rattle.bit_column.specs.Sections.{section};
@@ -14,8 +14,8 @@ use doc_lists::Run;
 use outside::{Place, Shelf};
 use std::alloc::Global;
 
-/// Where the entries of runs of keys begin and end. Of each run the offsets of its keys are read, in
-/// one read, and nothing else.
+/// Where the entries of runs of keys begin and end. Of each run the offsets of its keys are read,
+/// in one read, and nothing else.
 pub fn read_parts<S: Shelf>(
     alloc: Global,
     shelf: &mut S,
@@ -62,7 +62,8 @@ pub fn read_parts<S: Shelf>(
     Ok(parts)
 }
 
-/// Marks the documents that are the entries of parts. Each part is read in one read, and nothing else.
+/// Marks the documents that are the entries of parts. Each part is read in one read, and nothing
+/// else.
 pub fn mark_entries<S: Shelf>(
     alloc: Global,
     shelf: &mut S,
