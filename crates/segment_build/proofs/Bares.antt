@@ -1,5 +1,5 @@
 -- Tables without range indexes and star-trees.
-use Rattle.std.proofs.Common.{◌≡◌, ◌+◌, ◌∷◌, ◌||◌, [], false, true, not, Bool, ℕ, List, Option, Some, None, is_some, refl}
+use Rattle.std.proofs.Common.{◌≡◌, ◌+◌, ◌∷◌, ◌||◌, [], false, true, not, Bool, ℕ, List, Option, Some, None, refl}
 use Rattle.table_schema.specs.Unbuilt.{is_no_tree, is_set_anywhere}
 use Rattle.table_schema.specs.declared.table.Table.{Table}
 use Rattle.segment_file.specs.Parts.{marked, marked_from}
@@ -22,15 +22,13 @@ none_not : (b : Bool) → not b ≡ false → b ≡ true
 none_not true e = refl
 none_not false e = absurd cc
 
--- a table without all indexes and star-trees has no range indexes and star-trees
+-- what is built so far
 pub bare_built : (table : Table) → IsBare table → HasNoRangeOrTree table
 bare_built table bare =
     let s = table.settings in
-    let indexed : Bool = is_some s.sorted || is_set_anywhere s.inverted || is_set_anywhere s.ranged in
-    let first : indexed ≡ false = left_false indexed (not (is_no_tree s.trees)) bare.built in
     record {
-      no_range = right_false (is_some s.sorted || is_set_anywhere s.inverted) (is_set_anywhere s.ranged) first;
-      no_tree = none_not (is_no_tree s.trees) (right_false indexed (not (is_no_tree s.trees)) bare.built);
+      no_range = left_false (is_set_anywhere s.ranged) (not (is_no_tree s.trees)) bare.built;
+      no_tree = none_not (is_no_tree s.trees) (right_false (is_set_anywhere s.ranged) (not (is_no_tree s.trees)) bare.built);
     }
 
 pub no_ranged : (table : Table) → HasNoRangeOrTree table → marked table.settings.ranged ≡ []

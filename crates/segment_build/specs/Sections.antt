@@ -15,7 +15,7 @@ use Rattle.segment_file.specs.Image.{dictionary_of, place_of, section_of}
 use Rattle.segment_file.specs.Parts.{marked}
 use Rattle.segment_build.specs.declared.indexes.Indexes.{Indexes}
 
--- a table without a sorted column, other indexes and star-trees
+-- a table whose settings name nothing that is not built so far
 pub record IsBare (table : Table) : Type 0 where
   pub built : names_unbuilt table.settings ≡ false
 
