@@ -1,5 +1,5 @@
 -- The groups of a query over the rows of segments, one segment after the other.
-use Rattle.std.proofs.Common.{◌≡◌, ◌∙◌, ◌+◌, ◌<◌, ◌≤◌, ◌++◌, ℕ, zero, suc, Bool, true, false, cond, nat_lt, List, [], ◌∷◌, length, take, drop, get_or, Option, Some, None, IfSome, Result, Ok, Err, refl, sym, ap, subst, arith, append-nil, add-one}
+use Rattle.std.proofs.Common.{◌≡◌, ◌∙◌, ◌+◌, ◌<◌, ◌++◌, ℕ, zero, suc, true, cond, nat_lt, List, [], ◌∷◌, length, take, drop, get_or, Option, Some, None, IfSome, Ok, Err, refl, sym, ap, subst, arith, append-nil, add-one}
 use Rattle.std.specs.FinMap as finite
 use Rattle.std.specs.List.{AllZip, Contains, flat_map}
 use Rattle.std.proofs.Math.Seq.{take-suc}
@@ -18,12 +18,11 @@ use Rattle.group_table.specs.Kept.{IsNew, KeptGroups, groups_in}
 use Rattle.group_table.specs.Shape.{Shape, shape_of}
 use Rattle.broker_merge.specs.Answer.{answer_of, answer_text}
 use Rattle.broker_merge.specs.Reply.{Reply, reply_over}
-use Rattle.scan_engine.specs.Scanned.{AddsRows, IsOverfull, selected}
+use Rattle.scan_engine.specs.Scanned.{AddsRows, selected}
 use Rattle.scan_engine.proofs.AddLemmas.{len_more}
 use Rattle.segment_file.specs.Ordered.{ordered}
-use Rattle.sql_reply.specs.Reply.{conjuncts_reply, most_groups}
-use Rattle.sql_reply.specs.SqlReply.{SqlReply, replied}
-use Rattle.sql_reply.specs.declared.fault.SqlFault.{SqlFault}
+use Rattle.sql_reply.specs.Reply.{most_groups}
+use Rattle.sql_reply.specs.SqlReply.{replied}
 use Rattle.sql_reply.specs.declared.fault.SqlFault.TheVariants.{TooManyGroups}
 use Rattle.query_executor.specs.Answers.{IsBoundReply}
 use Rattle.query_executor.specs.Segments.{HasImage, stored_rows}

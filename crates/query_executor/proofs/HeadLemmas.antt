@@ -1,7 +1,7 @@
 -- The head of a segment's file, and dictionaries that are loaded into it.
-use Rattle.std.proofs.Common.{◌≡◌, ◌≢◌, ◌∙◌, ◌<◌, ◌+◌, ◌==◌, ℕ, zero, suc, Bool, true, false, All, List, [], ◌∷◌, length, map, get_or, slice_get, Option, Some, None, IfSome, refl, sym, ap, subst, arith}
+use Rattle.std.proofs.Common.{◌≡◌, ◌≢◌, ◌∙◌, ◌<◌, ◌+◌, ◌==◌, ℕ, zero, suc, Bool, true, false, List, [], ◌∷◌, length, map, get_or, slice_get, Option, Some, None, IfSome, refl, sym, ap, subst, arith}
 use Rattle.std.proofs.lemmas.Bool.{eq-eqb, eqb-true, false≢true}
-use Rattle.std.proofs.lemmas.Option.{get_or_from_slice_get, slice_get_within}
+use Rattle.std.proofs.lemmas.Option.{get_or_from_slice_get}
 use Rattle.outside.specs.Files.{Files, bytes_of}
 use Rattle.outside.specs.Reads.{Entry, LogsUpTo}
 use Rattle.values.specs.declared.value.Value.{Value}
@@ -10,7 +10,7 @@ use Rattle.table_schema.specs.ValidTable.{IsValidTable}
 use Rattle.dictionary.specs.Dictionary.{Distinct}
 use Rattle.segment_file.specs.declared.section.Section.{Section}
 use Rattle.segment_file.specs.Bounds.{bounds_of}
-use Rattle.segment_file.specs.Front.{Front, extents_of}
+use Rattle.segment_file.specs.Front.{extents_of}
 use Rattle.segment_file.specs.Heads.{AreIn, IsHead, IsHeadOf, IsLoaded, IsPartOf, KeepsRules, Loads, OfWhole, Seen, dictionary_section, placed}
 use Rattle.segment_file.specs.Image.{CanHold, dictionary_of, front_of, image}
 use Rattle.segment_file.specs.Laws.{ImageKeeps}
@@ -18,9 +18,8 @@ use Rattle.segment_file.specs.Names.{IsSegmentName, file_of}
 use Rattle.segment_file.specs.Ordered.{ordered}
 use Rattle.segment_file.specs.Parts.{columns_of, sections_of}
 use Rattle.segment_file.proofs.Composed.{made_count}
-use Rattle.segment_scan.specs.Images.{IsOfImage}
 use Rattle.query_executor.specs.Logs.{LogsIn}
-use Rattle.query_executor.specs.Segments.{HasImage, HasNoImage}
+use Rattle.query_executor.specs.Segments.{HasNoImage}
 use Rattle.query_executor.specs.Steps.{Grows, IsHeadIn}
 use Rattle.query_executor.proofs.LogLemmas.{logs_through}
 

@@ -1,5 +1,5 @@
 -- The columns that a query names are fields of its table.
-use Rattle.std.proofs.Common.{◌≡◌, ◌∙◌, ◌<◌, ◌==◌, ◌||◌, ◌&&◌, ◌++◌, ◌∷◌, [], ℕ, Bool, true, false, Option, Some, None, List, map, length, refl, sym, ap, subst, arith}
+use Rattle.std.proofs.Common.{◌≡◌, ◌∙◌, ◌<◌, ◌==◌, ◌||◌, ◌&&◌, ◌∷◌, [], ℕ, Bool, true, false, Option, Some, None, List, map, length, refl, sym, ap, subst}
 use Rattle.std.specs.List.{flat_map, list_all, list_any}
 use Rattle.std.specs.Option.{option_map_or}
 use Rattle.std.proofs.lemmas.Bool.{eqb-true, false≢true, ltb-true}
@@ -17,8 +17,8 @@ use Rattle.table_schema.specs.declared.query.Wide.TheViews.{roll-Wide}
 use Rattle.table_schema.specs.declared.table.Table.{Table}
 use Rattle.table_schema.specs.ValidQuery.{IsValidQuery, conjunct_known, fields_of, fields_step}
 use Rattle.table_schema.specs.ValidSettings.{is_known_number, is_number_of}
-use Rattle.segment_file.specs.Heads.{IsLoaded, Seen}
-use Rattle.segment_plan.specs.Matched.{AreLoaded, is_filtered, is_on}
+use Rattle.segment_file.specs.Heads.{Seen}
+use Rattle.segment_plan.specs.Matched.{AreLoaded, is_on}
 use Rattle.segment_scan.specs.Images.{AreNamedLoaded}
 use Rattle.segment_scan.specs.Named.{agg_names, conjunct_names, is_in, names_step, query_names, wide_names}
 

@@ -1,6 +1,5 @@
 -- The plan of a segment of a table without indexes and star-trees, and segments of which no row satisfies a query.
 use Rattle.std.proofs.Common.{◌≡◌, ◌∙◌, ◌||◌, ◌&&◌, not, ℕ, zero, suc, Bool, true, false, cond, All, List, [], ◌∷◌, map, slice_get, Option, Some, None, is_some, refl, sym, ap, subst}
-use Rattle.std.specs.List.{list_any}
 use Rattle.std.proofs.lemmas.Bool.{false≢true}
 use Rattle.std.proofs.lemmas.List.Elements.{All-map}
 use Rattle.values.specs.declared.value.Value.{Value}
@@ -10,7 +9,6 @@ use Rattle.table_schema.specs.declared.query.Conjunct.TheVariants.{One, Many}
 use Rattle.table_schema.specs.declared.settings.Settings.{Settings}
 use Rattle.table_schema.specs.declared.settings.TreeSetting.{TreeSetting}
 use Rattle.table_schema.specs.declared.table.Table.{Table}
-use Rattle.table_schema.specs.Conditions.{all_hold}
 use Rattle.table_schema.specs.NeedIds.{is_set}
 use Rattle.table_schema.specs.Unbuilt.{is_no_tree, is_set_anywhere, names_unbuilt}
 use Rattle.scan_engine.specs.Scanned.{selected}
@@ -25,7 +23,7 @@ use Rattle.dictionary.specs.Ids.{matching}
 use Rattle.segment_plan.specs.Choices.{are_consecutive, choice_of, is_sorted_on}
 use Rattle.segment_plan.specs.Matched.{values_in}
 use Rattle.segment_plan.specs.Laws.{NoneHolds}
-use Rattle.segment_plan.specs.Plan.{is_emptied, plan_of, scan_of, tree_or}
+use Rattle.segment_plan.specs.Plan.{is_emptied, plan_of, tree_or}
 use Rattle.segment_plan.specs.Pruning.{is_pruned}
 
 -- ---- settings without indexes and star-trees

@@ -1,15 +1,14 @@
 -- What a segment adds to the groups of a query.
-use Rattle.std.proofs.Common.{◌≡◌, ◌∙◌, ◌≤◌, ◌-◌, ℕ, List, [], Option, Some, None, IfSome, Result, Ok, Err, length, refl, sym, ap, subst, arith}
+use Rattle.std.proofs.Common.{◌≡◌, ◌≤◌, ◌-◌, ℕ, List, [], Option, Some, None, IfSome, Result, Ok, Err, length, sym, subst, arith}
 use Rattle.std.specs.Prelude.{OnOk}
 use Rattle.outside.specs.Files.{Files}
-use Rattle.outside.specs.Reads.{Entry}
 use Rattle.values.specs.declared.value.Value.{Value}
 use Rattle.agg_laws.specs.Numbers.{most_values}
 use Rattle.table_schema.specs.declared.query.BoundQuery.{BoundQuery}
 use Rattle.table_schema.specs.declared.table.Table.{Table}
 use Rattle.table_schema.specs.ValidTable.{IsValidTable}
 use Rattle.group_table.specs.Kept.{IsTableOf, KeptGroups, groups_in}
-use Rattle.scan_engine.specs.Scanned.{AddsRows, HaveAtMost, IsOverfull, selected}
+use Rattle.scan_engine.specs.Scanned.{AddsRows, HaveAtMost, selected}
 use Rattle.scan_engine.proofs.AddLemmas.{adds_nothing, at_most_more}
 use Rattle.segment_file.specs.Heads.{IsHeadOf, Seen}
 use Rattle.segment_file.specs.Ordered.{ordered}

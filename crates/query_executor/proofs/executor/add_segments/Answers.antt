@@ -1,6 +1,5 @@
-use Rattle.std.proofs.Common.{◌≡◌, ◌∙◌, ◌+◌, ◌*◌, ◌-◌, ◌<◌, ◌≤◌, [], ℕ, List, IfSome, Ok, Err, length, get_or, refl, sym, ap, subst, arith}
-use Rattle.outside.specs.Files.{Files}
-use Rattle.outside.specs.Seen.{OnlyReads, Seen, seen}
+use Rattle.std.proofs.Common.{◌≡◌, ◌∙◌, ◌+◌, ◌*◌, ◌-◌, ◌<◌, [], ℕ, List, IfSome, Err, length, get_or, sym, ap, subst, arith}
+use Rattle.outside.specs.Seen.{Seen, seen}
 use Rattle.agg_laws.specs.Numbers.{most_values}
 use Rattle.segment_file.specs.Names.{file_of}
 use Rattle.segment_scan.specs.declared.fault.EngineFault.TheVariants as engine
@@ -10,7 +9,7 @@ use Rattle.group_table.specs.Shape.{shape_of}
 use Rattle.scan_engine.specs.Scanned.{HaveAtMost}
 use Rattle.scan_engine.proofs.AddLemmas.{at_most_more}
 use Rattle.sql_reply.proofs.GroupLemmas.{none_fit}
-use Rattle.query_executor.specs.Logs.{IsFileOf, LogsOf}
+use Rattle.query_executor.specs.Logs.{IsFileOf}
 use Rattle.query_executor.specs.Segments.{HasNoImage}
 use Rattle.query_executor.specs.Steps.{AddsStored, HasGroups, IsStoredOverfull, fault_at}
 use Rattle.query_executor.specs.declared.fault.ExecutorFault.TheVariants.{ReadFault}

@@ -1,9 +1,6 @@
-use Rattle.std.proofs.Common.{◌≡◌, ◌∙◌, ℕ, List, Ok, Err, IfSome, refl, sym, ap, subst}
-use Rattle.outside.specs.Seen.{Seen, seen}
+use Rattle.std.proofs.Common.{◌≡◌, Err, ap}
 use Rattle.query_executor.specs.declared.fault.ExecutorFault.TheVariants.{NotASegment}
-use Rattle.query_executor.proofs.GroupLemmas.{all_answered, too_many_refused}
-use Rattle.query_executor.proofs.LogLemmas.{logs_none, reads_as, reads_none}
-use Rattle.query_executor.proofs.ReplyLemmas.{groups_no_text}
+use Rattle.query_executor.proofs.GroupLemmas.{all_answered}
 use Rattle.query_executor.proofs.executor.reply_to_bound.Goals as goal
 
 pub returns-clause-reply : goal.returns-clause-reply

@@ -1,5 +1,4 @@
-use Rattle.std.proofs.Common.{◌≡◌, ◌∙◌, ℕ, List, Ok, Err, IfSome, refl, sym, ap, subst}
-use Rattle.sql_reply.specs.SqlReply.{sql_reply}
+use Rattle.std.proofs.Common.{◌≡◌, ◌∙◌, ℕ, List, Ok, Err, IfSome, refl, sym, ap}
 use Rattle.query_executor.specs.Answers.{IsBoundReply, IsReply}
 use Rattle.query_executor.proofs.ReplyLemmas.{fault_so, found_so, reply_so, text_real}
 use Rattle.query_executor.proofs.executor.reply_to_query.Goals as goal

@@ -1,4 +1,4 @@
-use Rattle.std.proofs.Common.{◌≡◌, ◌∙◌, Err, sym}
+use Rattle.std.proofs.Common.{◌≡◌, ◌∙◌, sym}
 use Rattle.segment_scan.specs.declared.fault.EngineFault.TheVariants as engine
 use Rattle.query_executor.proofs.FaultLemmas.{bad_head}
 use Rattle.query_executor.proofs.HeadLemmas.{dictionary_log, grows_one, unread_none}

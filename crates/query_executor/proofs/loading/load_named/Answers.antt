@@ -1,9 +1,8 @@
-use Rattle.std.proofs.Common.{◌≡◌, ◌∙◌, ◌+◌, ◌<◌, ◌≤◌, ◌==◌, ℕ, Bool, true, false, List, IfSome, Ok, Err, length, get_or, refl, sym, ap, subst, arith}
+use Rattle.std.proofs.Common.{◌≡◌, ◌∙◌, ◌<◌, false, IfSome, length, get_or, sym, subst, arith}
 use Rattle.std.proofs.lemmas.List.{get_or_read}
 use Rattle.outside.specs.Seen.{Seen, seen}
-use Rattle.segment_file.specs.Heads.{AreIn, IsLoaded}
+use Rattle.segment_file.specs.Heads.{AreIn}
 use Rattle.segment_scan.specs.Named.{query_names}
-use Rattle.query_executor.specs.Logs.{LogsIn}
 use Rattle.query_executor.specs.Segments.{HasNoImage}
 use Rattle.query_executor.specs.Steps.{Grows, IsHeadIn}
 use Rattle.query_executor.proofs.HeadLemmas.{grows_none, grows_then, loaded_more}

@@ -1,5 +1,5 @@
-use Rattle.std.proofs.Common.{◌≡◌, ◌∙◌, List, ℕ, Err, sym, ap, subst}
-use Rattle.outside.specs.Seen.{Seen, seen}
+use Rattle.std.proofs.Common.{◌≡◌, ◌∙◌, Err, sym, ap, subst}
+use Rattle.outside.specs.Seen.{seen}
 use Rattle.segment_file.specs.Heads.{AreIn}
 use Rattle.segment_file.specs.Names.{file_of}
 use Rattle.segment_file.specs.declared.fault.HeadFault.TheVariants as head
@@ -7,7 +7,7 @@ use Rattle.segment_scan.specs.declared.fault.EngineFault.TheVariants as engine
 use Rattle.query_executor.specs.Steps.{fault_of}
 use Rattle.query_executor.proofs.FaultLemmas.{bad_head, never_full, read_head}
 use Rattle.query_executor.proofs.HeadLemmas.{broken_none, opened_image}
-use Rattle.query_executor.proofs.LogLemmas.{logs_none, opened_log, reads_as, reads_none}
+use Rattle.query_executor.proofs.LogLemmas.{opened_log, reads_as}
 use Rattle.query_executor.proofs.opening.open_segment.Goals as goal
 
 pub returns-in-Ok-clause-placed : goal.returns-in-Ok-clause-placed

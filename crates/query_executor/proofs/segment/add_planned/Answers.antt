@@ -1,12 +1,9 @@
-use Rattle.std.proofs.Common.{◌≡◌, ◌∙◌, ℕ, true, false, List, Ok, Err, get_or, refl, sym, ap, subst}
-use Rattle.outside.specs.Seen.{Seen, seen}
-use Rattle.segment_plan.specs.Laws.{NoneHolds, TellsOf}
+use Rattle.std.proofs.Common.{◌≡◌, ◌∙◌, Err, refl, sym, ap}
 use Rattle.segment_scan.specs.declared.fault.EngineFault.TheVariants as engine
 use Rattle.segment_scan.specs.Images.{names_in}
 use Rattle.segment_scan.proofs.SegmentLemmas.{mark_named}
-use Rattle.query_executor.proofs.LogLemmas.{logs_none, reads_as, reads_none}
 use Rattle.query_executor.proofs.NamedLemmas.{conjuncts_loaded}
-use Rattle.query_executor.proofs.PlanLemmas.{is_empty_so, is_pruned_so, scan_unindexed, tree_never}
+use Rattle.query_executor.proofs.PlanLemmas.{is_empty_so, is_pruned_so, scan_unindexed}
 use Rattle.query_executor.proofs.ScanLogs.{logs_columns, logs_some}
 use Rattle.query_executor.proofs.SegmentLemmas.{adds_none, adds_scanned, bad_scanned, overfull_scanned, room}
 use Rattle.query_executor.proofs.segment.add_planned.Goals as goal

@@ -1,5 +1,4 @@
-use Rattle.std.proofs.Common.{◌≡◌, ◌∙◌, ℕ, true, false, List, Ok, Err, IfSome, refl, sym, ap, subst}
-use Rattle.outside.specs.Seen.{Seen, seen}
+use Rattle.std.proofs.Common.{◌≡◌, ◌∙◌, ℕ, List, Err, IfSome, sym, ap, subst}
 use Rattle.std.specs.Prelude.{OnOk}
 use Rattle.segment_file.specs.Heads.{AreIn}
 use Rattle.segment_file.specs.Names.{file_of}
@@ -7,7 +6,7 @@ use Rattle.segment_scan.specs.declared.fault.EngineFault.TheVariants as engine
 use Rattle.query_executor.specs.Segments.{HasNoImage}
 use Rattle.query_executor.specs.Steps.{AddsStored, IsHeadIn, IsStoredOverfull}
 use Rattle.query_executor.proofs.HeadLemmas.{image_later}
-use Rattle.query_executor.proofs.LogLemmas.{logs_none, logs_then, reads_as, reads_none, reads_then}
+use Rattle.query_executor.proofs.LogLemmas.{logs_then}
 use Rattle.query_executor.proofs.SegmentLemmas.{adds_none, ok_so}
 use Rattle.query_executor.proofs.segment.add_segment.Goals as goal
 
