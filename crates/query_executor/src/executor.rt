@@ -100,7 +100,7 @@ fn reply_to_bound<S: Shelf>(
     Ok(text)
 }
 
-// Adds the rows of the segments of these names to the groups of a query, one segment after the other.
+// Adds the rows of the segments of these names to the groups of a query, segment after segment.
 fn add_segments<S: Shelf>(
     alloc: Global,
     shelf: &mut S,

@@ -1,5 +1,5 @@
-//! A query over the segments of a table: the segments are looked at one after the other, and only one
-//! of them is kept in memory at a time.
+//! A query over the segments of a table: they are looked at one after the other, and only one of
+//! them is kept in memory at a time.
 #![tactic(auto)]
 
 mod executor;
