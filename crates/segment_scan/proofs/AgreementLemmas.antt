@@ -154,7 +154,7 @@ module _ (query : BoundQuery) where
   aggs_in_names : (column : ℕ) → list_any (agg_names column) query.aggs ≡ true → query_names query column ≡ true
   aggs_in_names column is = or_right (list_any (conjunct_names column) query.conjuncts || is_in query.groups column) (list_any (agg_names column) query.aggs) is
 
-  conjuncts_in_names : (column : ℕ) → list_any (conjunct_names column) query.conjuncts ≡ true → query_names query column ≡ true
+  pub conjuncts_in_names : (column : ℕ) → list_any (conjunct_names column) query.conjuncts ≡ true → query_names query column ≡ true
   conjuncts_in_names column is =
       or_left (list_any (conjunct_names column) query.conjuncts || is_in query.groups column) (list_any (agg_names column) query.aggs) (or_left (list_any (conjunct_names column) query.conjuncts) (is_in query.groups column) is)
 
