@@ -1,4 +1,4 @@
--- The plan of a segment of a table without indexes and star-trees, and segments of which no row satisfies a query.
+-- The plan of a segment of a table without star-trees, and segments of which no row satisfies a query.
 use Rattle.std.proofs.Common.{◌≡◌, ◌∙◌, ◌||◌, ◌&&◌, not, ℕ, zero, suc, Bool, true, false, cond, All, List, [], ◌∷◌, map, slice_get, Option, Some, None, is_some, refl, sym, ap, subst}
 use Rattle.std.proofs.lemmas.Bool.{false≢true}
 use Rattle.std.proofs.lemmas.List.Elements.{All-map}
@@ -26,52 +26,18 @@ use Rattle.segment_plan.specs.Laws.{NoneHolds}
 use Rattle.segment_plan.specs.Plan.{is_emptied, plan_of, tree_or}
 use Rattle.segment_plan.specs.Pruning.{is_pruned}
 
--- ---- settings without indexes and star-trees
-
-first_false : (a b : Bool) → a || b ≡ false → a ≡ false
-first_false true b is = is
-first_false false b is = refl
+-- ---- settings without star-trees
 
 rest_false : (a b : Bool) → a || b ≡ false → b ≡ false
 rest_false true b is = absurd (false≢true (sym is))
 rest_false false b is = is
 
-no_sorted : (o : Option ℕ) (column : ℕ) → is_some o ≡ false → is_sorted_on o column ≡ false
-no_sorted None column is = refl
-no_sorted (Some sorted) column is = absurd (false≢true (sym is))
-
-set_nowhere : (bs : List Bool) (k : ℕ) → is_set_anywhere bs ≡ false → is_set (slice_get bs k) ≡ false
-set_nowhere [] k is = refl
-set_nowhere (b ∷ bs) zero is = first_false b (is_set_anywhere bs) is
-set_nowhere (b ∷ bs) (suc k) is = set_nowhere bs k (rest_false b (is_set_anywhere bs) is)
-
-by_tests : (a b c d : Bool) → a ≡ false → b ≡ false → c ≡ false → cond a Sorted (cond b Inverted (cond (c && d) Range Unindexed)) ≡ Unindexed
-by_tests true b c d is_a is_b is_c = absurd (false≢true (sym is_a))
-by_tests false true c d is_a is_b is_c = absurd (false≢true (sym is_b))
-by_tests false false true d is_a is_b is_c = absurd (false≢true (sym is_c))
-by_tests false false false d is_a is_b is_c = refl
-
-module _ (s : Settings) (bare : names_unbuilt s ≡ false) where
-  no_index : is_some s.sorted || is_set_anywhere s.inverted || is_set_anywhere s.ranged ≡ false
-  no_index = first_false (is_some s.sorted || is_set_anywhere s.inverted || is_set_anywhere s.ranged) (not (is_no_tree s.trees)) bare
-
-  no_ids : is_some s.sorted || is_set_anywhere s.inverted ≡ false
-  no_ids = first_false (is_some s.sorted || is_set_anywhere s.inverted) (is_set_anywhere s.ranged) no_index
-
-  unindexed : (head : Seen) (c : Conjunct) → choice_of s head c ≡ Unindexed
-  unindexed head (Many condition) = refl
-  unindexed head (One column condition) =
-      by_tests (is_sorted_on s.sorted column) (is_set (slice_get s.inverted column)) (is_set (slice_get s.ranged column)) (are_consecutive (matching condition (values_in head column)))
-      (no_sorted s.sorted column (first_false (is_some s.sorted) (is_set_anywhere s.inverted) no_ids))
-      (set_nowhere s.inverted column (rest_false (is_some s.sorted) (is_set_anywhere s.inverted) no_ids))
-      (set_nowhere s.ranged column (rest_false (is_some s.sorted || is_set_anywhere s.inverted) (is_set_anywhere s.ranged) no_index))
-
-  no_tree : (query : BoundQuery) → picked query s.trees ≡ None
-  no_tree query = by s.trees (rest_false (is_some s.sorted || is_set_anywhere s.inverted || is_set_anywhere s.ranged) (not (is_no_tree s.trees)) bare)
-    where
-      by : (trees : List TreeSetting) → not (is_no_tree trees) ≡ false → picked query trees ≡ None
-      by [] is = refl
-      by (t ∷ ts) is = absurd (false≢true (sym is))
+no_tree : (s : Settings) → names_unbuilt s ≡ false → (query : BoundQuery) → picked query s.trees ≡ None
+no_tree s bare query = by s.trees (rest_false (is_set_anywhere s.ranged) (not (is_no_tree s.trees)) bare)
+  where
+    by : (trees : List TreeSetting) → not (is_no_tree trees) ≡ false → picked query trees ≡ None
+    by [] is = refl
+    by (t ∷ ts) is = absurd (false≢true (sym is))
 
 -- ---- the plan
 
@@ -110,11 +76,8 @@ module _ (query : BoundQuery) (table : Table) (head : Seen) where
   abbrev all_choices : ScanPlan
   all_choices = record { choices = map (choice_of table.settings head) query.conjuncts }
 
-  pub scan_unindexed : (p : ScanPlan) → names_unbuilt table.settings ≡ false → Scan p ≡ plan_of query table head → All (λ choice. choice ≡ Unindexed) p.choices
-  scan_unindexed p bare is =
-      subst (λ choices. All (λ choice. choice ≡ Unindexed) choices)
-      (sym (scan_so (is_pruned query head) (is_emptied query.conjuncts table head) all_choices.choices (picked query table.settings.trees) p (no_tree table.settings bare query) is))
-      (All-map (λ choice. choice ≡ Unindexed) (choice_of table.settings head) query.conjuncts (λ k d lt. unindexed table.settings bare head _))
+  pub scan_planned : (p : ScanPlan) → names_unbuilt table.settings ≡ false → Scan p ≡ plan_of query table head → p.choices ≡ map (choice_of table.settings head) query.conjuncts
+  scan_planned p bare is = scan_so (is_pruned query head) (is_emptied query.conjuncts table head) all_choices.choices (picked query table.settings.trees) p (no_tree table.settings bare query) is
 
   pub tree_never : (n : ℕ) → names_unbuilt table.settings ≡ false → StarTree n ≡ plan_of query table head → ⊥
   tree_never n bare is = never_tree (is_pruned query head) (is_emptied query.conjuncts table head) all_choices (picked query table.settings.trees) n (no_tree table.settings bare query) is

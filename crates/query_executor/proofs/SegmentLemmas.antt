@@ -14,7 +14,6 @@ use Rattle.segment_file.specs.Heads.{IsHeadOf, Seen}
 use Rattle.segment_file.specs.Ordered.{ordered}
 use Rattle.segment_file.specs.declared.part.Part.{Part}
 use Rattle.segment_plan.specs.Laws.{HeadTells, NoneHolds, TellsOf}
-use Rattle.segment_scan.specs.Forward.{HasIds}
 use Rattle.segment_scan.specs.Images.{AddsImage, IsBadIn, IsImageOverfull, IsOfImage}
 use Rattle.query_executor.specs.Segments.{HasImage, HasNoImage}
 use Rattle.query_executor.specs.Steps.{AddsStored, IsHeadIn, IsStoredOverfull, selected_in}
@@ -69,13 +68,9 @@ module _ (query : BoundQuery) (table : Table) (name : List ℕ) (head : Seen) wh
   bad_by None bad is = tt
   bad_by (Some files) bad is = λ rows has. bad rows (is rows has)
 
-  told_no : (A B : Files → Type 0) (h : Option Files) → IfSome h (λ files. A files × B files) → IfSome h B
-  told_no A B None both = tt
-  told_no A B (Some files) both = both.1
-
-  -- ids are out of range
+  -- a section that is read is that of no ids
   pub bad_scanned : (held : Option Files) (part : Part) → IsBadIn query table held head part → IsHeadIn table held name head → IfSome held (λ files. HasNoImage table files name)
-  bad_scanned held part bad is = bad_by held (told_no (λ files. ¬ HasIds files head bad.0) (λ files. (rows : List (List Value)) → ¬ IsOfImage table files rows head) held bad.3) is
+  bad_scanned held part bad is = bad_by held bad.1 is
 
 pub ok_so : {T E : Type 0} (r : Result T E) (A B : Type 0) → (A → B) → OnOk r A → OnOk r B
 ok_so (Ok t) A B f h = f h

@@ -23,7 +23,7 @@ use group_table::GroupTable;
 use outside::Shelf;
 use segment_file::Head;
 use segment_plan::{SegmentPlan, empty_law, head_tells_law, plan, prune, pruned_law};
-use segment_scan::{EngineFault, readable_law, scan_segment};
+use segment_scan::{EngineFault, scan_segment};
 use std::alloc::Global;
 use table_schema::{BoundQuery, Table};
 
@@ -102,7 +102,6 @@ fn add_planned<S: Shelf>(
     head_tells_law();
     pruned_law();
     empty_law();
-    readable_law();
     match plan(alloc, query, table, head)? {
         SegmentPlan::Scan(plan) => match scan_segment(
             alloc, shelf, head, table, query, &plan, groups,

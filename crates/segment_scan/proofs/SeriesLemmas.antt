@@ -10,7 +10,7 @@ series_none each partly count log = record { upto = 0; few = omega arith; betwee
 
 -- a part of the next one
 pub series_part : (each partly : ℕ → Logs) (count n : ℕ) (old mid new : Option (List Entry)) → n < count → LogsTo each n old mid → partly n mid new → LogsPartOf each partly count old new
-series_part each partly count n old mid new lt first rest = record { upto = n; few = omega (arith, lt); between = mid; before = first; rest = inr rest }
+series_part each partly count n old mid new lt first rest = record { upto = n; few = omega (arith, lt); between = mid; before = first; rest = inr (lt, rest) }
 
 -- the next one too
 pub series_more : (each partly : ℕ → Logs) (count n : ℕ) (old mid new : Option (List Entry)) → n < count → LogsTo each n old mid → each n mid new → LogsPartOf each partly count old new

@@ -1,5 +1,5 @@
 -- Reads that are made one after the other.
-use Rattle.std.specs.Prelude.{◌≡◌, ◌≤◌, ◌⊎◌, ℕ, zero, suc, List, Option}
+use Rattle.std.specs.Prelude.{◌≡◌, ◌≤◌, ◌<◌, ◌⊎◌, ℕ, zero, suc, List, Option}
 use Rattle.outside.specs.Reads.{Entry}
 
 -- what the log is before some reads, and after them
@@ -17,4 +17,4 @@ pub record LogsPartOf (each partly : ℕ → Logs) (count : ℕ) (old new : Opti
   pub few : upto ≤ count
   pub between : Option (List Entry)
   pub before : LogsTo each upto old between
-  pub rest : (new ≡ between) ⊎ partly upto between new
+  pub rest : (new ≡ between) ⊎ ((upto < count) × partly upto between new)

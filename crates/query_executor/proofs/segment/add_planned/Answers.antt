@@ -1,18 +1,16 @@
 use Rattle.std.proofs.Common.{◌≡◌, ◌∙◌, Err, refl, sym, ap}
 use Rattle.segment_scan.specs.declared.fault.EngineFault.TheVariants as engine
-use Rattle.segment_scan.specs.Images.{names_in}
-use Rattle.segment_scan.proofs.SegmentLemmas.{mark_named}
 use Rattle.query_executor.proofs.NamedLemmas.{conjuncts_loaded}
-use Rattle.query_executor.proofs.PlanLemmas.{is_empty_so, is_pruned_so, scan_unindexed}
-use Rattle.query_executor.proofs.ScanLogs.{logs_columns, logs_some}
+use Rattle.query_executor.proofs.PlanLemmas.{is_empty_so, is_pruned_so, scan_planned}
+use Rattle.query_executor.proofs.ScanLogs.{scan_in_file, scan_partly}
 use Rattle.query_executor.proofs.SegmentLemmas.{adds_none, adds_scanned, bad_scanned, overfull_scanned, room}
 use Rattle.query_executor.proofs.segment.add_planned.Goals as goal
 
 pub plan-requires-clause-loaded : goal.plan-requires-clause-loaded
 plan-requires-clause-loaded g c = conjuncts_loaded c.args.query.now c.args.head.now c.requires.loaded
 
-pub scan_segment-requires-clause-unindexed : goal.scan_segment-requires-clause-unindexed
-scan_segment-requires-clause-unindexed g c = scan_unindexed c.args.query.now c.args.table.now c.args.head.now c.in-Scan.plan c.requires.bare (sym c.in-Scan.is ∙ c.in_ok-plan.ensures)
+pub scan_segment-requires-clause-planned : goal.scan_segment-requires-clause-planned
+scan_segment-requires-clause-planned g c = scan_planned c.args.query.now c.args.table.now c.args.head.now c.in-Scan.plan c.requires.bare (sym c.in-Scan.is ∙ c.in_ok-plan.ensures)
 
 pub scan_segment-requires-clause-fits : goal.scan_segment-requires-clause-fits
 scan_segment-requires-clause-fits g c = room c.args.table.now c.args.head.now c.args.groups.now c.requires.of_table c.requires.fits
@@ -23,10 +21,7 @@ returns-in-Ok-clause-ok g c = λ name is.
 
 pub returns-in-Ok-clause-log : goal.returns-in-Ok-clause-log
 returns-in-Ok-clause-log g c = λ file within.
-    let query = c.args.query.now in
-    let table = c.args.table.now in
-    let head = c.args.head.now in
-    logs_columns head file within (names_in query table) (λ column marked. c.readable_law.ensures table head column c.requires.of_table (c.requires.loaded column (mark_named query table (names_in query table) refl column marked)))
+    scan_in_file c.args.query.now c.args.table.now c.args.head.now file within (g.S.Shelf.held c.args.shelf.now) c.requires.of_table c.requires.loaded
     _ (g.S.Shelf.log c.args.shelf.now) (g.S.Shelf.log c.scan_segment.new.shelf) c.in-Ok.ensures.log
 
 pub returns-in-Scan-clause-full : goal.returns-in-Scan-clause-full
@@ -39,10 +34,7 @@ returns-in-Scan-clause-bad g c = λ part bad name is.
 
 pub returns-in-Scan-clause-log : goal.returns-in-Scan-clause-log
 returns-in-Scan-clause-log g c = λ file within.
-    let query = c.args.query.now in
-    let table = c.args.table.now in
-    let head = c.args.head.now in
-    logs_some head file within (names_in query table) (λ column marked. c.readable_law.ensures table head column c.requires.of_table (c.requires.loaded column (mark_named query table (names_in query table) refl column marked)))
+    scan_partly c.args.query.now c.args.table.now c.args.head.now file within (g.S.Shelf.held c.args.shelf.now) c.requires.of_table c.requires.loaded
     (g.S.Shelf.log c.args.shelf.now) (g.S.Shelf.log c.scan_segment.new.shelf) c.in-Err.ensures.log_of_fault
 
 pub returns-in-Pruned-clause-ok : goal.returns-in-Pruned-clause-ok
