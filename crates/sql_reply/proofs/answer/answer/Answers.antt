@@ -4,10 +4,10 @@ use Rattle.broker_merge.specs.declared.answer.Answer.{Answer}
 use Rattle.broker_merge.proofs.AnswerLemmas.{whole_answer}
 use Rattle.group_table.specs.Kept.{groups_in}
 use Rattle.group_table.specs.Shape.{shape_of}
-use Rattle.text_scan.proofs.reply.answer.Goals as goal
+use Rattle.sql_reply.proofs.answer.answer.Goals as goal
 
 pub answer_text-requires : goal.answer_text-requires
 answer_text-requires c =
     let (over, valid) = c.requires.valid in
     subst (λ (a : Answer). IsWhole a) (sym c.in_ok-answer.ensures.answer)
-    (whole_answer (shape_of c.args.bound.now) (groups_in c.args.table.now) (omega (arith, valid.label_each, valid.some_items)) valid.label_each)
+    (whole_answer (shape_of c.args.bound.now) (groups_in c.args.groups.now) (omega (arith, valid.label_each, valid.some_items)) valid.label_each)

@@ -1,0 +1,3 @@
+pub mod Answers
+pub mod Logs
+pub mod Segments

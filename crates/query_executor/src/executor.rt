@@ -1,0 +1,56 @@
+//! The reply to a query over the segments of a table.
+ghost use Rattle.std.specs.Prelude.{◌≡◌, ◌≢◌, ◌≤◌, ◌<◌, false, ℕ, List, [], Ok, Err, IfOk, IfSome, IsErrOf, get_or, length};
+ghost use Rattle.std.specs.List.{All};
+ghost use Rattle.outside.specs.Seen.{OnlyReads, seen};
+ghost use Rattle.values.specs.declared.value.Value.{Value};
+ghost use Rattle.table_schema.specs.Unbuilt.{names_unbuilt};
+ghost use Rattle.table_schema.specs.ValidTable.{IsValidTable};
+ghost use Rattle.segment_file.specs.Names.{IsSegmentName};
+ghost use Rattle.segment_file.specs.Parts.{IsPlainTable};
+ghost use Rattle.segment_file.specs.declared.part.Part.{Part};
+ghost use Rattle.sql_reply.specs.SqlReply.{IsOfText, sql_reply};
+ghost use Rattle.sql_reply.specs.declared.fault.SqlFault.{SqlFault};
+ghost use Rattle.sql_reply.specs.declared.fault.SqlFault.TheVariants.{NoMemory};
+ghost use Rattle.query_executor.specs.Answers.{IsReply};
+ghost use Rattle.query_executor.specs.Logs.{LogsOf};
+ghost use Rattle.query_executor.specs.Segments.{HasNoImage};
+ghost use Rattle.query_executor.specs.declared.fault.ExecutorFault.TheVariants.{NotASegment, ReadFault, Sql};
+
+use crate::ExecutorFault;
+use outside::{Bytes, Name, Shelf};
+use sql_reply::SqlFault;
+use std::alloc::Global;
+use table_schema::Table;
+
+/// The reply to a query over the segments of these names: over the rows of all of them, one segment
+/// after the other. Nothing is read before the query is known to be one over the table.
+pub fn reply_to_query<S: Shelf>(
+    alloc: Global,
+    shelf: &mut S,
+    table: &Table,
+    names: &[Name],
+    sql: &str,
+) -> Result<Bytes, ExecutorFault>
+    requires valid { IsValidTable table.now }
+    requires plain { IsPlainTable table.now }
+    requires bare { names_unbuilt table.now.settings ≡ false }
+    requires named { All IsSegmentName names.now }
+    requires few { length names.now ≤ 512 }
+    ensures reply { IfOk result (λ text. IfSome (S.held shelf.old) (λ files.
+        IsReply table.now files names.now sql.now (Ok text))) }
+    ensures refused { (fault : SqlFault) → result ≡ Err (Sql fault) → fault ≢ NoMemory →
+        IfSome (S.held shelf.old) (λ files.
+        IsReply table.now files names.now sql.now (Err fault)) }
+    // What is wrong with the query's text is known before anything is read.
+    ensures of_text { (fault : SqlFault) → result ≡ Err (Sql fault) → IsOfText fault →
+        (seen S.Shelf shelf.new ≡ seen S.Shelf shelf.old) × ((rows : List (List Value)) →
+        sql_reply table.now false sql.now rows ≡ Err fault) }
+    ensures bad { (at : ℕ) (part : Part) → result ≡ Err (NotASegment at part) →
+        (at < length names.now) × IfSome (S.held shelf.old) (λ files.
+        HasNoImage table.now files (get_or names.now at [])) }
+    ensures only_reads { OnlyReads (IsErrOf result ReadFault)
+        (seen S.Shelf shelf.old) (seen S.Shelf shelf.new) }
+    ensures log { LogsOf names.now (S.log shelf.old) (S.log shelf.new) }
+{
+    Err(ExecutorFault::Sql(SqlFault::NoMemory))
+}

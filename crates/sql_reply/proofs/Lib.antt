@@ -1,0 +1,4 @@
+mod FindingLemmas
+mod ParsedLemmas
+mod QueryLemmas
+mod ReplyLemmas
