@@ -1,10 +1,10 @@
 -- What a command does to stored files is its step on the state that they stand for.
-use Rattle.std.proofs.Common.{◌≡◌, ◌∙◌, ◌≤◌, ◌<◌, ◌&&◌, inl, inr, ℕ, suc, Bool, true, false, List, [], ◌∷◌, length, get_or, take, option_map, nat_le, nat_lt, Option, Some, None, Result, Ok, Err, IfSome, IsSomeAnd, refl, sym, ap, subst, arith, cond}
+use Rattle.std.proofs.Common.{◌≡◌, ◌∙◌, ◌≤◌, ◌<◌, ◌&&◌, ◌++◌, inl, inr, ℕ, suc, Bool, true, false, List, [], ◌∷◌, length, get_or, take, option_map, nat_le, nat_lt, Option, Some, None, Result, Ok, Err, IfSome, IsSomeAnd, refl, sym, ap, subst, arith, cond}
 use Rattle.std.proofs.lemmas.Bool.Decides.{nat_tests}
-use Rattle.std.specs.Prelude.{is_some, unwrap_or, map as each}
+use Rattle.std.specs.Prelude.{flat_map, is_some, unwrap_or, map as each}
 use Rattle.std.specs.FinMap as map
 use Rattle.std.specs.Cmp.{eq_by_cmp_equiv}
-use Rattle.std.specs.List.{AllZip, concat}
+use Rattle.std.specs.List.{AllZip}
 use Rattle.std.specs.Ordering.{eq_by_cmp}
 use Rattle.std.proofs.lemmas.Cmp.{nat_list_cmp_total}
 use Rattle.std.proofs.lemmas.List.{length-map, take_all}
@@ -327,20 +327,20 @@ module _ (stored : Files) (texts : state.Texts) (segments : Segments) (stands : 
       (of.came, record { can = of.can; stored = bytes }, sym (ap rows_in kept.got ∙ rows))
 
   all_came : (names : List (List ℕ)) → ((k : ℕ) → k < length names → has_segment stored (get_or names k []) ≡ true)
-      → (rows : List (List (List Value))) × AllZip (HasImage table stored) names rows × (each (ordered table.settings.sorted) rows ≡ each Rows names)
+      → (rows : List (List (List Value))) × AllZip (HasImage table stored) names rows × (stored_rows table rows ≡ flat_map Rows names)
   all_came [] there = ([], tt, refl)
   all_came (name ∷ names) there =
       let (first, has, is) = came name (there 0 (omega arith)) in
       let (more, have, are) = all_came names (λ k lt. there (suc k) (omega arith)) in
-      (first ∷ more, (has, have), (λ i. is i ∷ are i))
+      (first ∷ more, (has, have), (λ i. is i ++ are i))
 
   -- a reply over the segments that have files is the one over the rows of the state
   reply_right : (names : List (List ℕ)) (sql : List ℕ) (reply : SqlReply) → AreFirstNames stored names → IsReply table stored names sql reply → query_answer (HasTable texts segments) sql ≡ sql_answered reply
   reply_right names sql reply are is =
       let keys : names ≡ map.keys segments = names_all stored texts segments stands names are in
       let (rows, have, same) = all_came (map.keys segments) (key_there stored texts segments stands) in
-      let replies : sql_reply table false sql (concat (each (ordered table.settings.sorted) rows)) ≡ reply = subst (λ ns. IsReply table stored ns sql reply) keys is rows have in
-      ap (rows_answer segments sql) (read_as texts table accepted) ∙ ap (λ of. sql_answered (sql_reply table false sql (concat of))) (sym same) ∙ ap sql_answered replies
+      let replies : sql_reply table false sql (stored_rows table rows) ≡ reply = subst (λ ns. IsReply table stored ns sql reply) keys is rows have in
+      ap (rows_answer segments sql) (read_as texts table accepted) ∙ ap (λ of. sql_answered (sql_reply table false sql of)) (sym same) ∙ ap sql_answered replies
 
   fault_reply : (names : List (List ℕ)) (sql : List ℕ) (wrong : SqlFault) → IsFaultOf table stored names sql wrong → IsReply table stored names sql (Err wrong)
   fault_reply names sql (query.LongQuery most) is = λ rows have. is (stored_rows table rows)

@@ -69,7 +69,7 @@ of_file : (file : List ℕ) (from to : ℕ) (entries : List Entry) → Consecuti
 of_file file from to [] h = All-nil (λ entry. entry.file ≡ file)
 of_file file from to (entry ∷ entries) h = All-cons (λ entry. entry.file ≡ file) entry entries h.0 (of_file file (from + entry.count) to entries h.2)
 
-weaker : {A : Type 0} (P Q : A → Type 0) (xs : List A) → ((x : A) → P x → Q x) → All P xs → All Q xs
+pub weaker : {A : Type 0} (P Q : A → Type 0) (xs : List A) → ((x : A) → P x → Q x) → All P xs → All Q xs
 weaker P Q xs f h = λ k d lt. f (get_or xs k d) (h k d lt)
 
 pub front_opened : (limit : ℕ) (old new : Option (List Entry)) → LogsFront table_name limit old new → LogsOpened TableFile old new

@@ -1,7 +1,6 @@
 -- What `query` answers: over the segments of a state, and over any published files.
-use Rattle.std.specs.Prelude.{◌≡◌, ◌⊎◌, ℕ, true, false, List, [], map, Option, Some, None, Ok, Err}
+use Rattle.std.specs.Prelude.{◌≡◌, ◌⊎◌, ℕ, true, false, List, [], flat_map, Option, Some, None, Ok, Err}
 use Rattle.std.specs.FinMap as tree
-use Rattle.std.specs.List.{concat}
 use Rattle.outside.specs.Files.{Files, Lacks}
 use Rattle.values.specs.declared.value.Value.{Value}
 use Rattle.table_schema.specs.declared.table.Table.{Table}
@@ -28,7 +27,7 @@ rows_in (Some segment) = segment.rows
 
 -- the rows of all segments, one segment after the other by their names
 abbrev pub all_rows : Segments → List (List Value)
-all_rows segments = concat (map (λ name. rows_in (tree.get segments name)) (tree.keys segments))
+all_rows segments = flat_map (λ name. rows_in (tree.get segments name)) (tree.keys segments)
 
 -- ---- over any published files
 
