@@ -4,7 +4,7 @@ use Rattle.broker_merge.specs.declared.answer.Answer.{Answer}
 use Rattle.broker_merge.proofs.AnswerLemmas.{whole_answer}
 use Rattle.group_table.specs.Kept.{groups_in}
 use Rattle.group_table.specs.Shape.{shape_of}
-use Rattle.sql_reply.proofs.answer.answer.Goals as goal
+use Rattle.sql_reply.proofs.reply.answer.Goals as goal
 
 pub answer_text-requires : goal.answer_text-requires
 answer_text-requires c =
