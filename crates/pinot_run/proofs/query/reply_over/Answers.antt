@@ -13,8 +13,8 @@ returns-in-Ok g c =
     let e = c.in-Ok.ensures in
     query_replied c.args.table.now c.args.names.now c.args.sql.now a b c.requires.named c.requires.there e.log c.in-Ok.text e.only_reads (λ f. cc) e.reply
 
-pub returns : goal.returns
-returns g c =
+pub returns-in-Err : goal.returns-in-Err
+returns-in-Err g c =
     let a : Seen = seen g.D.Shelf c.args.depot.now in
     let b : Seen = seen g.D.Shelf c.reply_to_query.new.shelf in
     let e = c.in-Err.ensures in
