@@ -149,9 +149,11 @@ module _ (table : Table) (names : List (List ℕ)) (sql : List ℕ) (a b : Seen)
   no_image at part s (inl is) reads fine bad =
       let line = note.NotASegment (get_or names at []) (part_text table.schema.fields part) in
       subst (λ w. AnswersQuery sql a b (Err w)) (sym is)
-      (stopped (stop.Refused line) reads (λ e. absurd cc) (λ e. absurd (fine e))
-      (refl, told_both a.held Found (λ files. HasNoImage table files (get_or names at [])) (λ files. QueryRefuses sql files line)
-      (λ files t none. inr (record { table = table; table_is = t.0; there = first_have files names t.1 at [] bad.0; no_image = none; wrong = part; part_is = refl })) there bad.1))
+      (stopped (stop.Refused line) reads (λ e. absurd cc) (λ e. absurd (fine e)) (
+        refl,
+        told_both a.held Found (λ files. HasNoImage table files (get_or names at [])) (λ files. QueryRefuses sql files line)
+            (λ files t none. inr (record { table = table; table_is = t.0; there = first_have files names t.1 at [] bad.0; no_image = none; wrong = part; part_is = refl })) there bad.1,
+      ))
   no_image at part s (inr is) reads fine bad =
       subst (λ w. AnswersQuery sql a b (Err w)) (sym is) (stopped (stop.Fault fault.Memory) reads (λ e. absurd cc) (λ e. absurd (fine e)) tt)
 
