@@ -9,8 +9,8 @@ use std::alloc::AllocError;
 pub enum ExecutorFault {
     /// The query has no reply.
     Sql(SqlFault),
-    /// The file of one of the segments, by its number among the names, is no segment's: the part that
-    /// breaks a rule.
+    /// The file of one of the segments, by its number among the names, is no segment's: the part
+    /// that breaks a rule.
     NotASegment(u32, Part),
     /// The shelf failed, and its count of faults rose.
     ReadFault,

@@ -1,5 +1,5 @@
 -- The reply to a query by its conjuncts is the one by its condition as it is written.
-use Rattle.std.proofs.Common.{◌≡◌, ◌∙◌, ◌≤◌, ℕ, List, length, Bool, true, false, nat_lt, cond, arith, Result, Some, None, Ok, Err, IfErr, IsErrAnd, sym, ap, subst}
+use Rattle.std.proofs.Common.{◌≡◌, ◌∙◌, ◌≤◌, ℕ, List, length, Bool, false, nat_lt, cond, arith, Result, Some, None, Ok, Err, IfErr, IsErrAnd, sym, ap, subst}
 use Rattle.std.proofs.lemmas.Bool.Decides.{nat_tests}
 use Rattle.std.proofs.lemmas.List.Elements.{filter_agree}
 use Rattle.values.specs.declared.value.Value.{Value}

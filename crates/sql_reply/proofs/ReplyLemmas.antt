@@ -1,5 +1,5 @@
 -- What is wrong with a query is never want of memory.
-use Rattle.std.proofs.Common.{◌≡◌, ℕ, Bool, true, false, cond, nat_lt, List, length, Result, Ok, Err, refl}
+use Rattle.std.proofs.Common.{◌≡◌, Bool, true, false, cond, nat_lt, List, length, Result, Ok, Err, refl}
 use Rattle.values.specs.declared.value.Value.{Value}
 use Rattle.table_schema.specs.declared.table.Table.{Table}
 use Rattle.query_parser.specs.Query.{parsed}
@@ -12,7 +12,7 @@ use Rattle.query_bind.specs.declared.fault.BindFault.TheVariants as bind
 use Rattle.broker_merge.specs.Reply as groups
 use Rattle.sql_reply.specs.Reply.{reply_of}
 use Rattle.sql_reply.specs.Laws.{NeverForMemory}
-use Rattle.sql_reply.specs.SqlReply.{SqlReply, bound_reply, parsed_reply, replied, sql_reply}
+use Rattle.sql_reply.specs.SqlReply.{SqlReply, bound_reply, parsed_reply, replied}
 use Rattle.sql_reply.specs.declared.fault.SqlFault.TheVariants.{NoMemory}
 use Rattle.sql_reply.proofs.FindingLemmas as findings
 use Rattle.sql_reply.proofs.ParsedLemmas as parses

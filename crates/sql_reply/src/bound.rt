@@ -17,8 +17,9 @@ use table_schema::{BoundQuery, Table};
 // The most bytes that a query may have.
 const SQL_LIMIT: u32 = 65_536;
 
-/// A query by its text, its names and its types, over the columns of a table. Over any rows the reply
-/// to the text is that of this query; where there is none, the text has no reply for that reason.
+/// A query by its text, its names and its types, over the columns of a table. Over any rows the
+/// reply to the text is that of this query; where there is none, the text has no reply for that
+/// reason.
 pub fn bound_query(
     alloc: Global,
     sql: &str,

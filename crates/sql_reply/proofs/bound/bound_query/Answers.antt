@@ -1,4 +1,4 @@
-use Rattle.std.proofs.Common.{◌≡◌, ◌∙◌, IfOk, IfErr, Result, Ok, Err, subst, sym}
+use Rattle.std.proofs.Common.{◌≡◌, IfOk, IfErr, Result, Ok, Err, subst, sym}
 use Rattle.query_bind.specs.Bound.{bound}
 use Rattle.sql_reply.specs.Parts.{IsBound}
 use Rattle.sql_reply.specs.Reply.{conjuncts_reply}
