@@ -208,7 +208,7 @@ module _ (head : Seen) (file : List ℕ) (within : AreIn file head.sections) (na
 
 module _ (head : Seen) (file : List ℕ) (within : AreIn file head.sections) (named : List Bool) (readable : (column : ℕ) → get_or named column false ≡ true → IsReadable head column) (docs : List ℕ) where
   docs_in_file : (old new : Option (List Entry)) → LogsDocs head named docs old new → LogsIn file old new
-  docs_in_file old new (runs, apart, are, logs) =
+  docs_in_file old new (runs, apart, are, logs, few) =
       series_in_file file (LogsPicked head runs named) (length named) (picked_in_file head file within named readable runs) (length named) (omega arith) old new logs
 
   docs_partly : (old new : Option (List Entry)) → LogsDocsPartly head named docs old new → LogsIn file old new

@@ -40,7 +40,7 @@ pub fn load_named<S: Shelf>(
     ensures log { (file : List ℕ) → AreIn file head.old.sections →
         LogsIn file (S.log shelf.old) (S.log shelf.new) }
 {
-    let named = named_columns(alloc, query, table.schema.fields.len())?;
+    let named = named_columns(alloc, query, &[], table.schema.fields.len())?;
     'columns: for column in 0..table.schema.fields.len() {
         match load_if(alloc, shelf, table, named[column], column as u16, head) {
             Ok(()) => {}
