@@ -1,5 +1,5 @@
 -- Calls that only read, by their answers and faults.
-use Rattle.std.proofs.Common.{◌≡◌, ◌∙◌, ℕ, Bool, false, get_or, Result, Ok, Err, IsErrOf, List, Option, Some, None, IfSome, length, ap, sym, subst, refl}
+use Rattle.std.proofs.Common.{◌≡◌, ◌∙◌, ℕ, Bool, false, get_or, Result, Ok, Err, IsErrOf, List, Option, Some, None, IfSome, ap, sym, subst, refl}
 use Rattle.outside.specs.Files.{Files}
 use Rattle.outside.specs.Seen.{OnlyReads, Seen}
 use Rattle.outside.specs.declared.place.Place.{Place}

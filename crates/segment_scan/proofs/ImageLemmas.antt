@@ -1,5 +1,5 @@
 -- On the image of rows, what is read of a column are the values of the rows.
-use Rattle.std.proofs.Common.{◌≡◌, ◌∙◌, ◌<◌, ◌≤◌, ◌+◌, ◌-◌, ◌^◌, ◌==◌, ◌||◌, ◌++◌, ◌∷◌, [], ℕ, zero, suc, pos, Bool, true, false, cond, Option, Some, None, All, List, length, map, get_or, drop, take, slice_get, refl, sym, ap, subst, eq-eqb, append_assoc, arith}
+use Rattle.std.proofs.Common.{◌≡◌, ◌∙◌, ◌<◌, ◌≤◌, ◌+◌, ◌-◌, ◌^◌, ◌||◌, ◌++◌, ◌∷◌, [], ℕ, zero, suc, pos, Bool, true, false, cond, Option, Some, None, All, List, length, map, get_or, drop, take, slice_get, refl, sym, ap, subst, eq-eqb, append_assoc, arith}
 use Rattle.std.specs.Prelude.{if◌then◌else◌, option_map}
 use Rattle.std.specs.Option.{IsSome}
 use Rattle.std.specs.List.{AllZip, concat, find, list_any, range_with_len}
@@ -7,14 +7,14 @@ use Rattle.std.specs.Ordering.{match_ordering}
 use Rattle.std.specs.declared.cmp.Ordering.TheVariants as order
 use Rattle.std.proofs.Math.Seq.{drop-append_seam, take-append_seam}
 use Rattle.std.proofs.lemmas.Bool.{eqb-true, false≢true}
-use Rattle.std.proofs.lemmas.List.{get_or-map, length-append, length-map, length-replicate, take_all}
+use Rattle.std.proofs.lemmas.List.{length-append, length-map, length-replicate, take_all}
 use Rattle.std.proofs.lemmas.List.Elements.{All-cons, All-head, All-map, All-nil, All-tail, All-weaker}
 use Rattle.std.proofs.lemmas.List.Folds.{list_any-append}
 use Rattle.std.proofs.lemmas.List.FromFn.{get_or-map-range_with_len}
 use Rattle.outside.specs.Files.{Files, bytes_of}
 use Rattle.values.specs.declared.value.Value.{Value}
 use Rattle.values.specs.declared.value.Value.TheVariants.{Whole}
-use Rattle.values.specs.Columns.{Counts, row_of, rows_in_columns, rows_of}
+use Rattle.values.specs.Columns.{Counts, row_of, rows_of}
 use Rattle.values.specs.Order.{value_eq, value_order}
 use Rattle.values.specs.Order.Laws.{value_eq-equiv}
 use Rattle.values.specs.Tests.{is_member}
@@ -29,7 +29,6 @@ use Rattle.bit_column.proofs.Spelling.{ids-written, readable-written}
 use Rattle.bit_column.proofs.Widths.{width-least}
 use Rattle.table_schema.specs.declared.query.BoundQuery.{BoundQuery}
 use Rattle.table_schema.specs.declared.table.Table.{Table}
-use Rattle.table_schema.specs.ValidTable.{IsValidTable}
 use Rattle.table_schema.specs.Conditions.{cell}
 use Rattle.segment_file.specs.declared.part.Part.{Part}
 use Rattle.segment_file.specs.declared.part.Part.TheVariants as parts
@@ -48,8 +47,8 @@ use Rattle.segment_file.proofs.RuleLaws.{fronts_one}
 use Rattle.segment_plan.specs.Laws.{HeadTells, TellsOf}
 use Rattle.segment_plan.specs.Matched.{values_in, values_of}
 use Rattle.segment_scan.specs.Agreement.{Agree, AgreeAll}
-use Rattle.segment_scan.specs.Forward.{HasIds, IsReadable, forward_in}
-use Rattle.segment_scan.specs.Images.{AreNamedLoaded, ImagesRead, IsOfImage, LoadedAreReadable, ReadsImage, names_in}
+use Rattle.segment_scan.specs.Forward.{HasIds, forward_in}
+use Rattle.segment_scan.specs.Images.{AreNamedLoaded, ImagesRead, LoadedAreReadable, names_in}
 use Rattle.segment_scan.specs.Named.{query_names}
 use Rattle.segment_scan.specs.Scans.{column_read, columns_read, table_read, values_read}
 use Rattle.segment_scan.proofs.AgreementLemmas.{or_left, or_right}

@@ -1,8 +1,8 @@
 -- On the image of rows, the indexes of the served conjuncts tell the ids of the rows.
-use Rattle.std.proofs.Common.{◌≡◌, ◌∙◌, ◌<◌, ◌≤◌, ◌+◌, ◌&&◌, ◌||◌, ◌==◌, ◌++◌, ◌∷◌, [], ℕ, zero, suc, pos, Bool, true, false, cond, nat_lt, Option, Some, None, All, List, length, map, get_or, slice_get, refl, sym, ap, subst, eq-eqb, arith}
+use Rattle.std.proofs.Common.{◌≡◌, ◌∙◌, ◌<◌, ◌+◌, ◌&&◌, ◌||◌, ◌==◌, ◌∷◌, [], ℕ, zero, suc, pos, Bool, true, false, nat_lt, Option, Some, None, List, length, map, get_or, slice_get, refl, sym, ap, subst, eq-eqb, arith}
 use Rattle.std.specs.Prelude.{if◌then◌else◌, option_to_list}
 use Rattle.std.specs.Option.{IsSome}
-use Rattle.std.specs.List.{list_all, list_any, range_with_len}
+use Rattle.std.specs.List.{list_all, list_any}
 use Rattle.std.proofs.lemmas.Bool.{eqb-true, false≢true}
 use Rattle.std.proofs.lemmas.Bool.Decides.{nat_tests}
 use Rattle.std.proofs.lemmas.List.{get_or-map, length-map}
@@ -15,10 +15,8 @@ use Rattle.dictionary.specs.Dictionary.{distinct}
 use Rattle.dictionary.specs.Ids.{has_id, matching, satisfies}
 use Rattle.dictionary.proofs.Distinct.{distinct_ascends}
 use Rattle.dictionary.proofs.IdLemmas.{each_matching}
-use Rattle.bit_column.specs.Postings.{inverted}
-use Rattle.bit_column.specs.SortedRuns.{sorted_runs}
 use Rattle.std.specs.List.Sorted.{IsNonDecreasing}
-use Rattle.index_reading.specs.Documents.{Tells, is_doc_of}
+use Rattle.index_reading.specs.Documents.{Tells}
 use Rattle.index_reading.specs.declared.kind.ListKind.{ListKind}
 use Rattle.index_reading.specs.declared.kind.ListKind.TheVariants as kinds
 use Rattle.table_schema.specs.declared.query.BoundQuery.{BoundQuery}
@@ -26,7 +24,6 @@ use Rattle.table_schema.specs.declared.query.Conjunct.{Conjunct}
 use Rattle.table_schema.specs.declared.query.Conjunct.TheVariants.{One, Many}
 use Rattle.table_schema.specs.declared.settings.Settings.{Settings}
 use Rattle.table_schema.specs.declared.table.Table.{Table}
-use Rattle.table_schema.specs.ValidTable.{IsValidTable}
 use Rattle.table_schema.specs.Conditions.{all_hold, cell, conjunct_holds}
 use Rattle.table_schema.specs.NeedIds.{is_set}
 use Rattle.segment_file.specs.declared.part.Part.{Part}
@@ -48,13 +45,12 @@ use Rattle.segment_plan.specs.Matched.{values_in, values_of}
 use Rattle.segment_plan.specs.declared.plans.IndexChoice.{IndexChoice}
 use Rattle.segment_plan.specs.declared.plans.IndexChoice.TheVariants.{Unindexed, Sorted, Inverted, Range}
 use Rattle.segment_scan.specs.Forward.{count_in}
-use Rattle.segment_scan.specs.Images.{AreNamedLoaded, ImagesLeave, IsOfImage, LeavesImage, choices_for, served_for}
-use Rattle.segment_scan.specs.Indexes.{IsIndexed, IsReady, OfEach, OfIndex, TellsIds, TellsServed, leaves, part_of}
-use Rattle.segment_scan.specs.Named.{conjunct_names, query_names}
+use Rattle.segment_scan.specs.Images.{AreNamedLoaded, ImagesLeave, choices_for}
+use Rattle.segment_scan.specs.Indexes.{IsIndexed, IsReady, OfEach, OfIndex, TellsIds, leaves, part_of}
+use Rattle.segment_scan.specs.Named.{conjunct_names}
 use Rattle.segment_scan.specs.Served.{choice_at, is_served, served}
 use Rattle.segment_scan.proofs.AgreementLemmas.{conjuncts_in_names, or_left, or_right}
-use Rattle.segment_scan.proofs.DocLemmas.{has_own}
-use Rattle.segment_scan.proofs.ImageLemmas.{IsPlace, any_back, any_front, columns_few, cut_section, ids-below, ids-count, item_there, ordered_count, places, some_place}
+use Rattle.segment_scan.proofs.ImageLemmas.{IsPlace, any_back, any_front, cut_section, ids-below, ids-count, item_there, ordered_count, places, some_place}
 use Rattle.segment_scan.proofs.OrderLemmas.{sorted_ids}
 
 lt_true : (a b : ℕ) → a < b → nat_lt a b ≡ true

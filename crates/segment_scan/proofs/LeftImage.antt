@@ -1,5 +1,5 @@
 -- What a scan of the documents that indexes leave says of the image of rows.
-use Rattle.std.proofs.Common.{◌≡◌, ◌∙◌, ◌<◌, ◌≤◌, ◌+◌, ◌&&◌, ◌∷◌, [], ℕ, zero, suc, Bool, true, false, ◌⊎◌, inl, inr, All, List, Option, Some, None, IfSome, length, map, get_or, slice_get, refl, sym, ap, subst, arith}
+use Rattle.std.proofs.Common.{◌≡◌, ◌∙◌, ◌<◌, ◌≤◌, ◌&&◌, ◌∷◌, [], ℕ, zero, suc, Bool, true, false, inl, inr, All, List, Option, Some, None, IfSome, length, map, get_or, slice_get, refl, sym, ap, subst, arith}
 use Rattle.std.specs.Prelude.{if◌then◌else◌}
 use Rattle.std.specs.List.{filter, list_all}
 use Rattle.std.proofs.lemmas.Bool.{false≢true}
@@ -8,9 +8,8 @@ use Rattle.std.proofs.lemmas.List.Elements.{All-head, All-tail}
 use Rattle.outside.specs.Files.{Files}
 use Rattle.outside.specs.Reads.{Entry}
 use Rattle.values.specs.declared.value.Value.{Value}
-use Rattle.values.specs.Columns.{Listed, row_of}
+use Rattle.values.specs.Columns.{Listed}
 use Rattle.values.specs.declared.test.Test.{Test}
-use Rattle.doc_lists.specs.Sets.{AreThose}
 use Rattle.index_reading.specs.declared.kind.ListKind.{ListKind}
 use Rattle.table_schema.specs.declared.query.BoundQuery.{BoundQuery}
 use Rattle.table_schema.specs.declared.query.Conjunct.{Conjunct}
@@ -18,7 +17,7 @@ use Rattle.table_schema.specs.declared.query.Conjunct.TheVariants.{One, Many}
 use Rattle.table_schema.specs.declared.table.Table.{Table}
 use Rattle.table_schema.specs.ValidTable.{IsValidTable}
 use Rattle.table_schema.specs.Conditions.{all_hold, conjunct_holds}
-use Rattle.group_table.specs.Kept.{IsTableOf, KeptGroups}
+use Rattle.group_table.specs.Kept.{KeptGroups}
 use Rattle.scan_engine.specs.Places.{rows_at}
 use Rattle.scan_engine.specs.Scanned.{AddsRows, IsOverfull, selected}
 use Rattle.segment_file.specs.declared.part.Part.{Part}
@@ -31,8 +30,8 @@ use Rattle.segment_scan.specs.Agreement.{AgreeAll, AreSame}
 use Rattle.segment_scan.specs.Documents.{AddsDocs, selected_docs}
 use Rattle.segment_scan.specs.Forward.{HasIds}
 use Rattle.segment_scan.specs.Images.{AddsImage, AddsWhole, AreDocs, AreLeftFor, AreNamedLoaded, ImagesLeave, ImagesRead, IsBadForward, IsBadIn, IsBadWhole, IsImageOverfull, IsNoImage, IsOfImage, IsWholeOverfull, choices_for, names_in, rest_for, served_for}
-use Rattle.segment_scan.specs.Indexes.{AreLeft, IsBadAny, IsBadIndex, LogsAt, LogsIndex, LogsServed, OfEach, OfIndex, TellsServed, leaves}
-use Rattle.segment_scan.specs.Named.{conjunct_names, query_names}
+use Rattle.segment_scan.specs.Indexes.{IsBadAny, IsBadIndex, LogsAt, LogsIndex, OfIndex, TellsServed}
+use Rattle.segment_scan.specs.Named.{query_names}
 use Rattle.segment_scan.specs.Scans.{columns_read}
 use Rattle.segment_scan.specs.Series.{LogsTo}
 use Rattle.segment_scan.specs.Served.{choice_at, is_served, rest_of, rows_left, served, unserved}

@@ -1,5 +1,5 @@
 -- The documents that conjuncts leave, one conjunct after the other.
-use Rattle.std.proofs.Common.{◌≡◌, ◌∙◌, ◌<◌, ◌≤◌, ◌+◌, ◌&&◌, ◌||◌, ◌∷◌, ◌++◌, [], ℕ, zero, suc, Bool, true, false, nat_eq, All, List, Option, Some, None, IfSome, length, take, get_or, slice_get, refl, sym, ap, subst, arith}
+use Rattle.std.proofs.Common.{◌≡◌, ◌∙◌, ◌<◌, ◌&&◌, ◌||◌, ◌∷◌, ◌++◌, [], ℕ, zero, suc, Bool, true, false, nat_eq, All, List, Option, Some, None, IfSome, length, take, get_or, slice_get, refl, sym, ap, subst, arith}
 use Rattle.std.specs.Prelude.{if◌then◌else◌}
 use Rattle.std.specs.List.{list_all}
 use Rattle.std.proofs.lemmas.Bool.{eqb-true, false≢true}
@@ -16,10 +16,9 @@ use Rattle.doc_lists.specs.Sets.{AreThose}
 use Rattle.table_schema.specs.declared.query.Conjunct.{Conjunct}
 use Rattle.table_schema.specs.declared.query.Conjunct.TheVariants.{One, Many}
 use Rattle.segment_file.specs.Heads.{Seen}
-use Rattle.segment_file.specs.declared.part.Part.{Part}
 use Rattle.segment_plan.specs.declared.plans.IndexChoice.{IndexChoice}
 use Rattle.segment_plan.specs.declared.plans.IndexChoice.TheVariants.{Unindexed, Sorted, Inverted, Range}
-use Rattle.segment_scan.specs.Indexes.{AreInBoth, AreLeft, IsBadAny, IsBadIndex, Leaves, LeavesBy, LogsAt, LogsAtPartly, LogsServed, LogsServedPartly, OfEach, TellsServed, leaves}
+use Rattle.segment_scan.specs.Indexes.{AreInBoth, AreLeft, Leaves, LeavesBy, LogsAt, LogsAtPartly, LogsServed, LogsServedPartly, OfEach, TellsServed, leaves}
 use Rattle.segment_scan.specs.Served.{choice_at, is_served, served}
 use Rattle.segment_scan.proofs.DocLemmas.{has_own}
 

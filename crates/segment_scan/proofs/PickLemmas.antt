@@ -1,5 +1,5 @@
 -- The rows of documents, by the columns that are read for them.
-use Rattle.std.proofs.Common.{◌≡◌, ◌∙◌, ◌<◌, ◌≤◌, ◌+◌, ◌-◌, ◌∷◌, ◌++◌, [], inl, inr, ℕ, zero, suc, pos, Bool, true, false, All, Option, Some, None, IfSome, List, length, map, get_or, replicate, refl, ap, sym, subst, arith}
+use Rattle.std.proofs.Common.{◌≡◌, ◌∙◌, ◌<◌, ◌≤◌, ◌+◌, ◌-◌, ◌∷◌, ◌++◌, [], inl, inr, ℕ, suc, pos, Bool, true, false, All, Option, Some, None, IfSome, List, length, map, get_or, refl, ap, sym, subst, arith}
 use Rattle.std.proofs.lemmas.Bool.{cases_lt}
 use Rattle.std.proofs.Math.Seq.{get_or-append_seam}
 use Rattle.std.proofs.lemmas.List.{ext_get_or, get_or-map, get_or_append_left, length-map}
@@ -10,10 +10,10 @@ use Rattle.std.specs.List.{range_with_len}
 use Rattle.outside.specs.Files.{Files}
 use Rattle.values.specs.declared.value.Value.{Value}
 use Rattle.values.specs.declared.value.Value.TheVariants.{Whole}
-use Rattle.values.specs.Columns.{Listed, row_of, rows_of}
+use Rattle.values.specs.Columns.{row_of, rows_of}
 use Rattle.values.proofs.RowLemmas.{length-rows, row-at}
 use Rattle.bit_column.specs.Column.{id_at, ids_between}
-use Rattle.dictionary.specs.Coding.{AreBelow, values_at}
+use Rattle.dictionary.specs.Coding.{AreBelow}
 use Rattle.std.specs.List.Sorted.{IsStrictlyIncreasing}
 use Rattle.doc_lists.specs.Sets.{Up}
 use Rattle.table_schema.specs.declared.query.BoundQuery.{BoundQuery}

@@ -1,6 +1,5 @@
 -- Reads that are made one after the other, where they end early.
-use Rattle.std.proofs.Common.{◌≡◌, ◌<◌, ◌≤◌, ℕ, suc, List, Option, Result, Ok, Err, inl, inr, refl, arith}
-use Rattle.std.specs.Prelude.{OnErr}
+use Rattle.std.proofs.Common.{◌<◌, ℕ, suc, List, Option, inl, inr, refl, arith}
 use Rattle.outside.specs.Reads.{Entry}
 use Rattle.segment_scan.specs.Series.{Logs, LogsPartOf, LogsTo}
 

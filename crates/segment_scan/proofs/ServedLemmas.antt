@@ -1,14 +1,12 @@
 -- The conjuncts that are served, and the others.
-use Rattle.std.proofs.Common.{◌≡◌, ◌∙◌, ◌<◌, ◌≤◌, ◌+◌, ◌&&◌, ◌||◌, ◌∷◌, ◌++◌, [], ℕ, zero, suc, Bool, true, false, cond, List, length, take, drop, not, get_or, slice_get, Some, refl, sym, ap, subst, arith}
+use Rattle.std.proofs.Common.{◌≡◌, ◌∙◌, ◌<◌, ◌&&◌, ◌||◌, ◌∷◌, [], ℕ, zero, suc, Bool, true, false, List, length, take, drop, not, get_or, slice_get, Some, refl, sym, ap, arith}
 use Rattle.std.specs.Prelude.{if◌then◌else◌}
-use Rattle.std.specs.List.{filter, list_all, list_any}
-use Rattle.values.specs.declared.value.Value.{Value}
+use Rattle.std.specs.List.{list_all, list_any}
 use Rattle.table_schema.specs.declared.query.Conjunct.{Conjunct}
-use Rattle.table_schema.specs.Conditions.{all_hold, conjunct_holds}
 use Rattle.segment_plan.specs.declared.plans.IndexChoice.{IndexChoice}
 use Rattle.table_schema.specs.declared.query.BoundQuery.{BoundQuery}
 use Rattle.segment_scan.specs.Named.{agg_names, conjunct_names, is_in, query_names}
-use Rattle.segment_scan.specs.Served.{choice_at, is_served, rest_of, served, unserved}
+use Rattle.segment_scan.specs.Served.{choice_at, is_served, rest_of, unserved}
 use Rattle.segment_scan.proofs.AgreementLemmas.{or_left, or_right}
 
 and_assoc : (x y z : Bool) → (x && (y && z)) ≡ ((x && y) && z)

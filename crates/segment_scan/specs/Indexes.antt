@@ -21,7 +21,7 @@ use Rattle.segment_plan.specs.Matched.{values_in}
 use Rattle.segment_plan.specs.declared.plans.IndexChoice.{IndexChoice}
 use Rattle.segment_plan.specs.declared.plans.IndexChoice.TheVariants.{Sorted, Inverted}
 use Rattle.segment_scan.specs.Forward.{count_in}
-use Rattle.segment_scan.specs.Served.{choice_at, is_served, served}
+use Rattle.segment_scan.specs.Served.{choice_at, is_served}
 
 -- the section of a column of a kind
 abbrev pub part_of : ListKind → ℕ → Part

@@ -1,10 +1,9 @@
 -- The ids of some documents in the columns of a segment, and what is read for them.
-use Rattle.std.specs.Prelude.{◌≡◌, ◌<◌, ◌≤◌, ◌+◌, ◌*◌, ◌⊎◌, ℕ, Bool, true, false, All, List, length, map, Option, Some, None, IfSome, get_or}
+use Rattle.std.specs.Prelude.{◌≡◌, ◌<◌, ◌+◌, ◌⊎◌, ℕ, Bool, true, false, All, List, length, map, Option, Some, None, IfSome, get_or}
 use Rattle.outside.specs.Files.{Files}
 use Rattle.outside.specs.Reads.{Entry}
 use Rattle.bit_column.specs.Column.{id_at}
 use Rattle.bit_column.specs.Sections.{end_byte, first_byte}
-use Rattle.doc_lists.specs.Docs.{docs_of}
 use Rattle.doc_lists.specs.declared.run.Run.{Run}
 use Rattle.index_reading.specs.Stretches.{LogsOver, LogsPartly, Stretch}
 use Rattle.segment_file.specs.Heads.{Seen, place_in}

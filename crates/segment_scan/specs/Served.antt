@@ -1,13 +1,13 @@
 -- The conjuncts of a query whose rows are found by an index, and those that are tested row by row.
-use Rattle.std.specs.Prelude.{◌≡◌, ℕ, Bool, true, false, List, [], ◌∷◌, get_or, length, if◌then◌else◌}
+use Rattle.std.specs.Prelude.{ℕ, Bool, true, false, List, [], ◌∷◌, get_or, if◌then◌else◌}
 use Rattle.std.specs.List.{filter}
 use Rattle.values.specs.declared.value.Value.{Value}
 use Rattle.table_schema.specs.declared.query.BoundQuery.{BoundQuery}
 use Rattle.table_schema.specs.declared.query.Conjunct.{Conjunct}
-use Rattle.table_schema.specs.declared.query.Conjunct.TheVariants.{One, Many}
+use Rattle.table_schema.specs.declared.query.Conjunct.TheVariants.{One}
 use Rattle.table_schema.specs.Conditions.{all_hold}
 use Rattle.segment_plan.specs.declared.plans.IndexChoice.{IndexChoice}
-use Rattle.segment_plan.specs.declared.plans.IndexChoice.TheVariants.{Unindexed, Sorted, Inverted, Range}
+use Rattle.segment_plan.specs.declared.plans.IndexChoice.TheVariants.{Unindexed, Sorted, Inverted}
 
 -- an index tells just the rows of the conjunct; the rows that a range index tells are still tested
 abbrev pub is_served : IndexChoice → Conjunct → Bool

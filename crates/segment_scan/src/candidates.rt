@@ -12,7 +12,7 @@ ghost use Rattle.segment_scan.specs.declared.fault.EngineFault.TheVariants.{NotA
 
 use crate::EngineFault;
 use crate::serving::choice_at;
-use doc_lists::{DocList, meet};
+use doc_lists::DocList;
 use index_reading::{ListFault, ListKind, docs_of_ids};
 use outside::Shelf;
 use segment_file::{Head, Part};
@@ -171,6 +171,6 @@ fn in_both(
     match (first, second) {
         (None, second) => Ok(second),
         (Some(first), None) => Ok(Some(first)),
-        (Some(first), Some(second)) => Ok(Some(meet(alloc, &first, &second)?)),
+        (Some(first), Some(second)) => Ok(Some(doc_lists::meet(alloc, &first, &second)?)),
     }
 }

@@ -25,8 +25,9 @@ use segment_plan::IndexChoice;
 use std::alloc::Global;
 use table_schema::BoundQuery;
 
-/// Adds those of the rows of documents that satisfy the conjuncts that are not served, by the columns
-/// that are named. Of the forward section of each the ids of the documents are read, and nothing else.
+/// Adds those of the rows of documents that satisfy the conjuncts that are not served, by the
+/// columns that are named. Of the forward section of each the ids of the documents are read, and
+/// nothing else.
 pub fn scan_documents<S: Shelf>(
     alloc: Global,
     shelf: &mut S,

@@ -24,9 +24,9 @@ use segment_plan::IndexChoice;
 use std::alloc::Global;
 use table_schema::{BoundQuery, Table};
 
-/// Adds those of the rows that the indexes leave that satisfy the other conjuncts to the groups of a
-/// query, and answers how many rows the indexes leave. Of each column that is named beside the served
-/// conjuncts the ids of these rows are read, and nothing else.
+/// Adds those of the rows that the indexes leave that satisfy the other conjuncts to the groups of
+/// a query, and answers how many rows the indexes leave. Of each column that is named beside the
+/// served conjuncts the ids of these rows are read, and nothing else.
 pub fn scan_left<S: Shelf>(
     alloc: Global,
     shelf: &mut S,

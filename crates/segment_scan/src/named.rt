@@ -11,8 +11,8 @@ use std::alloc::Global;
 use table_schema::{Agg, BoundQuery, Conjunct, Wide};
 use values::NoMemory;
 
-/// A mark for each of so many columns, whether the query names it in a group column, an aggregate or
-/// a conjunct that is not served.
+/// A mark for each of so many columns, whether the query names it in a group column, an aggregate
+/// or a conjunct that is not served.
 pub fn named_columns(
     alloc: Global,
     query: &BoundQuery,

@@ -21,9 +21,9 @@ use outside::{Seq, Shelf};
 use segment_file::{Head, Part};
 use std::alloc::Global;
 
-/// The ids of documents in the columns that are named, by the numbers of their fields: of the forward
-/// section of each the ids of the runs are read, one run after the other, and nothing else: at most
-/// four bytes a document and column.
+/// The ids of documents in the columns that are named, by the numbers of their fields: of the
+/// forward section of each the ids of the runs are read, one run after the other, and nothing else:
+/// at most four bytes a document and column.
 pub fn pick_columns<S: Shelf>(
     alloc: Global,
     shelf: &mut S,

@@ -18,7 +18,8 @@ use std::alloc::Global;
 use table_schema::{Conjunct, Wide};
 use values::{NoMemory, Test, Value, holds_value};
 
-/// A mark for each row of a segment, whether it satisfies those of the conjuncts that are not served.
+/// A mark for each row of a segment, whether it satisfies those of the conjuncts that are not
+/// served.
 pub fn mark_rows(
     alloc: Global,
     segment: &SegmentColumns<'_>,

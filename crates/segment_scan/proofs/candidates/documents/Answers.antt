@@ -1,7 +1,5 @@
-use Rattle.std.proofs.Common.{◌≡◌, ◌∙◌, ◌+◌, ℕ, suc, List, Option, Some, length, take, slice_get, refl, sym, subst, arith}
-use Rattle.std.proofs.lemmas.List.{take_all}
+use Rattle.std.proofs.Common.{◌≡◌, ◌+◌, ℕ, suc, List, Option, length, take, refl, sym, subst, arith}
 use Rattle.outside.specs.Files.{Files}
-use Rattle.outside.specs.Reads.{Entry}
 use Rattle.outside.specs.Seen.{seen}
 use Rattle.outside.proofs.SeenLemmas.{reads_none}
 use Rattle.table_schema.specs.declared.query.Conjunct.{Conjunct}

@@ -4,7 +4,7 @@ use Rattle.agg_laws.specs.Numbers.{most_values}
 use Rattle.doc_lists.specs.Docs.{docs_of}
 use Rattle.group_table.specs.Kept.{groups_in}
 use Rattle.index_reading.proofs.RunLemmas.{lasts_below}
-use Rattle.scan_engine.specs.Scanned.{AddsRows, HaveAtMost, selected}
+use Rattle.scan_engine.specs.Scanned.{selected}
 use Rattle.scan_engine.proofs.AddLemmas.{at_most_more}
 use Rattle.scan_engine.proofs.RunLemmas.{adds_as_more}
 use Rattle.segment_file.specs.Heads.{Seen}

@@ -1,16 +1,15 @@
-use Rattle.std.proofs.Common.{◌≡◌, ◌∙◌, ◌<◌, ◌≤◌, ℕ, Bool, List, Option, Err, IsErrOf, inl, refl, false, length, get_or, ap, sym, subst, arith}
-use Rattle.std.proofs.lemmas.Result.{IfOk-weaker}
+use Rattle.std.proofs.Common.{◌≡◌, ℕ, Bool, List, Option, Err, IsErrOf, inl, refl, length, ap, sym, subst}
 use Rattle.outside.specs.Files.{Files}
 use Rattle.segment_file.specs.Heads.{Seen}
-use Rattle.segment_scan.specs.Documents.{AddsDocs, LogsDocs, LogsDocsPartly}
-use Rattle.segment_scan.specs.Images.{AddsImage, AreDocs, AreNamedLoaded, names_in, rest_for}
+use Rattle.segment_scan.specs.Documents.{LogsDocs, LogsDocsPartly}
+use Rattle.segment_scan.specs.Images.{AreDocs, AreNamedLoaded, names_in, rest_for}
 use Rattle.segment_scan.specs.Served.{rest_of}
 use Rattle.segment_scan.specs.declared.fault.EngineFault.{EngineFault}
 use Rattle.segment_scan.specs.declared.fault.EngineFault.TheVariants.{NotASegment, TooManyGroups}
 use Rattle.segment_scan.proofs.ImageLemmas.{loaded_readable}
 use Rattle.segment_scan.proofs.LeftImage.{adds_left, bad_left, full_left, left_docs, left_full, left_image, marks_left, rest_loaded}
-use Rattle.segment_scan.proofs.LogLemmas.{err_is, err_so}
-use Rattle.segment_scan.proofs.SegmentLemmas.{mark_named, marks_few, ok_so}
+use Rattle.segment_scan.proofs.LogLemmas.{err_is}
+use Rattle.segment_scan.proofs.SegmentLemmas.{mark_named, marks_few}
 use Rattle.segment_scan.proofs.left.scan_left.Goals as goal
 
 -- a fault is the same beside answers of another type

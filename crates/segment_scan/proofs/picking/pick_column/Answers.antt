@@ -10,7 +10,6 @@ use Rattle.index_reading.specs.Stretches.{LogsPartly}
 use Rattle.segment_file.specs.Heads.{Seen, place_in}
 use Rattle.segment_file.specs.declared.part.Part.TheVariants.{Forward}
 use Rattle.segment_plan.specs.Matched.{values_of}
-use Rattle.segment_scan.specs.declared.fault.EngineFault.{EngineFault}
 use Rattle.segment_scan.specs.Forward.{count_in, width_in}
 use Rattle.segment_scan.specs.Picked.{LogsRunsPartly, ids_of_run}
 use Rattle.bit_column.specs.Column.{width_of}

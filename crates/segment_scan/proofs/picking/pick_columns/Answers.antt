@@ -1,6 +1,6 @@
 use Rattle.segment_scan.specs.Picked.{LogsPicked, LogsPickedPartly}
 use Rattle.segment_scan.specs.Series.{LogsPartOf}
-use Rattle.std.proofs.Common.{◌≡◌, ◌+◌, ◌<◌, ◌∷◌, [], ℕ, suc, ap, length-append, Bool, List, Option, None, false, refl, get_or, length, subst, take, arith}
+use Rattle.std.proofs.Common.{◌≡◌, ◌+◌, ◌∷◌, [], ℕ, suc, ap, length-append, List, Option, None, false, refl, get_or, length, subst, take, arith}
 use Rattle.outside.specs.Seen.{seen}
 use Rattle.outside.proofs.SeenLemmas.{reads_none}
 use Rattle.doc_lists.specs.Docs.{docs_of}

@@ -1,5 +1,4 @@
-use Rattle.std.proofs.Common.{◌≡◌, ◌∙◌, ◌≤◌, ℕ, List, [], Option, Err, None, Some, IfOk, IsErrOf, inl, inr, length, ap, sym, subst, arith}
-use Rattle.std.specs.Prelude.{OnErr, OnOk}
+use Rattle.std.proofs.Common.{◌≡◌, ◌∙◌, ℕ, List, [], Option, Err, None, IsErrOf, inl, length, ap, sym, subst, arith}
 use Rattle.std.proofs.lemmas.Result.{IfOk-weaker}
 use Rattle.outside.specs.Files.{Files}
 use Rattle.outside.specs.Reads.{Entry}
@@ -7,7 +6,7 @@ use Rattle.table_schema.specs.declared.query.Conjunct.{Conjunct}
 use Rattle.segment_file.specs.Heads.{Seen}
 use Rattle.segment_plan.specs.declared.plans.IndexChoice.{IndexChoice}
 use Rattle.segment_scan.specs.Forward.{LogsColumns, LogsSome}
-use Rattle.segment_scan.specs.Images.{AddsImage, AddsWhole, AreDocs, IsBadWhole, IsWholeOverfull, LogsScan, LogsScanPartly, choices_for, names_in, served_for}
+use Rattle.segment_scan.specs.Images.{AddsImage, AddsWhole, IsBadWhole, IsWholeOverfull, LogsScanPartly, choices_for, names_in, served_for}
 use Rattle.segment_scan.specs.Indexes.{IsBadAny, IsReady, Leaves, LogsAt, OfEach}
 use Rattle.segment_scan.specs.Series.{LogsTo}
 use Rattle.segment_scan.specs.Served.{served}

@@ -1,4 +1,4 @@
-use Rattle.std.proofs.Common.{◌≡◌, ◌∙◌, ◌+◌, ◌&&◌, ◌||◌, ℕ, suc, Bool, List, false, get_or, ap, sym, subst, take, length, arith}
+use Rattle.std.proofs.Common.{◌≡◌, ◌∙◌, ◌+◌, ◌&&◌, ◌||◌, ℕ, suc, Bool, List, false, get_or, ap, sym, subst, take, arith}
 use Rattle.std.proofs.lemmas.List.{take_all}
 use Rattle.values.specs.Columns.{row_of}
 use Rattle.table_schema.specs.Conditions.{all_hold, conjunct_holds}
@@ -7,7 +7,7 @@ use Rattle.segment_plan.specs.declared.plans.IndexChoice.{IndexChoice}
 use Rattle.scan_engine.specs.Selection.{Keeps}
 use Rattle.scan_engine.proofs.SelectionLemmas.{and_true, keeps-both}
 use Rattle.segment_scan.specs.Coded.{table_of}
-use Rattle.segment_scan.specs.Served.{choice_at, is_served, unserved}
+use Rattle.segment_scan.specs.Served.{is_served, unserved}
 use Rattle.segment_scan.proofs.ServedLemmas.{none_unserved, unserved_more}
 use Rattle.segment_scan.proofs.selection.keep_all.Goals as goal
 

@@ -1,6 +1,5 @@
-use Rattle.std.proofs.Common.{◌≡◌, ◌∙◌, ◌<◌, ◌≤◌, ℕ, Bool, List, Option, false, length, get_or, ap, arith}
+use Rattle.std.proofs.Common.{◌≡◌, ◌∙◌, Bool, List, Option, false, length, get_or, ap, arith}
 use Rattle.outside.specs.Files.{Files}
-use Rattle.segment_file.specs.Heads.{Seen}
 use Rattle.segment_scan.specs.Forward.{LogsColumns, LogsSome}
 use Rattle.segment_scan.specs.Images.{AddsWhole, names_in}
 use Rattle.segment_scan.specs.Scans.{AddsSegment}
