@@ -28,7 +28,7 @@ use std::alloc::Global;
 use table_schema::{BoundQuery, Table};
 
 /// Adds the rows of the segment of this name that satisfy the filter of a query to its groups. Of a
-/// segment that its bounds exclude no more than the head is read.
+/// segment that its bounds exclude no more than the front and the bounds is read.
 pub fn add_segment<S: Shelf>(
     alloc: Global,
     shelf: &mut S,
