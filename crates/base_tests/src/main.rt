@@ -1,5 +1,5 @@
-//! Worked values and calls of the crates that the others are built on: devices, values, aggregates, dictionaries and
-//! forward indexes. It prints a line for each table, and each expectation that does not hold.
+//! Worked values and calls of the crates that the others are built on: devices, values, aggregates, dictionaries,
+//! forward indexes and the sections of other indexes. It prints a line for each table, and each expectation that does not hold.
 #![tactic(auto)]
 
 mod aggregates;
@@ -8,6 +8,7 @@ mod dictionaries;
 mod expect;
 mod folders;
 mod forward_indexes;
+mod index_sections;
 mod shelves;
 mod sinks;
 mod tests_of_values;
@@ -73,7 +74,9 @@ fn columns(rt: &HostRuntime) -> io::Result<()> {
     print(rt, "look-ups", dictionaries::look_ups(alloc))?;
     print(rt, "lists of ids", dictionaries::lists_of_ids(alloc))?;
     print(rt, "spelled columns", forward_indexes::spelled(alloc))?;
-    print(rt, "ranges", forward_indexes::ranges(alloc))
+    print(rt, "ranges", forward_indexes::ranges(alloc))?;
+    print(rt, "lists of rows", index_sections::lists_of_rows(alloc))?;
+    print(rt, "range indexes", index_sections::range_indexes(alloc))
 }
 
 fn aggregates_and_trees(rt: &HostRuntime) -> io::Result<()> {

@@ -1,5 +1,5 @@
 -- Without group columns there is one group at most, and few groups are in order as they are.
-use Rattle.std.proofs.Common.{◌≡◌, ◌∙◌, ℕ, zero, suc, ◌<◌, ◌≤◌, true, false, List, [], ◌∷◌, length, refl, sym, arith}
+use Rattle.std.proofs.Common.{◌≡◌, ◌∙◌, ℕ, zero, suc, ◌<◌, ◌≤◌, true, false, List, [], ◌∷◌, length, take, refl, sym, ap, arith}
 use Rattle.std.specs.List.{range_with_len, IsDistinct, AllByRecursion}
 use Rattle.std.specs.Map.{keys_of}
 use Rattle.std.proofs.lemmas.List.Sorted.{IsPermutation-refl}
@@ -8,7 +8,7 @@ use Rattle.values.specs.declared.value.Value.{Value}
 use Rattle.table_schema.specs.declared.query.OrderKey.{OrderKey}
 use Rattle.group_table.specs.Groups.{Group}
 use Rattle.group_table.specs.Kept.{KeptGroups, IsGroup, IsTable, key_eq}
-use Rattle.broker_merge.specs.Ranked.{AreInOrder}
+use Rattle.broker_merge.specs.Ranked.{BeginInOrder}
 use Rattle.broker_merge.proofs.OrderLemmas.{is_in_order}
 use Rattle.broker_merge.proofs.RankLemmas.{all_groups, all_below}
 
@@ -33,8 +33,8 @@ grouped t table two = by t.columns t.groups refl table.each table.once two
     by zero (a ∷ []) e each once h = absurd (omega arith)
     by zero (a ∷ b ∷ gs) e each once h = absurd (one_key a b gs (each.0.key ∙ sym e) (each.1.0.key ∙ sym e) once)
 
-pub few : (t : KeptGroups) (order : List OrderKey) → IsTable t → length t.groups < 2 → AreInOrder t order (range_with_len 0 (length t.groups))
-few t order table h = record {
+pub few : (t : KeptGroups) (order : List OrderKey) (most : ℕ) → IsTable t → length t.groups < 2 → BeginInOrder t order most (range_with_len 0 (length t.groups))
+few t order most table h = record {
   below = all_below (length t.groups);
-  groups = sym (all_groups t) ∙ is_in_order order t.groups t.groups (IsPermutation-refl t.groups) table.once (λ k d low lt. absurd (omega arith));
+  groups = ap (take most) (sym (all_groups t) ∙ is_in_order order t.groups t.groups (IsPermutation-refl t.groups) table.once (λ k d low lt. absurd (omega arith)));
 }

@@ -5,13 +5,14 @@ use Rattle.std.specs.declared.cmp.Ordering.TheVariants.{Less, Equal, Greater}
 use Rattle.std.specs.Ordering.{ordering_then, is_lt, nat_cmp}
 use Rattle.std.specs.Borrow.{Bor}
 use Rattle.std.specs.Fork.{slice_chunk}
-use Rattle.std.specs.List.Sorted.{IsSorted}
+use Rattle.std.specs.Cmp.{IsTotalOrder}
+use Rattle.std.specs.List.Sorted.{IsSorted, IsSplitAround}
 use Rattle.std.specs.Cmp.Lexicographic.{slice_cmp}
 use Rattle.std.specs.List.{All, AllByRecursion, slice_get, range_with_len}
-use Rattle.std.proofs.lemmas.List.{length-map, map-append, get_or-map}
-use Rattle.std.proofs.lemmas.List.Elements.{All-push}
+use Rattle.std.proofs.lemmas.List.{get_or-append-add, get_or-map, get_or_append_left, length-map, map-append, take_all, take_at}
+use Rattle.std.proofs.lemmas.List.Elements.{All-cons, All-map, All-push}
 use Rattle.std.proofs.lemmas.List.FromFn.{map-range_with_len_more, length-range_with_len, get_or-range_with_len, fill_by_all}
-use Rattle.std.proofs.lemmas.List.Sorted.{IsPermutation-map, All-permutation}
+use Rattle.std.proofs.lemmas.List.Sorted.{All-permutation, IsPermutation-append, IsPermutation-map, IsPermutation-trans, length_permutation}
 use Rattle.std.proofs.Math.Seq.{drop-append-add, take-append_seam}
 use Rattle.agg_laws.specs.declared.states.AggState.{AggState}
 use Rattle.agg_laws.specs.Numbers.{most_values}
@@ -21,10 +22,11 @@ use Rattle.table_schema.specs.declared.query.Item.TheVariants as item
 use Rattle.table_schema.specs.declared.query.OrderKey.{OrderKey}
 use Rattle.group_table.specs.Groups.{Group, key_order}
 use Rattle.group_table.specs.Kept.{KeptGroups, IsGroup, IsTable, HaveValues, group_at}
-use Rattle.broker_merge.specs.Order.{item_order, directed, group_order}
+use Rattle.broker_merge.specs.Order.{item_order, directed, group_order, in_order}
 use Rattle.broker_merge.specs.Rank.{Placed, IsFair, placed_order, turned_order, seen_order, seen_at, placed_at, places_of, key_place}
-use Rattle.broker_merge.specs.Ranked.{AreRanked, AreInOrder}
-use Rattle.broker_merge.proofs.OrderLemmas.{is_in_order}
+use Rattle.broker_merge.specs.Ranked.{AreRanked, BeginInOrder}
+use Rattle.broker_merge.proofs.JoinLemmas.{not_itself, not_less_on, sorted_append}
+use Rattle.broker_merge.proofs.OrderLemmas.{group_total, is_in_order, permuted, sorted as in_order_sorted}
 
 -- ---- the groups of a table
 
@@ -132,6 +134,12 @@ first_entry (x ∷ xs) h = x
 abbrev pub entry_order : Entry → Entry → Ordering
 entry_order a b = ordering_then (slice_cmp placed_order a.0.now b.0.now) (nat_cmp a.1 b.1)
 
+all_left : {A : Type 0} (P : A → Type 0) (xs ys : List A) → All P (xs ++ ys) → All P xs
+all_left P xs ys h = λ k d lt. subst P (get_or_append_left xs ys d k lt) (h k d (omega (arith, length-append xs ys, lt)))
+
+all_right : {A : Type 0} (P : A → Type 0) (xs ys : List A) → All P (xs ++ ys) → All P ys
+all_right P xs ys h = λ k d lt. subst P (get_or-append-add xs ys k d) (h (length xs + k) d (omega (arith, length-append xs ys, lt)))
+
 module _ (t : KeptGroups) (order : List OrderKey) where
   abbrev all_places : List Placed
   all_places = flat_map (places_of order) t.groups
@@ -153,42 +161,151 @@ module _ (t : KeptGroups) (order : List OrderKey) where
       let lt' : k < length (map (λ (r : Entry). r.1) l) = subst (λ n. k < n) (sym (length-map l (λ (r : Entry). r.1))) lt in
       get_or-map (group_at t) (map (λ (r : Entry). r.1) l) k 0 d lt' ∙ ap (group_at t) (get_or-map (λ (r : Entry). r.1) l k e 0 lt)
 
+  pub ranked_all : (places : List Placed) (count : ℕ) (ranked : List Entry) → places ≡ all_places → count ≡ length t.groups → AreRanked places (length order + 1) count ranked
+      → AreRanked all_places (length order + 1) (length t.groups) ranked
+  ranked_all places count ranked is so h = subst (λ l. AreRanked l (length order + 1) (length t.groups) ranked) is (subst (λ n. AreRanked places (length order + 1) n ranked) so h)
+
+  -- entries of groups of the table, each with its own share
+  pub record AreShown (l : List Entry) : Type 0 where
+    pub below : All (λ (r : Entry). r.1 < length t.groups) l
+    pub each : All (λ (r : Entry). r.0.now ≡ slice_chunk all_places (length order + 1) r.1) l
+
+  -- the groups of entries
+  abbrev pub groups_at : List Entry → List Group
+  groups_at l = map (group_at t) (map (λ (r : Entry). r.1) l)
+
+  pub all_shown : (ranked : List Entry) → AreRanked all_places (length order + 1) (length t.groups) ranked → AreShown ranked
+  all_shown ranked h = record {
+    below = λ k d lt. subst (λ j. j < length t.groups) (get_or-map (λ (r : Entry). r.1) ranked k d 0 lt)
+        (subst (All (λ k. k < length t.groups)) (sym h.all) (all_below (length t.groups)) k 0 (subst (λ n. k < n) (sym (length-map ranked (λ (r : Entry). r.1))) lt));
+    each = h.each;
+  }
+
+  pub shown_moved : (l m : List Entry) → IsPermutation l m → AreShown l → AreShown m
+  shown_moved l m p h = record {
+    below = All-permutation (λ (r : Entry). r.1 < length t.groups) l m p h.below;
+    each = All-permutation (λ (r : Entry). r.0.now ≡ slice_chunk all_places (length order + 1) r.1) l m p h.each;
+  }
+
+  -- an entry that is not less than another has a group that is not
+  pub not_less : (b a : Entry) → b.1 < length t.groups → a.1 < length t.groups
+      → b.0.now ≡ slice_chunk all_places (length order + 1) b.1 → a.0.now ≡ slice_chunk all_places (length order + 1) a.1
+      → is_lt (entry_order b a) ≡ false → is_lt (group_order order (group_at t b.1) (group_at t a.1)) ≡ false
+  not_less b a p q x y h =
+      then_less (group_order order (group_at t b.1) (group_at t a.1)) (nat_cmp b.1 a.1)
+      ((λ i. is_lt (ordering_then (ranks b a p q x y i) (nat_cmp b.1 a.1))) ∙ h)
+
+  -- sorted entries have sorted groups
+  pub sorted_groups : (l : List Entry) → AreShown l → IsSorted entry_order l → IsSorted (group_order order) (groups_at l)
+  sorted_groups l h s k d low lt =
+      let len : length (groups_at l) ≡ length l = length-map (map (λ (r : Entry). r.1) l) (group_at t) ∙ length-map l (λ (r : Entry). r.1) in
+      let lt' : k + 1 < length l = omega arith in
+      let e = first_entry l (omega arith) in
+      (λ i. is_lt (group_order order (at_place_of l (k + 1) d e lt' i) (at_place_of l k d e (omega arith) i)))
+      ∙ not_less (get_or l (k + 1) e) (get_or l k e) (h.below (k + 1) e lt') (h.below k e (omega arith)) (h.each (k + 1) e lt') (h.each k e (omega arith)) (s k e low lt')
+
+  -- the groups of all entries, however they are moved, are those of the table
+  pub moved_groups : (ranked new : List Entry) → AreRanked all_places (length order + 1) (length t.groups) ranked → IsPermutation ranked new → IsPermutation t.groups (groups_at new)
+  moved_groups ranked new h p =
+      subst (λ (es : List Group). IsPermutation es (groups_at new)) (sym (all_groups t))
+      (IsPermutation-map (group_at t) (range_with_len 0 (length t.groups)) (map (λ (r : Entry). r.1) new)
+      (subst (λ (l : List ℕ). IsPermutation l (map (λ (r : Entry). r.1) new)) h.all (IsPermutation-map (λ (r : Entry). r.1) ranked new p)))
+
+  pub below_places : (l : List Entry) → AreShown l → All (λ k. k < length t.groups) (map (λ (r : Entry). r.1) l)
+  below_places l h = All-map (λ k. k < length t.groups) (λ (r : Entry). r.1) l h.below
+
   -- sorted entries are the places in order
-  pub in_order_places : (ranked new : List Entry) → IsTable t → AreRanked all_places (length order + 1) (length t.groups) ranked
-      → IsPermutation ranked new → IsSorted entry_order new → AreInOrder t order (map (λ (r : Entry). r.1) new)
-  in_order_places ranked new table h p s = record {
-    below = below;
-    groups = is_in_order order t.groups groups (subst (λ (es : List Group). IsPermutation es groups) (sym (all_groups t)) same) table.once sorted;
+  pub in_order_places : (most : ℕ) (ranked new : List Entry) → IsTable t → AreRanked all_places (length order + 1) (length t.groups) ranked
+      → IsPermutation ranked new → IsSorted entry_order new → BeginInOrder t order most (map (λ (r : Entry). r.1) new)
+  in_order_places most ranked new table h p s =
+      let shown : AreShown new = shown_moved ranked new p (all_shown ranked h) in
+      record {
+        below = below_places new shown;
+        groups = ap (take most) (is_in_order order t.groups (groups_at new) (moved_groups ranked new h p) table.once (sorted_groups new shown s));
+      }
+
+  left_shown : (l m : List Entry) → AreShown (l ++ m) → AreShown l
+  left_shown l m h = record {
+    below = all_left (λ (r : Entry). r.1 < length t.groups) l m h.below;
+    each = all_left (λ (r : Entry). r.0.now ≡ slice_chunk all_places (length order + 1) r.1) l m h.each;
+  }
+
+  right_shown : (l m : List Entry) → AreShown (l ++ m) → AreShown m
+  right_shown l m h = record {
+    below = all_right (λ (r : Entry). r.1 < length t.groups) l m h.below;
+    each = all_right (λ (r : Entry). r.0.now ≡ slice_chunk all_places (length order + 1) r.1) l m h.each;
+  }
+
+  all_groups_at : (P : Group → Type 0) (l : List Entry) → All (λ (r : Entry). P (group_at t r.1)) l → All P (groups_at l)
+  all_groups_at P l h = All-map P (group_at t) (map (λ (r : Entry). r.1) l) (All-map (λ j. P (group_at t j)) (λ (r : Entry). r.1) l h)
+
+  -- so are those that were chosen as the first, and sorted
+  pub first_places : (most : ℕ) (ranked front first back : List Entry) (x : Entry) → IsTable t → AreRanked all_places (length order + 1) (length t.groups) ranked
+      → IsPermutation ranked (front ++ x ∷ back) → length front ≡ most → IsSplitAround entry_order front x back → IsPermutation front first → IsSorted entry_order first
+      → BeginInOrder t order most (map (λ (r : Entry). r.1) first)
+  first_places most ranked front first back x table h p count split q s = record {
+    below = below_places first begun;
+    groups = take_all most fs (omega (arith, long)) ∙ sym (take_at fs rs most long) ∙ ap (take most) (is_in_order order t.groups (fs ++ rs) moved table.once joined);
   }
     where
-      places : List ℕ
-      places = map (λ (r : Entry). r.1) new
+      shown : AreShown (front ++ x ∷ back)
+      shown = shown_moved ranked (front ++ x ∷ back) p (all_shown ranked h)
 
-      moved : IsPermutation (range_with_len 0 (length t.groups)) places
-      moved = subst (λ (l : List ℕ). IsPermutation l places) h.all (IsPermutation-map (λ (r : Entry). r.1) ranked new p)
+      before : AreShown front
+      before = left_shown front (x ∷ back) shown
 
-      below : All (λ k. k < length t.groups) places
-      below = All-permutation (λ k. k < length t.groups) (range_with_len 0 (length t.groups)) places moved (all_below (length t.groups))
+      behind : AreShown (x ∷ back)
+      behind = right_shown front (x ∷ back) shown
 
-      groups : List Group
-      groups = map (group_at t) places
+      begun : AreShown first
+      begun = shown_moved front first q before
 
-      same : IsPermutation (map (group_at t) (range_with_len 0 (length t.groups))) groups
-      same = IsPermutation-map (group_at t) (range_with_len 0 (length t.groups)) places moved
+      fs : List Group
+      fs = groups_at first
 
-      each : All (λ (r : Entry). r.0.now ≡ slice_chunk all_places (length order + 1) r.1) new
-      each = All-permutation (λ (r : Entry). r.0.now ≡ slice_chunk all_places (length order + 1) r.1) ranked new p h.each
+      rs : List Group
+      rs = in_order order (groups_at (x ∷ back))
 
-      sorted : IsSorted (group_order order) groups
-      sorted k d low lt =
-          let len : length groups ≡ length new = length-map places (group_at t) ∙ length-map new (λ (r : Entry). r.1) in
-          let lt' : k + 1 < length new = omega arith in
-          let e = first_entry new (omega arith) in
-          (λ i. is_lt (group_order order (at_place_of new (k + 1) d e lt' i) (at_place_of new k d e (omega arith) i)))
-          ∙ then_less (group_order order (group_at t (get_or new (k + 1) e).1) (group_at t (get_or new k e).1)) (nat_cmp (get_or new (k + 1) e).1 (get_or new k e).1)
-          ((λ i. is_lt (ordering_then (ranks (get_or new (k + 1) e) (get_or new k e)
-          (below_at (k + 1) e lt') (below_at k e (omega arith)) (each (k + 1) e lt') (each k e (omega arith)) i) (nat_cmp (get_or new (k + 1) e).1 (get_or new k e).1)))
-          ∙ s k e low lt')
-        where
-          below_at : (k : ℕ) (e : Entry) → k < length new → (get_or new k e).1 < length t.groups
-          below_at k e lt = subst (λ j. j < length t.groups) (get_or-map (λ (r : Entry). r.1) new k e 0 lt) (below k 0 (subst (λ n. k < n) (sym (length-map new (λ (r : Entry). r.1))) lt))
+      middle : Group
+      middle = group_at t x.1
+
+      long : length fs ≡ most
+      long = length-map (map (λ (r : Entry). r.1) first) (group_at t) ∙ length-map first (λ (r : Entry). r.1) ∙ length_permutation front first q ∙ count
+
+      parts : groups_at (front ++ x ∷ back) ≡ groups_at front ++ groups_at (x ∷ back)
+      parts = ap (map (group_at t)) (map-append (λ (r : Entry). r.1) front (x ∷ back)) ∙ map-append (group_at t) (map (λ (r : Entry). r.1) front) (map (λ (r : Entry). r.1) (x ∷ back))
+
+      turned : IsPermutation (groups_at front) fs
+      turned = IsPermutation-map (group_at t) (map (λ (r : Entry). r.1) front) (map (λ (r : Entry). r.1) first) (IsPermutation-map (λ (r : Entry). r.1) front first q)
+
+      moved : IsPermutation t.groups (fs ++ rs)
+      moved = IsPermutation-trans t.groups (groups_at front ++ groups_at (x ∷ back)) (fs ++ rs)
+          (subst (IsPermutation t.groups) parts (moved_groups ranked (front ++ x ∷ back) h p))
+          (IsPermutation-append (groups_at front) fs (groups_at (x ∷ back)) rs turned (permuted order (groups_at (x ∷ back))))
+
+      total : IsTotalOrder (group_order order)
+      total = group_total order
+
+      x_below : x.1 < length t.groups
+      x_below = behind.below 0 x (omega arith)
+
+      x_shows : x.0.now ≡ slice_chunk all_places (length order + 1) x.1
+      x_shows = behind.each 0 x (omega arith)
+
+      no_less : All (λ g. is_lt (group_order order middle g) ≡ false) fs
+      no_less = All-permutation (λ g. is_lt (group_order order middle g) ≡ false) (groups_at front) fs turned
+          (all_groups_at (λ g. is_lt (group_order order middle g) ≡ false) front
+          (λ k d lt. not_less x (get_or front k d) x_below (before.below k d lt) x_shows (before.each k d lt) (split.0 k d lt)))
+
+      others : AreShown back
+      others = right_shown (x ∷ []) back behind
+
+      no_more : All (λ g. is_lt (group_order order g middle) ≡ false) rs
+      no_more = All-permutation (λ g. is_lt (group_order order g middle) ≡ false) (groups_at (x ∷ back)) rs (permuted order (groups_at (x ∷ back)))
+          (All-cons (λ g. is_lt (group_order order g middle) ≡ false) middle (groups_at back) (not_itself (group_order order) total middle)
+          (all_groups_at (λ g. is_lt (group_order order g middle) ≡ false) back
+          (λ k d lt. not_less (get_or back k d) x (others.below k d lt) x_below (others.each k d lt) x_shows (split.1 k d lt))))
+
+      joined : IsSorted (group_order order) (fs ++ rs)
+      joined = sorted_append (group_order order) fs rs (sorted_groups first begun s) (in_order_sorted order (groups_at (x ∷ back)))
+          (λ i j d lo hi. not_less_on (group_order order) total middle (get_or fs i d) (get_or rs j d) (no_less i d lo) (no_more j d hi))

@@ -1,5 +1,5 @@
 -- Places of groups, each with what the group is compared by.
-use Rattle.std.specs.Prelude.{◌≡◌, ◌<◌, ℕ, List, length, map}
+use Rattle.std.specs.Prelude.{◌≡◌, ◌<◌, ℕ, List, length, map, take}
 use Rattle.std.specs.Borrow.{Bor}
 use Rattle.std.specs.Fork.{slice_chunk}
 use Rattle.std.specs.FinMap as finite
@@ -14,7 +14,7 @@ pub record AreRanked (places : List Placed) (width count : ℕ) (ranked : List (
   pub each : All (λ r. r.0.now ≡ slice_chunk places width r.1) ranked
   pub all : map (λ r. r.1) ranked ≡ range_with_len 0 count
 
--- places of a table, in the order of their groups
-pub record AreInOrder (table : KeptGroups) (order : List OrderKey) (places : List ℕ) : Type 0 where
+-- places of a table that begin with those of the first so many groups, in their order
+pub record BeginInOrder (table : KeptGroups) (order : List OrderKey) (most : ℕ) (places : List ℕ) : Type 0 where
   pub below : All (λ at. at < length table.groups) places
-  pub groups : map (group_at table) places ≡ in_order order (finite.entries (groups_in table))
+  pub groups : take most (map (group_at table) places) ≡ take most (in_order order (finite.entries (groups_in table)))

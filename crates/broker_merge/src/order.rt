@@ -6,7 +6,7 @@ ghost use Rattle.std.specs.Fork.{slice_chunk};
 ghost use Rattle.std.specs.List.{All};
 ghost use Rattle.group_table.specs.Kept.{IsTable, group_at};
 ghost use Rattle.broker_merge.specs.Rank.{AreFair, IsItem, places_of, seen_at, seen_of};
-ghost use Rattle.broker_merge.specs.Ranked.{AreRanked, AreInOrder};
+ghost use Rattle.broker_merge.specs.Ranked.{AreRanked, BeginInOrder};
 
 use crate::rank::{Place, Rank};
 use group_table::GroupTable;
@@ -14,18 +14,30 @@ use std::alloc::Global;
 use table_schema::{Item, OrderKey};
 use values::NoMemory;
 
-/// The places of the groups of a table, in order.
-pub fn ordered(alloc: Global, table: &GroupTable, order: &[OrderKey]) -> Result<Vec<u32>, NoMemory>
+/// The places of the first so many groups of a table, in order. Where there are more, these are chosen
+/// before they are sorted.
+pub fn ordered(
+    alloc: Global,
+    table: &GroupTable,
+    order: &[OrderKey],
+    most: u128,
+) -> Result<Vec<u32>, NoMemory>
     requires table { IsTable table.now }
     requires grouped { 0 < table.now.columns }
     requires keys { All (λ k. IsItem table.now k.item) order.now }
     requires few { length order.now ≤ 16 }
-    ensures { IfOk result (λ v. AreInOrder table.now order.now v.items) }
+    ensures { IfOk result (λ v. BeginInOrder table.now order.now most v.items) }
 {
     let places = all_places(alloc, table, order)?;
     let mut ranked = ranked(alloc, &places, order.len() + 1, table.groups())?;
-    ranked.sort_unstable();
-    places_in(alloc, &ranked)
+    if most < ranked.len() as u128 {
+        let (first, _, _) = ranked.select_nth_unstable(most as usize);
+        first.sort_unstable();
+        places_in(alloc, first)
+    } else {
+        ranked.sort_unstable();
+        places_in(alloc, &ranked)
+    }
 }
 
 // What a group shows at an item.

@@ -8,7 +8,7 @@ ghost use Rattle.group_table.specs.Shape.{shape_of};
 ghost use Rattle.broker_merge.specs.Answer as spec;
 ghost use Rattle.broker_merge.specs.Answer.{NamesPlaces};
 ghost use Rattle.broker_merge.specs.Rank.{IsItem};
-ghost use Rattle.broker_merge.specs.Ranked.{AreInOrder};
+ghost use Rattle.broker_merge.specs.Ranked.{BeginInOrder};
 
 use crate::answer::{Answer, Cell};
 use crate::order::ordered;
@@ -27,22 +27,24 @@ pub fn finish(alloc: Global, table: &GroupTable, query: &BoundQuery) -> Result<A
         answer ≡ spec.answer_of (shape_of query.now) (groups_in table.now)) }
     ensures few { finite.len (groups_in table.now) ≤ table.now.most }
 {
-    let places = places_in_order(alloc, table, query)?;
+    let most = u128::from(query.offset) + u128::from(query.limit);
+    let places = first_in_order(alloc, table, query, most)?;
     let written = written_of(&places, query.offset, query.limit);
     let rows = rows_of(alloc, table, written, query.items.as_slice())?;
     let labels = copy_labels(alloc, query.labels.as_slice())?;
     Ok(Answer { labels, rows })
 }
 
-// The places of the groups in order. Fewer than two are in order as they are.
-fn places_in_order(
+// The places of the first so many groups in order. Fewer than two are in order as they are.
+fn first_in_order(
     alloc: Global,
     table: &GroupTable,
     query: &BoundQuery,
+    most: u128,
 ) -> Result<Vec<u32>, NoMemory>
     requires table { IsTableOf query.now table.now }
     requires places { NamesPlaces query.now }
-    ensures order { IfOk result (λ v. AreInOrder table.now query.now.order v.items) }
+    ensures order { IfOk result (λ v. BeginInOrder table.now query.now.order most v.items) }
     ensures table { IsTable table.now }
     ensures count { length table.now.groups ≡ finite.len (groups_in table.now) }
 {
@@ -50,7 +52,7 @@ fn places_in_order(
     if count < 2 {
         first_places(alloc, count)
     } else {
-        ordered(alloc, table, query.order.as_slice())
+        ordered(alloc, table, query.order.as_slice(), most)
     }
 }
 

@@ -1,3 +1,5 @@
+pub mod BucketDocs
+pub mod BucketSteps
 pub mod DocsOfRuns
 pub mod FaultLemmas
 pub mod FirstPlaces

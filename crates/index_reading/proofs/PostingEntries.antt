@@ -11,7 +11,7 @@ use Rattle.bit_column.specs.Postings.{places_from, places_of, entries, offset}
 use Rattle.doc_lists.specs.Docs.{Apart, has_doc}
 use Rattle.doc_lists.specs.Sets.{in_run, in_runs}
 use Rattle.doc_lists.specs.declared.run.Run.{Run}
-use Rattle.index_reading.specs.Entries.{entries_in, entries_of, part_of}
+use Rattle.index_reading.specs.Entries.{entries_in, entries_of, part_between, part_of}
 use Rattle.index_reading.proofs.DocsOfRuns.{spread}
 
 -- ---- the places of one key
@@ -125,22 +125,34 @@ taken : (xs ys : List ℕ) → take (length xs) (xs ++ ys) ≡ xs
 taken [] ys = refl
 taken (x ∷ xs) ys = ap (λ zs. x ∷ zs) (taken xs ys)
 
--- the entries of a run of keys
-pub part_entries : (count : ℕ) (keys : List ℕ) (run : Run) → run.first ≤ run.last → run.last < count → entries_of count keys (part_of keys run) ≡ run_entries run.first (run.last + 1 - run.first) keys
-part_entries count keys run order within =
-    let more = run.last + 1 - run.first in
-    let own = run_entries run.first more keys in
-    let before = entries run.first keys in
-    let next : run.first + more ≡ run.last + 1 = omega (arith, order) in
-    let whole : run.last + 1 + (count - (run.last + 1)) ≡ count = omega (arith, within) in
-    let after = run_entries (run.last + 1) (count - (run.last + 1)) keys in
-    let upto : entries (run.last + 1) keys ≡ before ++ own = ap (λ n. entries n keys) (sym next) ∙ split run.first more keys in
+-- the entries of the keys from one up to another
+between_entries : (count from to : ℕ) (keys : List ℕ) → from ≤ to → to ≤ count → entries_of count keys (part_between keys from to) ≡ run_entries from (to - from) keys
+between_entries count from to keys order within =
+    let own = run_entries from (to - from) keys in
+    let before = entries from keys in
+    let next : from + (to - from) ≡ to = omega (arith, order) in
+    let whole : to + (count - to) ≡ count = omega (arith, within) in
+    let after = run_entries to (count - to) keys in
+    let upto : entries to keys ≡ before ++ own = ap (λ n. entries n keys) (sym next) ∙ split from (to - from) keys in
     let all : entries count keys ≡ before ++ (own ++ after) =
-    ap (λ n. entries n keys) (sym whole) ∙ split (run.last + 1) (count - (run.last + 1)) keys ∙ ap (λ es. es ++ after) upto ∙ append_assoc before own after in
-    let size : offset keys (run.last + 1) - offset keys run.first ≡ length own = omega (arith, ap length upto, length-append before own) in
-    ap (λ n. take n (drop (offset keys run.first) (entries count keys))) size
+    ap (λ n. entries n keys) (sym whole) ∙ split to (count - to) keys ∙ ap (λ es. es ++ after) upto ∙ append_assoc before own after in
+    let size : offset keys to - offset keys from ≡ length own = omega (arith, ap length upto, length-append before own) in
+    ap (λ n. take n (drop (offset keys from) (entries count keys))) size
     ∙ ap (λ es. take (length own) (drop (length before) es)) all
     ∙ ap (take (length own)) (dropped before (own ++ after)) ∙ taken own after
+
+-- whether a document is among them
+pub between_places : (count from to : ℕ) (keys : List ℕ) (doc : ℕ) → from ≤ to → to ≤ count
+    → has_doc (entries_of count keys (part_between keys from to)) doc ≡ nat_lt doc (length keys) && (nat_le from (get_or keys doc 0) && nat_lt (get_or keys doc 0) to)
+between_places count from to keys doc order within =
+    let x = get_or keys doc 0 in
+    let next : from + (to - from) ≡ to = omega (arith, order) in
+    ap (λ es. has_doc es doc) (between_entries count from to keys order within) ∙ run_places from (to - from) doc keys
+    ∙ ap (λ n. nat_lt doc (length keys) && (nat_le from x && nat_lt x n)) next
+
+-- the entries of a run of keys
+part_entries : (count : ℕ) (keys : List ℕ) (run : Run) → run.first ≤ run.last → run.last < count → entries_of count keys (part_of keys run) ≡ run_entries run.first (run.last + 1 - run.first) keys
+part_entries count keys run order within = between_entries count run.first (run.last + 1) keys (omega (arith, order)) (omega (arith, within))
 
 upto_by : (b : Bool) (run : Run) (x : ℕ) → run.first ≤ run.last → nat_le x run.last ≡ b → nat_lt x (run.first + (run.last + 1 - run.first)) ≡ b
 upto_by true run x order p = lt-ltb x (run.first + (run.last + 1 - run.first)) (omega (arith, order, leb-true x run.last p))

@@ -11,7 +11,7 @@ use Rattle.outside.specs.Files.{Files}
 use Rattle.outside.specs.Reads.{Entry, LogsOn, LogsUpTo}
 use Rattle.outside.specs.Seen.{OnlyReads, Seen}
 use Rattle.outside.specs.declared.place.Place.{Place}
-use Rattle.outside.proofs.ReadLemmas.{logs-none}
+use Rattle.outside.proofs.ReadLemmas.{logs-none, logs-up}
 use Rattle.outside.proofs.SeenLemmas.{reads_after, reads_none}
 use Rattle.bit_column.specs.Column.{spelled}
 use Rattle.bit_column.specs.Postings.{entries, offset, offsets, places_from, places_of}
@@ -27,7 +27,7 @@ use Rattle.index_reading.proofs.PostingEntries.{offsets_ascend}
 -- ---- the numbers of the section
 
 -- the offsets of keys and their entries
-abbrev numbers : ℕ → List ℕ → List ℕ
+abbrev pub numbers : ℕ → List ℕ → List ℕ
 numbers count keys = offsets count keys ++ entries count keys
 
 places_below_by : (b : Bool) (place k limit : ℕ) (rest : List (ℕ × ℕ)) → place < limit → All (λ p. p < limit) (map (λ e. e.0) rest) → All (λ p. p < limit) (map (λ e. e.0) (cond b ((place, k) ∷ rest) rest))
@@ -47,16 +47,16 @@ offsets_below : (limit : ℕ) (keys : List ℕ) → length keys < limit → (a n
 offsets_below limit keys lt a zero = All-nil (λ p. p < limit)
 offsets_below limit keys lt a (suc n) = All-cons (λ p. p < limit) (offset keys a) (map (offset keys) (range_with_len (a + 1) n)) (omega (arith, offset_few keys a, lt)) (offsets_below limit keys lt (a + 1) n)
 
-numbers_below : (count limit : ℕ) (keys : List ℕ) → length keys < limit → All (λ p. p < limit) (numbers count keys)
+pub numbers_below : (count limit : ℕ) (keys : List ℕ) → length keys < limit → All (λ p. p < limit) (numbers count keys)
 numbers_below count limit keys lt = All-append (λ p. p < limit) (offsets count keys) (entries count keys) (offsets_below limit keys lt 0 (count + 1)) (entries_below count limit keys (omega (arith, lt)))
 
 offsets_long : (count : ℕ) (keys : List ℕ) → length (offsets count keys) ≡ count + 1
 offsets_long count keys = length-map-range_with_len (offset keys) 0 (count + 1)
 
-numbers_long : (count : ℕ) (keys : List ℕ) → All (λ key. key < count) keys → length (numbers count keys) ≡ count + 1 + length keys
+pub numbers_long : (count : ℕ) (keys : List ℕ) → All (λ key. key < count) keys → length (numbers count keys) ≡ count + 1 + length keys
 numbers_long count keys all = omega (arith, length-append (offsets count keys) (entries count keys), offsets_long count keys, all_entries count keys all)
 
-offset_at : (count : ℕ) (keys : List ℕ) (key : ℕ) → key < count + 1 → get_or (numbers count keys) key 0 ≡ offset keys key
+pub offset_at : (count : ℕ) (keys : List ℕ) (key : ℕ) → key < count + 1 → get_or (numbers count keys) key 0 ≡ offset keys key
 offset_at count keys key lt =
     let zero_plus : 0 + key ≡ key = omega arith in
     get_or_append_left (offsets count keys) (entries count keys) 0 key (omega (arith, offsets_long count keys, lt))
@@ -73,18 +73,18 @@ EndsBad held place limit to = IfSome held (λ files. (list : List ℕ) →
     All (λ n. n < 2 ^ 32) list → All (λ n. n < limit) list → to ≤ length list → section files place ≡ spelled 32 list → ⊥)
 
 -- what holds of keys where the section tells them
-abbrev Told : Option Files → Place → ℕ → ℕ → (List ℕ → Type 0) → Type 0
+abbrev pub Told : Option Files → Place → ℕ → ℕ → (List ℕ → Type 0) → Type 0
 Told held place count rows P = IfSome held (λ files. (keys : List ℕ) → TellsPostings count rows (section files place) keys → P keys)
 
-told_map : (held : Option Files) (place : Place) (count rows : ℕ) (P Q : List ℕ → Type 0) → ((keys : List ℕ) → P keys → Q keys) → Told held place count rows P → Told held place count rows Q
+pub told_map : (held : Option Files) (place : Place) (count rows : ℕ) (P Q : List ℕ → Type 0) → ((keys : List ℕ) → P keys → Q keys) → Told held place count rows P → Told held place count rows Q
 told_map None place count rows P Q f told = tt
 told_map (Some files) place count rows P Q f told = λ keys tells. f keys (told keys tells)
 
-told_all : (held : Option Files) (place : Place) (count rows : ℕ) (P : List ℕ → Type 0) → ((keys : List ℕ) → P keys) → Told held place count rows P
+pub told_all : (held : Option Files) (place : Place) (count rows : ℕ) (P : List ℕ → Type 0) → ((keys : List ℕ) → P keys) → Told held place count rows P
 told_all None place count rows P f = tt
 told_all (Some files) place count rows P f = λ keys tells. f keys
 
-told_both : (held : Option Files) (place : Place) (count rows : ℕ) (P Q R : List ℕ → Type 0) → ((keys : List ℕ) → P keys → Q keys → R keys) → Told held place count rows P → Told held place count rows Q → Told held place count rows R
+pub told_both : (held : Option Files) (place : Place) (count rows : ℕ) (P Q R : List ℕ → Type 0) → ((keys : List ℕ) → P keys → Q keys → R keys) → Told held place count rows P → Told held place count rows Q → Told held place count rows R
 told_both None place count rows P Q R f p q = tt
 told_both (Some files) place count rows P Q R f p q = λ keys tells. f keys (p keys tells) (q keys tells)
 
@@ -250,11 +250,11 @@ marks_start count place parts left shelf old all rising =
       told = told_all shelf.held place count (length old) (λ keys. (doc : ℕ) → get_or old doc false || has_doc (entries_in count keys parts) doc ≡ get_or old doc false || has_doc (entries_in count keys parts) doc) (λ keys doc. refl);
     })
 
-abbrev WordsRead : Option Files → Place → ℕ → ℕ → List ℕ → Type 0
+abbrev pub WordsRead : Option Files → Place → ℕ → ℕ → List ℕ → Type 0
 WordsRead held place from to words = IfSome held (λ files. (list : List ℕ) →
     All (λ n. n < 2 ^ 32) list → to ≤ length list → section files place ≡ spelled 32 list → words ≡ take (to - from) (drop from list))
 
-abbrev WordsBad : Option Files → Place → ℕ → ℕ → ℕ → Type 0
+abbrev pub WordsBad : Option Files → Place → ℕ → ℕ → ℕ → Type 0
 WordsBad held place limit from to = IfSome held (λ files. (list : List ℕ) →
     All (λ n. n < 2 ^ 32) list → All (λ n. n < limit) (take (to - from) (drop from list)) → to ≤ length list → section files place ≡ spelled 32 list → ⊥)
 
@@ -355,3 +355,23 @@ pub marks_known : (count : ℕ) (place : Place) (parts left rest : List Ends) (p
 marks_known count place parts left rest part first now old marks step is =
     let at : MarksStep count place parts (part ∷ rest) first now old marks = subst (λ ps. MarksStep count place parts ps first now old marks) is step in
     (at.rising.1.1, at.rising.1.2)
+
+-- nothing of parts was read
+pub entries_none : (place : Place) (count from rows : ℕ) (parts : List Ends) (log : Option (List Entry)) → Rising from rows parts → LogsPartly place.file (map (entries_at place.offset count) parts) log log
+entries_none place count from rows [] log rising = refl
+entries_none place count from rows (part ∷ parts) log rising =
+    inl (logs-none place.file (place.offset + 4 * (count + 1 + part.first)) (place.offset + 4 * (count + 1 + part.last)) log log (omega (arith, rising.1)) refl)
+
+-- ---- reads one after the other
+
+pub over_join : (file : List ℕ) (xs ys : List Stretch) (old mid new : Option (List Entry)) → LogsOver file xs old mid → LogsOver file ys mid new → LogsOver file (xs ++ ys) old new
+over_join file [] ys old mid new same over = subst (λ log. LogsOver file ys log new) same over
+over_join file (x ∷ xs) ys old mid new (between, on, rest) over = (between, on, over_join file xs ys between mid new rest over)
+
+pub partly_join : (file : List ℕ) (xs ys : List Stretch) (old mid new : Option (List Entry)) → LogsOver file xs old mid → LogsPartly file ys mid new → LogsPartly file (xs ++ ys) old new
+partly_join file [] ys old mid new same partly = subst (λ log. LogsPartly file ys log new) same partly
+partly_join file (x ∷ xs) ys old mid new (between, on, rest) partly = inr (between, on, partly_join file xs ys between mid new rest partly)
+
+pub partly_more : (file : List ℕ) (x : Stretch) (xs : List Stretch) (old new : Option (List Entry)) → LogsPartly file (x ∷ []) old new → LogsPartly file (x ∷ xs) old new
+partly_more file x xs old new (inl up) = inl up
+partly_more file x xs old new (inr (between, on, same)) = inl (logs-up file x.from x.to x.to old between new (omega arith) on same)

@@ -1,7 +1,7 @@
 -- The documents of a set of ids, and the sections that tell where ids are.
 use Rattle.std.specs.Prelude.{◌≡◌, ◌<◌, ℕ, Bool, ◌&&◌, nat_lt, List, All, length, get_or}
 use Rattle.std.specs.List.Sorted.{IsNonDecreasing}
-use Rattle.bit_column.specs.Postings.{inverted}
+use Rattle.bit_column.specs.Postings.{inverted, ranged}
 use Rattle.bit_column.specs.SortedRuns.{sorted_runs}
 use Rattle.dictionary.specs.Ids.{has_id}
 use Rattle.index_reading.specs.declared.kind.ListKind.{ListKind}
@@ -22,6 +22,10 @@ TellsSorted count rows bytes ids = AreIds count rows ids × IsNonDecreasing ids 
 -- the bytes are the section of the inverted index of ids
 abbrev pub TellsInverted : ℕ → ℕ → List ℕ → List ℕ → Type 0
 TellsInverted count rows bytes ids = AreIds count rows ids × (bytes ≡ inverted count ids)
+
+-- the bytes are the section of the range index of ids
+abbrev pub TellsRanged : ℕ → ℕ → List ℕ → List ℕ → Type 0
+TellsRanged count rows bytes ids = AreIds count rows ids × (bytes ≡ ranged count ids)
 
 -- the bytes are the section of a kind of the ids of so many rows
 abbrev pub Tells : ListKind → ℕ → ℕ → List ℕ → List ℕ → Type 0

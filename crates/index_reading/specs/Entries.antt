@@ -17,9 +17,13 @@ use Rattle.index_reading.specs.declared.ends.Ends.{Ends}
 abbrev pub TellsPostings : ℕ → ℕ → List ℕ → List ℕ → Type 0
 TellsPostings count rows bytes keys = AreIds count rows keys × (bytes ≡ postings count keys)
 
--- where the entries of a run of keys begin and end
+-- where the entries of the keys from one up to another begin and end
+abbrev pub part_between : List ℕ → ℕ → ℕ → Ends
+part_between keys from to = record { first = offset keys from; last = offset keys to }
+
+-- the same of a run of keys
 abbrev pub part_of : List ℕ → Run → Ends
-part_of keys run = record { first = offset keys run.first; last = offset keys (run.last + 1) }
+part_of keys run = part_between keys run.first (run.last + 1)
 
 -- parts in order, none of them past an end
 abbrev pub Rising : ℕ → ℕ → List Ends → Type 0

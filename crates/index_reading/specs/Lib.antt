@@ -1,3 +1,4 @@
+pub mod Buckets
 pub mod Documents
 pub mod Entries
 pub mod Logs

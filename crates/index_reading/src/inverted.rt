@@ -7,8 +7,7 @@ ghost use Rattle.index_reading.specs.Documents.{TellsInverted, is_doc_of};
 ghost use Rattle.index_reading.specs.Entries.{LogsPostings, LogsPostingsPartly};
 
 use crate::ListFault;
-use crate::marks::{docs_marked, no_marks};
-use crate::postings::{mark_entries, read_parts};
+use crate::postings::{docs_of_parts, read_parts};
 use crate::runs::runs_of;
 use dictionary::IdSet;
 use doc_lists::DocList;
@@ -46,20 +45,9 @@ pub fn inverted_docs<S: Shelf>(
         Ok(list) => list,
         Err(_) => return Err(ListFault::NoMemory),
     };
-    let mut marks = match no_marks(alloc, rows as usize) {
-        Ok(marks) => marks,
-        Err(_) => return Err(ListFault::NoMemory),
-    };
     let parts = match read_parts(alloc, shelf, place, count, rows, list.runs()) {
         Ok(parts) => parts,
         Err(fault) => return Err(fault),
     };
-    match mark_entries(alloc, shelf, place, count, &parts, &mut marks) {
-        Ok(()) => {}
-        Err(fault) => return Err(fault),
-    }
-    match docs_marked(alloc, &marks) {
-        Ok(docs) => Ok(docs),
-        Err(_) => Err(ListFault::NoMemory),
-    }
+    docs_of_parts(alloc, shelf, place, count, rows, &parts)
 }

@@ -2,15 +2,16 @@
 ghost use Rattle.std.specs.Prelude.{◌≡◌, ◌≤◌, ◌<◌, ℕ, List, All, IfOk, OnErr, OnOk, IfSome, IsErrOf, length, map};
 ghost use Rattle.outside.specs.Seen.{OnlyReads, seen};
 ghost use Rattle.bit_column.specs.Sections.{section};
-ghost use Rattle.doc_lists.specs.Docs.{Apart};
+ghost use Rattle.doc_lists.specs.Docs.{Apart, has_doc};
+ghost use Rattle.doc_lists.specs.Sets.{AreThose};
 ghost use Rattle.index_reading.specs.Entries.{ArePartsOf, Marked, Rising, TellsPostings, entries_at, entries_in, offsets_of};
 ghost use Rattle.index_reading.specs.Stretches.{LogsOver, LogsPartly};
 
 use crate::ListFault;
 use crate::ends::{Ends, read_ends};
-use crate::marks::mark_all;
+use crate::marks::{docs_marked, mark_all, no_marks};
 use crate::word_reading::read_words;
-use doc_lists::Run;
+use doc_lists::{DocList, Run};
 use outside::{Place, Shelf};
 use std::alloc::Global;
 
@@ -62,9 +63,49 @@ pub fn read_parts<S: Shelf>(
     Ok(parts)
 }
 
-/// Marks the documents that are the entries of parts. Each part is read in one read, and nothing
+/// The documents that are the entries of parts, ascending. Each part is read in one read, and nothing
 /// else.
-pub fn mark_entries<S: Shelf>(
+pub fn docs_of_parts<S: Shelf>(
+    alloc: Global,
+    shelf: &mut S,
+    place: &Place,
+    count: u32,
+    rows: u32,
+    parts: &[Ends],
+) -> Result<DocList, ListFault>
+    requires rising { Rising 0 rows parts.now }
+    requires few { count ≤ 1048576 }
+    requires rows { rows ≤ 1048576 }
+    ensures docs { IfOk result (λ docs. IfSome (S.held shelf.old) (λ files. (keys : List ℕ) →
+        TellsPostings count rows (section files place.now) keys →
+        AreThose (has_doc (entries_in count keys parts.now)) docs)) }
+    ensures within { IfOk result (λ docs. All (λ doc. doc < rows) docs) }
+    ensures only_reads { OnlyReads (IsErrOf result ListFault.ReadFault)
+        (seen S.Shelf shelf.old) (seen S.Shelf shelf.new) }
+    ensures log { IfOk result (λ _. LogsOver place.now.file
+        (map (entries_at place.now.offset count) parts.now) (S.log shelf.old) (S.log shelf.new)) }
+    ensures log_of_fault { OnErr result (LogsPartly place.now.file
+        (map (entries_at place.now.offset count) parts.now) (S.log shelf.old) (S.log shelf.new)) }
+    ensures bad { IsErrOf result ListFault.BadList → IfSome (S.held shelf.old) (λ files.
+        (keys : List ℕ) → TellsPostings count rows (section files place.now) keys → ⊥) }
+{
+    let mut marks = match no_marks(alloc, rows as usize) {
+        Ok(marks) => marks,
+        Err(_) => return Err(ListFault::NoMemory),
+    };
+    match mark_entries(alloc, shelf, place, count, parts, &mut marks) {
+        Ok(()) => {}
+        Err(fault) => return Err(fault),
+    }
+    match docs_marked(alloc, &marks) {
+        Ok(docs) => Ok(docs),
+        Err(_) => Err(ListFault::NoMemory),
+    }
+}
+
+// Marks the documents that are the entries of parts. Each part is read in one read, and nothing
+// else.
+fn mark_entries<S: Shelf>(
     alloc: Global,
     shelf: &mut S,
     place: &Place,

@@ -3,8 +3,12 @@
 #![tactic(auto)]
 
 mod inverted;
+mod keys;
+mod postings;
+mod ranged;
 mod sorted;
 mod words;
 
 pub use inverted::{places_by_id, write_inverted};
+pub use ranged::write_ranged;
 pub use sorted::write_sorted;

@@ -19,6 +19,7 @@ use Rattle.pinot_run.specs.declared.note.Note.TheVariants as note
 use Rattle.pinot_run.specs.declared.stop.Stop.{Stop}
 use Rattle.pinot_run.specs.declared.stop.Stop.TheVariants as stop
 use Rattle.pinot_run.proofs.MachineLemmas.{steps_over}
+use Rattle.pinot_run.proofs.StoredLemmas.{told_all}
 
 -- ---- what was found
 
@@ -38,10 +39,6 @@ listed_so (Some files) b c d table names counts text same next is has are rows =
 
 -- ---- the clause of `list`
 
-told_all : (held : Option Files) (P : Files → Type 0) → ((files : Files) → P files) → IfSome held P
-told_all None P f = tt
-told_all (Some files) P f = f files
-
 caused_line : (inputs stored : Option Files) (line : Note) → store_refuses line ≡ true → IfSome stored (λ files. SegmentsRefuse files line) → Caused (Some Listing) inputs stored line
 caused_line inputs stored note.BadWords e h = absurd cc
 caused_line inputs stored (note.NoInput file) e h = absurd cc
@@ -57,10 +54,10 @@ caused_line inputs stored (note.TooManyGroups most) e h = absurd cc
 caused_line inputs stored (note.NotASegment name part) e h = h
 
 module _ (inputs old new : Seen) where
-  abbrev Old : Devices
+  abbrev pub Old : Devices
   Old = record { inputs = inputs; depot = old }
 
-  abbrev New : Devices
+  abbrev pub New : Devices
   New = record { inputs = inputs; depot = new }
 
   abbrev Of : Result (List ℕ) Stop → Type 0
@@ -69,10 +66,10 @@ module _ (inputs old new : Seen) where
   abbrev Listed : Result (List ℕ) Stop → Type 0
   Listed result = LooksFor IsListed SegmentsRefuse StoreFiles old new result
 
-  looked : {F : Type 0} → OnlyReads F old new → LogsOpened StoreFiles old.log new.log → OnlyLooks StoreFiles old new
+  pub looked : {F : Type 0} → OnlyReads F old new → LogsOpened StoreFiles old.log new.log → OnlyLooks StoreFiles old new
   looked reads log = record { held = reads.held; parts = reads.parts; writes = reads.writes; later = reads.later; log = log }
 
-  none : {F : Type 0} → OnlyReads F old new → ¬ F → NoFaults Old New
+  pub none : {F : Type 0} → OnlyReads F old new → ¬ F → NoFaults Old New
   none reads fine = record { inputs = refl; depot_reads = reads.still fine; depot_writes = reads.writes }
 
   acted : (answer : Answer) → new.held ≡ old.held → IfSome old.held (λ files. Lists files answer) → IsAllowed (Some Listing) Old New answer → Acted (Some Listing) Old New answer

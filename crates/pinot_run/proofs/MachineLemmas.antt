@@ -1,7 +1,7 @@
 -- What a command does to stored files is its step on the state that they stand for.
-use Rattle.std.proofs.Common.{◌≡◌, ◌∙◌, ◌≤◌, ◌<◌, ◌&&◌, inl, inr, ℕ, suc, Bool, true, false, List, [], ◌∷◌, length, get_or, take, option_map, nat_le, nat_lt, Option, Some, None, Result, Ok, Err, IfSome, IsSomeAnd, refl, sym, ap, subst, arith, cond}
+use Rattle.std.proofs.Common.{◌≡◌, ◌∙◌, ◌≤◌, ◌<◌, ◌&&◌, ◌++◌, inl, inr, ℕ, suc, Bool, true, false, List, [], ◌∷◌, length, get_or, take, option_map, nat_le, nat_lt, Option, Some, None, Result, Ok, Err, IfSome, IsSomeAnd, refl, sym, ap, subst, arith, cond}
 use Rattle.std.proofs.lemmas.Bool.Decides.{nat_tests}
-use Rattle.std.specs.Prelude.{is_some, map as each}
+use Rattle.std.specs.Prelude.{flat_map, is_some, unwrap_or, map as each}
 use Rattle.std.specs.FinMap as map
 use Rattle.std.specs.Cmp.{eq_by_cmp_equiv}
 use Rattle.std.specs.List.{AllZip}
@@ -19,29 +19,37 @@ use Rattle.schema_json.specs.declared.fault.TextFault.TheVariants as fault
 use Rattle.table_schema.specs.declared.field.Schema.{Schema}
 use Rattle.table_schema.specs.declared.settings.Settings.{Settings}
 use Rattle.table_schema.specs.declared.table.Table.{Table}
-use Rattle.segment_file.specs.Image.{front_of}
+use Rattle.segment_file.specs.Image.{file_of_rows, front_of, image}
 use Rattle.segment_file.specs.Names.{file_of}
+use Rattle.segment_file.specs.Ordered.{ordered}
 use Rattle.segment_file.proofs.RuleLaws.{fronts_one}
+use Rattle.sql_reply.specs.SqlReply.{SqlReply, sql_reply}
+use Rattle.sql_reply.specs.declared.fault.SqlFault.{SqlFault}
+use Rattle.sql_reply.specs.declared.fault.SqlFault.TheVariants as query
+use Rattle.query_executor.specs.Answers.{IsReply}
+use Rattle.query_executor.specs.Segments.{HasImage, stored_rows}
 use Rattle.table_store.specs.Accepted.{IsAccepted, IsNoTableFile}
 use Rattle.table_store.specs.Segments.{AreFirstNames, IsFull, has_segment}
-use Rattle.table_store.specs.Stands.{Stands, most_segments, segment_file, segment_of}
+use Rattle.table_store.specs.Stands.{IsSegment, Stands, most_segments, segment_file, segment_of}
 use Rattle.table_store.specs.State as state
 use Rattle.table_store.specs.State.{Segment, State, NoTable, HasTable, Segments}
 use Rattle.table_store.specs.TableFile.{table_file, table_name}
+use Rattle.table_store.proofs.AcceptedLemmas.{one_table}
 use Rattle.table_store.proofs.KeyLemmas.{names_stand, segment_kept_so, segment_there}
 use Rattle.table_store.proofs.NameLemmas.{names_count}
 use Rattle.table_store.proofs.StandsLemmas.{create_stands, none_there, one_there, segment_stands, table_stands, table_there}
 use Rattle.pinot_run.specs.Build.{BuildRefuses, HasPlace, IsBuilt, csv_rows, new_rows, table_of as table_in, with_schema, with_settings as settled}
-use Rattle.pinot_run.specs.Command.{Build, Command, Create, Listing, Scan}
+use Rattle.pinot_run.specs.Command.{Build, Command, Create, Listing, Query, Scan}
 use Rattle.pinot_run.specs.Create.{Made, beside, json_bytes, json_in, new_table, read_by, schema_in, settings_in, table_of, with_settings}
 use Rattle.pinot_run.proofs.StoredLemmas.{table_segments}
-use Rattle.pinot_run.specs.Ran.{Builds, IsStepped, Lists, Over, TableIsThere, WhereStands, files_after}
+use Rattle.pinot_run.specs.Queried.{HasNoReply, IsFaultOf, IsQueried, IsWrongImage, QueryRefuses, all_rows, rows_in}
+use Rattle.pinot_run.specs.Ran.{Builds, IsStepped, Lists, Over, Queries, TableIsThere, WhereStands, files_after}
 use Rattle.pinot_run.specs.Stored.{HasRows, HasTableFile, IsListed, IsWrongSegment, SegmentsRefuse, count_in, list_text}
 use Rattle.pinot_run.specs.declared.note.Counted.TheVariants as counted
 use Rattle.pinot_run.specs.declared.note.Note.{Note}
 use Rattle.pinot_run.specs.declared.note.Note.TheVariants as note
 use Rattle.pinot_run.specs.declared.note.Note.TheVariants.{BadSchema, BadSettings}
-use Rattle.pinot_run.specs.Step.{After, Answer, Refuses, Replies, built, create_answer, created, has_table, list_answer, step_of, with_rows, with_table}
+use Rattle.pinot_run.specs.Step.{After, Answer, Refuses, Replies, built, create_answer, created, has_table, list_answer, query_answer, rows_answer, sql_answered, step_of, with_rows, with_table}
 
 -- ---- the texts that were made are accepted
 
@@ -182,7 +190,7 @@ module _ (stored : Files) (texts : state.Texts) (segments : Segments) (stands : 
       let file : map.get stored (file_of key) ≡ Some (segment_file stands.table key segment) = segment_there stored texts segments stands key ∙ ap (option_map (segment_file stands.table key)) got in
       (λ i. (n.some i && n.few i && n.each i) && is_some (file i))
 
-  key_there : (k : ℕ) → k < length (map.keys segments) → has_segment stored (get_or (map.keys segments) k []) ≡ true
+  pub key_there : (k : ℕ) → k < length (map.keys segments) → has_segment stored (get_or (map.keys segments) k []) ≡ true
   key_there k lt =
       let key : List ℕ = get_or (map.keys segments) k [] in
       let got : is_some (map.get segments key) ≡ true = map.contains_key-keys segments key ∙ list_any_at (eq_by_cmp name_order key) (map.keys segments) k [] lt ((eq_by_cmp_equiv nat_list_cmp_total).refl key) in
@@ -291,6 +299,83 @@ build_step stored name csv inputs (Refuses line) new NoTable stands (why, same) 
 build_step stored name csv inputs (Replies text) new (HasTable texts segments) stands b = built_step stored texts segments stands name csv inputs text new b
 build_step stored name csv inputs (Refuses line) new (HasTable texts segments) stands (why, same) = refused_step stored texts segments stands name csv inputs line new why same
 
+-- ---- `query`
+
+none_asked : (stored : Files) → Stands stored NoTable → (sql : List ℕ) (line : Note) → QueryRefuses sql stored line → Refuses line ≡ query_answer NoTable sql
+none_asked stored stands sql note.NoTable h = refl
+none_asked stored stands sql (note.NotASegment name part) (inl w) = let (bytes, got, wrong) = w.wrong in none_there stored stands (bytes, got)
+none_asked stored stands sql (note.NotASegment name part) (inr w) = let (bytes, got, is) = w.table_is in none_there stored stands (bytes, got)
+none_asked stored stands sql line h = let (bytes, got, is) = h.table_is in none_there stored stands (bytes, got)
+
+module _ (stored : Files) (texts : state.Texts) (segments : Segments) (stands : Stands stored (HasTable texts segments)) (table : Table) (accepted : IsAccepted texts table) where
+  -- the rows of one segment of the state
+  abbrev Rows : List ℕ → List (List Value)
+  Rows name = rows_in (map.get segments name)
+
+  -- the file of a segment is the image of rows that are its own
+  came : (name : List ℕ) → has_segment stored name ≡ true → (rows : List (List Value)) × HasImage table stored name rows × (ordered table.settings.sorted rows ≡ Rows name)
+  came name there =
+      let kept = segment_kept_so stored texts segments table name stands accepted there in
+      let tables : stands.table ≡ table = one_table texts stands.table table stands.valid.accepted accepted in
+      let of : IsSegment table kept.segment = subst (λ t. IsSegment t kept.segment) tables (stands.valid.each name kept.segment kept.got) in
+      let format : kept.segment.format ≡ 1 = of.format_is in
+      let rows : kept.segment.rows ≡ ordered table.settings.sorted of.came = of.in_order in
+      let file : map.get stored (file_of name) ≡ Some (segment_file table name kept.segment) =
+      segment_there stored texts segments stands name ∙ ap (option_map (segment_file stands.table name)) kept.got ∙ ap (λ t. Some (segment_file t name kept.segment)) tables in
+      let bytes : bytes_of (Some stored) (file_of name) ≡ image 1 table name of.came =
+      ap (λ o. unwrap_or o []) file ∙ (λ i. file_of_rows (format i) table name (rows i)) in
+      (of.came, record { can = of.can; stored = bytes }, sym (ap rows_in kept.got ∙ rows))
+
+  all_came : (names : List (List ℕ)) → ((k : ℕ) → k < length names → has_segment stored (get_or names k []) ≡ true)
+      → (rows : List (List (List Value))) × AllZip (HasImage table stored) names rows × (stored_rows table rows ≡ flat_map Rows names)
+  all_came [] there = ([], tt, refl)
+  all_came (name ∷ names) there =
+      let (first, has, is) = came name (there 0 (omega arith)) in
+      let (more, have, are) = all_came names (λ k lt. there (suc k) (omega arith)) in
+      (first ∷ more, (has, have), (λ i. is i ++ are i))
+
+  -- a reply over the segments that have files is the one over the rows of the state
+  reply_right : (names : List (List ℕ)) (sql : List ℕ) (reply : SqlReply) → AreFirstNames stored names → IsReply table stored names sql reply → query_answer (HasTable texts segments) sql ≡ sql_answered reply
+  reply_right names sql reply are is =
+      let keys : names ≡ map.keys segments = names_all stored texts segments stands names are in
+      let (rows, have, same) = all_came (map.keys segments) (key_there stored texts segments stands) in
+      let replies : sql_reply table false sql (stored_rows table rows) ≡ reply = subst (λ ns. IsReply table stored ns sql reply) keys is rows have in
+      ap (rows_answer segments sql) (read_as texts table accepted) ∙ ap (λ of. sql_answered (sql_reply table false sql of)) (sym same) ∙ ap sql_answered replies
+
+  fault_reply : (names : List (List ℕ)) (sql : List ℕ) (wrong : SqlFault) → IsFaultOf table stored names sql wrong → IsReply table stored names sql (Err wrong)
+  fault_reply names sql (query.LongQuery most) is = λ rows have. is (stored_rows table rows)
+  fault_reply names sql (query.BadQuery wrong place) is = λ rows have. is (stored_rows table rows)
+  fault_reply names sql (query.Unbound wrong place) is = λ rows have. is (stored_rows table rows)
+  fault_reply names sql (query.TooManyGroups most) is = is
+  fault_reply names sql query.NoMemory is = absurd is
+
+module _ (stored : Files) (texts : state.Texts) (segments : Segments) (stands : Stands stored (HasTable texts segments)) where
+  query_right : (sql text : List ℕ) → IsQueried stored sql text → Replies text ≡ query_answer (HasTable texts segments) sql
+  query_right sql text q = sym (reply_right stored texts segments stands q.table (table_stands stored texts segments q.table stands q.table_is) q.names sql (Ok text) q.names_are q.replies)
+
+  no_reply : (sql : List ℕ) (line : Note) → HasNoReply stored sql line → Refuses line ≡ query_answer (HasTable texts segments) sql
+  no_reply sql line r =
+      let accepted = table_stands stored texts segments r.table stands r.table_is in
+      ap Refuses r.line_is
+      ∙ sym (reply_right stored texts segments stands r.table accepted r.names sql (Err r.wrong) r.names_are (fault_reply stored texts segments stands r.table accepted r.names sql r.wrong r.wrong_is))
+
+  image_right : {A : Type 0} (name part : List ℕ) → IsWrongImage stored name part → A
+  image_right name part w =
+      let (rows, has, is) = came stored texts segments stands w.table (table_stands stored texts segments w.table stands w.table_is) name w.there in
+      absurd (w.no_image rows has)
+
+  some_asked : (sql : List ℕ) (line : Note) → QueryRefuses sql stored line → Refuses line ≡ query_answer (HasTable texts segments) sql
+  some_asked sql note.NoTable h = one_there stored texts segments stands h
+  some_asked sql (note.NotASegment name part) (inl w) = table_right stored texts segments stands w.wrong
+  some_asked sql (note.NotASegment name part) (inr w) = image_right name part w
+  some_asked sql line h = no_reply sql line h
+
+query_step : (stored : Files) (sql : List ℕ) (answer : Answer) (before : State) → Stands stored before → Queries sql stored answer → answer ≡ query_answer before sql
+query_step stored sql (Replies text) NoTable stands q = let (bytes, got, is) = q.table_is in none_there stored stands (bytes, got)
+query_step stored sql (Refuses line) NoTable stands h = none_asked stored stands sql line h
+query_step stored sql (Replies text) (HasTable texts segments) stands q = query_right stored texts segments stands sql text q
+query_step stored sql (Refuses line) (HasTable texts segments) stands h = some_asked stored texts segments stands sql line h
+
 -- what is done over any store is the step where it stands for a state
 over_step : (command : Option Command) (inputs stored : Files) (answer : Answer) (new : Option Files) (before : State) → Stands stored before → Over command inputs (Some stored) answer new → IsStepped (step_of before command inputs) answer new
 over_step None inputs stored answer new before stands (answers, same) = record { answers = answers; stands = stays stored before new stands same }
@@ -299,6 +384,7 @@ over_step (Some (Create schema settings)) inputs stored answer new before stands
     by_table (new_table schema settings inputs) stored answer new before over.there (accepted schema settings inputs) stands over.known over.answers over.leaves
 over_step (Some (Build name csv)) inputs stored answer new before stands builds = build_step stored name csv inputs answer new before stands builds
 over_step (Some Listing) inputs stored answer new before stands (lists, same) = record { answers = list_step stored answer before stands lists; stands = stays stored before new stands same }
+over_step (Some (Query sql)) inputs stored answer new before stands (queries, same) = record { answers = query_step stored sql answer before stands queries; stands = stays stored before new stands same }
 
 pub steps_over : (command : Option Command) (inputs stored : Option Files) (answer : Answer) (new : Option Files) → IfSome inputs (λ files. Over command files stored answer new)
     → WhereStands inputs stored (λ before files. IsStepped (step_of before command files) answer new)

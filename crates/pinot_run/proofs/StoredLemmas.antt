@@ -26,7 +26,7 @@ use Rattle.table_store.specs.Segments.{AreFirstNames, has_segment}
 use Rattle.table_store.specs.TableFile.{table_name}
 use Rattle.table_store.specs.declared.fault.StoreFault.{StoreFault}
 use Rattle.table_store.specs.declared.fault.StoreFault.TheVariants as store
-use Rattle.pinot_run.specs.Gives.{IsHeadStop, IsStopOf, LooksFor, StopsStore}
+use Rattle.pinot_run.specs.Gives.{IsHeadStop, IsLookFault, IsStopOf, LooksFor, StopsStore}
 use Rattle.pinot_run.specs.Profile.{Opens, StoreFiles, TableFile}
 use Rattle.pinot_run.specs.Stored.{HasRows, HasTableFile, SegmentsRefuse, TableRefuses, part_text}
 use Rattle.pinot_run.specs.Touched.{IsStoreFile, LogsOpened}
@@ -36,9 +36,17 @@ use Rattle.pinot_run.specs.declared.note.Note.TheVariants as note
 use Rattle.pinot_run.specs.declared.stop.Stop.{Stop}
 use Rattle.pinot_run.specs.declared.stop.Stop.TheVariants as stop
 
-told_each : (held : Option Files) (P Q : Files → Type 0) → ((files : Files) → P files → Q files) → IfSome held P → IfSome held Q
+pub told_each : (held : Option Files) (P Q : Files → Type 0) → ((files : Files) → P files → Q files) → IfSome held P → IfSome held Q
 told_each None P Q f h = tt
 told_each (Some files) P Q f h = f files h
+
+pub told_all : (held : Option Files) (P : Files → Type 0) → ((files : Files) → P files) → IfSome held P
+told_all None P f = tt
+told_all (Some files) P f = f files
+
+pub told_both : (held : Option Files) (P Q R : Files → Type 0) → ((files : Files) → P files → Q files → R files) → IfSome held P → IfSome held Q → IfSome held R
+told_both None P Q R f h k = tt
+told_both (Some files) P Q R f h k = f files h k
 
 -- ---- what is read
 
@@ -61,7 +69,7 @@ of_file : (file : List ℕ) (from to : ℕ) (entries : List Entry) → Consecuti
 of_file file from to [] h = All-nil (λ entry. entry.file ≡ file)
 of_file file from to (entry ∷ entries) h = All-cons (λ entry. entry.file ≡ file) entry entries h.0 (of_file file (from + entry.count) to entries h.2)
 
-weaker : {A : Type 0} (P Q : A → Type 0) (xs : List A) → ((x : A) → P x → Q x) → All P xs → All Q xs
+pub weaker : {A : Type 0} (P Q : A → Type 0) (xs : List A) → ((x : A) → P x → Q x) → All P xs → All Q xs
 weaker P Q xs f h = λ k d lt. f (get_or xs k d) (h k d lt)
 
 pub front_opened : (limit : ℕ) (old new : Option (List Entry)) → LogsFront table_name limit old new → LogsOpened TableFile old new
@@ -138,6 +146,13 @@ is_table_part p (inr (inl e)) = e
 is_table_part p (inr (inr (inl e))) = absurd cc
 is_table_part p (inr (inr (inr e))) = absurd cc
 
+-- the faults of the opening of a table are those of a look
+pub opened_fault : (f : StoreFault) → OnErr (Failed f) (IsErrOf (Failed f) store.NoTable ⊎ IsErrOf (Failed f) (store.NotASegment parts.Table) ⊎ IsErrOf (Failed f) store.ReadFault ⊎ IsErrOf (Failed f) store.NoMemory) → IsLookFault f
+opened_fault f (inl e) = let is : f ≡ store.NoTable = cc in subst IsLookFault (sym is) tt
+opened_fault f (inr (inl e)) = let is : f ≡ store.NotASegment parts.Table = cc in subst IsLookFault (sym is) tt
+opened_fault f (inr (inr (inl e))) = let is : f ≡ store.ReadFault = cc in subst IsLookFault (sym is) tt
+opened_fault f (inr (inr (inr e))) = let is : f ≡ store.NoMemory = cc in subst IsLookFault (sym is) tt
+
 module _ (old new : Seen) (log : LogsOpened TableFile old.log new.log) where
   abbrev Looks : Stop → Type 0
   Looks s = LooksFor HasTableFile TableRefuses TableFile old new (Err s)
@@ -149,11 +164,11 @@ module _ (old new : Seen) (log : LogsOpened TableFile old.log new.log) where
   pub no_table : (f : StoreFault) (s : Stop) → IsStopOf f s → (IsErrOf (Failed f) store.NoTable → Lacks old.held table_name) → (IsErrOf (Failed f) (store.NotASegment parts.Table) → OfFile old.held table_name IsNoTableFile)
       → OnlyReads (IsErrOf (Failed f) store.ReadFault) old new
       → OnErr (Failed f) (IsErrOf (Failed f) store.NoTable ⊎ IsErrOf (Failed f) (store.NotASegment parts.Table) ⊎ IsErrOf (Failed f) store.ReadFault ⊎ IsErrOf (Failed f) store.NoMemory) → Looks s
-  no_table store.TableExists s is none other reads only = memory store.TableExists s (λ e. cc) reads is
+  no_table store.TableExists s is none other reads only = absurd is
   no_table store.NoTable s is none other reads only =
       subst Looks (sym is) (record { reads = reads_as old new reads (λ e. absurd cc) (λ e. absurd cc); log = log; found = tt; stops = (refl, none refl) })
-  no_table store.NameTaken s is none other reads only = memory store.NameTaken s (λ e. cc) reads is
-  no_table store.TooManySegments s is none other reads only = memory store.TooManySegments s (λ e. cc) reads is
+  no_table store.NameTaken s is none other reads only = absurd is
+  no_table store.TooManySegments s is none other reads only = absurd is
   no_table (store.NotASegment p) s (inl is) none other reads only =
       let wrong = other (is_table_part p only) in
       let refused = told_each old.held (λ files. OfFile (Some files) table_name IsNoTableFile) (λ files. TableRefuses files (note.NotASegment table_name (codes "table")))
@@ -162,7 +177,7 @@ module _ (old new : Seen) (log : LogsOpened TableFile old.log new.log) where
   no_table (store.NotASegment p) s (inr is) none other reads only = memory (store.NotASegment p) s (λ e. cc) reads is
   no_table store.ReadFault s is none other reads only =
       subst Looks (sym is) (record { reads = reads_as old new reads (λ e. refl) (λ e. refl); log = log; found = tt; stops = tt })
-  no_table store.WriteFault s is none other reads only = memory store.WriteFault s (λ e. cc) reads is
+  no_table store.WriteFault s is none other reads only = absurd is
   no_table store.NoMemory s is none other reads only = memory store.NoMemory s (λ e. cc) reads is
 
 -- ---- one segment
@@ -248,7 +263,7 @@ counts_all (Some files) table names at counts le on = all_counted table names at
 itself : (name : List ℕ) → eq_by_cmp name_order name name ≡ true
 itself name = (eq_by_cmp_equiv nat_list_cmp_total).refl name
 
-first_have : (files : Files) (names : List (List ℕ)) → AreFirstNames files names → All (λ n. has_segment files n ≡ true) names
+pub first_have : (files : Files) (names : List (List ℕ)) → AreFirstNames files names → All (λ n. has_segment files n ≡ true) names
 first_have files names (all, are, first) =
     subst (All (λ n. has_segment files n ≡ true)) (sym first)
     (All-take (λ n. has_segment files n ≡ true) 512 all

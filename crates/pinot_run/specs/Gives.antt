@@ -1,5 +1,5 @@
 -- What the functions below a command's own answer.
-use Rattle.std.specs.Prelude.{◌≡◌, ◌⊎◌, ◌++◌, true, ℕ, List, codes, Option, Result, Ok, Err, IsErrAnd, IfSome, IfErr, IfOk}
+use Rattle.std.specs.Prelude.{◌≡◌, ◌⊎◌, ◌++◌, ◌<◌, true, ℕ, List, [], codes, get_or, length, Option, Result, Ok, Err, IsErrAnd, IfSome, IfErr, IfOk}
 use Rattle.std.specs.FinMap as finite
 use Rattle.outside.specs.Counts.{Rose}
 use Rattle.outside.specs.Files.{Files, Has, Lacks, with_file}
@@ -11,7 +11,8 @@ use Rattle.table_schema.specs.declared.table.Table.{Table}
 use Rattle.table_store.specs.State as state
 use Rattle.table_store.specs.TableFile.{table_file, table_name}
 use Rattle.pinot_run.specs.Build.{HasPlace, PlaceRefuses, built_text, csv_rows}
-use Rattle.pinot_run.specs.Profile.{Opens, TableFile, place_refuses, rows_refuse, store_refuses, texts_refuse}
+use Rattle.pinot_run.specs.Profile.{Opens, StoreFiles, TableFile, place_refuses, query_refuses, rows_refuse, store_refuses, texts_refuse}
+use Rattle.pinot_run.specs.Queried.{IsQueried, QueryRefuses}
 use Rattle.pinot_run.specs.Stored.{part_text}
 use Rattle.pinot_run.specs.Touched.{LogsOpened}
 use Rattle.segment_file.specs.Image.{image}
@@ -21,9 +22,14 @@ use Rattle.segment_file.specs.declared.fault.HeadFault.TheVariants as head
 use Rattle.table_schema.specs.declared.field.Field.{Field}
 use Rattle.table_store.specs.declared.fault.StoreFault.{StoreFault}
 use Rattle.table_store.specs.declared.fault.StoreFault.TheVariants as store
+use Rattle.query_executor.specs.declared.fault.ExecutorFault.{ExecutorFault}
+use Rattle.query_executor.specs.declared.fault.ExecutorFault.TheVariants as executor
+use Rattle.segment_file.specs.declared.part.Part.{Part}
+use Rattle.sql_reply.specs.declared.fault.SqlFault.{SqlFault}
+use Rattle.sql_reply.specs.declared.fault.SqlFault.TheVariants as query
 use Rattle.text_scan.specs.declared.fault.ScanFault.{ScanFault}
 use Rattle.text_scan.specs.declared.fault.ScanFault.TheVariants as scan
-use Rattle.pinot_run.specs.Notes.{csv_note, scan_note}
+use Rattle.pinot_run.specs.Notes.{csv_note, scan_note, sql_note}
 use Rattle.outside.specs.Seen.{Seen, OnlyReads}
 use Rattle.pinot_run.specs.declared.fault.Fault.TheVariants as fault
 use Rattle.pinot_run.specs.declared.note.Counted.{Counted}
@@ -89,18 +95,63 @@ pub record LooksFor {A : Type 0} (Found : Files → A → Type 0) (Refusal : Fil
   pub found : IfOk result (λ a. IfSome old.held (λ files. Found files a))
   pub stops : IfErr result (StopsStore Refusal old.held)
 
--- what the fault of a store is for a command that opens the table's file alone
+-- a fault of a look at the table's file, or at the names of files
+abbrev pub IsLookFault : StoreFault → Type 0
+IsLookFault store.NoTable = Unit {0}
+IsLookFault (store.NotASegment part) = Unit {0}
+IsLookFault store.ReadFault = Unit {0}
+IsLookFault store.NoMemory = Unit {0}
+IsLookFault other = ⊥
+
+-- what such a fault is for a command
 abbrev pub IsStopOf : StoreFault → Stop → Type 0
 IsStopOf store.NoTable s = s ≡ stop.Refused note.NoTable
 IsStopOf (store.NotASegment part) s = (s ≡ stop.Refused (note.NotASegment table_name (codes "table"))) ⊎ (s ≡ stop.Fault fault.Memory)
 IsStopOf store.ReadFault s = s ≡ stop.Fault fault.Read
-IsStopOf other s = s ≡ stop.Fault fault.Memory
+IsStopOf store.NoMemory s = s ≡ stop.Fault fault.Memory
+IsStopOf other s = ⊥
+
+-- the file of a segment of this name is refused for a part of it, or memory ran out
+abbrev pub IsSegmentStop : List ℕ → List Field → Part → Stop → Type 0
+IsSegmentStop name fields part s = (s ≡ stop.Refused (note.NotASegment name (part_text fields part))) ⊎ (s ≡ stop.Fault fault.Memory)
 
 -- what the fault of a head of a segment of this name is
 abbrev pub IsHeadStop : List ℕ → List Field → HeadFault → Stop → Type 0
-IsHeadStop name fields (head.NotASegment part) s = (s ≡ stop.Refused (note.NotASegment name (part_text fields part))) ⊎ (s ≡ stop.Fault fault.Memory)
+IsHeadStop name fields (head.NotASegment part) s = IsSegmentStop name fields part s
 IsHeadStop name fields head.ReadFault s = s ≡ stop.Fault fault.Read
 IsHeadStop name fields head.NoMemory s = s ≡ stop.Fault fault.Memory
+
+-- ---- a query
+
+-- what a query's text that has no reply is for a command
+abbrev pub sql_stop : SqlFault → Stop
+sql_stop query.NoMemory = stop.Fault fault.Memory
+sql_stop wrong = stop.Refused (sql_note wrong)
+
+-- the fault of a query over segments names one of them, where it names any
+abbrev pub NamesOneOf : List (List ℕ) → ExecutorFault → Type 0
+NamesOneOf names (executor.NotASegment at part) = at < length names
+NamesOneOf names other = Unit {0}
+
+-- what the fault of a query over segments of these names is
+abbrev pub IsQueryStop : List (List ℕ) → List Field → ExecutorFault → Stop → Type 0
+IsQueryStop names fields (executor.Sql wrong) s = s ≡ sql_stop wrong
+IsQueryStop names fields (executor.NotASegment at part) s = IsSegmentStop (get_or names at []) fields part s
+IsQueryStop names fields executor.ReadFault s = s ≡ stop.Fault fault.Read
+
+-- a query ends: the files refuse it so, or a look failed, or memory ran out
+abbrev pub StopsQuery : List ℕ → Option Files → Stop → Type 0
+StopsQuery sql held (stop.Refused line) = (query_refuses line ≡ true) × IfSome held (λ files. QueryRefuses sql files line)
+StopsQuery sql held (stop.Fault fault.Read) = Unit {0}
+StopsQuery sql held (stop.Fault fault.Write) = ⊥
+StopsQuery sql held (stop.Fault fault.Memory) = Unit {0}
+
+-- a call read files of the store and changed nothing; where the files are told, the query has this reply over them, or they refuse it so
+pub record AnswersQuery (sql : List ℕ) (old new : Seen) (result : Result (List ℕ) Stop) : Type 0 where
+  pub reads : OnlyReads (IsErrAnd result (λ s. s ≡ stop.Fault fault.Read)) old new
+  pub log : LogsOpened StoreFiles old.log new.log
+  pub found : IfOk result (λ text. IfSome old.held (λ files. IsQueried files sql text))
+  pub stops : IfErr result (StopsQuery sql old.held)
 
 -- ---- a segment is built
 

@@ -68,7 +68,7 @@ fn schema_of(alloc: Global, text: &[u8]) -> Result<Schema, Stop>
 
 // The settings that a text is.
 fn settings_of(alloc: Global, schema: &Schema, text: &[u8]) -> Result<Settings, Stop>
-    requires { length schema.now.fields ≤ 64 }
+    requires { IsValidSchema schema.now }
     ensures read { IfOk result (λ settings.
         settings_read schema.now.fields text.now ≡ Ok settings) }
     ensures no_schema { (wrong : KeyKind) (path : List ℕ) →
@@ -113,7 +113,7 @@ fn read_settings_file<I: Shelf>(
     file: &str,
     inputs: &mut I,
 ) -> Result<(Bytes, Settings), Stop>
-    requires { length schema.now.fields ≤ 64 }
+    requires { IsValidSchema schema.now }
     ensures read { IfOk result (λ r. IfSome (I.held inputs.old) (λ files.
         settings_in schema.now file.now files ≡ Ok (r.0, r.1))) }
     ensures short { IfOk result (λ r. length r.0 ≤ text_limit) }

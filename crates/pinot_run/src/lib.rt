@@ -13,6 +13,7 @@ mod line;
 mod list;
 mod note;
 mod part_name;
+mod query;
 mod run;
 mod scan;
 mod status;

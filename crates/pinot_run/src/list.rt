@@ -12,15 +12,14 @@ ghost use Rattle.pinot_run.specs.Gives.{IsHeadStop, LooksFor};
 ghost use Rattle.pinot_run.specs.Profile.{StoreFiles};
 ghost use Rattle.pinot_run.specs.Ran.{Ran};
 ghost use Rattle.pinot_run.specs.Stored as spec;
-ghost use Rattle.pinot_run.specs.Stored.{HasRows, HasTableFile, SegmentsRefuse, part_text};
+ghost use Rattle.pinot_run.specs.Stored.{HasRows, HasTableFile, SegmentsRefuse};
 
 use crate::fault::Fault;
-use crate::note::Note;
-use crate::part_name::part_text;
+use crate::part_name::segment_stop;
 use crate::stop::Stop;
 use crate::store::{stored_names, stored_table};
 use outside::{Bytes, Depot, Name, Seq};
-use segment_file::{HeadFault, Part, open_head};
+use segment_file::{HeadFault, open_head};
 use std::alloc::{AllocError, Global};
 use table_schema::Table;
 use table_store::segment_file_name;
@@ -96,23 +95,10 @@ fn stop_of(alloc: Global, table: &Table, name: &str, fault: HeadFault) -> Stop
     ensures { IsHeadStop name.now table.now.schema.fields fault result }
 {
     match fault {
-        HeadFault::NotASegment(part) => match not_a_segment(alloc, table, name, part) {
-            Ok(note) => Stop::Refused(note),
-            Err(_) => Stop::Fault(Fault::Memory),
-        },
+        HeadFault::NotASegment(part) => segment_stop(alloc, table, name, part),
         HeadFault::ReadFault => Stop::Fault(Fault::Read),
         HeadFault::NoMemory => Stop::Fault(Fault::Memory),
     }
-}
-
-// The refusal of a segment's file.
-fn not_a_segment(alloc: Global, table: &Table, name: &str, part: Part) -> Result<Note, AllocError>
-    ensures { IfOk result (λ note. note
-        ≡ Note.NotASegment name.now (part_text table.now.schema.fields part)) }
-{
-    let part = part_text(alloc, table.schema.fields.as_slice(), part)?;
-    let name = name.as_bytes().to_vec(alloc)?;
-    Ok(Note::NotASegment(Seq::from_vec(name), Seq::from_vec(part)))
 }
 
 // The text of a list of segments.

@@ -1,16 +1,40 @@
-//! Parts of stored files, as note lines print them.
+//! The refusal of a segment's file, and the parts of files as note lines print them.
 ghost use Rattle.std.specs.Prelude.{◌≡◌, ◌++◌, ◌+◌, IfOk, slice_get};
 ghost use Rattle.std.specs.Fmt.{decimal};
-ghost use Rattle.pinot_run.specs.Stored as spec;
-ghost use Rattle.pinot_run.specs.Stored.{field_name};
+ghost use Rattle.pinot_run.specs.Gives.{IsSegmentStop};
+ghost use Rattle.pinot_run.specs.Stored.{field_name, part_text};
 
+use crate::fault::Fault;
+use crate::note::Note;
+use crate::stop::Stop;
+use outside::Seq;
 use segment_file::Part;
 use std::alloc::{AllocError, Global};
-use table_schema::Field;
+use table_schema::{Field, Table};
 
-/// The name of a part of a stored file of a table with these fields.
-pub fn part_text(alloc: Global, fields: &[Field], part: Part) -> Result<Vec<u8>, AllocError>
-    ensures { IfOk result (λ text. text.items ≡ spec.part_text fields.now part) }
+/// The refusal of the file of a segment of the table for a part of it.
+pub fn segment_stop(alloc: Global, table: &Table, name: &str, part: Part) -> Stop
+    ensures { IsSegmentStop name.now table.now.schema.fields part result }
+{
+    match not_a_segment(alloc, table, name, part) {
+        Ok(note) => Stop::Refused(note),
+        Err(_) => Stop::Fault(Fault::Memory),
+    }
+}
+
+// Its note.
+fn not_a_segment(alloc: Global, table: &Table, name: &str, part: Part) -> Result<Note, AllocError>
+    ensures { IfOk result (λ note. note
+        ≡ Note.NotASegment name.now (part_text table.now.schema.fields part)) }
+{
+    let part = part_text(alloc, table.schema.fields.as_slice(), part)?;
+    let name = name.as_bytes().to_vec(alloc)?;
+    Ok(Note::NotASegment(Seq::from_vec(name), Seq::from_vec(part)))
+}
+
+// The name of a part of a stored file of a table with these fields.
+fn part_text(alloc: Global, fields: &[Field], part: Part) -> Result<Vec<u8>, AllocError>
+    ensures { IfOk result (λ text. text.items ≡ part_text fields.now part) }
 {
     match part {
         Part::Table => b"table".to_vec(alloc),

@@ -1,5 +1,5 @@
 //! What is looked at in a store.
-ghost use Rattle.std.specs.Prelude.{◌≡◌, false, codes, IfOk};
+ghost use Rattle.std.specs.Prelude.{◌≡◌, ◌≤◌, false, codes, length, IfOk};
 ghost use Rattle.std.specs.List.{All};
 ghost use Rattle.outside.specs.Seen.{seen};
 ghost use Rattle.segment_file.specs.Names.{IsSegmentName};
@@ -8,7 +8,7 @@ ghost use Rattle.table_schema.specs.Unbuilt.{names_unbuilt};
 ghost use Rattle.table_schema.specs.ValidTable.{IsValidTable};
 ghost use Rattle.table_store.specs.Segments.{AreFirstNames};
 ghost use Rattle.table_store.specs.TableFile.{table_name};
-ghost use Rattle.pinot_run.specs.Gives.{FindsPlace, IsStopOf, IsTakenStop, LooksFor};
+ghost use Rattle.pinot_run.specs.Gives.{FindsPlace, IsLookFault, IsStopOf, IsTakenStop, LooksFor};
 ghost use Rattle.pinot_run.specs.Profile.{TableFile};
 ghost use Rattle.pinot_run.specs.Stored.{HasTableFile, TableRefuses};
 
@@ -38,6 +38,7 @@ pub fn stored_names<D: Depot>(alloc: Global, depot: &mut D) -> Result<Seq<Name>,
     ensures looks { LooksFor AreFirstNames TableRefuses TableFile
         (seen D.Shelf depot.old) (seen D.Shelf depot.new) result }
     ensures named { IfOk result (λ names. All IsSegmentName names) }
+    ensures few { IfOk result (λ names. length names ≤ 512) }
 {
     match segment_names(alloc, depot) {
         Ok(names) => Ok(names),
@@ -80,8 +81,9 @@ fn name_taken(alloc: Global, name: &str) -> Stop
     }
 }
 
-// What a fault of the store is for a command.
+// What a fault of a look at the store is for a command.
 fn stop_of(alloc: Global, fault: StoreFault) -> Stop
+    requires { IsLookFault fault }
     ensures { IsStopOf fault result }
 {
     match fault {
@@ -91,7 +93,11 @@ fn stop_of(alloc: Global, fault: StoreFault) -> Stop
             Err(_) => Stop::Fault(Fault::Memory),
         },
         StoreFault::ReadFault => Stop::Fault(Fault::Read),
-        _ => Stop::Fault(Fault::Memory),
+        StoreFault::NoMemory => Stop::Fault(Fault::Memory),
+        StoreFault::TableExists
+        | StoreFault::NameTaken
+        | StoreFault::TooManySegments
+        | StoreFault::WriteFault => unreachable!(),
     }
 }
 

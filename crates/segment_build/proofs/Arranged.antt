@@ -1,5 +1,5 @@
 -- Columns of rows that are put in their order.
-use Rattle.std.proofs.Common.{◌≡◌, ◌∙◌, ◌<◌, ◌≤◌, ◌+◌, ◌==◌, cond, Bool, true, false, ℕ, zero, suc, List, [], ◌∷◌, ◌++◌, length, map, get_or, Option, Some, None, option_to_list, refl, sym, ap, subst, arith, pos, Vec, Global, MatchBool}
+use Rattle.std.proofs.Common.{◌≡◌, ◌∙◌, ◌<◌, ◌≤◌, ◌+◌, ◌==◌, cond, Bool, true, ℕ, zero, suc, List, [], ◌∷◌, length, map, get_or, Option, Some, None, refl, sym, ap, subst, arith, pos, Vec, Global, MatchBool}
 use Rattle.std.proofs.lemmas.Bool.{eqb-true}
 use Rattle.std.proofs.lemmas.List.{get_or-map, length-map}
 use Rattle.std.proofs.lemmas.List.Elements.{All-append, All-cons, All-head, All-nil, All-tail}
@@ -8,7 +8,7 @@ use Rattle.std.specs.List.{All}
 use Rattle.std.specs.List.Sorted.{IsNonDecreasing}
 use Rattle.values.specs.declared.value.Value.{Value}
 use Rattle.values.specs.declared.value.Value.TheVariants.{Whole}
-use Rattle.dictionary.specs.Coding.{AreBelow, Codes, values_at}
+use Rattle.dictionary.specs.Coding.{AreBelow, Codes}
 use Rattle.dictionary.specs.Dictionary.{Ascends, distinct}
 use Rattle.dictionary.proofs.Distinct.{distinct_ascends}
 use Rattle.bit_column.specs.Postings.{entries, places_from, places_of}

@@ -8,14 +8,12 @@ use Rattle.std.proofs.lemmas.List.Elements.{All-head, All-tail}
 use Rattle.std.proofs.lemmas.List.FromFn.{map-range_with_len_more}
 use Rattle.std.proofs.lemmas.Grind.{flat_map-append}
 use Rattle.std.proofs.lemmas.Map.Keys.{sorted_head, sorted_tail}
-use Rattle.std.proofs.lemmas.Option.{slice_get-get_or}
-use Rattle.std.specs.List.{All, AllByRecursion, concat, range_with_len, slice_get}
+use Rattle.std.specs.List.{All, AllByRecursion, concat, range_with_len}
 use Rattle.std.specs.Ordering.{is_eq}
 use Rattle.std.specs.declared.cmp.Ordering.TheVariants.{Less}
 use Rattle.values.specs.declared.value.Value.{Value}
 use Rattle.values.specs.declared.value.Value.TheVariants.{Whole}
-use Rattle.values.specs.Columns.{Counts, Listed, ListedColumns, fronted, rows_in_columns, rows_of}
-use Rattle.segment_build.specs.Fitting.{AreColumns}
+use Rattle.values.specs.Columns.{Counts, Listed, fronted, rows_in_columns}
 use Rattle.values.specs.Order.{value_eq, value_order}
 use Rattle.values.specs.Order.Laws.{value_eq-equiv, value_eq-ties}
 use Rattle.values.proofs.RowLemmas.{length-rows}
@@ -26,22 +24,20 @@ use Rattle.dictionary.specs.Dictionary.{Ascends, Distinct, distinct}
 use Rattle.dictionary.specs.Spelling.{spelling}
 use Rattle.dictionary.proofs.Distinct.{distinct_ascends}
 use Rattle.bit_column.specs.Column.{spelled, width_of}
-use Rattle.values.specs.declared.kind.FieldKind.{FieldKind}
 use Rattle.segment_file.specs.declared.bounds.Ends.{Ends}
 use Rattle.segment_file.specs.declared.part.Part.{Part}
 use Rattle.segment_file.specs.declared.part.Part.TheVariants as parts
 use Rattle.segment_file.specs.Bounds.{bounds_bytes, bounds_of, ends_of, pair_bytes}
-use Rattle.segment_file.specs.Image.{dictionary_of, ids_of, kind_at, kind_or, place_of, section_of, sections_of_rows, values_in}
+use Rattle.segment_file.specs.Image.{dictionary_of, ids_of, place_of, section_of, sections_of_rows, values_in}
 use Rattle.segment_file.specs.Ordered.{value_in}
-use Rattle.segment_file.specs.Parts.{columns_of, head_sections, marked, marked_from, raw_sections}
+use Rattle.segment_file.specs.Parts.{columns_of, head_sections, marked, marked_from}
 use Rattle.table_schema.specs.NeedIds.{is_the_number}
 use Rattle.table_schema.specs.ValidSettings.{is_known_number}
 use Rattle.table_schema.specs.ValidTable.{IsValidTable}
-use Rattle.bit_column.specs.Postings.{inverted}
+use Rattle.bit_column.specs.Postings.{inverted, ranged}
 use Rattle.bit_column.specs.SortedRuns.{sorted_runs}
-use Rattle.segment_build.proofs.Bares.{no_ranged}
 use Rattle.segment_build.specs.declared.indexes.Indexes.{Indexes}
-use Rattle.segment_build.specs.Sections.{HasNoRangeOrTree, Made, ids_in, in_order, made_of, only, sorted_among, with_column}
+use Rattle.segment_build.specs.Sections.{Made, ids_in, in_order, made_of, only, sorted_among, with_column}
 
 -- ---- the values of rows in a column
 
@@ -156,7 +152,7 @@ none_among : (sorted : Option ℕ) → sorted_among 0 sorted ≡ []
 none_among None = refl
 none_among (Some m) = let no : nat_lt m 0 ≡ false = search (rules, tests) in ap (λ b. only b m) no
 
-pub made_none : (table : Table) (rows : List (List Value)) (made : Made) → made ≡ record { bounds = []; dictionaries = []; forwards = []; runs = []; lists = [] } → made ≡ made_of table rows 0
+pub made_none : (table : Table) (rows : List (List Value)) (made : Made) → made ≡ record { bounds = []; dictionaries = []; forwards = []; runs = []; lists = []; ranges = [] } → made ≡ made_of table rows 0
 made_none table rows made e =
     e ∙ (λ i. record {
       bounds = [];
@@ -164,16 +160,18 @@ made_none table rows made e =
       forwards = [];
       runs = map (λ c. section_of table rows (parts.Sorted c)) (sym (none_among table.settings.sorted) i);
       lists = [];
+      ranges = [];
     })
 
 -- the sections of one more column of rows
-pub made_more : (table : Table) (rows : List (List Value)) (at : ℕ) (indexes : Indexes) → at < length table.settings.inverted → indexes.sorted ≡ is_the_number at table.settings.sorted
-    → indexes.inverted ≡ get_or table.settings.inverted at false → with_column (dictionary_of table rows at) (ids_of rows at) indexes (made_of table rows at) ≡ made_of table rows (at + 1)
-made_more table rows at indexes lt is_sorted is_inverted =
+pub made_more : (table : Table) (rows : List (List Value)) (at : ℕ) (indexes : Indexes) → at < length table.settings.inverted → at < length table.settings.ranged → indexes.sorted ≡ is_the_number at table.settings.sorted
+    → indexes.inverted ≡ get_or table.settings.inverted at false → indexes.ranged ≡ get_or table.settings.ranged at false → with_column (dictionary_of table rows at) (ids_of rows at) indexes (made_of table rows at) ≡ made_of table rows (at + 1)
+made_more table rows at indexes lt less is_sorted is_inverted is_ranged =
     let dictionaries : ℕ → List ℕ = λ c. section_of table rows (parts.Dictionary c) in
     let forwards : ℕ → List ℕ = λ c. section_of table rows (parts.Forward c) in
     let runs : ℕ → List ℕ = λ c. section_of table rows (parts.Sorted c) in
     let lists : ℕ → List ℕ = λ c. section_of table rows (parts.Inverted c) in
+    let ranges : ℕ → List ℕ = λ c. section_of table rows (parts.Range c) in
     let old : Made = made_of table rows at in
     let b : old.bounds ++ bounds_bytes (ends_of (dictionary_of table rows at).values) ≡ (made_of table rows (at + 1)).bounds =
     sym (ap (λ ds. bounds_bytes (bounds_of ds)) (map-range_with_len_more (dictionary_of table rows) 0 at at (omega arith)) ∙ bounds_more (map (dictionary_of table rows) (range_with_len 0 at)) (dictionary_of table rows at)) in
@@ -183,45 +181,43 @@ made_more table rows at indexes lt is_sorted is_inverted =
     ap (λ x. old.runs ++ only x (runs at)) is_sorted ∙ sorted_more runs at table.settings.sorted in
     let l : old.lists ++ only indexes.inverted (lists at) ≡ (made_of table rows (at + 1)).lists =
     ap (λ x. old.lists ++ only x (lists at)) is_inverted ∙ marked_more lists at table.settings.inverted lt in
-    (λ i. record { bounds = b i; dictionaries = d i; forwards = f i; runs = r i; lists = l i })
-
-built_raw : (table : Table) → HasNoRangeOrTree table
-    → raw_sections table ≡ map parts.Forward (columns_of table) ++ (map parts.Sorted (option_to_list table.settings.sorted) ++ map parts.Inverted (marked table.settings.inverted))
-built_raw table built =
-    let forwards : List Part = map parts.Forward (columns_of table) in
-    let sorted : List Part = map parts.Sorted (option_to_list table.settings.sorted) in
-    let inverted : List Part = map parts.Inverted (marked table.settings.inverted) in
-    (λ i. forwards ++ (sorted ++ (inverted ++ map parts.Range (no_ranged table built i))))
-    ∙ ap (λ ps. forwards ++ (sorted ++ ps)) (append-nil inverted)
+    let n : old.ranges ++ only indexes.ranged (ranges at) ≡ (made_of table rows (at + 1)).ranges =
+    ap (λ x. old.ranges ++ only x (ranges at)) is_ranged ∙ marked_more ranges at table.settings.ranged less in
+    (λ i. record { bounds = b i; dictionaries = d i; forwards = f i; runs = r i; lists = l i; ranges = n i })
 
 -- the sections of all columns are those of the rows
-pub made_all : (table : Table) (rows : List (List Value)) → IsValidTable table → HasNoRangeOrTree table → in_order (made_of table rows (length table.schema.fields)) ≡ sections_of_rows table rows
-made_all table rows valid built =
+pub made_all : (table : Table) (rows : List (List Value)) → IsValidTable table → in_order (made_of table rows (length table.schema.fields)) ≡ sections_of_rows table rows
+made_all table rows valid =
     let section : Part → List ℕ = section_of table rows in
     let columns : List ℕ = columns_of table in
     let marks : List Bool = table.settings.inverted in
+    let others : List Bool = table.settings.ranged in
     let count : ℕ = length table.schema.fields in
     let sorted : List ℕ = option_to_list table.settings.sorted in
     let heads : List Part = head_sections table in
     let forwards : List Part = map parts.Forward columns in
     let runs : List Part = map parts.Sorted sorted in
     let lists : List Part = map parts.Inverted (marked marks) in
+    let ranges : List Part = map parts.Range (marked others) in
     let s = sorted_all count table.schema.fields table.settings.sorted refl valid.settings.sorted_known in
     let m = take_all count marks (omega (arith, valid.settings.each_inverted)) in
-    (λ i. section parts.Bounds ∷ (map (λ c. section (parts.Dictionary c)) columns ++ (map (λ c. section (parts.Forward c)) columns ++ (map (λ c. section (parts.Sorted c)) (s i) ++ map (λ c. section (parts.Inverted c)) (marked (m i))))))
-    ∙ (λ i. section parts.Bounds ∷ (sym (map-map section parts.Dictionary columns) i ++ (sym (map-map section parts.Forward columns) i ++ (sym (map-map section parts.Sorted sorted) i ++ sym (map-map section parts.Inverted (marked marks)) i))))
-    ∙ ap (λ rest. map section heads ++ (map section forwards ++ rest)) (sym (map-append section runs lists))
-    ∙ ap (λ rest. map section heads ++ rest) (sym (map-append section forwards (runs ++ lists)))
-    ∙ sym (map-append section heads (forwards ++ (runs ++ lists)))
-    ∙ ap (λ raw. map section (heads ++ raw)) (sym (built_raw table built))
+    let o = take_all count others (omega (arith, valid.settings.each_ranged)) in
+    (λ i. section parts.Bounds ∷ (map (λ c. section (parts.Dictionary c)) columns ++ (map (λ c. section (parts.Forward c)) columns
+    ++ (map (λ c. section (parts.Sorted c)) (s i) ++ (map (λ c. section (parts.Inverted c)) (marked (m i)) ++ map (λ c. section (parts.Range c)) (marked (o i)))))))
+    ∙ (λ i. section parts.Bounds ∷ (sym (map-map section parts.Dictionary columns) i ++ (sym (map-map section parts.Forward columns) i
+    ++ (sym (map-map section parts.Sorted sorted) i ++ (sym (map-map section parts.Inverted (marked marks)) i ++ sym (map-map section parts.Range (marked others)) i)))))
+    ∙ ap (λ rest. map section heads ++ (map section forwards ++ (map section runs ++ rest))) (sym (map-append section lists ranges))
+    ∙ ap (λ rest. map section heads ++ (map section forwards ++ rest)) (sym (map-append section runs (lists ++ ranges)))
+    ∙ ap (λ rest. map section heads ++ rest) (sym (map-append section forwards (runs ++ (lists ++ ranges))))
+    ∙ sym (map-append section heads (forwards ++ (runs ++ (lists ++ ranges))))
 
 -- the sections of a column, as they are pushed
 pub column_pushed : (d : Distinct) (ids : List ℕ) (indexes : Indexes) (old new : Made)
     → new.bounds ≡ old.bounds ++ bounds_bytes (ends_of d.values) → new.dictionaries ≡ old.dictionaries ++ spelling d ∷ []
     → new.forwards ≡ old.forwards ++ spelled (width_of (length d.values)) ids ∷ []
     → new.runs ≡ old.runs ++ only indexes.sorted (sorted_runs (length d.values) ids) → new.lists ≡ old.lists ++ only indexes.inverted (inverted (length d.values) ids)
-    → new ≡ with_column d ids indexes old
-column_pushed d ids indexes old new b ds fs rs ls = (λ i. record { bounds = b i; dictionaries = ds i; forwards = fs i; runs = rs i; lists = ls i })
+    → new.ranges ≡ old.ranges ++ only indexes.ranged (ranged (length d.values) ids) → new ≡ with_column d ids indexes old
+column_pushed d ids indexes old new b ds fs rs ls ns = (λ i. record { bounds = b i; dictionaries = ds i; forwards = fs i; runs = rs i; lists = ls i; ranges = ns i })
 
 -- an answer with these items has equal ones
 pub if_ok_items : {X E : Type 0} (r : Result (Vec X Global) E) (a b : List X) → a ≡ b → IfOk r (λ v. v.items ≡ a) → IfOk r (λ v. v.items ≡ b)

@@ -33,7 +33,8 @@ use Rattle.segment_file.specs.declared.part.Part.TheVariants as parts
 use Rattle.segment_file.proofs.BoundLemmas.{fits_short}
 use Rattle.segment_file.proofs.Counts.{few_sections}
 use Rattle.segment_build.proofs.Stable.{ids_below, ids_count}
-use Rattle.bit_column.proofs.PostingLaws.{posting_length}
+use Rattle.bit_column.specs.Postings.{bucket_of, buckets_for}
+use Rattle.bit_column.proofs.PostingLaws.{buckets_in, posting_length}
 use Rattle.bit_column.proofs.SortedLaws.{sorted_length}
 use Rattle.table_schema.specs.ValidTable.{IsValidTable}
 use Rattle.table_schema.specs.declared.table.Table.{Table}
@@ -174,6 +175,15 @@ runs_small table rows c few = omega (arith, sorted_length (count_of rows c) (ids
 lists_small : (table : Table) (rows : List (List Value)) (c : ℕ) → length rows ≤ most_values → IsSmall (section_of table rows (parts.Inverted c))
 lists_small table rows c few = omega (arith, posting_length (count_of rows c) (ids_of rows c) (ids_below rows c), ids_count rows c, few_distinct (values_in c rows), length-map rows (value_in c), few)
 
+bucket_count : (ids : List ℕ) → length (map bucket_of ids) ≡ length ids
+bucket_count ids = length-map ids bucket_of
+
+ranges_small : (table : Table) (rows : List (List Value)) (c : ℕ) → length rows ≤ most_values → IsSmall (section_of table rows (parts.Range c))
+ranges_small table rows c few =
+    let count = count_of rows c in
+    let long = posting_length (buckets_for count) (map bucket_of (ids_of rows c)) (buckets_in count (ids_of rows c) (ids_below rows c)) in
+    omega (arith, long, bucket_count (ids_of rows c), ids_count rows c, few_distinct (values_in c rows), length-map rows (value_in c), few)
+
 -- none of the sections of the first so many columns is long
 pub made_small : (table : Table) (rows : List (List Value)) (count : ℕ) → count ≤ 64 → length rows ≤ most_values → ((c : ℕ) → c < count → IsModest rows c) → All IsSmall (in_order (made_of table rows count))
 made_small table rows count few most modest =
@@ -183,19 +193,25 @@ made_small table rows count few most modest =
     let forwards : ℕ → List ℕ = λ c. section_of table rows (parts.Forward c) in
     let runs : ℕ → List ℕ = λ c. section_of table rows (parts.Sorted c) in
     let lists : ℕ → List ℕ = λ c. section_of table rows (parts.Inverted c) in
+    let ranges : ℕ → List ℕ = λ c. section_of table rows (parts.Range c) in
     let sorted : List ℕ = sorted_among count table.settings.sorted in
     let marks : List ℕ = marked (take count table.settings.inverted) in
+    let others : List ℕ = marked (take count table.settings.ranged) in
     let here : (c : ℕ) → c < 0 + count → IsModest rows c = λ c below. modest c (omega (arith, below)) in
     let bounds = bounds_small ds (all_range (λ d. All IsShort d.values) (dictionary_of table rows) 0 count (λ c below. (here c below).short)) in
     let number : length ds ≡ count = length-map-range_with_len (dictionary_of table rows) 0 count in
-    let more : All IsSmall (map runs sorted ++ map lists marks) =
-    All-append IsSmall (map runs sorted) (map lists marks)
-    (All-map IsSmall runs sorted (every (λ c. IsSmall (runs c)) sorted (λ c. runs_small table rows c most)))
-    (All-map IsSmall lists marks (every (λ c. IsSmall (lists c)) marks (λ c. lists_small table rows c most))) in
-    let raw : All IsSmall (map forwards columns ++ (map runs sorted ++ map lists marks)) =
-    All-append IsSmall (map forwards columns) (map runs sorted ++ map lists marks) (all_range IsSmall forwards 0 count (λ c below. forward_modest rows c (here c below))) more in
-    All-cons IsSmall (bounds_bytes (bounds_of ds)) (map dictionaries columns ++ (map forwards columns ++ (map runs sorted ++ map lists marks))) (omega (arith, bounds, number, few))
-    (All-append IsSmall (map dictionaries columns) (map forwards columns ++ (map runs sorted ++ map lists marks))
+    let last : All IsSmall (map lists marks ++ map ranges others) =
+    All-append IsSmall (map lists marks) (map ranges others)
+    (All-map IsSmall lists marks (every (λ c. IsSmall (lists c)) marks (λ c. lists_small table rows c most)))
+    (All-map IsSmall ranges others (every (λ c. IsSmall (ranges c)) others (λ c. ranges_small table rows c most))) in
+    let more : All IsSmall (map runs sorted ++ (map lists marks ++ map ranges others)) =
+    All-append IsSmall (map runs sorted) (map lists marks ++ map ranges others)
+    (All-map IsSmall runs sorted (every (λ c. IsSmall (runs c)) sorted (λ c. runs_small table rows c most))) last in
+    let raw : All IsSmall (map forwards columns ++ (map runs sorted ++ (map lists marks ++ map ranges others))) =
+    All-append IsSmall (map forwards columns) (map runs sorted ++ (map lists marks ++ map ranges others)) (all_range IsSmall forwards 0 count (λ c below. forward_modest rows c (here c below))) more in
+    let rest : List (List ℕ) = map forwards columns ++ (map runs sorted ++ (map lists marks ++ map ranges others)) in
+    All-cons IsSmall (bounds_bytes (bounds_of ds)) (map dictionaries columns ++ rest) (omega (arith, bounds, number, few))
+    (All-append IsSmall (map dictionaries columns) rest
     (all_range IsSmall dictionaries 0 count (λ c below. small_dictionary (kind_at table c) (values_in c rows) (here c below).few (here c below).short)) raw)
 
 sum_by_small : (xs : List (List ℕ)) → All IsSmall xs → sum_by length xs ≤ 2 ^ 30 * length xs

@@ -3,11 +3,11 @@ use Rattle.std.specs.Prelude.{◌≡◌, ℕ, Bool, true, false, nat_lt, List, [
 use Rattle.std.specs.List.{range_with_len}
 use Rattle.values.specs.declared.value.Value.{Value}
 use Rattle.table_schema.specs.declared.table.Table.{Table}
-use Rattle.table_schema.specs.Unbuilt.{is_no_tree, is_set_anywhere, names_unbuilt}
+use Rattle.table_schema.specs.Unbuilt.{is_no_tree, names_unbuilt}
 use Rattle.dictionary.specs.Dictionary.{Distinct, distinct}
 use Rattle.dictionary.specs.Spelling.{spelling}
 use Rattle.bit_column.specs.Column.{spelled, width_of}
-use Rattle.bit_column.specs.Postings.{inverted}
+use Rattle.bit_column.specs.Postings.{inverted, ranged}
 use Rattle.bit_column.specs.SortedRuns.{sorted_runs}
 use Rattle.segment_file.specs.declared.part.Part.TheVariants as parts
 use Rattle.segment_file.specs.Bounds.{bounds_bytes, bounds_of, ends_of}
@@ -15,22 +15,22 @@ use Rattle.segment_file.specs.Image.{dictionary_of, place_of, section_of}
 use Rattle.segment_file.specs.Parts.{marked}
 use Rattle.segment_build.specs.declared.indexes.Indexes.{Indexes}
 
--- a table without a sorted column, other indexes and star-trees
+-- a table whose settings name nothing that is not built so far
 pub record IsBare (table : Table) : Type 0 where
   pub built : names_unbuilt table.settings ≡ false
 
--- what is built so far: the segments of a table without range indexes and star-trees
-pub record HasNoRangeOrTree (table : Table) : Type 0 where
-  pub no_range : is_set_anywhere table.settings.ranged ≡ false
+-- what is built so far: the segments of a table without star-trees
+pub record HasNoTree (table : Table) : Type 0 where
   pub no_tree : is_no_tree table.settings.trees ≡ true
 
--- sections by their kinds: the bounds, of each column the dictionary and the forward index, and where ids are in the sorted and the inverted columns
+-- sections by their kinds: the bounds, of each column the dictionary and the forward index, where ids are in the sorted and the inverted columns, and where buckets of ids are in those with a range index
 pub record Made : Type 0 where
   pub bounds : List ℕ
   pub dictionaries : List (List ℕ)
   pub forwards : List (List ℕ)
   pub runs : List (List ℕ)
   pub lists : List (List ℕ)
+  pub ranges : List (List ℕ)
 
 -- the ids of the values of a column
 abbrev pub ids_in : List Value → List ℕ
@@ -49,11 +49,12 @@ with_column d ids indexes made = record {
   forwards = made.forwards ++ spelled (width_of (length d.values)) ids ∷ [];
   runs = made.runs ++ only indexes.sorted (sorted_runs (length d.values) ids);
   lists = made.lists ++ only indexes.inverted (inverted (length d.values) ids);
+  ranges = made.ranges ++ only indexes.ranged (ranged (length d.values) ids);
 }
 
 -- all sections in their order
 abbrev pub in_order : Made → List (List ℕ)
-in_order made = made.bounds ∷ (made.dictionaries ++ (made.forwards ++ (made.runs ++ made.lists)))
+in_order made = made.bounds ∷ (made.dictionaries ++ (made.forwards ++ (made.runs ++ (made.lists ++ made.ranges))))
 
 -- the sorted column, if it is among the first so many
 abbrev pub sorted_among : ℕ → Option ℕ → List ℕ
@@ -70,4 +71,5 @@ made_of table rows count =
       forwards = map (λ c. section_of table rows (parts.Forward c)) columns;
       runs = map (λ c. section_of table rows (parts.Sorted c)) (sorted_among count table.settings.sorted);
       lists = map (λ c. section_of table rows (parts.Inverted c)) (marked (take count table.settings.inverted));
+      ranges = map (λ c. section_of table rows (parts.Range c)) (marked (take count table.settings.ranged));
     }

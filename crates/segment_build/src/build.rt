@@ -10,7 +10,7 @@ ghost use Rattle.segment_file.specs.Ordered.{ordered};
 ghost use Rattle.segment_file.specs.Parts.{sections_of};
 ghost use Rattle.segment_build.specs.Arranging.{Orders};
 ghost use Rattle.segment_build.specs.Fitting.{AreColumns};
-ghost use Rattle.segment_build.specs.Sections.{HasNoRangeOrTree};
+ghost use Rattle.segment_build.specs.Sections.{HasNoTree};
 
 use crate::sections::Sections;
 use crate::{BuildFault, RowOrder, coded, columns_of, indexes_at, row_order};
@@ -32,7 +32,7 @@ pub fn build_columns(
     columns: &Columns,
 ) -> Result<Bytes, BuildFault>
     requires valid { IsValidTable table.now }
-    requires built { HasNoRangeOrTree table.now }
+    requires built { HasNoTree table.now }
     requires name { IsSegmentName name.now }
     requires width { length columns.now.columns ≡ length table.now.schema.fields }
     requires rows { AreRows table.now.schema.fields (rows_of columns.now) }
@@ -53,7 +53,7 @@ pub fn build_image(
     rows: &Rows,
 ) -> Result<Bytes, BuildFault>
     requires valid { IsValidTable table.now }
-    requires built { HasNoRangeOrTree table.now }
+    requires built { HasNoTree table.now }
     requires name { IsSegmentName name.now }
     requires rows { AreRows table.now.schema.fields rows.now }
     ensures image { IfOk result (λ bytes. bytes ≡ image 1 table.now name.now rows.now) }
@@ -70,7 +70,6 @@ fn sections_of_columns(
     columns: &Columns,
 ) -> Result<Vec<Bytes>, NoMemory>
     requires valid { IsValidTable table.now }
-    requires built { HasNoRangeOrTree table.now }
     requires columns { AreColumns table.now.schema.fields columns.now }
     ensures { IfOk result (λ all. all.items ≡ sections_of_rows table.now
         (ordered table.now.settings.sorted (rows_of columns.now))) }
@@ -87,7 +86,6 @@ fn sections_in(
     order: &RowOrder,
 ) -> Result<Vec<Bytes>, NoMemory>
     requires valid { IsValidTable table.now }
-    requires built { HasNoRangeOrTree table.now }
     requires columns { AreColumns table.now.schema.fields columns.now }
     requires order { Orders table.now.settings.sorted (rows_of columns.now) order.now }
     ensures { IfOk result (λ all. all.items ≡ sections_of_rows table.now

@@ -10,17 +10,21 @@ pub struct Indexes {
     /// The rows are in the order of the column.
     pub sorted: bool,
     pub inverted: bool,
+    pub ranged: bool,
 }
 
 /// Those of one column.
 pub fn indexes_at(settings: &Settings, at: usize) -> Indexes
-    requires { at < length settings.now.inverted }
+    requires inverted { at < length settings.now.inverted }
+    requires ranged { at < length settings.now.ranged }
     ensures sorted { result.sorted ≡ is_the_number at settings.now.sorted }
     ensures inverted { result.inverted ≡ get_or settings.now.inverted at false }
+    ensures ranged { result.ranged ≡ get_or settings.now.ranged at false }
 {
     Indexes {
         sorted: is_number(settings.sorted, at),
         inverted: settings.inverted.as_slice()[at],
+        ranged: settings.ranged.as_slice()[at],
     }
 }
 

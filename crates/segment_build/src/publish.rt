@@ -7,7 +7,7 @@ ghost use Rattle.values.specs.Columns.{rows_of};
 ghost use Rattle.segment_file.specs.Image.{image};
 ghost use Rattle.segment_file.specs.Names.{IsSegmentName, file_of};
 ghost use Rattle.segment_build.specs.Publishing.{incoming};
-ghost use Rattle.segment_build.specs.Sections.{HasNoRangeOrTree};
+ghost use Rattle.segment_build.specs.Sections.{HasNoTree};
 
 use crate::{BuildFault, build_columns, columns_of};
 use outside::{Depot, DepotFault, NoMemory};
@@ -27,7 +27,7 @@ pub fn write_columns<D: Depot>(
     columns: &Columns,
 ) -> Result<(), BuildFault>
     requires valid { IsValidTable table.now }
-    requires built { HasNoRangeOrTree table.now }
+    requires built { HasNoTree table.now }
     requires name { IsSegmentName name.now }
     requires width { length columns.now.columns ≡ length table.now.schema.fields }
     requires rows { AreRows table.now.schema.fields (rows_of columns.now) }
@@ -59,7 +59,7 @@ pub fn write_segment<D: Depot>(
     rows: &Rows,
 ) -> Result<(), BuildFault>
     requires valid { IsValidTable table.now }
-    requires built { HasNoRangeOrTree table.now }
+    requires built { HasNoTree table.now }
     requires name { IsSegmentName name.now }
     requires rows { AreRows table.now.schema.fields rows.now }
     ensures published { OnOk result (D.held depot.new ≡ with_file (file_of name.now)

@@ -4,22 +4,22 @@ ghost use Rattle.std.specs.List.Sorted.{IsNonDecreasing};
 ghost use Rattle.dictionary.specs.Coding.{AreBelow};
 ghost use Rattle.dictionary.specs.Spelling.{spelling};
 ghost use Rattle.bit_column.specs.Column.{spelled, width_of};
-ghost use Rattle.bit_column.specs.Postings.{inverted};
+ghost use Rattle.bit_column.specs.Postings.{inverted, ranged};
 ghost use Rattle.bit_column.specs.SortedRuns.{sorted_runs};
 ghost use Rattle.segment_build.specs.Sections.{in_order, only, with_column};
 
 use crate::Indexes;
 use bit_column::width_for;
 use dictionary::Dictionary;
-use inverted_lists::{write_inverted, write_sorted};
+use inverted_lists::{write_inverted, write_ranged, write_sorted};
 use outside::{Bytes, NoMemory, Seq};
 use segment_file::push_ends;
 use std::alloc::Global;
 use std::marker::Model;
 
 /// The sections of the columns that were taken so far. The bounds are of all columns, and each column
-/// has a dictionary and a forward index; the sorted one has runs of places, and inverted ones have
-/// lists of places.
+/// has a dictionary and a forward index; the sorted one has runs of places, inverted ones have lists
+/// of places, and ones with a range index have those of buckets.
 #[derive(Drop)]
 pub struct Sections {
     bounds: Vec<u8>,
@@ -27,6 +27,7 @@ pub struct Sections {
     forwards: Vec<Bytes>,
     runs: Vec<Bytes>,
     lists: Vec<Bytes>,
+    ranges: Vec<Bytes>,
 }
 
 impl Model for Sections {
@@ -40,6 +41,7 @@ impl Model for Sections {
       forwards = s.forwards.items;
       runs = s.runs.items;
       lists = s.lists.items;
+      ranges = s.ranges.items;
     } };
 }
 
@@ -52,6 +54,7 @@ impl Sections {
           forwards = [];
           runs = [];
           lists = [];
+          ranges = [];
         }) }
     {
         Ok(Sections {
@@ -60,6 +63,7 @@ impl Sections {
             forwards: Vec::with_capacity(alloc, columns)?,
             runs: Vec::new(alloc),
             lists: Vec::new(alloc),
+            ranges: Vec::new(alloc),
         })
     }
 
@@ -83,6 +87,7 @@ impl Sections {
         self.forwards.push(forward_section(alloc, ids, count)?)?;
         push_runs(alloc, indexes.sorted, ids, count, &mut self.runs)?;
         push_lists(alloc, indexes.inverted, ids, count, &mut self.lists)?;
+        push_ranges(alloc, indexes.ranged, ids, count, &mut self.ranges)?;
         Ok(())
     }
 
@@ -96,6 +101,7 @@ impl Sections {
             mut forwards,
             mut runs,
             mut lists,
+            mut ranges,
         } = self;
         let mut all = Vec::with_capacity(alloc, 1 + 2 * dictionaries.len())?;
         all.push(Seq::from_vec(bounds))?;
@@ -103,6 +109,7 @@ impl Sections {
         all.append(&mut forwards)?;
         all.append(&mut runs)?;
         all.append(&mut lists)?;
+        all.append(&mut ranges)?;
         Ok(all)
     }
 }
@@ -166,6 +173,28 @@ fn push_lists(
     }
     let mut bytes = Vec::new(alloc);
     write_inverted(ids, count, &mut bytes)?;
+    out.push(Seq::from_vec(bytes))?;
+    Ok(())
+}
+
+// Adds the section of a column with a range index, where the ids are those of one.
+fn push_ranges(
+    alloc: Global,
+    is_ranged: bool,
+    ids: &[u32],
+    count: u32,
+    out: &mut Vec<Bytes>,
+) -> Result<(), NoMemory>
+    requires few { length ids.now ≤ 1048576 }
+    requires below { AreBelow count ids.now }
+    ensures { OnOk result
+        (out.new.items ≡ out.old.items ++ only is_ranged (ranged count ids.now)) }
+{
+    if !is_ranged {
+        return Ok(());
+    }
+    let mut bytes = Vec::new(alloc);
+    write_ranged(ids, count, &mut bytes)?;
     out.push(Seq::from_vec(bytes))?;
     Ok(())
 }

@@ -1,6 +1,6 @@
 -- Heads: what is kept of a segment's file where its rows are not read.
 use Rattle.std.specs.Prelude.{◌≡◌, ◌≢◌, ◌≤◌, ◌<◌, ◌^◌, ◌+◌, ◌⊎◌, ℕ, zero, suc, List, [], map, length, Option, Some, None, IfSome, option_map, slice_get, slice_index_or, slice_set}
-use Rattle.std.specs.List.{AllZip, find}
+use Rattle.std.specs.List.{All, AllZip, find}
 use Rattle.outside.specs.Files.{Files, bytes_of}
 use Rattle.outside.specs.Reads.{Entry, LogsThrough}
 use Rattle.outside.specs.declared.place.Place.{Place}
@@ -27,6 +27,10 @@ pub record Seen : Type 0 where
 -- a section as a part of its file
 abbrev pub placed : List ℕ → Extent → Section
 placed file extent = record { part = extent.part; place = record { file = file; offset = extent.offset; length = extent.size } }
+
+-- each of these sections is a part of this file
+abbrev pub AreIn : List ℕ → List Section → Type 0
+AreIn file sections = All (λ s. s.place.file ≡ file) sections
 
 -- the dictionary of a column was loaded
 abbrev pub IsLoaded : Seen → ℕ → Type 0

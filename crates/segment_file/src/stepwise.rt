@@ -8,7 +8,7 @@ ghost use Rattle.table_schema.specs.ValidTable.{IsValidTable};
 ghost use Rattle.segment_file.specs.Bounds.{AreBounds};
 ghost use Rattle.segment_file.specs.Front.{bounds_end, front_size};
 ghost use Rattle.segment_file.specs.Heads as spec;
-ghost use Rattle.segment_file.specs.Heads.{IsHead, IsHeadOf, IsLoaded, IsOpened, IsPartOf, KeepsRules, LogsOpened, bounded};
+ghost use Rattle.segment_file.specs.Heads.{AreIn, IsHead, IsHeadOf, IsLoaded, IsOpened, IsPartOf, KeepsRules, LogsOpened, bounded};
 ghost use Rattle.segment_file.specs.Names.{IsSegmentName};
 ghost use Rattle.segment_file.specs.Parts.{IsPlainTable};
 ghost use Rattle.segment_file.specs.Reading.{IsFrontOf};
@@ -40,6 +40,7 @@ pub fn open_head<S: Shelf>(
     requires name { IsSegmentName name.now }
     ensures of { IfOk result (IsHeadOf table.now) }
     ensures none { IfOk result (λ head. (column : ℕ) → ¬ IsLoaded head column) }
+    ensures placed { IfOk result (λ head. AreIn file.now head.sections) }
     ensures opened { IfOk result (λ head. IfSome (S.held shelf.old) (λ files.
         IsOpened table.now name.now file.now (bytes_of (Some files) file.now) head)) }
     ensures part { IfOk result (λ head. IfSome (S.held shelf.old) (λ files. (whole : spec.Seen) →

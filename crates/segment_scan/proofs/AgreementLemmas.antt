@@ -1,12 +1,11 @@
 -- Rows that agree in the columns that a query names are the same to it.
-use Rattle.std.proofs.Common.{◌≡◌, ◌∙◌, ◌<◌, ◌==◌, ◌||◌, ◌&&◌, ◌++◌, ◌∷◌, [], ℕ, ℤ, pos, Bool, true, false, cond, Option, Some, None, List, map, refl, sym, ap, subst, eq-eqb}
-use Rattle.std.specs.List.{filter, list_all, list_any}
+use Rattle.std.proofs.Common.{◌≡◌, ◌∙◌, ◌<◌, ◌==◌, ◌||◌, ◌&&◌, ◌++◌, ◌∷◌, [], ℕ, pos, Bool, true, false, cond, Option, Some, None, List, map, refl, sym, ap, subst, eq-eqb}
+use Rattle.std.specs.List.{filter, list_any}
 use Rattle.std.specs.Option.{option_map_or}
 use Rattle.std.specs.Ordering.{eq_by_cmp}
 use Rattle.std.specs.FinMap as finite
 use Rattle.values.specs.declared.value.Value.{Value}
 use Rattle.values.specs.Tests.{all_true, any_true, holds}
-use Rattle.agg_laws.specs.declared.states.AggState.{AggState}
 use Rattle.agg_laws.specs.States.{state_of}
 use Rattle.table_schema.specs.declared.query.Agg.{Agg}
 use Rattle.table_schema.specs.declared.query.BoundQuery.{BoundQuery}
@@ -17,7 +16,7 @@ use Rattle.table_schema.specs.declared.query.Wide.TheOpen.{Wide-F}
 use Rattle.table_schema.specs.declared.query.Wide.TheFolds.{fold-roll-Wide, ind-Wide, map-Wide}
 use Rattle.table_schema.specs.declared.query.Wide.TheViews.{roll-Wide}
 use Rattle.table_schema.specs.Conditions.{all_hold, cell, conjunct_holds, wide_holds, wide_step}
-use Rattle.group_table.specs.Groups.{Group, Groups, groups_of, has_key, key_of, key_order, keys_of, number_for, number_of, states_of}
+use Rattle.group_table.specs.Groups.{Groups, groups_of, has_key, key_of, key_order, keys_of, number_for, number_of, states_of}
 use Rattle.group_table.specs.Shape.{shape_of}
 use Rattle.scan_engine.specs.Scanned.{selected}
 use Rattle.segment_scan.specs.Agreement.{Agree, AgreeAll, AgreeingAreSame}
@@ -154,7 +153,7 @@ module _ (query : BoundQuery) where
   aggs_in_names : (column : ℕ) → list_any (agg_names column) query.aggs ≡ true → query_names query column ≡ true
   aggs_in_names column is = or_right (list_any (conjunct_names column) query.conjuncts || is_in query.groups column) (list_any (agg_names column) query.aggs) is
 
-  conjuncts_in_names : (column : ℕ) → list_any (conjunct_names column) query.conjuncts ≡ true → query_names query column ≡ true
+  pub conjuncts_in_names : (column : ℕ) → list_any (conjunct_names column) query.conjuncts ≡ true → query_names query column ≡ true
   conjuncts_in_names column is =
       or_left (list_any (conjunct_names column) query.conjuncts || is_in query.groups column) (list_any (agg_names column) query.aggs) (or_left (list_any (conjunct_names column) query.conjuncts) (is_in query.groups column) is)
 

@@ -43,7 +43,7 @@ by-field count [] field at = refl
 by-field count (c ∷ cs) zero at = refl
 by-field count (c ∷ cs) (suc field) at = by-field count cs field at
 
-zeros : (n at : ℕ) → get_or (replicate n (Whole (pos 0))) at (Whole (pos 0)) ≡ Whole (pos 0)
+pub zeros : (n at : ℕ) → get_or (replicate n (Whole (pos 0))) at (Whole (pos 0)) ≡ Whole (pos 0)
 zeros zero at = refl
 zeros (suc n) zero = refl
 zeros (suc n) (suc at) = zeros n at
@@ -59,7 +59,7 @@ all-at count [] field column all got = absurd cc
 all-at count (c ∷ cs) zero column all got = let same : c ≡ column = cc in subst (IsCoded count) same (All-head (IsCoded count) c cs all)
 all-at count (c ∷ cs) (suc field) column all got = all-at count cs field column (All-tail (IsCoded count) c cs all) got
 
-get_or-ids : (values : List Value) (ids : List ℕ) (at : ℕ) → at < length ids → get_or (values_at values ids) at (Whole (pos 0)) ≡ get_or values (get_or ids at 0) (Whole (pos 0))
+pub get_or-ids : (values : List Value) (ids : List ℕ) (at : ℕ) → at < length ids → get_or (values_at values ids) at (Whole (pos 0)) ≡ get_or values (get_or ids at 0) (Whole (pos 0))
 get_or-ids values [] at lt = absurd (omega (arith, lt))
 get_or-ids values (id ∷ ids) zero lt = refl
 get_or-ids values (id ∷ ids) (suc at) lt = get_or-ids values ids at (omega (arith, lt))

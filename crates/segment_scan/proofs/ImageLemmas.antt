@@ -1,5 +1,5 @@
 -- On the image of rows, what is read of a column are the values of the rows.
-use Rattle.std.proofs.Common.{◌≡◌, ◌∙◌, ◌<◌, ◌≤◌, ◌+◌, ◌-◌, ◌^◌, ◌==◌, ◌||◌, ◌++◌, ◌∷◌, [], ℕ, zero, suc, pos, Bool, true, false, cond, Option, Some, None, All, List, length, map, get_or, drop, take, slice_get, refl, sym, ap, subst, eq-eqb, append_assoc, arith}
+use Rattle.std.proofs.Common.{◌≡◌, ◌∙◌, ◌<◌, ◌≤◌, ◌+◌, ◌-◌, ◌^◌, ◌||◌, ◌++◌, ◌∷◌, [], ℕ, zero, suc, pos, Bool, true, false, cond, Option, Some, None, All, List, length, map, get_or, drop, take, slice_get, refl, sym, ap, subst, eq-eqb, append_assoc, arith}
 use Rattle.std.specs.Prelude.{if◌then◌else◌, option_map}
 use Rattle.std.specs.Option.{IsSome}
 use Rattle.std.specs.List.{AllZip, concat, find, list_any, range_with_len}
@@ -7,14 +7,14 @@ use Rattle.std.specs.Ordering.{match_ordering}
 use Rattle.std.specs.declared.cmp.Ordering.TheVariants as order
 use Rattle.std.proofs.Math.Seq.{drop-append_seam, take-append_seam}
 use Rattle.std.proofs.lemmas.Bool.{eqb-true, false≢true}
-use Rattle.std.proofs.lemmas.List.{get_or-map, length-append, length-map, length-replicate, take_all}
+use Rattle.std.proofs.lemmas.List.{length-append, length-map, length-replicate, take_all}
 use Rattle.std.proofs.lemmas.List.Elements.{All-cons, All-head, All-map, All-nil, All-tail, All-weaker}
 use Rattle.std.proofs.lemmas.List.Folds.{list_any-append}
 use Rattle.std.proofs.lemmas.List.FromFn.{get_or-map-range_with_len}
 use Rattle.outside.specs.Files.{Files, bytes_of}
 use Rattle.values.specs.declared.value.Value.{Value}
 use Rattle.values.specs.declared.value.Value.TheVariants.{Whole}
-use Rattle.values.specs.Columns.{Counts, row_of, rows_in_columns, rows_of}
+use Rattle.values.specs.Columns.{Counts, row_of, rows_of}
 use Rattle.values.specs.Order.{value_eq, value_order}
 use Rattle.values.specs.Order.Laws.{value_eq-equiv}
 use Rattle.values.specs.Tests.{is_member}
@@ -29,7 +29,6 @@ use Rattle.bit_column.proofs.Spelling.{ids-written, readable-written}
 use Rattle.bit_column.proofs.Widths.{width-least}
 use Rattle.table_schema.specs.declared.query.BoundQuery.{BoundQuery}
 use Rattle.table_schema.specs.declared.table.Table.{Table}
-use Rattle.table_schema.specs.ValidTable.{IsValidTable}
 use Rattle.table_schema.specs.Conditions.{cell}
 use Rattle.segment_file.specs.declared.part.Part.{Part}
 use Rattle.segment_file.specs.declared.part.Part.TheVariants as parts
@@ -48,8 +47,8 @@ use Rattle.segment_file.proofs.RuleLaws.{fronts_one}
 use Rattle.segment_plan.specs.Laws.{HeadTells, TellsOf}
 use Rattle.segment_plan.specs.Matched.{values_in, values_of}
 use Rattle.segment_scan.specs.Agreement.{Agree, AgreeAll}
-use Rattle.segment_scan.specs.Forward.{HasIds, IsReadable, forward_in}
-use Rattle.segment_scan.specs.Images.{AreNamedLoaded, ImagesRead, IsOfImage, LoadedAreReadable, ReadsImage, names_in}
+use Rattle.segment_scan.specs.Forward.{HasIds, forward_in}
+use Rattle.segment_scan.specs.Images.{AreNamedLoaded, ImagesRead, LoadedAreReadable, names_in}
 use Rattle.segment_scan.specs.Named.{query_names}
 use Rattle.segment_scan.specs.Scans.{column_read, columns_read, table_read, values_read}
 use Rattle.segment_scan.proofs.AgreementLemmas.{or_left, or_right}
@@ -78,10 +77,10 @@ forward_among from (suc n) (suc k) lt =
     or_right (is_same (parts.Forward from) (parts.Forward (from + suc k))) (list_any (λ p. is_same p (parts.Forward (from + suc k))) (map parts.Forward (range_with_len (from + 1) n)))
     (subst (λ m. list_any (λ p. is_same p (parts.Forward m)) (map parts.Forward (range_with_len (from + 1) n)) ≡ true) same (forward_among (from + 1) n k (omega (arith, lt))))
 
-any_front : (p : Part → Bool) (xs ys : List Part) → list_any p xs ≡ true → list_any p (xs ++ ys) ≡ true
+pub any_front : (p : Part → Bool) (xs ys : List Part) → list_any p xs ≡ true → list_any p (xs ++ ys) ≡ true
 any_front p xs ys e = list_any-append p xs ys ∙ or_left (list_any p xs) (list_any p ys) e
 
-any_back : (p : Part → Bool) (xs ys : List Part) → list_any p ys ≡ true → list_any p (xs ++ ys) ≡ true
+pub any_back : (p : Part → Bool) (xs ys : List Part) → list_any p ys ≡ true → list_any p (xs ++ ys) ≡ true
 any_back p xs ys e = list_any-append p xs ys ∙ or_right (list_any p xs) (list_any p ys) e
 
 has_forward : (table : Table) (c : ℕ) → c < length table.schema.fields → list_any (λ p. is_same p (parts.Forward c)) (sections_of table) ≡ true
@@ -92,7 +91,7 @@ has_forward table c lt =
     any_back (λ p. is_same p (parts.Forward c)) (head_sections table) (raw_sections table) (any_front (λ p. is_same p (parts.Forward c)) (map parts.Forward (columns_of table)) _ own)
 
 -- a part that is among the sections has a place
-some_place : (file : List ℕ) (p : Part) (offset : ℕ) (ps : List Part) (sizes : List ℕ) → length sizes ≡ length ps → list_any (λ q. is_same q p) ps ≡ true → IsSome (place_in (map (placed file) (extents_from offset ps sizes)) p)
+pub some_place : (file : List ℕ) (p : Part) (offset : ℕ) (ps : List Part) (sizes : List ℕ) → length sizes ≡ length ps → list_any (λ q. is_same q p) ps ≡ true → IsSome (place_in (map (placed file) (extents_from offset ps sizes)) p)
 some_place file p offset [] sizes each found = absurd (false≢true found)
 some_place file p offset (q ∷ qs) [] each found = absurd (omega (arith, each))
 some_place file p offset (q ∷ qs) (size ∷ sizes) each found = go (some_place file p (offset + size) qs sizes (omega (arith, each))) (is_same q p) found
@@ -102,7 +101,7 @@ some_place file p offset (q ∷ qs) (size ∷ sizes) each found = go (some_place
     go later true found = refl
     go later false found = later found
 
-columns_few : (table : Table) (head : Seen) (column : ℕ) → IsHeadOf table head → IsLoaded head column → column < length table.schema.fields
+pub columns_few : (table : Table) (head : Seen) (column : ℕ) → IsHeadOf table head → IsLoaded head column → column < length table.schema.fields
 columns_few table head column is loaded = omega (arith, some_at head.dictionaries column loaded.0 loaded.1, is.has.slots)
   where
     some_at : {X : Type 0} (xs : List (Option X)) (k : ℕ) (x : X) → slice_get xs k ≡ Some (Some x) → k < length xs
@@ -117,22 +116,23 @@ loaded_readable table head column is loaded = record {
       (some_place is.file (parts.Forward column) (front_size table is.name) (sections_of table) is.front.sizes is.each (has_forward table column (columns_few table head column is loaded)));
 }
 
--- its bytes are those that the file has for it
-cut_forward : (files : Files) (file : List ℕ) (f : Part → List ℕ) (c : ℕ) (before : List ℕ) (offset : ℕ) (ps : List Part) → length before ≡ offset → bytes_of (Some files) file ≡ before ++ concat (map f ps)
-    → list_any (λ p. is_same p (parts.Forward c)) ps ≡ true → bytes_in files (place_in (map (placed file) (extents_from offset ps (map length (map f ps)))) (parts.Forward c)) ≡ f (parts.Forward c)
-cut_forward files file f c before offset [] at is found = absurd (false≢true found)
-cut_forward files file f c before offset (p ∷ ps) at is found =
-    go (cut_forward files file f c (before ++ f p) (offset + length (f p)) ps (omega (arith, at, length-append before (f p))) (is ∙ sym (append_assoc before (f p) (concat (map f ps))))) (is_same p (parts.Forward c)) refl found
+-- the bytes of a section are those that the file has for it
+pub cut_section : (files : Files) (file : List ℕ) (f : Part → List ℕ) (target : Part) → ((p : Part) → is_same p target ≡ true → p ≡ target) → (before : List ℕ) (offset : ℕ) (ps : List Part) → length before ≡ offset
+    → bytes_of (Some files) file ≡ before ++ concat (map f ps) → list_any (λ p. is_same p target) ps ≡ true
+    → bytes_in files (place_in (map (placed file) (extents_from offset ps (map length (map f ps)))) target) ≡ f target
+cut_section files file f target only before offset [] at is found = absurd (false≢true found)
+cut_section files file f target only before offset (p ∷ ps) at is found =
+    go (cut_section files file f target only (before ++ f p) (offset + length (f p)) ps (omega (arith, at, length-append before (f p))) (is ∙ sym (append_assoc before (f p) (concat (map f ps))))) (is_same p target) refl found
   where
-    go : (list_any (λ q. is_same q (parts.Forward c)) ps ≡ true → bytes_in files (place_in (map (placed file) (extents_from (offset + length (f p)) ps (map length (map f ps)))) (parts.Forward c)) ≡ f (parts.Forward c))
-        → (b : Bool) → is_same p (parts.Forward c) ≡ b → b || list_any (λ q. is_same q (parts.Forward c)) ps ≡ true
-        → bytes_in files (option_map (λ s. s.place) (cond b (Some (placed file (record { part = p; offset = offset; size = length (f p) }))) (find (λ s. is_same s.part (parts.Forward c)) (map (placed file) (extents_from (offset + length (f p)) ps (map length (map f ps)))))))
-        ≡ f (parts.Forward c)
+    go : (list_any (λ q. is_same q target) ps ≡ true → bytes_in files (place_in (map (placed file) (extents_from (offset + length (f p)) ps (map length (map f ps)))) target) ≡ f target)
+        → (b : Bool) → is_same p target ≡ b → b || list_any (λ q. is_same q target) ps ≡ true
+        → bytes_in files (option_map (λ s. s.place) (cond b (Some (placed file (record { part = p; offset = offset; size = length (f p) }))) (find (λ s. is_same s.part target) (map (placed file) (extents_from (offset + length (f p)) ps (map length (map f ps)))))))
+        ≡ f target
     go later true same found =
         (λ i. take (length (f p)) (drop (sym at i) (is i)))
         ∙ ap (take (length (f p))) (drop-append_seam before (f p ++ concat (map f ps)))
         ∙ take-append_seam (f p) (concat (map f ps))
-        ∙ ap f (forward_only p c same)
+        ∙ ap f (only p same)
     go later false same found = later found
 
 -- ---- values and ids
@@ -142,9 +142,9 @@ not_true true other = absurd (other refl)
 not_true false other = refl
 
 -- the number of a member leads back to it
-record IsPlace (vs : List Value) (v : Value) (place : ℕ) : Type 0 where
-  below : place < length vs
-  back : get_or vs place (Whole (pos 0)) ≡ v
+pub record IsPlace (vs : List Value) (v : Value) (place : ℕ) : Type 0 where
+  pub below : place < length vs
+  pub back : get_or vs place (Whole (pos 0)) ≡ v
 
 place_found : (w : Value) (ws : List Value) (v : Value) (same : Bool) → value_eq w v ≡ same → (value_eq v w ≡ true → same ≡ true) → is_member (w ∷ ws) v ≡ true → (is_member ws v ≡ true → IsPlace ws v (place_of ws v))
     → IsPlace (w ∷ ws) v (if same then 0 else suc (place_of ws v))
@@ -167,7 +167,7 @@ all_members all [] those = All-nil (λ v. IsPlace all v (place_of all v))
 all_members all (v ∷ vs) those =
     All-cons (λ v. IsPlace all v (place_of all v)) v vs (place_is all v (those v (first_member v vs))) (all_members all vs (λ w is. those w (or_right (value_eq w v) (is_member vs w) is)))
 
-places : (vs : List Value) → All (λ v. IsPlace (distinct vs) v (place_of (distinct vs) v)) vs
+pub places : (vs : List Value) → All (λ v. IsPlace (distinct vs) v (place_of (distinct vs) v)) vs
 places vs = all_members (distinct vs) vs (λ v is. distinct_members v vs ∙ is)
 
 values_back : (all vs : List Value) → All (λ v. IsPlace all v (place_of all v)) vs → values_at all (map (place_of all) vs) ≡ vs
@@ -180,16 +180,16 @@ values_back all (v ∷ vs) each =
     (λ i. here i ∷ more i)
 
 module _ (os : List (List Value)) (column : ℕ) where
-  abbrev own : List Value
+  abbrev pub own : List Value
   own = segment.values_in column os
 
   values-back : values_at (distinct own) (ids_of os column) ≡ own
   values-back = values_back (distinct own) own (places own)
 
-  ids-below : All (λ id. id < count_of os column) (ids_of os column)
+  pub ids-below : All (λ id. id < count_of os column) (ids_of os column)
   ids-below = All-map (λ id. id < count_of os column) (place_of (distinct own)) own (All-weaker (λ v. IsPlace (distinct own) v (place_of (distinct own) v)) (λ v. place_of (distinct own) v < count_of os column) (λ v is. is.below) own (places own))
 
-  ids-count : length (ids_of os column) ≡ length os
+  pub ids-count : length (ids_of os column) ≡ length os
   ids-count = length-map own (place_of (distinct own)) ∙ length-map os (value_in column)
 
   module _ (few : count_of os column < 2 ^ 32) where
@@ -218,7 +218,7 @@ put_few v (w ∷ ws) =
       | order.Greater ↦ omega (arith, rest)
     ]
 
-distinct_few : (vs : List Value) → length (distinct vs) ≤ length vs
+pub distinct_few : (vs : List Value) → length (distinct vs) ≤ length vs
 distinct_few [] = omega arith
 distinct_few (v ∷ vs) = omega (arith, put_few v (distinct vs), distinct_few vs)
 
@@ -235,7 +235,7 @@ sorted_count : (column : ℕ) (rows : List (List Value)) → length (sorted_by c
 sorted_count column [] = refl
 sorted_count column (row ∷ rows) = placed_count column row (sorted_by column rows) ∙ ap suc (sorted_count column rows)
 
-ordered_count : (sorted : Option ℕ) (rows : List (List Value)) → length (ordered sorted rows) ≡ length rows
+pub ordered_count : (sorted : Option ℕ) (rows : List (List Value)) → length (ordered sorted rows) ≡ length rows
 ordered_count None rows = refl
 ordered_count (Some column) rows = sorted_count column rows
 
@@ -256,6 +256,11 @@ within : {X : Type 0} (xs : List X) (k : ℕ) (x : X) → slice_get xs k ≡ Som
 within [] k x at = absurd cc
 within (y ∷ ys) zero x at = omega arith
 within (y ∷ ys) (suc k) x at = omega (arith, within ys k x at)
+
+pub item_there : {X : Type 0} (d : X) (xs : List X) (k : ℕ) → k < length xs → slice_get xs k ≡ Some (get_or xs k d)
+item_there d [] k lt = absurd (omega (arith, lt))
+item_there d (x ∷ xs) zero lt = refl
+item_there d (x ∷ xs) (suc k) lt = item_there d xs k (omega (arith, lt))
 
 module _ (files : Files) (head : Seen) where
   one_counts : (n : ℕ) (b : Bool) → (b ≡ true → length (values_read files head n true) ≡ head.rows) → length (values_read files head n b) ≡ head.rows
@@ -324,6 +329,14 @@ module _ (table : Table) (os : List (List Value)) (files : Files) (head : Seen) 
         all_count files head 0 marks (λ k marked.
         ap length (column-read (0 + k) (loaded (0 + k) (marked_named (query_names query) 0 (length table.schema.fields) k marked))) ∙ length-map os (value_in (0 + k)) ∙ sym tells.rows_are)
 
+    row-agrees : (k : ℕ) (other : List Value) → slice_get os k ≡ Some other → Agree (query_names query) (row_of (columns_read files head 0 marks) k) other
+    row-agrees k other there column named =
+        let plain : 0 + column ≡ column = omega arith in
+        cell_read files head 0 column k marks (mark-is column named)
+        ∙ ap (λ m. get_or (values_read files head m true) k (Whole (pos 0))) plain
+        ∙ ap (λ (l : List Value). get_or l k (Whole (pos 0))) (column-read column (loaded column named))
+        ∙ mapped_at (value_in column) os k other (Whole (pos 0)) there
+
     rows-agree : AgreeAll (query_names query) (rows_of (table_read files head marks)) os
     rows-agree =
         zip_from (Agree (query_names query)) (rows_of (table_read files head marks)) os (length-rows head.rows (columns_read files head 0 marks) counts-are ∙ tells.rows_are) each-row
@@ -333,12 +346,10 @@ module _ (table : Table) (os : List (List Value)) (files : Files) (head : Seen) 
             let lt : k < head.rows = omega (arith, within os k other there, tells.rows_are) in
             let found : Some (row_of (columns_read files head 0 marks) k) ≡ Some row = sym (row-at head.rows k (columns_read files head 0 marks) lt counts-are) ∙ at in
             let same : row_of (columns_read files head 0 marks) k ≡ row = cc in
-            let plain : 0 + column ≡ column = omega arith in
-            ap (λ (r : List Value). cell r column) (sym same)
-            ∙ cell_read files head 0 column k marks (mark-is column named)
-            ∙ ap (λ m. get_or (values_read files head m true) k (Whole (pos 0))) plain
-            ∙ ap (λ (l : List Value). get_or l k (Whole (pos 0))) (column-read column (loaded column named))
-            ∙ mapped_at (value_in column) os k other (Whole (pos 0)) there
+            ap (λ (r : List Value). cell r column) (sym same) ∙ row-agrees k other there column named
+
+    each-agrees : (k : ℕ) → k < length os → Agree (query_names query) (row_of (columns_read files head 0 marks) k) (get_or os k [])
+    each-agrees k lt = row-agrees k (get_or os k []) (item_there [] os k lt)
 
 pub images_read : HeadTells → ImagesRead
 images_read law query table files rows head valid is loaded of =
@@ -351,10 +362,11 @@ images_read law query table files rows head valid is loaded of =
     let sizes : length front.sizes ≡ length (sections_of table) = length-map (sections_of_rows table os) length ∙ length-map (sections_of table) (section_of table os) in
     let forward : (c : ℕ) → c < length table.schema.fields → forward_in files head c ≡ section_of table os (parts.Forward c) =
     (λ c lt. ap (λ (s : List Section). bytes_in files (place_in s (parts.Forward c))) sections
-    ∙ cut_forward files of.file (section_of table os) c (front_bytes table of.name front) (front_size table of.name) (sections_of table) (front_bytes_size table of.name front sizes) of.stored (has_forward table c lt)) in
+    ∙ cut_section files of.file (section_of table os) (parts.Forward c) (λ p same. forward_only p c same) (front_bytes table of.name front) (front_size table of.name) (sections_of table) (front_bytes_size table of.name front sizes) of.stored (has_forward table c lt)) in
     let few : length os ≤ 1048576 = omega (arith, tells.rows_are, is.few, is.has.rows_are) in
     record {
       count = tells.rows_are ∙ ordered_count table.settings.sorted rows;
       agree = rows-agree table os files head few tells forward is query loaded;
       readable = λ column named. column-readable table os files head few tells forward is column (loaded column named);
+      each = λ at lt. each-agrees table os files head few tells forward is query loaded at (omega (arith, lt, ordered_count table.settings.sorted rows));
     }

@@ -1,4 +1,11 @@
 pub mod CodedLemmas
+pub mod ServedLemmas
+pub mod DocLemmas
+pub mod PickSteps
+pub mod PickLemmas
+pub mod SeriesLemmas
+pub mod OrderLemmas
+pub mod LeftLemmas
 pub mod RankSteps
 pub mod SlotLemmas
 pub mod FoldSteps
@@ -6,5 +13,9 @@ pub mod MergeSteps
 pub mod ScanLemmas
 pub mod AgreementLemmas
 pub mod ImageLemmas
+pub mod IndexImage
+pub mod LeftImage
 pub mod SegmentLemmas
 pub mod LogLemmas
+pub mod FaultLemmas
+pub mod ByteLemmas

@@ -1,5 +1,5 @@
 -- What was logged where a scan ended early.
-use Rattle.std.proofs.Common.{◌≡◌, ◌<◌, ◌≤◌, ℕ, suc, Bool, false, List, Option, Result, Ok, Err, inl, length, get_or, refl, subst, arith}
+use Rattle.std.proofs.Common.{◌≡◌, ◌<◌, ℕ, suc, Bool, false, List, Option, Result, Ok, Err, inl, length, get_or, refl, subst, arith}
 use Rattle.std.specs.Prelude.{OnErr}
 use Rattle.outside.specs.Reads.{Entry}
 use Rattle.segment_file.specs.Heads.{Seen}

@@ -18,7 +18,7 @@ use Rattle.segment_file.specs.declared.part.Part.TheVariants.{Forward}
 use Rattle.segment_file.specs.Heads.{IsHeadOf, Seen}
 use Rattle.segment_file.specs.Ordered.{ordered}
 use Rattle.segment_scan.specs.Forward.{HasIds, LogsColumns}
-use Rattle.segment_scan.specs.Images.{AddsImage, AreNamedLoaded, ImagesRead, IsBadIn, IsImageOverfull, IsOfImage, names_in}
+use Rattle.segment_scan.specs.Images.{AddsWhole, AreNamedLoaded, ImagesRead, IsBadWhole, IsWholeOverfull, IsOfImage, names_in}
 use Rattle.segment_scan.specs.Named.{query_names}
 use Rattle.segment_scan.specs.Scans.{AddsSegment, selected_read, table_read}
 use Rattle.segment_scan.proofs.AgreementLemmas.{agreeing_same}
@@ -64,8 +64,8 @@ ok_so (Err e) A B f h = tt
 -- ---- on the image of rows
 
 module _ (law : ImagesRead) (query : BoundQuery) (table : Table) (held : Option Files) (head : Seen) (valid : IsValidTable table) (of_table : IsHeadOf table head) (loaded : AreNamedLoaded query head) (named : List Bool) (is : named ≡ names_in query table) where
-  pub adds_image : (old new : KeptGroups) → AddsSegment query held head named old new → AddsImage query table held head old new
-  adds_image old new by = record {
+  pub adds_whole : (old new : KeptGroups) → AddsSegment query held head named old new → AddsWhole query table held head old new
+  adds_whole old new by = record {
     added = by.rows;
     adds = by.adds;
     read = subst (λ (l : List Bool). IfSome held (λ files. by.rows ≡ selected_read query files head l)) is by.told;
@@ -84,10 +84,10 @@ module _ (law : ImagesRead) (query : BoundQuery) (table : Table) (held : Option 
                 (subst (λ n. AddsRows query n (selected_read query files head (names_in query table)) old new) reads.count (subst (λ (l : List (List Value)). AddsRows query head.rows l old new) read by.adds)),
           )
 
-  pub overfull_image : (old : KeptGroups) → IfSome held (λ files. IsOverfull query (selected_read query files head named) old) → IsImageOverfull query table held head old
-  overfull_image old over = go held over
+  pub overfull_whole : (old : KeptGroups) → IfSome held (λ files. IsOverfull query (selected_read query files head named) old) → IsWholeOverfull query table held head old
+  overfull_whole old over = go held over
     where
-      go : (told : Option Files) → IfSome told (λ files. IsOverfull query (selected_read query files head named) old) → IsImageOverfull query table told head old
+      go : (told : Option Files) → IfSome told (λ files. IsOverfull query (selected_read query files head named) old) → IsWholeOverfull query table told head old
       go None full = tt
       go (Some files) full =
           let read : IsOverfull query (selected_read query files head (names_in query table)) old = subst (λ (l : List Bool). IsOverfull query (selected_read query files head l) old) is full in (
@@ -98,8 +98,8 @@ module _ (law : ImagesRead) (query : BoundQuery) (table : Table) (held : Option 
                 same.overfull old read,
           )
 
-  pub bad_image : (part : Part) → (column : ℕ) × (get_or named column false ≡ true) × (part ≡ Forward column) × IfSome held (λ files. ¬ HasIds files head column) → IsBadIn query table held head part
-  bad_image part bad =
+  pub bad_whole : (part : Part) → (column : ℕ) × (get_or named column false ≡ true) × (part ≡ Forward column) × IfSome held (λ files. ¬ HasIds files head column) → IsBadWhole query table held head part
+  bad_whole part bad =
       let names : query_names query bad.0 ≡ true = mark_named query table named is bad.0 bad.1 in
       (bad.0, names, bad.2, go bad.0 names held bad.3)
     where

@@ -1,12 +1,10 @@
 -- Rows that are the same to a query, and images of which rows are read.
-use Rattle.std.specs.Prelude.{◌≡◌, ◌++◌, ℕ, Bool, true, List}
+use Rattle.std.specs.Prelude.{◌≡◌, ℕ, Bool, true, List}
 use Rattle.std.specs.List.{AllZip}
 use Rattle.values.specs.declared.value.Value.{Value}
 use Rattle.table_schema.specs.declared.query.BoundQuery.{BoundQuery}
-use Rattle.table_schema.specs.Conditions.{all_hold, cell}
-use Rattle.group_table.specs.Groups.{groups_of}
+use Rattle.table_schema.specs.Conditions.{cell}
 use Rattle.group_table.specs.Kept.{KeptGroups}
-use Rattle.group_table.specs.Shape.{shape_of}
 use Rattle.scan_engine.specs.Scanned.{AddsRows, IsOverfull, selected}
 use Rattle.segment_scan.specs.Named.{query_names}
 

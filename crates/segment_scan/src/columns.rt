@@ -45,8 +45,8 @@ pub fn read_columns<S: Shelf>(
     Ok(all)
 }
 
-// Adds the ids of a column.
-fn keep(all: &mut Vec<Option<Seq<u32>>>, ids: Option<Seq<u32>>) -> Result<(), EngineFault>
+/// Adds the ids of a column.
+pub fn keep(all: &mut Vec<Option<Seq<u32>>>, ids: Option<Seq<u32>>) -> Result<(), EngineFault>
     ensures ok { OnOk result (all.new.items ≡ all.old.items ++ ids ∷ []) }
     ensures err { IfErr result (λ fault. fault ≡ NoMemory) }
 {

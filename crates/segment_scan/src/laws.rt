@@ -1,6 +1,6 @@
 //! Laws of scans. Each is the contract of a function that does nothing.
 ghost use Rattle.segment_scan.specs.Agreement.{AgreeingAreSame};
-ghost use Rattle.segment_scan.specs.Images.{ImagesRead, LoadedAreReadable};
+ghost use Rattle.segment_scan.specs.Images.{ImagesLeave, ImagesRead, LoadedAreReadable};
 
 use segment_plan::head_tells_law;
 
@@ -12,6 +12,13 @@ pub fn agreement_law()
 /// On the image of rows, what is read of them are their values in the columns that a query names.
 pub fn image_law()
     ensures { ImagesRead }
+{
+    head_tells_law();
+}
+
+/// On the image of rows, the indexes of the served conjuncts leave just the rows that satisfy them.
+pub fn index_law()
+    ensures { ImagesLeave }
 {
     head_tells_law();
 }

@@ -3,26 +3,32 @@
 #![tactic(auto)]
 
 mod adding;
+mod candidates;
 mod coded;
 mod columns;
+mod documents;
 mod fault;
 mod folding;
 mod laws;
+mod left;
 mod merging;
 mod named;
+mod picking;
 mod places;
 mod ranking;
 mod reading;
 mod scan;
 mod segment;
 mod selection;
+mod serving;
 mod slots;
+mod whole;
 
 pub use adding::add_segment;
 pub use coded::{Coded, SegmentColumns};
 pub use columns::read_columns;
 pub use fault::EngineFault;
-pub use laws::{agreement_law, image_law, readable_law};
+pub use laws::{agreement_law, image_law, index_law, readable_law};
 pub use named::named_columns;
 pub use reading::{read_column, read_ids};
 pub use scan::scan_columns;

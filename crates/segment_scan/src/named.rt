@@ -1,44 +1,64 @@
 //! Which columns a query names.
 
-ghost use Rattle.std.specs.Prelude.{◌≡◌, ◌<◌, ◌≤◌, ℕ, IfOk, false, get_or, length};
+ghost use Rattle.std.specs.Prelude.{◌≡◌, ◌<◌, ◌≤◌, ◌&&◌, ℕ, IfOk, false, get_or, length, not};
 ghost use Rattle.std.specs.List.{list_any};
 ghost use Rattle.segment_scan.specs.Named as spec;
+ghost use Rattle.segment_scan.specs.Served.{is_served, rest_of, unserved};
 
+use crate::serving::{choice_at, is_served};
+use segment_plan::IndexChoice;
 use std::alloc::Global;
 use table_schema::{Agg, BoundQuery, Conjunct, Wide};
 use values::NoMemory;
 
-/// A mark for each of so many columns, whether the query names it.
-pub fn named_columns(alloc: Global, query: &BoundQuery, count: usize) -> Result<Vec<bool>, NoMemory>
+/// A mark for each of so many columns, whether the query names it in a group column, an aggregate
+/// or a conjunct that is not served.
+pub fn named_columns(
+    alloc: Global,
+    query: &BoundQuery,
+    choices: &[IndexChoice],
+    count: usize,
+) -> Result<Vec<bool>, NoMemory>
     requires { count ≤ 65535 }
     ensures count { IfOk result (λ named. length named.items ≡ count) }
     ensures each { IfOk result (λ named. (column : ℕ) → column < count
-        → get_or named.items column false ≡ spec.query_names query.now column) }
+        → get_or named.items column false
+        ≡ spec.query_names (rest_of query.now choices.now) column) }
 {
     let mut named = Vec::with_capacity(alloc, count)?;
     for column in 0..count {
-        named.push(query_names(query, column as u16))?;
+        named.push(query_names(query, choices, column as u16))?;
     }
     Ok(named)
 }
 
-fn query_names(query: &BoundQuery, column: u16) -> bool
-    ensures { result ≡ spec.query_names query.now column }
+fn query_names(query: &BoundQuery, choices: &[IndexChoice], column: u16) -> bool
+    ensures { result ≡ spec.query_names (rest_of query.now choices.now) column }
 {
-    conjuncts_name(query.conjuncts.as_slice(), column)
+    conjuncts_name(query.conjuncts.as_slice(), choices, column)
         || is_in(query.groups.as_slice(), column)
         || aggs_name(query.aggs.as_slice(), column)
 }
 
-fn conjuncts_name(conjuncts: &[Conjunct], column: u16) -> bool
-    ensures { result ≡ list_any (spec.conjunct_names column) conjuncts.now }
+// A conjunct that is not served names the column.
+fn conjuncts_name(conjuncts: &[Conjunct], choices: &[IndexChoice], column: u16) -> bool
+    ensures { result
+        ≡ list_any (spec.conjunct_names column) (unserved choices.now conjuncts.now) }
 {
-    for conjunct in conjuncts {
-        if conjunct_names(conjunct, column) {
+    for at in 0..conjuncts.len() {
+        if names_unserved(&conjuncts[at], choice_at(choices, at), column) {
             return true;
         }
     }
     false
+}
+
+// The conjunct is not served and names the column.
+fn names_unserved(conjunct: &Conjunct, choice: IndexChoice, column: u16) -> bool
+    ensures { result
+        ≡ (not (is_served choice conjunct.now) && spec.conjunct_names column conjunct.now) }
+{
+    !is_served(choice, conjunct) && conjunct_names(conjunct, column)
 }
 
 fn conjunct_names(conjunct: &Conjunct, column: u16) -> bool

@@ -52,8 +52,8 @@ pub fn read_ids<S: Shelf>(
     }
 }
 
-// What the fault of a column is for a scan.
-fn of_column(fault: ColumnFault, column: u16) -> EngineFault
+/// What the fault of a column is for a scan.
+pub fn of_column(fault: ColumnFault, column: u16) -> EngineFault
     ensures { result ≡ fault_of fault column }
 {
     match fault {

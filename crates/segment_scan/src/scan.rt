@@ -66,15 +66,15 @@ pub fn scan_columns<S: Shelf>(
         columns: columns.as_slice(),
         count: head.rows() as usize,
     };
-    match add_segment(alloc, query, &segment, groups) {
+    match add_segment(alloc, query, &[], &segment, groups) {
         Ok(()) => Ok(head.rows()),
         Err(TableFault::TooManyGroups) => Err(EngineFault::TooManyGroups),
         Err(TableFault::NoMemory) => Err(EngineFault::NoMemory),
     }
 }
 
-// The ids of the columns beside their dictionaries.
-fn coded_columns<'a>(
+/// The ids of the columns beside their dictionaries.
+pub fn coded_columns<'a>(
     alloc: Global,
     head: &'a Head,
     ids: &'a [Option<Seq<u32>>],

@@ -1,7 +1,6 @@
 //! A segment of a table is scanned for a query.
 
-ghost use Rattle.std.specs.Prelude.{◌≡◌, ◌-◌, Err, IfOk, IsErrOf, OnErr, OnOk, length};
-ghost use Rattle.std.specs.List.{All};
+ghost use Rattle.std.specs.Prelude.{◌≡◌, ◌-◌, Err, IfOk, IsErrOf, OnErr, OnOk};
 ghost use Rattle.outside.specs.Seen.{OnlyReads, seen};
 ghost use Rattle.agg_laws.specs.Numbers.{most_values};
 ghost use Rattle.group_table.specs.Kept.{IsTableOf, groups_in};
@@ -9,15 +8,14 @@ ghost use Rattle.table_schema.specs.ValidTable.{IsValidTable};
 ghost use Rattle.scan_engine.specs.Scanned.{HaveAtMost};
 ghost use Rattle.segment_file.specs.Heads.{IsHeadOf};
 ghost use Rattle.segment_file.specs.declared.part.Part.{Part};
-ghost use Rattle.segment_plan.specs.declared.plans.IndexChoice.TheVariants.{Unindexed};
-ghost use Rattle.segment_scan.specs.Forward.{LogsColumns, LogsSome};
-ghost use Rattle.segment_scan.specs.Images.{AddsImage, AreNamedLoaded, IsBadIn, IsImageOverfull, names_in};
+ghost use Rattle.segment_scan.specs.Images.{AddsImage, AreDocs, AreNamedLoaded, IsBadIn, IsImageOverfull, LogsScan, LogsScanPartly, choices_for};
 ghost use Rattle.segment_scan.specs.declared.fault.EngineFault.TheVariants.{NotASegment, ReadFault, TooManyGroups};
 
 use crate::EngineFault;
-use crate::laws::image_law;
-use crate::named::named_columns;
-use crate::scan::scan_columns;
+use crate::candidates::documents;
+use crate::laws::{image_law, index_law};
+use crate::left::scan_left;
+use crate::whole::scan_whole;
 use group_table::GroupTable;
 use outside::Shelf;
 use segment_file::Head;
@@ -25,9 +23,11 @@ use segment_plan::ScanPlan;
 use std::alloc::Global;
 use table_schema::{BoundQuery, Table};
 
-/// Adds the rows of a segment that satisfy the filter of a query to its groups, and answers how many
-/// rows the segment has. The forward section of each column that the query names is read once, one
-/// column after the other, and nothing else. So far the plan is to look at all rows.
+/// Adds the rows of a segment that satisfy the filter of a query to its groups, and answers how
+/// many rows the indexes leave. Where no conjunct is served by an index, the forward section of
+/// each column that the query names is read once, one column after the other, and nothing else.
+/// Else what the indexes have of the matching ids is read, and then of each column that is named
+/// beside the served conjuncts the ids of the documents that are left.
 pub fn scan_segment<S: Shelf>(
     alloc: Global,
     shelf: &mut S,
@@ -40,10 +40,10 @@ pub fn scan_segment<S: Shelf>(
     requires valid { IsValidTable table.now }
     requires of_table { IsHeadOf table.now head.now }
     requires loaded { AreNamedLoaded query.now head.now }
-    requires unindexed { All (λ choice. choice ≡ Unindexed) plan.now.choices }
+    requires planned { plan.now.choices ≡ choices_for query.now table.now head.now }
     requires of_query { IsTableOf query.now groups.old }
     requires fits { HaveAtMost (most_values - head.now.rows) (groups_in groups.old) }
-    ensures count { IfOk result (λ n. n ≡ head.now.rows) }
+    ensures count { IfOk result (AreDocs query.now table.now (S.held shelf.old) head.now) }
     ensures ok { OnOk result (AddsImage query.now table.now (S.held shelf.old) head.now
         groups.old groups.new) }
     ensures full { result ≡ Err TooManyGroups →
@@ -52,13 +52,20 @@ pub fn scan_segment<S: Shelf>(
         IsBadIn query.now table.now (S.held shelf.old) head.now part }
     ensures only_reads { OnlyReads (IsErrOf result ReadFault)
         (seen S.Shelf shelf.old) (seen S.Shelf shelf.new) }
-    ensures log { IfOk result (λ _. LogsColumns head.now (names_in query.now table.now)
-        (length table.now.schema.fields) (S.log shelf.old) (S.log shelf.new)) }
-    ensures log_of_fault { OnErr result (LogsSome head.now (names_in query.now table.now)
-        (S.log shelf.old) (S.log shelf.new)) }
+    ensures log { IfOk result (λ count. LogsScan query.now table.now (S.held shelf.old) head.now
+        count (S.log shelf.old) (S.log shelf.new)) }
+    ensures log_of_fault { OnErr result (LogsScanPartly query.now table.now (S.held shelf.old)
+        head.now (S.log shelf.old) (S.log shelf.new)) }
 {
     image_law();
-    let named = named_columns(alloc, query, table.schema.fields.len())?;
-    let named = named.as_slice();
-    scan_columns(alloc, shelf, head, named, query, groups)
+    index_law();
+    let choices = plan.choices.as_slice();
+    let docs = match documents(alloc, shelf, head, query.conjuncts.as_slice(), choices) {
+        Ok(docs) => docs,
+        Err(fault) => return Err(fault),
+    };
+    match docs {
+        None => scan_whole(alloc, shelf, head, table, query, groups),
+        Some(docs) => scan_left(alloc, shelf, head, table, query, choices, &docs, groups),
+    }
 }

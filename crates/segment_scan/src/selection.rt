@@ -8,44 +8,77 @@ ghost use Rattle.dictionary.specs.Ids.{has_id};
 ghost use Rattle.table_schema.specs.Conditions as spec;
 ghost use Rattle.scan_engine.specs.Selection.{Keeps, Marks};
 ghost use Rattle.segment_scan.specs.Coded.{AreCoded, Widens, table_of};
+ghost use Rattle.segment_scan.specs.Served.{is_served, unserved};
 
 use crate::coded::SegmentColumns;
+use crate::serving::{choice_at, is_served};
 use dictionary::IdSet;
+use segment_plan::IndexChoice;
 use std::alloc::Global;
 use table_schema::{Conjunct, Wide};
 use values::{NoMemory, Test, Value, holds_value};
 
-/// A mark for each row of a segment, whether it satisfies all of these.
+/// A mark for each row of a segment, whether it satisfies those of the conjuncts that are not
+/// served.
 pub fn mark_rows(
     alloc: Global,
     segment: &SegmentColumns<'_>,
     conjuncts: &[Conjunct],
+    choices: &[IndexChoice],
 ) -> Result<Vec<bool>, NoMemory>
     requires { AreCoded segment.now }
-    ensures { IfOk result (λ marks.
-        Marks (λ row. spec.all_hold row conjuncts.now) (table_of segment.now) marks.items) }
+    ensures { IfOk result (λ marks. Marks
+        (λ row. spec.all_hold row (unserved choices.now conjuncts.now))
+        (table_of segment.now) marks.items) }
 {
     let mut marks = vec![in alloc; true; segment.count]?;
-    keep_all(alloc, &mut marks, segment, conjuncts)?;
+    keep_all(alloc, &mut marks, segment, conjuncts, choices)?;
     Ok(marks)
 }
 
-// Leaves the marks of the rows that satisfy all of these.
+// Leaves the marks of the rows that satisfy those of the conjuncts that are not served.
 fn keep_all(
     alloc: Global,
     marks: &mut [bool],
     segment: &SegmentColumns<'_>,
     conjuncts: &[Conjunct],
+    choices: &[IndexChoice],
 ) -> Result<(), NoMemory>
     requires coded { AreCoded segment.now }
     requires count { length marks.old ≡ segment.now.count }
     ensures { OnOk result (Keeps (λ at. spec.all_hold (row_of (table_of segment.now).columns at)
-        conjuncts.now) marks.old marks.new) }
+        (unserved choices.now conjuncts.now)) marks.old marks.new) }
 {
-    for conjunct in conjuncts {
-        keep_conjunct(alloc, marks, segment, conjunct)?;
+    for at in 0..conjuncts.len() {
+        keep_unserved(
+            alloc,
+            marks,
+            segment,
+            &conjuncts[at],
+            choice_at(choices, at),
+        )?;
     }
     Ok(())
+}
+
+// Leaves all marks where the conjunct is served, else those of the rows that satisfy it.
+fn keep_unserved(
+    alloc: Global,
+    marks: &mut [bool],
+    segment: &SegmentColumns<'_>,
+    conjunct: &Conjunct,
+    choice: IndexChoice,
+) -> Result<(), NoMemory>
+    requires coded { AreCoded segment.now }
+    requires count { length marks.old ≡ segment.now.count }
+    ensures { OnOk result (Keeps (λ at. is_served choice conjunct.now ||
+        spec.conjunct_holds (row_of (table_of segment.now).columns at) conjunct.now)
+        marks.old marks.new) }
+{
+    if is_served(choice, conjunct) {
+        return Ok(());
+    }
+    keep_conjunct(alloc, marks, segment, conjunct)
 }
 
 fn keep_conjunct(

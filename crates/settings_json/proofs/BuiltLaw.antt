@@ -22,7 +22,7 @@ none_named (f ∷ fs) = none_named fs
 plain_bare : (fields : List Field) (name : List ℕ) → names_unbuilt (indexed fields name null) ≡ false
 plain_bare fields name =
     let none : is_set_anywhere (named fields []) ≡ false = none_named fields in
-    (λ i. none i || none i || false)
+    (λ i. none i || false)
 
 no_fault : {A : Type 0} (b : Bool) (f : A) → (if b then Some f else None) ≡ None → b ≡ false
 no_fault true f e = absurd cc

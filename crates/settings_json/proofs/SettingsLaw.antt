@@ -30,103 +30,35 @@ use Rattle.settings_json.proofs.RawLaw.{raw_fits}
 use Rattle.schema_json.proofs.SchemaLaw.{unless_none, if_none}
 use Rattle.table_schema.proofs.FirstLaws.{nones}
 
-left_false : (a b : Bool) → (a || b) ≡ false → a ≡ false
-left_false true b e = absurd (true≢false e)
-left_false false b e = refl
-
-right_false : (a b : Bool) → (a || b) ≡ false → b ≡ false
-right_false true b e = absurd (true≢false e)
-right_false false b e = e
-
--- nothing that the settings name is looked up by ids
-record IsPlain (s : Settings) : Type 0 where
-  no_sorted : is_some s.sorted ≡ false
-  no_inverted : is_set_anywhere s.inverted ≡ false
-  no_ranged : is_set_anywhere s.ranged ≡ false
-  no_tree : is_no_tree s.trees ≡ true
-
-not_false : (b : Bool) → not b ≡ false → b ≡ true
-not_false true e = refl
-not_false false e = absurd (true≢false e)
-
-plain_from : (s : Settings) → names_unbuilt s ≡ false → IsPlain s
-plain_from s e =
-    let sorted = is_some s.sorted in
-    let inverted = is_set_anywhere s.inverted in
-    let ranged = is_set_anywhere s.ranged in
-    let tree = not (is_no_tree s.trees) in
-    let three = left_false (sorted || inverted || ranged) tree e in
-    let two = left_false (sorted || inverted) ranged three in
-    record {
-      no_sorted = left_false sorted inverted two;
-      no_inverted = right_false sorted inverted two;
-      no_ranged = right_false (sorted || inverted) ranged three;
-      no_tree = not_false (is_no_tree s.trees) (right_false (sorted || inverted || ranged) tree e);
-    }
-
-unset : (flags : List Bool) (n : ℕ) → is_set_anywhere flags ≡ false → is_set (slice_get flags n) ≡ false
-unset [] n e = refl
-unset (b ∷ flags) zero e = left_false b (is_set_anywhere flags) e
-unset (b ∷ flags) (suc n) e = unset flags n (right_false b (is_set_anywhere flags) e)
-
-not_sorted : (o : Option ℕ) (n : ℕ) → is_some o ≡ false → is_the_number n o ≡ false
-not_sorted None n e = refl
-not_sorted (Some m) n e = absurd (true≢false e)
-
-not_split : (trees : List TreeSetting) (n : ℕ) → is_no_tree trees ≡ true → is_split trees n ≡ false
-not_split [] n e = refl
-not_split (t ∷ trees) n e = absurd (true≢false (sym e))
-
-both_false : (a b : Bool) → a ≡ false → b ≡ false → (a || b) ≡ false
-both_false a b p q = ap (λ x. x || b) p ∙ q
-
-no_ids : (s : Settings) → IsPlain s → (n : ℕ) → needs_ids s n ≡ false
-no_ids s plain n =
-    let sorted = is_the_number n s.sorted in
-    let inverted = is_set (slice_get s.inverted n) in
-    let ranged = is_set (slice_get s.ranged n) in
-    both_false (sorted || inverted || ranged) (is_split s.trees n)
-    (both_false (sorted || inverted) ranged (both_false sorted inverted (not_sorted s.sorted n plain.no_sorted) (unset s.inverted n plain.no_inverted)) (unset s.ranged n plain.no_ranged))
-    (not_split s.trees n plain.no_tree)
-
-known : (fields : List Field) (o : Option ℕ) → is_some o ≡ false → is_known_number fields o ≡ true
-known fields None e = refl
-known fields (Some n) e = absurd (true≢false e)
-
-few : (trees : List TreeSetting) → is_no_tree trees ≡ true → length trees ≤ 8
-few [] e = omega arith
-few (t ∷ trees) e = absurd (true≢false (sym e))
-
-all_valid : (fields : List Field) (trees : List TreeSetting) → is_no_tree trees ≡ true → AllByRecursion (IsValidTree fields) trees
-all_valid fields [] e = tt
-all_valid fields (t ∷ trees) e = absurd (true≢false (sym e))
-
-plain_valid : (fields : List Field) (table : Text) (d : Data) → is_column_name table ≡ true → IsPlain (indexed fields table d) → IsValidSettings fields (indexed fields table d)
-plain_valid fields table d name plain =
-    let s = indexed fields table d in record {
-      is_named = name;
-      sorted_known = known fields s.sorted plain.no_sorted;
-      each_inverted = length-map _ fields;
-      each_ranged = length-map _ fields;
-      each_raw = length-map _ fields;
-      few_trees = few s.trees plain.no_tree;
-      trees_valid = all_valid fields s.trees plain.no_tree;
-      raw_apart = λ n _. no_ids s plain n;
-    }
+-- ---- without indexes
 
 none_named : (fields : List Field) → is_set_anywhere (named fields []) ≡ false
 none_named [] = refl
 none_named (f ∷ fields) = none_named fields
 
-plain_null : (fields : List Field) (table : Text) → IsPlain (indexed fields table null)
-plain_null fields table = record { no_sorted = refl; no_inverted = none_named fields; no_ranged = none_named fields; no_tree = refl }
+unset : (flags : List Bool) (n : ℕ) → is_set_anywhere flags ≡ false → is_set (slice_get flags n) ≡ false
+unset [] n e = refl
+unset (true ∷ flags) n e = absurd (true≢false e)
+unset (false ∷ flags) zero e = refl
+unset (false ∷ flags) (suc n) e = unset flags n e
 
-index_plain : (fields : List Field) (table : Text) (o : Option Data) → optional (index_finding fields table) o ≡ None → IsPlain (indexed fields table (unwrap_or o null))
-index_plain fields table None none = plain_null fields table
-index_plain fields table (Some d) none =
-    let s = indexed fields table d in
-    let all = nones (index_form fields d ∷ raw_finding fields s d ∷ unbuilt_finding s ∷ []) none in
-    plain_from s (if_none (names_unbuilt s) Unsupported INDEX_KEY all.1.1.0)
+unmarked : (fields : List Field) (n : ℕ) → is_set (slice_get (named fields []) n) ≡ false
+unmarked fields n = unset (named fields []) n (none_named fields)
+
+no_ids : (fields : List Field) (table : Text) (n : ℕ) → needs_ids (indexed fields table null) n ≡ false
+no_ids fields table n = (λ i. unmarked fields n i || unmarked fields n i || false)
+
+plain_valid : (fields : List Field) (table : Text) → is_column_name table ≡ true → IsValidSettings fields (indexed fields table null)
+plain_valid fields table name = record {
+  is_named = name;
+  sorted_known = refl;
+  each_inverted = length-map _ fields;
+  each_ranged = length-map _ fields;
+  each_raw = length-map _ fields;
+  few_trees = omega arith;
+  trees_valid = tt;
+  raw_apart = λ n _. no_ids fields table n;
+}
 
 -- ---- the head
 
@@ -144,14 +76,6 @@ named_by d none =
     let named = nones (required_text [] (codes "tableName") d ∷ fault_unless (is_column_name table) BadName (codes "tableName") ∷ []) head.1.0 in
     unless_none (is_column_name table) BadName (codes "tableName") named.1.0
 
--- ---- with nothing that is not built
-
-pub settings_valid : (fields : List Field) (d : Data) → settings_finding fields d ≡ None → IsValidSettings fields (settings_of fields d)
-settings_valid fields d none =
-    let table = table_name d in
-    let all = nones (head_finding d ∷ optional (index_finding fields table) (key_of INDEX_KEY d) ∷ []) none in
-    plain_valid fields table (unwrap_or (key_of INDEX_KEY d) null) (named_by d all.0) (index_plain fields table (key_of INDEX_KEY d) all.1.0)
-
 -- ---- with sorted columns, indexes and trees
 
 sorted_by : (fields : List Field) (name : Text) (b : Bool) → is_known_number fields (if b then None else number_of fields name) ≡ true
@@ -164,7 +88,7 @@ sorted_in fields (Some v) = sorted_by fields (sorted_name v) (length (sorted_nam
 
 index_valid : (fields : List Field) (table : Text) (o : Option Data) → no_repeat [] (map (λ f. f.name) fields) ≡ true → is_column_name table ≡ true
     → optional (index_checks fields table) o ≡ None → IsValidSettings fields (indexed fields table (unwrap_or o null))
-index_valid fields table None apart name none = plain_valid fields table null name (plain_null fields table)
+index_valid fields table None apart name none = plain_valid fields table name
 index_valid fields table (Some d) apart name none =
     let s = indexed fields table d in
     let all = nones (index_form fields d ∷ raw_finding fields s d ∷ []) none in
@@ -213,7 +137,11 @@ are_checked fields d none =
     ap (λ f. or_else f (or_else (optional (index_checks fields table) (key_of INDEX_KEY d)) None)) all.0
     ∙ ap (λ f. or_else f None) (index_checked fields table (key_of INDEX_KEY d) all.1.0)
 
+-- what is not refused as unbuilt either is valid
+pub settings_valid : (schema : Schema) (d : Data) → IsValidSchema schema → settings_finding schema.fields d ≡ None → IsValidSettings schema.fields (settings_of schema.fields d)
+settings_valid schema d valid none = checked_valid schema d valid (are_checked schema.fields d none)
+
 -- a call that answers settings answers valid ones
-pub gives_valid : (fields : List Field) (d : Data) (r : Result Settings TextFault) → Gives (settings_finding fields d) (settings_of fields d) r → IfOk r (IsValidSettings fields)
-gives_valid fields d (Ok settings) g = subst (IsValidSettings fields) (sym g.1) (settings_valid fields d g.0)
-gives_valid fields d (Err fault) g = tt
+pub gives_valid : (schema : Schema) (d : Data) (r : Result Settings TextFault) → IsValidSchema schema → Gives (settings_finding schema.fields d) (settings_of schema.fields d) r → IfOk r (IsValidSettings schema.fields)
+gives_valid schema d (Ok settings) valid g = subst (IsValidSettings schema.fields) (sym g.1) (settings_valid schema d valid g.0)
+gives_valid schema d (Err fault) valid g = tt

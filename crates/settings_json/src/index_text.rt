@@ -157,7 +157,7 @@ fn is_split(trees: &[TreeSetting], number: u16) -> bool
     false
 }
 
-/// Sorted columns, indexes and star-trees are not built yet.
+/// Range indexes and star-trees are not built yet.
 fn check_built(alloc: Global, settings: &Settings) -> Result<(), TextFault>
     ensures { Passes (spec.unbuilt_finding settings.now) result }
 {
@@ -171,10 +171,7 @@ fn check_built(alloc: Global, settings: &Settings) -> Result<(), TextFault>
 fn names_unbuilt(settings: &Settings) -> bool
     ensures { result ≡ unbuilt.names_unbuilt settings.now }
 {
-    settings.sorted.is_some()
-        || is_set_anywhere(settings.inverted.as_slice())
-        || is_set_anywhere(settings.ranged.as_slice())
-        || !settings.trees.is_empty()
+    is_set_anywhere(settings.ranged.as_slice()) || !settings.trees.is_empty()
 }
 
 fn is_set_anywhere(flags: &[bool]) -> bool

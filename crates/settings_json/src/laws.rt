@@ -11,15 +11,16 @@ ghost use Rattle.table_schema.specs.declared.settings.Settings.{Settings};
 ghost use Rattle.table_schema.specs.ValidSettings.{IsValidSettings};
 
 /// A value in JSON that passes the checks of settings gives valid ones, with sorted columns, indexes and
-/// star-trees, beside a valid schema. What is not refused as unbuilt either is valid beside any fields.
+/// star-trees, beside a valid schema; so what is not refused as unbuilt either is valid beside one.
 pub fn settings_law()
     ensures checked { (schema : Schema) (d : Data) → IsValidSchema schema
         → settings_checks schema.fields d ≡ None
         → IsValidSettings schema.fields (settings_of schema.fields d) }
     ensures built { (fields : List Field) (d : Data) → settings_finding fields d ≡ None
         → settings_checks fields d ≡ None }
-    ensures accepted { (fields : List Field) (d : Data) → settings_finding fields d ≡ None
-        → IsValidSettings fields (settings_of fields d) }
+    ensures accepted { (schema : Schema) (d : Data) → IsValidSchema schema
+        → settings_finding schema.fields d ≡ None
+        → IsValidSettings schema.fields (settings_of schema.fields d) }
     ensures read { (fields : List Field) (bytes : List ℕ) (settings : Settings) →
         settings_read fields bytes ≡ Ok settings → names_unbuilt settings ≡ false }
 {}

@@ -6,6 +6,7 @@ ghost use Rattle.settings_json.specs.TableTexts as spec;
 ghost use Rattle.settings_json.specs.Indexes.{indexed};
 ghost use Rattle.serde_json.specs.Data.{null};
 ghost use Rattle.schema_json.specs.Faults.{Gives, Passes, Refuses};
+ghost use Rattle.table_schema.specs.Valid.{IsValidSchema};
 ghost use Rattle.table_schema.specs.ValidSettings.{IsValidSettings};
 
 use crate::columns::named;
@@ -25,7 +26,7 @@ const INGESTION_KEY: &str = "ingestionConfig";
 /// The table is offline. Keys that are not checked are ignored, and a key whose value is `null`
 /// counts as absent. The fault is the first one in the order of the checks.
 pub fn read_settings(alloc: Global, schema: &Schema, bytes: &[u8]) -> Result<Settings, TextFault>
-    requires { length schema.now.fields ≤ 64 }
+    requires { IsValidSchema schema.now }
     ensures ok { IfOk result
         (λ settings. spec.settings_read schema.now.fields bytes.now ≡ Ok settings) }
     ensures err { IfErr result (λ fault. fault ≢ TextFault.NoMemory

@@ -1,5 +1,5 @@
 -- What settings may name that is not built yet.
-use Rattle.std.specs.Prelude.{Bool, true, false, not, ◌||◌, List, [], ◌∷◌, is_some}
+use Rattle.std.specs.Prelude.{Bool, true, false, not, ◌||◌, List, [], ◌∷◌}
 use Rattle.std.specs.List.{list_any}
 use Rattle.table_schema.specs.declared.settings.TreeSetting.{TreeSetting}
 use Rattle.table_schema.specs.declared.settings.Settings.{Settings}
@@ -11,6 +11,6 @@ abbrev pub is_no_tree : List TreeSetting → Bool
 is_no_tree [] = true
 is_no_tree (t ∷ ts) = false
 
--- a sorted column, an inverted or range index, or a star-tree
+-- a range index or a star-tree
 abbrev pub names_unbuilt : Settings → Bool
-names_unbuilt s = is_some s.sorted || is_set_anywhere s.inverted || is_set_anywhere s.ranged || not (is_no_tree s.trees)
+names_unbuilt s = is_set_anywhere s.ranged || not (is_no_tree s.trees)

@@ -28,10 +28,8 @@ pub accepted_valid : (texts : Texts) (table : read.Table) → IsAccepted texts t
 accepted_valid texts table accepted =
     let (d, fine, is) = read_so schema_finding schema_of (json_of texts.schema) table.schema accepted.schema in
     let (e, good, so) = read_so (settings_finding table.schema.fields) (settings_of table.schema.fields) (json_of texts.settings) table.settings accepted.settings in
-    record {
-      schema = subst IsValidSchema (sym is) (schema_valid d fine);
-      settings = subst (IsValidSettings table.schema.fields) (sym so) (settings_valid table.schema.fields e good);
-    }
+    let schema : IsValidSchema table.schema = subst IsValidSchema (sym is) (schema_valid d fine) in
+    record { schema = schema; settings = subst (IsValidSettings table.schema.fields) (sym so) (settings_valid table.schema e schema good) }
 
 -- texts are accepted as one table
 pub one_table : (texts : Texts) (x y : read.Table) → IsAccepted texts x → IsAccepted texts y → x ≡ y

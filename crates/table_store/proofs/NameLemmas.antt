@@ -207,6 +207,9 @@ names_more files old new i file d lt is pushed so_far =
 
 -- ---- how many there are
 
+pub first_few : (files names : List (List ℕ)) → ((all : List (List ℕ)) × IsPermutation (names_among files) all × IsSorted name_order all × (names ≡ take most_segments all)) → length names ≤ most_segments
+first_few files names (all, moved, sorted, is) = omega (arith, ap length is, length-take most_segments all)
+
 pub first_room : (held : Option Files) (names : List (List ℕ)) → IfSome held (λ told. AreFirstNames told names) → length names < most_segments → IfSome held HasRoom
 first_room None names first few = tt
 first_room (Some told) names (all, are, is) few = (all, are, omega (arith, few, ap length is, length-take most_segments all))

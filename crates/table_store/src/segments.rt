@@ -1,6 +1,6 @@
 //! The segments of a store.
 
-ghost use Rattle.std.specs.Prelude.{◌≡◌, ◌⊎◌, ◌++◌, ℕ, List, take, length, true, false, Ok, IfOk, IfSome, OnErr, OnOk, IsErrOf, string_bytes};
+ghost use Rattle.std.specs.Prelude.{◌≡◌, ◌⊎◌, ◌≤◌, ◌++◌, ℕ, List, take, length, true, false, Ok, IfOk, IfSome, OnErr, OnOk, IsErrOf, string_bytes};
 ghost use Rattle.std.specs.List.{All};
 ghost use Rattle.std.specs.List.Sorted.{IsPermutation, IsSorted};
 ghost use Rattle.outside.specs.Counts.{Rose};
@@ -175,6 +175,7 @@ pub fn segment_names<D: Depot>(alloc: Global, depot: &mut D) -> Result<Seq<Name>
     ensures names { IfOk result (λ names. IfSome (D.held depot.old) (λ files.
         AreFirstNames files names)) }
     ensures named { IfOk result (λ names. All IsSegmentName names) }
+    ensures few { IfOk result (λ names. length names ≤ most_segments) }
     ensures only { OnErr result
         (IsErrOf result StoreFault.ReadFault ⊎ IsErrOf result StoreFault.NoMemory) }
     ensures only_reads { OnlyReads (IsErrOf result StoreFault.ReadFault)

@@ -1,33 +1,16 @@
 -- The groups of a query over the rows of a text, block after block.
-use Rattle.std.proofs.Common.{◌≡◌, ◌∙◌, ◌++◌, ◌<◌, ℕ, Bool, true, false, cond, List, [], ◌∷◌, Option, Some, None, IfSome, sym, ap, subst, arith}
+use Rattle.std.proofs.Common.{◌≡◌, ◌∙◌, ◌++◌, ◌<◌, ℕ, List, sym, ap, subst, arith}
 use Rattle.std.specs.FinMap as finite
 use Rattle.std.proofs.lemmas.List.Elements.{filter-append}
 use Rattle.values.specs.declared.value.Value.{Value}
-use Rattle.agg_laws.specs.declared.states.AggState.{AggState}
-use Rattle.agg_laws.specs.Rows.{RowFits}
-use Rattle.agg_laws.specs.laws.States as states
 use Rattle.table_schema.specs.Conditions.{all_hold}
-use Rattle.table_schema.specs.declared.query.Agg.{Agg}
 use Rattle.table_schema.specs.declared.query.BoundQuery.{BoundQuery}
-use Rattle.group_table.specs.Groups.{groups_of, is_key, states_of}
+use Rattle.group_table.specs.Groups.{groups_of}
 use Rattle.group_table.specs.Kept.{KeptGroups, groups_in}
-use Rattle.group_table.specs.Shape.{Shape, shape_of}
-use Rattle.group_table.proofs.GroupsLemmas.{found}
-use Rattle.scan_engine.specs.Scanned.{AddsRows, HaveAtMost, IsOverfull, selected}
+use Rattle.group_table.specs.Shape.{shape_of}
+use Rattle.scan_engine.specs.Scanned.{AddsRows, IsOverfull, selected}
 use Rattle.scan_engine.proofs.AddLemmas.{len_more}
-use Rattle.text_scan.specs.Reply.{most_groups}
-
-no_row : (aggs : List Agg) → RowFits (states_of aggs []) 0
-no_row [] = tt
-no_row (agg ∷ aggs) = (states.fits_of agg.kind [] tt, no_row aggs)
-
--- over no rows no aggregate is of a value
-pub none_fit : (shape : Shape) → HaveAtMost 0 (groups_of shape [])
-none_fit shape key = subst (λ (o : Option (List AggState)). IfSome o (λ states. RowFits states 0)) (sym (found shape [] key)) (by (is_key shape.groups [] key))
-  where
-    by : (b : Bool) → IfSome (cond b (Some (states_of shape.aggs [])) None) (λ states. RowFits states 0)
-    by true = no_row shape.aggs
-    by false = tt
+use Rattle.sql_reply.specs.Reply.{most_groups}
 
 both_selected : (query : BoundQuery) (xs ys : List (List Value)) → selected query xs ++ selected query ys ≡ selected query (xs ++ ys)
 both_selected query xs ys = sym (filter-append (λ row. all_hold row query.conjuncts) xs ys)

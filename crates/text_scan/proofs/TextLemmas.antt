@@ -1,5 +1,5 @@
 -- The rows of a text, block after block, and the fault that ends them.
-use Rattle.std.proofs.Common.{◌≡◌, ◌≢◌, ◌∙◌, ◌++◌, ℕ, List, [], Result, Ok, Err, IfErr, IsErrAnd, inl, inr, refl, sym, ap, subst, append_assoc, append-nil}
+use Rattle.std.proofs.Common.{◌≡◌, ◌≢◌, ◌∙◌, ◌++◌, ℕ, true, List, [], Result, Ok, Err, IfErr, IsErrAnd, inl, inr, refl, sym, ap, subst, append_assoc, append-nil}
 use Rattle.values.specs.declared.value.Value.{Value}
 use Rattle.table_schema.specs.declared.field.Field.{Field}
 use Rattle.table_schema.specs.declared.field.Schema.{Schema}
@@ -8,12 +8,12 @@ use Rattle.csv_ingest.specs.Blocks.{RowsOrFault, after}
 use Rattle.csv_ingest.specs.Rows.{csv_limits, plain_in, records_of, with_schema}
 use Rattle.csv_ingest.specs.declared.fault.CsvFault.{CsvFault}
 use Rattle.csv_ingest.specs.declared.fault.CsvFault.TheVariants as csv
-use Rattle.query_parser.specs.declared.tree.Query.{Query}
-use Rattle.text_scan.specs.Parts.{IsBound, IsRead, IsTextFault, RepliesOver}
-use Rattle.text_scan.specs.TextReply.{Replies, TextReply, bare_table, rows_reply, sql_reply, text_fault, text_reply}
+use Rattle.sql_reply.specs.Reply.{conjuncts_reply}
+use Rattle.sql_reply.specs.SqlReply.{replied, sql_reply}
+use Rattle.text_scan.specs.Parts.{IsTextFault, RepliesOver}
+use Rattle.text_scan.specs.TextReply.{Replies, TextReply, bare_table, rows_reply, scan_reply, text_fault, text_reply}
 use Rattle.text_scan.specs.declared.fault.ScanFault.{ScanFault}
 use Rattle.text_scan.specs.declared.fault.ScanFault.TheVariants.{NoMemory}
-use Rattle.text_scan.proofs.QueryLemmas.{by_conjuncts, query_so}
 
 pub after-none : (whole : RowsOrFault) → whole ≡ after [] whole
 after-none (Ok rows) = refl
@@ -61,13 +61,13 @@ err-halted (Err e) P why is p = subst P (sym is) p
 
 -- ---- a query over a text whose rows, or whose first fault, are these
 module _ (sql : List ℕ) (fields : List Field) (schema : Schema) (of_fields : schema ≡ record { fields = fields }) (whole : RowsOrFault) where
-  pub by-rows : (rows : List (List Value)) → whole ≡ Ok rows → (r : TextReply) → Replies (sql_reply sql schema rows) r → Replies (rows_reply sql (with_schema fields whole)) r
+  pub by-rows : (rows : List (List Value)) → whole ≡ Ok rows → (r : TextReply) → Replies (scan_reply (sql_reply (bare_table schema) true sql rows)) r → Replies (rows_reply sql (with_schema fields whole)) r
   by-rows rows e r given =
       let is : Ok (schema, rows) ≡ with_schema fields whole = ap (λ s. Ok (s, rows)) of_fields ∙ ap (with_schema fields) (sym e) in
       subst (λ p. Replies (rows_reply sql p) r) is given
 
-  pub by-over : (query : Query) (found : BoundQuery) → IsRead sql query → IsBound (bare_table schema) query found → (r : TextReply)
+  pub by-over : (found : BoundQuery) → ((rows : List (List Value)) → sql_reply (bare_table schema) true sql rows ≡ replied (conjuncts_reply found rows)) → (r : TextReply)
       → RepliesOver found whole r → Replies (rows_reply sql (with_schema fields whole)) r
-  by-over query found read bound r (inl (rows, e, given)) = by-rows rows e r (query_so sql schema rows query r read (by_conjuncts (bare_table schema) query found rows r bound given))
-  by-over query found read bound (Ok text) (inr never) = absurd never
-  by-over query found read bound (Err fault) (inr stops) = text-stops sql fields whole fault stops
+  by-over found so r (inl (rows, e, given)) = by-rows rows e r (subst (λ reply. Replies (scan_reply reply) r) (sym (so rows)) given)
+  by-over found so (Ok text) (inr never) = absurd never
+  by-over found so (Err fault) (inr stops) = text-stops sql fields whole fault stops

@@ -7,7 +7,7 @@ ghost use Rattle.csv_ingest.specs.NumberBlocks.{Gives, IsNumberBlocks};
 ghost use Rattle.group_table.specs.Kept.{IsNew, IsTableOf};
 ghost use Rattle.scan_engine.specs.Numbers.{AreNumbers};
 ghost use Rattle.text_scan.specs.Parts.{GroupsRows, IsTextFault};
-ghost use Rattle.text_scan.specs.Reply.{most_groups};
+ghost use Rattle.sql_reply.specs.Reply.{most_groups};
 ghost use Rattle.text_scan.specs.TextReply.{text_fault, text_limit};
 
 use crate::ScanFault;

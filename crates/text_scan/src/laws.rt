@@ -6,4 +6,6 @@ ghost use Rattle.text_scan.specs.Laws.{NeverForMemory};
 /// other faults.
 pub fn reply_law()
     ensures { NeverForMemory }
-{}
+{
+    sql_reply::reply_law();
+}

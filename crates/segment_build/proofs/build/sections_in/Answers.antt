@@ -1,4 +1,4 @@
-use Rattle.std.proofs.Common.{◌≡◌, ◌∙◌, ◌<◌, ◌≤◌, ◌+◌, ℕ, List, length, get_or, sym, ap, subst, arith}
+use Rattle.std.proofs.Common.{◌≡◌, ◌∙◌, ◌<◌, ◌≤◌, ℕ, List, length, get_or, sym, ap, subst, arith}
 use Rattle.std.proofs.lemmas.Option.{get_or_from_slice_get}
 use Rattle.std.specs.List.Sorted.{IsNonDecreasing}
 use Rattle.values.specs.Columns.{rows_of}
@@ -97,7 +97,7 @@ columns-preserved c =
     coded_is table t at field column c.args.order.now d ids c.requires.columns lt (subst (λ fields. field ≡ get_or fields at field) same c.index-fields-at.is)
     (sym (get_or_from_slice_get t.columns at column column c.column.ensures.place)) c.requires.order
     (c.in_ok-dictionary.ensures.dictionary ∙ ap (λ (f : Field). record { kind = f.kind; values = distinct column.values }) (sym c.index-fields-at.is)) c.in_ok-dictionary.ensures.ids in
-    coded_more table t at d ids c.indexes_at-indexes.result c.columns.sections _ c.requires.valid lt coded c.indexes_at-indexes.ensures.sorted c.indexes_at-indexes.ensures.inverted
+    coded_more table t at d ids c.indexes_at-indexes.result c.columns.sections _ c.requires.valid lt coded c.indexes_at-indexes.ensures.sorted c.indexes_at-indexes.ensures.inverted c.indexes_at-indexes.ensures.ranged
     c.columns.invariant (c.in_ok-push.ensures ∙ ap (λ xs. with_column d xs c.indexes_at-indexes.result c.columns.sections) c.as_slice.ensures.value)
 
 pub returns : goal.returns
@@ -105,4 +105,4 @@ returns c =
     let table = c.args.table.now in
     let os = ordered table.settings.sorted (rows_of c.args.columns.now) in
     let end : c.columns.at ≡ length table.schema.fields = omega (arith, c.columns-test.false, c.columns.auto.at-end, ap length c.as_slice-fields.ensures) in
-    if_ok_items c.into_list.result _ _ (ap in_order c.columns.invariant ∙ ap (λ n. in_order (made_of table os n)) end ∙ made_all table os c.requires.valid c.requires.built) c.into_list.ensures
+    if_ok_items c.into_list.result _ _ (ap in_order c.columns.invariant ∙ ap (λ n. in_order (made_of table os n)) end ∙ made_all table os c.requires.valid) c.into_list.ensures

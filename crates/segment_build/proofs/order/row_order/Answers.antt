@@ -1,5 +1,3 @@
-use Rattle.std.proofs.Common.{◌≡◌, ◌<◌, ◌∙◌, ℕ, length, get_or, sym, ap, subst}
-use Rattle.values.specs.Columns.{rows_of}
 use Rattle.segment_build.proofs.Built.{chosen_fits, order_found}
 use Rattle.segment_build.proofs.order.row_order.Goals as goal
 

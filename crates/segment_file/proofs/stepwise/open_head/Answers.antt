@@ -1,11 +1,13 @@
-use Rattle.std.proofs.Common.{◌≡◌, ◌∙◌, List, [], length, map, get_or, sum, replicate, Option, None, Some, IfSome, ap, sym, subst, arith}
+use Rattle.std.proofs.Common.{◌≡◌, ◌∙◌, List, [], length, map, get_or, sum, replicate, Option, None, Some, IfSome, refl, ap, sym, subst, arith}
 use Rattle.std.proofs.lemmas.List.{length-replicate}
+use Rattle.std.proofs.lemmas.List.Elements.{All-map}
 use Rattle.outside.specs.Files.{bytes_of}
 use Rattle.dictionary.specs.Dictionary.{Distinct}
 use Rattle.segment_file.specs.declared.bounds.Ends.{Ends}
+use Rattle.segment_file.specs.declared.section.Section.{Section}
 use Rattle.segment_file.specs.Bounds.{AreBounds}
-use Rattle.segment_file.specs.Front.{bounds_end, extents_from, extents_of, front_size}
-use Rattle.segment_file.specs.Heads.{IsPlaced, bounded, placed}
+use Rattle.segment_file.specs.Front.{Extent, bounds_end, extents_from, extents_of, front_size}
+use Rattle.segment_file.specs.Heads.{AreIn, IsPlaced, bounded, placed}
 use Rattle.segment_file.specs.Parts.{sections_of}
 use Rattle.segment_file.specs.Rules.{heads_in}
 use Rattle.segment_file.proofs.Openings.{front_length, head_of, logs_within}
@@ -63,6 +65,13 @@ returns-clause-of g c =
       slots = ap length free ∙ length-replicate (length table.schema.fields) nothing;
     } in
     head_of table name file read.bytes.items (g.S.Shelf.held c.args.shelf.now) read.front c.new.result is has
+
+pub returns-clause-placed : goal.returns-clause-placed
+returns-clause-placed g c =
+    let file = c.args.file.now in
+    let es : List Extent = extents_from c.len-start.result c.deref-2.result.now c.sizes.result.now in
+    let sections : c.new.result.sections ≡ map (placed file) es = ap (λ h. h.sections) c.new.ensures ∙ c.in_ok-sections.ensures in
+    subst (AreIn file) (sym sections) (All-map (λ (s : Section). s.place.file ≡ file) (placed file) es (λ k d lt. refl))
 
 pub returns-clause-none : goal.returns-clause-none
 returns-clause-none g c = λ column.

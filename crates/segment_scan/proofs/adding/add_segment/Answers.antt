@@ -11,16 +11,18 @@ use Rattle.scan_engine.specs.Scanned.{AddsRows, selected}
 use Rattle.scan_engine.proofs.AddLemmas.{adds_nothing, at_most_more}
 use Rattle.scan_engine.proofs.RunLemmas.{adds_as_more}
 use Rattle.segment_scan.specs.Coded.{table_of}
+use Rattle.segment_scan.specs.Served.{rest_of}
 use Rattle.segment_scan.proofs.MergeSteps.{none-left}
 use Rattle.segment_scan.proofs.adding.add_segment.Goals as goal
 
 pub returns-then-is_empty-clause-ok : goal.returns-then-is_empty-clause-ok
 returns-then-is_empty-clause-ok c =
     let q : BoundQuery = c.args.query.now in
+    let rest : BoundQuery = rest_of q c.args.choices.now in
     let b : ListedColumns = table_of c.args.segment.now in
     let places : List ℕ = c.as_slice-places.result.now in
     let zero : length places ≡ 0 = grind (arith, nat_tests) in
-    let none : rows_at b.columns [] ≡ selected q (rows_of b) = ap (rows_at b.columns) (sym (none-left places zero) ∙ c.as_slice-places.ensures.value) ∙ c.in_ok-places.ensures.rows in
+    let none : rows_at b.columns [] ≡ selected rest (rows_of b) = ap (rows_at b.columns) (sym (none-left places zero) ∙ c.as_slice-places.ensures.value) ∙ c.in_ok-places.ensures.rows in
     subst (λ (l : List (List Value)). AddsRows q b.count l c.args.table.now c.args.table.now) none (adds_nothing q b.count c.args.table.now c.requires.table)
 
 pub add_places-requires-clause-fits : goal.add_places-requires-clause-fits
@@ -32,9 +34,10 @@ add_places-requires-clause-fits c =
 pub returns-clause-ok : goal.returns-clause-ok
 returns-clause-ok c =
     let q : BoundQuery = c.args.query.now in
+    let rest : BoundQuery = rest_of q c.args.choices.now in
     let b : ListedColumns = table_of c.args.segment.now in
     let places : List ℕ = c.as_slice-places.result.now in
     let few : length places ≤ b.count = subst (λ (l : List ℕ). length l ≤ b.count) (sym c.as_slice-places.ensures.value) c.in_ok-places.ensures.count in
-    let rows : rows_at b.columns places ≡ selected q (rows_of b) = ap (rows_at b.columns) c.as_slice-places.ensures.value ∙ c.in_ok-places.ensures.rows in
+    let rows : rows_at b.columns places ≡ selected rest (rows_of b) = ap (rows_at b.columns) c.as_slice-places.ensures.value ∙ c.in_ok-places.ensures.rows in
     IfOk-weaker c.add_places.result _ _ (λ u a. subst (λ (l : List (List Value)). AddsRows q b.count l c.args.table.now c.add_places.new.table) rows
     (adds_as_more q (length places) b.count (rows_at b.columns places) c.args.table.now c.add_places.new.table few a)) c.add_places.ensures.ok

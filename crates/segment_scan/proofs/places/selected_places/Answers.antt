@@ -10,18 +10,19 @@ use Rattle.scan_engine.specs.Scanned.{marked, selected}
 use Rattle.scan_engine.proofs.AddLemmas.{mark_is, selected_more}
 use Rattle.scan_engine.proofs.FoldLemmas.{count_marked, rows_marked}
 use Rattle.segment_scan.specs.Coded.{table_of}
+use Rattle.segment_scan.specs.Served.{rest_of, unserved}
 use Rattle.segment_scan.proofs.CodedLemmas.{below_marked, counts}
 use Rattle.segment_scan.proofs.places.selected_places.Goals as goal
 
 pub loop-at-preserved : goal.loop-at-preserved
 loop-at-preserved c =
-    let q : BoundQuery = c.args.query.now in
+    let q : BoundQuery = rest_of c.args.query.now c.args.choices.now in
     let b : ListedColumns = table_of c.args.segment.now in
     let at : ℕ = c.loop-at.at in
     let mark : Bool = c.index.result.now in
     let row : List Value = row_of b.columns at in
     let lt : at < b.count = omega arith in
-    let is = mark_is q c.as_slice.result.now b c.in_ok-marks.marks.items at mark c.as_slice.ensures c.in_ok-marks.ensures lt c.index.ensures in
+    let is = mark_is q (unserved c.args.choices.now c.as_slice.result.now) b c.in_ok-marks.marks.items at mark (ap (unserved c.args.choices.now) c.as_slice.ensures) c.in_ok-marks.ensures lt c.index.ensures in
     record {
       rows = ap (rows_at b.columns) c.in_ok-push_marked.ensures ∙ rows_marked b.columns c.loop-at.places.items at mark
           ∙ ap (λ (l : List (List Value)). l ++ marked mark row) c.loop-at.invariant.rows
@@ -32,7 +33,7 @@ loop-at-preserved c =
 
 pub returns-clause-rows : goal.returns-clause-rows
 returns-clause-rows c =
-    let q : BoundQuery = c.args.query.now in
+    let q : BoundQuery = rest_of c.args.query.now c.args.choices.now in
     let b : ListedColumns = table_of c.args.segment.now in
     let rows : length (rows_of b) ≡ b.count = length-rows b.count b.columns (counts c.args.segment.now c.requires) in
     c.loop-at.invariant.rows ∙ ap (selected q) (take_all c.loop-at.at (rows_of b) (omega (arith, rows)))

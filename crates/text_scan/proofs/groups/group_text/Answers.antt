@@ -6,7 +6,8 @@ use Rattle.group_table.specs.Groups.{Groups}
 use Rattle.group_table.specs.Shape.{shape_of}
 use Rattle.scan_engine.specs.Scanned.{HaveAtMost}
 use Rattle.scan_engine.proofs.AddLemmas.{at_most_more}
-use Rattle.text_scan.proofs.GroupLemmas.{block_added, none_fit, overfull_text}
+use Rattle.sql_reply.proofs.GroupLemmas.{none_fit}
+use Rattle.text_scan.proofs.GroupLemmas.{block_added, overfull_text}
 use Rattle.text_scan.proofs.TextLemmas.{after-more, after-none}
 use Rattle.text_scan.proofs.groups.group_text.Goals as goal
 

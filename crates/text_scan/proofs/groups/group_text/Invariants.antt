@@ -6,7 +6,7 @@ use Rattle.group_table.specs.Groups.{groups_of}
 use Rattle.group_table.specs.Kept.{IsTableOf, groups_in}
 use Rattle.group_table.specs.Shape.{shape_of}
 use Rattle.scan_engine.specs.Scanned.{HaveAtMost, selected}
-use Rattle.text_scan.specs.Reply.{most_groups}
+use Rattle.sql_reply.specs.Reply.{most_groups}
 use Rattle.text_scan.proofs.groups.group_text.Given as goal
 
 abbrev pub invariant-reading : goal.invariant-reading

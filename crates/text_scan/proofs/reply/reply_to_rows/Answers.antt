@@ -10,8 +10,7 @@ returns-in-Err c = λ whole h.
 
 pub returns-in-Ok-bound_query : goal.returns-in-Ok-bound_query
 returns-in-Ok-bound_query c = λ whole h.
-    let (query, read, bound) = c.in-Ok-bound_query.ensures.bound in
-    by-over c.args.sql.now c.args.blocks.now.header.fields c.in-Ok.schema c.in-Ok.ensures.ok whole query c.in-Ok-bound_query.bound read bound c.group_reply.result
+    by-over c.args.sql.now c.args.blocks.now.header.fields c.in-Ok.schema c.in-Ok.ensures.ok whole c.in-Ok-bound_query.bound c.in-Ok-bound_query.ensures.reply c.group_reply.result
     (c.group_reply.ensures whole h)
 
 pub returns-in_ok-pass_over-in-Err-bound_query : goal.returns-in_ok-pass_over-in-Err-bound_query

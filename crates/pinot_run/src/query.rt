@@ -1,0 +1,87 @@
+//! The command `query`: a query over the segments of a store.
+ghost use Rattle.std.specs.Prelude.{◌≡◌, ◌≤◌, false, length, Some, IfSome};
+ghost use Rattle.std.specs.List.{All};
+ghost use Rattle.outside.specs.Seen.{Seen, seen};
+ghost use Rattle.segment_file.specs.Names.{IsSegmentName};
+ghost use Rattle.segment_file.specs.Parts.{IsPlainTable};
+ghost use Rattle.table_schema.specs.Unbuilt.{names_unbuilt};
+ghost use Rattle.table_schema.specs.ValidTable.{IsValidTable};
+ghost use Rattle.table_store.specs.Segments.{AreFirstNames};
+ghost use Rattle.pinot_run.specs.Command.{Query};
+ghost use Rattle.pinot_run.specs.Gives.{AnswersQuery, IsQueryStop, NamesOneOf, sql_stop};
+ghost use Rattle.pinot_run.specs.Ran.{Ran};
+ghost use Rattle.pinot_run.specs.Stored.{HasTableFile};
+
+use crate::bad_query::QueryReason;
+use crate::fault::Fault;
+use crate::note::{Counted, Note};
+use crate::part_name::segment_stop;
+use crate::stop::Stop;
+use crate::store::{stored_names, stored_table};
+use outside::{Bytes, Depot, Name};
+use query_executor::{ExecutorFault, reply_to_query};
+use sql_reply::SqlFault;
+use std::alloc::Global;
+use table_schema::Table;
+
+/// The reply to `query`. The query's text is looked at before the file of any segment.
+pub fn query<D: Depot>(alloc: Global, sql: &str, depot: &mut D) -> Result<Bytes, Stop>
+    ensures { (inputs : Seen) → Ran (Some (Query sql.now))
+        (record { inputs = inputs; depot = seen D.Shelf depot.old })
+        (record { inputs = inputs; depot = seen D.Shelf depot.new }) result }
+{
+    let table = stored_table(alloc, depot)?;
+    let names = stored_names(alloc, depot)?;
+    reply_over(alloc, &table, names.as_slice(), sql, depot)
+}
+
+// The reply over the rows of these segments.
+fn reply_over<D: Depot>(
+    alloc: Global,
+    table: &Table,
+    names: &[Name],
+    sql: &str,
+    depot: &mut D,
+) -> Result<Bytes, Stop>
+    requires valid { IsValidTable table.now }
+    requires plain { IsPlainTable table.now }
+    requires built { names_unbuilt table.now.settings ≡ false }
+    requires named { All IsSegmentName names.now }
+    requires few { length names.now ≤ 512 }
+    requires there { IfSome (D.held depot.old) (λ files. HasTableFile files table.now
+        × AreFirstNames files names.now) }
+    ensures { AnswersQuery sql.now (seen D.Shelf depot.old) (seen D.Shelf depot.new) result }
+{
+    match reply_to_query(alloc, depot, table, names, sql) {
+        Ok(text) => Ok(text),
+        Err(fault) => Err(stop_of(alloc, table, names, fault)),
+    }
+}
+
+// What a fault of a query over the segments of a table is for a command.
+fn stop_of(alloc: Global, table: &Table, names: &[Name], fault: ExecutorFault) -> Stop
+    requires { NamesOneOf names.now fault }
+    ensures { IsQueryStop names.now table.now.schema.fields fault result }
+{
+    match fault {
+        ExecutorFault::Sql(fault) => stop_of_text(fault),
+        ExecutorFault::NotASegment(at, part) => {
+            segment_stop(alloc, table, names[at as usize].as_str(), part)
+        }
+        ExecutorFault::ReadFault => Stop::Fault(Fault::Read),
+    }
+}
+
+// What a query that has no reply is for a command.
+fn stop_of_text(fault: SqlFault) -> Stop
+    ensures { result ≡ sql_stop fault }
+{
+    let note = match fault {
+        SqlFault::LongQuery(most) => Note::TooLarge(Counted::SqlBytes, u64::from(most)),
+        SqlFault::BadQuery(reason, place) => Note::BadQuery(QueryReason::Parse(reason), place),
+        SqlFault::Unbound(reason, place) => Note::BadQuery(QueryReason::Bind(reason), place),
+        SqlFault::TooManyGroups(most) => Note::TooManyGroups(most),
+        SqlFault::NoMemory => return Stop::Fault(Fault::Memory),
+    };
+    Stop::Refused(note)
+}

@@ -1,0 +1,48 @@
+-- What the faults of a segment are for a query.
+use Rattle.std.proofs.Common.{◌≡◌, ◌≢◌, ℕ, refl}
+use Rattle.segment_file.specs.declared.fault.HeadFault.{HeadFault}
+use Rattle.segment_file.specs.declared.fault.HeadFault.TheVariants as head
+use Rattle.segment_file.specs.declared.part.Part.{Part}
+use Rattle.segment_scan.specs.declared.fault.EngineFault.{EngineFault}
+use Rattle.segment_scan.specs.declared.fault.EngineFault.TheVariants as engine
+use Rattle.sql_reply.specs.declared.fault.SqlFault.{SqlFault}
+use Rattle.sql_reply.specs.declared.fault.SqlFault.TheVariants as sql
+use Rattle.query_executor.specs.declared.fault.ExecutorFault.TheVariants.{NotASegment, ReadFault, Sql}
+use Rattle.query_executor.specs.Steps.{fault_at, fault_of}
+
+-- ---- of a head, for its segment
+
+pub never_full : (f : HeadFault) → fault_of f ≢ engine.TooManyGroups
+never_full (head.NotASegment part) = λ e. absurd cc
+never_full head.ReadFault = λ e. absurd cc
+never_full head.NoMemory = λ e. absurd cc
+
+pub bad_head : (f : HeadFault) (part : Part) → fault_of f ≡ engine.NotASegment part → f ≡ head.NotASegment part
+bad_head (head.NotASegment p) part e = cc
+bad_head head.ReadFault part e = absurd cc
+bad_head head.NoMemory part e = absurd cc
+
+pub read_head : (f : HeadFault) → fault_of f ≡ engine.ReadFault → f ≡ head.ReadFault
+read_head (head.NotASegment p) e = absurd cc
+read_head head.ReadFault e = refl
+read_head head.NoMemory e = absurd cc
+
+-- ---- of a segment, for the query
+
+pub refused_so : (at : ℕ) (f : EngineFault) (fault : SqlFault) → fault_at at f ≡ Sql fault → fault ≢ sql.NoMemory → (f ≡ engine.TooManyGroups) × (fault ≡ sql.TooManyGroups 100000)
+refused_so at engine.TooManyGroups fault e real = (refl, cc)
+refused_so at (engine.NotASegment part) fault e real = absurd cc
+refused_so at engine.ReadFault fault e real = absurd cc
+refused_so at engine.NoMemory fault e real = absurd (real cc)
+
+pub bad_so : (at other : ℕ) (f : EngineFault) (part : Part) → fault_at at f ≡ NotASegment other part → (at ≡ other) × (f ≡ engine.NotASegment part)
+bad_so at other engine.TooManyGroups part e = absurd cc
+bad_so at other (engine.NotASegment p) part e = (cc, cc)
+bad_so at other engine.ReadFault part e = absurd cc
+bad_so at other engine.NoMemory part e = absurd cc
+
+pub read_so : (at : ℕ) (f : EngineFault) → fault_at at f ≡ ReadFault → f ≡ engine.ReadFault
+read_so at engine.TooManyGroups e = absurd cc
+read_so at (engine.NotASegment p) e = absurd cc
+read_so at engine.ReadFault e = refl
+read_so at engine.NoMemory e = absurd cc

@@ -1,0 +1,9 @@
+mod FaultLemmas
+mod GroupLemmas
+mod HeadLemmas
+mod LogLemmas
+mod NamedLemmas
+mod PlanLemmas
+mod ReplyLemmas
+mod ScanLogs
+mod SegmentLemmas

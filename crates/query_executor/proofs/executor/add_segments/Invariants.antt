@@ -1,0 +1,18 @@
+use Rattle.std.proofs.Common.{◌≡◌, ◌*◌}
+use Rattle.outside.specs.Seen.{OnlyReads, seen}
+use Rattle.group_table.specs.Kept.{IsTableOf, groups_in}
+use Rattle.scan_engine.specs.Scanned.{HaveAtMost}
+use Rattle.sql_reply.specs.Reply.{most_groups}
+use Rattle.query_executor.specs.Logs.{LogsOf}
+use Rattle.query_executor.specs.Steps.{HasGroups}
+use Rattle.query_executor.proofs.executor.add_segments.Given as goal
+
+abbrev pub invariant-names : goal.invariant-names
+invariant-names g l = record {
+  of_query : IsTableOf l.query l.groups;
+  most : l.groups.most ≡ most_groups;
+  fits : HaveAtMost (l.at * 1048576) (groups_in l.groups);
+  so_far : HasGroups l.query l.table (g.S.Shelf.held l.fn.shelf) l.names l.at l.groups;
+  reads : OnlyReads ⊥ (seen g.S.Shelf l.fn.shelf) (seen g.S.Shelf l.shelf);
+  log : LogsOf l.names (g.S.Shelf.log l.fn.shelf) (g.S.Shelf.log l.shelf);
+}

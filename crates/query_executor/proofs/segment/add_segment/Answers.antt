@@ -1,0 +1,75 @@
+use Rattle.std.proofs.Common.{◌≡◌, ◌∙◌, ℕ, List, Err, IfSome, sym, ap, subst}
+use Rattle.std.specs.Prelude.{OnOk}
+use Rattle.segment_file.specs.Heads.{AreIn}
+use Rattle.segment_file.specs.Names.{file_of}
+use Rattle.segment_scan.specs.declared.fault.EngineFault.TheVariants as engine
+use Rattle.query_executor.specs.Segments.{HasNoImage}
+use Rattle.query_executor.specs.Steps.{AddsStored, IsHeadIn, IsStoredOverfull}
+use Rattle.query_executor.proofs.HeadLemmas.{image_later}
+use Rattle.query_executor.proofs.LogLemmas.{logs_then}
+use Rattle.query_executor.proofs.SegmentLemmas.{adds_none, ok_so}
+use Rattle.query_executor.proofs.segment.add_segment.Goals as goal
+
+pub returns-then-prune-clause-ok : goal.returns-then-prune-clause-ok
+returns-then-prune-clause-ok g c =
+    let query = c.args.query.now in
+    let table = c.args.table.now in
+    let head = c.in-Ok.head in
+    adds_none query table c.args.name.now head c.head_tells_law.ensures c.requires.valid (g.S.Shelf.held c.args.shelf.now) c.args.groups.now c.requires.of_query
+    (λ rows tells. c.pruned_law.ensures query table rows head tells (sym c.prune.ensures ∙ c.if-prune.true)) c.in-Ok.ensures.image
+
+pub returns-in-Err-load_named-clause-bad : goal.returns-in-Err-load_named-clause-bad
+returns-in-Err-load_named-clause-bad g c = λ part is.
+    let table = c.args.table.now in
+    let name = c.args.name.now in
+    let own : c.in-Err-load_named.fault ≡ engine.NotASegment part = cc in
+    let same = c.in-Ok.ensures.only_reads.held in
+    subst (λ held. IfSome held (λ files. HasNoImage table files name)) same
+    (c.in-Err-load_named.ensures.bad part (ap Err own) name (subst (λ held. IsHeadIn table held name c.in-Ok.head) (sym same) c.in-Ok.ensures.image))
+
+pub returns-in-Err-load_named-clause-log : goal.returns-in-Err-load_named-clause-log
+returns-in-Err-load_named-clause-log g c =
+    let file = file_of c.args.name.now in
+    logs_then (λ other. other ≡ file) (g.S.Shelf.log c.args.shelf.now) (g.S.Shelf.log c.open_segment.new.shelf) (g.S.Shelf.log c.load_named.new.shelf) c.in-Ok.ensures.log
+    (c.in-Err-load_named.ensures.log file c.in-Ok.ensures.placed)
+
+pub returns-clause-bad : goal.returns-clause-bad
+returns-clause-bad g c = λ part is.
+    let table = c.args.table.now in
+    let name = c.args.name.now in
+    let same = c.in-Ok-load_named.ensures.only_reads.held ∙ c.in-Ok.ensures.only_reads.held in
+    subst (λ held. IfSome held (λ files. HasNoImage table files name)) same
+    (c.add_planned.ensures.bad part is name
+    (image_later table name (g.S.Shelf.held c.args.shelf.now) (g.S.Shelf.held c.open_segment.new.shelf) (g.S.Shelf.held c.load_named.new.shelf) c.in-Ok.head c.load_named.new.head c.in-Ok.ensures.only_reads.held c.in-Ok-load_named.ensures.only_reads.held c.in-Ok-load_named.ensures.grows c.in-Ok.ensures.image))
+
+pub returns-clause-log : goal.returns-clause-log
+returns-clause-log g c =
+    let file = file_of c.args.name.now in
+    let a = g.S.Shelf.log c.args.shelf.now in
+    let b = g.S.Shelf.log c.open_segment.new.shelf in
+    let d = g.S.Shelf.log c.load_named.new.shelf in
+    logs_then (λ other. other ≡ file) a d (g.S.Shelf.log c.add_planned.new.shelf)
+    (logs_then (λ other. other ≡ file) a b d c.in-Ok.ensures.log (c.in-Ok-load_named.ensures.log file c.in-Ok.ensures.placed))
+    (c.add_planned.ensures.log file (subst (AreIn file) (sym c.in-Ok-load_named.ensures.grows.sections_same) c.in-Ok.ensures.placed))
+
+pub returns-clause-full : goal.returns-clause-full
+returns-clause-full g c = λ full.
+    let table = c.args.table.now in
+    let name = c.args.name.now in
+    let same = c.in-Ok-load_named.ensures.only_reads.held ∙ c.in-Ok.ensures.only_reads.held in
+    subst (λ held. IsStoredOverfull c.args.query.now table held name c.args.groups.now) same
+    (c.add_planned.ensures.full full name
+    (image_later table name (g.S.Shelf.held c.args.shelf.now) (g.S.Shelf.held c.open_segment.new.shelf) (g.S.Shelf.held c.load_named.new.shelf) c.in-Ok.head c.load_named.new.head c.in-Ok.ensures.only_reads.held c.in-Ok-load_named.ensures.only_reads.held c.in-Ok-load_named.ensures.grows c.in-Ok.ensures.image))
+
+pub returns-clause-ok : goal.returns-clause-ok
+returns-clause-ok g c =
+    let query = c.args.query.now in
+    let table = c.args.table.now in
+    let name = c.args.name.now in
+    let held = g.S.Shelf.held c.load_named.new.shelf in
+    let same = c.in-Ok-load_named.ensures.only_reads.held ∙ c.in-Ok.ensures.only_reads.held in
+    subst (λ h. OnOk c.add_planned.result (AddsStored query table h name c.args.groups.now c.add_planned.new.groups)) same
+    (ok_so c.add_planned.result ((name : List ℕ) → IsHeadIn table held name c.load_named.new.head → AddsStored query table held name c.args.groups.now c.add_planned.new.groups) (AddsStored query table held name c.args.groups.now c.add_planned.new.groups)
+    (λ adds. adds name
+    (image_later table name (g.S.Shelf.held c.args.shelf.now) (g.S.Shelf.held c.open_segment.new.shelf) held c.in-Ok.head c.load_named.new.head c.in-Ok.ensures.only_reads.held c.in-Ok-load_named.ensures.only_reads.held c.in-Ok-load_named.ensures.grows c.in-Ok.ensures.image))
+    c.add_planned.ensures.ok)

@@ -1,0 +1,21 @@
+-- The segments of a table by their files, and the rows of all of them.
+use Rattle.std.specs.Prelude.{◌≡◌, ℕ, List, flat_map, Some}
+use Rattle.outside.specs.Files.{Files, bytes_of}
+use Rattle.values.specs.declared.value.Value.{Value}
+use Rattle.table_schema.specs.declared.table.Table.{Table}
+use Rattle.segment_file.specs.Image.{CanHold, image}
+use Rattle.segment_file.specs.Names.{file_of}
+use Rattle.segment_file.specs.Ordered.{ordered}
+
+-- the file of a segment is told to be the image of these rows, which the table can hold
+pub record HasImage (table : Table) (files : Files) (name : List ℕ) (rows : List (List Value)) : Type 0 where
+  pub can : CanHold table rows
+  pub stored : bytes_of (Some files) (file_of name) ≡ image 1 table name rows
+
+-- the file of a segment is the image of no rows
+abbrev pub HasNoImage : Table → Files → List ℕ → Type 0
+HasNoImage table files name = (rows : List (List Value)) → ¬ HasImage table files name rows
+
+-- the rows of segments, one segment after the other, each in the order of its file
+abbrev pub stored_rows : Table → List (List (List Value)) → List (List Value)
+stored_rows table segments = flat_map (ordered table.settings.sorted) segments

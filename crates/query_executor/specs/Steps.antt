@@ -1,0 +1,85 @@
+-- What is done with one segment of a table for a query.
+use Rattle.std.specs.Prelude.{◌≡◌, ◌≤◌, ◌<◌, ℕ, List, Option, IfSome, take}
+use Rattle.std.specs.FinMap as finite
+use Rattle.std.specs.List.{AllZip}
+use Rattle.outside.specs.Files.{Files}
+use Rattle.values.specs.declared.value.Value.{Value}
+use Rattle.table_schema.specs.declared.query.BoundQuery.{BoundQuery}
+use Rattle.table_schema.specs.declared.table.Table.{Table}
+use Rattle.group_table.specs.Groups.{groups_of}
+use Rattle.group_table.specs.Kept.{KeptGroups, groups_in}
+use Rattle.group_table.specs.Shape.{shape_of}
+use Rattle.scan_engine.specs.Scanned.{AddsRows, IsOverfull, selected}
+use Rattle.segment_file.specs.Heads.{IsHeadOf, IsLoaded, Seen}
+use Rattle.segment_file.specs.Ordered.{ordered}
+use Rattle.segment_file.specs.declared.fault.HeadFault.{HeadFault}
+use Rattle.segment_file.specs.declared.fault.HeadFault.TheVariants as head
+use Rattle.segment_scan.specs.Images.{IsOfImage}
+use Rattle.segment_scan.specs.declared.fault.EngineFault.{EngineFault}
+use Rattle.segment_scan.specs.declared.fault.EngineFault.TheVariants as engine
+use Rattle.sql_reply.specs.Reply.{most_groups}
+use Rattle.sql_reply.specs.declared.fault.SqlFault.TheVariants as sql
+use Rattle.query_executor.specs.declared.fault.ExecutorFault.{ExecutorFault}
+use Rattle.query_executor.specs.declared.fault.ExecutorFault.TheVariants.{NotASegment, ReadFault, Sql}
+use Rattle.query_executor.specs.Segments.{HasImage, stored_rows}
+
+-- ---- the head of a segment
+
+-- what the fault of a head is for the scan of its segment
+abbrev pub fault_of : HeadFault → EngineFault
+fault_of (head.NotASegment part) = engine.NotASegment part
+fault_of head.ReadFault = engine.ReadFault
+fault_of head.NoMemory = engine.NoMemory
+
+-- where files are told: if the segment's file is the image of rows, this is its head, but for dictionaries that are not loaded
+abbrev pub IsHeadIn : Table → Option Files → List ℕ → Seen → Type 0
+IsHeadIn table held name head = IfSome held (λ files. (rows : List (List Value)) → HasImage table files name rows → IsOfImage table files rows head)
+
+-- a head before and after more dictionaries were loaded
+pub record Grows (table : Table) (held : Option Files) (old new : Seen) : Type 0 where
+  pub of_table : IsHeadOf table new
+  pub sections_same : new.sections ≡ old.sections
+  pub loaded : (column : ℕ) → IsLoaded old column → IsLoaded new column
+  pub image : (name : List ℕ) → IsHeadIn table held name old → IsHeadIn table held name new
+
+-- ---- the rows of a segment
+
+-- the rows that satisfy the filter, of those that the segment has in the order of its file
+abbrev pub selected_in : BoundQuery → Table → List (List Value) → List (List Value)
+selected_in query table rows = selected query (ordered table.settings.sorted rows)
+
+-- some rows were added to the groups, no more than a segment may have; where the segment's file is told to be
+-- the image of rows, those of them that satisfy the filter
+pub record AddsStored (query : BoundQuery) (table : Table) (held : Option Files) (name : List ℕ) (old new : KeptGroups) : Type 0 where
+  pub count : ℕ
+  pub few : count ≤ 1048576
+  pub added : List (List Value)
+  pub adds : AddsRows query count added old new
+  pub told : IfSome held (λ files. (rows : List (List Value)) → HasImage table files name rows → AddsRows query count (selected_in query table rows) old new)
+
+-- where files are told: if the segment's file is the image of rows, there are more groups with those of them that
+-- satisfy the filter than there may be
+abbrev pub IsStoredOverfull : BoundQuery → Table → Option Files → List ℕ → KeptGroups → Type 0
+IsStoredOverfull query table held name old =
+    IfSome held (λ files. (rows : List (List Value)) → HasImage table files name rows → IsOverfull query (selected_in query table rows) old)
+
+-- ---- the rows of segments
+
+-- what the fault of the scan of a segment is for the query, by the segment's number
+abbrev pub fault_at : ℕ → EngineFault → ExecutorFault
+fault_at at engine.TooManyGroups = Sql (sql.TooManyGroups most_groups)
+fault_at at (engine.NotASegment part) = NotASegment at part
+fault_at at engine.ReadFault = ReadFault
+fault_at at engine.NoMemory = Sql sql.NoMemory
+
+-- these are the groups over the rows of the first so many segments, where files are told and are images
+abbrev pub HasGroups : BoundQuery → Table → Option Files → List (List ℕ) → ℕ → KeptGroups → Type 0
+HasGroups query table held names n groups =
+    IfSome held (λ files. (segments : List (List (List Value))) → AllZip (HasImage table files) names segments
+    → groups_in groups ≡ groups_of (shape_of query) (selected query (stored_rows table (take n segments))))
+
+-- there are more groups over the rows of all segments than so many, where files are told and are images
+abbrev pub HaveTooMany : BoundQuery → Table → Option Files → List (List ℕ) → ℕ → Type 0
+HaveTooMany query table held names most =
+    IfSome held (λ files. (segments : List (List (List Value))) → AllZip (HasImage table files) names segments
+    → most < finite.len (groups_of (shape_of query) (selected query (stored_rows table segments))))

@@ -1,0 +1,116 @@
+//! The rows of a segment are added to the groups of a query.
+ghost use Rattle.std.specs.Prelude.{◌≡◌, ◌-◌, false, Err, IfSome, IsErrOf, List, ℕ, OnOk};
+ghost use Rattle.outside.specs.Seen.{OnlyReads, seen};
+ghost use Rattle.agg_laws.specs.Numbers.{most_values};
+ghost use Rattle.group_table.specs.Kept.{IsTableOf, groups_in};
+ghost use Rattle.scan_engine.specs.Scanned.{HaveAtMost};
+ghost use Rattle.segment_file.specs.Heads.{AreIn, IsHeadOf};
+ghost use Rattle.segment_file.specs.Names.{IsSegmentName, file_of};
+ghost use Rattle.segment_file.specs.Parts.{IsPlainTable};
+ghost use Rattle.segment_file.specs.declared.part.Part.{Part};
+ghost use Rattle.segment_scan.specs.Images.{AreNamedLoaded};
+ghost use Rattle.segment_scan.specs.declared.fault.EngineFault.TheVariants.{NotASegment, ReadFault, TooManyGroups};
+ghost use Rattle.table_schema.specs.Unbuilt.{names_unbuilt};
+ghost use Rattle.table_schema.specs.ValidQuery.{IsValidQuery};
+ghost use Rattle.table_schema.specs.ValidTable.{IsValidTable};
+ghost use Rattle.query_executor.specs.Logs.{LogsIn};
+ghost use Rattle.query_executor.specs.Segments.{HasNoImage};
+ghost use Rattle.query_executor.specs.Steps.{AddsStored, IsHeadIn, IsStoredOverfull};
+
+use crate::loading::load_named;
+use crate::opening::open_segment;
+use group_table::GroupTable;
+use outside::Shelf;
+use segment_file::Head;
+use segment_plan::{SegmentPlan, empty_law, head_tells_law, plan, prune, pruned_law};
+use segment_scan::{EngineFault, scan_segment};
+use std::alloc::Global;
+use table_schema::{BoundQuery, Table};
+
+/// Adds the rows of the segment of this name that satisfy the filter of a query to its groups. Of a
+/// segment that its bounds exclude no more than the front and the bounds is read.
+pub fn add_segment<S: Shelf>(
+    alloc: Global,
+    shelf: &mut S,
+    table: &Table,
+    name: &str,
+    query: &BoundQuery,
+    groups: &mut GroupTable,
+) -> Result<(), EngineFault>
+    requires valid { IsValidTable table.now }
+    requires plain { IsPlainTable table.now }
+    requires bare { names_unbuilt table.now.settings ≡ false }
+    requires name { IsSegmentName name.now }
+    requires query { IsValidQuery table.now query.now }
+    requires of_query { IsTableOf query.now groups.old }
+    requires fits { HaveAtMost (most_values - 1048576) (groups_in groups.old) }
+    ensures ok { OnOk result
+        (AddsStored query.now table.now (S.held shelf.old) name.now groups.old groups.new) }
+    ensures full { result ≡ Err TooManyGroups →
+        IsStoredOverfull query.now table.now (S.held shelf.old) name.now groups.old }
+    ensures bad { (part : Part) → result ≡ Err (NotASegment part) →
+        IfSome (S.held shelf.old) (λ files. HasNoImage table.now files name.now) }
+    ensures only_reads { OnlyReads (IsErrOf result ReadFault)
+        (seen S.Shelf shelf.old) (seen S.Shelf shelf.new) }
+    ensures log { LogsIn (file_of name.now) (S.log shelf.old) (S.log shelf.new) }
+{
+    let mut head = match open_segment(alloc, shelf, table, name) {
+        Ok(head) => head,
+        Err(fault) => return Err(fault),
+    };
+    head_tells_law();
+    pruned_law();
+    if prune(query, &head) {
+        return Ok(());
+    }
+    match load_named(alloc, shelf, table, query, &mut head) {
+        Ok(()) => {}
+        Err(fault) => return Err(fault),
+    }
+    add_planned(alloc, shelf, table, &head, query, groups)
+}
+
+// Adds the rows of a segment whose dictionaries are loaded, as its plan says.
+fn add_planned<S: Shelf>(
+    alloc: Global,
+    shelf: &mut S,
+    table: &Table,
+    head: &Head,
+    query: &BoundQuery,
+    groups: &mut GroupTable,
+) -> Result<(), EngineFault>
+    requires valid { IsValidTable table.now }
+    requires bare { names_unbuilt table.now.settings ≡ false }
+    requires of_table { IsHeadOf table.now head.now }
+    requires loaded { AreNamedLoaded query.now head.now }
+    requires of_query { IsTableOf query.now groups.old }
+    requires fits { HaveAtMost (most_values - 1048576) (groups_in groups.old) }
+    ensures ok { OnOk result ((name : List ℕ) →
+        IsHeadIn table.now (S.held shelf.old) name head.now →
+        AddsStored query.now table.now (S.held shelf.old) name groups.old groups.new) }
+    ensures full { result ≡ Err TooManyGroups → (name : List ℕ) →
+        IsHeadIn table.now (S.held shelf.old) name head.now →
+        IsStoredOverfull query.now table.now (S.held shelf.old) name groups.old }
+    ensures bad { (part : Part) → result ≡ Err (NotASegment part) → (name : List ℕ) →
+        IsHeadIn table.now (S.held shelf.old) name head.now →
+        IfSome (S.held shelf.old) (λ files. HasNoImage table.now files name) }
+    ensures only_reads { OnlyReads (IsErrOf result ReadFault)
+        (seen S.Shelf shelf.old) (seen S.Shelf shelf.new) }
+    ensures log { (file : List ℕ) → AreIn file head.now.sections →
+        LogsIn file (S.log shelf.old) (S.log shelf.new) }
+{
+    head_tells_law();
+    pruned_law();
+    empty_law();
+    match plan(alloc, query, table, head)? {
+        SegmentPlan::Scan(plan) => match scan_segment(
+            alloc, shelf, head, table, query, &plan, groups,
+        ) {
+            Ok(_) => Ok(()),
+            Err(fault) => Err(fault),
+        },
+        SegmentPlan::Pruned => Ok(()),
+        SegmentPlan::Empty => Ok(()),
+        SegmentPlan::StarTree(_) => unreachable!(),
+    }
+}

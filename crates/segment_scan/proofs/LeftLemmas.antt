@@ -1,0 +1,169 @@
+-- The documents that conjuncts leave, one conjunct after the other.
+use Rattle.std.proofs.Common.{◌≡◌, ◌∙◌, ◌<◌, ◌&&◌, ◌||◌, ◌∷◌, ◌++◌, [], ℕ, zero, suc, Bool, true, false, nat_eq, All, List, Option, Some, None, IfSome, length, take, get_or, slice_get, refl, sym, ap, subst, arith}
+use Rattle.std.specs.Prelude.{if◌then◌else◌}
+use Rattle.std.specs.List.{list_all}
+use Rattle.std.proofs.lemmas.Bool.{eqb-true, false≢true}
+use Rattle.std.proofs.lemmas.List.{length-append}
+use Rattle.std.proofs.lemmas.List.Elements.{All-from_get_or, All-head, All-tail}
+use Rattle.std.proofs.lemmas.List.Folds.{list_all-append}
+use Rattle.outside.specs.Files.{Files}
+use Rattle.outside.specs.Reads.{Entry}
+use Rattle.values.specs.declared.test.Test.{Test}
+use Rattle.values.specs.declared.value.Value.{Value}
+use Rattle.dictionary.specs.Ids.{has_id, satisfies}
+use Rattle.doc_lists.specs.Docs.{has_doc}
+use Rattle.doc_lists.specs.Sets.{AreThose}
+use Rattle.table_schema.specs.declared.query.Conjunct.{Conjunct}
+use Rattle.table_schema.specs.declared.query.Conjunct.TheVariants.{One, Many}
+use Rattle.segment_file.specs.Heads.{Seen}
+use Rattle.segment_plan.specs.declared.plans.IndexChoice.{IndexChoice}
+use Rattle.segment_plan.specs.declared.plans.IndexChoice.TheVariants.{Unindexed, Sorted, Inverted, Range}
+use Rattle.segment_scan.specs.Indexes.{AreInBoth, AreLeft, Leaves, LeavesBy, LogsAt, LogsAtPartly, LogsServed, LogsServedPartly, OfEach, TellsServed, leaves}
+use Rattle.segment_scan.specs.Served.{choice_at, is_served, served}
+use Rattle.segment_scan.proofs.DocLemmas.{has_own}
+
+and_true : (x : Bool) → (x && true) ≡ x
+and_true true = refl
+and_true false = refl
+
+and_left : (a b : Bool) → a && b ≡ true → a ≡ true
+and_left true b e = refl
+and_left false b e = absurd (false≢true e)
+
+-- ---- the conjuncts that are served
+
+pub none_served : (choices : List IndexChoice) → served choices [] ≡ []
+none_served [] = refl
+none_served (c ∷ cs) = refl
+
+front_served : (b : Bool) (y : Conjunct) (xs ys : List Conjunct) → (if b then y ∷ (xs ++ ys) else xs ++ ys) ≡ (if b then y ∷ xs else xs) ++ ys
+front_served true y xs ys = refl
+front_served false y xs ys = refl
+
+-- the served ones of the first conjuncts, and then the next one if it is served
+pub served_more : (choices : List IndexChoice) (conjuncts : List Conjunct) (i : ℕ) (x : Conjunct) → slice_get conjuncts i ≡ Some x
+    → served choices (take (suc i) conjuncts) ≡ served choices (take i conjuncts) ++ (if is_served (choice_at choices i) x then x ∷ [] else [])
+served_more choices [] i x at = absurd cc
+served_more [] (y ∷ ys) i x at = refl
+served_more (c ∷ cs) (y ∷ ys) zero x at =
+    let same : y ≡ x = cc in
+    ap (λ (l : List Conjunct). if is_served c y then y ∷ l else l) (none_served cs) ∙ ap (λ z. if is_served c z then z ∷ [] else []) same
+served_more (c ∷ cs) (y ∷ ys) (suc i) x at =
+    ap (λ (l : List Conjunct). if is_served c y then y ∷ l else l) (served_more cs ys i x at)
+    ∙ front_served (is_served c y) y (served cs (take i ys)) (if is_served (choice_at cs i) x then x ∷ [] else [])
+
+-- ---- one conjunct
+
+-- what a list of documents is of a conjunct that is served
+record IsOwn (held : Option Files) (head : Seen) (choice : IndexChoice) (conjunct : Conjunct) (docs : List ℕ) : Type 0 where
+  serves : is_served choice conjunct ≡ true
+  within : All (λ doc. doc < head.rows) docs
+  told : IfSome held (λ files. (ids : ℕ → List ℕ) → TellsServed files head ids choice conjunct → AreThose (λ doc. leaves head ids doc conjunct) docs)
+
+own : (held : Option Files) (head : Seen) (choice : IndexChoice) (conjunct : Conjunct) (docs : List ℕ) → LeavesBy held head choice conjunct (Some docs) → IsOwn held head choice conjunct docs
+own held head Unindexed conjunct docs by = absurd by
+own held head Range conjunct docs by = absurd by
+own held head Sorted (Many wide) docs by = absurd by
+own held head Inverted (Many wide) docs by = absurd by
+own None head Sorted (One column test) docs by = record { serves = refl; within = by.within; told = tt }
+own None head Inverted (One column test) docs by = record { serves = refl; within = by.within; told = tt }
+own (Some files) head Sorted (One column test) docs by = record { serves = refl; within = by.within; told = λ ids tells. by.told (ids column) tells }
+own (Some files) head Inverted (One column test) docs by = record { serves = refl; within = by.within; told = λ ids tells. by.told (ids column) tells }
+
+-- ---- both lists
+
+all_has : (P : ℕ → Type 0) (docs : List ℕ) (doc : ℕ) → has_doc docs doc ≡ true → All P docs → P doc
+all_has P [] doc has all = absurd (false≢true has)
+all_has P (d ∷ ds) doc has all = go (nat_eq doc d) refl has (all_has P ds doc)
+  where
+    go : (b : Bool) → nat_eq doc d ≡ b → b || has_doc ds doc ≡ true → (has_doc ds doc ≡ true → All P ds → P doc) → P doc
+    go true same has later = subst P (sym (eqb-true doc d same)) (All-head P d ds all)
+    go false same has later = later has (All-tail P d ds all)
+
+in_both_all : (P : ℕ → Type 0) (a b c : List ℕ) → AreThose (λ doc. has_doc a doc && has_doc b doc) c → All P a → All P c
+in_both_all P a b c those all = All-from_get_or P c 0 (λ j lt.
+    let doc : ℕ = get_or c j 0 in
+    all_has P a doc (and_left (has_doc a doc) (has_doc b doc) (sym (those.those doc) ∙ has_own c j lt)) all)
+
+module _ (held : Option Files) (head : Seen) (choices : List IndexChoice) (conjuncts : List Conjunct) where
+  one_left : (told : Option Files) (i : ℕ) (x : Conjunct) (docs : List ℕ) → slice_get conjuncts i ≡ Some x
+      → IfSome told (λ files. (ids : ℕ → List ℕ) → TellsServed files head ids (choice_at choices i) x → AreThose (λ doc. leaves head ids doc x) docs)
+      → IfSome told (λ files. (ids : ℕ → List ℕ) → OfEach (TellsServed files head ids) choices conjuncts → AreThose (λ doc. list_all (leaves head ids doc) (x ∷ [])) docs)
+  one_left None i x docs at known = tt
+  one_left (Some files) i x docs at known = λ ids tells.
+      let those = known ids (tells i x at) in
+      record { ascend = those.ascend; those = λ doc. those.those doc ∙ sym (and_true (leaves head ids doc x)) }
+
+  more_left : (told : Option Files) (i : ℕ) (x : Conjunct) (list : List Conjunct) (a b c : List ℕ) → slice_get conjuncts i ≡ Some x
+      → IfSome told (λ files. (ids : ℕ → List ℕ) → OfEach (TellsServed files head ids) choices conjuncts → AreThose (λ doc. list_all (leaves head ids doc) list) a)
+      → IfSome told (λ files. (ids : ℕ → List ℕ) → TellsServed files head ids (choice_at choices i) x → AreThose (λ doc. leaves head ids doc x) b)
+      → AreThose (λ doc. has_doc a doc && has_doc b doc) c
+      → IfSome told (λ files. (ids : ℕ → List ℕ) → OfEach (TellsServed files head ids) choices conjuncts → AreThose (λ doc. list_all (leaves head ids doc) (list ++ x ∷ [])) c)
+  more_left None i x list a b c at first next both = tt
+  more_left (Some files) i x list a b c at first next both = λ ids tells.
+      let one = first ids tells in
+      let two = next ids (tells i x at) in
+      record {
+        ascend = both.ascend;
+        those = λ doc. both.those doc ∙ (λ k. one.those doc k && two.those doc k) ∙ ap (λ t. list_all (leaves head ids doc) list && t) (sym (and_true (leaves head ids doc x)))
+            ∙ sym (list_all-append (leaves head ids doc) list (x ∷ []));
+      }
+
+  with_one : (i : ℕ) (x : Conjunct) (list : List Conjunct) (docs : List ℕ) → slice_get conjuncts i ≡ Some x → list ≡ [] → IsOwn held head (choice_at choices i) x docs → AreLeft held head choices conjuncts (list ++ x ∷ []) docs
+  with_one i x list docs at none by =
+      subst (λ (l : List Conjunct). AreLeft held head choices conjuncts (l ++ x ∷ []) docs) (sym none) (record { some = omega arith; within = by.within; told = one_left held i x docs at by.told })
+
+  -- a conjunct that is served, after those before it
+  with_served : (i : ℕ) (x : Conjunct) (list : List Conjunct) (old : Option (List ℕ)) (docs : List ℕ) (new : Option (List ℕ)) → slice_get conjuncts i ≡ Some x → Leaves held head choices conjuncts list old
+      → IsOwn held head (choice_at choices i) x docs → AreInBoth old (Some docs) new → Leaves held head choices conjuncts (list ++ x ∷ []) new
+  with_served i x list None docs new at left by both = subst (Leaves held head choices conjuncts (list ++ x ∷ [])) (sym both) (with_one i x list docs at left by)
+  with_served i x list (Some a) docs None at left by both = absurd both
+  with_served i x list (Some a) docs (Some c) at left by both =
+      record { some = omega (arith, length-append list (x ∷ [])); within = in_both_all (λ doc. doc < head.rows) a docs c both left.within; told = more_left held i x list a docs c at left.told by.told both }
+
+  same_list : (old new : Option (List ℕ)) → AreInBoth old None new → old ≡ new
+  same_list None new both = sym both
+  same_list (Some a) new both = sym both
+
+  nothing_more : (list : List Conjunct) → list ++ [] ≡ list
+  nothing_more [] = refl
+  nothing_more (y ∷ ys) = ap (λ (l : List Conjunct). y ∷ l) (nothing_more ys)
+
+  -- the next conjunct
+  pub left_next : (i : ℕ) (x : Conjunct) (old found new : Option (List ℕ)) → slice_get conjuncts i ≡ Some x → Leaves held head choices conjuncts (served choices (take i conjuncts)) old
+      → LeavesBy held head (choice_at choices i) x found → AreInBoth old found new → Leaves held head choices conjuncts (served choices (take (suc i) conjuncts)) new
+  left_next i x old None new at left by both =
+      let same : served choices (take (suc i) conjuncts) ≡ served choices (take i conjuncts) =
+      served_more choices conjuncts i x at ∙ ap (λ b. served choices (take i conjuncts) ++ (if b then x ∷ [] else [])) by ∙ nothing_more (served choices (take i conjuncts)) in
+      subst (λ (l : List Conjunct). Leaves held head choices conjuncts l new) (sym same) (subst (Leaves held head choices conjuncts (served choices (take i conjuncts))) (same_list old new both) left)
+  left_next i x old (Some docs) new at left by both =
+      let its = own held head (choice_at choices i) x docs by in
+      let same : served choices (take (suc i) conjuncts) ≡ served choices (take i conjuncts) ++ x ∷ [] =
+      served_more choices conjuncts i x at ∙ ap (λ b. served choices (take i conjuncts) ++ (if b then x ∷ [] else [])) its.serves in
+      subst (λ (l : List Conjunct). Leaves held head choices conjuncts l new) (sym same) (with_served i x (served choices (take i conjuncts)) old docs new at left its both)
+
+  -- the reads of the conjunct at a place
+  pub logs_at : (now : Option Files) (i : ℕ) (x : Conjunct) (old new : Option (List Entry)) → now ≡ held → slice_get conjuncts i ≡ Some x → LogsServed now head (choice_at choices i) x old new → LogsAt held head choices conjuncts i old new
+  logs_at now i x old new same at logs = λ y there.
+      let is : x ≡ y = (let both : Some x ≡ Some y = sym at ∙ there in cc) in
+      subst (λ h. LogsServed h head (choice_at choices i) y old new) same (subst (λ z. LogsServed now head (choice_at choices i) z old new) is logs)
+
+  pub logs_at_partly : (now : Option Files) (i : ℕ) (x : Conjunct) (old new : Option (List Entry)) → now ≡ held → slice_get conjuncts i ≡ Some x → LogsServedPartly now head (choice_at choices i) x old new → LogsAtPartly held head choices conjuncts i old new
+  logs_at_partly now i x old new same at logs = λ y there.
+      let is : x ≡ y = (let both : Some x ≡ Some y = sym at ∙ there in cc) in
+      subst (λ h. LogsServedPartly h head (choice_at choices i) y old new) same (subst (λ z. LogsServedPartly now head (choice_at choices i) z old new) is logs)
+
+-- the item at a place
+pub item_at : {X : Type 0} (xs : List X) (i : ℕ) (x : X) → i < length xs → x ≡ get_or xs i x → slice_get xs i ≡ Some x
+item_at [] i x lt is = absurd (omega (arith, lt))
+item_at (y ∷ ys) zero x lt is = ap Some (sym is)
+item_at (y ∷ ys) (suc i) x lt is = item_at ys i x (omega (arith, lt)) is
+
+-- the ids of the values that satisfy a test are below their number
+pub matching_below : (values : List Value) (test : Test) (ids : List ℕ) → ((id : ℕ) → has_id ids id ≡ satisfies test (slice_get values id)) → All (λ id. id < length values) ids
+matching_below values test ids each = All-from_get_or (λ id. id < length values) ids 0 (λ j lt. inside values (get_or ids j 0) (sym (each (get_or ids j 0)) ∙ has_own ids j lt))
+  where
+    inside : (vs : List Value) (id : ℕ) → satisfies test (slice_get vs id) ≡ true → id < length vs
+    inside [] id is = absurd (false≢true is)
+    inside (v ∷ vs) zero is = omega arith
+    inside (v ∷ vs) (suc id) is = let more = inside vs id is in omega (arith, more)

@@ -1,0 +1,138 @@
+use Rattle.std.proofs.Common.{◌≡◌, ◌∙◌, ◌<◌, ◌≤◌, ◌-◌, ℕ, Bool, List, Option, All, None, Err, inr, false, length, get_or, ap, sym, subst, arith}
+use Rattle.values.specs.Columns.{rows_of}
+use Rattle.agg_laws.specs.Numbers.{most_values}
+use Rattle.doc_lists.specs.Docs.{docs_of}
+use Rattle.group_table.specs.Kept.{groups_in}
+use Rattle.index_reading.proofs.RunLemmas.{lasts_below}
+use Rattle.scan_engine.specs.Scanned.{selected}
+use Rattle.scan_engine.proofs.AddLemmas.{at_most_more}
+use Rattle.scan_engine.proofs.RunLemmas.{adds_as_more}
+use Rattle.segment_file.specs.Heads.{Seen}
+use Rattle.segment_scan.specs.declared.coded.Coded.{Coded}
+use Rattle.segment_scan.specs.declared.coded.SegmentColumns.{SegmentColumns}
+use Rattle.segment_scan.specs.Coded.{table_of}
+use Rattle.segment_scan.specs.Documents.{LogsDocsPartly}
+use Rattle.segment_scan.specs.Picked.{IsPicked, LogsPicked, LogsPickedPartly}
+use Rattle.segment_scan.specs.Scans.{IsCodedOf}
+use Rattle.segment_scan.specs.Served.{rest_of}
+use Rattle.segment_scan.proofs.LogLemmas.{err_is}
+use Rattle.segment_scan.proofs.PickLemmas.{docs-coded, docs-overfull, docs-read, docs_few, picked-of}
+use Rattle.segment_scan.proofs.SeriesLemmas.{series_all}
+use Rattle.segment_scan.proofs.documents.scan_documents.Goals as goal
+
+pub pick_columns-requires-clause-within : goal.pick_columns-requires-clause-within
+pick_columns-requires-clause-within g c =
+    lasts_below 0 c.runs-runs.result.now c.args.head.now.rows c.runs-runs.ensures.apart (subst (All (λ doc. doc < c.args.head.now.rows)) (sym c.runs-runs.ensures.docs) c.requires.within)
+
+pub coded_columns-requires-clause-loaded : goal.coded_columns-requires-clause-loaded
+coded_columns-requires-clause-loaded g c = λ column list lt got.
+    let docs : List ℕ = docs_of c.runs-runs.result.now in
+    let within : column < length c.args.named.now = omega (arith, lt, ap length c.as_slice-ids.ensures.value, c.in-Ok.ensures.count) in
+    let same : get_or c.in-Ok.ids.items column None ≡ get_or c.as_slice-ids.result.now column None = ap (λ (l : List (Option (List ℕ))). get_or l column None) (sym c.as_slice-ids.ensures.value) in
+    (c.requires.readable column (picked-of (g.S.Shelf.held c.args.shelf.now) c.args.head.now column docs (get_or c.args.named.now column false) (get_or c.in-Ok.ids.items column None) list (c.in-Ok.ensures.ids column within) (same ∙ got))).loaded
+
+pub add_segment-requires-clause-coded : goal.add_segment-requires-clause-coded
+add_segment-requires-clause-coded g c =
+    let held = g.S.Shelf.held c.args.shelf.now in
+    let head : Seen = c.args.head.now in
+    let named : List Bool = c.args.named.now in
+    let docs : List ℕ = c.args.docs.now in
+    let ids : List (Option (List ℕ)) = c.in-Ok.ids.items in
+    let segment : SegmentColumns = record { columns = c.as_slice.result; count = c.len-2.result } in
+    let long : length segment.columns.now ≡ length named = ap length c.as_slice.ensures.value ∙ c.in_ok-columns.ensures.count ∙ ap length c.as_slice-ids.ensures.value ∙ c.in-Ok.ensures.count in
+    let within : (column : ℕ) → column < length named → column < length c.as_slice-ids.result.now = λ column lt. omega (arith, lt, ap length c.as_slice-ids.ensures.value, c.in-Ok.ensures.count) in
+    let of : (column : ℕ) → column < length named → IsCodedOf head column (get_or ids column None) (get_or segment.columns.now column None) = λ column lt.
+    subst (λ (l : List (Option (List ℕ))). IsCodedOf head column (get_or l column None) (get_or segment.columns.now column None)) c.as_slice-ids.ensures.value
+    (subst (λ (l : List (Option Coded)). IsCodedOf head column (get_or c.as_slice-ids.result.now column None) (get_or l column None)) (sym c.as_slice.ensures.value)
+    (c.in_ok-columns.ensures.each column (within column lt))) in
+    let picked : (column : ℕ) → column < length named → IsPicked held head column docs (get_or named column false) (get_or ids column None) = λ column lt.
+    subst (λ (l : List ℕ). IsPicked held head column l (get_or named column false) (get_or ids column None)) c.runs-runs.ensures.docs (c.in-Ok.ensures.ids column lt) in
+    let few : length docs ≤ head.rows = docs_few docs head.rows c.runs-runs.ensures.ascends c.requires.within in
+    docs-coded held head named docs ids segment c.len-2.ensures (omega (arith, few, c.requires.few_rows)) c.requires.within long picked of
+
+pub add_segment-requires-clause-fits : goal.add_segment-requires-clause-fits
+add_segment-requires-clause-fits g c =
+    let few : length c.args.docs.now ≤ c.args.head.now.rows = docs_few c.args.docs.now c.args.head.now.rows c.runs-runs.ensures.ascends c.requires.within in
+    at_most_more (groups_in c.args.groups.now) (most_values - c.args.head.now.rows) (most_values - c.len-2.result) (omega (arith, few, c.len-2.ensures)) c.requires.fits
+
+pub returns-in-Ok-add_segment-clause-count : goal.returns-in-Ok-add_segment-clause-count
+returns-in-Ok-add_segment-clause-count g c = docs_few c.args.docs.now c.args.head.now.rows c.runs-runs.ensures.ascends c.requires.within
+
+pub returns-in-Ok-add_segment-clause-ok : goal.returns-in-Ok-add_segment-clause-ok
+returns-in-Ok-add_segment-clause-ok g c =
+    let held = g.S.Shelf.held c.args.shelf.now in
+    let head : Seen = c.args.head.now in
+    let named : List Bool = c.args.named.now in
+    let docs : List ℕ = c.args.docs.now in
+    let query = c.args.query.now in
+    let choices = c.args.choices.now in
+    let ids : List (Option (List ℕ)) = c.in-Ok.ids.items in
+    let segment : SegmentColumns = record { columns = c.as_slice.result; count = c.len-2.result } in
+    let long : length segment.columns.now ≡ length named = ap length c.as_slice.ensures.value ∙ c.in_ok-columns.ensures.count ∙ ap length c.as_slice-ids.ensures.value ∙ c.in-Ok.ensures.count in
+    let within : (column : ℕ) → column < length named → column < length c.as_slice-ids.result.now = λ column lt. omega (arith, lt, ap length c.as_slice-ids.ensures.value, c.in-Ok.ensures.count) in
+    let of : (column : ℕ) → column < length named → IsCodedOf head column (get_or ids column None) (get_or segment.columns.now column None) = λ column lt.
+    subst (λ (l : List (Option (List ℕ))). IsCodedOf head column (get_or l column None) (get_or segment.columns.now column None)) c.as_slice-ids.ensures.value
+    (subst (λ (l : List (Option Coded)). IsCodedOf head column (get_or c.as_slice-ids.result.now column None) (get_or l column None)) (sym c.as_slice.ensures.value)
+    (c.in_ok-columns.ensures.each column (within column lt))) in
+    let picked : (column : ℕ) → column < length named → IsPicked held head column docs (get_or named column false) (get_or ids column None) = λ column lt.
+    subst (λ (l : List ℕ). IsPicked held head column l (get_or named column false) (get_or ids column None)) c.runs-runs.ensures.docs (c.in-Ok.ensures.ids column lt) in
+    let few : length docs ≤ head.rows = docs_few docs head.rows c.runs-runs.ensures.ascends c.requires.within in
+    let rows = selected (rest_of query choices) (rows_of (table_of segment)) in
+    record {
+      rows = rows;
+      adds = adds_as_more query c.len-2.result head.rows rows c.args.groups.now c.add_segment.new.table (omega (arith, few, c.len-2.ensures)) c.in-Ok-add_segment.ensures.ok;
+      told = docs-read held head named docs ids segment c.len-2.ensures (omega (arith, few, c.requires.few_rows)) c.requires.within long picked of query choices;
+    }
+
+pub returns-in-Err-TooManyGroups-clause-full : goal.returns-in-Err-TooManyGroups-clause-full
+returns-in-Err-TooManyGroups-clause-full g c = λ bad.
+    let held = g.S.Shelf.held c.args.shelf.now in
+    let head : Seen = c.args.head.now in
+    let named : List Bool = c.args.named.now in
+    let docs : List ℕ = c.args.docs.now in
+    let query = c.args.query.now in
+    let choices = c.args.choices.now in
+    let ids : List (Option (List ℕ)) = c.in-Ok.ids.items in
+    let segment : SegmentColumns = record { columns = c.as_slice.result; count = c.len-2.result } in
+    let long : length segment.columns.now ≡ length named = ap length c.as_slice.ensures.value ∙ c.in_ok-columns.ensures.count ∙ ap length c.as_slice-ids.ensures.value ∙ c.in-Ok.ensures.count in
+    let within : (column : ℕ) → column < length named → column < length c.as_slice-ids.result.now = λ column lt. omega (arith, lt, ap length c.as_slice-ids.ensures.value, c.in-Ok.ensures.count) in
+    let of : (column : ℕ) → column < length named → IsCodedOf head column (get_or ids column None) (get_or segment.columns.now column None) = λ column lt.
+    subst (λ (l : List (Option (List ℕ))). IsCodedOf head column (get_or l column None) (get_or segment.columns.now column None)) c.as_slice-ids.ensures.value
+    (subst (λ (l : List (Option Coded)). IsCodedOf head column (get_or c.as_slice-ids.result.now column None) (get_or l column None)) (sym c.as_slice.ensures.value)
+    (c.in_ok-columns.ensures.each column (within column lt))) in
+    let picked : (column : ℕ) → column < length named → IsPicked held head column docs (get_or named column false) (get_or ids column None) = λ column lt.
+    subst (λ (l : List ℕ). IsPicked held head column l (get_or named column false) (get_or ids column None)) c.runs-runs.ensures.docs (c.in-Ok.ensures.ids column lt) in
+    let few : length docs ≤ head.rows = docs_few docs head.rows c.runs-runs.ensures.ascends c.requires.within in
+    docs-overfull held query choices head named docs (selected (rest_of query choices) (rows_of (table_of segment))) c.args.groups.now
+    (docs-read held head named docs ids segment c.len-2.ensures (omega (arith, few, c.requires.few_rows)) c.requires.within long picked of query choices)
+    (c.add_segment.ensures.full (c.in-Err-TooManyGroups.is ∙ ap Err c.in-Err-TooManyGroups.field-0-is))
+
+pub returns-in-Err-clause-log_of_fault : goal.returns-in-Err-clause-log_of_fault
+returns-in-Err-clause-log_of_fault g c = inr (c.runs-runs.result.now, c.runs-runs.ensures.apart, c.runs-runs.ensures.docs, c.in-Err.ensures.log_of_fault)
+
+pub returns-in_err-columns-clause-log_of_fault : goal.returns-in_err-columns-clause-log_of_fault
+returns-in_err-columns-clause-log_of_fault g c =
+    let old = g.S.Shelf.log c.args.shelf.now in
+    let new = g.S.Shelf.log c.pick_columns.new.shelf in
+    let runs = c.runs-runs.result.now in
+    let each = LogsPicked c.args.head.now runs c.args.named.now in
+    let partly = LogsPickedPartly c.args.head.now runs c.args.named.now in
+    err_is c.from_residual.result (LogsDocsPartly c.args.head.now c.args.named.now c.args.docs.now old new) (inr (runs, c.runs-runs.ensures.apart, c.runs-runs.ensures.docs, series_all each partly (length c.args.named.now) old new c.in-Ok.ensures.log))
+
+pub returns-in-Err-TooManyGroups-clause-log_of_fault : goal.returns-in-Err-TooManyGroups-clause-log_of_fault
+returns-in-Err-TooManyGroups-clause-log_of_fault g c =
+    let old = g.S.Shelf.log c.args.shelf.now in
+    let new = g.S.Shelf.log c.pick_columns.new.shelf in
+    let runs = c.runs-runs.result.now in
+    let each = LogsPicked c.args.head.now runs c.args.named.now in
+    let partly = LogsPickedPartly c.args.head.now runs c.args.named.now in
+    inr (runs, c.runs-runs.ensures.apart, c.runs-runs.ensures.docs, series_all each partly (length c.args.named.now) old new c.in-Ok.ensures.log)
+
+pub returns-clause-log_of_fault : goal.returns-clause-log_of_fault
+returns-clause-log_of_fault g c =
+    let old = g.S.Shelf.log c.args.shelf.now in
+    let new = g.S.Shelf.log c.pick_columns.new.shelf in
+    let runs = c.runs-runs.result.now in
+    let each = LogsPicked c.args.head.now runs c.args.named.now in
+    let partly = LogsPickedPartly c.args.head.now runs c.args.named.now in
+    inr (runs, c.runs-runs.ensures.apart, c.runs-runs.ensures.docs, series_all each partly (length c.args.named.now) old new c.in-Ok.ensures.log)

@@ -1,0 +1,76 @@
+use Rattle.std.proofs.Common.{◌≡◌, ◌∙◌, Bool, List, Option, false, length, get_or, ap, arith}
+use Rattle.outside.specs.Files.{Files}
+use Rattle.segment_scan.specs.Forward.{LogsColumns, LogsSome}
+use Rattle.segment_scan.specs.Images.{AddsWhole, names_in}
+use Rattle.segment_scan.specs.Scans.{AddsSegment}
+use Rattle.segment_scan.proofs.ImageLemmas.{loaded_readable}
+use Rattle.segment_scan.proofs.LogLemmas.{err_is, err_so, logs_as, logs_none}
+use Rattle.segment_scan.proofs.SegmentLemmas.{adds_whole, bad_whole, logs_names, mark_named, marks_are, marks_few, ok_so, overfull_whole}
+use Rattle.segment_scan.proofs.whole.scan_whole.Goals as goal
+
+pub named_columns-requires : goal.named_columns-requires
+named_columns-requires g c = let few = c.requires.valid.schema.few in omega (arith, few, c.len.ensures)
+
+pub scan_columns-requires-clause-few : goal.scan_columns-requires-clause-few
+scan_columns-requires-clause-few g c =
+    let named : List Bool = c.as_slice-named.result.now in
+    let is : named ≡ names_in c.args.query.now c.args.table.now =
+    marks_are c.args.query.now c.args.table.now named c.len.result c.len.ensures (ap length c.as_slice-named.ensures.value ∙ c.in_ok-named.ensures.count) (λ column lt. ap (λ (l : List Bool). get_or l column false) c.as_slice-named.ensures.value ∙ c.in_ok-named.ensures.each column lt) in
+    marks_few c.args.query.now c.args.table.now named is c.requires.valid
+
+pub scan_columns-requires-clause-few_rows : goal.scan_columns-requires-clause-few_rows
+scan_columns-requires-clause-few_rows g c = let few = c.requires.of_table.few in let rows = c.requires.of_table.has.rows_are in omega (arith, few, rows)
+
+pub scan_columns-requires-clause-readable : goal.scan_columns-requires-clause-readable
+scan_columns-requires-clause-readable g c = λ column marked.
+    let named : List Bool = c.as_slice-named.result.now in
+    let is : named ≡ names_in c.args.query.now c.args.table.now =
+    marks_are c.args.query.now c.args.table.now named c.len.result c.len.ensures (ap length c.as_slice-named.ensures.value ∙ c.in_ok-named.ensures.count) (λ column lt. ap (λ (l : List Bool). get_or l column false) c.as_slice-named.ensures.value ∙ c.in_ok-named.ensures.each column lt) in
+    loaded_readable c.args.table.now c.args.head.now column c.requires.of_table (c.requires.loaded column (mark_named c.args.query.now c.args.table.now named is column marked))
+
+pub returns-clause-ok : goal.returns-clause-ok
+returns-clause-ok g c =
+    let named : List Bool = c.as_slice-named.result.now in
+    let held : Option Files = g.S.Shelf.held c.args.shelf.now in
+    let is : named ≡ names_in c.args.query.now c.args.table.now =
+    marks_are c.args.query.now c.args.table.now named c.len.result c.len.ensures (ap length c.as_slice-named.ensures.value ∙ c.in_ok-named.ensures.count) (λ column lt. ap (λ (l : List Bool). get_or l column false) c.as_slice-named.ensures.value ∙ c.in_ok-named.ensures.each column lt) in
+    ok_so c.scan_columns.result (AddsSegment c.args.query.now held c.args.head.now named c.args.groups.now c.scan_columns.new.groups) (AddsWhole c.args.query.now c.args.table.now held c.args.head.now c.args.groups.now c.scan_columns.new.groups)
+    (adds_whole c.image_law.ensures c.args.query.now c.args.table.now held c.args.head.now c.requires.valid c.requires.of_table c.requires.loaded named is c.args.groups.now c.scan_columns.new.groups)
+    c.scan_columns.ensures.ok
+
+pub returns-clause-full : goal.returns-clause-full
+returns-clause-full g c = λ full.
+    let named : List Bool = c.as_slice-named.result.now in
+    let is : named ≡ names_in c.args.query.now c.args.table.now =
+    marks_are c.args.query.now c.args.table.now named c.len.result c.len.ensures (ap length c.as_slice-named.ensures.value ∙ c.in_ok-named.ensures.count) (λ column lt. ap (λ (l : List Bool). get_or l column false) c.as_slice-named.ensures.value ∙ c.in_ok-named.ensures.each column lt) in
+    overfull_whole c.image_law.ensures c.args.query.now c.args.table.now (g.S.Shelf.held c.args.shelf.now) c.args.head.now c.requires.valid c.requires.of_table c.requires.loaded named is c.args.groups.now (c.scan_columns.ensures.full full)
+
+pub returns-clause-bad : goal.returns-clause-bad
+returns-clause-bad g c = λ part bad.
+    let named : List Bool = c.as_slice-named.result.now in
+    let is : named ≡ names_in c.args.query.now c.args.table.now =
+    marks_are c.args.query.now c.args.table.now named c.len.result c.len.ensures (ap length c.as_slice-named.ensures.value ∙ c.in_ok-named.ensures.count) (λ column lt. ap (λ (l : List Bool). get_or l column false) c.as_slice-named.ensures.value ∙ c.in_ok-named.ensures.each column lt) in
+    bad_whole c.image_law.ensures c.args.query.now c.args.table.now (g.S.Shelf.held c.args.shelf.now) c.args.head.now c.requires.valid c.requires.of_table c.requires.loaded named is part (c.scan_columns.ensures.bad part bad)
+
+pub returns-clause-log : goal.returns-clause-log
+returns-clause-log g c =
+    let named : List Bool = c.as_slice-named.result.now in
+    let is : named ≡ names_in c.args.query.now c.args.table.now =
+    marks_are c.args.query.now c.args.table.now named c.len.result c.len.ensures (ap length c.as_slice-named.ensures.value ∙ c.in_ok-named.ensures.count) (λ column lt. ap (λ (l : List Bool). get_or l column false) c.as_slice-named.ensures.value ∙ c.in_ok-named.ensures.each column lt) in
+    ok_so c.scan_columns.result (LogsColumns c.args.head.now named (length named) (g.S.Shelf.log c.args.shelf.now) (g.S.Shelf.log c.scan_columns.new.shelf)) (LogsColumns c.args.head.now (names_in c.args.query.now c.args.table.now) (length c.args.table.now.schema.fields) (g.S.Shelf.log c.args.shelf.now) (g.S.Shelf.log c.scan_columns.new.shelf))
+    (logs_names c.args.query.now c.args.table.now named is c.args.head.now (g.S.Shelf.log c.args.shelf.now) (g.S.Shelf.log c.scan_columns.new.shelf))
+    c.scan_columns.ensures.log
+
+pub returns-clause-log_of_fault : goal.returns-clause-log_of_fault
+returns-clause-log_of_fault g c =
+    let named : List Bool = c.as_slice-named.result.now in
+    let is : named ≡ names_in c.args.query.now c.args.table.now =
+    marks_are c.args.query.now c.args.table.now named c.len.result c.len.ensures (ap length c.as_slice-named.ensures.value ∙ c.in_ok-named.ensures.count) (λ column lt. ap (λ (l : List Bool). get_or l column false) c.as_slice-named.ensures.value ∙ c.in_ok-named.ensures.each column lt) in
+    err_so c.scan_columns.result (LogsSome c.args.head.now named (g.S.Shelf.log c.args.shelf.now) (g.S.Shelf.log c.scan_columns.new.shelf)) (LogsSome c.args.head.now (names_in c.args.query.now c.args.table.now) (g.S.Shelf.log c.args.shelf.now) (g.S.Shelf.log c.scan_columns.new.shelf))
+    (logs_as c.args.head.now named (names_in c.args.query.now c.args.table.now) (g.S.Shelf.log c.args.shelf.now) (g.S.Shelf.log c.scan_columns.new.shelf) is)
+    c.scan_columns.ensures.log_of_fault
+
+pub returns-in_err-named-clause-log_of_fault : goal.returns-in_err-named-clause-log_of_fault
+returns-in_err-named-clause-log_of_fault g c =
+    let log = g.S.Shelf.log c.args.shelf.now in
+    err_is c.from_residual.result (LogsSome c.args.head.now (names_in c.args.query.now c.args.table.now) log log) (logs_none c.args.head.now (names_in c.args.query.now c.args.table.now) log)

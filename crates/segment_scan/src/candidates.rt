@@ -1,0 +1,176 @@
+//! The documents that the served conjuncts of a query leave.
+
+ghost use Rattle.std.specs.Prelude.{◌≡◌, ◌≤◌, ℕ, List, Err, IfOk, IfSome, IsErrOf, OnErr, length};
+ghost use Rattle.outside.specs.Seen.{OnlyReads, seen};
+ghost use Rattle.segment_file.specs.declared.part.Part.{Part};
+ghost use Rattle.segment_scan.specs.Coded.{most_rows};
+ghost use Rattle.segment_scan.specs.Faults.{list_fault};
+ghost use Rattle.segment_scan.specs.Indexes.{AreInBoth, IsBadAny, IsBadIndex, IsFoundBy, IsIndexed, IsReady, Leaves, LeavesBy, LogsAt, LogsAtPartly, LogsIndex, LogsIndexPartly, LogsServed, LogsServedPartly, OfEach, TellsIds, part_of};
+ghost use Rattle.segment_scan.specs.Series.{LogsPartOf, LogsTo};
+ghost use Rattle.segment_scan.specs.Served.{served};
+ghost use Rattle.segment_scan.specs.declared.fault.EngineFault.TheVariants.{NotASegment, ReadFault, TooManyGroups};
+
+use crate::EngineFault;
+use crate::serving::choice_at;
+use doc_lists::DocList;
+use index_reading::{ListFault, ListKind, docs_of_ids};
+use outside::Shelf;
+use segment_file::{Head, Part};
+use segment_plan::IndexChoice;
+use std::alloc::Global;
+use table_schema::Conjunct;
+use values::{NoMemory, Test};
+
+/// The documents that the conjuncts with an index leave, in ascending order; no list where no
+/// conjunct has one. Of the section of each index what it has of the matching ids is read, one
+/// conjunct after the other, and nothing else.
+pub fn documents<S: Shelf>(
+    alloc: Global,
+    shelf: &mut S,
+    head: &Head,
+    conjuncts: &[Conjunct],
+    choices: &[IndexChoice],
+) -> Result<Option<DocList>, EngineFault>
+    requires rows { head.now.rows ≤ most_rows }
+    requires ready { OfEach (IsReady head.now) choices.now conjuncts.now }
+    ensures docs { IfOk result (Leaves (S.held shelf.old) head.now choices.now conjuncts.now
+        (served choices.now conjuncts.now)) }
+    ensures bad { (part : Part) → result ≡ Err (NotASegment part) →
+        IsBadAny (S.held shelf.old) head.now part choices.now conjuncts.now }
+    ensures full { ¬ IsErrOf result TooManyGroups }
+    ensures only_reads { OnlyReads (IsErrOf result ReadFault)
+        (seen S.Shelf shelf.old) (seen S.Shelf shelf.new) }
+    ensures log { IfOk result (λ _. LogsTo
+        (LogsAt (S.held shelf.old) head.now choices.now conjuncts.now)
+        (length conjuncts.now) (S.log shelf.old) (S.log shelf.new)) }
+    ensures log_of_fault { OnErr result (LogsPartOf
+        (LogsAt (S.held shelf.old) head.now choices.now conjuncts.now)
+        (LogsAtPartly (S.held shelf.old) head.now choices.now conjuncts.now)
+        (length conjuncts.now) (S.log shelf.old) (S.log shelf.new)) }
+{
+    let mut docs: Option<DocList> = None;
+    for at in 0..conjuncts.len() {
+        let more = match docs_by(alloc, shelf, head, choice_at(choices, at), &conjuncts[at]) {
+            Ok(more) => more,
+            Err(fault) => return Err(fault),
+        };
+        docs = match in_both(alloc, docs, more) {
+            Ok(docs) => docs,
+            Err(_) => return Err(EngineFault::NoMemory),
+        };
+    }
+    Ok(docs)
+}
+
+// The documents of a conjunct by its index, if it has one.
+fn docs_by<S: Shelf>(
+    alloc: Global,
+    shelf: &mut S,
+    head: &Head,
+    choice: IndexChoice,
+    conjunct: &Conjunct,
+) -> Result<Option<DocList>, EngineFault>
+    requires rows { head.now.rows ≤ most_rows }
+    requires ready { IsReady head.now choice conjunct.now }
+    ensures docs { IfOk result (LeavesBy (S.held shelf.old) head.now choice conjunct.now) }
+    ensures bad { (part : Part) → result ≡ Err (NotASegment part) →
+        IsBadIndex (S.held shelf.old) head.now part choice conjunct.now }
+    ensures full { ¬ IsErrOf result TooManyGroups }
+    ensures only_reads { OnlyReads (IsErrOf result ReadFault)
+        (seen S.Shelf shelf.old) (seen S.Shelf shelf.new) }
+    ensures log { IfOk result (λ _. LogsServed (S.held shelf.old) head.now choice conjunct.now
+        (S.log shelf.old) (S.log shelf.new)) }
+    ensures log_of_fault { OnErr result (LogsServedPartly (S.held shelf.old) head.now choice
+        conjunct.now (S.log shelf.old) (S.log shelf.new)) }
+{
+    match (choice, conjunct) {
+        (IndexChoice::Sorted, Conjunct::One(column, test)) => {
+            indexed(alloc, shelf, head, ListKind::Sorted, *column, test)
+        }
+        (IndexChoice::Inverted, Conjunct::One(column, test)) => {
+            indexed(alloc, shelf, head, ListKind::Inverted, *column, test)
+        }
+        (_, _) => Ok(None),
+    }
+}
+
+// The documents whose values in a column satisfy a test, by the section of a kind.
+fn indexed<S: Shelf>(
+    alloc: Global,
+    shelf: &mut S,
+    head: &Head,
+    kind: ListKind,
+    column: u16,
+    test: &Test,
+) -> Result<Option<DocList>, EngineFault>
+    requires rows { head.now.rows ≤ most_rows }
+    requires ready { IsIndexed head.now kind column }
+    ensures docs { IfOk result (IsFoundBy (S.held shelf.old) head.now kind column test.now) }
+    ensures bad { (part : Part) → result ≡ Err (NotASegment part) → (part ≡ part_of kind column)
+        × IfSome (S.held shelf.old) (λ files. (ids : List ℕ) →
+        TellsIds files head.now kind column ids → ⊥) }
+    ensures full { ¬ IsErrOf result TooManyGroups }
+    ensures only_reads { OnlyReads (IsErrOf result ReadFault)
+        (seen S.Shelf shelf.old) (seen S.Shelf shelf.new) }
+    ensures log { IfOk result (λ _. LogsIndex (S.held shelf.old) head.now kind column test.now
+        (S.log shelf.old) (S.log shelf.new)) }
+    ensures log_of_fault { OnErr result (LogsIndexPartly (S.held shelf.old) head.now kind column
+        test.now (S.log shelf.old) (S.log shelf.new)) }
+{
+    let dictionary = head.dictionary(column);
+    let ids = match dictionary.ids_matching(alloc, test) {
+        Ok(ids) => ids,
+        Err(_) => return Err(EngineFault::NoMemory),
+    };
+    let Some(place) = head.place(part_of(kind, column)) else {
+        unreachable!();
+    };
+    match docs_of_ids(
+        alloc,
+        shelf,
+        place,
+        kind,
+        dictionary.count(),
+        head.rows(),
+        &ids,
+    ) {
+        Ok(docs) => Ok(Some(docs)),
+        Err(fault) => Err(of_list(fault, kind, column)),
+    }
+}
+
+// The section of a column of a kind.
+fn part_of(kind: ListKind, column: u16) -> Part
+    ensures { result ≡ part_of kind column }
+{
+    match kind {
+        ListKind::Sorted => Part::Sorted(column),
+        ListKind::Inverted => Part::Inverted(column),
+    }
+}
+
+// What the fault of an index is for a scan.
+fn of_list(fault: ListFault, kind: ListKind, column: u16) -> EngineFault
+    ensures { result ≡ list_fault fault kind column }
+{
+    match fault {
+        ListFault::ReadFault => EngineFault::ReadFault,
+        ListFault::BadList => EngineFault::NotASegment(part_of(kind, column)),
+        ListFault::NoMemory => EngineFault::NoMemory,
+    }
+}
+
+// The documents that are in both lists, or in the one that is there.
+fn in_both(
+    alloc: Global,
+    first: Option<DocList>,
+    second: Option<DocList>,
+) -> Result<Option<DocList>, NoMemory>
+    ensures { IfOk result (AreInBoth first second) }
+{
+    match (first, second) {
+        (None, second) => Ok(second),
+        (Some(first), None) => Ok(Some(first)),
+        (Some(first), Some(second)) => Ok(Some(doc_lists::meet(alloc, &first, &second)?)),
+    }
+}

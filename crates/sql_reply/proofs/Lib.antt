@@ -1,0 +1,5 @@
+mod FindingLemmas
+pub mod GroupLemmas
+mod ParsedLemmas
+mod QueryLemmas
+mod ReplyLemmas

@@ -1,0 +1,12 @@
+//! The reply to a query's text over the rows of a table.
+#![tactic(auto)]
+
+mod bound;
+mod fault;
+mod laws;
+mod reply;
+
+pub use bound::bound_query;
+pub use fault::SqlFault;
+pub use laws::reply_law;
+pub use reply::{MOST_GROUPS, answer};

@@ -1,0 +1,30 @@
+//! The reply to a query over its groups.
+ghost use Rattle.std.specs.Prelude.{◌≡◌, Ok, IfOk};
+ghost use Rattle.table_schema.specs.ValidQuery.{IsValidQuery};
+ghost use Rattle.group_table.specs.Kept.{IsTableOf, groups_in};
+ghost use Rattle.group_table.specs.Shape.{shape_of};
+ghost use Rattle.broker_merge.specs.Reply.{reply_over};
+ghost use Rattle.sql_reply.specs.Reply.{most_groups};
+ghost use Rattle.sql_reply.specs.SqlReply.{replied};
+
+use broker_merge::{answer_text, finish};
+use group_table::GroupTable;
+use outside::{Bytes, Seq};
+use std::alloc::{AllocError, Global};
+use table_schema::{BoundQuery, Table};
+
+/// The most groups that a query may have.
+pub const MOST_GROUPS: u32 = 100_000;
+
+/// The reply to a query over the groups of its table, of which there are few enough.
+pub fn answer(alloc: Global, bound: &BoundQuery, groups: &GroupTable) -> Result<Bytes, AllocError>
+    requires table { IsTableOf bound.now groups.now }
+    requires valid { (over : Table) × IsValidQuery over bound.now }
+    requires most { groups.now.most ≡ most_groups }
+    ensures { IfOk result (λ text.
+        replied (reply_over most_groups (shape_of bound.now) (groups_in groups.now)) ≡ Ok text) }
+{
+    let answer = finish(alloc, groups, bound)?;
+    let text = answer_text(alloc, &answer)?;
+    Ok(Seq::from_vec(text))
+}
