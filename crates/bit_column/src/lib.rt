@@ -8,7 +8,9 @@ mod laws;
 mod part;
 mod range;
 mod reading;
+mod unpacking;
 mod width;
+mod window;
 mod writing;
 
 pub use fault::ColumnFault;

@@ -1,10 +1,12 @@
 //! Ids are read out of bytes.
-ghost use Rattle.std.specs.Prelude.{◌≡◌, ◌≤◌, ◌<◌, ◌+◌, ◌*◌, ◌^◌, All, length, take, IfOk, IsErrOf};
+ghost use Rattle.std.specs.Prelude.{◌≡◌, ◌≤◌, ◌<◌, ◌+◌, ◌*◌, ◌^◌, ◌++◌, All, Err, IfOk, IsErrOf, OnOk, length, take};
 ghost use Rattle.bit_column.specs.Bits.{bits, bits_of, field, pieces};
 ghost use Rattle.bit_column.specs.Column.{id_at};
+ghost use Rattle.bit_column.specs.declared.fault.ColumnFault.TheVariants.{BadId, ReadFault};
 
 use crate::ColumnFault;
 use crate::bits::taken;
+use crate::unpacking::unpack;
 use outside::Seq;
 use std::alloc::Global;
 
@@ -85,13 +87,36 @@ pub fn ids_from(
         ¬ All (λ id. id < count) (pieces width bit number (bits_of 8 bytes.now)) }
     ensures read { ¬ IsErrOf result ColumnFault.ReadFault }
 {
-    let mut ids = Seq::from_vec(Vec::with_capacity(alloc, number)?);
-    for i in 0..number {
-        let id = field_at(bytes, bit + i * width as usize, width);
-        if id >= count {
-            return Err(ColumnFault::BadId);
-        }
-        ids.push(id)?;
+    let mut ids = Vec::with_capacity(alloc, number)?;
+    match append_ids(bytes, bit, width, count, number, &mut ids) {
+        Ok(()) => Ok(Seq::from_vec(ids)),
+        Err(fault) => Err(fault),
     }
-    Ok(ids)
+}
+
+/// Appends so many ids from a bit on, each of which is to be below the count.
+pub fn append_ids(
+    bytes: &[u8],
+    bit: usize,
+    width: u32,
+    count: u32,
+    number: usize,
+    ids: &mut Vec<u32>,
+) -> Result<(), ColumnFault>
+    requires width { 1 ≤ width }
+    requires bound { width ≤ 32 }
+    requires bit { bit < 8 }
+    requires number { number < 2 ^ 32 }
+    requires held { bit + number * width ≤ 8 * length bytes.now }
+    ensures ids { OnOk result (ids.new.items
+        ≡ ids.old.items ++ pieces width bit number (bits_of 8 bytes.now)) }
+    ensures below { OnOk result
+        (All (λ id. id < count) (pieces width bit number (bits_of 8 bytes.now))) }
+    ensures bad { result ≡ Err BadId →
+        ¬ All (λ id. id < count) (pieces width bit number (bits_of 8 bytes.now)) }
+    ensures read { ¬ (result ≡ Err ReadFault) }
+{
+    let start = ids.len();
+    ids.resize(start + number, 0)?;
+    unpack(bytes, bit, width, count, &mut ids[start..])
 }
