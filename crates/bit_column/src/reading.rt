@@ -1,5 +1,5 @@
 //! Ids are read out of bytes.
-ghost use Rattle.std.specs.Prelude.{◌≡◌, ◌≤◌, ◌<◌, ◌+◌, ◌*◌, ◌^◌, ◌++◌, All, Err, IfOk, IsErrOf, OnOk, length, take};
+ghost use Rattle.std.specs.Prelude.{◌≡◌, ◌≤◌, ◌<◌, ◌+◌, ◌*◌, ◌^◌, ◌++◌, All, Err, OnOk, length, take};
 ghost use Rattle.bit_column.specs.Bits.{bits, bits_of, field, pieces};
 ghost use Rattle.bit_column.specs.Column.{id_at};
 ghost use Rattle.bit_column.specs.declared.fault.ColumnFault.TheVariants.{BadId, ReadFault};
@@ -7,8 +7,6 @@ ghost use Rattle.bit_column.specs.declared.fault.ColumnFault.TheVariants.{BadId,
 use crate::ColumnFault;
 use crate::bits::taken;
 use crate::unpacking::unpack;
-use outside::Seq;
-use std::alloc::Global;
 
 /// The id at an index of a section's bytes, which have all its bits.
 pub fn at(bytes: &[u8], width: u32, index: u32) -> u32
@@ -65,33 +63,6 @@ fn eight(bytes: &[u8]) -> u64
     u64::from_be_bytes([
         bytes[0], bytes[1], bytes[2], bytes[3], bytes[4], bytes[5], bytes[6], bytes[7],
     ])
-}
-
-/// So many ids from a bit on, each of which is to be below the count.
-pub fn ids_from(
-    alloc: Global,
-    bytes: &[u8],
-    bit: usize,
-    width: u32,
-    count: u32,
-    number: usize,
-) -> Result<Seq<u32>, ColumnFault>
-    requires width { 1 ≤ width }
-    requires bound { width ≤ 32 }
-    requires bit { bit < 8 }
-    requires number { number < 2 ^ 32 }
-    requires held { bit + number * width ≤ 8 * length bytes.now }
-    ensures ids { IfOk result (λ ids. ids ≡ pieces width bit number (bits_of 8 bytes.now)) }
-    ensures below { IfOk result (λ ids. All (λ id. id < count) ids) }
-    ensures bad { IsErrOf result ColumnFault.BadId →
-        ¬ All (λ id. id < count) (pieces width bit number (bits_of 8 bytes.now)) }
-    ensures read { ¬ IsErrOf result ColumnFault.ReadFault }
-{
-    let mut ids = Vec::with_capacity(alloc, number)?;
-    match append_ids(bytes, bit, width, count, number, &mut ids) {
-        Ok(()) => Ok(Seq::from_vec(ids)),
-        Err(fault) => Err(fault),
-    }
 }
 
 /// Appends so many ids from a bit on, each of which is to be below the count.
