@@ -3,7 +3,7 @@ use Rattle.outside.specs.Files.{Has}
 use Rattle.outside.specs.Reads.{LogsOn}
 use Rattle.outside.specs.Seen.{OnlyReads, seen}
 use Rattle.outside.proofs.ReadLemmas.{Front}
-use Rattle.outside.proofs.reading.fill.Given as goal
+use Rattle.outside.proofs.reading.read_into.Given as goal
 
 abbrev pub invariant-pieces : goal.invariant-pieces
 invariant-pieces g l = record {

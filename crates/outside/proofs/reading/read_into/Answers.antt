@@ -5,7 +5,7 @@ use Rattle.outside.specs.Reads.{ReadsAt, LogsOn, LogsUpTo}
 use Rattle.outside.specs.Seen.{seen}
 use Rattle.outside.proofs.ReadLemmas.{LogsFilled-short, LogsOn-none, LogsOn-push, ReadsAt-has, fits_after, front-grows, front-starts, logs-up, on-err}
 use Rattle.outside.proofs.SeenLemmas.{reads_after, reads_none}
-use Rattle.outside.proofs.reading.fill.Goals as goal
+use Rattle.outside.proofs.reading.read_into.Goals as goal
 
 pub pieces-init : goal.pieces-init
 pieces-init g c =
