@@ -1,3 +1,4 @@
+mod AskedLemmas
 mod FindingLemmas
 pub mod GroupLemmas
 mod ParsedLemmas
