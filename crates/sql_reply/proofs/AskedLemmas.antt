@@ -1,5 +1,5 @@
 -- A text that is no query has no reply, and one that is read and bound is that query.
-use Rattle.std.proofs.Common.{◌≡◌, ◌∙◌, ◌≤◌, ℕ, Bool, true, false, cond, nat_lt, List, length, Result, Ok, Err, IfOk, IfErr, IsErrAnd, sym, ap, subst, arith}
+use Rattle.std.proofs.Common.{◌≡◌, ◌≢◌, ◌∙◌, ◌≤◌, ℕ, Bool, true, false, cond, nat_lt, List, length, Result, Ok, Err, IfOk, IfErr, IsErrAnd, sym, ap, subst, arith}
 use Rattle.std.proofs.lemmas.Bool.Decides.{nat_tests}
 use Rattle.values.specs.declared.value.Value.{Value}
 use Rattle.table_schema.specs.declared.query.BoundQuery.{BoundQuery}
@@ -7,12 +7,14 @@ use Rattle.table_schema.specs.declared.table.Table.{Table}
 use Rattle.query_parser.specs.Query.{parsed}
 use Rattle.query_parser.specs.declared.tree.Query.{Query}
 use Rattle.query_parser.specs.declared.fault.QueryFault.{QueryFault}
+use Rattle.query_parser.specs.declared.fault.QueryFault.TheVariants as parse
 use Rattle.query_bind.specs.Bound.{Bound, bound}
 use Rattle.query_bind.specs.declared.fault.BindFault.{BindFault}
+use Rattle.query_bind.specs.declared.fault.BindFault.TheVariants as bind
 use Rattle.sql_reply.specs.Asked.{Asked, Asks, asked, normal_asked, parsed_asked}
 use Rattle.sql_reply.specs.Laws.{UnaskedHasNone}
 use Rattle.sql_reply.specs.Parts.{IsBound, IsRead}
-use Rattle.sql_reply.specs.SqlReply.{Replies, SqlReply, bind_fault, bound_reply, parsed_reply, query_fault, sql_reply}
+use Rattle.sql_reply.specs.SqlReply.{IsOfText, Replies, SqlReply, bind_fault, bound_reply, parsed_reply, query_fault, sql_reply}
 use Rattle.sql_reply.specs.declared.fault.SqlFault.{SqlFault}
 use Rattle.sql_reply.specs.declared.fault.SqlFault.TheVariants.{LongQuery}
 
@@ -43,6 +45,25 @@ pub unasked_none : UnaskedHasNone
 unasked_none table any_table sql fault rows is =
     long_none (nat_lt 65536 (length sql)) (parsed_asked table any_table (parsed sql)) (parsed_reply table any_table rows (parsed sql)) (LongQuery 65536) fault
     (parsed_none table any_table (parsed sql) rows fault) is
+
+-- what is wrong with it is of the text itself
+normal_text : (r : Result Bound BindFault) (fault : SqlFault) → normal_asked r ≡ Err fault → fault ≢ NoMemory → IsOfText fault
+normal_text (Ok b) fault is real = absurd cc
+normal_text (Err (bind.At wrong place)) fault is real = let same : Unbound wrong place ≡ fault = cc in subst IsOfText same tt
+normal_text (Err bind.NoMemory) fault is real = absurd (real cc)
+
+parsed_text : (table : Table) (any_table : Bool) (r : Result Query QueryFault) (fault : SqlFault) → parsed_asked table any_table r ≡ Err fault → fault ≢ NoMemory → IsOfText fault
+parsed_text table any_table (Ok q) fault is real = normal_text (bound table any_table q) fault is real
+parsed_text table any_table (Err (parse.At wrong place)) fault is real = let same : BadQuery wrong place ≡ fault = cc in subst IsOfText same tt
+parsed_text table any_table (Err parse.NoMemory) fault is real = absurd (real cc)
+
+long_text : (long : Bool) (a : Asked) (fault : SqlFault) → (a ≡ Err fault → IsOfText fault) → cond long (Err (LongQuery 65536)) a ≡ Err fault → IsOfText fault
+long_text true a fault of is = let same : LongQuery 65536 ≡ fault = cc in subst IsOfText same tt
+long_text false a fault of is = of is
+
+pub unasked_text : (table : Table) (any_table : Bool) (sql : List ℕ) (fault : SqlFault) → asked table any_table sql ≡ Err fault → fault ≢ NoMemory → IsOfText fault
+unasked_text table any_table sql fault is real =
+    long_text (nat_lt 65536 (length sql)) (parsed_asked table any_table (parsed sql)) fault (λ e. parsed_text table any_table (parsed sql) fault e real) is
 
 -- so what is wrong with a text is why it has no reply
 pub unasked_replies : (table : Table) (any_table : Bool) (sql : List ℕ) (rows : List (List Value)) (fault : SqlFault) → Asks (asked table any_table sql) (Err fault) → Replies (sql_reply table any_table sql rows) (Err fault)

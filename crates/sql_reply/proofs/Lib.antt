@@ -1,4 +1,4 @@
-mod AskedLemmas
+pub mod AskedLemmas
 mod FindingLemmas
 pub mod GroupLemmas
 mod ParsedLemmas
