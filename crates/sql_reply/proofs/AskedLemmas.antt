@@ -16,7 +16,7 @@ use Rattle.sql_reply.specs.Laws.{UnaskedHasNone}
 use Rattle.sql_reply.specs.Parts.{IsBound, IsRead}
 use Rattle.sql_reply.specs.SqlReply.{IsOfText, Replies, SqlReply, bind_fault, bound_reply, parsed_reply, query_fault, sql_reply}
 use Rattle.sql_reply.specs.declared.fault.SqlFault.{SqlFault}
-use Rattle.sql_reply.specs.declared.fault.SqlFault.TheVariants.{LongQuery}
+use Rattle.sql_reply.specs.declared.fault.SqlFault.TheVariants.{BadQuery, LongQuery, NoMemory, Unbound}
 
 -- ---- a text that is no query
 
