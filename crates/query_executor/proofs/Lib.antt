@@ -7,3 +7,5 @@ mod PlanLemmas
 mod ReplyLemmas
 mod ScanLogs
 mod SegmentLemmas
+mod LineLemmas
+mod NameLemmas

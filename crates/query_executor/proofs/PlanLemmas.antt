@@ -21,6 +21,7 @@ use Rattle.segment_plan.specs.declared.plans.SegmentPlan.TheVariants.{Pruned, Em
 use Rattle.segment_plan.specs.declared.plans.ScanPlan.{ScanPlan}
 use Rattle.dictionary.specs.Ids.{matching}
 use Rattle.segment_plan.specs.Choices.{are_consecutive, choice_of, is_sorted_on}
+use Rattle.segment_plan.specs.Explained.{IsDetailed}
 use Rattle.segment_plan.specs.Matched.{values_in}
 use Rattle.segment_plan.specs.Laws.{NoneHolds}
 use Rattle.segment_plan.specs.Plan.{is_emptied, plan_of, tree_or}
@@ -87,6 +88,18 @@ module _ (query : BoundQuery) (table : Table) (head : Seen) where
 
   pub is_empty_so : Empty ≡ plan_of query table head → is_emptied query.conjuncts table head ≡ true
   is_empty_so is = empty_so (is_pruned query head) (is_emptied query.conjuncts table head) all_choices (picked query table.settings.trees) is
+
+  -- the bounds exclude all rows
+  pub pruned_planned : is_pruned query head ≡ true → Pruned ≡ plan_of query table head
+  pruned_planned is =
+      ap (λ b. planned b (is_emptied query.conjuncts table head) (Scan all_choices) (picked query table.settings.trees)) (sym is)
+
+  -- the detail of a plan wants no more of the head where there are no trees
+  pub detailed : (plan : SegmentPlan) → names_unbuilt table.settings ≡ false → plan ≡ plan_of query table head → IsDetailed query table head plan
+  detailed Pruned bare is = tt
+  detailed Empty bare is = tt
+  detailed (StarTree tree) bare is = absurd (tree_never tree bare is)
+  detailed (Scan plan) bare is = tt
 
 -- ---- where no row satisfies the query, none is selected
 

@@ -1,4 +1,5 @@
 pub mod Answers
+pub mod Explained
 pub mod Logs
 pub mod Segments
 pub mod Steps

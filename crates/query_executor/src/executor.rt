@@ -17,14 +17,14 @@ ghost use Rattle.sql_reply.specs.declared.fault.SqlFault.TheVariants.{NoMemory, 
 ghost use Rattle.query_executor.specs.Answers.{IsBoundReply, IsReply};
 ghost use Rattle.query_executor.specs.Logs.{LogsOf};
 ghost use Rattle.query_executor.specs.Segments.{HasNoImage};
-ghost use Rattle.query_executor.specs.Steps.{HasGroups, HaveTooMany, fault_at};
+ghost use Rattle.query_executor.specs.Steps.{HasGroups, HaveTooMany};
 ghost use Rattle.query_executor.specs.declared.fault.ExecutorFault.TheVariants.{NotASegment, ReadFault, Sql};
 
 use crate::ExecutorFault;
+use crate::segment_fault::fault_at;
 use crate::segment::add_segment;
 use group_table::GroupTable;
 use outside::{Bytes, Name, Shelf};
-use segment_scan::EngineFault;
 use sql_reply::{MOST_GROUPS, SqlFault, answer, bound_query};
 use std::alloc::Global;
 use table_schema::{BoundQuery, Table};
@@ -137,16 +137,4 @@ fn add_segments<S: Shelf>(
         }
     }
     Ok(())
-}
-
-// What the fault of the scan of a segment, by its number, is for the query.
-fn fault_at(at: u32, fault: EngineFault) -> ExecutorFault
-    ensures { result ≡ fault_at at fault }
-{
-    match fault {
-        EngineFault::TooManyGroups => ExecutorFault::Sql(SqlFault::TooManyGroups(MOST_GROUPS)),
-        EngineFault::NotASegment(part) => ExecutorFault::NotASegment(at, part),
-        EngineFault::ReadFault => ExecutorFault::ReadFault,
-        EngineFault::NoMemory => ExecutorFault::Sql(SqlFault::NoMemory),
-    }
 }

@@ -3,10 +3,14 @@
 #![tactic(auto)]
 
 mod executor;
+mod explain;
 mod fault;
 mod loading;
 mod opening;
+mod planned;
 mod segment;
+mod segment_fault;
 
 pub use executor::reply_to_query;
+pub use explain::explain_query;
 pub use fault::ExecutorFault;

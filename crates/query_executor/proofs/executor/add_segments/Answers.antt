@@ -14,7 +14,8 @@ use Rattle.query_executor.specs.Segments.{HasNoImage}
 use Rattle.query_executor.specs.Steps.{AddsStored, HasGroups, IsStoredOverfull, fault_at}
 use Rattle.query_executor.specs.declared.fault.ExecutorFault.TheVariants.{ReadFault}
 use Rattle.query_executor.proofs.FaultLemmas.{bad_so, read_so, refused_so}
-use Rattle.query_executor.proofs.GroupLemmas.{among, is_named, no_groups, one_more, too_many}
+use Rattle.query_executor.proofs.GroupLemmas.{no_groups, one_more, too_many}
+use Rattle.query_executor.proofs.NameLemmas.{among, is_named}
 use Rattle.query_executor.proofs.LogLemmas.{logs_as, logs_none, logs_then, reads_as, reads_none, reads_then}
 use Rattle.query_executor.proofs.executor.add_segments.Goals as goal
 

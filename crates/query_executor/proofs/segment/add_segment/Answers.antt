@@ -6,9 +6,15 @@ use Rattle.segment_scan.specs.declared.fault.EngineFault.TheVariants as engine
 use Rattle.query_executor.specs.Segments.{HasNoImage}
 use Rattle.query_executor.specs.Steps.{AddsStored, IsHeadIn, IsStoredOverfull}
 use Rattle.query_executor.proofs.HeadLemmas.{image_later}
-use Rattle.query_executor.proofs.LogLemmas.{logs_then}
+use Rattle.query_executor.proofs.LogLemmas.{head_in, loaded_in, logs_then}
 use Rattle.query_executor.proofs.SegmentLemmas.{adds_none, ok_so}
 use Rattle.query_executor.proofs.segment.add_segment.Goals as goal
+
+pub returns-in-Err-clause-log : goal.returns-in-Err-clause-log
+returns-in-Err-clause-log g c = head_in c.args.table.now c.args.name.now (g.S.Shelf.held c.args.shelf.now) (g.S.Shelf.log c.args.shelf.now) (g.S.Shelf.log c.open_segment.new.shelf) c.in-Err.ensures.log
+
+pub returns-then-prune-clause-log : goal.returns-then-prune-clause-log
+returns-then-prune-clause-log g c = head_in c.args.table.now c.args.name.now (g.S.Shelf.held c.args.shelf.now) (g.S.Shelf.log c.args.shelf.now) (g.S.Shelf.log c.open_segment.new.shelf) c.in-Ok.ensures.log
 
 pub returns-then-prune-clause-ok : goal.returns-then-prune-clause-ok
 returns-then-prune-clause-ok g c =
@@ -30,8 +36,11 @@ returns-in-Err-load_named-clause-bad g c = λ part is.
 pub returns-in-Err-load_named-clause-log : goal.returns-in-Err-load_named-clause-log
 returns-in-Err-load_named-clause-log g c =
     let file = file_of c.args.name.now in
-    logs_then (λ other. other ≡ file) (g.S.Shelf.log c.args.shelf.now) (g.S.Shelf.log c.open_segment.new.shelf) (g.S.Shelf.log c.load_named.new.shelf) c.in-Ok.ensures.log
-    (c.in-Err-load_named.ensures.log file c.in-Ok.ensures.placed)
+    let a = g.S.Shelf.log c.args.shelf.now in
+    let b = g.S.Shelf.log c.open_segment.new.shelf in
+    let d = g.S.Shelf.log c.load_named.new.shelf in
+    logs_then (λ other. other ≡ file) a b d (head_in c.args.table.now c.args.name.now (g.S.Shelf.held c.args.shelf.now) a b c.in-Ok.ensures.log)
+    (loaded_in c.args.table.now c.args.name.now c.in-Ok.head b d c.in-Ok.ensures.of c.in-Ok.ensures.placed c.in-Err-load_named.ensures.log)
 
 pub returns-clause-bad : goal.returns-clause-bad
 returns-clause-bad g c = λ part is.
@@ -49,7 +58,8 @@ returns-clause-log g c =
     let b = g.S.Shelf.log c.open_segment.new.shelf in
     let d = g.S.Shelf.log c.load_named.new.shelf in
     logs_then (λ other. other ≡ file) a d (g.S.Shelf.log c.add_planned.new.shelf)
-    (logs_then (λ other. other ≡ file) a b d c.in-Ok.ensures.log (c.in-Ok-load_named.ensures.log file c.in-Ok.ensures.placed))
+    (logs_then (λ other. other ≡ file) a b d (head_in c.args.table.now c.args.name.now (g.S.Shelf.held c.args.shelf.now) a b c.in-Ok.ensures.log)
+    (loaded_in c.args.table.now c.args.name.now c.in-Ok.head b d c.in-Ok.ensures.of c.in-Ok.ensures.placed c.in-Ok-load_named.ensures.log))
     (c.add_planned.ensures.log file (subst (AreIn file) (sym c.in-Ok-load_named.ensures.grows.sections_same) c.in-Ok.ensures.placed))
 
 pub returns-clause-full : goal.returns-clause-full
