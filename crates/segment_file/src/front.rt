@@ -72,7 +72,6 @@ impl Front {
     pub fn head_size(&self, table: &Table) -> u64
         requires some { length table.now.schema.fields + length table.now.settings.trees
             < length self.now.sizes }
-        requires few { length table.now.settings.trees ≤ 8 }
         requires short { sum self.now.sizes < 2 ^ 64 }
         ensures { result ≡ sum (take (length (head_sections table.now)) self.now.sizes) }
     {
