@@ -18,6 +18,8 @@ mod section;
 mod sections;
 mod sizes;
 mod stepwise;
+mod tree_loading;
+mod trees;
 
 pub use bounds::{Ends, push_bounds, push_ends, read_bounds};
 pub use check::check_head;
@@ -34,6 +36,7 @@ pub use section::Section;
 pub use sections::sections_of;
 pub use sizes::size_for;
 pub use stepwise::open_head;
+pub use trees::TreeNodes;
 
 /// A growth was refused.
 pub type NoMemory = std::alloc::AllocError;

@@ -28,7 +28,7 @@ nodes_back [] h = refl
 nodes_back (n ∷ ns) h =
     (λ i. node_back n ns (node_bytes ns) h i ∷ nodes_back ns h.7 i)
 
-length_nodes : (ns : List Node) → length (node_bytes ns) ≡ 28 * length ns
+pub length_nodes : (ns : List Node) → length (node_bytes ns) ≡ 28 * length ns
 length_nodes [] = refl
 length_nodes (n ∷ ns) = let l = length_nodes ns in omega (arith, l)
 
