@@ -48,7 +48,7 @@ pub record AreSound (asked : Asked) (rows : ℕ) (docs : List Doc) : Type 0 wher
 
 -- the kinds of the aggregates
 abbrev pub kinds_for : List ℕ → List AggKind → List AggKind
-kinds_for pairs kinds = map (λ pair. slice_index_or kinds pair Count) pairs
+kinds_for pairs all = map (λ pair. slice_index_or all pair kinds.Count) pairs
 
 -- group columns are split dimensions, and aggregates are pairs
 pub record AreAsked (shape : TreeShape) (asked : Asked) : Type 0 where

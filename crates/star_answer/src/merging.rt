@@ -5,7 +5,7 @@ ghost use Rattle.std.specs.List.{All};
 ghost use Rattle.std.specs.FinMap as finite;
 ghost use Rattle.agg_laws.specs.Numbers.{most_stored, most_values};
 ghost use Rattle.agg_laws.specs.Rows.{row_weight};
-ghost use Rattle.agg_laws.specs.Docs.{doc_at};
+ghost use Rattle.agg_laws.specs.Docs.{HaveShape, doc_at};
 ghost use Rattle.agg_laws.specs.Merged.{weights};
 ghost use Rattle.group_table.specs.declared.fault.TableFault.TheVariants.{TooManyGroups};
 ghost use Rattle.group_table.specs.Kept.{groups_in};
@@ -30,6 +30,7 @@ pub fn merge_documents(
     requires dims { taken.dims ≡ length columns.now }
     requires keyed { All (λ e. AreKeyIds columns.now e.0) taken.docs }
     requires light { weights row_weight taken.docs ≤ most_stored }
+    requires few_kinds { length taken.kinds ≤ 16 }
     requires columns { groups.old.columns ≡ length columns.now }
     requires kinds { groups.old.kinds ≡ taken.kinds }
     requires fits { HaveAtMost (most_values - weights row_weight taken.docs)
@@ -64,6 +65,7 @@ fn merge_last(
     requires dims { taken.now.dims ≡ length columns.now }
     requires keyed { All (λ e. AreKeyIds columns.now e.0) taken.now.docs }
     requires light { weights row_weight (drop from taken.now.docs) ≤ most_stored }
+    requires few_kinds { length taken.now.kinds ≤ 16 }
     requires columns { groups.old.columns ≡ length columns.now }
     requires kinds { groups.old.kinds ≡ taken.now.kinds }
     requires fits { HaveAtMost (most_values - weights row_weight (drop from taken.now.docs))
@@ -108,7 +110,9 @@ fn key_at(
 
 // The states of a document.
 fn states_at(alloc: Global, taken: &StarTable, at: u32) -> Result<StateRow, NoMemory>
-    requires { at < length taken.now.docs }
+    requires at { at < length taken.now.docs }
+    requires shape { HaveShape taken.now.dims taken.now.kinds taken.now.docs }
+    requires few { length taken.now.kinds ≤ 16 }
     ensures { IfOk result (λ states. states ≡ (doc_at taken.now.docs at).1) }
 {
     let mut states = StateRow::new(alloc);

@@ -4,13 +4,13 @@
 ghost use Rattle.std.specs.Prelude.{◌≡◌, ◌+◌, ◌^◌, ◌<◌, ◌≤◌, [], ◌++◌, ◌∷◌, true, length};
 ghost use Rattle.std.specs.Prelude.{IfOk, MatchBool, OnOk};
 ghost use Rattle.std.specs.List.{All};
-ghost use Rattle.agg_laws.specs.Rows.{kinds_of, row_weight, RowStored};
-ghost use Rattle.agg_laws.specs.Docs.{doc_at};
+ghost use Rattle.agg_laws.specs.Rows.{row_weight};
+ghost use Rattle.agg_laws.specs.Docs.{AreStored, HaveShape, doc_at};
 ghost use Rattle.agg_laws.specs.Merged.{weights};
 ghost use Rattle.star_walk.specs.Walking.{HasEach};
 ghost use Rattle.star_answer.specs.Answers.{asked_of, left_of};
-ghost use Rattle.star_answer.specs.Asked.{AreAsked, kinds_for, states_of};
-ghost use Rattle.star_answer.specs.Taken.{AreKeyIds, IsTaken, MayBeTaken, key_ids, taken_doc};
+ghost use Rattle.star_answer.specs.Asked.{AreAsked, HasKey, kinds_for, states_of};
+ghost use Rattle.star_answer.specs.Taken.{IsTaken, MayBeTaken, key_ids, taken_doc};
 ghost use Rattle.star_answer.specs.Taken.{taken_docs};
 
 use crate::asked::{Asked, GroupColumn};
@@ -109,6 +109,8 @@ impl Taken {
         requires asked { AreAsked shape.now asked.now }
         requires taken { IsTaken shape.now asked.now rows self.old.table }
         requires room { 1 ≤ self.old.table.spare }
+        requires shape { HaveShape table.now.dims table.now.kinds table.now.docs }
+        requires stored { AreStored table.now.docs }
         ensures taken { IfOk result (λ done. MatchBool done
             (IsTaken shape.now asked.now rows self.new.table
             × (self.new.table.docs ≡ self.old.table.docs
@@ -144,8 +146,8 @@ fn put_ids(
     requires dims { All (λ column. column.dim < table.now.dims) columns.now }
     ensures { IfOk result (λ done. MatchBool done
         ((ids.new.items ≡ key_ids columns.now (doc_at table.now.docs at).0)
-        × AreKeyIds columns.now ids.new.items)
-        (¬ AreKeyIds columns.now (key_ids columns.now (doc_at table.now.docs at).0))) }
+        × HasKey columns.now (doc_at table.now.docs at).0)
+        (¬ HasKey columns.now (doc_at table.now.docs at).0)) }
 {
     ids.clear();
     for column in columns {
@@ -167,10 +169,7 @@ fn put_states(
 ) -> Result<(), AllocError>
     requires at { at < length table.now.docs }
     requires pairs { All (λ pair. pair < length table.now.kinds) pairs.now }
-    ensures states { OnOk result (states.new.items
-        ≡ states_of pairs.now (doc_at table.now.docs at).1) }
-    ensures kinds { OnOk result (kinds_of states.new.items ≡ kinds_for pairs.now table.now.kinds) }
-    ensures stored { OnOk result (RowStored states.new.items) }
+    ensures { OnOk result (states.new.items ≡ states_of pairs.now (doc_at table.now.docs at).1) }
 {
     states.clear();
     for pair in pairs {

@@ -42,6 +42,12 @@ fn weight_of_sum(sum: i128) -> u32
     ensures weight { result ≡ sum_weight sum }
     ensures bound { result ≤ most_stored }
 {
+    if sum == 0 {
+        return 0;
+    }
+    if sum >= -9_223_372_036_854_775_808 && sum <= 9_223_372_036_854_775_807 {
+        return 1;
+    }
     if sum >= 0 {
         ((sum as u128 + 9_223_372_036_854_775_806) / 9_223_372_036_854_775_807) as u32
     } else {
