@@ -1,5 +1,6 @@
 -- The documents of a section in the bytes that were read for them.
-use Rattle.std.proofs.Common.{◌≡◌, ◌≤◌, ◌<◌, ℕ, ◌+◌, ◌-◌, ◌*◌, List, length, take, drop, min}
+use Rattle.std.proofs.Common.{◌≡◌, ◌≤◌, ◌<◌, ℕ, zero, suc, ◌+◌, ◌-◌, ◌*◌, List, [], ◌∷◌, length, take}
+use Rattle.std.proofs.Common.{drop, min, refl}
 use Rattle.std.proofs.Common.{Option, Some, None, IfSome, sym, ap, ◌∙◌, subst, arith}
 use Rattle.std.proofs.Common.{length-take, length-drop}
 use Rattle.std.proofs.lemmas.List.{drop-take, drop-drop, take-take}
@@ -17,6 +18,15 @@ span width from to h =
     let products : (from + (to - from)) * width ≡ from * width + (to - from) * width = grind arith
     in
     ap (λ k. k * width) e ∙ products
+
+-- there are as many documents as are spelled
+pub as_many : (shape : TreeShape) (counts : List ℕ) (n : ℕ) (bytes : List ℕ) (docs : List Doc)
+    → SpellDocs shape counts n bytes docs → length docs ≡ n
+as_many shape counts zero bytes [] h = refl
+as_many shape counts zero bytes (e ∷ es) h = absurd h
+as_many shape counts (suc n) bytes [] h = absurd h
+as_many shape counts (suc n) bytes (e ∷ es) h =
+    let more = as_many shape counts n (drop (doc_width shape) bytes) es h.1 in omega (arith, more)
 
 -- the bytes of a section between two places are those of the file
 part_of : (files : Files) (place : Place) (first end : ℕ) → first ≤ end → end ≤ place.length

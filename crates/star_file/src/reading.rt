@@ -32,6 +32,7 @@ pub fn read_docs<S: Shelf>(
     requires few { length shape.now.kinds ≤ 16 }
     ensures docs { IfOk result (λ table. IfSome (S.held shelf.old) (λ files.
         HasDocuments shape.now counts.now from to (section files place.now) table.docs)) }
+    ensures number { IfOk result (λ table. length table.docs ≡ to - from) }
     ensures dims { IfOk result (λ table. table.dims ≡ shape.now.dims) }
     ensures kinds { IfOk result (λ table. table.kinds ≡ shape.now.kinds) }
     ensures only_reads { OnlyReads (IsErrOf result DocsFault.ReadFault)

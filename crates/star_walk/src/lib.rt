@@ -14,7 +14,7 @@ pub use keys::key_of;
 pub use laws::{joined_law, walk_law, walkable_law};
 pub use pick::{Pick, Picks};
 pub use task::Task;
-pub use testing::passing;
+pub use testing::{passes_from, passing};
 pub use walking::walk;
 
 /// A growth was refused.

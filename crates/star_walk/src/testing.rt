@@ -40,7 +40,7 @@ pub fn passing(
 }
 
 /// Whether a document passes the tests of its dimensions from a level on.
-fn passes_from(task: &Task, table: &StarTable, at: u32, level: usize) -> bool
+pub fn passes_from(task: &Task, table: &StarTable, at: u32, level: usize) -> bool
     requires few { length task.now.matched ≤ 16 }
     requires dims { table.now.dims ≡ length task.now.matched }
     requires level { level ≤ length task.now.matched }

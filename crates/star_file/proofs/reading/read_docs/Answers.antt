@@ -47,6 +47,12 @@ returns-clause-docs g c =
     within
     held part table.docs h) c.docs_from.ensures.docs
 
+pub returns-clause-number : goal.returns-clause-number
+returns-clause-number g c =
+    IfOk-weaker c.docs_from.result _ _ (λ table h.
+    steps.as_many c.args.shape.now c.args.counts.now (c.args.to - c.args.from)
+    c.as_slice.result.now table.docs h) c.docs_from.ensures.docs
+
 pub returns-clause-log_of_fault : goal.returns-clause-log_of_fault
 returns-clause-log_of_fault g c =
     let place = c.args.place.now in

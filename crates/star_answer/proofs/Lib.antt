@@ -1,0 +1,3 @@
+pub mod WeightSteps
+pub mod TakeSteps
+pub mod PassSteps

@@ -1,0 +1,91 @@
+//! The answer of a segment from a star-tree.
+
+ghost use Rattle.std.specs.Prelude.{◌≡◌, ◌-◌, ◌<◌, ◌≤◌, Err, IfOk, IfSome, IsErrOf, MatchOption};
+ghost use Rattle.std.specs.Prelude.{OnErr, OnOk};
+ghost use Rattle.std.specs.FinMap as finite;
+ghost use Rattle.outside.specs.Seen.{OnlyReads, seen};
+ghost use Rattle.agg_laws.specs.Numbers.{most_stored, most_values};
+ghost use Rattle.group_table.specs.Kept.{groups_in};
+ghost use Rattle.scan_engine.specs.Scanned.{HaveAtMost};
+ghost use Rattle.star_walk.specs.Images.{read_of};
+ghost use Rattle.star_answer.specs.declared.fault.AnswerFault.TheVariants.{BadDocs, ReadFault};
+ghost use Rattle.star_answer.specs.declared.fault.AnswerFault.TheVariants.{TooManyGroups};
+ghost use Rattle.star_answer.specs.Asked.{AreAsked, IsTableFor};
+ghost use Rattle.star_answer.specs.Answers.{Answers, IsBad, IsOverfull, IsTree, LogsPicks, LogsSome};
+ghost use Rattle.star_answer.specs.Answers.{picks_of, reads_of};
+
+use crate::asked::Asked;
+use crate::fault::AnswerFault;
+use crate::merging::merge_documents;
+use crate::picked::take_picks;
+use crate::tree_part::TreePart;
+use group_table::{GroupTable, TableFault};
+use outside::Shelf;
+use star_walk::{Pick, Task, joined, joined_law, walk, walkable_law};
+use std::alloc::Global;
+
+/// Merges the states of the documents that a query reads of a star-tree, of those that pass their
+/// remaining tests, into the groups of their keys, and answers how many documents were read. Of the
+/// section of documents just these are read, each pick once, with one read for neighbours.
+pub fn answer_tree<S: Shelf>(
+    alloc: Global,
+    shelf: &mut S,
+    tree: &TreePart<'_>,
+    task: &Task,
+    asked: &Asked<'_>,
+    rows: u32,
+    groups: &mut GroupTable,
+) -> Result<u32, AnswerFault>
+    requires tree { IsTree tree.now task.now }
+    requires asked { AreAsked tree.now.shape.now asked.now }
+    requires table { IsTableFor tree.now.shape.now asked.now groups.old }
+    requires rows { rows ≤ most_stored }
+    requires fits { HaveAtMost (most_values - rows) (groups_in groups.old) }
+    ensures count { IfOk result (λ n. n ≡ read_of (picks_of tree.now task.now)) }
+    ensures ok { OnOk result (Answers tree.now task.now asked.now rows (S.held shelf.old)
+        groups.old groups.new) }
+    ensures full { result ≡ Err TooManyGroups
+        → IsOverfull tree.now task.now asked.now (S.held shelf.old) groups.old }
+    ensures filled { result ≡ Err TooManyGroups
+        → finite.len (groups_in groups.new) ≡ groups.old.most }
+    ensures bad { IsErrOf result BadDocs
+        → IsBad tree.now task.now asked.now rows (S.held shelf.old) }
+    ensures only_reads { OnlyReads (IsErrOf result ReadFault)
+        (seen S.Shelf shelf.old) (seen S.Shelf shelf.new) }
+    ensures log { IfOk result (λ _. LogsPicks tree.now (reads_of tree.now task.now)
+        (S.log shelf.old) (S.log shelf.new)) }
+    ensures log_of_fault { OnErr result (LogsSome tree.now (reads_of tree.now task.now)
+        (S.log shelf.old) (S.log shelf.new)) }
+{
+    walkable_law();
+    joined_law();
+    let picks = walk(alloc, tree.nodes, task)?;
+    let picks = joined(alloc, &picks)?;
+    let Some(count) = count_within(picks.as_slice(), rows) else {
+        return Err(AnswerFault::BadDocs);
+    };
+    let taken = match take_picks(alloc, shelf, tree, task, asked, rows, picks.as_slice()) {
+        Ok(taken) => taken,
+        Err(fault) => return Err(fault),
+    };
+    match merge_documents(alloc, asked.columns, taken, groups) {
+        Ok(()) => Ok(count),
+        Err(TableFault::TooManyGroups) => Err(AnswerFault::TooManyGroups),
+        Err(TableFault::NoMemory) => Err(AnswerFault::NoMemory),
+    }
+}
+
+// How many documents picks have, if they are at most so many.
+fn count_within(picks: &[Pick], most: u32) -> Option<u32>
+    ensures { MatchOption result (most < read_of picks.now)
+        (λ n. (n ≡ read_of picks.now) × (n ≤ most)) }
+{
+    let mut count: u64 = 0;
+    for pick in picks {
+        count += pick.end.saturating_sub(pick.start) as u64;
+        if count > most as u64 {
+            return None;
+        }
+    }
+    Some(count as u32)
+}
