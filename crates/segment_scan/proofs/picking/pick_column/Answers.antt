@@ -1,10 +1,8 @@
-use Rattle.std.proofs.Common.{◌≡◌, ◌≤◌, ◌∙◌, ◌+◌, ℕ, [], ◌∷◌, ◌++◌, List, Option, Some, IfSome, ap, drop, get_or, inl, inr, length, le_refl, sym, subst, map, refl, arith}
+use Rattle.std.proofs.Common.{◌≡◌, ◌≤◌, ◌∙◌, ◌+◌, ℕ, [], ◌∷◌, List, Option, Some, IfSome, ap, drop, get_or, inl, inr, length, sym, subst, map, refl, arith}
 use Rattle.std.proofs.lemmas.List.{drop_all, drop_more}
 use Rattle.outside.specs.Reads.{Entry}
 use Rattle.outside.specs.Seen.{seen}
 use Rattle.outside.specs.declared.place.Place.{Place}
-use Rattle.outside.proofs.ReadLemmas.{logs-up}
-use Rattle.bit_column.specs.Sections.{end_byte, first_byte}
 use Rattle.doc_lists.specs.declared.run.Run.{Run}
 use Rattle.index_reading.specs.Stretches.{LogsPartly}
 use Rattle.segment_file.specs.Heads.{Seen, place_in}
