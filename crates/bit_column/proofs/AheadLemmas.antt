@@ -14,16 +14,16 @@ use Rattle.bit_column.proofs.Windows.{field-window}
 pub ahead_start : (bytes : List ℕ) (window : Window) → window.bits ≡ 0 → window.have ≡ 0 → window.next ≡ 0 → IsAhead bytes window
 unfolding bits
 ahead_start bytes window none empty first =
-  let nothing : List ℕ = [] in
-  let before : taken_before window ≡ 0 = omega (arith, first, empty) in
-  record {
-  few = omega (arith, empty);
-  there = omega (arith, empty);
-  within = omega (arith, first);
-  ahead =
-      ap (λ k. bits k window.bits) empty
-      ∙ sym (ap (λ k. drop (taken_before window) (bits_of 8 (take k bytes))) first ∙ ap (λ (k : ℕ). drop k nothing) before);
-}
+    let nothing : List ℕ = [] in
+    let before : taken_before window ≡ 0 = omega (arith, first, empty) in
+    record {
+      few = omega (arith, empty);
+      there = omega (arith, empty);
+      within = omega (arith, first);
+      ahead =
+          ap (λ k. bits k window.bits) empty
+          ∙ sym (ap (λ k. drop (taken_before window) (bits_of 8 (take k bytes))) first ∙ ap (λ (k : ℕ). drop k nothing) before);
+    }
 
 -- with more bytes
 pub ahead_more : (bytes : List ℕ) (window more : Window) (count item : ℕ) → IsAhead bytes window → window.next + count ≤ length bytes → window.have + count * 8 ≤ 64

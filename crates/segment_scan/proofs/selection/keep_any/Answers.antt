@@ -1,7 +1,7 @@
 use Rattle.std.proofs.Common.{◌<◌, ◌∙◌, ◌&&◌, ℕ, Bool, false, get_or, length, ap, arith}
 use Rattle.dictionary.specs.Ids.{has_id}
 use Rattle.scan_engine.proofs.SelectionLemmas.{keeps-all, keeps-none, keeps-set}
-use Rattle.segment_scan.proofs.selection.keep_ids.Goals as goal
+use Rattle.segment_scan.proofs.selection.keep_any.Goals as goal
 
 pub loop-at-init : goal.loop-at-init
 loop-at-init c = keeps-none _ _
