@@ -1,7 +1,7 @@
 -- The groups of a query over the rows of segments, one segment after the other.
-use Rattle.std.proofs.Common.{◌≡◌, ◌∙◌, ◌+◌, ◌<◌, ◌++◌, ℕ, zero, suc, true, cond, nat_lt, List, [], ◌∷◌, length, take, drop, get_or, Option, Some, None, IfSome, Ok, Err, refl, sym, ap, subst, arith, append-nil, add-one}
+use Rattle.std.proofs.Common.{◌≡◌, ◌∙◌, ◌+◌, ◌<◌, ◌++◌, ℕ, zero, suc, true, cond, nat_lt, List, [], ◌∷◌, length, take, drop, get_or, Option, Some, None, IfSome, Ok, Err, sym, ap, subst, arith, append-nil, add-one}
 use Rattle.std.specs.FinMap as finite
-use Rattle.std.specs.List.{AllZip, Contains, flat_map}
+use Rattle.std.specs.List.{AllZip, flat_map}
 use Rattle.std.proofs.Math.Seq.{take-suc}
 use Rattle.std.proofs.lemmas.Bool.{lt-ltb}
 use Rattle.std.proofs.lemmas.Grind.{flat_map-append}

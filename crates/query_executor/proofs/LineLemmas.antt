@@ -1,5 +1,5 @@
 -- The lines of segments, one after the other.
-use Rattle.std.proofs.Common.{◌≡◌, ◌∙◌, ◌≤◌, ◌<◌, ◌+◌, ◌++◌, ℕ, suc, false, List, [], ◌∷◌, length, map, drop, get_or, Option, Some, None, IfSome, Ok, Err, refl, sym, ap, subst, arith, append_assoc, append-nil, add-one}
+use Rattle.std.proofs.Common.{◌≡◌, ◌∙◌, ◌<◌, ◌+◌, ◌++◌, ℕ, suc, false, List, [], ◌∷◌, length, drop, get_or, Option, Some, None, IfSome, Ok, refl, sym, ap, arith, append_assoc, append-nil, add-one}
 use Rattle.std.proofs.Math.Seq.{drop-cons, drop-length}
 use Rattle.std.proofs.lemmas.List.{get_or-map, length-map}
 use Rattle.std.proofs.lemmas.Slice.Zip.{AllZip-long}

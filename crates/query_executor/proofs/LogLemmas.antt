@@ -1,6 +1,7 @@
 -- Reads of files, one after another.
 use Rattle.std.proofs.Common.{◌≡◌, ◌∙◌, ◌+◌, ◌≤◌, ◌<◌, ◌++◌, ◌∷◌, [], ℕ, zero, suc, List, All, Option, Some, None, IfSome, inl, inr, length, map, sum, take, option_map, get_or, slice_get, refl, sym, ap, subst, arith, append_assoc, append-nil}
 use Rattle.std.proofs.lemmas.List.Elements.{All-append, All-cons, All-nil}
+use Rattle.std.proofs.lemmas.List.Sums.{sum_by-cons}
 use Rattle.outside.specs.Counts.{Rose}
 use Rattle.outside.specs.Files.{Files, bytes_of}
 use Rattle.outside.specs.Reads.{AllGive, Consecutive, Entry, LogsOn, LogsThrough}
@@ -109,7 +110,10 @@ fewer_summed [] (suc m) zero le = absurd (omega (arith, le))
 fewer_summed [] (suc m) (suc n) le = omega arith
 fewer_summed (x ∷ xs) zero n le = omega arith
 fewer_summed (x ∷ xs) (suc m) zero le = absurd (omega (arith, le))
-fewer_summed (x ∷ xs) (suc m) (suc n) le = omega (arith, fewer_summed xs m n (omega (arith, le)))
+fewer_summed (x ∷ xs) (suc m) (suc n) le =
+    let few : sum (take (suc m) (x ∷ xs)) ≡ x + sum (take m xs) = sum_by-cons (λ n. n) x (take m xs) in
+    let more : sum (take (suc n) (x ∷ xs)) ≡ x + sum (take n xs) = sum_by-cons (λ n. n) x (take n xs) in
+    omega (arith, few, more, fewer_summed xs m n (omega (arith, le)))
 
 bounds_before : (table : Table) (name : List ℕ) (front : Front) → bounds_end table name front ≤ head_end table name front
 bounds_before table name front =
@@ -122,14 +126,18 @@ if_more : {X : Type 0} (P Q : X → Type 0) (o : Option X) → ((x : X) → P x 
 if_more P Q None f h = tt
 if_more P Q (Some x) f h = f x h
 
+first_ends : (offset size rest total : ℕ) → total ≡ size + rest → offset + size ≤ offset + total
+first_ends offset size rest total is = omega (arith, is)
+
 section_ends : (file : List ℕ) (offset : ℕ) (parts : List Part) (sizes : List ℕ) (k n : ℕ) → k < n → IfSome (slice_get (map (placed file) (extents_from offset parts sizes)) k) (λ s. s.place.offset + s.place.length ≤ offset + sum (take n sizes))
 section_ends file offset [] sizes k n lt = tt
 section_ends file offset (part ∷ parts) [] k n lt = tt
 section_ends file offset (part ∷ parts) (size ∷ sizes) k zero lt = absurd (omega (arith, lt))
-section_ends file offset (part ∷ parts) (size ∷ sizes) zero (suc n) lt = omega arith
+section_ends file offset (part ∷ parts) (size ∷ sizes) zero (suc n) lt = first_ends offset size (sum (take n sizes)) (sum (take (suc n) (size ∷ sizes))) (sum_by-cons (λ n. n) size (take n sizes))
 section_ends file offset (part ∷ parts) (size ∷ sizes) (suc k) (suc n) lt =
-    if_more (λ s. s.place.offset + s.place.length ≤ offset + size + sum (take n sizes)) (λ s. s.place.offset + s.place.length ≤ offset + (size + sum (take n sizes)))
-    (slice_get (map (placed file) (extents_from (offset + size) parts sizes)) k) (λ s le. omega (arith, le)) (section_ends file (offset + size) parts sizes k n (omega (arith, lt)))
+    let both : sum (take (suc n) (size ∷ sizes)) ≡ size + sum (take n sizes) = sum_by-cons (λ n. n) size (take n sizes) in
+    if_more (λ s. s.place.offset + s.place.length ≤ offset + size + sum (take n sizes)) (λ s. s.place.offset + s.place.length ≤ offset + sum (take (suc n) (size ∷ sizes)))
+    (slice_get (map (placed file) (extents_from (offset + size) parts sizes)) k) (λ s le. omega (arith, le, both)) (section_ends file (offset + size) parts sizes k n (omega (arith, lt)))
 
 pub all_within : (table : Table) (name file : List ℕ) (front : Front) (head : Seen) → length front.sizes ≡ length (sections_of table) → head.sections ≡ map (placed file) (extents_of table name front) → DictionariesEnd table head (head_end table name front)
 all_within table name file front head each sections = λ column lt.

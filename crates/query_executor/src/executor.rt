@@ -1,8 +1,7 @@
 //! The reply to a query over the segments of a table.
-ghost use Rattle.std.specs.Prelude.{◌≡◌, ◌≢◌, ◌≤◌, ◌<◌, false, ℕ, List, [], Ok, Err, IfOk, IfSome, IsErrOf, OnOk, get_or, length};
+ghost use Rattle.std.specs.Prelude.{◌≡◌, ◌≢◌, ◌≤◌, ◌<◌, false, ℕ, [], Ok, Err, IfOk, IfSome, IsErrOf, OnOk, get_or, length};
 ghost use Rattle.std.specs.List.{All};
 ghost use Rattle.outside.specs.Seen.{OnlyReads, seen};
-ghost use Rattle.values.specs.declared.value.Value.{Value};
 ghost use Rattle.table_schema.specs.Unbuilt.{names_unbuilt};
 ghost use Rattle.table_schema.specs.ValidQuery.{IsValidQuery};
 ghost use Rattle.table_schema.specs.ValidTable.{IsValidTable};
@@ -11,7 +10,8 @@ ghost use Rattle.segment_file.specs.Names.{IsSegmentName};
 ghost use Rattle.segment_file.specs.Parts.{IsPlainTable};
 ghost use Rattle.segment_file.specs.declared.part.Part.{Part};
 ghost use Rattle.sql_reply.specs.Reply.{most_groups};
-ghost use Rattle.sql_reply.specs.SqlReply.{IsOfText, sql_reply};
+ghost use Rattle.sql_reply.specs.Asked.{asked};
+ghost use Rattle.sql_reply.specs.SqlReply.{IsOfText};
 ghost use Rattle.sql_reply.specs.declared.fault.SqlFault.{SqlFault};
 ghost use Rattle.sql_reply.specs.declared.fault.SqlFault.TheVariants.{NoMemory, TooManyGroups};
 ghost use Rattle.query_executor.specs.Answers.{IsBoundReply, IsReply};
@@ -21,8 +21,8 @@ ghost use Rattle.query_executor.specs.Steps.{HasGroups, HaveTooMany};
 ghost use Rattle.query_executor.specs.declared.fault.ExecutorFault.TheVariants.{NotASegment, ReadFault, Sql};
 
 use crate::ExecutorFault;
-use crate::segment_fault::fault_at;
 use crate::segment::add_segment;
+use crate::segment_fault::fault_at;
 use group_table::GroupTable;
 use outside::{Bytes, Name, Shelf};
 use sql_reply::{MOST_GROUPS, SqlFault, answer, bound_query};
@@ -50,8 +50,8 @@ pub fn reply_to_query<S: Shelf>(
         IsReply table.now files names.now sql.now (Err fault)) }
     // What is wrong with the query's text is known before anything is read.
     ensures of_text { (fault : SqlFault) → result ≡ Err (Sql fault) → IsOfText fault →
-        (seen S.Shelf shelf.new ≡ seen S.Shelf shelf.old) × ((rows : List (List Value)) →
-        sql_reply table.now false sql.now rows ≡ Err fault) }
+        (seen S.Shelf shelf.new ≡ seen S.Shelf shelf.old)
+        × (asked table.now false sql.now ≡ Err fault) }
     ensures bad { (at : ℕ) (part : Part) → result ≡ Err (NotASegment at part) →
         (at < length names.now) × IfSome (S.held shelf.old) (λ files.
         HasNoImage table.now files (get_or names.now at [])) }

@@ -9,6 +9,7 @@ ghost use Rattle.segment_file.specs.Names.{IsSegmentName};
 ghost use Rattle.segment_file.specs.Parts.{IsPlainTable};
 ghost use Rattle.segment_file.specs.declared.part.Part.{Part};
 ghost use Rattle.sql_reply.specs.Asked.{asked};
+ghost use Rattle.sql_reply.specs.SqlReply.{IsOfText};
 ghost use Rattle.sql_reply.specs.declared.fault.SqlFault.{SqlFault};
 ghost use Rattle.sql_reply.specs.declared.fault.SqlFault.TheVariants.{NoMemory};
 ghost use Rattle.query_executor.specs.Explained.{IsExplained};
@@ -44,7 +45,7 @@ pub fn explain_query<S: Shelf>(
         IsExplained table.now files names.now sql.now (Ok text))) }
     // What is wrong with the query's text is known before anything is read.
     ensures of_text { (fault : SqlFault) → result ≡ Err (Sql fault) → fault ≢ NoMemory →
-        (seen S.Shelf shelf.new ≡ seen S.Shelf shelf.old)
+        IsOfText fault × (seen S.Shelf shelf.new ≡ seen S.Shelf shelf.old)
         × (asked table.now false sql.now ≡ Err fault) }
     ensures bad { (at : ℕ) (part : Part) → result ≡ Err (NotASegment at part) →
         (at < length names.now) × IfSome (S.held shelf.old) (λ files.

@@ -1,23 +1,20 @@
-use Rattle.std.proofs.Common.{◌≡◌, ◌≢◌, ◌∙◌, ◌+◌, ◌<◌, [], ℕ, List, IfSome, Err, length, get_or, refl, sym, ap, subst, arith}
+use Rattle.std.proofs.Common.{◌≡◌, ◌∙◌, ◌<◌, [], ℕ, List, IfSome, Err, length, get_or, sym, ap, subst, arith}
 use Rattle.std.specs.List.{Contains}
-use Rattle.outside.specs.Files.{Files}
-use Rattle.outside.specs.Reads.{Entry}
 use Rattle.outside.specs.Seen.{Seen, seen}
 use Rattle.segment_scan.specs.declared.fault.EngineFault.TheVariants as engine
-use Rattle.sql_reply.specs.declared.fault.SqlFault.{SqlFault}
-use Rattle.query_executor.specs.Logs.{IsHeadRead, LogsHeadOf}
+use Rattle.query_executor.specs.Logs.{IsHeadRead}
 use Rattle.query_executor.specs.Segments.{HasNoImage}
-use Rattle.query_executor.specs.Steps.{AddsLine, fault_at}
+use Rattle.query_executor.specs.Steps.{AddsLine, HasLines, fault_at}
 use Rattle.query_executor.specs.declared.fault.ExecutorFault.TheVariants.{ReadFault}
 use Rattle.query_executor.proofs.FaultLemmas.{bad_so, read_so, wrong_so}
 use Rattle.query_executor.proofs.NameLemmas.{is_named}
 use Rattle.query_executor.proofs.LineLemmas.{lines_more, no_lines}
-use Rattle.query_executor.proofs.LogLemmas.{entries_none, entries_then, heads_more, reads_as, reads_none, reads_then}
+use Rattle.query_executor.proofs.LogLemmas.{entries_none, heads_more, reads_as, reads_none, reads_then}
 use Rattle.query_executor.proofs.explain.explain_bound.Goals as goal
 
 pub names-init : goal.names-init
 names-init g c = record {
-  so_far = no_lines c.args.query.now c.args.table.now c.args.names.now (g.S.Shelf.held c.args.shelf.now);
+  so_far = subst (HasLines c.args.query.now c.args.table.now (g.S.Shelf.held c.args.shelf.now) c.args.names.now 0) (sym c.new-text.ensures.items) (no_lines c.args.query.now c.args.table.now c.args.names.now (g.S.Shelf.held c.args.shelf.now));
   reads = reads_none (seen g.S.Shelf c.args.shelf.now);
   log = entries_none (λ entry. (name : List ℕ) × Contains c.args.names.now name × IsHeadRead c.args.table.now (g.S.Shelf.held c.args.shelf.now) name entry) (g.S.Shelf.log c.args.shelf.now);
 }
@@ -76,7 +73,11 @@ returns-in-Err-clause-log g c =
     c.names.invariant.reads.held c.names.invariant.log c.in-Err.ensures.log
 
 pub returns-clause-lines : goal.returns-clause-lines
-returns-clause-lines g c = ?
+returns-clause-lines g c =
+    let names : List (List ℕ) = c.args.names.now in
+    let done : c.names.at ≡ length names = omega arith in
+    subst (HasLines c.args.query.now c.args.table.now (g.S.Shelf.held c.args.shelf.now) names (length names)) (sym c.from_vec.ensures)
+    (subst (λ k. HasLines c.args.query.now c.args.table.now (g.S.Shelf.held c.args.shelf.now) names k c.names.text.items) done c.names.invariant.so_far)
 
 pub returns-clause-only_reads : goal.returns-clause-only_reads
 returns-clause-only_reads g c = reads_as (seen g.S.Shelf c.args.shelf.now) (seen g.S.Shelf c.names.shelf) c.names.invariant.reads (λ e. absurd cc) (λ e. absurd e)

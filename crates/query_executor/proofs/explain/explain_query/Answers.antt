@@ -1,4 +1,5 @@
-use Rattle.std.proofs.Common.{◌≡◌, ◌∙◌, ℕ, List, Ok, Err, IfSome, length, refl, sym, ap}
+use Rattle.std.proofs.Common.{◌≡◌, ◌∙◌, false, ℕ, List, Ok, Err, IfSome, length, refl, sym, ap}
+use Rattle.sql_reply.proofs.AskedLemmas.{unasked_text}
 use Rattle.query_executor.specs.Explained.{IsExplained}
 use Rattle.query_executor.specs.Steps.{HasLines}
 use Rattle.query_executor.proofs.LineLemmas.{all_explained}
@@ -22,4 +23,5 @@ returns-in-Ok-clause-of_text g c = λ fault is real. absurd (real (c.explain_bou
 pub returns-in-Err-clause-of_text : goal.returns-in-Err-clause-of_text
 returns-in-Err-clause-of_text g c = λ fault is real.
     let same : c.in-Err.fault ≡ fault = cc in
-    (refl, c.in-Err.ensures.asked (λ e. real (sym same ∙ e)) ∙ ap Err same)
+    let asked_so = c.in-Err.ensures.asked (λ e. real (sym same ∙ e)) ∙ ap Err same in
+    (unasked_text c.args.table.now false c.args.sql.now fault asked_so real, refl, asked_so)

@@ -1,5 +1,4 @@
-use Rattle.std.proofs.Common.{◌≡◌, ◌∙◌, ◌<◌, ℕ, false, IfSome, List, length, get_or, sym, subst, arith}
-use Rattle.std.proofs.lemmas.List.{get_or_read}
+use Rattle.std.proofs.Common.{◌<◌, false, IfSome, length, get_or, sym, subst, arith}
 use Rattle.outside.specs.Seen.{Seen, seen}
 use Rattle.segment_file.specs.Heads.{AreIn}
 use Rattle.query_executor.specs.Logs.{EndsBy}

@@ -1,4 +1,4 @@
-use Rattle.std.proofs.Common.{◌≡◌, ◌∙◌, Err, refl, sym, ap}
+use Rattle.std.proofs.Common.{◌≡◌, ◌∙◌, Err, sym, ap}
 use Rattle.segment_scan.specs.declared.fault.EngineFault.TheVariants as engine
 use Rattle.query_executor.proofs.NamedLemmas.{conjuncts_loaded}
 use Rattle.query_executor.proofs.PlanLemmas.{is_empty_so, is_pruned_so, scan_planned}
