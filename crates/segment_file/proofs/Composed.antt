@@ -157,7 +157,7 @@ extents_count offset [] sizes each = refl
 extents_count offset (p ∷ ps) [] each = absurd (omega arith)
 extents_count offset (p ∷ ps) (size ∷ sizes) each = omega (arith, extents_count (offset + size) ps sizes (omega arith))
 
-unmapped : {X Y : Type 0} (P : X → Type 0) (f : Y → X) (ys : List Y) → All P (map f ys) → All (λ y. P (f y)) ys
+pub unmapped : {X Y : Type 0} (P : X → Type 0) (f : Y → X) (ys : List Y) → All P (map f ys) → All (λ y. P (f y)) ys
 unmapped P f [] all = All-nil (λ y. P (f y))
 unmapped P f (y ∷ ys) all = All-cons (λ y. P (f y)) y ys (All-head P (f y) (map f ys) all) (unmapped P f ys (All-tail P (f y) (map f ys) all))
 

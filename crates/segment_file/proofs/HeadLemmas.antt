@@ -1,6 +1,6 @@
 -- The dictionaries of a head, and the sizes of the sections after it, one after the other.
-use Rattle.std.proofs.Common.{◌≡◌, ◌∙◌, ◌<◌, ◌≤◌, ◌+◌, ℕ, zero, suc, All, List, [], ◌∷◌, ◌++◌, length, get_or, take, refl, sym, ap, subst, arith, length-take}
-use Rattle.std.proofs.lemmas.List.{get_or-map, get_or-take, take_more}
+use Rattle.std.proofs.Common.{◌≡◌, ◌∙◌, ◌<◌, ◌≤◌, ◌+◌, ℕ, zero, suc, All, List, [], ◌∷◌, ◌++◌, length, map, get_or, take, refl, sym, ap, subst, arith, length-take}
+use Rattle.std.proofs.lemmas.List.{get_or-map, get_or-take, map-append, take_more}
 use Rattle.std.proofs.lemmas.List.Elements.{All-push}
 use Rattle.std.proofs.lemmas.Option.{slice_get-get_or}
 use Rattle.std.specs.List.{AllZip, range_with_len}
@@ -9,7 +9,7 @@ use Rattle.table_schema.specs.declared.table.Table.{Table}
 use Rattle.dictionary.specs.Dictionary.{Distinct}
 use Rattle.segment_file.specs.declared.section.Section.{Section}
 use Rattle.segment_file.specs.Image.{kind_at, kind_or}
-use Rattle.segment_file.specs.Reading.{FitsSize, SizeFails, bytes_of_section, heads_of, heads_read}
+use Rattle.segment_file.specs.Reading.{FitsSize, SizeFails, bytes_of_section, count_at, heads_of, heads_read}
 use Rattle.segment_file.specs.Rules.{AreSpelled, IsSpelled, dictionary_in}
 
 pub heads_at : (bytes : List ℕ) (sections : List Section) (count i : ℕ) (s : Section) → i < count → i < length sections → s ≡ get_or sections i s → get_or (heads_of count sections bytes) i [] ≡ bytes_of_section bytes s
@@ -45,6 +45,21 @@ spelled_more table rows bytes here sections column f s ds d lt many field sectio
     let at : here ≡ dictionary_in heads column = bytes_are ∙ sym (heads_at bytes sections (length table.schema.fields + 1 + length table.settings.trees) (column + 1) s (omega arith) (omega arith) section) in
     let now : R column d = subst (λ b. IsSpelled (kind_at table column) rows b d) at (subst (λ k. IsSpelled k rows here d) kind one) in
     subst (λ cs. AllZip R cs (ds ++ d ∷ [])) (sym (ranges_push column)) (zip_push R (range_with_len 0 column) ds column d so_far now)
+
+-- ---- counts
+
+pub counted_at : (ds : List Distinct) (owner : ℕ) (d : Distinct) → owner < length ds → d ≡ get_or ds owner d → count_at ds owner ≡ length d.values
+counted_at ds owner d lt is = ap length (get_or-map (λ x. x.values) ds owner d [] lt ∙ ap (λ x. x.values) (sym is))
+
+-- one more column is counted
+pub counts_more : (ds : List Distinct) (columns : List ℕ) (i c n : ℕ) (old new : List ℕ) → i < length columns → c ≡ get_or columns i c → n ≡ count_at ds c → old ≡ map (count_at ds) (take i columns) → new ≡ old ++ n ∷ []
+    → new ≡ map (count_at ds) (take (i + 1) columns)
+counts_more ds columns i c n old new lt is number so_far new_is =
+    let one : n ≡ count_at ds (get_or columns i c) = number ∙ ap (count_at ds) is in
+    new_is
+    ∙ (λ j. so_far j ++ one j ∷ [])
+    ∙ sym (map-append (count_at ds) (take i columns) (get_or columns i c ∷ []))
+    ∙ ap (map (count_at ds)) (sym (take_more columns i c lt))
 
 -- ---- sizes
 

@@ -11,3 +11,5 @@ mod ImageRows
 mod ImageSizes
 pub mod ImageKeeps
 pub mod ImageTells
+pub mod TreeRows
+mod TailSizes

@@ -1,5 +1,5 @@
 //! The nodes of a tree of a head that is open are loaded.
-ghost use Rattle.std.specs.Prelude.{◌≡◌, ◌<◌, ◌≤◌, ◌+◌, ◌++◌, ◌∷◌, [], IfOk, IfErr, IfSome, MatchBool, OnErr, OnOk, IsErrOf, Some, length, slice_get};
+ghost use Rattle.std.specs.Prelude.{◌≡◌, ◌<◌, ◌≤◌, ◌+◌, ◌++◌, ◌∷◌, [], IfOk, IfErr, IfSome, MatchOption, OnErr, OnOk, IsErrOf, None, Some, length, slice_get};
 ghost use Rattle.outside.specs.Seen.{OnlyReads, seen};
 ghost use Rattle.table_schema.specs.ValidTable.{IsValidTable};
 ghost use Rattle.segment_file.specs.Heads.{AreNodesLoaded, HaveCounts, IsHeadOf, IsPartOf, LoadsNodes, LogsCounts, LogsTree, OfWhole, nodes_section, split_of, with_nodes};
@@ -38,7 +38,7 @@ impl Head {
         ensures loaded { AreNodesLoaded self.old tree →
             (self.new ≡ self.old) × (S.log shelf.new ≡ S.log shelf.old) }
     {
-        if self.has_nodes(tree) {
+        if self.loaded_nodes(tree).is_some() {
             return Ok(());
         }
         let nodes = match self.read_nodes(alloc, shelf, table, tree) {
@@ -118,13 +118,17 @@ impl Head {
         Ok(counts)
     }
 
-    // Whether the nodes of a tree were loaded.
-    fn has_nodes(&self, tree: u8) -> bool
+    // What was loaded of a tree, if it was.
+    fn loaded_nodes(&self, tree: u8) -> Option<&TreeNodes>
         requires { tree < length self.now.trees }
-        ensures { MatchBool result (AreNodesLoaded self.now tree)
-            (¬ AreNodesLoaded self.now tree) }
+        ensures { MatchOption result
+            (slice_get self.now.trees tree ≡ Some None)
+            (λ t. slice_get self.now.trees tree ≡ Some (Some t.now)) }
     {
-        self.trees[tree as usize].is_some()
+        match &self.trees[tree as usize] {
+            Some(nodes) => Some(nodes),
+            None => None,
+        }
     }
 
     // Keeps the nodes of a tree.
