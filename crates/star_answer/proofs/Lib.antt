@@ -1,3 +1,7 @@
 pub mod WeightSteps
 pub mod TakeSteps
 pub mod PassSteps
+pub mod FaultSteps
+pub mod ReadSteps
+pub mod EntryLemmas
+pub mod MergeSteps

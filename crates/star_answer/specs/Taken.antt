@@ -67,6 +67,7 @@ pub record IsTaken (shape : TreeShape) (asked : Asked) (rows : ℕ) (table : Doc
 pub record ArePicked (tree : TreePart) (task : Task) (asked : Asked) (rows : ℕ)
     (held : Option Files) (ps : List Pick) (table : Docs) : Type 0 where
   pub read : List (List Doc)
+  pub each : length read ≡ length ps
   pub told : TellsRead tree held ps read
   pub docs_are : table.docs
       ≡ taken_docs asked (passed (asked_of task) (length task.matched) ps read)

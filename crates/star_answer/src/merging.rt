@@ -28,6 +28,7 @@ pub fn merge_documents(
 ) -> Result<(), TableFault>
     requires few { length taken.docs ≤ most_stored }
     requires dims { taken.dims ≡ length columns.now }
+    requires few_columns { length columns.now ≤ 16 }
     requires keyed { All (λ e. AreKeyIds columns.now e.0) taken.docs }
     requires light { weights row_weight taken.docs ≤ most_stored }
     requires few_kinds { length taken.kinds ≤ 16 }
@@ -63,7 +64,9 @@ fn merge_last(
 ) -> Result<(), TableFault>
     requires few { length taken.now.docs < 2 ^ 32 }
     requires dims { taken.now.dims ≡ length columns.now }
-    requires keyed { All (λ e. AreKeyIds columns.now e.0) taken.now.docs }
+    requires few_columns { length columns.now ≤ 16 }
+    requires from { from ≤ length taken.now.docs }
+    requires keyed { All (λ e. AreKeyIds columns.now e.0) (drop from taken.now.docs) }
     requires light { weights row_weight (drop from taken.now.docs) ≤ most_stored }
     requires few_kinds { length taken.now.kinds ≤ 16 }
     requires columns { groups.old.columns ≡ length columns.now }

@@ -1,0 +1,75 @@
+use Rattle.std.proofs.Common.{◌≡◌, ◌∙◌, ◌<◌, ◌≤◌, ◌-◌, ◌++◌, List, ℕ, drop, length, ap, sym, subst, arith}
+use Rattle.std.proofs.lemmas.Result.{on_ok_weaker}
+use Rattle.agg_laws.specs.Docs.{Doc, Docs}
+use Rattle.agg_laws.specs.Numbers.{most_values}
+use Rattle.agg_laws.specs.Rows.{merged_rows, row_weight}
+use Rattle.agg_laws.specs.Merged.{weights}
+use Rattle.agg_laws.specs.Tree.{merged_docs}
+use Rattle.group_table.specs.Kept.{groups_in}
+use Rattle.scan_engine.proofs.AddLemmas.{at_most_more}
+use Rattle.star_answer.proofs.MergeSteps as steps
+use Rattle.star_answer.proofs.merging.merge_documents.Goals as goal
+
+pub merge_last-requires-clause-few : goal.merge_last-requires-clause-few
+merge_last-requires-clause-few c =
+    let docs = c.args.taken.docs in
+    let before = ap (λ (t : Docs). t.docs) c.in_ok-reserve.ensures.ok in
+    let all = ap (λ (t : Docs). t.docs) c.in_ok-append_merged.ensures.ok in
+    let long = steps.merged_long docs c.reserve.new.self.docs c.append_merged.new.self.docs
+    c.len-count.result c.len-count.ensures.count before all in
+    omega (arith, long, c.requires.few)
+
+pub merge_last-requires-clause-keyed : goal.merge_last-requires-clause-keyed
+merge_last-requires-clause-keyed c =
+    let docs = c.args.taken.docs in
+    let before = ap (λ (t : Docs). t.docs) c.in_ok-reserve.ensures.ok in
+    let all = ap (λ (t : Docs). t.docs) c.in_ok-append_merged.ensures.ok in
+    let rest = steps.merged_rest docs c.reserve.new.self.docs c.append_merged.new.self.docs
+    c.len-count.result c.len-count.ensures.count before all in
+    steps.rest_keyed c.args.columns.now docs (drop c.len-count.result
+    c.append_merged.new.self.docs) rest c.requires.keyed
+
+pub merge_last-requires-clause-light : goal.merge_last-requires-clause-light
+merge_last-requires-clause-light c =
+    let docs = c.args.taken.docs in
+    let before = ap (λ (t : Docs). t.docs) c.in_ok-reserve.ensures.ok in
+    let all = ap (λ (t : Docs). t.docs) c.in_ok-append_merged.ensures.ok in
+    let rest = steps.merged_rest docs c.reserve.new.self.docs c.append_merged.new.self.docs
+    c.len-count.result c.len-count.ensures.count before all in
+    let light = steps.rest_light c.args.columns.now docs (drop c.len-count.result
+    c.append_merged.new.self.docs) rest in
+    omega (arith, light, c.requires.light)
+
+pub merge_last-requires-clause-fits : goal.merge_last-requires-clause-fits
+merge_last-requires-clause-fits c =
+    let docs = c.args.taken.docs in
+    let before = ap (λ (t : Docs). t.docs) c.in_ok-reserve.ensures.ok in
+    let all = ap (λ (t : Docs). t.docs) c.in_ok-append_merged.ensures.ok in
+    let rest = steps.merged_rest docs c.reserve.new.self.docs c.append_merged.new.self.docs
+    c.len-count.result c.len-count.ensures.count before all in
+    let light = steps.rest_light c.args.columns.now docs (drop c.len-count.result
+    c.append_merged.new.self.docs) rest in
+    at_most_more (groups_in c.args.groups.now) (most_values - weights row_weight docs)
+    (most_values - weights row_weight (drop c.len-count.result c.append_merged.new.self.docs))
+    (omega (arith, light)) c.requires.fits
+
+pub returns-clause-ok : goal.returns-clause-ok
+returns-clause-ok c =
+    let docs = c.args.taken.docs in
+    let before = ap (λ (t : Docs). t.docs) c.in_ok-reserve.ensures.ok in
+    let all = ap (λ (t : Docs). t.docs) c.in_ok-append_merged.ensures.ok in
+    let rest = steps.merged_rest docs c.reserve.new.self.docs c.append_merged.new.self.docs
+    c.len-count.result c.len-count.ensures.count before all in
+    on_ok_weaker c.merge_last.result (steps.rest_merges c.args.columns.now docs
+    (drop c.len-count.result c.append_merged.new.self.docs) rest c.args.groups.now
+    c.merge_last.new.groups) c.merge_last.ensures.ok
+
+pub returns-clause-full : goal.returns-clause-full
+returns-clause-full c is =
+    let docs = c.args.taken.docs in
+    let before = ap (λ (t : Docs). t.docs) c.in_ok-reserve.ensures.ok in
+    let all = ap (λ (t : Docs). t.docs) c.in_ok-append_merged.ensures.ok in
+    let rest = steps.merged_rest docs c.reserve.new.self.docs c.append_merged.new.self.docs
+    c.len-count.result c.len-count.ensures.count before all in
+    steps.rest_over c.args.columns.now docs (drop c.len-count.result
+    c.append_merged.new.self.docs) rest c.args.groups.now (c.merge_last.ensures.full is)

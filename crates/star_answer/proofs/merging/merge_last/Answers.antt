@@ -1,0 +1,89 @@
+use Rattle.std.proofs.Common.{◌≡◌, ◌∙◌, ◌<◌, ◌≤◌, ◌-◌, List, ℕ, drop, length, ap, sym, subst, arith}
+use Rattle.agg_laws.specs.declared.states.AggState.{AggState}
+use Rattle.agg_laws.specs.Rows.{RowFits, RowStored, kinds_of, row_weight}
+use Rattle.agg_laws.specs.Docs.{Doc, doc_at}
+use Rattle.agg_laws.specs.Merged.{weights}
+use Rattle.agg_laws.proofs.RegionSteps.{shape_at, stored_at}
+use Rattle.group_table.specs.Kept.{HaveValues}
+use Rattle.scan_engine.proofs.AddLemmas.{merged_within}
+use Rattle.scan_engine.proofs.RunLemmas.{same_fault}
+use Rattle.star_answer.specs.Taken.{keyed}
+use Rattle.star_answer.proofs.MergeSteps as steps
+use Rattle.star_answer.proofs.MergeSteps.{upto}
+use Rattle.star_answer.proofs.merging.merge_last.Goals as goal
+
+pub key_at-requires-clause-ids : goal.key_at-requires-clause-ids
+key_at-requires-clause-ids c =
+    let docs = c.args.taken.now.docs in
+    let at = c.loop-at.at in
+    let lt : at < length docs = omega (arith, c.loop-at-test.true, c.len-at-end.ensures.count) in
+    let le : c.args.from ≤ at = omega (arith, c.loop-at.auto.at) in
+    steps.key_there docs c.args.from at le lt c.args.columns.now c.requires.keyed
+
+pub merge_row-requires-clause-key : goal.merge_row-requires-clause-key
+merge_row-requires-clause-key c =
+    let docs = c.args.taken.now.docs in
+    let at = c.loop-at.at in
+    let lt : at < length docs = omega (arith, c.loop-at-test.true, c.len-at-end.ensures.count) in
+    let le : c.args.from ≤ at = omega (arith, c.loop-at.auto.at) in
+    ap length c.in_ok-key.ensures
+    ∙ steps.length_key c.args.columns.now (doc_at docs at).0
+    (steps.key_there docs c.args.from at le lt c.args.columns.now c.requires.keyed)
+    ∙ sym (c.loop-at.invariant.columns ∙ c.requires.columns)
+
+pub merge_row-requires-clause-kinds : goal.merge_row-requires-clause-kinds
+merge_row-requires-clause-kinds c =
+    let t = c.args.taken.now in
+    let at = c.loop-at.at in
+    let lt : at < length t.docs = omega (arith, c.loop-at-test.true, c.len-at-end.ensures.count) in
+    ap kinds_of c.in_ok-states.ensures
+    ∙ (shape_at t.dims t.kinds t.docs at c.len-at-end.ensures.shape lt).1
+    ∙ sym (c.loop-at.invariant.kinds ∙ c.requires.kinds)
+
+pub merge_row-requires-clause-values : goal.merge_row-requires-clause-values
+merge_row-requires-clause-values c some =
+    let docs = c.args.taken.now.docs in
+    let at = c.loop-at.at in
+    let lt : at < length docs = omega (arith, c.loop-at-test.true, c.len-at-end.ensures.count) in
+    subst HaveValues (sym c.in_ok-states.ensures) (steps.values_stored (doc_at docs at).1
+    (stored_at docs at c.len-at-end.ensures.stored lt))
+
+pub merge_row-requires-clause-fits : goal.merge_row-requires-clause-fits
+merge_row-requires-clause-fits c =
+    let docs = c.args.taken.now.docs in
+    let from = c.args.from in
+    let at = c.loop-at.at in
+    let lt : at < length docs = omega (arith, c.loop-at-test.true, c.len-at-end.ensures.count) in
+    let le : from ≤ at = omega (arith, c.loop-at.auto.at) in
+    let e = doc_at docs at in
+    let es = keyed c.args.columns.now (upto docs from at) in
+    let fits : RowFits c.in_ok-states.states (row_weight e.1) =
+    subst (λ (s : List AggState). RowFits s (row_weight e.1)) (sym c.in_ok-states.ensures)
+    (steps.fits_stored e.1 (stored_at docs at c.len-at-end.ensures.stored lt)) in
+    merged_within _ c.in_ok-key.key c.in_ok-states.states (row_weight e.1)
+    (steps.few_there docs from at le lt c.requires.light)
+    (steps.room_there docs from at le lt es c.args.groups.now c.loop-at.groups c.requires.light
+    c.requires.fits c.loop-at.invariant) fits
+
+pub returns-in-Err-clause-full : goal.returns-in-Err-clause-full
+returns-in-Err-clause-full c is =
+    let docs = c.args.taken.now.docs in
+    let from = c.args.from in
+    let at = c.loop-at.at in
+    let lt : at < length docs = omega (arith, c.loop-at-test.true, c.len-at-end.ensures.count) in
+    let le : from ≤ at = omega (arith, c.loop-at.auto.at) in
+    let full = c.merge_row.ensures.full.0 (c.in-Err.is ∙ same_fault _ _ is) in
+    steps.no_room_there docs from at le lt c.args.columns.now c.in_ok-key.key c.args.groups.now
+    c.loop-at.groups c.in_ok-key.ensures c.loop-at.invariant full.0 full.1
+
+pub loop-at-preserved : goal.loop-at-preserved
+loop-at-preserved c =
+    let docs = c.args.taken.now.docs in
+    let from = c.args.from in
+    let at = c.loop-at.at in
+    let lt : at < length docs = omega (arith, c.loop-at-test.true, c.len-at-end.ensures.count) in
+    let le : from ≤ at = omega (arith, c.loop-at.auto.at) in
+    steps.merged_more docs from at le lt c.args.columns.now c.in_ok-key.key c.in_ok-states.states
+    c.args.groups.now c.loop-at.groups c.merge_row.new.self c.in_ok-key.ensures
+    c.in_ok-states.ensures (stored_at docs at c.len-at-end.ensures.stored lt) c.loop-at.invariant
+    c.in_default.ensures.ok
