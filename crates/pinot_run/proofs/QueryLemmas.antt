@@ -11,7 +11,9 @@ use Rattle.sql_reply.specs.Asked.{asked}
 use Rattle.sql_reply.specs.SqlReply.{IsOfText}
 use Rattle.sql_reply.specs.declared.fault.SqlFault.{SqlFault}
 use Rattle.sql_reply.specs.declared.fault.SqlFault.TheVariants as query
-use Rattle.query_executor.specs.Logs.{IsFileOf, LogsOf}
+use Rattle.query_executor.specs.Explained.{in_order, lines_or}
+use Rattle.query_executor.specs.Logs.{IsFileOf, IsHeadRead, LogsHeadsOf, LogsOf}
+use Rattle.std.specs.List.{Contains}
 use Rattle.query_executor.specs.Segments.{HasNoImage}
 use Rattle.query_executor.specs.declared.fault.ExecutorFault.{ExecutorFault}
 use Rattle.query_executor.specs.declared.fault.ExecutorFault.TheVariants as executor
@@ -19,7 +21,7 @@ use Rattle.table_store.specs.Segments.{AreFirstNames}
 use Rattle.pinot_run.specs.Command.{Ask}
 use Rattle.pinot_run.specs.Gives.{AnswersQuery, IsQueryStop, IsSegmentStop, LooksFor, NamesOneOf, StopsQuery, StopsStore, sql_stop}
 use Rattle.pinot_run.specs.Notes.{sql_note}
-use Rattle.pinot_run.specs.Profile.{Opens, TableFile, StoreFiles, makes_groups, query_refuses, sql_refuses}
+use Rattle.pinot_run.specs.Profile.{TableFile, StoreFiles, makes_groups, query_refuses, sql_refuses}
 use Rattle.pinot_run.specs.Queried.{HasNoReply, HasReply, IsFaultOf, IsQueried, QueryRefuses}
 use Rattle.pinot_run.specs.Ran.{Acted, Caused, Finds, IsAllowed, Over, Queries, Ran}
 use Rattle.pinot_run.specs.Step.{Answer, Refuses, Replies}
@@ -27,6 +29,7 @@ use Rattle.pinot_run.specs.Stored.{HasTableFile, TableRefuses, part_text}
 use Rattle.pinot_run.specs.Touched.{IsStoreFile, LogsOpened}
 use Rattle.pinot_run.specs.World.{Devices}
 use Rattle.pinot_run.specs.declared.about.About.{About}
+use Rattle.pinot_run.specs.declared.about.About.TheVariants.{Plans}
 use Rattle.pinot_run.specs.declared.fault.Fault.TheVariants as fault
 use Rattle.pinot_run.specs.declared.note.Note.{Note}
 use Rattle.pinot_run.specs.declared.note.Note.TheVariants as note
@@ -94,6 +97,11 @@ same_found a b c table names same next has are =
 store_file : (names : List (List ℕ)) (file : List ℕ) → All IsSegmentName names → IsFileOf names file → IsStoreFile file
 store_file names file named (name, among, is) = inr (name, All-contains IsSegmentName names name named among, is)
 
+-- reads of the heads of segments are of their files
+pub heads_of : (table : Table) (held : Option Files) (names : List (List ℕ)) (old new : Option (List Entry)) → LogsHeadsOf table held names old new → LogsOf names old new
+heads_of table held names old new (entries, is, each) =
+    (entries, is, weaker (λ entry. (name : List ℕ) × Contains names name × IsHeadRead table held name entry) (λ entry. IsFileOf names entry.file) entries (λ entry of. (of.0, of.1, of.2.file_is)) each)
+
 names_opened : (names : List (List ℕ)) (old new : Option (List Entry)) → All IsSegmentName names → LogsOf names old new → LogsOpened StoreFiles old new
 names_opened names old new named (entries, is, each) =
     (entries, is, weaker (λ entry. IsFileOf names entry.file) (λ entry. IsStoreFile entry.file) entries (λ entry of. store_file names entry.file named of) each)
@@ -130,18 +138,22 @@ module _ (about : About) (table : Table) (names : List (List ℕ)) (sql : List �
   always : (wrong : SqlFault) → (IsOfText wrong → asked table false sql ≡ Err wrong) → IsOfText wrong → IfSome a.held (λ files. asked table false sql ≡ Err wrong)
   always wrong by of = told_all a.held (λ files. asked table false sql ≡ Err wrong) (λ files. by of)
 
+  -- only a query that makes groups has too many
+  with_groups : (most : ℕ) → IsOfText (query.TooManyGroups most) ⊎ (makes_groups about ≡ true) → makes_groups about ≡ true
+  with_groups most (inl of) = absurd of
+  with_groups most (inr groups) = groups
+
   -- the query has no reply
   faulty : (wrong : SqlFault) → OnlyReads (IsErrOf (Unanswered (executor.Sql wrong)) executor.ReadFault) a b → (wrong ≢ query.NoMemory → IfSome a.held (λ files. HasReply about table files names sql (Err wrong)))
-      → (IsOfText wrong → asked table false sql ≡ Err wrong) → (IsOfText wrong ⊎ (makes_groups about ≡ true)) → AnswersQuery about sql a b (Err (sql_stop wrong))
+      → (IsOfText wrong → asked table false sql ≡ Err wrong) → (wrong ≢ query.NoMemory → IsOfText wrong ⊎ (makes_groups about ≡ true)) → AnswersQuery about sql a b (Err (sql_stop wrong))
   faulty (query.LongQuery most) reads reply by of =
       stopped (stop.Refused (sql_note (query.LongQuery most))) reads (λ e. absurd cc) (λ e. absurd cc) (refl, no_reply (query.LongQuery most) (always (query.LongQuery most) by tt))
   faulty (query.BadQuery wrong place) reads reply by of =
       stopped (stop.Refused (sql_note (query.BadQuery wrong place))) reads (λ e. absurd cc) (λ e. absurd cc) (refl, no_reply (query.BadQuery wrong place) (always (query.BadQuery wrong place) by tt))
   faulty (query.Unbound wrong place) reads reply by of =
       stopped (stop.Refused (sql_note (query.Unbound wrong place))) reads (λ e. absurd cc) (λ e. absurd cc) (refl, no_reply (query.Unbound wrong place) (always (query.Unbound wrong place) by tt))
-  faulty (query.TooManyGroups most) reads reply by (inl of) = absurd of
-  faulty (query.TooManyGroups most) reads reply by (inr groups) =
-      stopped (stop.Refused (sql_note (query.TooManyGroups most))) reads (λ e. absurd cc) (λ e. absurd cc) (groups, no_reply (query.TooManyGroups most) (reply (λ e. cc)))
+  faulty (query.TooManyGroups most) reads reply by of =
+      stopped (stop.Refused (sql_note (query.TooManyGroups most))) reads (λ e. absurd cc) (λ e. absurd cc) (with_groups most (of (λ e. cc)), no_reply (query.TooManyGroups most) (reply (λ e. cc)))
   faulty query.NoMemory reads reply by of = stopped (stop.Fault fault.Memory) reads (λ e. absurd cc) (λ e. absurd cc) tt
 
   -- the file of a segment is no image
@@ -162,13 +174,21 @@ module _ (about : About) (table : Table) (names : List (List ℕ)) (sql : List �
       → ((wrong : SqlFault) → Unanswered f ≡ Unanswered (executor.Sql wrong) → wrong ≢ query.NoMemory → IfSome a.held (λ files. HasReply about table files names sql (Err wrong)))
       → ((wrong : SqlFault) → Unanswered f ≡ Unanswered (executor.Sql wrong) → IsOfText wrong → asked table false sql ≡ Err wrong)
       → ((at : ℕ) (part : Part) → Unanswered f ≡ Unanswered (executor.NotASegment at part) → (at < length names) × IfSome a.held (λ files. HasNoImage table files (get_or names at [])))
-      → ((wrong : SqlFault) → Unanswered f ≡ Unanswered (executor.Sql wrong) → IsOfText wrong ⊎ (makes_groups about ≡ true))
+      → ((wrong : SqlFault) → Unanswered f ≡ Unanswered (executor.Sql wrong) → wrong ≢ query.NoMemory → IsOfText wrong ⊎ (makes_groups about ≡ true))
       → AnswersQuery about sql a b (Err s)
   query_stopped (executor.Sql wrong) s is reads reply by bad of = subst (λ w. AnswersQuery about sql a b (Err w)) (sym is) (faulty wrong reads (reply wrong refl) (by wrong refl) (of wrong refl))
   query_stopped (executor.NotASegment at part) s is reads reply by bad of = no_image at part s is reads (λ e. cc) (bad at part refl)
   query_stopped executor.ReadFault s is reads reply by bad of = subst (λ w. AnswersQuery about sql a b (Err w)) (sym is) (stopped (stop.Fault fault.Read) reads (λ e. refl) (λ e. refl) tt)
 
--- ---- the clause of `query`
+-- what is wrong with a text is said of its plans
+pub plans_wrong : (table : Table) (names : List (List ℕ)) (sql : List ℕ) (held : Option Files) (wrong : SqlFault) → asked table false sql ≡ Err wrong → IfSome held (λ files. HasReply Plans table files names sql (Err wrong))
+plans_wrong table names sql held wrong is =
+    told_all held (λ files. HasReply Plans table files names sql (Err wrong)) (λ files segments images. ap (lines_or table names (in_order table segments)) is)
+
+pub text_real : (wrong : SqlFault) → IsOfText wrong → wrong ≢ query.NoMemory
+text_real wrong text = λ e. subst IsOfText e text
+
+-- ---- the clause of the commands
 
 caused_query : (inputs stored : Option Files) (about : About) (sql : List ℕ) (line : Note) → query_refuses about line ≡ true → IfSome stored (λ files. QueryRefuses about sql files line) → Caused (Some (Ask about sql)) inputs stored line
 caused_query inputs stored about sql note.BadWords e h = absurd cc

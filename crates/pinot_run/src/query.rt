@@ -27,12 +27,7 @@ use table_schema::Table;
 
 /// The reply to `query`, or to `explain`, by what the query's text is asked for. The text is looked at
 /// before the file of any segment.
-pub fn ask<D: Depot>(
-    alloc: Global,
-    about: About,
-    sql: &str,
-    depot: &mut D,
-) -> Result<Bytes, Stop>
+pub fn ask<D: Depot>(alloc: Global, about: About, sql: &str, depot: &mut D) -> Result<Bytes, Stop>
     ensures { (inputs : Seen) → Ran (Some (Ask about sql.now))
         (record { inputs = inputs; depot = seen D.Shelf depot.old })
         (record { inputs = inputs; depot = seen D.Shelf depot.new }) result }
