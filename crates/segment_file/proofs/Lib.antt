@@ -12,4 +12,4 @@ mod ImageSizes
 pub mod ImageKeeps
 pub mod ImageTells
 pub mod TreeRows
-mod TailSizes
+mod TreeChecks
