@@ -13,3 +13,4 @@ pub mod ImageKeeps
 pub mod ImageTells
 pub mod TreeRows
 mod TreeChecks
+mod TreeSteps
