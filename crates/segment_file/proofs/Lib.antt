@@ -14,3 +14,4 @@ pub mod ImageTells
 pub mod TreeRows
 mod TreeChecks
 mod TreeSteps
+pub mod ImageTrees
