@@ -119,7 +119,7 @@ module _ (table : Table) (name : List ℕ) (os : List (List Value)) (few : lengt
       spelled_count (dictionary_in (heads_in table name (front_of 1 table os) (file_of_rows 1 table name os)) column) (dictionary_of table os column) (omega (arith, limit)) is.spelled
 
   -- the nodes of a tree are the section of the head that is said to be theirs
-  nodes-are : (t : ℕ) → t < length table.settings.trees → nodes_in table (heads_in table name (front_of 1 table os) (file_of_rows 1 table name os)) t ≡ section_of table os (parts.Nodes t)
+  pub nodes-are : (t : ℕ) → t < length table.settings.trees → nodes_in table (heads_in table name (front_of 1 table os) (file_of_rows 1 table name os)) t ≡ section_of table os (parts.Nodes t)
   nodes-are t lt =
       let n : ℕ = length table.schema.fields in
       let m : ℕ = length table.settings.trees in
@@ -142,7 +142,7 @@ module _ (table : Table) (name : List ℕ) (os : List (List Value)) (few : lengt
       (λ i. here i ∷ more i)
 
   module _ (valid : IsValidTable table) (fits : All (TreeFits os) table.settings.trees) where
-    tree-there : (t : ℕ) → t < length table.settings.trees → TreeThere table.schema.fields os table.settings.trees t
+    pub tree-there : (t : ℕ) → t < length table.settings.trees → TreeThere table.schema.fields os table.settings.trees t
     tree-there = there table os valid (omega (arith, few)) each fits
 
     has-nodes : (t : ℕ) → t < length table.settings.trees → HasNodes table (length os) (heads_in table name (front_of 1 table os) (file_of_rows 1 table name os)) t

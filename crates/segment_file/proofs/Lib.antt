@@ -12,4 +12,6 @@ mod ImageSizes
 pub mod ImageKeeps
 pub mod ImageTells
 pub mod TreeRows
-mod TailSizes
+mod TreeChecks
+mod TreeSteps
+pub mod ImageTrees

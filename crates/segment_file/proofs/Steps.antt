@@ -87,39 +87,54 @@ pub record DictionaryThere (table : Table) (rows column : ℕ) (file bytes : Lis
   pub at : slice_get whole.dictionaries column ≡ Some (Some d)
   pub spelled : IsSpelled (kind_at table column) rows (take s.place.length (drop s.place.offset bytes)) d
 
-dictionary_there : (table : Table) (name file bytes : List ℕ) (whole head : Seen) (column : ℕ) (s : Section) → column < length table.schema.fields → slice_get head.sections (column + 1) ≡ Some s
-    → IsHead table name file bytes whole → IsPartOf whole head → DictionaryThere table head.rows column file bytes whole s
-dictionary_there table name file bytes whole head column s field at full part =
-    let lt : column + 1 < length head.sections = slice_get_within head.sections (column + 1) s at in
-    let is : s ≡ get_or head.sections (column + 1) s = sym (get_or_from_slice_get head.sections (column + 1) s s at) in
+-- a section of the head of a file of which all rules hold
+pub record SectionThere (table : Table) (name file bytes : List ℕ) (front : Front) (i : ℕ) (s : Section) : Type 0 where
+  pub file_is : s.place.file ≡ file
+  pub within : s.place.offset + s.place.length ≤ length bytes
+  pub here : get_or (heads_in table name front bytes) i [] ≡ take s.place.length (drop s.place.offset bytes)
+
+pub section_there : (table : Table) (name file bytes : List ℕ) (whole head : Seen) (i : ℕ) (s : Section) → i < length (head_sections table) → slice_get head.sections i ≡ Some s → (full : IsHead table name file bytes whole) → IsPartOf whole head → SectionThere table name file bytes full.front i s
+section_there table name file bytes whole head i s early at full part =
+    let lt : i < length head.sections = slice_get_within head.sections i s at in
+    let is : s ≡ get_or head.sections i s = sym (get_or_from_slice_get head.sections i s s at) in
     let front : Front = full.front in
     let count : ℕ = length (head_sections table) in
     let es : List Extent = extents_of table name front in
     let none : Extent = record { part = parts.Head; offset = 0; size = 0 } in
-    let nothing : Distinct = record { kind = Long; values = [] } in
     let sections : head.sections ≡ map (placed file) es = part.sections_same ∙ full.sections_are in
-    let below : column + 1 < length es = omega (arith, lt, ap length sections, length-map es (placed file)) in
-    let e : Extent = get_or es (column + 1) none in
-    let same : s ≡ placed file e = placed_at file es (column + 1) s none below (is ∙ ap (λ xs. get_or xs (column + 1) s) sections) in
-    let both = extent_within (front_size table name) (sections_of table) front.sizes (column + 1) none below in
+    let below : i < length es = omega (arith, lt, ap length sections, length-map es (placed file)) in
+    let e : Extent = get_or es i none in
+    let same : s ≡ placed file e = placed_at file es i s none below (is ∙ ap (λ xs. get_or xs i s) sections) in
+    let both = extent_within (front_size table name) (sections_of table) front.sizes i none below in
     let offset : s.place.offset ≡ e.offset = ap (λ x. x.place.offset) same in
     let size : s.place.length ≡ e.size = ap (λ x. x.place.length) same in
+    record {
+      file_is = ap (λ x. x.place.file) same;
+      within = omega (arith, both.1, offset, size, full.keeps.front_is.whole);
+      here =
+          get_or-map (section_bytes bytes) (take count es) i none [] (omega (arith, early, below, length-take count es))
+          ∙ ap (section_bytes bytes) (get_or-take count es i none early)
+          ∙ sym (λ j. take (size j) (drop (offset j) bytes));
+    }
+
+dictionary_there : (table : Table) (name file bytes : List ℕ) (whole head : Seen) (column : ℕ) (s : Section) → column < length table.schema.fields → slice_get head.sections (column + 1) ≡ Some s
+    → IsHead table name file bytes whole → IsPartOf whole head → DictionaryThere table head.rows column file bytes whole s
+dictionary_there table name file bytes whole head column s field at full part =
+    let front : Front = full.front in
+    let there = section_there table name file bytes whole head (column + 1) s (omega (arith, field, head_count table)) at full part in
+    let nothing : Distinct = record { kind = Long; values = [] } in
     let d : Distinct = get_or full.dictionaries column nothing in
     let R : ℕ → Distinct → Type 0 = λ c x. IsSpelled (kind_at table c) front.rows (dictionary_in (heads_in table name front bytes) c) x in
     let from_zero : 0 + column ≡ column = omega arith in
     let found : R column d = subst (λ k. R k d) from_zero (zip_at R 0 (length table.schema.fields) column full.dictionaries nothing full.keeps.heads.spelled field) in
-    let here : dictionary_in (heads_in table name front bytes) column ≡ take s.place.length (drop s.place.offset bytes) =
-    get_or-map (section_bytes bytes) (take count es) (column + 1) none [] (omega (arith, length-take count es, head_count table))
-    ∙ ap (section_bytes bytes) (get_or-take count es (column + 1) none (omega (arith, head_count table)))
-    ∙ sym (λ i. take (size i) (drop (offset i) bytes)) in
     let many : column < length full.dictionaries = omega (arith, field, spelled_length table front.rows (heads_in table name front bytes) full.dictionaries full.keeps.heads.spelled) in
     let rows_are : front.rows ≡ head.rows = sym full.rows_are ∙ sym part.rows_same in
     record {
-      file_is = ap (λ x. x.place.file) same;
-      within = omega (arith, both.1, offset, size, full.keeps.front_is.whole);
+      file_is = there.file_is;
+      within = there.within;
       d = d;
       at = ap (λ xs. slice_get xs column) full.dictionaries_are ∙ slice_get-map Some full.dictionaries column ∙ ap (option_map Some) (slice_get-get_or full.dictionaries column nothing many);
-      spelled = subst (λ b. IsSpelled (kind_at table column) head.rows b d) here (subst (λ r. IsSpelled (kind_at table column) r (dictionary_in (heads_in table name front bytes) column) d) rows_are found);
+      spelled = subst (λ b. IsSpelled (kind_at table column) head.rows b d) there.here (subst (λ r. IsSpelled (kind_at table column) r (dictionary_in (heads_in table name front bytes) column) d) rows_are found);
     }
 
 module _ (table : Table) (head : Seen) (column : ℕ) (s : Section) (field : column < length table.schema.fields) (at : slice_get head.sections (column + 1) ≡ Some s) where

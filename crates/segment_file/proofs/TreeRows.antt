@@ -136,6 +136,14 @@ few_counts os [] d few = omega arith
 few_counts os (c ∷ split) zero few = omega (arith, few, few_values os c)
 few_counts os (c ∷ split) (suc d) few = few_counts os split d few
 
+-- each id of a row's document is below the number of values of its column
+tree_counted : (columns : List Field) (os : List (List Value)) (tree : TreeSetting) → IsValidTree columns tree → AreCounted tree.shape.dims (map (count_of os) tree.split) (documents os tree)
+tree_counted columns os tree valid = subst (λ n. AreCounted n (map (count_of os) tree.split) (documents os tree)) (sym valid.has_dims) (counted_rows os tree os (all_below os))
+
+-- and so none is the star
+pub tree_no_star : (columns : List Field) (os : List (List Value)) (tree : TreeSetting) → IsValidTree columns tree → length os ≤ 1048576 → HaveNoStar tree.shape.dims (documents os tree)
+tree_no_star columns os tree valid few = no_star_rows tree.shape.dims (map (count_of os) tree.split) (documents os tree) (tree_counted columns os tree valid) (λ d. few_counts os tree.split d few)
+
 -- ---- the sections of a tree
 
 -- what there is to say of the sections of a tree
@@ -160,8 +168,8 @@ tree_sections columns os tree valid few each fits =
     let dims : length tree.split ≡ k = sym valid.has_dims in
     let limit : (d : ℕ) → count_at counts d ≤ star = λ d. few_counts os tree.split d few in
     let ids : HaveIds k docs = subst (λ n. HaveIds n docs) dims (ids_rows os tree os) in
-    let counted : AreCounted k counts docs = subst (λ n. AreCounted n counts docs) dims (counted_rows os tree os (all_below os)) in
-    let no_star : HaveNoStar k docs = no_star_rows k counts docs counted limit in
+    let counted = tree_counted columns os tree valid in
+    let no_star = tree_no_star columns os tree valid few in
     let good : Good k tree.shape.kinds docs = record {
       shape = subst (λ n. HaveShape n tree.shape.kinds docs) dims (shape_rows os tree os);
       stored = stored_rows columns os tree valid os each;

@@ -8,7 +8,10 @@ use Rattle.dictionary.specs.Dictionary.{Distinct}
 use Rattle.segment_file.specs.declared.part.Part.{Part}
 use Rattle.segment_file.specs.declared.part.Part.TheVariants as parts
 use Rattle.segment_file.specs.declared.section.Section.{Section}
+use Rattle.segment_file.specs.declared.trees.TreeNodes.{TreeNodes}
 use Rattle.segment_file.specs.Front.{Front, front_size}
+use Rattle.segment_file.specs.Heads.{trees_said}
+use Rattle.segment_file.specs.Parts.{columns_of}
 use Rattle.segment_file.specs.Columns.{kind_at}
 use Rattle.segment_file.specs.Rules.{AreSpelled, HasNodes, HaveNodes, IsFront, IsSpelled, dictionary_in, size_in}
 
@@ -53,6 +56,11 @@ pub record NodesStop (table : Table) (rows : ℕ) (heads : List (List ℕ)) (t :
   pub tree : t < length table.settings.trees
   pub before : HaveNodes table rows heads t
   pub none : ¬ HasNodes table rows heads t
+
+-- the dictionaries and the nodes are those in the sections of the head
+pub record AreRead (table : Table) (rows : ℕ) (heads : List (List ℕ)) (dictionaries : List Distinct) (trees : List TreeNodes) : Type 0 where
+  pub spelled : AreSpelled table rows heads (columns_of table) dictionaries
+  pub said : trees ≡ trees_said table heads
 
 -- a section after the head: one of the rows of a field, or the documents of a tree
 abbrev pub IsTailPart : Table → Part → Type 0

@@ -27,7 +27,7 @@ pub use dictionaries::check_dictionary;
 pub use fault::HeadFault;
 pub use front::{Front, front_size};
 pub use head::Head;
-pub use laws::{head_rules_law, image_keeps_law, images_tell_law};
+pub use laws::{head_rules_law, head_tells_trees_law, image_keeps_law, images_tell_law};
 pub use name::is_segment_name;
 pub use opening::read_head;
 pub use part::Part;

@@ -1,10 +1,8 @@
 //! How long the sections after the head are.
 ghost use Rattle.std.specs.Prelude.{◌≡◌, ◌<◌, ◌≤◌, All, List, ℕ, OnOk, IfErr, length};
 ghost use Rattle.table_schema.specs.ValidTable.{IsValidTable};
-ghost use Rattle.segment_file.specs.Heads.{trees_said};
-ghost use Rattle.segment_file.specs.Parts.{columns_of};
-ghost use Rattle.segment_file.specs.Reading.{FitsSize, IsTailPart, SizeFails};
-ghost use Rattle.segment_file.specs.Rules.{AreSpelled, size_for, size_in};
+ghost use Rattle.segment_file.specs.Reading.{AreRead, FitsSize, IsTailPart, SizeFails};
+ghost use Rattle.segment_file.specs.Rules.{size_for, size_in};
 
 use crate::{Part, Section, TreeNodes};
 use bit_column::width_for;
@@ -38,14 +36,17 @@ pub fn check_sizes(
     trees: &[TreeNodes],
     sections: &[Section],
 ) -> Result<(), Part>
-    ghost heads: { List (List ℕ) }
     requires valid { IsValidTable table.now }
     requires rows { rows ≤ 1048576 }
-    requires spelled { AreSpelled table.now rows heads (columns_of table.now) dictionaries.now }
-    requires said { trees.now ≡ trees_said table.now heads }
+    requires dictionaries { length dictionaries.now ≡ length table.now.schema.fields }
+    requires trees { length trees.now ≡ length table.now.settings.trees }
     requires parts { All (λ s. IsTailPart table.now s.part) sections.now }
-    ensures ok { OnOk result (All (FitsSize table.now rows heads) sections.now) }
-    ensures bad { IfErr result (SizeFails table.now rows heads sections.now) }
+    ensures ok { OnOk result ((heads : List (List ℕ)) →
+        AreRead table.now rows heads dictionaries.now trees.now →
+        All (FitsSize table.now rows heads) sections.now) }
+    ensures bad { IfErr result (λ part. (heads : List (List ℕ)) →
+        AreRead table.now rows heads dictionaries.now trees.now →
+        SizeFails table.now rows heads sections.now part) }
 {
     for section in sections {
         if section.place.length != size_in(table, rows, dictionaries, trees, section.part) {
@@ -63,13 +64,14 @@ fn size_in(
     trees: &[TreeNodes],
     part: Part,
 ) -> u64
-    ghost heads: { List (List ℕ) }
     requires valid { IsValidTable table.now }
     requires rows { rows ≤ 1048576 }
-    requires spelled { AreSpelled table.now rows heads (columns_of table.now) dictionaries.now }
-    requires said { trees.now ≡ trees_said table.now heads }
+    requires dictionaries { length dictionaries.now ≡ length table.now.schema.fields }
+    requires trees { length trees.now ≡ length table.now.settings.trees }
     requires part { IsTailPart table.now part }
-    ensures { result ≡ size_in table.now rows heads part }
+    ensures { (heads : List (List ℕ)) →
+        AreRead table.now rows heads dictionaries.now trees.now →
+        result ≡ size_in table.now rows heads part }
 {
     if let Part::Star(tree) = part {
         let shape = &table.settings.trees.at(tree as usize).shape;

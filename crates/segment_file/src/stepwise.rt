@@ -65,13 +65,7 @@ pub fn open_head<S: Shelf>(
     let sections = place_sections(alloc, file, &parts, read.front.sizes(), start)?;
     let dictionaries = unloaded(alloc, table.schema.fields.len())?;
     let trees = unloaded(alloc, table.settings.trees.len())?;
-    Ok(Head::new(
-        read.front.rows(),
-        sections,
-        bounds,
-        dictionaries,
-        trees,
-    ))
+    Ok(Head::new(read.front.rows(), sections, bounds, dictionaries, trees))
 }
 
 // The bounds, which are the first section of a file with this front.

@@ -79,9 +79,10 @@ pub fn check_trees(
     let first = table.schema.fields.len() + 1;
     let mut trees = Vec::with_capacity(alloc, settings.len())?;
     for tree in 0..settings.len() {
+        let setting = &settings[tree];
         let bytes = section_bytes(bytes, &sections[first + tree]);
-        let counts = counts_of(alloc, dictionaries, settings[tree].split.as_slice())?;
-        match check_tree(alloc, &settings[tree].shape, &counts, rows, bytes) {
+        let counts = counts_of(alloc, dictionaries, setting.split.as_slice())?;
+        match check_tree(alloc, &setting.shape, &counts, rows, bytes) {
             Ok(nodes) => keep(nodes, &mut trees)?,
             Err(fault) => return Err(of_nodes(fault, tree as u8)),
         }
