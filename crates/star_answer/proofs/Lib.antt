@@ -5,3 +5,4 @@ pub mod FaultSteps
 pub mod ReadSteps
 pub mod EntryLemmas
 pub mod MergeSteps
+pub mod AnswerSteps
