@@ -5,3 +5,9 @@ pub mod FaultSteps
 pub mod ReadSteps
 pub mod EntryLemmas
 pub mod MergeSteps
+pub mod AnswerSteps
+pub mod HoldLemmas
+pub mod PickedTotals
+pub mod KeyLemmas
+pub mod RowGroups
+pub mod ServedSteps

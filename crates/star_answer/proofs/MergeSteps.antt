@@ -1,6 +1,6 @@
 -- Documents that were taken are merged into groups, one after the other.
-use Rattle.std.proofs.Common.{◌≡◌, ◌∙◌, ℕ, zero, suc, ◌+◌, ◌-◌, ◌<◌, ◌≤◌, List, [], ◌∷◌, ◌++◌, length}
-use Rattle.std.proofs.Common.{All, Option, Some, None, get_or, take, drop, refl, sym, ap, subst, arith}
+use Rattle.std.proofs.Common.{◌≡◌, ◌∙◌, ℕ, ◌+◌, ◌-◌, ◌<◌, ◌≤◌, List, [], ◌∷◌, ◌++◌, length}
+use Rattle.std.proofs.Common.{All, Some, None, get_or, take, drop, refl, sym, ap, subst, arith}
 use Rattle.std.proofs.lemmas.List.{drop-drop, drop_more, get_or-drop, map-append, take-append-drop}
 use Rattle.std.proofs.lemmas.List.{take_all, take_more}
 use Rattle.std.proofs.Common.{◌*◌, length-append, length-drop}
@@ -22,7 +22,7 @@ use Rattle.agg_laws.specs.States.{IsStored}
 use Rattle.agg_laws.specs.laws.Rows as rows
 use Rattle.agg_laws.specs.laws.States as states
 use Rattle.agg_laws.specs.Docs.{Doc, doc_at}
-use Rattle.agg_laws.specs.Merged.{add, total, weights}
+use Rattle.agg_laws.specs.Merged.{add, weights}
 use Rattle.agg_laws.specs.Order.{HasValues}
 use Rattle.agg_laws.specs.Tree.{dims_order, merged_docs}
 use Rattle.agg_laws.proofs.DocLemmas.{rows_join}

@@ -1,6 +1,6 @@
 -- The documents of picks are read, pick by pick.
-use Rattle.std.proofs.Common.{◌≡◌, ◌∙◌, ℕ, zero, suc, ◌+◌, ◌-◌, ◌*◌, ◌<◌, ◌≤◌, ◌⊎◌, inl, inr, List, []}
-use Rattle.std.proofs.Common.{◌∷◌, ◌++◌, Bool, true, false, cond, Option, Some, None, IfSome, length, map, get_or, take, drop}
+use Rattle.std.proofs.Common.{◌≡◌, ◌∙◌, ℕ, zero, suc, ◌+◌, ◌-◌, ◌*◌, ◌<◌, ◌≤◌, inl, inr, List, []}
+use Rattle.std.proofs.Common.{◌∷◌, ◌++◌, Bool, true, false, cond, Option, Some, None, IfSome, length, get_or, take, drop}
 use Rattle.std.proofs.Common.{refl, sym, ap, subst, arith, append_assoc, append-nil, le_refl}
 use Rattle.std.specs.List.{filter}
 use Rattle.std.proofs.lemmas.List.{drop_more, drop_all, length-map, length-append, map-append}
@@ -21,12 +21,11 @@ use Rattle.star_file.proofs.DocLaws.{only}
 use Rattle.star_walk.specs.declared.pick.Pick.{Pick}
 use Rattle.star_walk.specs.declared.task.Task.{Task}
 use Rattle.star_walk.specs.Images.{AreWithin, read_of}
-use Rattle.index_reading.specs.Stretches.{LogsOver, LogsPartly}
 use Rattle.star_answer.specs.declared.asked.Asked.{Asked}
 use Rattle.star_answer.specs.declared.tree_part.TreePart.{TreePart}
 use Rattle.star_answer.specs.Asked.{kinds_for}
 use Rattle.star_answer.specs.Answers.{AreRead, LogsPicks, LogsSome, TellsRead, asked_of, left_of}
-use Rattle.star_answer.specs.Answers.{passed, stretch_of}
+use Rattle.star_answer.specs.Answers.{passed}
 use Rattle.star_answer.specs.Taken.{AreKeyIds, ArePicked, IsTaken, MayBeTaken, taken_doc, taken_docs}
 use Rattle.star_answer.proofs.TakeSteps.{may_first}
 

@@ -1,7 +1,6 @@
 -- Documents are taken, one after the other.
 use Rattle.std.proofs.Common.{◌≡◌, ◌∙◌, ℕ, zero, suc, ◌+◌, ◌-◌, ◌<◌, ◌≤◌, List, [], ◌∷◌, ◌++◌, length}
-use Rattle.std.proofs.Common.{All, Some, map, get_or, take, drop, refl, sym, ap, subst, arith}
-use Rattle.std.specs.List.{slice_get}
+use Rattle.std.proofs.Common.{All, get_or, take, refl, sym, ap, subst, arith}
 use Rattle.std.proofs.lemmas.List.Elements.{All-head, All-tail, All-cons, All-append, All-nil}
 use Rattle.agg_laws.specs.declared.aggregate_kind.AggKind.{AggKind}
 use Rattle.agg_laws.specs.declared.aggregate_kind.AggKind.TheVariants as kinds
@@ -10,7 +9,7 @@ use Rattle.agg_laws.specs.declared.states.AggState.TheVariants.{Count}
 use Rattle.agg_laws.specs.declared.tree_shape.TreeShape.{TreeShape}
 use Rattle.agg_laws.specs.Docs.{AreStored, Doc, Docs, HaveShape, doc_at}
 use Rattle.agg_laws.specs.Rows.{RowStored, kinds_of, row_weight}
-use Rattle.agg_laws.specs.States.{IsStored, kind_of}
+use Rattle.agg_laws.specs.States.{kind_of}
 use Rattle.agg_laws.specs.Merged.{weights}
 use Rattle.agg_laws.specs.Tree.{dim}
 use Rattle.agg_laws.proofs.Places.{length-kinds_of}
@@ -62,7 +61,7 @@ keyed_from [] ids h = tt
 keyed_from (c ∷ cs) ids h = (
   All-head (λ column. dim column.dim ids < length column.values.now.values) c cs h,
   keyed_from cs ids (All-tail (λ column. dim column.dim ids < length column.values.now.values) c cs
-  h),
+      h),
 )
 
 pub keyed_back : (columns : List GroupColumn) (ids : List ℕ)
@@ -124,7 +123,7 @@ module _ (asked : Asked) (rows : ℕ) (docs : List Doc) (e : Doc) where
         (All-cons (λ e. AreKeyIds asked.columns.now e.0) (taken_doc asked e) []
         (keyed_from asked.columns.now e.0 has) (All-nil (λ e. AreKeyIds asked.columns.now e.0)));
     light = (let w = weights-append row_weight docs (taken_doc asked e ∷ []) in
-    omega (arith, w, light));
+        omega (arith, w, light));
   }
 
   pub may_key : MayBeTaken asked.columns.now rows (docs ++ taken_doc asked e ∷ [])

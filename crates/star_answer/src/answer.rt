@@ -11,8 +11,8 @@ ghost use Rattle.star_walk.specs.Images.{read_of};
 ghost use Rattle.star_answer.specs.declared.fault.AnswerFault.TheVariants.{BadDocs, ReadFault};
 ghost use Rattle.star_answer.specs.declared.fault.AnswerFault.TheVariants.{TooManyGroups};
 ghost use Rattle.star_answer.specs.Asked.{AreAsked, IsTableFor};
-ghost use Rattle.star_answer.specs.Answers.{Answers, IsBad, IsOverfull, IsTree, LogsPicks, LogsSome};
-ghost use Rattle.star_answer.specs.Answers.{picks_of, reads_of};
+ghost use Rattle.star_answer.specs.Answers.{Answers, IsBad, IsOverfull, IsTree, LogsPicks};
+ghost use Rattle.star_answer.specs.Answers.{LogsSome, picks_of, reads_of};
 
 use crate::asked::Asked;
 use crate::fault::AnswerFault;

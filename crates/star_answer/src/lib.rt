@@ -5,6 +5,7 @@
 mod answer;
 mod asked;
 mod fault;
+mod laws;
 mod merging;
 mod picked;
 mod taking;
@@ -14,5 +15,6 @@ mod weighing;
 pub use answer::answer_tree;
 pub use asked::{Asked, GroupColumn};
 pub use fault::AnswerFault;
+pub use laws::served_law;
 pub use tree_part::TreePart;
 pub use weighing::weight_of;

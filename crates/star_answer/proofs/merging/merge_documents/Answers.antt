@@ -1,10 +1,9 @@
-use Rattle.std.proofs.Common.{◌≡◌, ◌∙◌, ◌<◌, ◌≤◌, ◌-◌, ◌++◌, List, ℕ, drop, length, ap, sym, subst, arith}
+use Rattle.std.proofs.Common.{◌-◌, drop, ap, arith}
 use Rattle.std.proofs.lemmas.Result.{on_ok_weaker}
-use Rattle.agg_laws.specs.Docs.{Doc, Docs}
+use Rattle.agg_laws.specs.Docs.{Docs}
 use Rattle.agg_laws.specs.Numbers.{most_values}
-use Rattle.agg_laws.specs.Rows.{merged_rows, row_weight}
+use Rattle.agg_laws.specs.Rows.{row_weight}
 use Rattle.agg_laws.specs.Merged.{weights}
-use Rattle.agg_laws.specs.Tree.{merged_docs}
 use Rattle.group_table.specs.Kept.{groups_in}
 use Rattle.scan_engine.proofs.AddLemmas.{at_most_more}
 use Rattle.star_answer.proofs.MergeSteps as steps

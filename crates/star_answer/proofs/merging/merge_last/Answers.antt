@@ -1,8 +1,7 @@
-use Rattle.std.proofs.Common.{◌≡◌, ◌∙◌, ◌<◌, ◌≤◌, ◌-◌, List, ℕ, drop, length, ap, sym, subst, arith}
+use Rattle.std.proofs.Common.{◌∙◌, ◌<◌, ◌≤◌, List, length, ap, sym, subst, arith}
 use Rattle.agg_laws.specs.declared.states.AggState.{AggState}
-use Rattle.agg_laws.specs.Rows.{RowFits, RowStored, kinds_of, row_weight}
-use Rattle.agg_laws.specs.Docs.{Doc, doc_at}
-use Rattle.agg_laws.specs.Merged.{weights}
+use Rattle.agg_laws.specs.Rows.{RowFits, kinds_of, row_weight}
+use Rattle.agg_laws.specs.Docs.{doc_at}
 use Rattle.agg_laws.proofs.RegionSteps.{shape_at, stored_at}
 use Rattle.group_table.specs.Kept.{HaveValues}
 use Rattle.scan_engine.proofs.AddLemmas.{merged_within}

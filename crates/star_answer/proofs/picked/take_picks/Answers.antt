@@ -1,15 +1,12 @@
-use Rattle.std.proofs.Common.{◌≡◌, ◌∙◌, ◌<◌, ◌≤◌, ◌++◌, ℕ, List, Option, get_or, length, refl, sym, subst, arith}
-use Rattle.std.proofs.lemmas.Result.{IfOk-weaker}
-use Rattle.outside.specs.Seen.{OnlyReads, seen}
+use Rattle.std.proofs.Common.{length}
+use Rattle.outside.specs.Seen.{seen}
 use Rattle.outside.proofs.ReadLemmas.{on-err}
 use Rattle.outside.proofs.SeenLemmas.{reads_after}
 use Rattle.agg_laws.specs.declared.star_table.StarTable.{StarTable}
 use Rattle.star_file.specs.declared.docs_fault.DocsFault.{DocsFault}
 use Rattle.star_file.specs.declared.docs_fault.DocsFault.TheVariants as docs
 use Rattle.star_walk.specs.declared.pick.Pick.{Pick}
-use Rattle.star_answer.specs.Answers.{LogsSome, asked_of, left_of}
-use Rattle.star_answer.specs.Taken.{IsTaken, taken_docs}
-use Rattle.star_answer.specs.declared.fault.AnswerFault.{AnswerFault}
+use Rattle.star_answer.specs.Answers.{LogsSome}
 use Rattle.star_answer.specs.declared.fault.AnswerFault.TheVariants.{BadDocs}
 use Rattle.star_answer.proofs.FaultSteps as faults
 use Rattle.star_answer.proofs.ReadSteps as steps

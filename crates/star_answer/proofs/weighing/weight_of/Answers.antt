@@ -1,5 +1,4 @@
-use Rattle.std.proofs.Common.{arith}
-use Rattle.star_answer.proofs.WeightSteps.{stored_in, weight_more, weight_all}
+use Rattle.star_answer.proofs.WeightSteps.{stored_in}
 use Rattle.agg_laws.specs.declared.states.AggState.TheVariants.{Count}
 use Rattle.star_answer.proofs.weighing.weight_of.Goals as goal
 

@@ -1,9 +1,8 @@
-use Rattle.std.proofs.Common.{◌≡◌, ◌∙◌, ◌+◌, ◌<◌, ◌≤◌, ℕ, List, length, true, false, sym, ap, subst, arith}
-use Rattle.agg_laws.specs.Docs.{Doc, doc_at}
-use Rattle.agg_laws.specs.Merged.{weights}
+use Rattle.std.proofs.Common.{◌≡◌, ◌∙◌, sym, ap, subst, arith}
+use Rattle.agg_laws.specs.Docs.{doc_at}
 use Rattle.agg_laws.specs.Rows.{RowStored, kinds_of, row_weight}
-use Rattle.star_answer.specs.Asked.{HasKey, kinds_for, states_of}
-use Rattle.star_answer.specs.Taken.{IsTaken, MayBeTaken, key_ids}
+use Rattle.star_answer.specs.Asked.{states_of}
+use Rattle.star_answer.specs.Taken.{key_ids}
 use Rattle.star_answer.proofs.TakeSteps as steps
 use Rattle.star_answer.proofs.taking.Taken.take.Goals as goal
 

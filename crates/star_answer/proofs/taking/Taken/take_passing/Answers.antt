@@ -1,9 +1,5 @@
-use Rattle.std.proofs.Common.{◌≡◌, ◌∙◌, ◌-◌, ◌<◌, ◌++◌, ◌∷◌, [], length, sym, arith}
-use Rattle.std.proofs.lemmas.Bool.{MatchBool-at_false}
-use Rattle.agg_laws.specs.Docs.{doc_at}
-use Rattle.agg_laws.specs.Picks.{holds_from}
+use Rattle.std.proofs.Common.{◌∙◌, ◌<◌, length, sym, arith}
 use Rattle.star_answer.specs.Answers.{asked_of}
-use Rattle.star_answer.specs.Taken.{MayBeTaken, taken_doc}
 use Rattle.star_answer.proofs.PassSteps.{taken_bad}
 use Rattle.star_answer.proofs.taking.Taken.take_passing.Goals as goal
 

@@ -1,0 +1,138 @@
+-- The answer from a tree, by the documents that were taken.
+use Rattle.std.proofs.Common.{◌≡◌, ◌∙◌, ℕ, ◌+◌, ◌<◌, ◌≤◌, inr, All, List, []}
+use Rattle.std.proofs.Common.{◌∷◌, Option, Some, None, IfSome, length, refl, sym, ap, subst}
+use Rattle.std.specs.FinMap as finite
+use Rattle.std.proofs.lemmas.List.Elements.{All-cons, All-head, All-nil, All-tail}
+use Rattle.outside.specs.Files.{Files}
+use Rattle.agg_laws.specs.Docs.{Doc, Docs}
+use Rattle.agg_laws.specs.Merged.{weights}
+use Rattle.agg_laws.specs.Rows.{row_weight}
+use Rattle.agg_laws.specs.Tree.{dim}
+use Rattle.star_file.specs.Reading.{section}
+use Rattle.star_walk.specs.declared.pick.Pick.{Pick}
+use Rattle.star_walk.specs.declared.task.Task.{Task}
+use Rattle.star_walk.specs.Images.{read_of}
+use Rattle.group_table.specs.Kept.{KeptGroups, groups_in}
+use Rattle.star_answer.specs.declared.asked.Asked.{Asked}
+use Rattle.star_answer.specs.declared.asked.GroupColumn.{GroupColumn}
+use Rattle.star_answer.specs.declared.tree_part.TreePart.{TreePart}
+use Rattle.star_answer.specs.Answers.{Answers, AreRead, IsBad, IsOverfull}
+use Rattle.star_answer.specs.Answers.{asked_of, passed, picks_of, reads_of, taken_of}
+use Rattle.star_answer.specs.Asked.{AreSound, HasKey, entries_of, key_of, value_of}
+use Rattle.star_answer.specs.Entries.{MergesEntries, with_entries}
+use Rattle.star_answer.specs.Taken.{AreKeyIds, ArePicked, MayBeTaken, key_ids, key_values, keyed}
+use Rattle.star_answer.specs.Taken.{taken_doc, taken_docs}
+use Rattle.star_answer.proofs.EntryLemmas.{merges_so}
+use Rattle.star_answer.proofs.TakeSteps.{keyed_back, keyed_from}
+
+-- ---- what documents that are taken give to groups
+
+values_of_ids : (columns : List GroupColumn) (ids : List ℕ)
+    → key_values columns (key_ids columns ids) ≡ key_of columns ids
+values_of_ids [] ids = refl
+values_of_ids (c ∷ cs) ids = ap (λ t. value_of c (dim c.dim ids) ∷ t) (values_of_ids cs ids)
+
+pub entries_keyed : (asked : Asked) (docs : List Doc)
+    → keyed asked.columns.now (taken_docs asked docs) ≡ entries_of asked docs
+entries_keyed asked [] = refl
+entries_keyed asked (e ∷ es) =
+    λ i. (values_of_ids asked.columns.now e.0 i, (taken_doc asked e).1) ∷ entries_keyed asked es i
+
+same_weights : (asked : Asked) (docs : List Doc)
+    → weights row_weight (taken_docs asked docs) ≡ weights row_weight (entries_of asked docs)
+same_weights asked [] = refl
+same_weights asked (e ∷ es) = ap (λ n. row_weight (taken_doc asked e).1 + n) (same_weights asked es)
+
+module _ (asked : Asked) where
+  abbrev HasOwn : Doc → Type 0
+  HasOwn e = HasKey asked.columns.now e.0
+
+  abbrev HasIds : Doc → Type 0
+  HasIds e = AreKeyIds asked.columns.now e.0
+
+  all_own : (docs : List Doc) → All (λ e. AreKeyIds asked.columns.now e.0) (taken_docs asked docs)
+      → All (λ e. HasKey asked.columns.now e.0) docs
+  all_own [] h = All-nil HasOwn
+  all_own (e ∷ es) h = All-cons HasOwn e es
+      (keyed_back asked.columns.now e.0 (All-head HasIds (taken_doc asked e) (taken_docs asked es) h))
+      (all_own es (All-tail HasIds (taken_doc asked e) (taken_docs asked es) h))
+
+  all_ids : (docs : List Doc) → All (λ e. HasKey asked.columns.now e.0) docs
+      → All (λ e. AreKeyIds asked.columns.now e.0) (taken_docs asked docs)
+  all_ids [] h = All-nil HasIds
+  all_ids (e ∷ es) h = All-cons HasIds (taken_doc asked e) (taken_docs asked es)
+      (keyed_from asked.columns.now e.0 (All-head HasOwn e es h))
+      (all_ids es (All-tail HasOwn e es h))
+
+  -- documents may be merged just where they may be taken
+  pub sound_so : (rows : ℕ) (docs : List Doc)
+      → MayBeTaken asked.columns.now rows (taken_docs asked docs) → AreSound asked rows docs
+  sound_so rows docs h = record {
+    keyed = all_own docs h.keyed;
+    light = subst (λ n. n ≤ rows) (same_weights asked docs) h.light;
+  }
+
+  pub sound_back : (rows : ℕ) (docs : List Doc) → AreSound asked rows docs
+      → MayBeTaken asked.columns.now rows (taken_docs asked docs)
+  sound_back rows docs h = record {
+    keyed = all_ids docs h.keyed;
+    light = subst (λ n. n ≤ rows) (sym (same_weights asked docs)) h.light;
+  }
+
+-- ---- the answer
+
+module _ (tree : TreePart) (task : Task) (asked : Asked) (rows : ℕ) (held : Option Files)
+    (ps : List Pick) (is : ps ≡ reads_of tree task) where
+  -- why documents are refused
+  pub bad_so : IfSome held (λ files. (read : List (List Doc))
+      → AreRead tree.shape.now tree.counts.now (section files tree.documents.now) ps read
+      → ¬ MayBeTaken asked.columns.now rows (taken_docs asked (passed (asked_of task)
+      (length task.matched) ps read))) → IsBad tree task asked rows held
+  bad_so bad = inr (by held (subst (λ l. IfSome held (λ files. (read : List (List Doc))
+      → AreRead tree.shape.now tree.counts.now (section files tree.documents.now) l read
+      → ¬ MayBeTaken asked.columns.now rows (taken_docs asked (passed (asked_of task)
+      (length task.matched) l read)))) is bad))
+    where
+      by : (h : Option Files) → IfSome h (λ files. (read : List (List Doc))
+          → AreRead tree.shape.now tree.counts.now (section files tree.documents.now)
+          (reads_of tree task) read → ¬ MayBeTaken asked.columns.now rows
+          (taken_docs asked (taken_of tree task read)))
+          → IfSome h (λ files. (read : List (List Doc))
+          → AreRead tree.shape.now tree.counts.now (section files tree.documents.now)
+          (reads_of tree task) read → ¬ AreSound asked rows (taken_of tree task read))
+      by None bad = tt
+      by (Some files) bad = λ read are sound.
+          bad read are (sound_back asked rows (taken_of tree task read) sound)
+
+  module _ (table : Docs) (picked : ArePicked tree task asked rows held ps table) where
+    own : ArePicked tree task asked rows held (reads_of tree task) table
+    own = subst (λ l. ArePicked tree task asked rows held l table) is picked
+
+    -- the groups with the states of the documents
+    pub answers : (old new : KeptGroups) → read_of (picks_of tree task) ≤ rows
+        → MergesEntries (weights row_weight table.docs) (keyed asked.columns.now table.docs) old new
+        → Answers tree task asked rows held old new
+    answers old new few a = record {
+      read = own.read;
+      told = own.told;
+      sound = sound_so asked rows (taken_of tree task own.read)
+          (subst (MayBeTaken asked.columns.now rows) own.docs_are own.taken.may);
+      few = few;
+      merged = subst (λ l. MergesEntries rows l old new)
+          (ap (keyed asked.columns.now) own.docs_are
+          ∙ entries_keyed asked (taken_of tree task own.read))
+          (merges_so (weights row_weight table.docs) rows (keyed asked.columns.now table.docs)
+          (keyed asked.columns.now table.docs) old new own.taken.may.light (λ q. refl) a);
+    }
+
+    -- they are too many
+    pub over : (old : KeptGroups) → old.most < finite.len
+        (with_entries (groups_in old) (keyed asked.columns.now table.docs))
+        → IsOverfull tree task asked held old
+    over old full = record {
+      read = own.read;
+      told = own.told;
+      over = subst (λ l. old.most < finite.len (with_entries (groups_in old) l))
+          (ap (keyed asked.columns.now) own.docs_are
+          ∙ entries_keyed asked (taken_of tree task own.read)) full;
+    }

@@ -1,0 +1,37 @@
+//! The law of answers from a star-tree: the contract of a function that does nothing of its own.
+
+ghost use Rattle.std.specs.Prelude.{◌≡◌, List, Some, length};
+ghost use Rattle.outside.specs.Files.{Files};
+ghost use Rattle.values.specs.declared.value.Value.{Value};
+ghost use Rattle.table_schema.specs.declared.query.BoundQuery.{BoundQuery};
+ghost use Rattle.group_table.specs.Kept.{IsTableOf, KeptGroups};
+ghost use Rattle.star_walk.specs.declared.task.Task.{Task};
+ghost use Rattle.scan_engine.specs.Scanned as scan;
+ghost use Rattle.scan_engine.specs.Scanned.{AddsRows, selected};
+ghost use Rattle.star_answer.specs.declared.asked.Asked.{Asked};
+ghost use Rattle.star_answer.specs.declared.tree_part.TreePart.{TreePart};
+ghost use Rattle.star_answer.specs.Answers.{Answers, IsOverfull, IsTree, asked_of};
+ghost use Rattle.star_answer.specs.Asked.{AreAsked};
+ghost use Rattle.star_answer.specs.Served.{IsServed};
+
+use star_walk::walk_law;
+
+/// Where the tree is that of a segment's rows, and the query filters and groups by its dimensions
+/// alone and asks for its pairs, the answer adds the rows that satisfy the filter to the groups; and
+/// there are too many groups just where these rows give too many.
+pub fn served_law()
+    ensures adds { (query : BoundQuery) (tree : TreePart) (task : Task) (asked : Asked)
+        (files : Files) (rows : List (List Value)) (old new : KeptGroups)
+        → IsTree tree task → AreAsked tree.shape.now asked → IsTableOf query old
+        → IsServed query tree (asked_of task) asked files rows
+        → Answers tree task asked (length rows) (Some files) old new
+        → AddsRows query (length rows) (selected query rows) old new }
+    ensures overfull { (query : BoundQuery) (tree : TreePart) (task : Task) (asked : Asked)
+        (files : Files) (rows : List (List Value)) (old : KeptGroups)
+        → IsTree tree task → AreAsked tree.shape.now asked → IsTableOf query old
+        → IsServed query tree (asked_of task) asked files rows
+        → IsOverfull tree task asked (Some files) old
+        → scan.IsOverfull query (selected query rows) old }
+{
+    walk_law();
+}
