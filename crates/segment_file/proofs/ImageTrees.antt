@@ -2,7 +2,7 @@
 use Rattle.std.proofs.Common.{◌≡◌, ◌∙◌, ◌<◌, ◌≤◌, ℕ, All, List, [], Some, length, map, get_or, sym, ap, subst, arith}
 use Rattle.std.specs.Prelude.{slice_get}
 use Rattle.std.proofs.lemmas.Option.{get_or_from_slice_get, slice_get_within}
-use Rattle.std.proofs.lemmas.List.{get_or-map, length-map}
+use Rattle.std.proofs.lemmas.List.{get_or-map}
 use Rattle.values.specs.declared.value.Value.{Value}
 use Rattle.dictionary.specs.Dictionary.{IsUnicode}
 use Rattle.table_schema.specs.ValidTable.{IsRow, most_rows}
@@ -12,7 +12,7 @@ use Rattle.segment_file.specs.Heads.{nodes_said, trees_said}
 use Rattle.segment_file.specs.Image.{front_of, image}
 use Rattle.segment_file.specs.Laws.{HeadTellsTrees, IsTold}
 use Rattle.segment_file.specs.Ordered.{ordered}
-use Rattle.segment_file.specs.Rules.{heads_in, nodes_in}
+use Rattle.segment_file.specs.Rules.{heads_in}
 use Rattle.segment_file.specs.Trees.{nodes_of, written}
 use Rattle.segment_file.proofs.ImageKeeps.{image_keeps, nodes-are, tree-there}
 use Rattle.segment_file.proofs.ImageRows.{ordered_all, ordered_count}

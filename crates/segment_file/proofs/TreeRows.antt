@@ -1,6 +1,6 @@
 -- The rows of a segment as a tree has them, and the sections of the tree.
-use Rattle.std.proofs.Common.{◌≡◌, ◌≢◌, ◌∙◌, ◌<◌, ◌≤◌, ◌+◌, ◌*◌, ◌^◌, ℕ, zero, suc, true, All, List, [], ◌∷◌, ◌++◌, length, map, get_or, Option, Some, None, refl, sym, ap, subst, arith, ltb-true, mul-le-mul_left}
-use Rattle.std.specs.Prelude.{◌↔◌, pos, negsuc, slice_get}
+use Rattle.std.proofs.Common.{◌≡◌, ◌∙◌, ◌<◌, ◌≤◌, ◌+◌, ◌*◌, ◌^◌, ℕ, zero, suc, true, All, List, [], ◌∷◌, ◌++◌, length, map, get_or, Option, Some, None, refl, sym, ap, subst, arith, ltb-true, mul-le-mul_left}
+use Rattle.std.specs.Prelude.{pos, negsuc, slice_get}
 use Rattle.std.specs.List.{AllByRecursion}
 use Rattle.std.specs.Option.{option_map_or}
 use Rattle.std.proofs.lemmas.Bool.{false≢true}
@@ -12,14 +12,13 @@ use Rattle.values.specs.declared.kind.FieldKind.TheVariants as kind
 use Rattle.values.specs.declared.value.Value.{Value}
 use Rattle.values.specs.declared.value.Value.TheVariants.{Whole, Text}
 use Rattle.values.specs.Kinds.{fits}
-use Rattle.agg_laws.specs.declared.node.Node.{Node}
 use Rattle.agg_laws.specs.Docs.{Doc, AreStored, HaveIds, HaveShape, projected}
-use Rattle.agg_laws.specs.Flat.{flat, tree_bytes}
+use Rattle.agg_laws.specs.Flat.{flat}
 use Rattle.agg_laws.specs.NodeRules.{AreCounted, count_at}
 use Rattle.agg_laws.specs.Numbers.{AreWhole, IsWhole}
 use Rattle.agg_laws.specs.Merged.{weights}
 use Rattle.agg_laws.specs.Rows.{merged_rows, row_of, row_weight}
-use Rattle.agg_laws.specs.Tree.{HaveNoStar, dim, star, tree_of}
+use Rattle.agg_laws.specs.Tree.{HaveNoStar, dim, star}
 use Rattle.agg_laws.specs.laws.Rows as rows
 use Rattle.agg_laws.proofs.ValueSteps.{fits_row, kinds_row, stored_row}
 use Rattle.table_schema.specs.declared.field.Field.{Field}
@@ -27,9 +26,9 @@ use Rattle.table_schema.specs.declared.query.Agg.{Agg}
 use Rattle.table_schema.specs.declared.settings.TreeSetting.{TreeSetting}
 use Rattle.table_schema.specs.ValidSettings.{IsValidTree}
 use Rattle.table_schema.specs.ValidTable.{IsRow, is_row}
-use Rattle.star_file.specs.Bytes.{doc_bytes, node_bytes, nodes_section, words}
+use Rattle.star_file.specs.Bytes.{node_bytes, nodes_section, words}
 use Rattle.star_file.specs.Reading.{doc_width}
-use Rattle.star_file.specs.Rules.{AreWords, KeepAll, KeepsSection, most_bytes, number_at}
+use Rattle.star_file.specs.Rules.{AreWords, KeepAll, most_bytes, number_at}
 use Rattle.star_file.proofs.SectionLemmas.{section_back, section_count, section_nodes, word_back}
 use Rattle.star_file.proofs.TreeDocs.{Good, docs_long, tree_fine}
 use Rattle.star_file.proofs.TreeLaws.{no_documents, tree_keeps, tree_words}

@@ -1,11 +1,10 @@
 -- The nodes of a tree of a head that is open are read.
-use Rattle.std.proofs.Common.{◌≡◌, ◌≢◌, ◌∙◌, ◌<◌, ◌≤◌, ◌+◌, ◌^◌, ℕ, zero, suc, All, List, [], ◌∷◌, ◌++◌, length, map, get_or, take, drop, Option, Some, None, IfSome, Ok, Err, IsErrOf, refl, sym, ap, subst, arith}
+use Rattle.std.proofs.Common.{◌≡◌, ◌∙◌, ◌<◌, ◌≤◌, ◌+◌, ℕ, zero, suc, All, List, [], ◌∷◌, ◌++◌, length, map, get_or, take, drop, Option, Some, None, IfSome, Ok, Err, IsErrOf, refl, sym, ap, subst, arith}
 use Rattle.std.specs.Prelude.{option_map, slice_get}
-use Rattle.std.specs.List.{AllZip, range_with_len}
+use Rattle.std.specs.List.{AllZip}
 use Rattle.std.specs.Option.{option_map_or}
-use Rattle.std.proofs.lemmas.List.{get_or-map, length-map, take-append-drop, take_more}
+use Rattle.std.proofs.lemmas.List.{take-append-drop, take_more}
 use Rattle.std.proofs.lemmas.List.Elements.{All-head, All-tail}
-use Rattle.std.proofs.lemmas.List.FromFn.{get_or-range_with_len, length-range_with_len}
 use Rattle.std.proofs.lemmas.Option.{slice_get-get_or, slice_get-map}
 use Rattle.values.specs.declared.kind.FieldKind.TheVariants.{Long}
 use Rattle.outside.specs.Files.{Files, bytes_at, bytes_of}
@@ -24,9 +23,8 @@ use Rattle.segment_file.specs.declared.section.Section.{Section}
 use Rattle.segment_file.specs.declared.trees.TreeNodes.{TreeNodes}
 use Rattle.segment_file.specs.Front.{Front}
 use Rattle.segment_file.specs.Heads.{HasCount, HaveCounts, IsHead, IsHeadOf, IsPartOf, LogsCount, LogsCounts, LogsTree, OfWhole, Seen, dictionary_section, nodes_said, nodes_section, split_of, trees_said}
-use Rattle.segment_file.specs.Parts.{columns_of, sections_of, trees_of}
-use Rattle.segment_file.specs.Reading.{count_at}
-use Rattle.segment_file.specs.Rules.{AreNodes, AreSpelled, HasNodes, count_in, dictionary_in, heads_in, nodes_in, split_counts}
+use Rattle.segment_file.specs.Parts.{sections_of}
+use Rattle.segment_file.specs.Rules.{AreNodes, HasNodes, count_in, dictionary_in, heads_in, nodes_in, split_counts}
 use Rattle.segment_file.proofs.Composed.{count_same, made_count, spelled_length}
 use Rattle.segment_file.proofs.Counts.{all_at, head_count}
 use Rattle.segment_file.proofs.HeadLemmas.{counted_at}

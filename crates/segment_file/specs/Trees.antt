@@ -1,5 +1,5 @@
 -- The star-trees of a segment: each is the flat tree of the segment's rows, by the ids of its split dimensions and the numbers of its pairs.
-use Rattle.std.specs.Prelude.{◌≤◌, ℕ, ℤ, pos, List, [], map, length, slice_get, Option, Some, None}
+use Rattle.std.specs.Prelude.{◌≤◌, ℕ, ℤ, pos, List, [], map, length, Option, Some, None}
 use Rattle.std.specs.Option.{option_map_or}
 use Rattle.values.specs.declared.value.Value.{Value}
 use Rattle.values.specs.declared.value.Value.TheVariants.{Whole, Text}

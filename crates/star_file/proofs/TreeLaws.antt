@@ -1,9 +1,8 @@
 -- The nodes of the flat tree of some rows keep all rules, and each of their numbers has four bytes.
-use Rattle.std.proofs.Common.{◌≡◌, ◌∙◌, ◌<◌, ◌≤◌, ◌+◌, ◌-◌, ◌*◌, ◌^◌, ℕ, zero, suc, Bool, true, false, cond, ◌&&◌, ◌||◌, ◌==◌, ◌⊎◌, List, [], ◌∷◌, length, take, drop, inl, inr, refl, sym, ap, subst, arith, length-drop, mul-le-mul_left}
+use Rattle.std.proofs.Common.{◌≡◌, ◌<◌, ◌≤◌, ◌+◌, ◌-◌, ◌*◌, ◌^◌, ℕ, zero, suc, Bool, true, false, cond, ◌&&◌, ◌||◌, ◌==◌, ◌⊎◌, List, [], ◌∷◌, length, drop, inl, inr, refl, ap, arith, length-drop, mul-le-mul_left}
 use Rattle.std.proofs.lemmas.Bool.Decides.{nat_tests}
 use Rattle.std.proofs.lemmas.List.{length-take-le}
 use Rattle.std.proofs.Math.Nat.{mul_comm}
-use Rattle.std.specs.List.{filter}
 use Rattle.std.specs.Prelude.{◌↔◌}
 use Rattle.agg_laws.specs.declared.node.Node.{Node}
 use Rattle.agg_laws.specs.declared.states.AggState.{AggState}
@@ -14,7 +13,7 @@ use Rattle.agg_laws.specs.Tree.{star, agrees, dim, merged_docs, root_of, rows_at
 use Rattle.agg_laws.specs.Docs.{Doc, HaveIds}
 use Rattle.agg_laws.specs.Flat.{Flat, blank, flat, node_at, range, tree_bytes}
 use Rattle.agg_laws.specs.FlatNodes.{IsOfTree}
-use Rattle.agg_laws.specs.NodeRules.{AreCounted, IsRoot, KeepsRules, count_at}
+use Rattle.agg_laws.specs.NodeRules.{AreCounted, IsRoot, count_at}
 use Rattle.agg_laws.proofs.DocLemmas.{rows_join}
 use Rattle.agg_laws.proofs.FlatLemmas.{Outside, same_unvisited, more_docs, visit_grows}
 use Rattle.agg_laws.proofs.FlatTrees.{nodes_of_tree}

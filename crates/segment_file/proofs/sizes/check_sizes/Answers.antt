@@ -1,4 +1,4 @@
-use Rattle.std.proofs.Common.{◌∙◌, ◌<◌, length, sym, subst, arith, All}
+use Rattle.std.proofs.Common.{◌∙◌, sym, subst, arith, All}
 use Rattle.std.proofs.lemmas.List.{take_all}
 use Rattle.segment_file.specs.Reading.{FitsSize, IsTailPart}
 use Rattle.segment_file.proofs.HeadLemmas.{size_stops, sized_more}

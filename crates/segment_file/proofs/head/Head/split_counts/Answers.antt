@@ -1,5 +1,5 @@
 use Rattle.std.proofs.Common.{◌≡◌, ◌∙◌, ◌<◌, ◌+◌, [], ◌∷◌, All, length, get_or, refl, sym, ap, subst, arith, length-append}
-use Rattle.outside.specs.Seen.{OnlyReads, seen}
+use Rattle.outside.specs.Seen.{seen}
 use Rattle.segment_file.specs.Heads.{HasCount, LogsCount, LogsCounts, OfWhole, split_of}
 use Rattle.segment_file.proofs.TreeChecks.{split_known}
 use Rattle.segment_file.proofs.TreeSteps.{counts_push, logs_none, logs_push, logs_stop, reads_err, reads_ok, split_is}
