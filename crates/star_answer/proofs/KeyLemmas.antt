@@ -67,15 +67,20 @@ AreGrouped t k columns = All (λ column. (column.dim < k) × (t.grouped column.d
 abbrev IsGrouped : Task → ℕ → GroupColumn → Type 0
 IsGrouped t k column = (column.dim < k) × (t.grouped column.dim ≡ true)
 
+-- a combination that has its key has its ids in them
+pub spread_dim : (t : Task) (k : ℕ) (c : GroupColumn) (x : List ℕ)
+    → (c.dim < k) × (t.grouped c.dim ≡ true)
+    → dim c.dim (spread t k 0 (key_from t k 0 x)) ≡ dim c.dim x
+spread_dim t k c x h =
+    let none : 0 + c.dim ≡ c.dim = omega arith in
+    spread_same t k 0 c.dim x h.0 (ap t.grouped none ∙ h.1) ∙ ap (λ n. dim n x) none
+
 -- so the key by values goes by the key by ids
 pub key_by_ids : (t : Task) (k : ℕ) (columns : List GroupColumn) (x : List ℕ)
     → AreGrouped t k columns → key_of columns x ≡ key_of columns (spread t k 0 (key_from t k 0 x))
 key_by_ids t k [] x h = refl
 key_by_ids t k (c ∷ cs) x h =
-    let own = All-head (IsGrouped t k) c cs h in
-    let none : 0 + c.dim ≡ c.dim = omega arith in
-    let same : dim c.dim (spread t k 0 (key_from t k 0 x)) ≡ dim c.dim x =
-    spread_same t k 0 c.dim x own.0 (ap t.grouped none ∙ own.1) ∙ ap (λ n. dim n x) none in
+    let same = spread_dim t k c x (All-head (IsGrouped t k) c cs h) in
     λ i. value_of c (sym same i) ∷ key_by_ids t k cs x (All-tail (IsGrouped t k) c cs h) i
 
 -- what documents with the same groups have at any test of keys is the same
@@ -89,18 +94,19 @@ module _ (t : Task) (k : ℕ) (xs ys : List Doc)
       ∙ sym (total-Merged dims_order nat_list_cmp_total same_dims merged_rows rows_join r
       (rekey (key_from t k 0) docs))
 
+  pub ids_total : (p : List ℕ → Bool) → ((x : List ℕ) → p x ≡ p (spread t k 0 (key_from t k 0 x)))
+      → total merged_rows p xs ≡ total merged_rows p ys
+  ids_total p agrees =
+      let r : List ℕ → Bool = λ key. p (spread t k 0 key) in
+      total_agree merged_rows rows_join p (λ x. r (key_from t k 0 x)) agrees xs
+      ∙ by_key r xs ∙ ap (total merged_rows r) same ∙ sym (by_key r ys)
+      ∙ sym (total_agree merged_rows rows_join p (λ x. r (key_from t k 0 x)) agrees ys)
+
   pub same_total : (columns : List GroupColumn) (p : List Value → Bool) → AreGrouped t k columns
       → total merged_rows (λ x. p (key_of columns x)) xs
       ≡ total merged_rows (λ x. p (key_of columns x)) ys
-  same_total columns p h =
-      let r : List ℕ → Bool = λ key. p (key_of columns (spread t k 0 key)) in
-      let agrees : (x : List ℕ) → p (key_of columns x) ≡ r (key_from t k 0 x) =
-      λ x. ap p (key_by_ids t k columns x h) in
-      total_agree merged_rows rows_join (λ x. p (key_of columns x)) (λ x. r (key_from t k 0 x))
-      agrees xs
-      ∙ by_key r xs ∙ ap (total merged_rows r) same ∙ sym (by_key r ys)
-      ∙ sym (total_agree merged_rows rows_join (λ x. p (key_of columns x))
-      (λ x. r (key_from t k 0 x)) agrees ys)
+  same_total columns p h = ids_total (λ x. p (key_of columns x))
+      (λ x. ap p (key_by_ids t k columns x h))
 
 -- a number is a member of a list that has it
 member_at : (ns : List ℕ) (i d : ℕ) → i < length ns → is_member ns (get_or ns i d) ≡ true

@@ -11,3 +11,5 @@ pub mod PickedTotals
 pub mod KeyLemmas
 pub mod RowGroups
 pub mod ServedSteps
+pub mod CoverLemmas
+pub mod KeyedSteps

@@ -3,6 +3,7 @@ use Rattle.std.proofs.Common.{◌≡◌, ◌∙◌, ℕ, zero, suc, ◌-◌, ◌
 use Rattle.std.proofs.Common.{◌&&◌, All, ℤ, pos, List, [], ◌∷◌, ◌++◌, Some, None, length, get_or}
 use Rattle.std.proofs.Common.{◌*◌, map, drop, refl, sym, ap, subst, arith}
 use Rattle.std.proofs.lemmas.List.{length-map}
+use Rattle.std.proofs.Common.{inl, inr}
 use Rattle.std.specs.List.{filter}
 use Rattle.std.specs.Option.{option_map}
 use Rattle.std.specs.Ordering.{eq_by_cmp}
@@ -23,8 +24,9 @@ use Rattle.agg_laws.specs.FlatNodes.{IsOfTree}
 use Rattle.agg_laws.specs.Groups.{groups_of, rows_that_hold}
 use Rattle.agg_laws.specs.Merged.{join_some, total}
 use Rattle.agg_laws.specs.Picks as asks
-use Rattle.agg_laws.specs.Picks.{holds_from}
-use Rattle.agg_laws.specs.Rows.{merged_rows}
+use Rattle.agg_laws.specs.Picks.{ArePartedBy, HaveDocs, holds_from}
+use Rattle.agg_laws.specs.laws.Rows as rows_law
+use Rattle.agg_laws.specs.Rows.{merged_rows, row_weight}
 use Rattle.agg_laws.specs.Tree.{HaveNoStar, dim, star}
 use Rattle.agg_laws.proofs.DocLemmas.{rows_join, total-projected}
 use Rattle.agg_laws.proofs.FlatTrees.{nodes_of_tree}
@@ -33,7 +35,7 @@ use Rattle.star_file.specs.Reading.{HasDocuments, SpellDocs, doc_width, section}
 use Rattle.star_file.proofs.DocLaws.{only}
 use Rattle.star_walk.specs.declared.pick.Pick.{Pick}
 use Rattle.star_walk.specs.declared.task.Task.{Task}
-use Rattle.star_walk.specs.Images.{AreWithin, passing}
+use Rattle.star_walk.specs.Images.{AreWithin, bare, passing, read_of, shown}
 use Rattle.star_walk.specs.Joins.{joined}
 use Rattle.star_walk.specs.Walking.{tree_picks}
 use Rattle.star_walk.proofs.JoinSteps.{joined_passing, joined_within}
@@ -59,6 +61,11 @@ use Rattle.star_answer.specs.Entries.{with_entries}
 use Rattle.star_answer.specs.Served.{AreProjected, IsProjected, IsServed, field_of}
 use Rattle.star_answer.specs.Served.{flat_of}
 use Rattle.star_answer.proofs.EntryLemmas.{entries_at, states_at}
+use Rattle.star_answer.specs.Answers.{IsBad}
+use Rattle.star_answer.specs.Asked.{AreSound}
+use Rattle.star_answer.proofs.CoverLemmas.{all_below, passing_below, read_ones}
+use Rattle.star_answer.proofs.KeyedSteps.{entries_weight, picks_read, rows_light, rows_many, rows_ones}
+use Rattle.star_answer.proofs.KeyedSteps.{taken_keyed}
 use Rattle.star_answer.proofs.HoldLemmas.{holds_same}
 use Rattle.star_answer.proofs.KeyLemmas.{AreGrouped, members, same_total}
 use Rattle.star_answer.proofs.PickedTotals.{HaveKinds, entries_total}
@@ -357,3 +364,55 @@ module _ (query : BoundQuery) (tree : TreePart) (task : Task) (asked : Asked) (f
       → scan.IsOverfull query (selected query rows) old
   served_over old o done so = subst (λ (g : Groups). old.most < finite.len g)
       (groups_are o.read o.told (groups_in old) done so) o.over
+
+  -- nothing is refused
+  module _ (ns : List (asks.Pick (List AggState)))
+      (shown_same : map (shown (flat_of tree.shape.now s.entries).1)
+      (tree_picks (asked_of task) tree.shape.now.dims (flat_of tree.shape.now s.entries).0)
+      ≡ map bare ns)
+      (count : read_of (tree_picks (asked_of task) tree.shape.now.dims
+      (flat_of tree.shape.now s.entries).0) ≡ asks.read_of ns)
+      (parted : ArePartedBy (asked_of task) tree.shape.now.dims ns
+      (projected tree.shape.now.kinds s.entries))
+      (has : HaveDocs merged_rows tree.shape.now.dims (projected tree.shape.now.kinds s.entries) ns) where
+    many : length (projected tree.shape.now.kinds s.entries) ≡ length rows
+    many = rows_many s.split s.pairs s.values tree.shape.now.kinds rows s.entries s.projects
+
+    few_read : read_of (picks_of tree task) ≤ length rows
+    few_read =
+        let same = ap read_of picks_are in
+        let ones = read_ones ns in
+        let below = all_below (λ s. 1) (λ a b. omega arith) t k ns own
+        (rows_ones s.split s.pairs s.values tree.shape.now.kinds rows s.entries s.projects) parted has
+        in
+        omega (arith, same, count, ones, below, many)
+
+    all_sound : (read : List (List Doc)) → AreRead tree.shape.now tree.counts.now
+        (section files tree.documents.now) (reads_of tree task) read
+        → AreSound asked (length rows) (taken_of tree task read)
+    all_sound read are =
+        let ps = tree_picks t k f.0 in
+        let own_taken = passing t k f.1 ps in
+        let lighter = entries_weight asked own_taken in
+        let less = passing_below row_weight rows_law.row_weight_both t k f.1 ps ns shown_same in
+        let below = all_below row_weight rows_law.row_weight_both t k ns own
+        (rows_light s.split s.pairs s.values tree.shape.now.kinds rows s.entries s.projects) parted has
+        in
+        subst (AreSound asked (length rows)) (sym (taken_are read are)) (record {
+          keyed = taken_keyed s.split s.pairs s.values tree.shape.now.kinds t k asked.columns.now rows
+              s.entries own_taken s.projects grouped
+              (λ i d lt. let h = ask.dims i d lt in omega (arith, h, s.dims)) s.of_query.columns walks;
+          light = omega (arith, lighter, less, below, many);
+        })
+
+    pub served_fine : ¬ IsBad tree task asked (length rows) (Some files)
+    served_fine (inl more) = omega (arith, more, few_read)
+    served_fine (inr bad) =
+        let ps = tree_picks t k f.0 in
+        let reads : reads_of tree task ≡ joined ps = ap joined picks_are in
+        let read = map (λ (p : Pick). range p.start p.end f.1) (joined ps) in
+        let are = subst (λ l. AreRead tree.shape.now tree.counts.now
+        (section files tree.documents.now) l read) (sym reads)
+        (picks_read tree.shape.now tree.counts.now (section files tree.documents.now) f.1
+        s.of_rows.documents_are k (joined ps) (joined_within (length f.1) k ps within)) in
+        bad read are (all_sound read are)

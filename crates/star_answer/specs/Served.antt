@@ -8,6 +8,7 @@ use Rattle.values.specs.declared.value.Value.TheVariants.{Whole}
 use Rattle.agg_laws.specs.declared.aggregate_kind.AggKind.TheVariants as kinds
 use Rattle.agg_laws.specs.declared.states.AggState.{AggState}
 use Rattle.agg_laws.specs.declared.tree_shape.TreeShape.{TreeShape}
+use Rattle.agg_laws.specs.Numbers.{AreWhole}
 use Rattle.agg_laws.specs.Rows.{merged_rows}
 use Rattle.agg_laws.specs.Docs.{projected}
 use Rattle.agg_laws.specs.Tree.{dim, tree_of}
@@ -33,13 +34,14 @@ abbrev pub pair_of : List Agg → ℕ → Agg
 pair_of pairs i = slice_index_or pairs i (record { kind = kinds.Count; column = None })
 
 -- a row as a document begins with it: an id for each split dimension, which stands for the row's
--- value, and the row's number for each pair
+-- value, and the row's number for each pair, which has 64 bits
 pub record IsProjected (split : List ℕ) (pairs : List Agg) (values : ℕ → List Value)
     (row : List Value) (entry : List ℕ × List ℤ) : Type 0 where
   pub as_many : length entry.0 ≡ length split
   pub ids : (d : ℕ) → d < length split
       → slice_get (values d) (dim d entry.0) ≡ Some (cell row (field_of split d))
   pub numbers : entry.1 ≡ map (λ pair. number_for pair row) pairs
+  pub whole : AreWhole entry.1
 
 -- each row is projected to the entry in its place
 abbrev pub AreProjected : List ℕ → List Agg → (ℕ → List Value) → List (List Value)

@@ -10,15 +10,16 @@ ghost use Rattle.scan_engine.specs.Scanned as scan;
 ghost use Rattle.scan_engine.specs.Scanned.{AddsRows, selected};
 ghost use Rattle.star_answer.specs.declared.asked.Asked.{Asked};
 ghost use Rattle.star_answer.specs.declared.tree_part.TreePart.{TreePart};
-ghost use Rattle.star_answer.specs.Answers.{Answers, IsOverfull, IsTree, asked_of};
+ghost use Rattle.star_answer.specs.Answers.{Answers, IsBad, IsOverfull, IsTree, asked_of};
 ghost use Rattle.star_answer.specs.Asked.{AreAsked};
 ghost use Rattle.star_answer.specs.Served.{IsServed};
 
+use agg_laws::{flat_law, picks_law};
 use star_walk::walk_law;
 
 /// Where the tree is that of a segment's rows, and the query filters and groups by its dimensions
 /// alone and asks for its pairs, the answer adds the rows that satisfy the filter to the groups; and
-/// there are too many groups just where these rows give too many.
+/// there are too many groups just where these rows give too many. Its documents are never refused.
 pub fn served_law()
     ensures adds { (query : BoundQuery) (tree : TreePart) (task : Task) (asked : Asked)
         (files : Files) (rows : List (List Value)) (old new : KeptGroups)
@@ -32,6 +33,13 @@ pub fn served_law()
         → IsServed query tree (asked_of task) asked files rows
         → IsOverfull tree task asked (Some files) old
         → scan.IsOverfull query (selected query rows) old }
+    ensures never_bad { (query : BoundQuery) (tree : TreePart) (task : Task) (asked : Asked)
+        (files : Files) (rows : List (List Value))
+        → IsTree tree task → AreAsked tree.shape.now asked
+        → IsServed query tree (asked_of task) asked files rows
+        → ¬ IsBad tree task asked (length rows) (Some files) }
 {
     walk_law();
+    flat_law();
+    picks_law();
 }
