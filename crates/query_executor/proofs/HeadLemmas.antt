@@ -11,12 +11,13 @@ use Rattle.dictionary.specs.Dictionary.{Distinct}
 use Rattle.segment_file.specs.declared.section.Section.{Section}
 use Rattle.segment_file.specs.Bounds.{bounds_of}
 use Rattle.segment_file.specs.Front.{extents_of}
-use Rattle.segment_file.specs.Heads.{AreIn, IsHead, IsHeadOf, IsLoaded, IsPartOf, KeepsRules, Loads, OfWhole, Seen, dictionary_section, placed}
+use Rattle.segment_file.specs.Heads.{AreIn, IsHead, IsHeadOf, IsLoaded, IsPartOf, KeepsRules, Loads, OfWhole, Seen, dictionary_section, placed, trees_said}
 use Rattle.segment_file.specs.Image.{CanHold, dictionary_of, front_of, image}
 use Rattle.segment_file.specs.Laws.{ImageKeeps}
 use Rattle.segment_file.specs.Names.{IsSegmentName, file_of}
 use Rattle.segment_file.specs.Ordered.{ordered}
 use Rattle.segment_file.specs.Parts.{columns_of, sections_of}
+use Rattle.segment_file.specs.Rules.{heads_in}
 use Rattle.segment_file.proofs.Composed.{made_count}
 use Rattle.query_executor.specs.Logs.{DictionariesEnd, EndsBy, LogsThat}
 use Rattle.query_executor.specs.Segments.{HasNoImage}
@@ -30,14 +31,14 @@ abbrev image_head : Table → List ℕ → List ℕ → List (List Value) → Se
 image_head table name file rows =
     let os : List (List Value) = ordered table.settings.sorted rows in
     let ds : List Distinct = map (dictionary_of table os) (columns_of table) in
-    record { rows = (front_of 1 table os).rows; sections = map (placed file) (extents_of table name (front_of 1 table os)); bounds = bounds_of ds; dictionaries = map Some ds }
+    record { rows = (front_of 1 table os).rows; sections = map (placed file) (extents_of table name (front_of 1 table os)); bounds = bounds_of ds; dictionaries = map Some ds; trees = map Some (trees_said table (heads_in table name (front_of 1 table os) (image 1 table name rows))) }
 
 module _ (law : ImageKeeps) (table : Table) (valid : IsValidTable table) (name : List ℕ) (named : IsSegmentName name) where
   image_is : (file : List ℕ) (rows : List (List Value)) → CanHold table rows → IsHead table name file (image 1 table name rows) (image_head table name file rows)
   image_is file rows can =
       let os : List (List Value) = ordered table.settings.sorted rows in
       let ds : List Distinct = map (dictionary_of table os) (columns_of table) in
-      record { front = front_of 1 table os; dictionaries = ds; keeps = law table name rows valid named can; rows_are = refl; sections_are = refl; dictionaries_are = refl; bounds_are = refl }
+      record { front = front_of 1 table os; dictionaries = ds; keeps = law table name rows valid named can; rows_are = refl; sections_are = refl; dictionaries_are = refl; bounds_are = refl; trees_are = refl }
 
   -- an open head is that of the image that its file is
   pub opened_image : (held : Option Files) (file : List ℕ) (head : Seen) → file ≡ file_of name → IfSome held (λ files. (whole : Seen) → IsHead table name file (bytes_of (Some files) file) whole → IsPartOf whole head)

@@ -24,6 +24,7 @@ told_head table rows = record {
   sections = [];
   bounds = bounds_of (dictionaries_over table rows);
   dictionaries = map Some (dictionaries_over table rows);
+  trees = [];
 }
 
 -- the plan of a segment that has these rows in this order
