@@ -148,6 +148,7 @@ tree_no_star columns os tree valid few = no_star_rows tree.shape.dims (map (coun
 -- what there is to say of the sections of a tree
 pub record TreeSections (os : List (List Value)) (tree : TreeSetting) : Type 0 where
   pub are_nodes : AreNodes tree.shape (map (count_of os) tree.split) (length os) (nodes_of os (Some tree))
+  pub number : length (written os tree).1 < 2 ^ 32
   pub documents_said : number_at 0 (nodes_of os (Some tree)) ≡ length (written os tree).1
   pub nodes_told : nodes_said (nodes_of os (Some tree)) ≡ record { documents = length (written os tree).1; nodes = (written os tree).0 }
   pub nodes_long : length (nodes_of os (Some tree)) ≡ 4 + 28 * length (written os tree).0
@@ -186,6 +187,7 @@ tree_sections columns os tree valid few each fits =
         keep = section_back tree.shape counts (length f.1) f.0 number word keep;
         none = ((λ z. sym rows_are ∙ none.0 (sym said ∙ z)), (λ z. said ∙ none.1 (rows_are ∙ z)));
       };
+      number = number;
       documents_said = said;
       nodes_told = (λ i. record { documents = said i; nodes = section_nodes (length f.1) f.0 word i });
       nodes_long = section_count (length f.1) f.0;
