@@ -4,6 +4,17 @@ use Rattle.std.proofs.Common.{◌∷◌, Option, Some, None, IfSome, length, ref
 use Rattle.std.specs.FinMap as finite
 use Rattle.std.proofs.lemmas.List.Elements.{All-cons, All-head, All-nil, All-tail}
 use Rattle.outside.specs.Files.{Files}
+use Rattle.agg_laws.specs.declared.node.Node.{Node}
+use Rattle.agg_laws.specs.declared.tree_shape.TreeShape.{TreeShape}
+use Rattle.agg_laws.specs.NodeRules.{KeepsRules}
+use Rattle.agg_laws.specs.Picks as asks
+use Rattle.star_walk.specs.Joins.{joined}
+use Rattle.star_walk.specs.Walking.{tree_picks}
+use Rattle.star_walk.proofs.JoinSteps.{joined_within}
+use Rattle.index_reading.proofs.PostingSteps.{over_partly}
+use Rattle.star_answer.specs.Answers.{IsTree, LogsPicks, LogsSome, stretches_of}
+use Rattle.star_answer.proofs.ReadSteps.{nothing_read}
+use Rattle.outside.specs.Reads.{Entry}
 use Rattle.agg_laws.specs.Docs.{Doc, Docs}
 use Rattle.agg_laws.specs.Merged.{weights}
 use Rattle.agg_laws.specs.Rows.{row_weight}
@@ -11,7 +22,7 @@ use Rattle.agg_laws.specs.Tree.{dim}
 use Rattle.star_file.specs.Reading.{section}
 use Rattle.star_walk.specs.declared.pick.Pick.{Pick}
 use Rattle.star_walk.specs.declared.task.Task.{Task}
-use Rattle.star_walk.specs.Images.{read_of}
+use Rattle.star_walk.specs.Images.{AreWithin, read_of}
 use Rattle.group_table.specs.Kept.{KeptGroups, groups_in}
 use Rattle.star_answer.specs.declared.asked.Asked.{Asked}
 use Rattle.star_answer.specs.declared.asked.GroupColumn.{GroupColumn}
@@ -136,3 +147,42 @@ module _ (tree : TreePart) (task : Task) (asked : Asked) (rows : ℕ) (held : Op
           (ap (keyed asked.columns.now) own.docs_are
           ∙ entries_keyed asked (taken_of tree task own.read)) full;
     }
+
+-- ---- the picks, as they are read
+
+-- what the law of walks says of nodes that keep the rules
+abbrev pub PicksWithin : Type 0
+PicksWithin = (t : asks.Task) (shape : TreeShape) (counts : List ℕ) (documents : ℕ)
+    (ns : List Node) → ((at : ℕ) → at < length ns → KeepsRules shape shape.dims counts documents ns at)
+    → AreWithin documents shape.dims (tree_picks t shape.dims ns)
+
+-- what the law of joined picks says of how many documents they have
+abbrev pub AreAsMany : Type 0
+AreAsMany = (documents k : ℕ) (ps : List Pick) → AreWithin documents k ps
+    → read_of (joined ps) ≡ read_of ps
+
+module _ (tree : TreePart) (task : Task) (ok : IsTree tree task) (law : PicksWithin) where
+  picks_within : AreWithin ok.documents (length task.matched) (picks_of tree task)
+  picks_within = subst (λ n. AreWithin ok.documents n
+      (tree_picks (asked_of task) n tree.nodes.now)) (sym ok.entries)
+      (law (asked_of task) tree.shape.now tree.counts.now ok.documents tree.nodes.now ok.keep.each)
+
+  pub reads_within : AreWithin ok.documents (length task.matched) (reads_of tree task)
+  reads_within = joined_within ok.documents (length task.matched) (picks_of tree task) picks_within
+
+  pub nothing_logged : (log : Option (List Entry)) → LogsSome tree (reads_of tree task) log log
+  nothing_logged log = nothing_read tree ok.documents (length task.matched) (reads_of tree task) log
+      reads_within
+
+  -- they have as many documents
+  pub reads_many : AreAsMany → (ps : List Pick) → ps ≡ reads_of tree task
+      → read_of ps ≡ read_of (picks_of tree task)
+  reads_many many ps is =
+      ap read_of is ∙ many ok.documents (length task.matched) (picks_of tree task) picks_within
+
+-- a log of all picks is one of some
+pub logged_some : (tree : TreePart) (ps reads : List Pick) (old new : Option (List Entry))
+    → ps ≡ reads → LogsPicks tree ps old new → LogsSome tree reads old new
+logged_some tree ps reads old new is logs =
+    over_partly tree.documents.now.file (stretches_of tree reads) old new
+    (subst (λ l. LogsPicks tree l old new) is logs)

@@ -21,7 +21,7 @@ use Rattle.agg_laws.specs.Rows.{RowFits, RowStored, merged_rows, row_weight}
 use Rattle.agg_laws.specs.States.{IsStored}
 use Rattle.agg_laws.specs.laws.Rows as rows
 use Rattle.agg_laws.specs.laws.States as states
-use Rattle.agg_laws.specs.Docs.{Doc, doc_at}
+use Rattle.agg_laws.specs.Docs.{Doc, Docs, doc_at}
 use Rattle.agg_laws.specs.Merged.{add, weights}
 use Rattle.agg_laws.specs.Order.{HasValues}
 use Rattle.agg_laws.specs.Tree.{dims_order, merged_docs}
@@ -232,7 +232,7 @@ module _ (columns : List GroupColumn) where
       ∙ sym (total-rekey merged_rows rows_join (key_values columns) (eq_by_cmp key_order q) docs)
 
 -- the documents after those that were there are these, merged
-pub merged_rest : (docs before all : List Doc) (n : ℕ) → n ≡ length docs → before ≡ docs
+merged_rest : (docs before all : List Doc) (n : ℕ) → n ≡ length docs → before ≡ docs
     → all ≡ before ++ merged_docs merged_rows (range 0 n before)
     → drop n all ≡ merged_docs merged_rows docs
 merged_rest docs before all n count same is =
@@ -243,7 +243,7 @@ merged_rest docs before all n count same is =
     ∙ drop-append_seam before (merged_docs merged_rows (range 0 n before))
     ∙ ap (merged_docs merged_rows) whole
 
-pub merged_light : (docs : List Doc)
+merged_light : (docs : List Doc)
     → weights row_weight (merged_docs merged_rows docs) ≤ weights row_weight docs
 merged_light docs = weights-Merged row_weight dims_order merged_rows rows.row_weight_both docs
 
@@ -251,7 +251,7 @@ ones : (docs : List Doc) → weights (λ (s : List AggState). 1) docs ≡ length
 ones [] = refl
 ones (e ∷ es) = let more = ones es in omega (arith, more)
 
-pub merged_few : (docs : List Doc) → length (merged_docs merged_rows docs) ≤ length docs
+merged_few : (docs : List Doc) → length (merged_docs merged_rows docs) ≤ length docs
 merged_few docs =
     let less = weights-Merged (λ (s : List AggState). 1) dims_order merged_rows (λ a b. omega arith)
     docs in
@@ -259,7 +259,7 @@ merged_few docs =
     let other = ones (merged_docs merged_rows docs) in
     omega (arith, less, own, other)
 
-pub merged_long : (docs before all : List Doc) (n : ℕ) → n ≡ length docs → before ≡ docs
+merged_long : (docs before all : List Doc) (n : ℕ) → n ≡ length docs → before ≡ docs
     → all ≡ before ++ merged_docs merged_rows (range 0 n before) → length all ≤ 2 * length docs
 merged_long docs before all n count same is =
     let whole : range 0 n before ≡ docs = ap (range 0 n) same
@@ -270,6 +270,25 @@ merged_long docs before all n count same is =
     let sum = length-append docs (merged_docs merged_rows docs) in
     let few = merged_few docs in
     omega (arith, long, sum, few)
+
+-- the documents of a table were merged at its end
+pub record IsMerged (docs all : List Doc) (n : ℕ) : Type 0 where
+  pub rest : drop n all ≡ merged_docs merged_rows docs
+  pub long : length all ≤ 2 * length docs
+
+pub merged_table : (old mid new : Docs) (n spare less : ℕ) → n ≡ length old.docs
+    → mid ≡ record old { spare = spare }
+    → new ≡ record mid {
+      docs = mid.docs ++ merged_docs merged_rows (range 0 n mid.docs);
+      spare = less;
+    } → IsMerged old.docs new.docs n
+merged_table old mid new n spare less count reserved appended =
+    let before = ap (λ (t : Docs). t.docs) reserved in
+    let all = ap (λ (t : Docs). t.docs) appended in
+    record {
+      rest = merged_rest old.docs mid.docs new.docs n count before all;
+      long = merged_long old.docs mid.docs new.docs n count before all;
+    }
 
 -- the groups of all documents are those of the merged ones
 module _ (columns : List GroupColumn) (docs rest : List Doc)

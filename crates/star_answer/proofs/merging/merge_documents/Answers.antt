@@ -1,6 +1,5 @@
-use Rattle.std.proofs.Common.{◌-◌, drop, ap, arith}
+use Rattle.std.proofs.Common.{◌-◌, drop, arith}
 use Rattle.std.proofs.lemmas.Result.{on_ok_weaker}
-use Rattle.agg_laws.specs.Docs.{Docs}
 use Rattle.agg_laws.specs.Numbers.{most_values}
 use Rattle.agg_laws.specs.Rows.{row_weight}
 use Rattle.agg_laws.specs.Merged.{weights}
@@ -12,42 +11,38 @@ use Rattle.star_answer.proofs.merging.merge_documents.Goals as goal
 pub merge_last-requires-clause-few : goal.merge_last-requires-clause-few
 merge_last-requires-clause-few c =
     let docs = c.args.taken.docs in
-    let before = ap (λ (t : Docs). t.docs) c.in_ok-reserve.ensures.ok in
-    let all = ap (λ (t : Docs). t.docs) c.in_ok-append_merged.ensures.ok in
-    let long = steps.merged_long docs c.reserve.new.self.docs c.append_merged.new.self.docs
-    c.len-count.result c.len-count.ensures.count before all in
-    omega (arith, long, c.requires.few)
+    let merged = steps.merged_table c.args.taken c.reserve.new.self c.append_merged.new.self
+    c.len-count.result _ _ c.len-count.ensures.count c.in_ok-reserve.ensures.ok
+    c.in_ok-append_merged.ensures.ok in
+    omega (arith, merged.long, c.requires.few)
 
 pub merge_last-requires-clause-keyed : goal.merge_last-requires-clause-keyed
 merge_last-requires-clause-keyed c =
     let docs = c.args.taken.docs in
-    let before = ap (λ (t : Docs). t.docs) c.in_ok-reserve.ensures.ok in
-    let all = ap (λ (t : Docs). t.docs) c.in_ok-append_merged.ensures.ok in
-    let rest = steps.merged_rest docs c.reserve.new.self.docs c.append_merged.new.self.docs
-    c.len-count.result c.len-count.ensures.count before all in
+    let merged = steps.merged_table c.args.taken c.reserve.new.self c.append_merged.new.self
+    c.len-count.result _ _ c.len-count.ensures.count c.in_ok-reserve.ensures.ok
+    c.in_ok-append_merged.ensures.ok in
     steps.rest_keyed c.args.columns.now docs (drop c.len-count.result
-    c.append_merged.new.self.docs) rest c.requires.keyed
+    c.append_merged.new.self.docs) merged.rest c.requires.keyed
 
 pub merge_last-requires-clause-light : goal.merge_last-requires-clause-light
 merge_last-requires-clause-light c =
     let docs = c.args.taken.docs in
-    let before = ap (λ (t : Docs). t.docs) c.in_ok-reserve.ensures.ok in
-    let all = ap (λ (t : Docs). t.docs) c.in_ok-append_merged.ensures.ok in
-    let rest = steps.merged_rest docs c.reserve.new.self.docs c.append_merged.new.self.docs
-    c.len-count.result c.len-count.ensures.count before all in
+    let merged = steps.merged_table c.args.taken c.reserve.new.self c.append_merged.new.self
+    c.len-count.result _ _ c.len-count.ensures.count c.in_ok-reserve.ensures.ok
+    c.in_ok-append_merged.ensures.ok in
     let light = steps.rest_light c.args.columns.now docs (drop c.len-count.result
-    c.append_merged.new.self.docs) rest in
+    c.append_merged.new.self.docs) merged.rest in
     omega (arith, light, c.requires.light)
 
 pub merge_last-requires-clause-fits : goal.merge_last-requires-clause-fits
 merge_last-requires-clause-fits c =
     let docs = c.args.taken.docs in
-    let before = ap (λ (t : Docs). t.docs) c.in_ok-reserve.ensures.ok in
-    let all = ap (λ (t : Docs). t.docs) c.in_ok-append_merged.ensures.ok in
-    let rest = steps.merged_rest docs c.reserve.new.self.docs c.append_merged.new.self.docs
-    c.len-count.result c.len-count.ensures.count before all in
+    let merged = steps.merged_table c.args.taken c.reserve.new.self c.append_merged.new.self
+    c.len-count.result _ _ c.len-count.ensures.count c.in_ok-reserve.ensures.ok
+    c.in_ok-append_merged.ensures.ok in
     let light = steps.rest_light c.args.columns.now docs (drop c.len-count.result
-    c.append_merged.new.self.docs) rest in
+    c.append_merged.new.self.docs) merged.rest in
     at_most_more (groups_in c.args.groups.now) (most_values - weights row_weight docs)
     (most_values - weights row_weight (drop c.len-count.result c.append_merged.new.self.docs))
     (omega (arith, light)) c.requires.fits
@@ -55,20 +50,18 @@ merge_last-requires-clause-fits c =
 pub returns-clause-ok : goal.returns-clause-ok
 returns-clause-ok c =
     let docs = c.args.taken.docs in
-    let before = ap (λ (t : Docs). t.docs) c.in_ok-reserve.ensures.ok in
-    let all = ap (λ (t : Docs). t.docs) c.in_ok-append_merged.ensures.ok in
-    let rest = steps.merged_rest docs c.reserve.new.self.docs c.append_merged.new.self.docs
-    c.len-count.result c.len-count.ensures.count before all in
+    let merged = steps.merged_table c.args.taken c.reserve.new.self c.append_merged.new.self
+    c.len-count.result _ _ c.len-count.ensures.count c.in_ok-reserve.ensures.ok
+    c.in_ok-append_merged.ensures.ok in
     on_ok_weaker c.merge_last.result (steps.rest_merges c.args.columns.now docs
-    (drop c.len-count.result c.append_merged.new.self.docs) rest c.args.groups.now
+    (drop c.len-count.result c.append_merged.new.self.docs) merged.rest c.args.groups.now
     c.merge_last.new.groups) c.merge_last.ensures.ok
 
 pub returns-clause-full : goal.returns-clause-full
 returns-clause-full c is =
     let docs = c.args.taken.docs in
-    let before = ap (λ (t : Docs). t.docs) c.in_ok-reserve.ensures.ok in
-    let all = ap (λ (t : Docs). t.docs) c.in_ok-append_merged.ensures.ok in
-    let rest = steps.merged_rest docs c.reserve.new.self.docs c.append_merged.new.self.docs
-    c.len-count.result c.len-count.ensures.count before all in
+    let merged = steps.merged_table c.args.taken c.reserve.new.self c.append_merged.new.self
+    c.len-count.result _ _ c.len-count.ensures.count c.in_ok-reserve.ensures.ok
+    c.in_ok-append_merged.ensures.ok in
     steps.rest_over c.args.columns.now docs (drop c.len-count.result
-    c.append_merged.new.self.docs) rest c.args.groups.now (c.merge_last.ensures.full is)
+    c.append_merged.new.self.docs) merged.rest c.args.groups.now (c.merge_last.ensures.full is)

@@ -12,5 +12,7 @@ loop-pair-preserved c =
     let i = c.loop-pair.pair-index in
     let value : get_or vs (get_or pairs i 0) (Count 0) ≡ c.state.result =
     get_or_from_slice_get vs (get_or pairs i 0) c.state.result (Count 0) c.state.ensures in
-    c.in_ok-push.ensures.items ∙ (λ j. c.loop-pair.invariant j ++ sym value j ∷ [])
+    let front : c.push.new.self.items ≡ c.loop-pair.states.items ++ c.state.result ∷ [] =
+    c.in_ok-push.ensures.items in
+    front ∙ (λ j. c.loop-pair.invariant j ++ sym value j ∷ [])
     ∙ sym (map_more (λ (pair : ℕ). get_or vs pair (Count 0)) pairs i 0 c.loop-pair-test.true)
