@@ -31,6 +31,7 @@ use Rattle.sql_reply.proofs.AskedLemmas.{unasked_none}
 use Rattle.query_executor.specs.Answers.{IsReply}
 use Rattle.query_executor.specs.Explained.{IsExplained, explained, in_order, lines_or}
 use Rattle.query_executor.specs.Segments.{HasImage, stored_rows}
+use Rattle.query_executor.specs.Stated.{IsStated, stated, stated_by}
 use Rattle.table_store.specs.Accepted.{IsAccepted, IsNoTableFile}
 use Rattle.table_store.specs.Segments.{AreFirstNames, IsFull, has_segment}
 use Rattle.table_store.specs.Stands.{IsSegment, Stands, most_segments, segment_file, segment_of}
@@ -47,7 +48,7 @@ use Rattle.pinot_run.specs.Create.{Made, beside, json_bytes, json_in, new_table,
 use Rattle.pinot_run.proofs.StoredLemmas.{table_segments}
 use Rattle.pinot_run.specs.Queried.{HasNoReply, HasReply, IsFaultOf, IsQueried, IsWrongImage, QueryRefuses, rows_in}
 use Rattle.pinot_run.specs.declared.about.About.{About}
-use Rattle.pinot_run.specs.declared.about.About.TheVariants.{Plans, Rows}
+use Rattle.pinot_run.specs.declared.about.About.TheVariants.{Plans, Rows, RowsAndPlans}
 use Rattle.pinot_run.specs.Ran.{Builds, IsStepped, Lists, Over, Queries, TableIsThere, WhereStands, files_after}
 use Rattle.pinot_run.specs.Stored.{HasRows, HasTableFile, IsListed, IsWrongSegment, SegmentsRefuse, count_in, list_text}
 use Rattle.pinot_run.specs.declared.note.Counted.TheVariants as counted
@@ -351,11 +352,19 @@ module _ (stored : Files) (texts : state.Texts) (segments : Segments) (stands : 
       let (rows, have, same, alike) = all_came (map.keys segments) (key_there stored texts segments stands) in
       let replies : explained table sql (map.keys segments) (in_order table rows) ≡ reply = subst (λ ns. IsExplained table stored ns sql reply) keys is rows have in
       ap (rows_answer Plans segments sql) (read_as texts table accepted) ∙ ap (λ of. sql_answered (explained table sql (map.keys segments) of)) (sym alike) ∙ ap sql_answered replies
+  reply_right RowsAndPlans names sql reply are is =
+      let keys : names ≡ map.keys segments = names_all stored texts segments stands names are in
+      let (rows, have, same, alike) = all_came (map.keys segments) (key_there stored texts segments stands) in
+      let replies : stated table sql (map.keys segments) (in_order table rows) ≡ reply = subst (λ ns. IsStated table stored ns sql reply) keys is rows have in
+      ap (rows_answer RowsAndPlans segments sql) (read_as texts table accepted) ∙ ap (λ of. sql_answered (stated table sql (map.keys segments) of)) (sym alike) ∙ ap sql_answered replies
 
   -- what is wrong with a text is the reply to it
   text_wrong : (about : About) (names : List (List ℕ)) (sql : List ℕ) (wrong : SqlFault) → asked table false sql ≡ Err wrong → HasReply about table stored names sql (Err wrong)
   text_wrong Rows names sql wrong is = λ rows have. unasked_none table false sql wrong (stored_rows table rows) is
   text_wrong Plans names sql wrong is = λ rows have. ap (lines_or table names (in_order table rows)) is
+  text_wrong RowsAndPlans names sql wrong is = λ rows have.
+      let all : List (List Value) = flat_map (λ r. r) (in_order table rows) in
+      ap (stated_by table names (in_order table rows) (sql_reply table false sql all)) is ∙ unasked_none table false sql wrong all is
 
   fault_reply : (about : About) (names : List (List ℕ)) (sql : List ℕ) (wrong : SqlFault) → IsFaultOf about table stored names sql wrong → HasReply about table stored names sql (Err wrong)
   fault_reply about names sql (query.LongQuery most) is = text_wrong about names sql (query.LongQuery most) is

@@ -12,13 +12,14 @@ use Rattle.sql_reply.specs.declared.fault.SqlFault.TheVariants as fault
 use Rattle.query_executor.specs.Answers.{IsReply}
 use Rattle.query_executor.specs.Explained.{IsExplained, explained}
 use Rattle.query_executor.specs.Segments.{HasNoImage}
+use Rattle.query_executor.specs.Stated.{IsStated, stated}
 use Rattle.table_store.specs.Segments.{AreFirstNames, has_segment}
 use Rattle.table_store.specs.State.{Segment, Segments}
 use Rattle.table_store.specs.TableFile.{table_name}
 use Rattle.pinot_run.specs.Notes.{sql_note}
 use Rattle.pinot_run.specs.Stored.{HasTableFile, IsWrongTable, part_text}
 use Rattle.pinot_run.specs.declared.about.About.{About}
-use Rattle.pinot_run.specs.declared.about.About.TheVariants.{Plans, Rows}
+use Rattle.pinot_run.specs.declared.about.About.TheVariants.{Plans, Rows, RowsAndPlans}
 use Rattle.pinot_run.specs.declared.note.Note.{Note}
 use Rattle.pinot_run.specs.declared.note.Note.TheVariants as note
 
@@ -37,10 +38,11 @@ all_rows segments = flat_map (λ name. rows_in (tree.get segments name)) (tree.k
 abbrev pub each_rows : Segments → List (List (List Value))
 each_rows segments = map (λ name. rows_in (tree.get segments name)) (tree.keys segments)
 
--- what a query's text is answered over these segments: the reply over all rows, or a line for the plan of each
+-- what a query's text is answered over these segments: the reply over all rows, a line for the plan of each, or both
 abbrev pub reply_about : About → Table → List ℕ → Segments → SqlReply
 reply_about Rows table sql segments = sql_reply table false sql (all_rows segments)
 reply_about Plans table sql segments = explained table sql (tree.keys segments) (each_rows segments)
+reply_about RowsAndPlans table sql segments = stated table sql (tree.keys segments) (each_rows segments)
 
 -- ---- over any published files
 
@@ -48,6 +50,7 @@ reply_about Plans table sql segments = explained table sql (tree.keys segments) 
 abbrev pub HasReply : About → Table → Files → List (List ℕ) → List ℕ → SqlReply → Type 0
 HasReply Rows table files names sql reply = IsReply table files names sql reply
 HasReply Plans table files names sql reply = IsExplained table files names sql reply
+HasReply RowsAndPlans table files names sql reply = IsStated table files names sql reply
 
 -- a query has no reply over segments of these names: for its text, whatever the rows; or where their files are images, for the groups of all their rows
 abbrev pub IsFaultOf : About → Table → Files → List (List ℕ) → List ℕ → SqlFault → Type 0

@@ -79,7 +79,7 @@ Over (Some (Ask about sql)) inputs old answer new = IfSome old (λ files. Querie
 
 -- ---- refusals
 
--- the bytes of the input files are refused so; for `build`, `query` and `explain` the files of the store have a part in it
+-- the bytes of the input files are refused so; for `build`, `query`, `explain` and `stats` the files of the store have a part in it
 abbrev pub Finds : Option Command → Files → Option Files → Note → Type 0
 Finds None inputs stored line = Unit {0}
 Finds (Some (Scan file sql)) inputs stored line = scan_answer file sql (map.get inputs file) ≡ Refuses line
@@ -88,7 +88,7 @@ Finds (Some (Build name csv)) inputs stored line = IfSome stored (λ files. Buil
 Finds (Some Listing) inputs stored line = ⊥
 Finds (Some (Ask about sql)) inputs stored line = IfSome stored (λ files. QueryRefuses about sql files line)
 
--- a published file is not what it stands for; only `list`, `query` and `explain` look at those of segments
+-- a published file is not what it stands for; only `list`, `query`, `explain` and `stats` look at those of segments
 abbrev pub IsWrong : Option Command → Files → List ℕ → List ℕ → Type 0
 IsWrong (Some Listing) files name part = IsWrongTable files name part ⊎ IsWrongSegment files name part
 IsWrong (Some (Ask about sql)) files name part = IsWrongTable files name part ⊎ IsWrongImage files name part

@@ -7,4 +7,6 @@ pub enum About {
     Rows,
     /// What is to be done with each of its segments.
     Plans,
+    /// The answer, and what was done with each of its segments.
+    RowsAndPlans,
 }

@@ -1,4 +1,4 @@
-//! The commands `query` and `explain`: a query over the segments of a store.
+//! The commands `query`, `explain` and `stats`: a query over the segments of a store.
 ghost use Rattle.std.specs.Prelude.{◌≡◌, ◌≤◌, false, length, Some, IfSome};
 ghost use Rattle.std.specs.List.{All};
 ghost use Rattle.outside.specs.Seen.{Seen, seen};
@@ -20,13 +20,13 @@ use crate::part_name::segment_stop;
 use crate::stop::Stop;
 use crate::store::{stored_names, stored_table};
 use outside::{Bytes, Depot, Name};
-use query_executor::{ExecutorFault, explain_query, reply_to_query};
+use query_executor::{ExecutorFault, explain_query, reply_to_query, stats_query};
 use sql_reply::SqlFault;
 use std::alloc::Global;
 use table_schema::Table;
 
-/// The reply to `query`, or to `explain`, by what the query's text is asked for. The text is looked at
-/// before the file of any segment.
+/// The reply to `query`, `explain` or `stats`, by what the query's text is asked for. The text is
+/// looked at before the file of any segment.
 pub fn ask<D: Depot>(alloc: Global, about: About, sql: &str, depot: &mut D) -> Result<Bytes, Stop>
     ensures { (inputs : Seen) → Ran (Some (Ask about sql.now))
         (record { inputs = inputs; depot = seen D.Shelf depot.old })
@@ -61,6 +61,10 @@ fn reply_over<D: Depot>(
             Err(fault) => Err(stop_of(alloc, table, names, fault)),
         },
         About::Plans => match explain_query(alloc, depot, table, names, sql) {
+            Ok(text) => Ok(text),
+            Err(fault) => Err(stop_of(alloc, table, names, fault)),
+        },
+        About::RowsAndPlans => match stats_query(alloc, depot, table, names, sql) {
             Ok(text) => Ok(text),
             Err(fault) => Err(stop_of(alloc, table, names, fault)),
         },

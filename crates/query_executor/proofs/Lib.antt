@@ -9,3 +9,5 @@ mod ScanLogs
 mod SegmentLemmas
 mod LineLemmas
 mod NameLemmas
+mod DoneLemmas
+mod StatedLemmas

@@ -19,15 +19,15 @@ line_by name said = name ++ (44 ∷ (said ++ (10 ∷ [])))
 abbrev pub plan_line : BoundQuery → Table → List ℕ → List (List Value) → List ℕ
 plan_line query table name rows = line_by name (explained_over query table rows)
 
--- a line for each segment
-abbrev pub plan_lines : BoundQuery → Table → List (List ℕ) → List (List (List Value)) → List ℕ
-plan_lines query table [] segments = []
-plan_lines query table (name ∷ names) [] = []
-plan_lines query table (name ∷ names) (rows ∷ segments) = plan_line query table name rows ++ plan_lines query table names segments
+-- a line for each segment, by its name and its rows
+abbrev pub lines_of : (List ℕ → List (List Value) → List ℕ) → List (List ℕ) → List (List (List Value)) → List ℕ
+lines_of line [] segments = []
+lines_of line (name ∷ names) [] = []
+lines_of line (name ∷ names) (rows ∷ segments) = line name rows ++ lines_of line names segments
 
 -- the lines for a query, or why there is none
 abbrev pub lines_or : Table → List (List ℕ) → List (List (List Value)) → Asked → SqlReply
-lines_or table names segments (Ok query) = Ok (plan_lines query table names segments)
+lines_or table names segments (Ok query) = Ok (lines_of (plan_line query table) names segments)
 lines_or table names segments (Err fault) = Err fault
 
 -- what is said for a query's text of segments of these names, each with its rows in the order of its file

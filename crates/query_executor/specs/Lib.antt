@@ -2,4 +2,5 @@ pub mod Answers
 pub mod Explained
 pub mod Logs
 pub mod Segments
+pub mod Stated
 pub mod Steps

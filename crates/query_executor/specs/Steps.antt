@@ -1,5 +1,5 @@
 -- What is done with one segment of a table for a query.
-use Rattle.std.specs.Prelude.{◌≡◌, ◌≤◌, ◌<◌, ◌++◌, ℕ, List, Option, IfSome, drop, take}
+use Rattle.std.specs.Prelude.{◌≡◌, ◌≤◌, ◌<◌, ◌++◌, ℕ, List, Option, IfSome, Ok, drop, take}
 use Rattle.std.specs.FinMap as finite
 use Rattle.std.specs.List.{AllZip}
 use Rattle.outside.specs.Files.{Files}
@@ -17,14 +17,17 @@ use Rattle.segment_file.specs.declared.fault.HeadFault.TheVariants as head
 use Rattle.segment_plan.specs.declared.plans.SegmentPlan.{SegmentPlan}
 use Rattle.segment_plan.specs.Laws.{IsPlannable}
 use Rattle.segment_plan.specs.Plan.{plan_of}
+use Rattle.segment_plan.specs.Planned.{plan_over}
 use Rattle.segment_scan.specs.Images.{IsOfImage}
 use Rattle.segment_scan.specs.declared.fault.EngineFault.{EngineFault}
 use Rattle.segment_scan.specs.declared.fault.EngineFault.TheVariants as engine
-use Rattle.sql_reply.specs.Reply.{most_groups}
+use Rattle.sql_reply.specs.Reply.{conjuncts_reply, most_groups}
+use Rattle.sql_reply.specs.SqlReply.{replied}
 use Rattle.sql_reply.specs.declared.fault.SqlFault.TheVariants as sql
 use Rattle.query_executor.specs.declared.fault.ExecutorFault.{ExecutorFault}
 use Rattle.query_executor.specs.declared.fault.ExecutorFault.TheVariants.{NotASegment, ReadFault, Sql}
-use Rattle.query_executor.specs.Explained.{in_order, plan_line, plan_lines}
+use Rattle.query_executor.specs.Explained.{in_order, lines_of}
+use Rattle.query_executor.specs.Stated.{docs_over, stats_line, with_lines}
 use Rattle.query_executor.specs.Segments.{HasImage, stored_rows}
 
 -- ---- the head of a segment
@@ -97,12 +100,24 @@ pub record IsPlannedIn (query : BoundQuery) (table : Table) (held : Option Files
   pub image : IsHeadIn table held name head
 
 -- where files are told: if the segment's file is the image of rows, its line was added
-abbrev pub AddsLine : BoundQuery → Table → Option Files → List ℕ → List ℕ → List ℕ → Type 0
-AddsLine query table held name old new =
-    IfSome held (λ files. (rows : List (List Value)) → HasImage table files name rows → new ≡ old ++ plan_line query table name (ordered table.settings.sorted rows))
+abbrev pub AddsLine : (List ℕ → List (List Value) → List ℕ) → Table → Option Files → List ℕ → List ℕ → List ℕ → Type 0
+AddsLine line table held name old new =
+    IfSome held (λ files. (rows : List (List Value)) → HasImage table files name rows → new ≡ old ++ line name (ordered table.settings.sorted rows))
 
 -- where files are told and are images, these are the lines of all segments but those from the n-th on
-abbrev pub HasLines : BoundQuery → Table → Option Files → List (List ℕ) → ℕ → List ℕ → Type 0
-HasLines query table held names n text =
+abbrev pub HasLines : (List ℕ → List (List Value) → List ℕ) → Table → Option Files → List (List ℕ) → ℕ → List ℕ → Type 0
+HasLines line table held names n text =
     IfSome held (λ files. (segments : List (List (List Value))) → AllZip (HasImage table files) names segments
-    → text ++ plan_lines query table (drop n names) (drop n (in_order table segments)) ≡ plan_lines query table names (in_order table segments))
+    → text ++ lines_of line (drop n names) (drop n (in_order table segments)) ≡ lines_of line names (in_order table segments))
+
+-- where files are told: if the segment's file is the image of rows, this is their plan, and so many of them are looked at
+abbrev pub IsDoneIn : BoundQuery → Table → Option Files → List ℕ → SegmentPlan → ℕ → Type 0
+IsDoneIn query table held name plan docs =
+    IfSome held (λ files. (rows : List (List Value)) → HasImage table files name rows
+    → (plan ≡ plan_over query table (ordered table.settings.sorted rows)) × (docs ≡ docs_over query table (ordered table.settings.sorted rows)))
+
+-- where the files of the segments are images, this is the reply to the query in its normal form with a line for each
+abbrev pub IsBoundStated : Table → Files → List (List ℕ) → BoundQuery → List ℕ → Type 0
+IsBoundStated table files names query text =
+    (segments : List (List (List Value))) → AllZip (HasImage table files) names segments
+    → with_lines (lines_of (stats_line query table) names (in_order table segments)) (replied (conjuncts_reply query (stored_rows table segments))) ≡ Ok text

@@ -21,11 +21,9 @@ ghost use Rattle.query_executor.specs.Steps.{HasGroups, HaveTooMany};
 ghost use Rattle.query_executor.specs.declared.fault.ExecutorFault.TheVariants.{NotASegment, ReadFault, Sql};
 
 use crate::ExecutorFault;
-use crate::segment::add_segment;
-use crate::segment_fault::fault_at;
-use group_table::GroupTable;
+use crate::pass::{Pass, pass_over};
 use outside::{Bytes, Name, Shelf};
-use sql_reply::{MOST_GROUPS, SqlFault, answer, bound_query};
+use sql_reply::{SqlFault, answer, bound_query};
 use std::alloc::Global;
 use table_schema::{BoundQuery, Table};
 
@@ -91,50 +89,11 @@ fn reply_to_bound<S: Shelf>(
         (seen S.Shelf shelf.old) (seen S.Shelf shelf.new) }
     ensures log { LogsOf names.now (S.log shelf.old) (S.log shelf.new) }
 {
-    let mut groups = GroupTable::new(alloc, query, MOST_GROUPS)?;
-    match add_segments(alloc, shelf, table, names, query, &mut groups) {
+    let mut pass = Pass::new(alloc, query, false)?;
+    match pass_over(alloc, shelf, table, names, query, &mut pass) {
         Ok(()) => {}
         Err(fault) => return Err(fault),
     }
-    let text = answer(alloc, query, &groups)?;
+    let text = answer(alloc, query, &pass.groups)?;
     Ok(text)
-}
-
-// Adds the rows of the segments of these names to the groups of a query, segment after segment.
-fn add_segments<S: Shelf>(
-    alloc: Global,
-    shelf: &mut S,
-    table: &Table,
-    names: &[Name],
-    query: &BoundQuery,
-    groups: &mut GroupTable,
-) -> Result<(), ExecutorFault>
-    requires valid { IsValidTable table.now }
-    requires plain { IsPlainTable table.now }
-    requires bare { names_unbuilt table.now.settings ≡ false }
-    requires named { All IsSegmentName names.now }
-    requires few { length names.now ≤ 512 }
-    requires query { IsValidQuery table.now query.now }
-    requires new { IsNew query.now most_groups groups.old }
-    ensures ok { OnOk result (HasGroups query.now table.now (S.held shelf.old) names.now
-        (length names.now) groups.new) }
-    ensures of_query { OnOk result (IsTableOf query.now groups.new) }
-    ensures most { OnOk result (groups.new.most ≡ most_groups) }
-    ensures refused { (fault : SqlFault) → result ≡ Err (Sql fault) → fault ≢ NoMemory →
-        (fault ≡ TooManyGroups most_groups)
-        × HaveTooMany query.now table.now (S.held shelf.old) names.now most_groups }
-    ensures bad { (at : ℕ) (part : Part) → result ≡ Err (NotASegment at part) →
-        (at < length names.now) × IfSome (S.held shelf.old) (λ files.
-        HasNoImage table.now files (get_or names.now at [])) }
-    ensures only_reads { OnlyReads (IsErrOf result ReadFault)
-        (seen S.Shelf shelf.old) (seen S.Shelf shelf.new) }
-    ensures log { LogsOf names.now (S.log shelf.old) (S.log shelf.new) }
-{
-    'names: for at in 0..names.len() {
-        match add_segment(alloc, shelf, table, names[at].as_str(), query, groups) {
-            Ok(()) => {}
-            Err(fault) => return Err(fault_at(at as u32, fault)),
-        }
-    }
-    Ok(())
 }

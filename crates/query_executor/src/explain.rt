@@ -12,7 +12,7 @@ ghost use Rattle.sql_reply.specs.Asked.{asked};
 ghost use Rattle.sql_reply.specs.SqlReply.{IsOfText};
 ghost use Rattle.sql_reply.specs.declared.fault.SqlFault.{SqlFault};
 ghost use Rattle.sql_reply.specs.declared.fault.SqlFault.TheVariants.{NoMemory};
-ghost use Rattle.query_executor.specs.Explained.{IsExplained};
+ghost use Rattle.query_executor.specs.Explained.{IsExplained, plan_line};
 ghost use Rattle.query_executor.specs.Logs.{LogsHeadsOf};
 ghost use Rattle.query_executor.specs.Segments.{HasNoImage};
 ghost use Rattle.query_executor.specs.Steps.{HasLines};
@@ -76,7 +76,8 @@ fn explain_bound<S: Shelf>(
     requires few { length names.now ≤ 512 }
     requires query { IsValidQuery table.now query.now }
     ensures lines { IfOk result (λ text.
-        HasLines query.now table.now (S.held shelf.old) names.now (length names.now) text) }
+        HasLines (plan_line query.now table.now) table.now (S.held shelf.old) names.now
+        (length names.now) text) }
     ensures never_wrong { (fault : SqlFault) → result ≡ Err (Sql fault) → fault ≡ NoMemory }
     ensures bad { (at : ℕ) (part : Part) → result ≡ Err (NotASegment at part) →
         (at < length names.now) × IfSome (S.held shelf.old) (λ files.

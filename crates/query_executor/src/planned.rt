@@ -10,7 +10,7 @@ ghost use Rattle.segment_file.specs.declared.part.Part.{Part};
 ghost use Rattle.segment_plan.specs.Explained.{explained_by};
 ghost use Rattle.segment_plan.specs.Plan.{plan_of};
 ghost use Rattle.segment_scan.specs.declared.fault.EngineFault.TheVariants.{NotASegment, ReadFault, TooManyGroups};
-ghost use Rattle.query_executor.specs.Explained.{line_by};
+ghost use Rattle.query_executor.specs.Explained.{line_by, plan_line};
 ghost use Rattle.query_executor.specs.Logs.{LogsHeadOf};
 ghost use Rattle.query_executor.specs.Segments.{HasNoImage};
 ghost use Rattle.query_executor.specs.Steps.{AddsLine, IsPlannedIn};
@@ -39,7 +39,8 @@ pub fn explain_segment<S: Shelf>(
     requires name { IsSegmentName name.now }
     requires query { IsValidQuery table.now query.now }
     ensures ok { OnOk result
-        (AddsLine query.now table.now (S.held shelf.old) name.now text.old.items text.new.items) }
+        (AddsLine (plan_line query.now table.now) table.now (S.held shelf.old) name.now
+        text.old.items text.new.items) }
     ensures bad { (part : Part) → result ≡ Err (NotASegment part) →
         IfSome (S.held shelf.old) (λ files. HasNoImage table.now files name.now) }
     ensures never_full { result ≢ Err TooManyGroups }

@@ -47,7 +47,7 @@ gathered_map f d e (place ∷ places) xs below =
     let P : ℕ → Type 0 = λ p. p < length xs in
     (λ i. sym (get_or-map f xs place d e (All-head P place places below)) i ∷ gathered_map f d e places xs (All-tail P place places below) i)
 
-pub arranged_map : {A B : Type 0} (f : A → B) (d : A) (e : B) (o : RowOrder) (xs : List A) → AreBelow (length xs) (places_in o) → map f (arranged d o xs) ≡ arranged e o (map f xs)
+arranged_map : {A B : Type 0} (f : A → B) (d : A) (e : B) (o : RowOrder) (xs : List A) → AreBelow (length xs) (places_in o) → map f (arranged d o xs) ≡ arranged e o (map f xs)
 arranged_map f d e AsGiven xs below = refl
 arranged_map f d e (ByPlaces places) xs below = gathered_map f d e places.items xs below
 

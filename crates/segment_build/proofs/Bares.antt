@@ -1,12 +1,8 @@
 -- Tables without star-trees.
-use Rattle.std.proofs.Common.{◌≡◌, ◌||◌, ◌≢◌, ℕ, List, [], ◌∷◌, false, true, not, Bool, Some, refl, sym, ap, ◌∙◌}
-use Rattle.std.specs.Prelude.{slice_get}
-use Rattle.values.specs.declared.value.Value.{Value}
+use Rattle.std.proofs.Common.{◌≡◌, ◌||◌, false, true, not, Bool, refl}
 use Rattle.table_schema.specs.Unbuilt.{is_no_tree, is_set_anywhere}
-use Rattle.table_schema.specs.declared.settings.TreeSetting.{TreeSetting}
 use Rattle.table_schema.specs.declared.table.Table.{Table}
-use Rattle.segment_build.specs.Growing.{IsTooLarge}
-use Rattle.segment_build.specs.Sections.{IsBare}
+use Rattle.segment_build.specs.Sections.{HasNoTree, IsBare}
 
 right_false : (a b : Bool) → (a || b) ≡ false → b ≡ false
 right_false true b e = absurd cc
@@ -16,19 +12,8 @@ none_not : (b : Bool) → not b ≡ false → b ≡ true
 none_not true e = refl
 none_not false e = absurd cc
 
-no_trees : (trees : List TreeSetting) → is_no_tree trees ≡ true → trees ≡ []
-no_trees [] is = refl
-no_trees (t ∷ ts) is = absurd cc
-
 -- a table that names nothing that is not built has no star-trees
-pub bare_trees : (table : Table) → IsBare table → table.settings.trees ≡ []
-bare_trees table bare =
+pub bare_built : (table : Table) → IsBare table → HasNoTree table
+bare_built table bare =
     let s = table.settings in
-    no_trees s.trees (none_not (is_no_tree s.trees) (right_false (is_set_anywhere s.ranged) (not (is_no_tree s.trees)) bare.built))
-
-none_there : (t : ℕ) (tree : TreeSetting) → slice_get [] t ≢ Some tree
-none_there t tree at = absurd cc
-
--- and so none that is too large
-pub never_large : (table : Table) (rows : List (List Value)) (t : ℕ) → IsBare table → IsTooLarge table rows t → ⊥
-never_large table rows t bare large = none_there t large.tree (ap (λ trees. slice_get trees t) (sym (bare_trees table bare)) ∙ large.at)
+    record { no_tree = none_not (is_no_tree s.trees) (right_false (is_set_anywhere s.ranged) (not (is_no_tree s.trees)) bare.built) }

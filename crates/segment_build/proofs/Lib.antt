@@ -7,4 +7,3 @@ pub mod Sizes
 pub mod Built
 pub mod FilesLemmas
 pub mod RowLemmas
-pub mod Growing

@@ -6,11 +6,9 @@ mod columns;
 mod fault;
 mod indexes;
 mod laws;
-mod numbers;
 mod order;
 mod publish;
 mod sections;
-mod trees;
 
 pub use build::{build_columns, build_image};
 pub use columns::columns_of;

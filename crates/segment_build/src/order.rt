@@ -76,26 +76,14 @@ pub fn coded(
     }
 }
 
-/// What a list has for each row, in the order of the rows.
-pub fn in_order<T: Copy>(alloc: Global, list: &[T], order: &RowOrder) -> Result<Vec<T>, NoMemory>
-    requires { AreBelow (length list.now) (places_in order.now) }
-    ensures { IfOk result (λ v. (d : T) → v.items ≡ arranged d order.now list.now) }
-{
-    match order {
-        RowOrder::AsGiven => Vec::from_slice(alloc, list),
-        RowOrder::ByPlaces(places) => gathered(alloc, places.as_slice(), list),
-    }
-}
-
-// What a list has at these places.
-fn gathered<T: Copy>(alloc: Global, places: &[u32], list: &[T]) -> Result<Vec<T>, NoMemory>
-    requires { AreBelow (length list.now) places.now }
-    ensures { IfOk result (λ v. (d : T) → v.items
-        ≡ map (λ place. get_or list.now place d) places.now) }
+// The ids at these places.
+fn gathered(alloc: Global, places: &[u32], ids: &[u32]) -> Result<Vec<u32>, NoMemory>
+    requires { AreBelow (length ids.now) places.now }
+    ensures { IfOk result (λ v. v.items ≡ map (λ place. get_or ids.now place 0) places.now) }
 {
     let mut gathered = Vec::with_capacity(alloc, places.len())?;
     for place in places {
-        gathered.push(list[*place as usize])?;
+        gathered.push(ids[*place as usize])?;
     }
     Ok(gathered)
 }

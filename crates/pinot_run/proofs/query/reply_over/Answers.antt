@@ -1,6 +1,6 @@
 use Rattle.std.proofs.Common.{Err, Ok, inl, inr, refl, subst, sym}
 use Rattle.outside.specs.Seen.{Seen, seen}
-use Rattle.pinot_run.specs.declared.about.About.TheVariants.{Plans, Rows}
+use Rattle.pinot_run.specs.declared.about.About.TheVariants.{Plans, Rows, RowsAndPlans}
 use Rattle.pinot_run.specs.Gives.{AnswersQuery}
 use Rattle.pinot_run.proofs.QueryLemmas.{heads_of, one_of, plans_wrong, query_replied, query_stopped, text_real}
 use Rattle.pinot_run.proofs.query.reply_over.Goals as goal
@@ -47,3 +47,23 @@ returns-in-Err-explain_query g c =
     c.stop_of-in-Err-explain_query.result c.stop_of-in-Err-explain_query.ensures e.only_reads
     (λ wrong is real. plans_wrong table c.args.names.now c.args.sql.now a.held wrong (e.of_text wrong is real).2)
     (λ wrong is of. (e.of_text wrong is (text_real wrong of)).2) e.bad (λ wrong is real. inl (e.of_text wrong is real).0))
+
+pub stop_of-requires-in-Err-stats_query : goal.stop_of-requires-in-Err-stats_query
+stop_of-requires-in-Err-stats_query g c = one_of c.args.names.now c.in-Err-stats_query.fault (λ at part is. (c.in-Err-stats_query.ensures.bad at part is).0)
+
+pub returns-in-Ok-stats_query : goal.returns-in-Ok-stats_query
+returns-in-Ok-stats_query g c =
+    let a : Seen = seen g.D.Shelf c.args.depot.now in
+    let b : Seen = seen g.D.Shelf c.stats_query.new.shelf in
+    let e = c.in-Ok-stats_query.ensures in
+    subst (λ about. AnswersQuery about c.args.sql.now a b (Ok c.in-Ok-stats_query.text)) (sym c.in-RowsAndPlans.is)
+    (query_replied RowsAndPlans c.args.table.now c.args.names.now c.args.sql.now a b c.requires.named c.requires.there e.log c.in-Ok-stats_query.text e.only_reads (λ f. cc) e.reply)
+
+pub returns-in-Err-stats_query : goal.returns-in-Err-stats_query
+returns-in-Err-stats_query g c =
+    let a : Seen = seen g.D.Shelf c.args.depot.now in
+    let b : Seen = seen g.D.Shelf c.stats_query.new.shelf in
+    let e = c.in-Err-stats_query.ensures in
+    subst (λ about. AnswersQuery about c.args.sql.now a b (Err c.stop_of-in-Err-stats_query.result)) (sym c.in-RowsAndPlans.is)
+    (query_stopped RowsAndPlans c.args.table.now c.args.names.now c.args.sql.now a b c.requires.named c.requires.there e.log c.in-Err-stats_query.fault c.stop_of-in-Err-stats_query.result c.stop_of-in-Err-stats_query.ensures e.only_reads e.refused
+    (λ wrong is of. (e.of_text wrong is of).1) e.bad (λ wrong is real. inr refl))

@@ -2,6 +2,7 @@ use Rattle.std.proofs.Common.{◌≡◌, ◌∙◌, ◌<◌, [], ℕ, List, IfSo
 use Rattle.std.specs.List.{Contains}
 use Rattle.outside.specs.Seen.{Seen, seen}
 use Rattle.segment_scan.specs.declared.fault.EngineFault.TheVariants as engine
+use Rattle.query_executor.specs.Explained.{plan_line}
 use Rattle.query_executor.specs.Logs.{IsHeadRead}
 use Rattle.query_executor.specs.Segments.{HasNoImage}
 use Rattle.query_executor.specs.Steps.{AddsLine, HasLines, fault_at}
@@ -14,7 +15,7 @@ use Rattle.query_executor.proofs.explain.explain_bound.Goals as goal
 
 pub names-init : goal.names-init
 names-init g c = record {
-  so_far = subst (HasLines c.args.query.now c.args.table.now (g.S.Shelf.held c.args.shelf.now) c.args.names.now 0) (sym c.new-text.ensures.items) (no_lines c.args.query.now c.args.table.now c.args.names.now (g.S.Shelf.held c.args.shelf.now));
+  so_far = subst (HasLines (plan_line c.args.query.now c.args.table.now) c.args.table.now (g.S.Shelf.held c.args.shelf.now) c.args.names.now 0) (sym c.new-text.ensures.items) (no_lines (plan_line c.args.query.now c.args.table.now) c.args.table.now c.args.names.now (g.S.Shelf.held c.args.shelf.now));
   reads = reads_none (seen g.S.Shelf c.args.shelf.now);
   log = entries_none (λ entry. (name : List ℕ) × Contains c.args.names.now name × IsHeadRead c.args.table.now (g.S.Shelf.held c.args.shelf.now) name entry) (g.S.Shelf.log c.args.shelf.now);
 }
@@ -30,11 +31,11 @@ names-preserved g c =
     let text : List ℕ = c.as_str.result.now in
     let lt : c.names.at < length names = omega arith in
     let is : text ≡ get_or names c.names.at [] = is_named names c.names.at text c.index-names-at.result lt c.as_str.ensures c.index-names-at.is in
-    let added : AddsLine query table a.held (get_or names c.names.at []) c.names.text.items c.explain_segment.new.text.items =
-    subst (λ name. AddsLine query table a.held name c.names.text.items c.explain_segment.new.text.items) is
-    (subst (λ held. AddsLine query table held text c.names.text.items c.explain_segment.new.text.items) c.names.invariant.reads.held c.in-Ok.ensures.ok) in
+    let added : AddsLine (plan_line query table) table a.held (get_or names c.names.at []) c.names.text.items c.explain_segment.new.text.items =
+    subst (λ name. AddsLine (plan_line query table) table a.held name c.names.text.items c.explain_segment.new.text.items) is
+    (subst (λ held. AddsLine (plan_line query table) table held text c.names.text.items c.explain_segment.new.text.items) c.names.invariant.reads.held c.in-Ok.ensures.ok) in
     record {
-      so_far = lines_more query table names a.held c.names.at c.names.text.items c.explain_segment.new.text.items lt c.names.invariant.so_far added;
+      so_far = lines_more (plan_line query table) table names a.held c.names.at c.names.text.items c.explain_segment.new.text.items lt c.names.invariant.so_far added;
       reads = reads_then a b d c.names.invariant.reads (reads_as b d c.in-Ok.ensures.only_reads (λ e. absurd e) (λ e. absurd cc));
       log = heads_more table names c.names.at text a.held b.held a.log b.log d.log lt is c.names.invariant.reads.held c.names.invariant.log c.in-Ok.ensures.log;
     }
@@ -76,8 +77,8 @@ pub returns-clause-lines : goal.returns-clause-lines
 returns-clause-lines g c =
     let names : List (List ℕ) = c.args.names.now in
     let done : c.names.at ≡ length names = omega arith in
-    subst (HasLines c.args.query.now c.args.table.now (g.S.Shelf.held c.args.shelf.now) names (length names)) (sym c.from_vec.ensures)
-    (subst (λ k. HasLines c.args.query.now c.args.table.now (g.S.Shelf.held c.args.shelf.now) names k c.names.text.items) done c.names.invariant.so_far)
+    subst (HasLines (plan_line c.args.query.now c.args.table.now) c.args.table.now (g.S.Shelf.held c.args.shelf.now) names (length names)) (sym c.from_vec.ensures)
+    (subst (λ k. HasLines (plan_line c.args.query.now c.args.table.now) c.args.table.now (g.S.Shelf.held c.args.shelf.now) names k c.names.text.items) done c.names.invariant.so_far)
 
 pub returns-clause-only_reads : goal.returns-clause-only_reads
 returns-clause-only_reads g c = reads_as (seen g.S.Shelf c.args.shelf.now) (seen g.S.Shelf c.names.shelf) c.names.invariant.reads (λ e. absurd cc) (λ e. absurd e)

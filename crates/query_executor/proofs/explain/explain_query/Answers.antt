@@ -1,6 +1,6 @@
 use Rattle.std.proofs.Common.{◌≡◌, ◌∙◌, false, ℕ, List, Ok, Err, IfSome, length, refl, sym, ap}
 use Rattle.sql_reply.proofs.AskedLemmas.{unasked_text}
-use Rattle.query_executor.specs.Explained.{IsExplained}
+use Rattle.query_executor.specs.Explained.{IsExplained, plan_line}
 use Rattle.query_executor.specs.Steps.{HasLines}
 use Rattle.query_executor.proofs.LineLemmas.{all_explained}
 use Rattle.query_executor.proofs.ReplyLemmas.{found_so}
@@ -12,7 +12,7 @@ returns-in-Ok-clause-reply g c =
     let names : List (List ℕ) = c.args.names.now in
     let held = g.S.Shelf.held c.args.shelf.now in
     found_so c.explain_bound.result
-    (HasLines c.in-Ok.bound table held names (length names))
+    (HasLines (plan_line c.in-Ok.bound table) table held names (length names))
     (λ text. IfSome held (λ files. IsExplained table files names c.args.sql.now (Ok text)))
     (all_explained c.in-Ok.bound table names c.args.sql.now c.in-Ok.ensures.asked held)
     c.explain_bound.ensures.lines

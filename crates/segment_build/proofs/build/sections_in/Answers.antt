@@ -7,11 +7,11 @@ use Rattle.dictionary.specs.Dictionary.{distinct}
 use Rattle.table_schema.specs.declared.field.Field.{Field}
 use Rattle.segment_file.specs.Ordered.{ordered}
 use Rattle.segment_build.specs.Fitting.{FitsKind}
-use Rattle.segment_build.specs.Sections.{made_of, with_column}
+use Rattle.segment_build.specs.Sections.{in_order, made_of, with_column}
 use Rattle.segment_build.proofs.Built.{IsCoded, coded_below, coded_few, coded_is, coded_more, coded_up, places_within}
-use Rattle.segment_build.proofs.ColumnLemmas.{made_none}
+use Rattle.segment_build.proofs.ColumnLemmas.{if_ok_items, made_all, made_none}
 use Rattle.segment_build.proofs.Fits.{columns_fit}
-use Rattle.segment_build.proofs.build.column_sections.Goals as goal
+use Rattle.segment_build.proofs.build.sections_in.Goals as goal
 
 pub columns-init : goal.columns-init
 columns-init c = made_none c.args.table.now (ordered c.args.table.now.settings.sorted (rows_of c.args.columns.now)) _ c.in_ok-sections.ensures
@@ -105,4 +105,4 @@ returns c =
     let table = c.args.table.now in
     let os = ordered table.settings.sorted (rows_of c.args.columns.now) in
     let end : c.columns.at ≡ length table.schema.fields = omega (arith, c.columns-test.false, c.columns.auto.at-end, ap length c.as_slice-fields.ensures) in
-    c.columns.invariant ∙ ap (made_of table os) end
+    if_ok_items c.into_list.result _ _ (ap in_order c.columns.invariant ∙ ap (λ n. in_order (made_of table os n)) end ∙ made_all table os c.requires.valid) c.into_list.ensures
