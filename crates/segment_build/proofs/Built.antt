@@ -16,7 +16,7 @@ use Rattle.segment_file.specs.Ordered.{ordered, value_in}
 use Rattle.segment_build.specs.Fitting.{AreColumns, FitsKind}
 use Rattle.segment_build.specs.declared.indexes.Indexes.{Indexes}
 use Rattle.segment_build.specs.declared.order.RowOrder.{RowOrder}
-use Rattle.segment_build.specs.Arranging.{Orders, OrdersBy, arranged, places_in}
+use Rattle.segment_build.specs.Arranging.{IsCoded, Orders, OrdersBy, arranged, places_in}
 use Rattle.segment_build.specs.Sections.{Made, ids_in, made_of, with_column}
 use Rattle.segment_build.proofs.Arranged.{ids_arranged, sorted_up}
 use Rattle.segment_build.proofs.ColumnLemmas.{column_values, made_all, made_more}
@@ -114,10 +114,7 @@ pub built_image : (table : Table) (name : List ℕ) (t : ListedColumns) (rows : 
 built_image table name t rows sections file counts number are is =
     is ∙ (λ i. front_bytes table name (front_is table t rows sections counts number are i) ++ concat (are i))
 
--- the ids of one more column, and its sections
-pub record IsCoded (table : Table) (t : ListedColumns) (at : ℕ) (d : Distinct) (ids : List ℕ) : Type 0 where
-  pub distinct_is : d ≡ dictionary_of table (in_rows table t) at
-  pub ids_is : ids ≡ ids_of (in_rows table t) at
+-- ---- the ids of one more column, and its sections
 
 pub coded_is : (table : Table) (t : ListedColumns) (at : ℕ) (field : Field) (column : Listed) (o : RowOrder) (d : Distinct) (ids : List ℕ) → AreColumns table.schema.fields t → at < length table.schema.fields
     → field ≡ get_or table.schema.fields at field → column ≡ get_or t.columns at column → Orders table.settings.sorted (rows_of t) o

@@ -15,7 +15,8 @@ ghost use Rattle.segment_build.specs.Sections.{made_of};
 
 use crate::sections::Sections;
 use crate::trees::grow_trees;
-use crate::{BuildFault, RowOrder, coded, columns_of, indexes_at, row_order};
+use crate::order::coded_column;
+use crate::{BuildFault, RowOrder, columns_of, indexes_at, row_order};
 use outside::{Bytes, NoMemory, Seq};
 use segment_file::{Front, sections_of};
 use std::alloc::Global;
@@ -117,7 +118,8 @@ fn sections_in(
         Ok(trees) => trees,
         Err(fault) => return Err(fault),
     };
-    Ok(made.into_list(alloc, trees)?)
+    let sections = made.into_list(alloc, trees)?;
+    Ok(sections)
 }
 
 // The sections of the columns, by their kinds.
@@ -134,10 +136,10 @@ fn column_sections(
         (ordered table.now.settings.sorted (rows_of columns.now))
         (length table.now.schema.fields)) }
 {
-    let fields = table.schema.fields.as_slice();
-    let mut sections = Sections::with_capacity(alloc, fields.len())?;
-    'columns: for at in 0..fields.len() {
-        let (dictionary, ids) = coded(alloc, fields[at].kind, columns.column(at), order)?;
+    let count = table.schema.fields.len();
+    let mut sections = Sections::with_capacity(alloc, count)?;
+    'columns: for at in 0..count {
+        let (dictionary, ids) = coded_column(alloc, table, columns, order, at)?;
         let indexes = indexes_at(&table.settings, at);
         sections.push(alloc, &dictionary, ids.as_slice(), indexes)?;
     }

@@ -4,7 +4,7 @@ ghost use Rattle.values.specs.Columns.{rows_of};
 ghost use Rattle.table_schema.specs.ValidTable.{IsValidTable};
 ghost use Rattle.dictionary.specs.Coding.{AreBelow};
 ghost use Rattle.dictionary.specs.Dictionary.{distinct};
-ghost use Rattle.segment_build.specs.Arranging.{Orders, OrdersBy, arranged, places_in};
+ghost use Rattle.segment_build.specs.Arranging.{IsCoded, Orders, OrdersBy, arranged, places_in};
 ghost use Rattle.segment_build.specs.Fitting.{AreColumns, FitsKind};
 ghost use Rattle.segment_build.specs.Sections.{ids_in};
 
@@ -74,6 +74,24 @@ pub fn coded(
             Ok((dictionary, gathered))
         }
     }
+}
+
+/// The same of the column of that number of a table's rows.
+pub fn coded_column(
+    alloc: Global,
+    table: &Table,
+    columns: &Columns,
+    order: &RowOrder,
+    at: usize,
+) -> Result<(Dictionary, Vec<u32>), NoMemory>
+    requires columns { AreColumns table.now.schema.fields columns.now }
+    requires order { Orders table.now.settings.sorted (rows_of columns.now) order.now }
+    requires at { at < length table.now.schema.fields }
+    ensures { IfOk result (λ r. IsCoded table.now columns.now at r.0 r.1.items) }
+{
+    let fields = table.schema.fields.as_slice();
+    let coded = coded(alloc, fields[at].kind, columns.column(at), order)?;
+    Ok(coded)
 }
 
 /// What a list has for each row, in the order of the rows.

@@ -19,7 +19,8 @@ ghost use Rattle.segment_build.specs.Growing.{IsKnown, IsTooLarge, TreesFit, nod
 ghost use Rattle.segment_build.specs.declared.fault.BuildFault.TheVariants.{NoMemory, TooLarge};
 
 use crate::numbers::{numbers_of, zeros};
-use crate::{BuildFault, RowOrder, coded};
+use crate::order::coded_column;
+use crate::{BuildFault, RowOrder};
 use agg_laws::StarTable;
 use outside::{Bytes, NoMemory, Seq};
 use star_builder::{TreeFault, build_tree};
@@ -152,11 +153,9 @@ fn split_ids(
     ensures { IfOk result (λ ids. ids
         ≡ map (ids_of (ordered table.now.settings.sorted (rows_of columns.now))) split.now) }
 {
-    let fields = table.schema.fields.as_slice();
     let mut all = Vec::with_capacity(alloc, split.len())?;
-    'split: for at in 0..split.len() {
-        let number = split[at] as usize;
-        let (_, ids) = coded(alloc, fields[number].kind, columns.column(number), order)?;
+    for column in split {
+        let (_, ids) = coded_column(alloc, table, columns, order, *column as usize)?;
         all.push(Seq::from_vec(ids))?;
     }
     Ok(Seq::from_vec(all))
@@ -175,8 +174,8 @@ fn pair_numbers(
         ≡ map (λ pair. numbers_for columns.now order.now pair.column) pairs.now) }
 {
     let mut all = Vec::with_capacity(alloc, pairs.len())?;
-    'pairs: for at in 0..pairs.len() {
-        let numbers = pair_column(alloc, columns, order, pairs[at].column)?;
+    for pair in pairs {
+        let numbers = pair_column(alloc, columns, order, pair.column)?;
         all.push(Seq::from_vec(numbers))?;
     }
     Ok(Seq::from_vec(all))
