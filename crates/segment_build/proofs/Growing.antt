@@ -1,20 +1,26 @@
 -- The rows of a segment as documents of its trees, by the columns of their ids and numbers.
-use Rattle.std.proofs.Common.{◌≡◌, ◌∙◌, ◌<◌, ◌≤◌, ◌+◌, ℕ, zero, suc, ℤ, List, [], ◌∷◌, ◌++◌, length, map, get_or, take, replicate, Option, Some, None, false, refl, sym, ap, ap₂, subst, arith}
+use Rattle.std.proofs.Common.{◌≡◌, ◌∙◌, ◌<◌, ◌≤◌, ◌+◌, ℕ, zero, suc, ℤ, List, [], ◌∷◌, ◌++◌, length, map, get_or, take, replicate, Option, Some, None, Bool, true, false, refl, sym, ap, ap₂, subst, arith}
 use Rattle.std.specs.Prelude.{pos, slice_get}
-use Rattle.std.specs.List.{All}
+use Rattle.std.specs.List.{All, list_all}
+use Rattle.std.proofs.lemmas.Bool.{false≢true}
 use Rattle.std.specs.Option.{option_map_or}
 use Rattle.std.proofs.lemmas.List.{get_or-map, length-map, map-append, take_all, take_more}
 use Rattle.std.proofs.lemmas.List.Elements.{All-head, All-map, All-nil, All-cons, All-push, All-tail}
 use Rattle.std.proofs.lemmas.Simd.{map-map}
 use Rattle.values.specs.declared.value.Value.{Value}
+use Rattle.values.specs.declared.value.Value.TheVariants.{Text, Whole}
 use Rattle.values.specs.Columns.{Listed, ListedColumns, rows_of}
 use Rattle.values.proofs.RowLemmas.{length-rows}
 use Rattle.agg_laws.specs.declared.aggregate_kind.AggKind.{AggKind}
+use Rattle.agg_laws.specs.declared.aggregate_kind.AggKind.TheVariants as kinds
 use Rattle.agg_laws.specs.Docs.{Doc, projected}
 use Rattle.table_schema.specs.declared.field.Field.{Field}
 use Rattle.table_schema.specs.declared.query.Agg.{Agg}
 use Rattle.table_schema.specs.declared.settings.TreeSetting.{TreeSetting}
 use Rattle.table_schema.specs.declared.table.Table.{Table}
+use Rattle.table_schema.specs.Roles.{is_numeric}
+use Rattle.table_schema.specs.ValidSettings.{pair_fits}
+use Rattle.segment_file.proofs.ImageRows.{and_first, and_second}
 use Rattle.dictionary.specs.Dictionary.{distinct}
 use Rattle.star_records.specs.Columns as records
 use Rattle.segment_file.specs.Columns.{ids_of, place_of, values_in}
@@ -84,6 +90,14 @@ metrics_long os pairs metrics n count are =
 
 -- ---- the numbers of a column
 
+pub text_numbers : (texts : List (List ℕ)) → map number_of (map Text texts) ≡ replicate (length texts) (pos 0)
+text_numbers [] = refl
+text_numbers (t ∷ ts) = ap (λ xs. pos 0 ∷ xs) (text_numbers ts)
+
+pub whole_numbers : (numbers : List ℤ) → map number_of (map Whole numbers) ≡ numbers
+whole_numbers [] = refl
+whole_numbers (n ∷ ns) = ap (λ xs. n ∷ xs) (whole_numbers ns)
+
 map_same : {X : Type 0} (x : ℤ) (xs : List X) → map (λ y. x) xs ≡ replicate (length xs) x
 map_same x [] = refl
 map_same x (y ∷ ys) = ap (λ zs. x ∷ zs) (map_same x ys)
@@ -112,6 +126,27 @@ pair_columns table t o (p ∷ pairs) are orders known =
     let here = column_numbers table t o p.column are orders (All-head K p pairs known) in
     let more = pair_columns table t o pairs are orders (All-tail K p pairs known) in
     (λ i. here i ∷ more i)
+
+-- ---- the columns of pairs
+
+numeric_within : (fields : List Field) (c : ℕ) → is_numeric (slice_get fields c) ≡ true → c < length fields
+numeric_within [] c is = absurd (false≢true is)
+numeric_within (f ∷ fs) zero is = omega arith
+numeric_within (f ∷ fs) (suc c) is = omega (arith, numeric_within fs c is)
+
+pair_known : (fields : List Field) (n : ℕ) (k : AggKind) (column : Option ℕ) → n ≡ length fields → pair_fits fields k column ≡ true → IsKnown n column
+pair_known fields n k None count fit = tt
+pair_known fields n kinds.Count (Some c) count fit = absurd (false≢true fit)
+pair_known fields n kinds.Sum (Some c) count fit = omega (arith, numeric_within fields c fit, count)
+pair_known fields n kinds.Least (Some c) count fit = omega (arith, numeric_within fields c fit, count)
+pair_known fields n kinds.Greatest (Some c) count fit = omega (arith, numeric_within fields c fit, count)
+pair_known fields n kinds.Average (Some c) count fit = omega (arith, numeric_within fields c fit, count)
+
+pub pairs_known : (fields : List Field) (n : ℕ) (pairs : List Agg) → n ≡ length fields → list_all (λ p. pair_fits fields p.kind p.column) pairs ≡ true → All (λ p. IsKnown n p.column) pairs
+pairs_known fields n [] count fit = All-nil (λ (p : Agg). IsKnown n p.column)
+pairs_known fields n (p ∷ pairs) count fit =
+    let F : Agg → Bool = λ q. pair_fits fields q.kind q.column in
+    All-cons (λ (q : Agg). IsKnown n q.column) p pairs (pair_known fields n p.kind p.column count (and_first (F p) (list_all F pairs) fit)) (pairs_known fields n pairs count (and_second (F p) (list_all F pairs) fit))
 
 -- ---- one more tree
 

@@ -38,6 +38,7 @@ use Rattle.bit_column.proofs.PostingLaws.{buckets_in, posting_length}
 use Rattle.bit_column.proofs.SortedLaws.{sorted_length}
 use Rattle.table_schema.specs.ValidTable.{IsRow, IsValidTable}
 use Rattle.table_schema.specs.declared.table.Table.{Table}
+use Rattle.table_schema.specs.declared.field.Field.{Field}
 use Rattle.table_schema.specs.declared.settings.TreeSetting.{TreeSetting}
 use Rattle.table_schema.specs.ValidSettings.{IsValidTree}
 use Rattle.segment_file.specs.Trees.{TreeFits, nodes_of, star_of}

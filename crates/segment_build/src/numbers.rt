@@ -18,10 +18,11 @@ pub fn numbers_of(alloc: Global, column: &Column, order: &RowOrder) -> Result<Ve
 {
     if let Some(texts) = column.as_texts() {
         let zeros = zeros(alloc, texts.len())?;
-        return in_order(alloc, zeros.as_slice(), order);
+        let numbers = in_order(alloc, zeros.as_slice(), order)?;
+        return Ok(numbers);
     }
     match column.as_numbers() {
-        Some(numbers) => in_order(alloc, numbers, order),
+        Some(numbers) => Ok(in_order(alloc, numbers, order)?),
         None => unreachable!(),
     }
 }

@@ -101,7 +101,10 @@ pub fn in_order<T: Copy>(alloc: Global, list: &[T], order: &RowOrder) -> Result<
 {
     match order {
         RowOrder::AsGiven => Vec::from_slice(alloc, list),
-        RowOrder::ByPlaces(places) => gathered(alloc, places.as_slice(), list),
+        RowOrder::ByPlaces(places) => {
+            let gathered = gathered(alloc, places.as_slice(), list)?;
+            Ok(gathered)
+        }
     }
 }
 

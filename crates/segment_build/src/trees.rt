@@ -113,7 +113,10 @@ fn grow_tree(
         ¬ TreeFits (ordered table.now.settings.sorted (rows_of columns.now)) tree.now }
 {
     let rows = rows_of_tree(alloc, table, columns, order, tree)?;
-    build_tree(alloc, &tree.shape, rows)
+    match build_tree(alloc, &tree.shape, rows) {
+        Ok(grown) => Ok(grown),
+        Err(fault) => Err(fault),
+    }
 }
 
 // The rows in their order as documents of a tree.
@@ -136,7 +139,8 @@ fn rows_of_tree(
 {
     let dims = split_ids(alloc, table, columns, order, tree.split.as_slice())?;
     let metrics = pair_numbers(alloc, columns, order, tree.pairs.as_slice())?;
-    project(alloc, &tree.shape, &dims, &metrics)
+    let rows = project(alloc, &tree.shape, &dims, &metrics)?;
+    Ok(rows)
 }
 
 // The ids of the rows in these columns.
