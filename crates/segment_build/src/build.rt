@@ -13,9 +13,9 @@ ghost use Rattle.segment_build.specs.Fitting.{AreColumns};
 ghost use Rattle.segment_build.specs.Growing.{IsTooLarge, TreesFit};
 ghost use Rattle.segment_build.specs.Sections.{made_of};
 
+use crate::order::coded_column;
 use crate::sections::Sections;
 use crate::trees::grow_trees;
-use crate::order::coded_column;
 use crate::{BuildFault, RowOrder, columns_of, indexes_at, row_order};
 use outside::{Bytes, NoMemory, Seq};
 use segment_file::{Front, sections_of};

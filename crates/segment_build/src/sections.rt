@@ -8,8 +8,8 @@ ghost use Rattle.bit_column.specs.Postings.{inverted, ranged};
 ghost use Rattle.bit_column.specs.SortedRuns.{sorted_runs};
 ghost use Rattle.segment_build.specs.Sections.{in_order, only, with_column};
 
-use crate::trees::Grown;
 use crate::Indexes;
+use crate::trees::Grown;
 use bit_column::width_for;
 use dictionary::Dictionary;
 use inverted_lists::{write_inverted, write_ranged, write_sorted};
