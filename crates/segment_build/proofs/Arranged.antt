@@ -1,7 +1,7 @@
 -- Columns of rows that are put in their order.
-use Rattle.std.proofs.Common.{◌≡◌, ◌∙◌, ◌<◌, ◌≤◌, ◌+◌, ◌==◌, cond, Bool, true, ℕ, zero, suc, List, [], ◌∷◌, length, map, get_or, Option, Some, None, refl, sym, ap, subst, arith, pos, Vec, Global, MatchBool}
+use Rattle.std.proofs.Common.{◌≡◌, ◌∙◌, ◌<◌, ◌≤◌, ◌+◌, ◌==◌, cond, Bool, true, ℕ, zero, suc, List, [], ◌∷◌, ◌++◌, length, map, get_or, take, Option, Some, None, refl, sym, ap, subst, arith, pos, Vec, Global, MatchBool}
 use Rattle.std.proofs.lemmas.Bool.{eqb-true}
-use Rattle.std.proofs.lemmas.List.{get_or-map, length-map}
+use Rattle.std.proofs.lemmas.List.{get_or-map, length-map, map-append, take_more}
 use Rattle.std.proofs.lemmas.List.Elements.{All-append, All-cons, All-head, All-nil, All-tail}
 use Rattle.std.proofs.lemmas.Simd.{map-map}
 use Rattle.std.specs.List.{All}
@@ -39,6 +39,24 @@ entries_below : (count : ℕ) (ids : List ℕ) → AreBelow (length ids) (entrie
 entries_below zero ids = All-nil (λ p. p < length ids)
 entries_below (suc key) ids = All-append (λ p. p < length ids) (entries key ids) (places_of key ids) (entries_below key ids) (places_below 0 key (length ids) ids (omega arith))
 
+-- ---- a list at places
+
+other_default : {A : Type 0} (xs : List A) (p : ℕ) (d e : A) → p < length xs → get_or xs p d ≡ get_or xs p e
+other_default [] p d e lt = absurd (omega (arith, lt))
+other_default (x ∷ xs) zero d e lt = refl
+other_default (x ∷ xs) (suc p) d e lt = other_default xs p d e (omega (arith, lt))
+
+-- what the list has at one more place
+pub gathered_more : {A : Type 0} (places : List ℕ) (xs : List A) (i : ℕ) (x d : A) (old new : List A) → AreBelow (length xs) places → i < length places → x ≡ get_or xs (get_or places i 0) x → old ≡ map (λ p. get_or xs p d) (take i places) → new ≡ old ++ x ∷ []
+    → new ≡ map (λ p. get_or xs p d) (take (i + 1) places)
+gathered_more {A} places xs i x d old new below lt at so_far more =
+    let f : ℕ → A = λ p. get_or xs p d in
+    let one : x ≡ f (get_or places i 0) = at ∙ other_default xs (get_or places i 0) x d (below i 0 lt) in
+    more
+    ∙ (λ j. so_far j ++ one j ∷ [])
+    ∙ sym (map-append f (take i places) (get_or places i 0 ∷ []))
+    ∙ ap (map f) (sym (take_more places i 0 lt))
+
 -- ---- what is made of each item is arranged as the items are
 
 gathered_map : {A B : Type 0} (f : A → B) (d : A) (e : B) (places : List ℕ) (xs : List A) → AreBelow (length xs) places → map f (map (λ p. get_or xs p d) places) ≡ map (λ p. get_or (map f xs) p e) places
@@ -47,7 +65,7 @@ gathered_map f d e (place ∷ places) xs below =
     let P : ℕ → Type 0 = λ p. p < length xs in
     (λ i. sym (get_or-map f xs place d e (All-head P place places below)) i ∷ gathered_map f d e places xs (All-tail P place places below) i)
 
-arranged_map : {A B : Type 0} (f : A → B) (d : A) (e : B) (o : RowOrder) (xs : List A) → AreBelow (length xs) (places_in o) → map f (arranged d o xs) ≡ arranged e o (map f xs)
+pub arranged_map : {A B : Type 0} (f : A → B) (d : A) (e : B) (o : RowOrder) (xs : List A) → AreBelow (length xs) (places_in o) → map f (arranged d o xs) ≡ arranged e o (map f xs)
 arranged_map f d e AsGiven xs below = refl
 arranged_map f d e (ByPlaces places) xs below = gathered_map f d e places.items xs below
 

@@ -1,9 +1,12 @@
 -- Tables without star-trees.
-use Rattle.std.proofs.Common.{◌≡◌, ◌||◌, ◌∷◌, [], List, false, true, not, Bool, refl}
+use Rattle.std.proofs.Common.{◌≡◌, ◌||◌, ◌≢◌, ℕ, List, [], ◌∷◌, false, true, not, Bool, Some, refl, sym, ap, ◌∙◌}
+use Rattle.std.specs.Prelude.{slice_get}
+use Rattle.values.specs.declared.value.Value.{Value}
 use Rattle.table_schema.specs.Unbuilt.{is_no_tree, is_set_anywhere}
 use Rattle.table_schema.specs.declared.settings.TreeSetting.{TreeSetting}
 use Rattle.table_schema.specs.declared.table.Table.{Table}
-use Rattle.segment_build.specs.Sections.{HasNoTree, IsBare}
+use Rattle.segment_build.specs.Growing.{IsTooLarge}
+use Rattle.segment_build.specs.Sections.{IsBare}
 
 right_false : (a b : Bool) → (a || b) ≡ false → b ≡ false
 right_false true b e = absurd cc
@@ -14,15 +17,18 @@ none_not true e = refl
 none_not false e = absurd cc
 
 no_trees : (trees : List TreeSetting) → is_no_tree trees ≡ true → trees ≡ []
-no_trees [] e = refl
-no_trees (tree ∷ trees) e = absurd cc
-
--- the list of the trees is empty
-pub none_built : (table : Table) → HasNoTree table → table.settings.trees ≡ []
-none_built table built = no_trees table.settings.trees built.no_tree
+no_trees [] is = refl
+no_trees (t ∷ ts) is = absurd cc
 
 -- a table that names nothing that is not built has no star-trees
-pub bare_built : (table : Table) → IsBare table → HasNoTree table
-bare_built table bare =
+pub bare_trees : (table : Table) → IsBare table → table.settings.trees ≡ []
+bare_trees table bare =
     let s = table.settings in
-    record { no_tree = none_not (is_no_tree s.trees) (right_false (is_set_anywhere s.ranged) (not (is_no_tree s.trees)) bare.built) }
+    no_trees s.trees (none_not (is_no_tree s.trees) (right_false (is_set_anywhere s.ranged) (not (is_no_tree s.trees)) bare.built))
+
+none_there : (t : ℕ) (tree : TreeSetting) → slice_get [] t ≢ Some tree
+none_there t tree at = absurd cc
+
+-- and so none that is too large
+pub never_large : (table : Table) (rows : List (List Value)) (t : ℕ) → IsBare table → IsTooLarge table rows t → ⊥
+never_large table rows t bare large = none_there t large.tree (ap (λ trees. slice_get trees t) (sym (bare_trees table bare)) ∙ large.at)

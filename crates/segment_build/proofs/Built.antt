@@ -4,7 +4,7 @@ use Rattle.std.specs.List.{All, concat}
 use Rattle.values.specs.declared.value.Value.{Value}
 use Rattle.values.specs.Columns.{Counts, Listed, ListedColumns, rows_of}
 use Rattle.values.proofs.RowLemmas.{length-rows}
-use Rattle.table_schema.specs.ValidTable.{AreRows, IsValidTable}
+use Rattle.table_schema.specs.ValidTable.{AreRows, IsRow, IsValidTable}
 use Rattle.table_schema.specs.declared.field.Field.{Field}
 use Rattle.table_schema.specs.declared.table.Table.{Table}
 use Rattle.dictionary.specs.Dictionary.{Distinct, distinct, most_values}
@@ -16,10 +16,9 @@ use Rattle.segment_file.specs.Ordered.{ordered, value_in}
 use Rattle.segment_build.specs.Fitting.{AreColumns, FitsKind}
 use Rattle.segment_build.specs.declared.indexes.Indexes.{Indexes}
 use Rattle.segment_build.specs.declared.order.RowOrder.{RowOrder}
-use Rattle.segment_build.specs.Arranging.{Orders, OrdersBy, arranged, places_in}
-use Rattle.segment_build.specs.Sections.{HasNoTree, Made, ids_in, made_of, with_column}
+use Rattle.segment_build.specs.Arranging.{IsCoded, Orders, OrdersBy, arranged, places_in}
+use Rattle.segment_build.specs.Sections.{Made, ids_in, made_of, with_column}
 use Rattle.segment_build.proofs.Arranged.{ids_arranged, sorted_up}
-use Rattle.segment_build.proofs.Bares.{none_built}
 use Rattle.segment_build.proofs.ColumnLemmas.{column_values, made_all, made_more}
 use Rattle.segment_build.proofs.Stable.{ids_below, ids_count, ordered_count, same_distinct}
 use Rattle.table_schema.specs.NeedIds.{is_the_number}
@@ -27,10 +26,15 @@ use Rattle.dictionary.specs.Coding.{AreBelow}
 use Rattle.std.proofs.lemmas.List.{length-map}
 use Rattle.std.proofs.lemmas.Bool.{ltb-true}
 use Rattle.std.proofs.lemmas.Option.{get_or_from_slice_get, slice_get-get_or}
-use Rattle.table_schema.specs.ValidSettings.{is_known_number}
+use Rattle.table_schema.specs.ValidSettings.{IsValidTree, is_known_number}
 use Rattle.std.specs.List.Sorted.{IsNonDecreasing}
 use Rattle.segment_build.proofs.Fits.{column_fit, columns_fit, rows_few}
-use Rattle.segment_build.proofs.Sizes.{IsModest, IsSmall, file_short, made_small, short_values}
+use Rattle.segment_build.proofs.Sizes.{IsModest, IsSmall, file_short, made_small, nodes_small, short_values, stars_small}
+use Rattle.segment_build.specs.Growing.{TreesFit, nodes_grown, stars_grown}
+use Rattle.segment_file.proofs.ImageRows.{ordered_all}
+use Rattle.segment_file.proofs.TreeRows.{TreeSections, tree_sections}
+use Rattle.segment_file.specs.Trees.{TreeFits}
+use Rattle.table_schema.specs.declared.settings.TreeSetting.{TreeSetting}
 
 no_column : Listed
 no_column = record { are_texts = false; values = [] }
@@ -52,7 +56,7 @@ modest [] t at are lt = absurd (omega (arith, lt))
 modest (f ∷ fs) t at are lt = modest_at (f ∷ fs) t at f are lt
 
 -- the rows of a table in their order
-abbrev in_rows : Table → ListedColumns → List (List Value)
+abbrev pub in_rows : Table → ListedColumns → List (List Value)
 in_rows table t = ordered table.settings.sorted (rows_of t)
 
 -- rows in their order have the values of the rows as they came
@@ -67,12 +71,29 @@ rows_most fields t are =
     let few = are.rows.few in
     omega (arith, few)
 
-sections_small : (table : Table) (t : ListedColumns) → IsValidTable table → HasNoTree table → AreColumns table.schema.fields t → All IsSmall (sections_of_rows table (in_rows table t))
-sections_small table t valid built are =
+-- they are rows of the table
+rows_each : (table : Table) (t : ListedColumns) → AreColumns table.schema.fields t → All (IsRow table.schema.fields) (in_rows table t)
+rows_each table t are = ordered_all (IsRow table.schema.fields) table.settings.sorted (rows_of t) are.rows.each
+
+pub rows_limit : (table : Table) (t : ListedColumns) → AreColumns table.schema.fields t → length (in_rows table t) ≤ 1048576
+rows_limit table t are = omega (arith, ordered_count table.settings.sorted (rows_of t), rows_most table.schema.fields t are)
+
+sections_small : (table : Table) (t : ListedColumns) → IsValidTable table → AreColumns table.schema.fields t → TreesFit table (rows_of t) → All IsSmall (sections_of_rows table (in_rows table t))
+sections_small table t valid are fits =
     let sorted : Option ℕ = table.settings.sorted in
-    subst (All IsSmall) (made_all table (in_rows table t) valid (none_built table built))
-    (made_small table (in_rows table t) (length table.schema.fields) valid.schema.few (omega (arith, ordered_count sorted (rows_of t), rows_most table.schema.fields t are))
-    (λ c below. still_modest sorted (rows_of t) c (modest table.schema.fields t c are below)))
+    let fields : List Field = table.schema.fields in
+    let trees = table.settings.trees in
+    let limit = rows_limit table t are in
+    let each = rows_each table t are in
+    subst (All IsSmall) (made_all table (in_rows table t) valid)
+    (made_small table (in_rows table t) (length fields) (nodes_grown (in_rows table t) trees) (stars_grown (in_rows table t) trees) valid.schema.few (omega (arith, ordered_count sorted (rows_of t), rows_most fields t are))
+    (λ c below. still_modest sorted (rows_of t) c (modest fields t c are below))
+    (nodes_small fields (in_rows table t) trees valid.settings.trees_valid limit each fits)
+    (stars_small fields (in_rows table t) trees valid.settings.trees_valid limit each fits))
+
+-- the sections of a tree over them
+pub tree_made : (table : Table) (t : ListedColumns) (tree : TreeSetting) → AreColumns table.schema.fields t → IsValidTree table.schema.fields tree → TreeFits (in_rows table t) tree → TreeSections (in_rows table t) tree
+tree_made table t tree are valid fits = tree_sections table.schema.fields (in_rows table t) tree valid (rows_limit table t are) (rows_each table t are) fits
 
 -- what the front says of these columns
 front_is : (table : Table) (t : ListedColumns) (rows : ℕ) (sections : List (List ℕ)) → All (Counts t.count) t.columns → rows ≡ t.count → sections ≡ sections_of_rows table (in_rows table t)
@@ -81,11 +102,11 @@ front_is table t rows sections counts number are =
     let count : rows ≡ length (in_rows table t) = number ∙ sym (length-rows t.count t.columns counts) ∙ sym (ordered_count table.settings.sorted (rows_of t)) in
     (λ i. record { format = 1; rows = count i; sizes = map length (are i) })
 
-pub built_short : (table : Table) (name : List ℕ) (t : ListedColumns) (rows : ℕ) (sections : List (List ℕ)) → IsValidTable table → HasNoTree table → IsSegmentName name → AreColumns table.schema.fields t
-    → rows ≡ t.count → sections ≡ sections_of_rows table (in_rows table t) → file_end table name (record { format = 1; rows = rows; sizes = map length sections }) < 2 ^ 64
-built_short table name t rows sections valid built named columns number are =
+pub built_short : (table : Table) (name : List ℕ) (t : ListedColumns) (rows : ℕ) (sections : List (List ℕ)) → IsValidTable table → IsSegmentName name → AreColumns table.schema.fields t
+    → TreesFit table (rows_of t) → rows ≡ t.count → sections ≡ sections_of_rows table (in_rows table t) → file_end table name (record { format = 1; rows = rows; sizes = map length sections }) < 2 ^ 64
+built_short table name t rows sections valid named columns fits number are =
     subst (λ (f : Front). file_end table name f < 2 ^ 64) (sym (front_is table t rows sections columns.counts number are))
-    (file_short table name (in_rows table t) valid named (sections_small table t valid built columns))
+    (file_short table name (in_rows table t) valid named (sections_small table t valid columns fits))
 
 pub built_image : (table : Table) (name : List ℕ) (t : ListedColumns) (rows : ℕ) (sections : List (List ℕ)) (file : List ℕ) → All (Counts t.count) t.columns
     → rows ≡ t.count → sections ≡ sections_of_rows table (in_rows table t)
@@ -93,10 +114,7 @@ pub built_image : (table : Table) (name : List ℕ) (t : ListedColumns) (rows : 
 built_image table name t rows sections file counts number are is =
     is ∙ (λ i. front_bytes table name (front_is table t rows sections counts number are i) ++ concat (are i))
 
--- the ids of one more column, and its sections
-pub record IsCoded (table : Table) (t : ListedColumns) (at : ℕ) (d : Distinct) (ids : List ℕ) : Type 0 where
-  pub distinct_is : d ≡ dictionary_of table (in_rows table t) at
-  pub ids_is : ids ≡ ids_of (in_rows table t) at
+-- ---- the ids of one more column, and its sections
 
 pub coded_is : (table : Table) (t : ListedColumns) (at : ℕ) (field : Field) (column : Listed) (o : RowOrder) (d : Distinct) (ids : List ℕ) → AreColumns table.schema.fields t → at < length table.schema.fields
     → field ≡ get_or table.schema.fields at field → column ≡ get_or t.columns at column → Orders table.settings.sorted (rows_of t) o

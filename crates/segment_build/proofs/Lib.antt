@@ -7,3 +7,4 @@ pub mod Sizes
 pub mod Built
 pub mod FilesLemmas
 pub mod RowLemmas
+pub mod Growing

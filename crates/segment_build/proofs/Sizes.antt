@@ -1,12 +1,12 @@
 -- No section is so long that the places in a file are not numbers of 64 bits.
-use Rattle.std.proofs.Common.{◌≡◌, ◌<◌, ◌≤◌, ◌+◌, ◌*◌, ◌^◌, ◌∷◌, ◌++◌, [], ℕ, zero, suc, List, length, map, sum, take, get_or, ap, arith, refl}
+use Rattle.std.proofs.Common.{◌≡◌, ◌<◌, ◌≤◌, ◌+◌, ◌*◌, ◌^◌, ◌∷◌, ◌++◌, [], ℕ, zero, suc, List, Some, length, map, sum, take, get_or, ap, arith, refl}
 use Rattle.std.proofs.Math.Nat.{mul-le-mul_right}
 use Rattle.std.proofs.lemmas.List.{length-append, length-map}
 use Rattle.std.proofs.lemmas.List.Elements.{All-append, All-cons, All-get_or, All-head, All-map, All-nil, All-tail}
 use Rattle.std.proofs.lemmas.List.FromFn.{length-map-range_with_len}
 use Rattle.std.proofs.lemmas.Grind.{flat_map-append}
 use Rattle.std.proofs.lemmas.List.Sums.{sum-map, sum_by-cons}
-use Rattle.std.specs.List.{All, range_with_len, sum_by}
+use Rattle.std.specs.List.{All, AllByRecursion, range_with_len, sum_by}
 use Rattle.std.specs.Ordering.{match_ordering}
 use Rattle.std.specs.declared.cmp.Ordering.TheVariants as order
 use Rattle.values.specs.declared.kind.FieldKind.{FieldKind}
@@ -36,8 +36,14 @@ use Rattle.segment_build.proofs.Stable.{ids_below, ids_count}
 use Rattle.bit_column.specs.Postings.{bucket_of, buckets_for}
 use Rattle.bit_column.proofs.PostingLaws.{buckets_in, posting_length}
 use Rattle.bit_column.proofs.SortedLaws.{sorted_length}
-use Rattle.table_schema.specs.ValidTable.{IsValidTable}
+use Rattle.table_schema.specs.ValidTable.{IsRow, IsValidTable}
 use Rattle.table_schema.specs.declared.table.Table.{Table}
+use Rattle.table_schema.specs.declared.field.Field.{Field}
+use Rattle.table_schema.specs.declared.settings.TreeSetting.{TreeSetting}
+use Rattle.table_schema.specs.ValidSettings.{IsValidTree}
+use Rattle.segment_file.specs.Trees.{TreeFits, nodes_of, star_of}
+use Rattle.segment_file.proofs.TreeRows.{tree_sections}
+use Rattle.segment_build.specs.Growing.{nodes_grown, stars_grown}
 use Rattle.segment_build.specs.Sections.{in_order, made_of, sorted_among}
 use borrow.Author.Tests.{leb-true}
 
@@ -184,9 +190,23 @@ ranges_small table rows c few =
     let long = posting_length (buckets_for count) (map bucket_of (ids_of rows c)) (buckets_in count (ids_of rows c) (ids_below rows c)) in
     omega (arith, long, bucket_count (ids_of rows c), ids_count rows c, few_distinct (values_in c rows), length-map rows (value_in c), few)
 
--- none of the sections of the first so many columns is long
-pub made_small : (table : Table) (rows : List (List Value)) (count : ℕ) → count ≤ 64 → length rows ≤ most_values → ((c : ℕ) → c < count → IsModest rows c) → All IsSmall (in_order (made_of table rows count))
-made_small table rows count few most modest =
+-- nor are those of trees
+pub nodes_small : (columns : List Field) (rows : List (List Value)) (trees : List TreeSetting) → AllByRecursion (IsValidTree columns) trees → length rows ≤ 1048576 → All (IsRow columns) rows → All (TreeFits rows) trees → All IsSmall (nodes_grown rows trees)
+nodes_small columns rows [] valid few each fits = All-nil IsSmall
+nodes_small columns rows (t ∷ ts) valid few each fits =
+    let s = tree_sections columns rows t valid.0 few each (All-head (TreeFits rows) t ts fits) in
+    All-cons IsSmall (nodes_of rows (Some t)) (nodes_grown rows ts) (omega (arith, s.nodes_long, s.bytes)) (nodes_small columns rows ts valid.1 few each (All-tail (TreeFits rows) t ts fits))
+
+pub stars_small : (columns : List Field) (rows : List (List Value)) (trees : List TreeSetting) → AllByRecursion (IsValidTree columns) trees → length rows ≤ 1048576 → All (IsRow columns) rows → All (TreeFits rows) trees → All IsSmall (stars_grown rows trees)
+stars_small columns rows [] valid few each fits = All-nil IsSmall
+stars_small columns rows (t ∷ ts) valid few each fits =
+    let s = tree_sections columns rows t valid.0 few each (All-head (TreeFits rows) t ts fits) in
+    All-cons IsSmall (star_of rows (Some t)) (stars_grown rows ts) (omega (arith, s.docs_size, s.bytes)) (stars_small columns rows ts valid.1 few each (All-tail (TreeFits rows) t ts fits))
+
+-- none of the sections of the first so many columns and of these trees is long
+pub made_small : (table : Table) (rows : List (List Value)) (count : ℕ) (nodes stars : List (List ℕ)) → count ≤ 64 → length rows ≤ most_values → ((c : ℕ) → c < count → IsModest rows c) → All IsSmall nodes → All IsSmall stars
+    → All IsSmall (in_order (made_of table rows count) nodes stars)
+made_small table rows count nodes stars few most modest small_nodes small_stars =
     let columns : List ℕ = range_with_len 0 count in
     let ds : List Distinct = map (dictionary_of table rows) columns in
     let dictionaries : ℕ → List ℕ = λ c. section_of table rows (parts.Dictionary c) in
@@ -210,9 +230,10 @@ made_small table rows count few most modest =
     let raw : All IsSmall (map forwards columns ++ (map runs sorted ++ (map lists marks ++ map ranges others))) =
     All-append IsSmall (map forwards columns) (map runs sorted ++ (map lists marks ++ map ranges others)) (all_range IsSmall forwards 0 count (λ c below. forward_modest rows c (here c below))) more in
     let rest : List (List ℕ) = map forwards columns ++ (map runs sorted ++ (map lists marks ++ map ranges others)) in
-    All-cons IsSmall (bounds_bytes (bounds_of ds)) (map dictionaries columns ++ rest) (omega (arith, bounds, number, few))
-    (All-append IsSmall (map dictionaries columns) rest
-    (all_range IsSmall dictionaries 0 count (λ c below. small_dictionary (kind_at table c) (values_in c rows) (here c below).few (here c below).short)) raw)
+    All-cons IsSmall (bounds_bytes (bounds_of ds)) ((map dictionaries columns ++ nodes) ++ (rest ++ stars)) (omega (arith, bounds, number, few))
+    (All-append IsSmall (map dictionaries columns ++ nodes) (rest ++ stars)
+    (All-append IsSmall (map dictionaries columns) nodes (all_range IsSmall dictionaries 0 count (λ c below. small_dictionary (kind_at table c) (values_in c rows) (here c below).few (here c below).short)) small_nodes)
+    (All-append IsSmall rest stars raw small_stars))
 
 sum_by_small : (xs : List (List ℕ)) → All IsSmall xs → sum_by length xs ≤ 2 ^ 30 * length xs
 sum_by_small [] all = omega arith

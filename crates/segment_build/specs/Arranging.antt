@@ -4,7 +4,10 @@ use Rattle.std.specs.List.{All}
 use Rattle.std.specs.List.Sorted.{IsNonDecreasing}
 use Rattle.values.specs.declared.value.Value.{Value}
 use Rattle.dictionary.specs.Coding.{AreBelow}
-use Rattle.segment_file.specs.Image.{ids_of, values_in}
+use Rattle.values.specs.Columns.{ListedColumns, rows_of}
+use Rattle.table_schema.specs.declared.table.Table.{Table}
+use Rattle.dictionary.specs.Dictionary.{Distinct}
+use Rattle.segment_file.specs.Image.{dictionary_of, ids_of, values_in}
 use Rattle.segment_file.specs.Ordered.{ordered}
 use Rattle.segment_build.specs.declared.order.RowOrder.{RowOrder}
 use Rattle.segment_build.specs.declared.order.RowOrder.TheVariants.{AsGiven, ByPlaces}
@@ -24,6 +27,11 @@ pub record Orders (sorted : Option ℕ) (rows : List (List Value)) (order : RowO
   pub within : AreBelow (length rows) (places_in order)
   pub are : ordered sorted rows ≡ arranged [] order rows
   pub ascend : All (λ column. IsNonDecreasing (ids_of (ordered sorted rows) column)) (option_to_list sorted)
+
+-- the dictionary of a column of the columns' rows in their order, and the ids of these
+pub record IsCoded (table : Table) (t : ListedColumns) (at : ℕ) (d : Distinct) (ids : List ℕ) : Type 0 where
+  pub distinct_is : d ≡ dictionary_of table (ordered table.settings.sorted (rows_of t)) at
+  pub ids_is : ids ≡ ids_of (ordered table.settings.sorted (rows_of t)) at
 
 -- so are rows with these values in the sorted column
 abbrev pub OrdersBy : List Value → RowOrder → Type 0

@@ -3,7 +3,7 @@ use Rattle.std.specs.Prelude.{◌≡◌, ℕ, Bool, true, false, nat_lt, List, [
 use Rattle.std.specs.List.{range_with_len}
 use Rattle.values.specs.declared.value.Value.{Value}
 use Rattle.table_schema.specs.declared.table.Table.{Table}
-use Rattle.table_schema.specs.Unbuilt.{is_no_tree, names_unbuilt}
+use Rattle.table_schema.specs.Unbuilt.{names_unbuilt}
 use Rattle.dictionary.specs.Dictionary.{Distinct, distinct}
 use Rattle.dictionary.specs.Spelling.{spelling}
 use Rattle.bit_column.specs.Column.{spelled, width_of}
@@ -18,10 +18,6 @@ use Rattle.segment_build.specs.declared.indexes.Indexes.{Indexes}
 -- a table whose settings name nothing that is not built so far
 pub record IsBare (table : Table) : Type 0 where
   pub built : names_unbuilt table.settings ≡ false
-
--- what is built so far: the segments of a table without star-trees
-pub record HasNoTree (table : Table) : Type 0 where
-  pub no_tree : is_no_tree table.settings.trees ≡ true
 
 -- sections by their kinds: the bounds, of each column the dictionary and the forward index, where ids are in the sorted and the inverted columns, and where buckets of ids are in those with a range index
 pub record Made : Type 0 where
@@ -52,9 +48,9 @@ with_column d ids indexes made = record {
   ranges = made.ranges ++ only indexes.ranged (ranged (length d.values) ids);
 }
 
--- all sections in their order
-abbrev pub in_order : Made → List (List ℕ)
-in_order made = made.bounds ∷ (made.dictionaries ++ (made.forwards ++ (made.runs ++ (made.lists ++ made.ranges))))
+-- all sections in their order, with the nodes and the documents of the trees
+abbrev pub in_order : Made → List (List ℕ) → List (List ℕ) → List (List ℕ)
+in_order made nodes stars = made.bounds ∷ ((made.dictionaries ++ nodes) ++ ((made.forwards ++ (made.runs ++ (made.lists ++ made.ranges))) ++ stars))
 
 -- the sorted column, if it is among the first so many
 abbrev pub sorted_among : ℕ → Option ℕ → List ℕ

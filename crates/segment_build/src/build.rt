@@ -1,5 +1,5 @@
 //! The file of a segment is made.
-ghost use Rattle.std.specs.Prelude.{◌≡◌, ◌<◌, ◌≤◌, ◌++◌, ◌^◌, ℕ, length, map, IfOk, OnErr, OnOk, IsErrOf};
+ghost use Rattle.std.specs.Prelude.{◌≡◌, ◌<◌, ◌≤◌, ◌⊎◌, ◌++◌, ◌^◌, ℕ, length, map, Err, IfErr, IfOk, OnErr, OnOk, IsErrOf};
 ghost use Rattle.std.specs.List.{concat};
 ghost use Rattle.table_schema.specs.ValidTable.{AreRows, IsValidTable};
 ghost use Rattle.values.specs.Columns.{rows_of};
@@ -10,10 +10,13 @@ ghost use Rattle.segment_file.specs.Ordered.{ordered};
 ghost use Rattle.segment_file.specs.Parts.{sections_of};
 ghost use Rattle.segment_build.specs.Arranging.{Orders};
 ghost use Rattle.segment_build.specs.Fitting.{AreColumns};
-ghost use Rattle.segment_build.specs.Sections.{HasNoTree};
+ghost use Rattle.segment_build.specs.Growing.{IsTooLarge, TreesFit};
+ghost use Rattle.segment_build.specs.Sections.{made_of};
 
+use crate::order::coded_column;
 use crate::sections::Sections;
-use crate::{BuildFault, RowOrder, coded, columns_of, indexes_at, row_order};
+use crate::trees::grow_trees;
+use crate::{BuildFault, RowOrder, columns_of, indexes_at, row_order};
 use outside::{Bytes, NoMemory, Seq};
 use segment_file::{Front, sections_of};
 use std::alloc::Global;
@@ -23,8 +26,8 @@ use values::{Columns, Rows};
 /// The file of a segment of these rows, which are kept column by column.
 ///
 /// They are put in the stable order of the sorted column, where there is one. One column after the
-/// other is taken, and its dictionary and ids are let go before the next. No star-tree is built so
-/// far, so that none is too large.
+/// other is taken, and its dictionary and ids are let go before the next; then one star-tree after
+/// the other is built. There is no file where a tree takes more bytes than one may.
 pub fn build_columns(
     alloc: Global,
     table: &Table,
@@ -32,15 +35,21 @@ pub fn build_columns(
     columns: &Columns,
 ) -> Result<Bytes, BuildFault>
     requires valid { IsValidTable table.now }
-    requires built { HasNoTree table.now }
     requires name { IsSegmentName name.now }
     requires width { length columns.now.columns ≡ length table.now.schema.fields }
     requires rows { AreRows table.now.schema.fields (rows_of columns.now) }
     ensures image { IfOk result (λ bytes. bytes ≡ image 1 table.now name.now (rows_of columns.now)) }
-    ensures only { OnErr result (IsErrOf result BuildFault.NoMemory) }
+    ensures fits { OnOk result (TreesFit table.now (rows_of columns.now)) }
+    ensures too_large { IfErr result (λ fault. (tree : ℕ) → fault ≡ BuildFault.TooLarge tree →
+        IsTooLarge table.now (rows_of columns.now) tree) }
+    ensures only { OnErr result (IsErrOf result BuildFault.NoMemory
+        ⊎ ((tree : ℕ) × (result ≡ Err (BuildFault.TooLarge tree)))) }
 {
     let rows = columns.len() as u32;
-    let sections = sections_of_columns(alloc, table, columns)?;
+    let sections = match sections_of_columns(alloc, table, columns) {
+        Ok(sections) => sections,
+        Err(fault) => return Err(fault),
+    };
     let file = file_of(alloc, table, name, rows, &sections)?;
     Ok(Seq::from_vec(file))
 }
@@ -53,11 +62,14 @@ pub fn build_image(
     rows: &Rows,
 ) -> Result<Bytes, BuildFault>
     requires valid { IsValidTable table.now }
-    requires built { HasNoTree table.now }
     requires name { IsSegmentName name.now }
     requires rows { AreRows table.now.schema.fields rows.now }
     ensures image { IfOk result (λ bytes. bytes ≡ image 1 table.now name.now rows.now) }
-    ensures only { OnErr result (IsErrOf result BuildFault.NoMemory) }
+    ensures fits { OnOk result (TreesFit table.now rows.now) }
+    ensures too_large { IfErr result (λ fault. (tree : ℕ) → fault ≡ BuildFault.TooLarge tree →
+        IsTooLarge table.now rows.now tree) }
+    ensures only { OnErr result (IsErrOf result BuildFault.NoMemory
+        ⊎ ((tree : ℕ) × (result ≡ Err (BuildFault.TooLarge tree)))) }
 {
     let columns = columns_of(alloc, table.schema.fields.as_slice(), rows)?;
     build_columns(alloc, table, name, &columns)
@@ -68,12 +80,16 @@ fn sections_of_columns(
     alloc: Global,
     table: &Table,
     columns: &Columns,
-) -> Result<Vec<Bytes>, NoMemory>
+) -> Result<Vec<Bytes>, BuildFault>
     requires valid { IsValidTable table.now }
-    requires built { HasNoTree table.now }
     requires columns { AreColumns table.now.schema.fields columns.now }
-    ensures { IfOk result (λ all. all.items ≡ sections_of_rows table.now
+    ensures sections { IfOk result (λ all. all.items ≡ sections_of_rows table.now
         (ordered table.now.settings.sorted (rows_of columns.now))) }
+    ensures fits { OnOk result (TreesFit table.now (rows_of columns.now)) }
+    ensures too_large { IfErr result (λ fault. (tree : ℕ) → fault ≡ BuildFault.TooLarge tree →
+        IsTooLarge table.now (rows_of columns.now) tree) }
+    ensures only { OnErr result (IsErrOf result BuildFault.NoMemory
+        ⊎ ((tree : ℕ) × (result ≡ Err (BuildFault.TooLarge tree)))) }
 {
     let order = row_order(alloc, table, columns)?;
     sections_in(alloc, table, columns, &order)
@@ -85,22 +101,49 @@ fn sections_in(
     table: &Table,
     columns: &Columns,
     order: &RowOrder,
-) -> Result<Vec<Bytes>, NoMemory>
+) -> Result<Vec<Bytes>, BuildFault>
     requires valid { IsValidTable table.now }
-    requires built { HasNoTree table.now }
     requires columns { AreColumns table.now.schema.fields columns.now }
     requires order { Orders table.now.settings.sorted (rows_of columns.now) order.now }
-    ensures { IfOk result (λ all. all.items ≡ sections_of_rows table.now
+    ensures sections { IfOk result (λ all. all.items ≡ sections_of_rows table.now
         (ordered table.now.settings.sorted (rows_of columns.now))) }
+    ensures fits { OnOk result (TreesFit table.now (rows_of columns.now)) }
+    ensures too_large { IfErr result (λ fault. (tree : ℕ) → fault ≡ BuildFault.TooLarge tree →
+        IsTooLarge table.now (rows_of columns.now) tree) }
+    ensures only { OnErr result (IsErrOf result BuildFault.NoMemory
+        ⊎ ((tree : ℕ) × (result ≡ Err (BuildFault.TooLarge tree)))) }
 {
-    let fields = table.schema.fields.as_slice();
-    let mut sections = Sections::with_capacity(alloc, fields.len())?;
-    'columns: for at in 0..fields.len() {
-        let (dictionary, ids) = coded(alloc, fields[at].kind, columns.column(at), order)?;
+    let made = column_sections(alloc, table, columns, order)?;
+    let trees = match grow_trees(alloc, table, columns, order) {
+        Ok(trees) => trees,
+        Err(fault) => return Err(fault),
+    };
+    let sections = made.into_list(alloc, trees)?;
+    Ok(sections)
+}
+
+// The sections of the columns, by their kinds.
+fn column_sections(
+    alloc: Global,
+    table: &Table,
+    columns: &Columns,
+    order: &RowOrder,
+) -> Result<Sections, NoMemory>
+    requires valid { IsValidTable table.now }
+    requires columns { AreColumns table.now.schema.fields columns.now }
+    requires order { Orders table.now.settings.sorted (rows_of columns.now) order.now }
+    ensures { IfOk result (λ made. made ≡ made_of table.now
+        (ordered table.now.settings.sorted (rows_of columns.now))
+        (length table.now.schema.fields)) }
+{
+    let count = table.schema.fields.len();
+    let mut sections = Sections::with_capacity(alloc, count)?;
+    'columns: for at in 0..count {
+        let (dictionary, ids) = coded_column(alloc, table, columns, order, at)?;
         let indexes = indexes_at(&table.settings, at);
         sections.push(alloc, &dictionary, ids.as_slice(), indexes)?;
     }
-    sections.into_list(alloc)
+    Ok(sections)
 }
 
 // The file of these sections.

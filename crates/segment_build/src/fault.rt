@@ -5,8 +5,8 @@ use std::alloc::AllocError;
 /// Why a segment is not built.
 #[derive(Clone, Copy, Debug, PartialEq, Eq)]
 pub enum BuildFault {
-    /// A star-tree has more bytes than it may have.
-    TooLarge,
+    /// The star-tree with this number, from 0, takes more bytes than one may; it is the first.
+    TooLarge(u8),
     /// The depot failed, and its count of faults rose.
     WriteFault,
     NoMemory,

@@ -6,9 +6,11 @@ mod columns;
 mod fault;
 mod indexes;
 mod laws;
+mod numbers;
 mod order;
 mod publish;
 mod sections;
+mod trees;
 
 pub use build::{build_columns, build_image};
 pub use columns::columns_of;

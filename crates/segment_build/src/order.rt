@@ -4,7 +4,7 @@ ghost use Rattle.values.specs.Columns.{rows_of};
 ghost use Rattle.table_schema.specs.ValidTable.{IsValidTable};
 ghost use Rattle.dictionary.specs.Coding.{AreBelow};
 ghost use Rattle.dictionary.specs.Dictionary.{distinct};
-ghost use Rattle.segment_build.specs.Arranging.{Orders, OrdersBy, arranged, places_in};
+ghost use Rattle.segment_build.specs.Arranging.{IsCoded, Orders, OrdersBy, arranged, places_in};
 ghost use Rattle.segment_build.specs.Fitting.{AreColumns, FitsKind};
 ghost use Rattle.segment_build.specs.Sections.{ids_in};
 
@@ -76,14 +76,47 @@ pub fn coded(
     }
 }
 
-// The ids at these places.
-fn gathered(alloc: Global, places: &[u32], ids: &[u32]) -> Result<Vec<u32>, NoMemory>
-    requires { AreBelow (length ids.now) places.now }
-    ensures { IfOk result (λ v. v.items ≡ map (λ place. get_or ids.now place 0) places.now) }
+/// The same of the column of that number of a table's rows.
+pub fn coded_column(
+    alloc: Global,
+    table: &Table,
+    columns: &Columns,
+    order: &RowOrder,
+    at: usize,
+) -> Result<(Dictionary, Vec<u32>), NoMemory>
+    requires columns { AreColumns table.now.schema.fields columns.now }
+    requires order { Orders table.now.settings.sorted (rows_of columns.now) order.now }
+    requires at { at < length table.now.schema.fields }
+    ensures { IfOk result (λ r. IsCoded table.now columns.now at r.0 r.1.items) }
+{
+    let fields = table.schema.fields.as_slice();
+    let coded = coded(alloc, fields[at].kind, columns.column(at), order)?;
+    Ok(coded)
+}
+
+/// What a list has for each row, in the order of the rows.
+pub fn in_order<T: Copy>(alloc: Global, list: &[T], order: &RowOrder) -> Result<Vec<T>, NoMemory>
+    requires { AreBelow (length list.now) (places_in order.now) }
+    ensures { IfOk result (λ v. (d : T) → v.items ≡ arranged d order.now list.now) }
+{
+    match order {
+        RowOrder::AsGiven => Vec::from_slice(alloc, list),
+        RowOrder::ByPlaces(places) => {
+            let gathered = gathered(alloc, places.as_slice(), list)?;
+            Ok(gathered)
+        }
+    }
+}
+
+// What a list has at these places.
+fn gathered<T: Copy>(alloc: Global, places: &[u32], list: &[T]) -> Result<Vec<T>, NoMemory>
+    requires { AreBelow (length list.now) places.now }
+    ensures { IfOk result (λ v. (d : T) → v.items
+        ≡ map (λ place. get_or list.now place d) places.now) }
 {
     let mut gathered = Vec::with_capacity(alloc, places.len())?;
     for place in places {
-        gathered.push(ids[*place as usize])?;
+        gathered.push(list[*place as usize])?;
     }
     Ok(gathered)
 }

@@ -1,5 +1,5 @@
 //! A segment's file is published.
-ghost use Rattle.std.specs.Prelude.{◌≡◌, ◌⊎◌, ◌++◌, codes, length, IfOk, OnOk, OnErr, IsErrOf, string_bytes};
+ghost use Rattle.std.specs.Prelude.{◌≡◌, ℕ, codes, length, IfErr, IfOk, OnOk, OnErr, IsErrOf, string_bytes};
 ghost use Rattle.outside.specs.Files.{with_file, without_file};
 ghost use Rattle.outside.specs.Seen.{OnlyWrites, seen};
 ghost use Rattle.table_schema.specs.ValidTable.{AreRows, IsValidTable};
@@ -7,7 +7,7 @@ ghost use Rattle.values.specs.Columns.{rows_of};
 ghost use Rattle.segment_file.specs.Image.{image};
 ghost use Rattle.segment_file.specs.Names.{IsSegmentName, file_of};
 ghost use Rattle.segment_build.specs.Publishing.{incoming};
-ghost use Rattle.segment_build.specs.Sections.{HasNoTree};
+ghost use Rattle.segment_build.specs.Growing.{IsTooLarge, TreesFit};
 
 use crate::{BuildFault, build_columns, columns_of};
 use outside::{Depot, DepotFault, NoMemory};
@@ -27,7 +27,6 @@ pub fn write_columns<D: Depot>(
     columns: &Columns,
 ) -> Result<(), BuildFault>
     requires valid { IsValidTable table.now }
-    requires built { HasNoTree table.now }
     requires name { IsSegmentName name.now }
     requires width { length columns.now.columns ≡ length table.now.schema.fields }
     requires rows { AreRows table.now.schema.fields (rows_of columns.now) }
@@ -37,11 +36,15 @@ pub fn write_columns<D: Depot>(
     ensures gone { OnOk result (D.parts depot.new ≡ without_file incoming (D.parts depot.old)) }
     ensures only_writes { OnlyWrites (IsErrOf result BuildFault.WriteFault) incoming
         (seen D.Shelf depot.old) (seen D.Shelf depot.new) }
-    ensures only { OnErr result
-        (IsErrOf result BuildFault.WriteFault ⊎ IsErrOf result BuildFault.NoMemory) }
+    ensures fits { OnOk result (TreesFit table.now (rows_of columns.now)) }
+    ensures too_large { IfErr result (λ fault. (tree : ℕ) → fault ≡ BuildFault.TooLarge tree →
+        IsTooLarge table.now (rows_of columns.now) tree) }
 {
     let file = file_name(alloc, name)?;
-    let bytes = build_columns(alloc, table, name, columns)?;
+    let bytes = match build_columns(alloc, table, name, columns) {
+        Ok(bytes) => bytes,
+        Err(fault) => return Err(fault),
+    };
     match publish_file(alloc, depot, file.as_str(), bytes.as_slice()) {
         Ok(()) => Ok(()),
         Err(DepotFault::Failed) => Err(BuildFault::WriteFault),
@@ -59,7 +62,6 @@ pub fn write_segment<D: Depot>(
     rows: &Rows,
 ) -> Result<(), BuildFault>
     requires valid { IsValidTable table.now }
-    requires built { HasNoTree table.now }
     requires name { IsSegmentName name.now }
     requires rows { AreRows table.now.schema.fields rows.now }
     ensures published { OnOk result (D.held depot.new ≡ with_file (file_of name.now)
@@ -68,8 +70,9 @@ pub fn write_segment<D: Depot>(
     ensures gone { OnOk result (D.parts depot.new ≡ without_file incoming (D.parts depot.old)) }
     ensures only_writes { OnlyWrites (IsErrOf result BuildFault.WriteFault) incoming
         (seen D.Shelf depot.old) (seen D.Shelf depot.new) }
-    ensures only { OnErr result
-        (IsErrOf result BuildFault.WriteFault ⊎ IsErrOf result BuildFault.NoMemory) }
+    ensures fits { OnOk result (TreesFit table.now rows.now) }
+    ensures too_large { IfErr result (λ fault. (tree : ℕ) → fault ≡ BuildFault.TooLarge tree →
+        IsTooLarge table.now rows.now tree) }
 {
     let columns = columns_of(alloc, table.schema.fields.as_slice(), rows)?;
     write_columns(alloc, depot, table, name, &columns)

@@ -9,6 +9,7 @@ ghost use Rattle.bit_column.specs.SortedRuns.{sorted_runs};
 ghost use Rattle.segment_build.specs.Sections.{in_order, only, with_column};
 
 use crate::Indexes;
+use crate::trees::Grown;
 use bit_column::width_for;
 use dictionary::Dictionary;
 use inverted_lists::{write_inverted, write_ranged, write_sorted};
@@ -91,9 +92,10 @@ impl Sections {
         Ok(())
     }
 
-    /// All of them, in the order of the file.
-    pub fn into_list(self, alloc: Global) -> Result<Vec<Bytes>, NoMemory>
-        ensures { IfOk result (λ all. all.items ≡ in_order self) }
+    /// All of them with those of the star-trees, in the order of the file.
+    pub fn into_list(self, alloc: Global, trees: Grown) -> Result<Vec<Bytes>, NoMemory>
+        ensures { IfOk result (λ all. all.items
+            ≡ in_order self trees.nodes.items trees.stars.items) }
     {
         let Sections {
             bounds,
@@ -103,13 +105,19 @@ impl Sections {
             mut lists,
             mut ranges,
         } = self;
+        let Grown {
+            mut nodes,
+            mut stars,
+        } = trees;
         let mut all = Vec::with_capacity(alloc, 1 + 2 * dictionaries.len())?;
         all.push(Seq::from_vec(bounds))?;
         all.append(&mut dictionaries)?;
+        all.append(&mut nodes)?;
         all.append(&mut forwards)?;
         all.append(&mut runs)?;
         all.append(&mut lists)?;
         all.append(&mut ranges)?;
+        all.append(&mut stars)?;
         Ok(all)
     }
 }

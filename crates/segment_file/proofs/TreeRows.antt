@@ -76,7 +76,7 @@ numbers_whole fields row (p ∷ pairs) is = (pair_whole fields row p.column is, 
 
 -- ---- the documents of rows
 
-abbrev made : List (List Value) → TreeSetting → List (List Value) → List Doc
+abbrev pub made : List (List Value) → TreeSetting → List (List Value) → List Doc
 made os tree rs = projected tree.shape.kinds (map (tree_row os tree) rs)
 
 shape_rows : (os : List (List Value)) (tree : TreeSetting) (rs : List (List Value)) → HaveShape (length tree.split) tree.shape.kinds (made os tree rs)
@@ -87,7 +87,7 @@ ids_rows : (os : List (List Value)) (tree : TreeSetting) (rs : List (List Value)
 ids_rows os tree [] = tt
 ids_rows os tree (r ∷ rs) = (length-map tree.split (id_in os r), ids_rows os tree rs)
 
-count_rows : (os : List (List Value)) (tree : TreeSetting) (rs : List (List Value)) → length (made os tree rs) ≡ length rs
+pub count_rows : (os : List (List Value)) (tree : TreeSetting) (rs : List (List Value)) → length (made os tree rs) ≡ length rs
 count_rows os tree [] = refl
 count_rows os tree (r ∷ rs) = ap suc (count_rows os tree rs)
 

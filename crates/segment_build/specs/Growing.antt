@@ -1,0 +1,44 @@
+-- The star-trees of a segment, as they are made one after the other.
+use Rattle.std.specs.Prelude.{◌≡◌, ◌<◌, ℕ, ℤ, pos, Bool, false, List, [], map, length, take, replicate, slice_get, get_or, Option, Some, None}
+use Rattle.std.specs.List.{All}
+use Rattle.values.specs.declared.value.Value.{Value}
+use Rattle.values.specs.Columns.{Listed, ListedColumns}
+use Rattle.table_schema.specs.declared.settings.TreeSetting.{TreeSetting}
+use Rattle.table_schema.specs.declared.table.Table.{Table}
+use Rattle.segment_build.specs.declared.order.RowOrder.{RowOrder}
+use Rattle.segment_build.specs.Arranging.{arranged}
+use Rattle.segment_file.specs.Ordered.{ordered}
+use Rattle.segment_file.specs.Trees.{TreeFits, nodes_of, number_of, star_of}
+
+-- each of the trees takes no more bytes than one may, over the rows in their order
+abbrev pub TreesFit : Table → List (List Value) → Type 0
+TreesFit table rows = All (TreeFits (ordered table.settings.sorted rows)) table.settings.trees
+
+-- the tree with this number is the first that takes more
+pub record IsTooLarge (table : Table) (rows : List (List Value)) (t : ℕ) : Type 0 where
+  pub before : All (TreeFits (ordered table.settings.sorted rows)) (take t table.settings.trees)
+  pub tree : TreeSetting
+  pub at : slice_get table.settings.trees t ≡ Some tree
+  pub over : ¬ TreeFits (ordered table.settings.sorted rows) tree
+
+-- the sections of nodes of these trees, over rows that are in order
+abbrev pub nodes_grown : List (List Value) → List TreeSetting → List (List ℕ)
+nodes_grown rows trees = map (λ tree. nodes_of rows (Some tree)) trees
+
+-- the sections of their documents
+abbrev pub stars_grown : List (List Value) → List TreeSetting → List (List ℕ)
+stars_grown rows trees = map (λ tree. star_of rows (Some tree)) trees
+
+-- the numbers of a column, of which each is one; a text counts as 0
+abbrev pub numbers_in : Listed → List ℤ
+numbers_in column = map number_of column.values
+
+-- a pair has no column, or one of so many
+abbrev pub IsKnown : ℕ → Option ℕ → Type 0
+IsKnown columns None = Unit {0}
+IsKnown columns (Some column) = column < columns
+
+-- the numbers of a pair's column in the order of the rows, and 0 for each row where they are counted
+abbrev pub numbers_for : ListedColumns → RowOrder → Option ℕ → List ℤ
+numbers_for t order None = replicate t.count (pos 0)
+numbers_for t order (Some column) = arranged (pos 0) order (numbers_in (get_or t.columns column (record { are_texts = false; values = [] })))

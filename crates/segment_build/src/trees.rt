@@ -1,0 +1,204 @@
+//! The star-trees of a segment are built, one after the other.
+ghost use Rattle.std.specs.Prelude.{◌≡◌, ◌<◌, ◌≤◌, ◌⊎◌, ◌^◌, ◌++◌, ◌∷◌, [], ℕ, length, map, Err, IfErr, IfOk, IsErrOf, OnErr, OnOk};
+ghost use Rattle.std.specs.List.{All};
+ghost use Rattle.values.specs.Columns.{rows_of};
+ghost use Rattle.table_schema.specs.ValidSettings.{IsValidTree};
+ghost use Rattle.table_schema.specs.ValidTable.{IsValidTable};
+ghost use Rattle.dictionary.specs.Coding.{AreBelow};
+ghost use Rattle.agg_laws.specs.Merged.{weights};
+ghost use Rattle.agg_laws.specs.Numbers.{most_stored};
+ghost use Rattle.agg_laws.specs.Rows.{row_weight};
+ghost use Rattle.star_builder.specs.declared.fault.TreeFault.TheVariants as fault;
+ghost use Rattle.star_file.specs.Bytes.{doc_bytes, nodes_section};
+ghost use Rattle.segment_file.specs.Columns.{ids_of};
+ghost use Rattle.segment_file.specs.Ordered.{ordered};
+ghost use Rattle.segment_file.specs.Trees.{TreeFits, documents, written};
+ghost use Rattle.segment_build.specs.Arranging.{Orders, places_in};
+ghost use Rattle.segment_build.specs.Fitting.{AreColumns};
+ghost use Rattle.segment_build.specs.Growing.{IsKnown, IsTooLarge, TreesFit, nodes_grown, numbers_for, stars_grown};
+ghost use Rattle.segment_build.specs.declared.fault.BuildFault.TheVariants.{NoMemory, TooLarge};
+
+use crate::numbers::{numbers_of, zeros};
+use crate::order::coded_column;
+use crate::{BuildFault, RowOrder};
+use agg_laws::StarTable;
+use outside::{Bytes, NoMemory, Seq};
+use star_builder::{TreeFault, build_tree};
+use star_file::{StarTree, write_docs, write_nodes};
+use star_records::project;
+use std::alloc::Global;
+use table_schema::{Pair, Table, TreeSetting};
+use values::Columns;
+
+/// The sections of star-trees: of each its nodes, and its documents.
+#[derive(Drop)]
+pub struct Grown {
+    pub nodes: Vec<Bytes>,
+    pub stars: Vec<Bytes>,
+}
+
+/// The sections of all star-trees of the columns' rows in their order, or the number of the first
+/// tree that takes more bytes than one may. What is made for a tree is let go before the next.
+pub fn grow_trees(
+    alloc: Global,
+    table: &Table,
+    columns: &Columns,
+    order: &RowOrder,
+) -> Result<Grown, BuildFault>
+    requires valid { IsValidTable table.now }
+    requires columns { AreColumns table.now.schema.fields columns.now }
+    requires order { Orders table.now.settings.sorted (rows_of columns.now) order.now }
+    ensures nodes { IfOk result (λ grown. grown.nodes.items ≡ nodes_grown
+        (ordered table.now.settings.sorted (rows_of columns.now)) table.now.settings.trees) }
+    ensures stars { IfOk result (λ grown. grown.stars.items ≡ stars_grown
+        (ordered table.now.settings.sorted (rows_of columns.now)) table.now.settings.trees) }
+    ensures fits { OnOk result (TreesFit table.now (rows_of columns.now)) }
+    ensures too_large { IfErr result (λ reason. (tree : ℕ) → reason ≡ TooLarge tree →
+        IsTooLarge table.now (rows_of columns.now) tree) }
+    ensures only { OnErr result
+        (IsErrOf result NoMemory ⊎ ((tree : ℕ) × (result ≡ Err (TooLarge tree)))) }
+{
+    let trees = table.settings.trees.as_slice();
+    let mut grown = Grown {
+        nodes: Vec::with_capacity(alloc, trees.len())?,
+        stars: Vec::with_capacity(alloc, trees.len())?,
+    };
+    'trees: for at in 0..trees.len() {
+        let tree = match grow_tree(alloc, table, columns, order, &trees[at]) {
+            Ok(tree) => tree,
+            Err(TreeFault::TooLarge) => return Err(BuildFault::TooLarge(at as u8)),
+            Err(TreeFault::NoMemory) => return Err(BuildFault::NoMemory),
+        };
+        push_tree(alloc, &tree, &mut grown)?;
+    }
+    Ok(grown)
+}
+
+// Adds the sections of a tree.
+fn push_tree(alloc: Global, tree: &StarTree, grown: &mut Grown) -> Result<(), NoMemory>
+    requires few { length tree.now.docs.docs < 2 ^ 32 }
+    requires kinds { length tree.now.docs.kinds ≤ 16 }
+    ensures nodes { OnOk result (grown.new.nodes.items ≡ grown.old.nodes.items
+        ++ nodes_section (length tree.now.docs.docs) tree.now.nodes ∷ []) }
+    ensures stars { OnOk result (grown.new.stars.items ≡ grown.old.stars.items
+        ++ doc_bytes tree.now.docs.docs ∷ []) }
+{
+    let mut nodes = Vec::new(alloc);
+    write_nodes(tree, &mut nodes)?;
+    let mut stars = Vec::new(alloc);
+    write_docs(tree, &mut stars)?;
+    grown.nodes.push(Seq::from_vec(nodes))?;
+    grown.stars.push(Seq::from_vec(stars))?;
+    Ok(())
+}
+
+// A star-tree of the columns' rows in their order.
+fn grow_tree(
+    alloc: Global,
+    table: &Table,
+    columns: &Columns,
+    order: &RowOrder,
+    tree: &TreeSetting,
+) -> Result<StarTree, TreeFault>
+    requires valid { IsValidTable table.now }
+    requires tree { IsValidTree table.now.schema.fields tree.now }
+    requires columns { AreColumns table.now.schema.fields columns.now }
+    requires order { Orders table.now.settings.sorted (rows_of columns.now) order.now }
+    ensures written { IfOk result (λ grown. (grown.nodes, grown.docs.docs)
+        ≡ written (ordered table.now.settings.sorted (rows_of columns.now)) tree.now) }
+    ensures kinds { IfOk result (λ grown. grown.docs.kinds ≡ tree.now.shape.kinds) }
+    ensures fits { OnOk result
+        (TreeFits (ordered table.now.settings.sorted (rows_of columns.now)) tree.now) }
+    ensures too_large { IsErrOf result fault.TooLarge →
+        ¬ TreeFits (ordered table.now.settings.sorted (rows_of columns.now)) tree.now }
+{
+    let rows = rows_of_tree(alloc, table, columns, order, tree)?;
+    match build_tree(alloc, &tree.shape, rows) {
+        Ok(grown) => Ok(grown),
+        Err(fault) => Err(fault),
+    }
+}
+
+// The rows in their order as documents of a tree.
+fn rows_of_tree(
+    alloc: Global,
+    table: &Table,
+    columns: &Columns,
+    order: &RowOrder,
+    tree: &TreeSetting,
+) -> Result<StarTable, NoMemory>
+    requires valid { IsValidTable table.now }
+    requires tree { IsValidTree table.now.schema.fields tree.now }
+    requires columns { AreColumns table.now.schema.fields columns.now }
+    requires order { Orders table.now.settings.sorted (rows_of columns.now) order.now }
+    ensures dims { IfOk result (λ rows. rows.dims ≡ tree.now.shape.dims) }
+    ensures kinds { IfOk result (λ rows. rows.kinds ≡ tree.now.shape.kinds) }
+    ensures docs { IfOk result (λ rows. rows.docs
+        ≡ documents (ordered table.now.settings.sorted (rows_of columns.now)) tree.now) }
+    ensures light { IfOk result (λ rows. weights row_weight rows.docs ≤ most_stored) }
+{
+    let dims = split_ids(alloc, table, columns, order, tree.split.as_slice())?;
+    let metrics = pair_numbers(alloc, columns, order, tree.pairs.as_slice())?;
+    let rows = project(alloc, &tree.shape, &dims, &metrics)?;
+    Ok(rows)
+}
+
+// The ids of the rows in these columns.
+fn split_ids(
+    alloc: Global,
+    table: &Table,
+    columns: &Columns,
+    order: &RowOrder,
+    split: &[u16],
+) -> Result<Seq<Seq<u32>>, NoMemory>
+    requires columns { AreColumns table.now.schema.fields columns.now }
+    requires order { Orders table.now.settings.sorted (rows_of columns.now) order.now }
+    requires known { All (λ column. column < length table.now.schema.fields) split.now }
+    ensures { IfOk result (λ ids. ids
+        ≡ map (ids_of (ordered table.now.settings.sorted (rows_of columns.now))) split.now) }
+{
+    let mut all = Vec::with_capacity(alloc, split.len())?;
+    for column in split {
+        let (_, ids) = coded_column(alloc, table, columns, order, *column as usize)?;
+        all.push(Seq::from_vec(ids))?;
+    }
+    Ok(Seq::from_vec(all))
+}
+
+// The numbers of the rows for these pairs.
+fn pair_numbers(
+    alloc: Global,
+    columns: &Columns,
+    order: &RowOrder,
+    pairs: &[Pair],
+) -> Result<Seq<Seq<i64>>, NoMemory>
+    requires order { AreBelow columns.now.count (places_in order.now) }
+    requires known { All (λ pair. IsKnown (length columns.now.columns) pair.column) pairs.now }
+    ensures { IfOk result (λ numbers. numbers
+        ≡ map (λ pair. numbers_for columns.now order.now pair.column) pairs.now) }
+{
+    let mut all = Vec::with_capacity(alloc, pairs.len())?;
+    for pair in pairs {
+        let numbers = pair_column(alloc, columns, order, pair.column)?;
+        all.push(Seq::from_vec(numbers))?;
+    }
+    Ok(Seq::from_vec(all))
+}
+
+// Those in the column of a pair, and 0 where rows are counted.
+fn pair_column(
+    alloc: Global,
+    columns: &Columns,
+    order: &RowOrder,
+    column: Option<u16>,
+) -> Result<Vec<i64>, NoMemory>
+    requires order { AreBelow columns.now.count (places_in order.now) }
+    requires known { IsKnown (length columns.now.columns) column }
+    ensures { IfOk result (λ numbers. numbers.items
+        ≡ numbers_for columns.now order.now column) }
+{
+    match column {
+        Some(column) => numbers_of(alloc, columns.column(column as usize), order),
+        None => zeros(alloc, columns.len()),
+    }
+}
