@@ -155,7 +155,7 @@ fn publish<D: Depot>(
         Ok(()) => Ok(reply),
         Err(BuildFault::WriteFault) => Err(Stop::Fault(Fault::Write)),
         Err(BuildFault::NoMemory) => Err(Stop::Fault(Fault::Memory)),
-        Err(BuildFault::TooLarge) => unreachable!(),
+        Err(BuildFault::TooLarge(_)) => unreachable!(),
     }
 }
 

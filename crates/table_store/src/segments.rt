@@ -92,7 +92,7 @@ pub fn publish_columns<D: Depot>(
         Ok(()) => Ok(()),
         Err(BuildFault::WriteFault) => Err(StoreFault::WriteFault),
         Err(BuildFault::NoMemory) => Err(StoreFault::NoMemory),
-        Err(BuildFault::TooLarge) => unreachable!(),
+        Err(BuildFault::TooLarge(_)) => unreachable!(),
     }
 }
 

@@ -1,5 +1,5 @@
 use Rattle.std.proofs.Common.{◌∙◌, ◌∷◌, [], sym, subst, arith}
-use Rattle.segment_build.proofs.Bares.{bare_built}
+use Rattle.segment_build.proofs.Bares.{never_large}
 use Rattle.segment_file.specs.Image.{image}
 use Rattle.segment_file.specs.Names.{file_of}
 use Rattle.table_store.specs.TableFile.{incoming}
@@ -26,5 +26,7 @@ returns-in-Ok-clause-writes g c = record {
   log = c.write_columns.ensures.only_writes.log;
 }
 
-pub write_columns-requires-clause-built : goal.write_columns-requires-clause-built
-write_columns-requires-clause-built g c = bare_built c.args.table.now c.requires.bare
+pub unreachable-requires : goal.unreachable-requires
+unreachable-requires g c =
+    let large = c.in-Err-TooLarge.ensures.too_large c.in-Err-TooLarge.field-0-0 c.in-Err-TooLarge.field-0-is in
+    never_large c.args.table.now (rows_of c.args.columns.now) c.in-Err-TooLarge.field-0-0 c.requires.bare large
