@@ -185,9 +185,6 @@ pub plans_wrong : (table : Table) (names : List (List ℕ)) (sql : List ℕ) (he
 plans_wrong table names sql held wrong is =
     told_all held (λ files. HasReply Plans table files names sql (Err wrong)) (λ files segments images. ap (lines_or table names (in_order table segments)) is)
 
-pub text_real : (wrong : SqlFault) → IsOfText wrong → wrong ≢ query.NoMemory
-text_real wrong text = λ e. subst IsOfText e text
-
 -- ---- the clause of the commands
 
 caused_query : (inputs stored : Option Files) (about : About) (sql : List ℕ) (line : Note) → query_refuses about line ≡ true → IfSome stored (λ files. QueryRefuses about sql files line) → Caused (Some (Ask about sql)) inputs stored line

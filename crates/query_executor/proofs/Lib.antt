@@ -4,7 +4,7 @@ mod HeadLemmas
 mod LogLemmas
 mod NamedLemmas
 mod PlanLemmas
-mod ReplyLemmas
+pub mod ReplyLemmas
 mod ScanLogs
 mod SegmentLemmas
 mod LineLemmas

@@ -1,7 +1,7 @@
 -- A head that tells of rows has their plan, and what is written of it.
-use Rattle.std.proofs.Common.{◌≡◌, ◌∙◌, ◌<◌, ◌+◌, ◌&&◌, ◌||◌, ◌==◌, ◌++◌, inl, inr, ℕ, zero, suc, Bool, true, false, List, [], ◌∷◌, length, map, Option, Some, None, IfSome, if◌then◌else◌, refl, sym, ap, subst, arith}
+use Rattle.std.proofs.Common.{◌≡◌, ◌∙◌, ◌<◌, ◌+◌, ◌||◌, ◌==◌, ◌++◌, inl, inr, ℕ, zero, suc, true, List, [], ◌∷◌, length, map, Option, Some, None, IfSome, if◌then◌else◌, refl, sym, ap, subst, arith}
 use Rattle.std.specs.List.{AllByRecursion, list_all, list_any, range_with_len, slice_get}
-use Rattle.std.proofs.lemmas.Bool.{eqb-true, false≢true, ltb-true}
+use Rattle.std.proofs.lemmas.Bool.{and_parts, eqb-true, false≢true, ltb-true, or_cases}
 use Rattle.values.specs.declared.value.Value.{Value}
 use Rattle.table_schema.specs.declared.field.Field.{Field}
 use Rattle.table_schema.specs.declared.query.BoundQuery.{BoundQuery}
@@ -30,18 +30,6 @@ use Rattle.segment_plan.proofs.OnePlan.{one_plan}
 
 -- ---- the columns that a query names alone are fields of its table
 
-rest_true : (a b : Bool) → a && b ≡ true → b ≡ true
-rest_true true b is = is
-rest_true false b is = absurd (false≢true is)
-
-first_true : (a b : Bool) → a && b ≡ true → a ≡ true
-first_true true b is = refl
-first_true false b is = is
-
-either : (a b : Bool) (P : Type 0) → a || b ≡ true → (a ≡ true → P) → (b ≡ true → P) → P
-either true b P is here there = here refl
-either false b P is here there = there is
-
 on_known : (fields : List Field) (column : ℕ) (c : Conjunct) → is_on column c ≡ true → conjunct_known fields c ≡ true → is_number_of fields column ≡ true
 on_known fields column (One named test) on known = subst (λ k. is_number_of fields k ≡ true) (eqb-true named column on) known
 on_known fields column (Many wide) on known = absurd (false≢true on)
@@ -49,16 +37,15 @@ on_known fields column (Many wide) on known = absurd (false≢true on)
 filtered_known : (fields : List Field) (column : ℕ) (conjuncts : List Conjunct) → is_filtered conjuncts column ≡ true → list_all (conjunct_known fields) conjuncts ≡ true → is_number_of fields column ≡ true
 filtered_known fields column [] on known = absurd (false≢true on)
 filtered_known fields column (c ∷ cs) on known =
-    either (is_on column c) (is_filtered cs column) (is_number_of fields column ≡ true) on
-    (λ here. on_known fields column c here (first_true (conjunct_known fields c) (list_all (conjunct_known fields) cs) known))
-    (λ there. filtered_known fields column cs there (rest_true (conjunct_known fields c) (list_all (conjunct_known fields) cs) known))
+    let parts = and_parts (conjunct_known fields c) (list_all (conjunct_known fields) cs) known in
+    elim (or_cases (is_on column c) (is_filtered cs column) on) as (λ _. is_number_of fields column ≡ true) [ inl here ↦ on_known fields column c here parts.0 | inr there ↦ filtered_known fields column cs there parts.1 ]
 
 listed_known : (fields : List Field) (columns : List ℕ) (k column : ℕ) → slice_get columns k ≡ Some column → list_all (is_number_of fields) columns ≡ true → is_number_of fields column ≡ true
 listed_known fields [] k column at known = absurd cc
 listed_known fields (c ∷ cs) zero column at known =
     let same : c ≡ column = cc in
-    subst (λ n. is_number_of fields n ≡ true) same (first_true (is_number_of fields c) (list_all (is_number_of fields) cs) known)
-listed_known fields (c ∷ cs) (suc k) column at known = listed_known fields cs k column at (rest_true (is_number_of fields c) (list_all (is_number_of fields) cs) known)
+    subst (λ n. is_number_of fields n ≡ true) same (and_parts (is_number_of fields c) (list_all (is_number_of fields) cs) known).0
+listed_known fields (c ∷ cs) (suc k) column at known = listed_known fields cs k column at (and_parts (is_number_of fields c) (list_all (is_number_of fields) cs) known).1
 
 -- ---- a head that is told of rows
 

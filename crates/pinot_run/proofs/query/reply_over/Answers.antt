@@ -1,8 +1,9 @@
 use Rattle.std.proofs.Common.{Err, Ok, inl, inr, refl, subst, sym}
 use Rattle.outside.specs.Seen.{Seen, seen}
+use Rattle.query_executor.proofs.ReplyLemmas.{text_real}
 use Rattle.pinot_run.specs.declared.about.About.TheVariants.{Plans, Rows, RowsAndPlans}
 use Rattle.pinot_run.specs.Gives.{AnswersQuery}
-use Rattle.pinot_run.proofs.QueryLemmas.{heads_of, one_of, plans_wrong, query_replied, query_stopped, text_real}
+use Rattle.pinot_run.proofs.QueryLemmas.{heads_of, one_of, plans_wrong, query_replied, query_stopped}
 use Rattle.pinot_run.proofs.query.reply_over.Goals as goal
 
 pub stop_of-requires : goal.stop_of-requires
