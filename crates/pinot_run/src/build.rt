@@ -58,7 +58,8 @@ fn read_rows<I: Shelf>(
     table: &Table,
     inputs: &mut I,
 ) -> Result<Columns, Stop>
-    requires { IsValidTable table.now }
+    requires valid { IsValidTable table.now }
+    requires bare { IsBare table.now }
     ensures rows { IfOk result (λ columns. IfSome (I.held inputs.old) (λ files.
         csv_rows table.now.schema.fields csv.now (map.get files csv.now) ≡ Ok (rows_of columns))) }
     ensures width { IfOk result (λ columns.
@@ -78,6 +79,7 @@ fn read_rows<I: Shelf>(
 // The rows of a CSV text over the fields of a table, column by column.
 fn columns_of(alloc: Global, table: &Table, text: &[u8]) -> Result<Columns, Stop>
     requires valid { IsValidTable table.now }
+    requires bare { IsBare table.now }
     requires short { length text.now ≤ csv_limit }
     ensures rows { IfOk result (λ columns.
         rows_in csv_limits table.now.schema.fields (records_of text.now) ≡ Ok (rows_of columns)) }

@@ -10,7 +10,7 @@ use Rattle.table_schema.specs.declared.table.Table.{Table}
 use Rattle.dictionary.specs.Dictionary.{Distinct, distinct, most_values}
 use Rattle.segment_file.specs.Bounds.{IsShort}
 use Rattle.segment_file.specs.Front.{Front, file_end, front_bytes}
-use Rattle.segment_file.specs.Image.{count_of, dictionary_of, front_of, ids_of, image, kind_or, sections_of_rows, values_in}
+use Rattle.segment_file.specs.Image.{count_of, front_of, image, kind_or, sections_of_rows, values_in}
 use Rattle.segment_file.specs.Names.{IsSegmentName}
 use Rattle.segment_file.specs.Ordered.{ordered, value_in}
 use Rattle.segment_build.specs.Fitting.{AreColumns, FitsKind}

@@ -1,5 +1,5 @@
 -- The rows of a segment as documents of its trees, by the columns of their ids and numbers.
-use Rattle.std.proofs.Common.{◌≡◌, ◌∙◌, ◌<◌, ◌≤◌, ◌+◌, ℕ, zero, suc, ℤ, List, [], ◌∷◌, ◌++◌, length, map, get_or, take, replicate, Option, Some, None, Bool, true, false, refl, sym, ap, ap₂, subst, arith}
+use Rattle.std.proofs.Common.{◌≡◌, ◌∙◌, ◌<◌, ◌≤◌, ◌+◌, ℕ, zero, suc, ℤ, List, [], ◌∷◌, ◌++◌, length, map, get_or, take, replicate, Option, Some, None, Bool, true, false, refl, sym, ap, subst, arith}
 use Rattle.std.specs.Prelude.{pos, slice_get}
 use Rattle.std.specs.List.{All, list_all}
 use Rattle.std.proofs.lemmas.Bool.{false≢true}
@@ -24,12 +24,12 @@ use Rattle.segment_file.proofs.ImageRows.{and_first, and_second}
 use Rattle.dictionary.specs.Dictionary.{distinct}
 use Rattle.star_records.specs.Columns as records
 use Rattle.segment_file.specs.Columns.{ids_of, place_of, values_in}
-use Rattle.segment_file.specs.Ordered.{ordered, value_in}
+use Rattle.segment_file.specs.Ordered.{value_in}
 use Rattle.segment_file.specs.Trees.{TreeFits, documents, id_in, number_for, number_of, tree_row}
 use Rattle.segment_build.specs.declared.order.RowOrder.{RowOrder}
-use Rattle.segment_build.specs.Arranging.{Orders, arranged, places_in}
+use Rattle.segment_build.specs.Arranging.{Orders, arranged}
 use Rattle.segment_build.specs.Fitting.{AreColumns}
-use Rattle.segment_build.specs.Growing.{IsKnown, numbers_for, numbers_in}
+use Rattle.segment_build.specs.Growing.{IsKnown, numbers_for}
 use Rattle.segment_build.proofs.Arranged.{arranged_map}
 use Rattle.segment_build.proofs.Built.{in_rows}
 use Rattle.segment_build.proofs.ColumnLemmas.{column_values}

@@ -1,5 +1,5 @@
 -- The star-trees of a segment, as they are made one after the other.
-use Rattle.std.specs.Prelude.{◌≡◌, ◌<◌, ℕ, ℤ, pos, Bool, false, List, [], map, length, take, replicate, slice_get, get_or, Option, Some, None}
+use Rattle.std.specs.Prelude.{◌≡◌, ◌<◌, ℕ, ℤ, pos, false, List, [], map, take, replicate, slice_get, get_or, Option, Some, None}
 use Rattle.std.specs.List.{All}
 use Rattle.values.specs.declared.value.Value.{Value}
 use Rattle.values.specs.Columns.{Listed, ListedColumns}

@@ -7,6 +7,7 @@ use Rattle.csv_ingest.proofs.FaultLemmas.{any_columns}
 use Rattle.csv_ingest.proofs.ValidLemmas.{valid-defaults}
 use Rattle.table_schema.specs.declared.field.Field.{Field}
 use Rattle.values.specs.Columns.{rows_of}
+use Rattle.segment_build.proofs.Bares.{bare_fits}
 use Rattle.pinot_run.proofs.RowsLemmas.{rows_unicode, stops-by}
 use Rattle.pinot_run.proofs.build.columns_of.Goals as goal
 
@@ -26,6 +27,7 @@ returns-in-Ok-clause-can c =
     record {
       fit = c.in-Ok.ensures.valid c.requires.valid.schema;
       unicode = rows_unicode fields (records_of c.args.text.now) (rows_of c.in-Ok.columns) defaults c.in-Ok.ensures.ok;
+      trees = bare_fits c.args.table.now (rows_of c.in-Ok.columns) c.requires.bare;
     }
 
 pub stop_of-requires : goal.stop_of-requires

@@ -1,4 +1,4 @@
-use Rattle.std.proofs.Common.{◌∙◌, length, map, replicate, sym, ap}
+use Rattle.std.proofs.Common.{◌∙◌, map, replicate, sym, ap}
 use Rattle.std.specs.Prelude.{pos}
 use Rattle.segment_file.specs.Trees.{number_of}
 use Rattle.segment_build.specs.Arranging.{arranged}

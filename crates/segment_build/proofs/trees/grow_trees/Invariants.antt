@@ -1,4 +1,4 @@
-use Rattle.std.proofs.Common.{◌≡◌, All, Some, map, take}
+use Rattle.std.proofs.Common.{◌≡◌, All, take}
 use Rattle.values.specs.Columns.{rows_of}
 use Rattle.segment_file.specs.Ordered.{ordered}
 use Rattle.segment_file.specs.Trees.{TreeFits}

@@ -2,14 +2,10 @@ use Rattle.std.proofs.Common.{◌≡◌, ◌∙◌, length, map, sym, ap}
 use Rattle.std.proofs.lemmas.List.{length-map}
 use Rattle.csv_ingest.specs.Columns.{is_text_kind}
 use Rattle.csv_ingest.proofs.ValidLemmas.{valid-defaults}
-use Rattle.segment_build.proofs.Bares.{bare_built}
 use Rattle.store_tests.proofs.built.compared.Goals as goal
 
 pub read_columns-requires-clause-defaults : goal.read_columns-requires-clause-defaults
 read_columns-requires-clause-defaults c = valid-defaults c.args.table.now.schema c.requires.valid.schema
-
-pub build_columns-requires-clause-built : goal.build_columns-requires-clause-built
-build_columns-requires-clause-built c = bare_built c.args.table.now c.requires.bare
 
 pub build_columns-requires-clause-width : goal.build_columns-requires-clause-width
 build_columns-requires-clause-width c =
