@@ -65,8 +65,33 @@ bits-eight n xs e small is =
     let horner : following 0 ys ≡ n = omega arith in
     ap (bits_of 8) (eight_of xs e) ∙ bits-following 0 0 ys bytes ∙ ap (bits 64) horner
 
+-- the byte after so many has its bits
+pub bits-one : (at : ℕ) (xs : List ℕ) → at < length xs → bits 8 (get_or xs at 0) ≡ bits_of 8 (take 1 (drop at xs))
+bits-one at xs within = sym (ap (λ ds. bits_of 8 (take 1 ds)) (drop_more xs at 0 within) ∙ append-nil (bits 8 (get_or xs at 0)))
+
+-- four bytes after so many
+four_at : (xs : List ℕ) (at : ℕ) → at + 4 ≤ length xs → take 4 (drop at xs) ≡ get_or xs at 0 ∷ get_or xs (at + 1) 0 ∷ get_or xs (at + 2) 0 ∷ get_or xs (at + 3) 0 ∷ []
+four_at xs at within =
+    let second : at + 1 + 1 ≡ at + 2 = omega arith in
+    let third : at + 2 + 1 ≡ at + 3 = omega arith in
+    ap (take 4) (drop_more xs at 0 (omega (arith, within)) ∙ ap (λ r. get_or xs at 0 ∷ r)
+    (drop_more xs (at + 1) 0 (omega (arith, within)) ∙ ap (λ (k : ℕ). get_or xs (at + 1) 0 ∷ drop k xs) second ∙ ap (λ r. get_or xs (at + 1) 0 ∷ r)
+    (drop_more xs (at + 2) 0 (omega (arith, within)) ∙ ap (λ (k : ℕ). get_or xs (at + 2) 0 ∷ drop k xs) third ∙ ap (λ r. get_or xs (at + 2) 0 ∷ r)
+    (drop_more xs (at + 3) 0 (omega (arith, within))))))
+
+-- the number of four bytes has their bits
+pub bits-four : (n at : ℕ) (xs : List ℕ) → at + 4 ≤ length xs → ((i : ℕ) → get_or xs i 0 < 2 ^ 8)
+    → n ≡ get_or xs at 0 * 256 ^ 3 + get_or xs (at + 1) 0 * 256 ^ 2 + get_or xs (at + 2) 0 * 256 + get_or xs (at + 3) 0
+    → bits 32 n ≡ bits_of 8 (take 4 (drop at xs))
+unfolding following AreBytes bits
+bits-four n at xs within small is =
+    let ys : List ℕ = get_or xs at 0 ∷ get_or xs (at + 1) 0 ∷ get_or xs (at + 2) 0 ∷ get_or xs (at + 3) 0 ∷ [] in
+    let bytes : AreBytes ys = (small at, (small (at + 1), (small (at + 2), (small (at + 3), tt)))) in
+    let horner : following 0 ys ≡ n = omega arith in
+    sym (ap (bits_of 8) (four_at xs at within) ∙ bits-following 0 0 ys bytes ∙ ap (bits 32) horner)
+
 -- the digits after a number's last one do not count
-field-front : (width first n : ℕ) (digits : List ℕ) → first + width ≤ n → field width first (take n digits) ≡ field width first digits
+pub field-front : (width first n : ℕ) (digits : List ℕ) → first + width ≤ n → field width first (take n digits) ≡ field width first digits
 unfolding field
 field-front width first n digits h =
     let e : n ≡ first + (n - first) = omega arith in
@@ -74,7 +99,7 @@ field-front width first n digits h =
     ∙ ap (λ ds. number (take width ds)) (drop-take first (n - first) digits)
     ∙ ap number (take-take width (n - first) (drop first digits) (omega arith))
 
-field-following : (width first n : ℕ) (digits : List ℕ) → field width first (drop n digits) ≡ field width (n + first) digits
+pub field-following : (width first n : ℕ) (digits : List ℕ) → field width first (drop n digits) ≡ field width (n + first) digits
 unfolding field
 field-following width first n digits = ap (λ ds. number (take width ds)) (drop-drop first n digits)
 

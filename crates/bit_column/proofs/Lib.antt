@@ -1,3 +1,4 @@
+pub mod AheadLemmas
 pub mod BitLemmas
 pub mod Fields
 pub mod Pushed

@@ -1,7 +1,8 @@
 -- A range of ids in the bytes that were read for it.
-use Rattle.std.proofs.Common.{◌≡◌, ◌≤◌, ◌<◌, ℕ, zero, suc, ◌+◌, ◌-◌, ◌*◌, ◌/◌, ◌%◌, List, ◌∷◌, All, length, take, drop, map, min, Option, Some, None, IfSome, IfOk, Result, Ok, Err, refl, sym, ap, ◌∙◌, subst, arith, length-take, length-drop}
+use Rattle.std.proofs.Common.{◌≡◌, ◌≤◌, ◌<◌, ℕ, zero, suc, ◌+◌, ◌-◌, ◌*◌, ◌/◌, ◌%◌, List, [], ◌∷◌, ◌++◌, All, length, take, drop, map, min, Option, Some, None, IfSome, IfOk, OnOk, Result, Ok, Err, refl, sym, ap, ◌∙◌, subst, arith, length-take, length-drop}
 use Rattle.std.proofs.lemmas.List.{drop-take, drop-drop, take-take}
 use Rattle.std.proofs.lemmas.List.FromFn.{length-map-range_with_len}
+use Rattle.std.proofs.lemmas.List.Elements.{All-nil}
 use Rattle.std.proofs.lemmas.Nat.{mul-le}
 use Rattle.std.proofs.lemmas.Bool.Decides.{nat_tests}
 use Rattle.std.specs.List.{range_with_len}
@@ -9,7 +10,7 @@ use Rattle.outside.specs.Files.{Files, bytes_of}
 use Rattle.outside.specs.declared.place.Place.{Place}
 use Rattle.bit_column.specs.Bits.{bits_of, field, pieces}
 use Rattle.bit_column.specs.Column.{ids_between}
-use Rattle.bit_column.specs.Sections.{end_byte, section, Reach, Readable, IsPart}
+use Rattle.bit_column.specs.Sections.{end_byte, section, AppendsRange, Reach, Readable, IsPart}
 use Rattle.bit_column.proofs.Fields.{field-bytes}
 
 -- the bits of a range follow those before it
@@ -111,3 +112,32 @@ if-ok (Err e) P Q R f p q = tt
 -- what was read of a file under its name
 pub part-read : (held : Option Files) (name file : List ℕ) (from to : ℕ) (items bytes : List ℕ) → name ≡ file → bytes ≡ items → IsPart held name from to items → IsPart held file from to bytes
 part-read held name file from to items bytes e f part = subst (λ xs. IsPart held file from to xs) (sym f) (subst (λ n. IsPart held n from to items) e part)
+
+-- a range without ids
+pub none-read : (held : Option Files) (place : Place) (width count from to : ℕ) → from ≡ to → IfSome held (λ files. Readable width count from to (section files place) × ([] ≡ ids_between width from to (section files place)))
+none-read None place width count from to e = tt
+none-read (Some files) place width count from to e =
+    let none : 0 ≡ to - from = omega arith in
+    let same : [] ≡ ids_between width from to (section files place) = ap (λ k. pieces width (from * width) k (bits_of 8 (section files place))) none in
+    ((λ some. absurd (omega (arith, some)), subst (All (λ id. id < count)) same (All-nil (λ id. id < count))), same)
+
+pub on-both : {E : Type 0} (r : Result (Unit {0}) E) (P Q R : Type 0) → (P → Q → R) → OnOk r P → OnOk r Q → OnOk r R
+on-both (Ok x) P Q R f p q = f p q
+on-both (Err e) P Q R f p q = tt
+
+-- the ids of a range in the bytes that were read for it
+pub range-appended : (held : Option Files) (place : Place) (width count from to : ℕ) (bytes old new : List ℕ) → 1 ≤ width → from < to → (to * width + 7) / 8 ≤ place.length
+    → IsPart held place.file (place.offset + from * width / 8) (place.offset + (to * width + 7) / 8) bytes
+    → new ≡ old ++ pieces width (from * width % 8) (to - from) (bits_of 8 bytes) → All (λ id. id < count) (pieces width (from * width % 8) (to - from) (bits_of 8 bytes))
+    → AppendsRange held place width count from to old new
+range-appended held place width count from to bytes old new wide some within part is below = record {
+  ids = pieces width (from * width % 8) (to - from) (bits_of 8 bytes);
+  appended = is;
+  number = pieces-long width (from * width % 8) (to - from) (bits_of 8 bytes);
+  below = below;
+  told = range-read held place width count from to bytes (pieces width (from * width % 8) (to - from) (bits_of 8 bytes)) wide some within part refl below;
+}
+
+-- the ids of a range that were appended to no ids
+pub range-alone : (held : Option Files) (place : Place) (width count from to : ℕ) (old new : List ℕ) → (appends : AppendsRange held place width count from to old new) → old ≡ [] → new ≡ appends.ids
+range-alone held place width count from to old new appends none = appends.appended ∙ ap (λ (l : List ℕ). l ++ appends.ids) none

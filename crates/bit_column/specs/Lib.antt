@@ -1,3 +1,4 @@
+pub mod Ahead
 pub mod Bits
 pub mod Column
 pub mod Sections

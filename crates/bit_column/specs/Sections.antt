@@ -1,5 +1,5 @@
 -- Sections of files, and which bytes of them hold a range of ids.
-use Rattle.std.specs.Prelude.{◌≡◌, ◌≤◌, ◌<◌, ℕ, ◌-◌, ◌*◌, ◌/◌, List, All, length, Option, Some, IfSome, nat_lt, if◌then◌else◌}
+use Rattle.std.specs.Prelude.{◌≡◌, ◌≤◌, ◌<◌, ℕ, ◌-◌, ◌*◌, ◌/◌, List, ◌++◌, All, length, Option, Some, IfSome, nat_lt, if◌then◌else◌}
 use Rattle.outside.specs.Files.{Files, bytes_at, bytes_of}
 use Rattle.outside.specs.declared.place.Place.{Place}
 use Rattle.bit_column.specs.Column.{bytes_for, ids_between}
@@ -33,3 +33,11 @@ Reach width from to bytes = from < to → to * width ≤ 8 * length bytes
 -- the bytes have the ids between two indexes, each of them below the count
 abbrev pub Readable : ℕ → ℕ → ℕ → ℕ → List ℕ → Type 0
 Readable width count from to bytes = Reach width from to bytes × All (λ id. id < count) (ids_between width from to bytes)
+
+-- the ids between two indexes were appended to a list, as many as there are, each of them below the count
+pub record AppendsRange (held : Option Files) (place : Place) (width count from to : ℕ) (old new : List ℕ) : Type 0 where
+  pub ids : List ℕ
+  pub appended : new ≡ old ++ ids
+  pub number : length ids ≡ to - from
+  pub below : All (λ id. id < count) ids
+  pub told : IfSome held (λ files. Readable width count from to (section files place) × (ids ≡ ids_between width from to (section files place)))

@@ -8,12 +8,14 @@ mod laws;
 mod part;
 mod range;
 mod reading;
+mod unpacking;
 mod width;
+mod window;
 mod writing;
 
 pub use fault::ColumnFault;
 pub use laws::{postings_read_back, reads_back, sorted_reads_back, widths_are_least};
-pub use range::read_range;
+pub use range::{append_range, read_range};
 pub use reading::at;
 pub use width::width_for;
 pub use writing::write;

@@ -1,14 +1,15 @@
 //! A part of a file is read.
-ghost use Rattle.std.specs.Prelude.{◌≡◌, ◌≤◌, ◌<◌, ◌+◌, ◌-◌, ◌^◌, ◌↔◌, IfOk, OnErr, IsErrOf, length};
+ghost use Rattle.std.specs.Prelude.{◌≡◌, ◌≤◌, ◌<◌, ◌+◌, ◌-◌, ◌^◌, ◌↔◌, OnErr, OnOk, IsErrOf, length};
 ghost use Rattle.outside.specs.Reads.{LogsOn, LogsUpTo};
 ghost use Rattle.outside.specs.Seen.{OnlyReads, seen};
 ghost use Rattle.bit_column.specs.Sections.{IsPart, EndsBefore};
 
 use crate::ColumnFault;
-use outside::{Bytes, Shelf, ShelfFault, read_bytes};
+use outside::{Shelf, ShelfFault, read_into};
 use std::alloc::Global;
 
-/// The bytes of a file between two places after an offset. A file that is not there has no bytes.
+/// Reads the bytes of a file between two places after an offset into `into`, which has place for
+/// just these. A file that is not there has no bytes.
 pub fn read_part<S: Shelf>(
     alloc: Global,
     shelf: &mut S,
@@ -16,14 +17,15 @@ pub fn read_part<S: Shelf>(
     offset: u64,
     from: u64,
     to: u64,
-) -> Result<Bytes, ColumnFault>
-    requires { from < to }
-    ensures part { IfOk result
-        (IsPart (S.held shelf.old) name.now (offset + from) (offset + to)) }
-    ensures size { IfOk result (λ bytes. length bytes ≡ to - from) }
+    into: &mut [u8],
+) -> Result<(), ColumnFault>
+    requires order { from < to }
+    requires size { length into.old ≡ to - from }
+    ensures part { OnOk result
+        (IsPart (S.held shelf.old) name.now (offset + from) (offset + to) into.new) }
     ensures only_reads { OnlyReads (IsErrOf result ColumnFault.ReadFault)
         (seen S.Shelf shelf.old) (seen S.Shelf shelf.new) }
-    ensures log { IfOk result (λ bytes.
+    ensures log { OnOk result (
         LogsOn name.now (offset + from) (offset + to) (S.log shelf.old) (S.log shelf.new)) }
     ensures log_of_fault { OnErr result
         (LogsUpTo name.now (offset + from) (offset + to) (S.log shelf.old) (S.log shelf.new)) }
@@ -33,14 +35,14 @@ pub fn read_part<S: Shelf>(
     if to > u64::MAX - offset {
         return Err(past_all(alloc, shelf, name));
     }
-    let bytes = match read_bytes(alloc, shelf, name, offset + from, to - from) {
-        Ok(bytes) => bytes,
+    let count = match read_into(alloc, shelf, name, offset + from, into) {
+        Ok(count) => count,
         Err(fault) => return Err(of_shelf(fault)),
     };
-    if (bytes.len() as u64) < to - from {
+    if count < into.len() {
         return Err(ColumnFault::BadId);
     }
-    Ok(bytes)
+    Ok(())
 }
 
 // What a shelf's fault is for a part of a file.

@@ -1,13 +1,14 @@
 //! A range of ids is read from a section of a file.
-ghost use Rattle.std.specs.Prelude.{◌≡◌, ◌≤◌, ◌<◌, ◌+◌, ◌-◌, All, IfOk, OnErr, IfSome, IsErrOf, length};
+ghost use Rattle.std.specs.Prelude.{◌≡◌, ◌≤◌, ◌<◌, ◌+◌, ◌-◌, All, Err, IfOk, IfSome, IsErrOf, OnErr, OnOk, length};
 ghost use Rattle.outside.specs.Reads.{LogsOn, LogsUpTo};
 ghost use Rattle.outside.specs.Seen.{OnlyReads, seen};
 ghost use Rattle.bit_column.specs.Column.{ids_between};
-ghost use Rattle.bit_column.specs.Sections.{first_byte, end_byte, section, Readable};
+ghost use Rattle.bit_column.specs.Sections.{first_byte, end_byte, section, AppendsRange, Readable};
+ghost use Rattle.bit_column.specs.declared.fault.ColumnFault.TheVariants.{BadId};
 
 use crate::ColumnFault;
 use crate::part::read_part;
-use crate::reading::ids_from;
+use crate::reading::append_ids;
 use outside::{Place, Seq, Shelf};
 use std::alloc::Global;
 
@@ -45,8 +46,58 @@ pub fn read_range<S: Shelf>(
     ensures bad { IsErrOf result ColumnFault.BadId → IfSome (S.held shelf.old) (λ files.
         ¬ Readable width count from to (section files place.now)) }
 {
+    let mut buffer = Vec::new(alloc);
+    let mut ids = Vec::new(alloc);
+    match append_range(
+        alloc,
+        shelf,
+        place,
+        width,
+        count,
+        from,
+        to,
+        &mut buffer,
+        &mut ids,
+    ) {
+        Ok(()) => Ok(Seq::from_vec(ids)),
+        Err(fault) => Err(fault),
+    }
+}
+
+/// Appends the ids of a section between two indexes, the second left out, in so many bits each. It
+/// reads their bytes and no others, each once, into a buffer that is used again.
+pub fn append_range<S: Shelf>(
+    alloc: Global,
+    shelf: &mut S,
+    place: &Place,
+    width: u32,
+    count: u32,
+    from: u32,
+    to: u32,
+    buffer: &mut Vec<u8>,
+    ids: &mut Vec<u32>,
+) -> Result<(), ColumnFault>
+    requires width { 1 ≤ width }
+    requires bound { width ≤ 32 }
+    requires order { from ≤ to }
+    ensures ids { OnOk result (AppendsRange (S.held shelf.old) place.now width count from to
+        ids.old.items ids.new.items) }
+    ensures only_reads { OnlyReads (IsErrOf result ColumnFault.ReadFault)
+        (seen S.Shelf shelf.old) (seen S.Shelf shelf.new) }
+    ensures log { OnOk result (LogsOn place.now.file
+        (place.now.offset + first_byte width from) (place.now.offset + end_byte width from to)
+        (S.log shelf.old) (S.log shelf.new)) }
+    ensures log_of_fault { OnErr result (LogsUpTo place.now.file
+        (place.now.offset + first_byte width from) (place.now.offset + end_byte width from to)
+        (S.log shelf.old) (S.log shelf.new)) }
+    // A range past the end of its section is refused before anything is read.
+    ensures past { place.now.length < end_byte width from to → from < to →
+        S.log shelf.new ≡ S.log shelf.old }
+    ensures bad { result ≡ Err BadId → IfSome (S.held shelf.old) (λ files.
+        ¬ Readable width count from to (section files place.now)) }
+{
     if from == to {
-        return Ok(Seq::new(alloc));
+        return Ok(());
     }
     let bit = from as u64 * width as u64;
     let end = (to as u64 * width as u64 + 7) / 8;
@@ -54,16 +105,17 @@ pub fn read_range<S: Shelf>(
         return Err(ColumnFault::BadId);
     }
     let first = bit / 8;
-    let bytes = match read_part(alloc, shelf, place.file.as_str(), place.offset, first, end) {
-        Ok(bytes) => bytes,
-        Err(fault) => return Err(fault),
-    };
-    ids_from(
-        alloc,
-        bytes.as_slice(),
-        (bit % 8) as usize,
-        width,
-        count,
-        (to - from) as usize,
-    )
+    buffer.resize((end - first) as usize, 0)?;
+    let name = place.file.as_str();
+    match read_part(alloc, shelf, name, place.offset, first, end, &mut *buffer) {
+        Ok(()) => append_ids(
+            buffer.as_slice(),
+            (bit % 8) as usize,
+            width,
+            count,
+            (to - from) as usize,
+            ids,
+        ),
+        Err(fault) => Err(fault),
+    }
 }

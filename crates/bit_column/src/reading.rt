@@ -1,12 +1,12 @@
 //! Ids are read out of bytes.
-ghost use Rattle.std.specs.Prelude.{◌≡◌, ◌≤◌, ◌<◌, ◌+◌, ◌*◌, ◌^◌, All, length, take, IfOk, IsErrOf};
+ghost use Rattle.std.specs.Prelude.{◌≡◌, ◌≤◌, ◌<◌, ◌+◌, ◌*◌, ◌^◌, ◌++◌, All, Err, OnOk, length, take};
 ghost use Rattle.bit_column.specs.Bits.{bits, bits_of, field, pieces};
 ghost use Rattle.bit_column.specs.Column.{id_at};
+ghost use Rattle.bit_column.specs.declared.fault.ColumnFault.TheVariants.{BadId, ReadFault};
 
 use crate::ColumnFault;
 use crate::bits::taken;
-use outside::Seq;
-use std::alloc::Global;
+use crate::unpacking::unpack;
 
 /// The id at an index of a section's bytes, which have all its bits.
 pub fn at(bytes: &[u8], width: u32, index: u32) -> u32
@@ -65,33 +65,29 @@ fn eight(bytes: &[u8]) -> u64
     ])
 }
 
-/// So many ids from a bit on, each of which is to be below the count.
-pub fn ids_from(
-    alloc: Global,
+/// Appends so many ids from a bit on, each of which is to be below the count.
+pub fn append_ids(
     bytes: &[u8],
     bit: usize,
     width: u32,
     count: u32,
     number: usize,
-) -> Result<Seq<u32>, ColumnFault>
+    ids: &mut Vec<u32>,
+) -> Result<(), ColumnFault>
     requires width { 1 ≤ width }
     requires bound { width ≤ 32 }
     requires bit { bit < 8 }
     requires number { number < 2 ^ 32 }
     requires held { bit + number * width ≤ 8 * length bytes.now }
-    ensures ids { IfOk result (λ ids. ids ≡ pieces width bit number (bits_of 8 bytes.now)) }
-    ensures below { IfOk result (λ ids. All (λ id. id < count) ids) }
-    ensures bad { IsErrOf result ColumnFault.BadId →
+    ensures ids { OnOk result (ids.new.items
+        ≡ ids.old.items ++ pieces width bit number (bits_of 8 bytes.now)) }
+    ensures below { OnOk result
+        (All (λ id. id < count) (pieces width bit number (bits_of 8 bytes.now))) }
+    ensures bad { result ≡ Err BadId →
         ¬ All (λ id. id < count) (pieces width bit number (bits_of 8 bytes.now)) }
-    ensures read { ¬ IsErrOf result ColumnFault.ReadFault }
+    ensures read { ¬ (result ≡ Err ReadFault) }
 {
-    let mut ids = Seq::from_vec(Vec::with_capacity(alloc, number)?);
-    for i in 0..number {
-        let id = field_at(bytes, bit + i * width as usize, width);
-        if id >= count {
-            return Err(ColumnFault::BadId);
-        }
-        ids.push(id)?;
-    }
-    Ok(ids)
+    let start = ids.len();
+    ids.resize(start + number, 0)?;
+    unpack(bytes, bit, width, count, &mut ids[start..])
 }

@@ -12,7 +12,8 @@ use std::rt::Files;
 /// `P.part` there; what is published goes to its name by one rename. Files that end in `.part`, folders
 /// and names that are not UTF-8 are no published files. Names are not paths: one that is empty, `.`
 /// or `..`, or has a `/` or a NUL, has no file and cannot be written. The depot tells nothing of
-/// content, and keeps the file that was read last and the part that was written last open.
+/// content, and keeps the file that was read last, with some bytes that were read ahead, and the part
+/// that was written last open.
 #[derive(Drop)]
 pub struct FolderDepot<R: Files + AllocGlobal + Clone + Drop> {
     parts: FolderParts<R>,

@@ -6,9 +6,13 @@ ghost use Rattle.outside.specs.declared.shelf.ShelfFault.TheVariants.{Missing, F
 use outside::{Name, ShelfFault};
 use std::alloc::{AllocError, Global};
 use std::fs::{Metadata, OpenFile};
-use std::io::{ErrorKind, Read, Seek, SeekFrom};
+use std::io::{BufReader, ErrorKind, Read, Seek, SeekFrom};
 use std::rt::Files;
 use std::{fs, io};
+
+/// How many bytes of a file are read at once where fewer are asked for: those that are asked for
+/// next are mostly among them.
+const READ_AHEAD: usize = 32_768;
 
 /// A file that is open under its name.
 #[derive(Drop)]
@@ -17,12 +21,52 @@ pub struct NamedFile<F: Drop> {
     pub file: F,
 }
 
+/// A file that is read, with the bytes that were read ahead and the offset that is read next.
+#[derive(Drop)]
+pub struct FileReader<F: Read + Drop> {
+    bytes: BufReader<F>,
+    offset: u64,
+}
+
 /// The files of a folder. The one that was read last is kept open.
 #[derive(Drop)]
 pub struct FolderFiles<R: Files + AllocGlobal + Clone + Drop> {
     pub rt: R,
     pub folder: String,
-    kept: Option<NamedFile<R::File>>,
+    kept: Option<NamedFile<FileReader<R::File>>>,
+}
+
+impl<F: Read + Seek + Drop> FileReader<F> {
+    fn new(alloc: Global, file: F) -> io::Result<Self> {
+        Ok(FileReader {
+            bytes: BufReader::with_capacity(alloc, READ_AHEAD, file)?,
+            offset: 0,
+        })
+    }
+
+    // Reads from an offset on. No file is longer than a signed 64-bit number says.
+    fn read_at(&mut self, offset: u64, into: &mut [u8]) -> io::Result<usize>
+        ensures { IfOk result (λ n. n ≤ length into.old) }
+    {
+        if offset > i64::MAX as u64 {
+            return Ok(0);
+        }
+        self.seek(offset)?;
+        let n = self.bytes.read(into)?;
+        self.offset = offset + n as u64;
+        Ok(n)
+    }
+
+    // Goes to an offset. Bytes that were read ahead are kept where it lies among them.
+    fn seek(&mut self, offset: u64) -> io::Result<()> {
+        match i64::try_from(offset as i128 - self.offset as i128) {
+            Ok(distance) => self.bytes.seek_relative(distance),
+            Err(_) => {
+                self.bytes.seek(SeekFrom::Start(offset))?;
+                Ok(())
+            }
+        }
+    }
 }
 
 impl<R: Files + AllocGlobal + Clone + Drop> FolderFiles<R> {
@@ -63,7 +107,7 @@ impl<R: Files + AllocGlobal + Clone + Drop> FolderFiles<R> {
         ensures { IfOk result (λ n. n ≤ length into.old) }
     {
         let mut open = self.take(alloc, name)?;
-        match read_from(&mut open.file, offset, into) {
+        match open.file.read_at(offset, into) {
             Ok(n) => {
                 self.kept = Some(open);
                 Ok(n)
@@ -78,7 +122,11 @@ impl<R: Files + AllocGlobal + Clone + Drop> FolderFiles<R> {
     }
 
     // The file of this name: the one that is kept open, or else one that is opened.
-    fn take(&mut self, alloc: Global, name: &str) -> Result<NamedFile<R::File>, ShelfFault>
+    fn take(
+        &mut self,
+        alloc: Global,
+        name: &str,
+    ) -> Result<NamedFile<FileReader<R::File>>, ShelfFault>
         ensures { IfOk result (λ found. string_bytes found.name ≡ name.now) }
     {
         if let Some(kept) = self.kept.take() {
@@ -91,7 +139,11 @@ impl<R: Files + AllocGlobal + Clone + Drop> FolderFiles<R> {
     }
 
     // Opens a plain file, and says how long it is.
-    fn open(&self, alloc: Global, name: &str) -> Result<(NamedFile<R::File>, u64), ShelfFault>
+    fn open(
+        &self,
+        alloc: Global,
+        name: &str,
+    ) -> Result<(NamedFile<FileReader<R::File>>, u64), ShelfFault>
         ensures { IfOk result (λ found. string_bytes found.0.name ≡ name.now) }
     {
         if name.is_empty() {
@@ -99,7 +151,7 @@ impl<R: Files + AllocGlobal + Clone + Drop> FolderFiles<R> {
         }
         let path = path_of(alloc, self.folder.as_str(), name)?;
         let name = String::from_str(alloc, name)?;
-        match open_plain(&self.rt, path.as_str()) {
+        match open_plain(&self.rt, alloc, path.as_str()) {
             Ok((file, length)) => Ok((NamedFile { name, file }, length)),
             Err(e) if names_nothing(&e) && self.is_there() => Err(ShelfFault::Missing),
             Err(e) => Err(read_fault(&e)),
@@ -162,12 +214,16 @@ pub fn count_read<T>(faults: &mut u64, answer: Result<T, ShelfFault>) -> Result<
 
 // Opens a plain file, and says how long it is. What is no plain file, as a folder, a device or a pipe,
 // is not opened, since opening a pipe may wait for another program.
-fn open_plain<R: Files>(rt: &R, path: &str) -> io::Result<(R::File, u64)> {
+fn open_plain<R: Files>(
+    rt: &R,
+    alloc: Global,
+    path: &str,
+) -> io::Result<(FileReader<R::File>, u64)> {
     require_plain(&fs::metadata(rt, path)?)?;
     let file = fs::open(rt, path)?;
     let metadata = file.metadata()?;
     require_plain(&metadata)?;
-    Ok((file, metadata.len()))
+    Ok((FileReader::new(alloc, file)?, metadata.len()))
 }
 
 // Refuses what is no plain file.
@@ -177,17 +233,6 @@ fn require_plain(metadata: &Metadata) -> io::Result<()> {
     } else {
         Err(io::Error::from(ErrorKind::IsADirectory))
     }
-}
-
-// Reads from an offset on. No file is longer than a signed 64-bit number says.
-fn read_from<F: Read + Seek>(file: &mut F, offset: u64, into: &mut [u8]) -> io::Result<usize>
-    ensures { IfOk result (λ n. n ≤ length into.old) }
-{
-    if offset > i64::MAX as u64 {
-        return Ok(0);
-    }
-    file.seek(SeekFrom::Start(offset))?;
-    file.read(into)
 }
 
 fn list_files<R: Files + AllocGlobal + Clone + Drop>(

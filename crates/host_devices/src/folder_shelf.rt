@@ -8,8 +8,8 @@ use std::rt::Files;
 
 /// A shelf over a folder. A name may be a path: a relative one begins at the folder, and an absolute
 /// one stands for itself. What is no plain file, as a folder, fails; a name that no file can have is
-/// missing. It tells nothing of content, and keeps the file that was read last open: `length` opens it
-/// anew.
+/// missing. It tells nothing of content, and keeps the file that was read last open, with some bytes
+/// that were read ahead: `length` opens it anew.
 #[derive(Drop)]
 pub struct FolderShelf<R: Files + AllocGlobal + Clone + Drop> {
     files: FolderFiles<R>,

@@ -25,7 +25,7 @@ pub use memory_shelf::MemoryShelf;
 pub use memory_sink::MemorySink;
 pub use name::Name;
 pub use place::Place;
-pub use reading::read_bytes;
+pub use reading::{read_bytes, read_into};
 pub use seq::{Bytes, NoMemory, Seq};
 pub use shelf::{Shelf, ShelfFault};
 pub use sink::{Sink, SinkFault};

@@ -32,7 +32,7 @@ pub fn read_bytes<S: Shelf>(
     ensures missing { IsErrOf result ShelfFault.Missing → Lacks (S.held shelf.old) name.now }
 {
     let mut bytes = zeros(alloc, count as usize)?;
-    let read = fill(alloc, shelf, name, offset, &mut bytes)?;
+    let read = read_into(alloc, shelf, name, offset, &mut bytes)?;
     bytes.truncate(read);
     Ok(Seq::from_vec(bytes))
 }
@@ -44,9 +44,9 @@ fn zeros(alloc: Global, size: usize) -> Result<Vec<u8>, NoMemory>
     vec![in alloc; 0u8; size]
 }
 
-// Reads the bytes of a file from an offset on into `into`, as many as fit or until the file ends,
-// and says how many.
-fn fill<S: Shelf>(
+/// Reads the bytes of a file from an offset on into `into`, as many as fit or until the file ends,
+/// and says how many.
+pub fn read_into<S: Shelf>(
     alloc: Global,
     shelf: &mut S,
     name: &str,

@@ -4,9 +4,20 @@
 use host_devices::{FolderDepot, FolderShelf, StreamSink};
 use outside::Sink;
 use pinot_run::{Status, run_command};
+use std::alloc::AllocError;
 use std::io::ErrorKind;
 use std::process::ExitCode;
 use std::{env, io};
+
+// A block that glibc's allocator maps by itself, and so large that it keeps up to twice as much of
+// what is let go later, in place of giving it back to the system. Larger blocks teach it nothing.
+const TAUGHT_BYTES: usize = 31 << 20;
+
+// Has the memory of a segment that is done with kept for the next one: the block is let go at once,
+// and none of its pages is touched. Where there is no room for it, all goes on as before.
+fn keep_memory(rt: &HostRuntime) {
+    let _block: Result<Vec<u8>, AllocError> = Vec::with_capacity(rt.alloc(), TAUGHT_BYTES);
+}
 
 // The folder that the store is kept in, and the words of the command. An argument that is no UTF-8 is an
 // error; without arguments there are no words.
@@ -46,6 +57,7 @@ fn refuse(rt: &HostRuntime, status: Status, line: &[u8]) -> Status {
 }
 
 fn main(rt: HostRuntime) -> ExitCode {
+    keep_memory(&rt);
     let status = match run(&rt) {
         Ok(status) => status,
         Err(e) if e.kind() == ErrorKind::InvalidData => {

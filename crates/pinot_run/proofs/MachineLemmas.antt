@@ -23,11 +23,15 @@ use Rattle.segment_file.specs.Image.{file_of_rows, front_of, image}
 use Rattle.segment_file.specs.Names.{file_of}
 use Rattle.segment_file.specs.Ordered.{ordered}
 use Rattle.segment_file.proofs.RuleLaws.{fronts_one}
+use Rattle.sql_reply.specs.Asked.{asked}
 use Rattle.sql_reply.specs.SqlReply.{SqlReply, sql_reply}
 use Rattle.sql_reply.specs.declared.fault.SqlFault.{SqlFault}
 use Rattle.sql_reply.specs.declared.fault.SqlFault.TheVariants as query
+use Rattle.sql_reply.proofs.AskedLemmas.{unasked_none}
 use Rattle.query_executor.specs.Answers.{IsReply}
+use Rattle.query_executor.specs.Explained.{IsExplained, explained, in_order, lines_or}
 use Rattle.query_executor.specs.Segments.{HasImage, stored_rows}
+use Rattle.query_executor.specs.Stated.{IsStated, stated, stated_by}
 use Rattle.table_store.specs.Accepted.{IsAccepted, IsNoTableFile}
 use Rattle.table_store.specs.Segments.{AreFirstNames, IsFull, has_segment}
 use Rattle.table_store.specs.Stands.{IsSegment, Stands, most_segments, segment_file, segment_of}
@@ -39,10 +43,12 @@ use Rattle.table_store.proofs.KeyLemmas.{names_stand, segment_kept_so, segment_t
 use Rattle.table_store.proofs.NameLemmas.{names_count}
 use Rattle.table_store.proofs.StandsLemmas.{create_stands, none_there, one_there, segment_stands, table_stands, table_there}
 use Rattle.pinot_run.specs.Build.{BuildRefuses, HasPlace, IsBuilt, csv_rows, new_rows, table_of as table_in, with_schema, with_settings as settled}
-use Rattle.pinot_run.specs.Command.{Build, Command, Create, Listing, Query, Scan}
+use Rattle.pinot_run.specs.Command.{Build, Command, Create, Listing, Scan, Ask}
 use Rattle.pinot_run.specs.Create.{Made, beside, json_bytes, json_in, new_table, read_by, schema_in, settings_in, table_of, with_settings}
 use Rattle.pinot_run.proofs.StoredLemmas.{table_segments}
-use Rattle.pinot_run.specs.Queried.{HasNoReply, IsFaultOf, IsQueried, IsWrongImage, QueryRefuses, all_rows, rows_in}
+use Rattle.pinot_run.specs.Queried.{HasNoReply, HasReply, IsFaultOf, IsQueried, IsWrongImage, QueryRefuses, rows_in}
+use Rattle.pinot_run.specs.declared.about.About.{About}
+use Rattle.pinot_run.specs.declared.about.About.TheVariants.{Plans, Rows, RowsAndPlans}
 use Rattle.pinot_run.specs.Ran.{Builds, IsStepped, Lists, Over, Queries, TableIsThere, WhereStands, files_after}
 use Rattle.pinot_run.specs.Stored.{HasRows, HasTableFile, IsListed, IsWrongSegment, SegmentsRefuse, count_in, list_text}
 use Rattle.pinot_run.specs.declared.note.Counted.TheVariants as counted
@@ -299,21 +305,21 @@ build_step stored name csv inputs (Refuses line) new NoTable stands (why, same) 
 build_step stored name csv inputs (Replies text) new (HasTable texts segments) stands b = built_step stored texts segments stands name csv inputs text new b
 build_step stored name csv inputs (Refuses line) new (HasTable texts segments) stands (why, same) = refused_step stored texts segments stands name csv inputs line new why same
 
--- ---- `query`
+-- ---- a query's text
 
-none_asked : (stored : Files) → Stands stored NoTable → (sql : List ℕ) (line : Note) → QueryRefuses sql stored line → Refuses line ≡ query_answer NoTable sql
-none_asked stored stands sql note.NoTable h = refl
-none_asked stored stands sql (note.NotASegment name part) (inl w) = let (bytes, got, wrong) = w.wrong in none_there stored stands (bytes, got)
-none_asked stored stands sql (note.NotASegment name part) (inr w) = let (bytes, got, is) = w.table_is in none_there stored stands (bytes, got)
-none_asked stored stands sql line h = let (bytes, got, is) = h.table_is in none_there stored stands (bytes, got)
+none_asked : (stored : Files) → Stands stored NoTable → (about : About) (sql : List ℕ) (line : Note) → QueryRefuses about sql stored line → Refuses line ≡ query_answer about NoTable sql
+none_asked stored stands about sql note.NoTable h = refl
+none_asked stored stands about sql (note.NotASegment name part) (inl w) = let (bytes, got, wrong) = w.wrong in none_there stored stands (bytes, got)
+none_asked stored stands about sql (note.NotASegment name part) (inr w) = let (bytes, got, is) = w.table_is in none_there stored stands (bytes, got)
+none_asked stored stands about sql line h = let (bytes, got, is) = h.table_is in none_there stored stands (bytes, got)
 
 module _ (stored : Files) (texts : state.Texts) (segments : Segments) (stands : Stands stored (HasTable texts segments)) (table : Table) (accepted : IsAccepted texts table) where
   -- the rows of one segment of the state
-  abbrev Rows : List ℕ → List (List Value)
-  Rows name = rows_in (map.get segments name)
+  abbrev RowsOf : List ℕ → List (List Value)
+  RowsOf name = rows_in (map.get segments name)
 
   -- the file of a segment is the image of rows that are its own
-  came : (name : List ℕ) → has_segment stored name ≡ true → (rows : List (List Value)) × HasImage table stored name rows × (ordered table.settings.sorted rows ≡ Rows name)
+  came : (name : List ℕ) → has_segment stored name ≡ true → (rows : List (List Value)) × HasImage table stored name rows × (ordered table.settings.sorted rows ≡ RowsOf name)
   came name there =
       let kept = segment_kept_so stored texts segments table name stands accepted there in
       let tables : stands.table ≡ table = one_table texts stands.table table stands.valid.accepted accepted in
@@ -327,54 +333,72 @@ module _ (stored : Files) (texts : state.Texts) (segments : Segments) (stands : 
       (of.came, record { can = of.can; stored = bytes }, sym (ap rows_in kept.got ∙ rows))
 
   all_came : (names : List (List ℕ)) → ((k : ℕ) → k < length names → has_segment stored (get_or names k []) ≡ true)
-      → (rows : List (List (List Value))) × AllZip (HasImage table stored) names rows × (stored_rows table rows ≡ flat_map Rows names)
-  all_came [] there = ([], tt, refl)
+      → (rows : List (List (List Value))) × AllZip (HasImage table stored) names rows × (stored_rows table rows ≡ flat_map RowsOf names) × (in_order table rows ≡ each RowsOf names)
+  all_came [] there = ([], tt, refl, refl)
   all_came (name ∷ names) there =
       let (first, has, is) = came name (there 0 (omega arith)) in
-      let (more, have, are) = all_came names (λ k lt. there (suc k) (omega arith)) in
-      (first ∷ more, (has, have), (λ i. is i ++ are i))
+      let (more, have, are, alike) = all_came names (λ k lt. there (suc k) (omega arith)) in
+      (first ∷ more, (has, have), (λ i. is i ++ are i), (λ i. is i ∷ alike i))
 
-  -- a reply over the segments that have files is the one over the rows of the state
-  reply_right : (names : List (List ℕ)) (sql : List ℕ) (reply : SqlReply) → AreFirstNames stored names → IsReply table stored names sql reply → query_answer (HasTable texts segments) sql ≡ sql_answered reply
-  reply_right names sql reply are is =
+  -- a reply over the segments that have files is the one over those of the state
+  reply_right : (about : About) (names : List (List ℕ)) (sql : List ℕ) (reply : SqlReply) → AreFirstNames stored names → HasReply about table stored names sql reply → query_answer about (HasTable texts segments) sql ≡ sql_answered reply
+  reply_right Rows names sql reply are is =
       let keys : names ≡ map.keys segments = names_all stored texts segments stands names are in
-      let (rows, have, same) = all_came (map.keys segments) (key_there stored texts segments stands) in
+      let (rows, have, same, alike) = all_came (map.keys segments) (key_there stored texts segments stands) in
       let replies : sql_reply table false sql (stored_rows table rows) ≡ reply = subst (λ ns. IsReply table stored ns sql reply) keys is rows have in
-      ap (rows_answer segments sql) (read_as texts table accepted) ∙ ap (λ of. sql_answered (sql_reply table false sql of)) (sym same) ∙ ap sql_answered replies
+      ap (rows_answer Rows segments sql) (read_as texts table accepted) ∙ ap (λ of. sql_answered (sql_reply table false sql of)) (sym same) ∙ ap sql_answered replies
+  reply_right Plans names sql reply are is =
+      let keys : names ≡ map.keys segments = names_all stored texts segments stands names are in
+      let (rows, have, same, alike) = all_came (map.keys segments) (key_there stored texts segments stands) in
+      let replies : explained table sql (map.keys segments) (in_order table rows) ≡ reply = subst (λ ns. IsExplained table stored ns sql reply) keys is rows have in
+      ap (rows_answer Plans segments sql) (read_as texts table accepted) ∙ ap (λ of. sql_answered (explained table sql (map.keys segments) of)) (sym alike) ∙ ap sql_answered replies
+  reply_right RowsAndPlans names sql reply are is =
+      let keys : names ≡ map.keys segments = names_all stored texts segments stands names are in
+      let (rows, have, same, alike) = all_came (map.keys segments) (key_there stored texts segments stands) in
+      let replies : stated table sql (map.keys segments) (in_order table rows) ≡ reply = subst (λ ns. IsStated table stored ns sql reply) keys is rows have in
+      ap (rows_answer RowsAndPlans segments sql) (read_as texts table accepted) ∙ ap (λ of. sql_answered (stated table sql (map.keys segments) of)) (sym alike) ∙ ap sql_answered replies
 
-  fault_reply : (names : List (List ℕ)) (sql : List ℕ) (wrong : SqlFault) → IsFaultOf table stored names sql wrong → IsReply table stored names sql (Err wrong)
-  fault_reply names sql (query.LongQuery most) is = λ rows have. is (stored_rows table rows)
-  fault_reply names sql (query.BadQuery wrong place) is = λ rows have. is (stored_rows table rows)
-  fault_reply names sql (query.Unbound wrong place) is = λ rows have. is (stored_rows table rows)
-  fault_reply names sql (query.TooManyGroups most) is = is
-  fault_reply names sql query.NoMemory is = absurd is
+  -- what is wrong with a text is the reply to it
+  text_wrong : (about : About) (names : List (List ℕ)) (sql : List ℕ) (wrong : SqlFault) → asked table false sql ≡ Err wrong → HasReply about table stored names sql (Err wrong)
+  text_wrong Rows names sql wrong is = λ rows have. unasked_none table false sql wrong (stored_rows table rows) is
+  text_wrong Plans names sql wrong is = λ rows have. ap (lines_or table names (in_order table rows)) is
+  text_wrong RowsAndPlans names sql wrong is = λ rows have.
+      let all : List (List Value) = flat_map (λ r. r) (in_order table rows) in
+      ap (stated_by table names (in_order table rows) (sql_reply table false sql all)) is ∙ unasked_none table false sql wrong all is
+
+  fault_reply : (about : About) (names : List (List ℕ)) (sql : List ℕ) (wrong : SqlFault) → IsFaultOf about table stored names sql wrong → HasReply about table stored names sql (Err wrong)
+  fault_reply about names sql (query.LongQuery most) is = text_wrong about names sql (query.LongQuery most) is
+  fault_reply about names sql (query.BadQuery wrong place) is = text_wrong about names sql (query.BadQuery wrong place) is
+  fault_reply about names sql (query.Unbound wrong place) is = text_wrong about names sql (query.Unbound wrong place) is
+  fault_reply about names sql (query.TooManyGroups most) is = is
+  fault_reply about names sql query.NoMemory is = absurd is
 
 module _ (stored : Files) (texts : state.Texts) (segments : Segments) (stands : Stands stored (HasTable texts segments)) where
-  query_right : (sql text : List ℕ) → IsQueried stored sql text → Replies text ≡ query_answer (HasTable texts segments) sql
-  query_right sql text q = sym (reply_right stored texts segments stands q.table (table_stands stored texts segments q.table stands q.table_is) q.names sql (Ok text) q.names_are q.replies)
+  query_right : (about : About) (sql text : List ℕ) → IsQueried about stored sql text → Replies text ≡ query_answer about (HasTable texts segments) sql
+  query_right about sql text q = sym (reply_right stored texts segments stands q.table (table_stands stored texts segments q.table stands q.table_is) about q.names sql (Ok text) q.names_are q.replies)
 
-  no_reply : (sql : List ℕ) (line : Note) → HasNoReply stored sql line → Refuses line ≡ query_answer (HasTable texts segments) sql
-  no_reply sql line r =
+  no_reply : (about : About) (sql : List ℕ) (line : Note) → HasNoReply about stored sql line → Refuses line ≡ query_answer about (HasTable texts segments) sql
+  no_reply about sql line r =
       let accepted = table_stands stored texts segments r.table stands r.table_is in
       ap Refuses r.line_is
-      ∙ sym (reply_right stored texts segments stands r.table accepted r.names sql (Err r.wrong) r.names_are (fault_reply stored texts segments stands r.table accepted r.names sql r.wrong r.wrong_is))
+      ∙ sym (reply_right stored texts segments stands r.table accepted about r.names sql (Err r.wrong) r.names_are (fault_reply stored texts segments stands r.table accepted about r.names sql r.wrong r.wrong_is))
 
   image_right : {A : Type 0} (name part : List ℕ) → IsWrongImage stored name part → A
   image_right name part w =
       let (rows, has, is) = came stored texts segments stands w.table (table_stands stored texts segments w.table stands w.table_is) name w.there in
       absurd (w.no_image rows has)
 
-  some_asked : (sql : List ℕ) (line : Note) → QueryRefuses sql stored line → Refuses line ≡ query_answer (HasTable texts segments) sql
-  some_asked sql note.NoTable h = one_there stored texts segments stands h
-  some_asked sql (note.NotASegment name part) (inl w) = table_right stored texts segments stands w.wrong
-  some_asked sql (note.NotASegment name part) (inr w) = image_right name part w
-  some_asked sql line h = no_reply sql line h
+  some_asked : (about : About) (sql : List ℕ) (line : Note) → QueryRefuses about sql stored line → Refuses line ≡ query_answer about (HasTable texts segments) sql
+  some_asked about sql note.NoTable h = one_there stored texts segments stands h
+  some_asked about sql (note.NotASegment name part) (inl w) = table_right stored texts segments stands w.wrong
+  some_asked about sql (note.NotASegment name part) (inr w) = image_right name part w
+  some_asked about sql line h = no_reply about sql line h
 
-query_step : (stored : Files) (sql : List ℕ) (answer : Answer) (before : State) → Stands stored before → Queries sql stored answer → answer ≡ query_answer before sql
-query_step stored sql (Replies text) NoTable stands q = let (bytes, got, is) = q.table_is in none_there stored stands (bytes, got)
-query_step stored sql (Refuses line) NoTable stands h = none_asked stored stands sql line h
-query_step stored sql (Replies text) (HasTable texts segments) stands q = query_right stored texts segments stands sql text q
-query_step stored sql (Refuses line) (HasTable texts segments) stands h = some_asked stored texts segments stands sql line h
+query_step : (stored : Files) (about : About) (sql : List ℕ) (answer : Answer) (before : State) → Stands stored before → Queries about sql stored answer → answer ≡ query_answer about before sql
+query_step stored about sql (Replies text) NoTable stands q = let (bytes, got, is) = q.table_is in none_there stored stands (bytes, got)
+query_step stored about sql (Refuses line) NoTable stands h = none_asked stored stands about sql line h
+query_step stored about sql (Replies text) (HasTable texts segments) stands q = query_right stored texts segments stands about sql text q
+query_step stored about sql (Refuses line) (HasTable texts segments) stands h = some_asked stored texts segments stands about sql line h
 
 -- what is done over any store is the step where it stands for a state
 over_step : (command : Option Command) (inputs stored : Files) (answer : Answer) (new : Option Files) (before : State) → Stands stored before → Over command inputs (Some stored) answer new → IsStepped (step_of before command inputs) answer new
@@ -384,7 +408,7 @@ over_step (Some (Create schema settings)) inputs stored answer new before stands
     by_table (new_table schema settings inputs) stored answer new before over.there (accepted schema settings inputs) stands over.known over.answers over.leaves
 over_step (Some (Build name csv)) inputs stored answer new before stands builds = build_step stored name csv inputs answer new before stands builds
 over_step (Some Listing) inputs stored answer new before stands (lists, same) = record { answers = list_step stored answer before stands lists; stands = stays stored before new stands same }
-over_step (Some (Query sql)) inputs stored answer new before stands (queries, same) = record { answers = query_step stored sql answer before stands queries; stands = stays stored before new stands same }
+over_step (Some (Ask about sql)) inputs stored answer new before stands (queries, same) = record { answers = query_step stored about sql answer before stands queries; stands = stays stored before new stands same }
 
 pub steps_over : (command : Option Command) (inputs stored : Option Files) (answer : Answer) (new : Option Files) → IfSome inputs (λ files. Over command files stored answer new)
     → WhereStands inputs stored (λ before files. IsStepped (step_of before command files) answer new)

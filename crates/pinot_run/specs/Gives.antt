@@ -31,6 +31,7 @@ use Rattle.text_scan.specs.declared.fault.ScanFault.{ScanFault}
 use Rattle.text_scan.specs.declared.fault.ScanFault.TheVariants as scan
 use Rattle.pinot_run.specs.Notes.{csv_note, scan_note, sql_note}
 use Rattle.outside.specs.Seen.{Seen, OnlyReads}
+use Rattle.pinot_run.specs.declared.about.About.{About}
 use Rattle.pinot_run.specs.declared.fault.Fault.TheVariants as fault
 use Rattle.pinot_run.specs.declared.note.Counted.{Counted}
 use Rattle.pinot_run.specs.declared.note.Note.{Note}
@@ -140,18 +141,18 @@ IsQueryStop names fields (executor.NotASegment at part) s = IsSegmentStop (get_o
 IsQueryStop names fields executor.ReadFault s = s ≡ stop.Fault fault.Read
 
 -- a query ends: the files refuse it so, or a look failed, or memory ran out
-abbrev pub StopsQuery : List ℕ → Option Files → Stop → Type 0
-StopsQuery sql held (stop.Refused line) = (query_refuses line ≡ true) × IfSome held (λ files. QueryRefuses sql files line)
-StopsQuery sql held (stop.Fault fault.Read) = Unit {0}
-StopsQuery sql held (stop.Fault fault.Write) = ⊥
-StopsQuery sql held (stop.Fault fault.Memory) = Unit {0}
+abbrev pub StopsQuery : About → List ℕ → Option Files → Stop → Type 0
+StopsQuery about sql held (stop.Refused line) = (query_refuses about line ≡ true) × IfSome held (λ files. QueryRefuses about sql files line)
+StopsQuery about sql held (stop.Fault fault.Read) = Unit {0}
+StopsQuery about sql held (stop.Fault fault.Write) = ⊥
+StopsQuery about sql held (stop.Fault fault.Memory) = Unit {0}
 
 -- a call read files of the store and changed nothing; where the files are told, the query has this reply over them, or they refuse it so
-pub record AnswersQuery (sql : List ℕ) (old new : Seen) (result : Result (List ℕ) Stop) : Type 0 where
+pub record AnswersQuery (about : About) (sql : List ℕ) (old new : Seen) (result : Result (List ℕ) Stop) : Type 0 where
   pub reads : OnlyReads (IsErrAnd result (λ s. s ≡ stop.Fault fault.Read)) old new
   pub log : LogsOpened StoreFiles old.log new.log
-  pub found : IfOk result (λ text. IfSome old.held (λ files. IsQueried files sql text))
-  pub stops : IfErr result (StopsQuery sql old.held)
+  pub found : IfOk result (λ text. IfSome old.held (λ files. IsQueried about files sql text))
+  pub stops : IfErr result (StopsQuery about sql old.held)
 
 -- ---- a segment is built
 

@@ -8,7 +8,7 @@ use Rattle.table_store.specs.Stands.{Stands}
 use Rattle.table_store.specs.TableFile.{table_file, table_name, text_limit}
 use Rattle.segment_file.specs.Names.{file_of}
 use Rattle.pinot_run.specs.Build.{BuildRefuses, IsBuilt}
-use Rattle.pinot_run.specs.Command.{Build, Command, Create, Listing, Query, Scan}
+use Rattle.pinot_run.specs.Command.{Build, Command, Create, Listing, Scan, Ask}
 use Rattle.pinot_run.specs.Create.{Made, new_table}
 use Rattle.pinot_run.specs.Profile.{may_read, place_refuses, profile}
 use Rattle.pinot_run.specs.Queried.{IsQueried, IsWrongImage, QueryRefuses}
@@ -16,6 +16,7 @@ use Rattle.pinot_run.specs.Step.{After, Answer, Refuses, Replies, create_answer,
 use Rattle.pinot_run.specs.Stored.{IsListed, IsWrongSegment, IsWrongTable, SegmentsRefuse}
 use Rattle.pinot_run.specs.Touched.{ReadsFront, Touched}
 use Rattle.pinot_run.specs.World.{Devices}
+use Rattle.pinot_run.specs.declared.about.About.{About}
 use Rattle.pinot_run.specs.declared.fault.Fault.{Fault}
 use Rattle.pinot_run.specs.declared.fault.Fault.TheVariants as fault
 use Rattle.pinot_run.specs.declared.note.Note.{Note}
@@ -57,10 +58,10 @@ abbrev pub Lists : Files → Answer → Type 0
 Lists files (Replies text) = IsListed files text
 Lists files (Refuses line) = SegmentsRefuse files line
 
--- what `query` answers of any published files
-abbrev pub Queries : List ℕ → Files → Answer → Type 0
-Queries sql files (Replies text) = IsQueried files sql text
-Queries sql files (Refuses line) = QueryRefuses sql files line
+-- what a query's text is answered of any published files
+abbrev pub Queries : About → List ℕ → Files → Answer → Type 0
+Queries about sql files (Replies text) = IsQueried about files sql text
+Queries about sql files (Refuses line) = QueryRefuses about sql files line
 
 -- what `build` does over any published files: a segment's file is put among them, or none
 abbrev pub Builds : List ℕ → List ℕ → Files → Files → Answer → Option Files → Type 0
@@ -74,23 +75,23 @@ Over (Some (Scan file sql)) inputs old answer new = (answer ≡ scan_answer file
 Over (Some (Create schema settings)) inputs old answer new = Creates (new_table schema settings inputs) old answer new
 Over (Some (Build name csv)) inputs old answer new = IfSome old (λ files. Builds name csv inputs files answer new)
 Over (Some Listing) inputs old answer new = IfSome old (λ files. Lists files answer) × (new ≡ old)
-Over (Some (Query sql)) inputs old answer new = IfSome old (λ files. Queries sql files answer) × (new ≡ old)
+Over (Some (Ask about sql)) inputs old answer new = IfSome old (λ files. Queries about sql files answer) × (new ≡ old)
 
 -- ---- refusals
 
--- the bytes of the input files are refused so; for `build` and `query` the files of the store have a part in it
+-- the bytes of the input files are refused so; for `build`, `query`, `explain` and `stats` the files of the store have a part in it
 abbrev pub Finds : Option Command → Files → Option Files → Note → Type 0
 Finds None inputs stored line = Unit {0}
 Finds (Some (Scan file sql)) inputs stored line = scan_answer file sql (map.get inputs file) ≡ Refuses line
 Finds (Some (Create schema settings)) inputs stored line = new_table schema settings inputs ≡ Err line
 Finds (Some (Build name csv)) inputs stored line = IfSome stored (λ files. BuildRefuses name csv inputs files line)
 Finds (Some Listing) inputs stored line = ⊥
-Finds (Some (Query sql)) inputs stored line = IfSome stored (λ files. QueryRefuses sql files line)
+Finds (Some (Ask about sql)) inputs stored line = IfSome stored (λ files. QueryRefuses about sql files line)
 
--- a published file is not what it stands for; only `list` and `query` look at those of segments
+-- a published file is not what it stands for; only `list`, `query`, `explain` and `stats` look at those of segments
 abbrev pub IsWrong : Option Command → Files → List ℕ → List ℕ → Type 0
 IsWrong (Some Listing) files name part = IsWrongTable files name part ⊎ IsWrongSegment files name part
-IsWrong (Some (Query sql)) files name part = IsWrongTable files name part ⊎ IsWrongImage files name part
+IsWrong (Some (Ask about sql)) files name part = IsWrongTable files name part ⊎ IsWrongImage files name part
 IsWrong command files name part = IsWrongTable files name part
 
 -- what is told of the devices where a command is refused so: of the store, or of the bytes of files

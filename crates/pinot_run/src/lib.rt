@@ -1,6 +1,7 @@
 //! One command of the store, from its words to its reply.
 #![tactic(auto)]
 
+mod about;
 mod bad_query;
 mod build;
 mod command;

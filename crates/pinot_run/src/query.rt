@@ -1,4 +1,4 @@
-//! The command `query`: a query over the segments of a store.
+//! The commands `query`, `explain` and `stats`: a query over the segments of a store.
 ghost use Rattle.std.specs.Prelude.{◌≡◌, ◌≤◌, false, length, Some, IfSome};
 ghost use Rattle.std.specs.List.{All};
 ghost use Rattle.outside.specs.Seen.{Seen, seen};
@@ -7,11 +7,12 @@ ghost use Rattle.segment_file.specs.Parts.{IsPlainTable};
 ghost use Rattle.table_schema.specs.Unbuilt.{names_unbuilt};
 ghost use Rattle.table_schema.specs.ValidTable.{IsValidTable};
 ghost use Rattle.table_store.specs.Segments.{AreFirstNames};
-ghost use Rattle.pinot_run.specs.Command.{Query};
+ghost use Rattle.pinot_run.specs.Command.{Ask};
 ghost use Rattle.pinot_run.specs.Gives.{AnswersQuery, IsQueryStop, NamesOneOf, sql_stop};
 ghost use Rattle.pinot_run.specs.Ran.{Ran};
 ghost use Rattle.pinot_run.specs.Stored.{HasTableFile};
 
+use crate::about::About;
 use crate::bad_query::QueryReason;
 use crate::fault::Fault;
 use crate::note::{Counted, Note};
@@ -19,25 +20,27 @@ use crate::part_name::segment_stop;
 use crate::stop::Stop;
 use crate::store::{stored_names, stored_table};
 use outside::{Bytes, Depot, Name};
-use query_executor::{ExecutorFault, reply_to_query};
+use query_executor::{ExecutorFault, explain_query, reply_to_query, stats_query};
 use sql_reply::SqlFault;
 use std::alloc::Global;
 use table_schema::Table;
 
-/// The reply to `query`. The query's text is looked at before the file of any segment.
-pub fn query<D: Depot>(alloc: Global, sql: &str, depot: &mut D) -> Result<Bytes, Stop>
-    ensures { (inputs : Seen) → Ran (Some (Query sql.now))
+/// The reply to `query`, `explain` or `stats`, by what the query's text is asked for. The text is
+/// looked at before the file of any segment.
+pub fn ask<D: Depot>(alloc: Global, about: About, sql: &str, depot: &mut D) -> Result<Bytes, Stop>
+    ensures { (inputs : Seen) → Ran (Some (Ask about sql.now))
         (record { inputs = inputs; depot = seen D.Shelf depot.old })
         (record { inputs = inputs; depot = seen D.Shelf depot.new }) result }
 {
     let table = stored_table(alloc, depot)?;
     let names = stored_names(alloc, depot)?;
-    reply_over(alloc, &table, names.as_slice(), sql, depot)
+    reply_over(alloc, about, &table, names.as_slice(), sql, depot)
 }
 
-// The reply over the rows of these segments.
+// The reply over these segments.
 fn reply_over<D: Depot>(
     alloc: Global,
+    about: About,
     table: &Table,
     names: &[Name],
     sql: &str,
@@ -50,11 +53,21 @@ fn reply_over<D: Depot>(
     requires few { length names.now ≤ 512 }
     requires there { IfSome (D.held depot.old) (λ files. HasTableFile files table.now
         × AreFirstNames files names.now) }
-    ensures { AnswersQuery sql.now (seen D.Shelf depot.old) (seen D.Shelf depot.new) result }
+    ensures { AnswersQuery about sql.now (seen D.Shelf depot.old) (seen D.Shelf depot.new) result }
 {
-    match reply_to_query(alloc, depot, table, names, sql) {
-        Ok(text) => Ok(text),
-        Err(fault) => Err(stop_of(alloc, table, names, fault)),
+    match about {
+        About::Rows => match reply_to_query(alloc, depot, table, names, sql) {
+            Ok(text) => Ok(text),
+            Err(fault) => Err(stop_of(alloc, table, names, fault)),
+        },
+        About::Plans => match explain_query(alloc, depot, table, names, sql) {
+            Ok(text) => Ok(text),
+            Err(fault) => Err(stop_of(alloc, table, names, fault)),
+        },
+        About::RowsAndPlans => match stats_query(alloc, depot, table, names, sql) {
+            Ok(text) => Ok(text),
+            Err(fault) => Err(stop_of(alloc, table, names, fault)),
+        },
     }
 }
 

@@ -16,7 +16,7 @@ use crate::create::create;
 use crate::finish::{give_note, give_text, note_fault, status_of_fault};
 use crate::list::list;
 use crate::note::Note;
-use crate::query::query;
+use crate::query::ask;
 use crate::scan::scan;
 use crate::stop::Stop;
 use outside::{Bytes, Depot, Shelf, Sink};
@@ -39,7 +39,7 @@ fn reply_to<I: Shelf, D: Depot>(
         Some(Command::Create(schema, settings)) => create(alloc, schema, settings, inputs, depot),
         Some(Command::Build(name, csv)) => build(alloc, name, csv, inputs, depot),
         Some(Command::List) => list(alloc, depot),
-        Some(Command::Query(sql)) => query(alloc, sql, depot),
+        Some(Command::Ask(about, sql)) => ask(alloc, about, sql, depot),
         None => Err(Stop::Refused(Note::BadWords)),
     }
 }

@@ -46,3 +46,10 @@ read_so at engine.TooManyGroups e = absurd cc
 read_so at (engine.NotASegment p) e = absurd cc
 read_so at engine.ReadFault e = refl
 read_so at engine.NoMemory e = absurd cc
+
+-- without too many groups nothing is wrong with the query
+pub wrong_so : (at : ℕ) (f : EngineFault) (fault : SqlFault) → fault_at at f ≡ Sql fault → (f ≡ engine.TooManyGroups → ⊥) → fault ≡ sql.NoMemory
+wrong_so at engine.TooManyGroups fault e fewer = absurd (fewer refl)
+wrong_so at (engine.NotASegment part) fault e fewer = absurd cc
+wrong_so at engine.ReadFault fault e fewer = absurd cc
+wrong_so at engine.NoMemory fault e fewer = cc

@@ -1,7 +1,7 @@
 -- The groups of a query over the rows of segments, one segment after the other.
-use Rattle.std.proofs.Common.{◌≡◌, ◌∙◌, ◌+◌, ◌<◌, ◌++◌, ℕ, zero, suc, true, cond, nat_lt, List, [], ◌∷◌, length, take, drop, get_or, Option, Some, None, IfSome, Ok, Err, refl, sym, ap, subst, arith, append-nil, add-one}
+use Rattle.std.proofs.Common.{◌≡◌, ◌∙◌, ◌+◌, ◌<◌, ◌++◌, ℕ, zero, suc, true, cond, nat_lt, List, [], ◌∷◌, length, take, drop, get_or, Option, Some, None, IfSome, Ok, Err, sym, ap, subst, arith, append-nil, add-one}
 use Rattle.std.specs.FinMap as finite
-use Rattle.std.specs.List.{AllZip, Contains, flat_map}
+use Rattle.std.specs.List.{AllZip, flat_map}
 use Rattle.std.proofs.Math.Seq.{take-suc}
 use Rattle.std.proofs.lemmas.Bool.{lt-ltb}
 use Rattle.std.proofs.lemmas.Grind.{flat_map-append}
@@ -28,7 +28,7 @@ use Rattle.query_executor.specs.Answers.{IsBoundReply}
 use Rattle.query_executor.specs.Segments.{HasImage, stored_rows}
 use Rattle.query_executor.specs.Steps.{AddsStored, HasGroups, HaveTooMany, IsStoredOverfull, selected_in}
 
-zip_at : {A B : Type 0} (R : A → B → Type 0) (xs : List A) (ys : List B) (i : ℕ) (d : A) (e : B) → AllZip R xs ys → i < length xs → R (get_or xs i d) (get_or ys i e)
+pub zip_at : {A B : Type 0} (R : A → B → Type 0) (xs : List A) (ys : List B) (i : ℕ) (d : A) (e : B) → AllZip R xs ys → i < length xs → R (get_or xs i d) (get_or ys i e)
 zip_at R [] ys i d e all lt = absurd (omega (arith, lt))
 zip_at R (x ∷ xs) [] i d e all lt = absurd all
 zip_at R (x ∷ xs) (y ∷ ys) zero d e all lt = all.0
@@ -109,18 +109,3 @@ module _ (query : BoundQuery) (table : Table) where
       where
         reply_by : (shape : Shape) (groups : Groups) → nat_lt 100000 (finite.len groups) ≡ true → reply_over 100000 shape groups ≡ Reply.TooManyGroups
         reply_by shape groups is = ap (λ b. cond b Reply.TooManyGroups (Reply.Answers (answer_text (answer_of shape groups)))) is
-
--- ---- the names
-
-any_default : (names : List (List ℕ)) (i : ℕ) (d e : List ℕ) → i < length names → get_or names i d ≡ get_or names i e
-any_default [] i d e lt = absurd (omega (arith, lt))
-any_default (name ∷ names) zero d e lt = refl
-any_default (name ∷ names) (suc i) d e lt = any_default names i d e (omega (arith, lt))
-
--- the name that was read at a place
-pub is_named : (names : List (List ℕ)) (i : ℕ) (text name : List ℕ) → i < length names → text ≡ name → name ≡ get_or names i name → text ≡ get_or names i []
-is_named names i text name lt same is = same ∙ is ∙ any_default names i name [] lt
-
--- it is among them
-pub among : (names : List (List ℕ)) (i : ℕ) → i < length names → Contains names (get_or names i [])
-among names i lt = (i, lt, any_default names i (get_or names i []) [] lt)

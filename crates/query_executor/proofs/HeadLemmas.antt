@@ -1,5 +1,5 @@
 -- The head of a segment's file, and dictionaries that are loaded into it.
-use Rattle.std.proofs.Common.{◌≡◌, ◌≢◌, ◌∙◌, ◌<◌, ◌+◌, ◌==◌, ℕ, zero, suc, Bool, true, false, List, [], ◌∷◌, length, map, get_or, slice_get, Option, Some, None, IfSome, refl, sym, ap, subst, arith}
+use Rattle.std.proofs.Common.{◌≡◌, ◌≢◌, ◌∙◌, ◌≤◌, ◌<◌, ◌+◌, ◌==◌, ℕ, zero, suc, Bool, true, false, List, [], ◌∷◌, length, map, get_or, slice_get, Option, Some, None, IfSome, refl, sym, ap, subst, arith}
 use Rattle.std.proofs.lemmas.Bool.{eq-eqb, eqb-true, false≢true}
 use Rattle.std.proofs.lemmas.Option.{get_or_from_slice_get}
 use Rattle.outside.specs.Files.{Files, bytes_of}
@@ -11,17 +11,18 @@ use Rattle.dictionary.specs.Dictionary.{Distinct}
 use Rattle.segment_file.specs.declared.section.Section.{Section}
 use Rattle.segment_file.specs.Bounds.{bounds_of}
 use Rattle.segment_file.specs.Front.{extents_of}
-use Rattle.segment_file.specs.Heads.{AreIn, IsHead, IsHeadOf, IsLoaded, IsPartOf, KeepsRules, Loads, OfWhole, Seen, dictionary_section, placed}
+use Rattle.segment_file.specs.Heads.{AreIn, IsHead, IsHeadOf, IsLoaded, IsPartOf, KeepsRules, Loads, OfWhole, Seen, dictionary_section, placed, trees_said}
 use Rattle.segment_file.specs.Image.{CanHold, dictionary_of, front_of, image}
 use Rattle.segment_file.specs.Laws.{ImageKeeps}
 use Rattle.segment_file.specs.Names.{IsSegmentName, file_of}
 use Rattle.segment_file.specs.Ordered.{ordered}
 use Rattle.segment_file.specs.Parts.{columns_of, sections_of}
+use Rattle.segment_file.specs.Rules.{heads_in}
 use Rattle.segment_file.proofs.Composed.{made_count}
-use Rattle.query_executor.specs.Logs.{LogsIn}
+use Rattle.query_executor.specs.Logs.{DictionariesEnd, EndsBy, LogsThat}
 use Rattle.query_executor.specs.Segments.{HasNoImage}
 use Rattle.query_executor.specs.Steps.{Grows, IsHeadIn}
-use Rattle.query_executor.proofs.LogLemmas.{logs_through}
+use Rattle.query_executor.proofs.LogLemmas.{through_ends}
 
 -- ---- a head that is opened
 
@@ -30,14 +31,14 @@ abbrev image_head : Table → List ℕ → List ℕ → List (List Value) → Se
 image_head table name file rows =
     let os : List (List Value) = ordered table.settings.sorted rows in
     let ds : List Distinct = map (dictionary_of table os) (columns_of table) in
-    record { rows = (front_of 1 table os).rows; sections = map (placed file) (extents_of table name (front_of 1 table os)); bounds = bounds_of ds; dictionaries = map Some ds }
+    record { rows = (front_of 1 table os).rows; sections = map (placed file) (extents_of table name (front_of 1 table os)); bounds = bounds_of ds; dictionaries = map Some ds; trees = map Some (trees_said table (heads_in table name (front_of 1 table os) (image 1 table name rows))) }
 
 module _ (law : ImageKeeps) (table : Table) (valid : IsValidTable table) (name : List ℕ) (named : IsSegmentName name) where
   image_is : (file : List ℕ) (rows : List (List Value)) → CanHold table rows → IsHead table name file (image 1 table name rows) (image_head table name file rows)
   image_is file rows can =
       let os : List (List Value) = ordered table.settings.sorted rows in
       let ds : List Distinct = map (dictionary_of table os) (columns_of table) in
-      record { front = front_of 1 table os; dictionaries = ds; keeps = law table name rows valid named can; rows_are = refl; sections_are = refl; dictionaries_are = refl; bounds_are = refl }
+      record { front = front_of 1 table os; dictionaries = ds; keeps = law table name rows valid named can; rows_are = refl; sections_are = refl; dictionaries_are = refl; bounds_are = refl; trees_are = refl }
 
   -- an open head is that of the image that its file is
   pub opened_image : (held : Option Files) (file : List ℕ) (head : Seen) → file ≡ file_of name → IfSome held (λ files. (whole : Seen) → IsHead table name file (bytes_of (Some files) file) whole → IsPartOf whole head)
@@ -116,6 +117,11 @@ pub image_later : (table : Table) (name : List ℕ) (first then last : Option Fi
 image_later table name first then last old new is_then is_last grows was =
     subst (λ held. IsHeadIn table held name new) (sym is_last) (grows.image name (subst (λ held. IsHeadIn table held name old) (sym is_then) was))
 
+-- the same by what the shelf told at first
+pub image_grown : (table : Table) (name : List ℕ) (first then : Option Files) (old new : Seen) → then ≡ first → Grows table then old new → IsHeadIn table first name old → IsHeadIn table first name new
+image_grown table name first then old new is_then grows was =
+    subst (λ held. IsHeadIn table held name new) is_then (grows.image name (subst (λ held. IsHeadIn table held name old) (sym is_then) was))
+
 -- a dictionary that is none is not that of an image
 pub unread_none : (table : Table) (held : Option Files) (head : Seen) → OfWhole table held head (λ whole. ⊥) → (name : List ℕ) → IsHeadIn table held name head → IfSome held (λ files. HasNoImage table files name)
 unread_none table None head none name was = tt
@@ -134,15 +140,16 @@ if_some : {X : Type 0} (o : Option X) (x : X) (P : X → Type 0) → o ≡ Some 
 if_some None x P is h = absurd cc
 if_some (Some y) x P is h = subst (λ o. IfSome o P) is h
 
-pub dictionary_log : (table : Table) (head : Seen) (column : ℕ) (file : List ℕ) (old new : Option (List Entry)) → IsHeadOf table head → column < length table.schema.fields → AreIn file head.sections
-    → IfSome (dictionary_section head column) (λ s. LogsUpTo s.place.file s.place.offset (s.place.offset + s.place.length) old new) → LogsIn file old new
-dictionary_log table head column file old new of lt within logs =
+pub dictionary_log : (table : Table) (head : Seen) (column : ℕ) (file : List ℕ) (end : ℕ) (old new : Option (List Entry)) → IsHeadOf table head → column < length table.schema.fields → AreIn file head.sections → DictionariesEnd table head end
+    → IfSome (dictionary_section head column) (λ s. LogsUpTo s.place.file s.place.offset (s.place.offset + s.place.length) old new) → LogsThat (EndsBy file end) old new
+dictionary_log table head column file end old new of lt within ends logs =
     let few : column + 1 < length head.sections = omega (arith, lt, made_count table of.name of.file of.front (sections_of table) head.sections refl of.each of.has.sections_are) in
     let (s, at) = section_at head.sections (column + 1) few in
     let (to, le, through) = if_some (dictionary_section head column) s (λ s. LogsUpTo s.place.file s.place.offset (s.place.offset + s.place.length) old new) at logs in
+    let before : s.place.offset + s.place.length ≤ end = if_some (dictionary_section head column) s (λ s. s.place.offset + s.place.length ≤ end) at (ends column lt) in
     let here : get_or head.sections (column + 1) s ≡ s = get_or_from_slice_get head.sections (column + 1) s s at in
     let own : s.place.file ≡ file = subst (λ (x : Section). x.place.file ≡ file) here (within (column + 1) s few) in
-    subst (λ f. LogsIn f old new) own (logs_through s.place.file s.place.offset to old new through)
+    subst (λ f. LogsThat (EndsBy f end) old new) own (through_ends s.place.file s.place.offset to end old new (omega (arith, le, before)) through)
 
 -- ---- one column after the other
 

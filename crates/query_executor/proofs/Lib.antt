@@ -7,3 +7,7 @@ mod PlanLemmas
 mod ReplyLemmas
 mod ScanLogs
 mod SegmentLemmas
+mod LineLemmas
+mod NameLemmas
+mod DoneLemmas
+mod StatedLemmas

@@ -1,9 +1,10 @@
 -- The columns that a query names are fields of its table.
-use Rattle.std.proofs.Common.{◌≡◌, ◌∙◌, ◌<◌, ◌==◌, ◌||◌, ◌&&◌, ◌∷◌, [], ℕ, Bool, true, false, Option, Some, None, List, map, length, refl, sym, ap, subst}
-use Rattle.std.specs.List.{flat_map, list_all, list_any}
+use Rattle.std.proofs.Common.{◌≡◌, ◌∙◌, ◌<◌, ◌+◌, ◌==◌, ◌||◌, ◌&&◌, ◌∷◌, [], ℕ, Bool, true, false, Option, Some, None, List, map, get_or, length, refl, sym, ap, subst, arith}
+use Rattle.std.specs.List.{flat_map, list_all, list_any, range_with_len}
 use Rattle.std.specs.Option.{option_map_or}
 use Rattle.std.proofs.lemmas.Bool.{eqb-true, false≢true, ltb-true}
 use Rattle.std.proofs.lemmas.List.Folds.{list_all-append}
+use Rattle.std.proofs.lemmas.List.FromFn.{get_or-map-range_with_len}
 use Rattle.values.specs.Tests.{any_true}
 use Rattle.table_schema.specs.declared.field.Field.{Field}
 use Rattle.table_schema.specs.declared.query.Agg.{Agg}
@@ -17,8 +18,8 @@ use Rattle.table_schema.specs.declared.query.Wide.TheViews.{roll-Wide}
 use Rattle.table_schema.specs.declared.table.Table.{Table}
 use Rattle.table_schema.specs.ValidQuery.{IsValidQuery, conjunct_known, fields_of, fields_step}
 use Rattle.table_schema.specs.ValidSettings.{is_known_number, is_number_of}
-use Rattle.segment_file.specs.Heads.{Seen}
-use Rattle.segment_plan.specs.Matched.{AreLoaded, is_on}
+use Rattle.segment_file.specs.Heads.{IsLoaded, Seen}
+use Rattle.segment_plan.specs.Matched.{AreLoaded, is_filtered, is_on}
 use Rattle.segment_scan.specs.Images.{AreNamedLoaded}
 use Rattle.segment_scan.specs.Named.{agg_names, conjunct_names, is_in, names_step, query_names, wide_names}
 
@@ -119,9 +120,21 @@ some_more p q f (x ∷ xs) any =
     (λ here. left_true (q x) (list_any q xs) (f x here))
     (λ there. right_true (q x) (list_any q xs) (some_more p q f xs there))
 
+pub filtered_names : (query : BoundQuery) (column : ℕ) → is_filtered query.conjuncts column ≡ true → query_names query column ≡ true
+filtered_names query column is =
+    left_true (list_any (conjunct_names column) query.conjuncts || is_in query.groups column) (list_any (agg_names column) query.aggs)
+    (left_true (list_any (conjunct_names column) query.conjuncts) (is_in query.groups column) (some_more (is_on column) (conjunct_names column) (on_names column) query.conjuncts is))
+
 -- so what a plan looks at was loaded
 pub conjuncts_loaded : (query : BoundQuery) (head : Seen) → AreNamedLoaded query head → AreLoaded query.conjuncts head
-conjuncts_loaded query head loaded = λ column is.
-    loaded column
-    (left_true (list_any (conjunct_names column) query.conjuncts || is_in query.groups column) (list_any (agg_names column) query.aggs)
-    (left_true (list_any (conjunct_names column) query.conjuncts) (is_in query.groups column) (some_more (is_on column) (conjunct_names column) (on_names column) query.conjuncts is)))
+conjuncts_loaded query head loaded = λ column is. loaded column (filtered_names query column is)
+
+-- ---- the columns that are marked
+
+-- the columns that conjuncts name alone were loaded
+pub filtered_loaded : (table : Table) (query : BoundQuery) (head : Seen) (marks : List Bool) → IsValidQuery table query → marks ≡ map (is_filtered query.conjuncts) (range_with_len 0 (length table.schema.fields))
+    → ((column : ℕ) → column < length table.schema.fields → get_or marks column false ≡ true → IsLoaded head column) → AreLoaded query.conjuncts head
+filtered_loaded table query head marks valid is loaded = λ column on.
+    let lt = named_within table query column valid (filtered_names query column on) in
+    let plain : 0 + column ≡ column = omega arith in
+    loaded column lt (ap (λ l. get_or l column false) is ∙ get_or-map-range_with_len (is_filtered query.conjuncts) 0 (length table.schema.fields) column column false lt plain ∙ on)

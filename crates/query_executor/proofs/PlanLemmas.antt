@@ -1,27 +1,21 @@
 -- The plan of a segment of a table without star-trees, and segments of which no row satisfies a query.
-use Rattle.std.proofs.Common.{◌≡◌, ◌∙◌, ◌||◌, ◌&&◌, not, ℕ, zero, suc, Bool, true, false, cond, All, List, [], ◌∷◌, map, slice_get, Option, Some, None, is_some, refl, sym, ap, subst}
+use Rattle.std.proofs.Common.{◌≡◌, ◌∙◌, ◌||◌, not, ℕ, Bool, true, false, cond, List, [], ◌∷◌, map, Option, Some, None, refl, sym, ap}
 use Rattle.std.proofs.lemmas.Bool.{false≢true}
-use Rattle.std.proofs.lemmas.List.Elements.{All-map}
 use Rattle.values.specs.declared.value.Value.{Value}
 use Rattle.table_schema.specs.declared.query.BoundQuery.{BoundQuery}
-use Rattle.table_schema.specs.declared.query.Conjunct.{Conjunct}
-use Rattle.table_schema.specs.declared.query.Conjunct.TheVariants.{One, Many}
 use Rattle.table_schema.specs.declared.settings.Settings.{Settings}
 use Rattle.table_schema.specs.declared.settings.TreeSetting.{TreeSetting}
 use Rattle.table_schema.specs.declared.table.Table.{Table}
-use Rattle.table_schema.specs.NeedIds.{is_set}
 use Rattle.table_schema.specs.Unbuilt.{is_no_tree, is_set_anywhere, names_unbuilt}
 use Rattle.scan_engine.specs.Scanned.{selected}
 use Rattle.eligibility.specs.Rule.{picked}
 use Rattle.segment_file.specs.Heads.{Seen}
 use Rattle.segment_plan.specs.declared.plans.IndexChoice.{IndexChoice}
-use Rattle.segment_plan.specs.declared.plans.IndexChoice.TheVariants.{Inverted, Range, Sorted, Unindexed}
 use Rattle.segment_plan.specs.declared.plans.SegmentPlan.{SegmentPlan}
 use Rattle.segment_plan.specs.declared.plans.SegmentPlan.TheVariants.{Pruned, Empty, StarTree, Scan}
 use Rattle.segment_plan.specs.declared.plans.ScanPlan.{ScanPlan}
-use Rattle.dictionary.specs.Ids.{matching}
-use Rattle.segment_plan.specs.Choices.{are_consecutive, choice_of, is_sorted_on}
-use Rattle.segment_plan.specs.Matched.{values_in}
+use Rattle.segment_plan.specs.Choices.{choice_of}
+use Rattle.segment_plan.specs.Explained.{IsDetailed}
 use Rattle.segment_plan.specs.Laws.{NoneHolds}
 use Rattle.segment_plan.specs.Plan.{is_emptied, plan_of, tree_or}
 use Rattle.segment_plan.specs.Pruning.{is_pruned}
@@ -87,6 +81,18 @@ module _ (query : BoundQuery) (table : Table) (head : Seen) where
 
   pub is_empty_so : Empty ≡ plan_of query table head → is_emptied query.conjuncts table head ≡ true
   is_empty_so is = empty_so (is_pruned query head) (is_emptied query.conjuncts table head) all_choices (picked query table.settings.trees) is
+
+  -- the bounds exclude all rows
+  pub pruned_planned : is_pruned query head ≡ true → Pruned ≡ plan_of query table head
+  pruned_planned is =
+      ap (λ b. planned b (is_emptied query.conjuncts table head) (Scan all_choices) (picked query table.settings.trees)) (sym is)
+
+  -- the detail of a plan wants no more of the head where there are no trees
+  pub detailed : (plan : SegmentPlan) → names_unbuilt table.settings ≡ false → plan ≡ plan_of query table head → IsDetailed query table head plan
+  detailed Pruned bare is = tt
+  detailed Empty bare is = tt
+  detailed (StarTree tree) bare is = absurd (tree_never tree bare is)
+  detailed (Scan plan) bare is = tt
 
 -- ---- where no row satisfies the query, none is selected
 

@@ -19,9 +19,9 @@ use Rattle.table_schema.specs.declared.query.Conjunct.{Conjunct}
 use Rattle.table_schema.specs.declared.query.Conjunct.TheVariants.{One, Many}
 use Rattle.table_schema.specs.declared.table.Table.{Table}
 use Rattle.doc_lists.specs.declared.run.Run.{Run}
-use Rattle.index_reading.specs.Entries.{LogsPostings, LogsPostingsPartly, entries_at, offsets_of}
+use Rattle.index_reading.specs.Entries.{entries_at, offsets_of}
 use Rattle.index_reading.specs.Logs.{LogsIds, LogsIdsPartly}
-use Rattle.index_reading.specs.Runs.{LogsSorted, LogsSortedPartly, ends_of}
+use Rattle.index_reading.specs.Runs.{ends_of}
 use Rattle.index_reading.specs.Stretches.{LogsOver, Stretch}
 use Rattle.index_reading.specs.Stretches as stretches
 use Rattle.index_reading.specs.declared.kind.ListKind.{ListKind}

@@ -1,5 +1,5 @@
 -- What is done with one segment of a table for a query.
-use Rattle.std.specs.Prelude.{◌≡◌, ◌≤◌, ◌<◌, ℕ, List, Option, IfSome, take}
+use Rattle.std.specs.Prelude.{◌≡◌, ◌≤◌, ◌<◌, ◌++◌, ℕ, List, Option, IfSome, Ok, drop, take}
 use Rattle.std.specs.FinMap as finite
 use Rattle.std.specs.List.{AllZip}
 use Rattle.outside.specs.Files.{Files}
@@ -14,13 +14,20 @@ use Rattle.segment_file.specs.Heads.{IsHeadOf, IsLoaded, Seen}
 use Rattle.segment_file.specs.Ordered.{ordered}
 use Rattle.segment_file.specs.declared.fault.HeadFault.{HeadFault}
 use Rattle.segment_file.specs.declared.fault.HeadFault.TheVariants as head
+use Rattle.segment_plan.specs.declared.plans.SegmentPlan.{SegmentPlan}
+use Rattle.segment_plan.specs.Laws.{IsPlannable}
+use Rattle.segment_plan.specs.Plan.{plan_of}
+use Rattle.segment_plan.specs.Planned.{plan_over}
 use Rattle.segment_scan.specs.Images.{IsOfImage}
 use Rattle.segment_scan.specs.declared.fault.EngineFault.{EngineFault}
 use Rattle.segment_scan.specs.declared.fault.EngineFault.TheVariants as engine
-use Rattle.sql_reply.specs.Reply.{most_groups}
+use Rattle.sql_reply.specs.Reply.{conjuncts_reply, most_groups}
+use Rattle.sql_reply.specs.SqlReply.{replied}
 use Rattle.sql_reply.specs.declared.fault.SqlFault.TheVariants as sql
 use Rattle.query_executor.specs.declared.fault.ExecutorFault.{ExecutorFault}
 use Rattle.query_executor.specs.declared.fault.ExecutorFault.TheVariants.{NotASegment, ReadFault, Sql}
+use Rattle.query_executor.specs.Explained.{in_order, lines_of}
+use Rattle.query_executor.specs.Stated.{docs_over, stats_line, with_lines}
 use Rattle.query_executor.specs.Segments.{HasImage, stored_rows}
 
 -- ---- the head of a segment
@@ -83,3 +90,34 @@ abbrev pub HaveTooMany : BoundQuery → Table → Option Files → List (List �
 HaveTooMany query table held names most =
     IfSome held (λ files. (segments : List (List (List Value))) → AllZip (HasImage table files) names segments
     → most < finite.len (groups_of (shape_of query) (selected query (stored_rows table segments))))
+
+-- ---- the plans of segments
+
+-- the head of a segment was opened as far as its plan for a query asks, and this is the plan
+pub record IsPlannedIn (query : BoundQuery) (table : Table) (held : Option Files) (name : List ℕ) (head : Seen) (plan : SegmentPlan) : Type 0 where
+  pub known : IsPlannable query head
+  pub plan_is : plan ≡ plan_of query table head
+  pub image : IsHeadIn table held name head
+
+-- where files are told: if the segment's file is the image of rows, its line was added
+abbrev pub AddsLine : (List ℕ → List (List Value) → List ℕ) → Table → Option Files → List ℕ → List ℕ → List ℕ → Type 0
+AddsLine line table held name old new =
+    IfSome held (λ files. (rows : List (List Value)) → HasImage table files name rows → new ≡ old ++ line name (ordered table.settings.sorted rows))
+
+-- where files are told and are images, these are the lines of all segments but those from the n-th on
+abbrev pub HasLines : (List ℕ → List (List Value) → List ℕ) → Table → Option Files → List (List ℕ) → ℕ → List ℕ → Type 0
+HasLines line table held names n text =
+    IfSome held (λ files. (segments : List (List (List Value))) → AllZip (HasImage table files) names segments
+    → text ++ lines_of line (drop n names) (drop n (in_order table segments)) ≡ lines_of line names (in_order table segments))
+
+-- where files are told: if the segment's file is the image of rows, this is their plan, and so many of them are looked at
+abbrev pub IsDoneIn : BoundQuery → Table → Option Files → List ℕ → SegmentPlan → ℕ → Type 0
+IsDoneIn query table held name plan docs =
+    IfSome held (λ files. (rows : List (List Value)) → HasImage table files name rows
+    → (plan ≡ plan_over query table (ordered table.settings.sorted rows)) × (docs ≡ docs_over query table (ordered table.settings.sorted rows)))
+
+-- where the files of the segments are images, this is the reply to the query in its normal form with a line for each
+abbrev pub IsBoundStated : Table → Files → List (List ℕ) → BoundQuery → List ℕ → Type 0
+IsBoundStated table files names query text =
+    (segments : List (List (List Value))) → AllZip (HasImage table files) names segments
+    → with_lines (lines_of (stats_line query table) names (in_order table segments)) (replied (conjuncts_reply query (stored_rows table segments))) ≡ Ok text

@@ -1,8 +1,7 @@
 //! The reply to a query over the segments of a table.
-ghost use Rattle.std.specs.Prelude.{◌≡◌, ◌≢◌, ◌≤◌, ◌<◌, false, ℕ, List, [], Ok, Err, IfOk, IfSome, IsErrOf, OnOk, get_or, length};
+ghost use Rattle.std.specs.Prelude.{◌≡◌, ◌≢◌, ◌≤◌, ◌<◌, false, ℕ, [], Ok, Err, IfOk, IfSome, IsErrOf, OnOk, get_or, length};
 ghost use Rattle.std.specs.List.{All};
 ghost use Rattle.outside.specs.Seen.{OnlyReads, seen};
-ghost use Rattle.values.specs.declared.value.Value.{Value};
 ghost use Rattle.table_schema.specs.Unbuilt.{names_unbuilt};
 ghost use Rattle.table_schema.specs.ValidQuery.{IsValidQuery};
 ghost use Rattle.table_schema.specs.ValidTable.{IsValidTable};
@@ -11,21 +10,20 @@ ghost use Rattle.segment_file.specs.Names.{IsSegmentName};
 ghost use Rattle.segment_file.specs.Parts.{IsPlainTable};
 ghost use Rattle.segment_file.specs.declared.part.Part.{Part};
 ghost use Rattle.sql_reply.specs.Reply.{most_groups};
-ghost use Rattle.sql_reply.specs.SqlReply.{IsOfText, sql_reply};
+ghost use Rattle.sql_reply.specs.Asked.{asked};
+ghost use Rattle.sql_reply.specs.SqlReply.{IsOfText};
 ghost use Rattle.sql_reply.specs.declared.fault.SqlFault.{SqlFault};
 ghost use Rattle.sql_reply.specs.declared.fault.SqlFault.TheVariants.{NoMemory, TooManyGroups};
 ghost use Rattle.query_executor.specs.Answers.{IsBoundReply, IsReply};
 ghost use Rattle.query_executor.specs.Logs.{LogsOf};
 ghost use Rattle.query_executor.specs.Segments.{HasNoImage};
-ghost use Rattle.query_executor.specs.Steps.{HasGroups, HaveTooMany, fault_at};
+ghost use Rattle.query_executor.specs.Steps.{HasGroups, HaveTooMany};
 ghost use Rattle.query_executor.specs.declared.fault.ExecutorFault.TheVariants.{NotASegment, ReadFault, Sql};
 
 use crate::ExecutorFault;
-use crate::segment::add_segment;
-use group_table::GroupTable;
+use crate::pass::{Pass, pass_over};
 use outside::{Bytes, Name, Shelf};
-use segment_scan::EngineFault;
-use sql_reply::{MOST_GROUPS, SqlFault, answer, bound_query};
+use sql_reply::{SqlFault, answer, bound_query};
 use std::alloc::Global;
 use table_schema::{BoundQuery, Table};
 
@@ -50,8 +48,8 @@ pub fn reply_to_query<S: Shelf>(
         IsReply table.now files names.now sql.now (Err fault)) }
     // What is wrong with the query's text is known before anything is read.
     ensures of_text { (fault : SqlFault) → result ≡ Err (Sql fault) → IsOfText fault →
-        (seen S.Shelf shelf.new ≡ seen S.Shelf shelf.old) × ((rows : List (List Value)) →
-        sql_reply table.now false sql.now rows ≡ Err fault) }
+        (seen S.Shelf shelf.new ≡ seen S.Shelf shelf.old)
+        × (asked table.now false sql.now ≡ Err fault) }
     ensures bad { (at : ℕ) (part : Part) → result ≡ Err (NotASegment at part) →
         (at < length names.now) × IfSome (S.held shelf.old) (λ files.
         HasNoImage table.now files (get_or names.now at [])) }
@@ -91,62 +89,11 @@ fn reply_to_bound<S: Shelf>(
         (seen S.Shelf shelf.old) (seen S.Shelf shelf.new) }
     ensures log { LogsOf names.now (S.log shelf.old) (S.log shelf.new) }
 {
-    let mut groups = GroupTable::new(alloc, query, MOST_GROUPS)?;
-    match add_segments(alloc, shelf, table, names, query, &mut groups) {
+    let mut pass = Pass::new(alloc, query, false)?;
+    match pass_over(alloc, shelf, table, names, query, &mut pass) {
         Ok(()) => {}
         Err(fault) => return Err(fault),
     }
-    let text = answer(alloc, query, &groups)?;
+    let text = answer(alloc, query, &pass.groups)?;
     Ok(text)
-}
-
-// Adds the rows of the segments of these names to the groups of a query, segment after segment.
-fn add_segments<S: Shelf>(
-    alloc: Global,
-    shelf: &mut S,
-    table: &Table,
-    names: &[Name],
-    query: &BoundQuery,
-    groups: &mut GroupTable,
-) -> Result<(), ExecutorFault>
-    requires valid { IsValidTable table.now }
-    requires plain { IsPlainTable table.now }
-    requires bare { names_unbuilt table.now.settings ≡ false }
-    requires named { All IsSegmentName names.now }
-    requires few { length names.now ≤ 512 }
-    requires query { IsValidQuery table.now query.now }
-    requires new { IsNew query.now most_groups groups.old }
-    ensures ok { OnOk result (HasGroups query.now table.now (S.held shelf.old) names.now
-        (length names.now) groups.new) }
-    ensures of_query { OnOk result (IsTableOf query.now groups.new) }
-    ensures most { OnOk result (groups.new.most ≡ most_groups) }
-    ensures refused { (fault : SqlFault) → result ≡ Err (Sql fault) → fault ≢ NoMemory →
-        (fault ≡ TooManyGroups most_groups)
-        × HaveTooMany query.now table.now (S.held shelf.old) names.now most_groups }
-    ensures bad { (at : ℕ) (part : Part) → result ≡ Err (NotASegment at part) →
-        (at < length names.now) × IfSome (S.held shelf.old) (λ files.
-        HasNoImage table.now files (get_or names.now at [])) }
-    ensures only_reads { OnlyReads (IsErrOf result ReadFault)
-        (seen S.Shelf shelf.old) (seen S.Shelf shelf.new) }
-    ensures log { LogsOf names.now (S.log shelf.old) (S.log shelf.new) }
-{
-    'names: for at in 0..names.len() {
-        match add_segment(alloc, shelf, table, names[at].as_str(), query, groups) {
-            Ok(()) => {}
-            Err(fault) => return Err(fault_at(at as u32, fault)),
-        }
-    }
-    Ok(())
-}
-
-// What the fault of the scan of a segment, by its number, is for the query.
-fn fault_at(at: u32, fault: EngineFault) -> ExecutorFault
-    ensures { result ≡ fault_at at fault }
-{
-    match fault {
-        EngineFault::TooManyGroups => ExecutorFault::Sql(SqlFault::TooManyGroups(MOST_GROUPS)),
-        EngineFault::NotASegment(part) => ExecutorFault::NotASegment(at, part),
-        EngineFault::ReadFault => ExecutorFault::ReadFault,
-        EngineFault::NoMemory => ExecutorFault::Sql(SqlFault::NoMemory),
-    }
 }

@@ -3,10 +3,17 @@
 #![tactic(auto)]
 
 mod executor;
+mod explain;
 mod fault;
 mod loading;
 mod opening;
+mod pass;
+mod planned;
 mod segment;
+mod segment_fault;
+mod stats;
 
 pub use executor::reply_to_query;
+pub use explain::explain_query;
 pub use fault::ExecutorFault;
+pub use stats::stats_query;

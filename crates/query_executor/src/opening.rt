@@ -7,7 +7,7 @@ ghost use Rattle.segment_file.specs.Parts.{IsPlainTable};
 ghost use Rattle.segment_file.specs.declared.part.Part.{Part};
 ghost use Rattle.segment_scan.specs.declared.fault.EngineFault.TheVariants.{NotASegment, ReadFault, TooManyGroups};
 ghost use Rattle.table_schema.specs.ValidTable.{IsValidTable};
-ghost use Rattle.query_executor.specs.Logs.{LogsIn};
+ghost use Rattle.query_executor.specs.Logs.{EndsInHead, LogsHeadOf};
 ghost use Rattle.query_executor.specs.Segments.{HasNoImage};
 ghost use Rattle.query_executor.specs.Steps.{IsHeadIn, fault_of};
 
@@ -30,12 +30,15 @@ pub fn open_segment<S: Shelf>(
     ensures of { IfOk result (IsHeadOf table.now) }
     ensures placed { IfOk result (λ head. AreIn (file_of name.now) head.sections) }
     ensures image { IfOk result (IsHeadIn table.now (S.held shelf.old) name.now) }
+    ensures ends { IfOk result (λ head. IfSome (S.held shelf.old) (λ files.
+        EndsInHead table.now files name.now head)) }
     ensures bad { (part : Part) → result ≡ Err (NotASegment part) →
         IfSome (S.held shelf.old) (λ files. HasNoImage table.now files name.now) }
     ensures never_full { result ≢ Err TooManyGroups }
     ensures only_reads { OnlyReads (IsErrOf result ReadFault)
         (seen S.Shelf shelf.old) (seen S.Shelf shelf.new) }
-    ensures log { LogsIn (file_of name.now) (S.log shelf.old) (S.log shelf.new) }
+    ensures log { LogsHeadOf table.now (S.held shelf.old) name.now
+        (S.log shelf.old) (S.log shelf.new) }
 {
     image_keeps_law();
     let file = segment_file_name(alloc, name)?;

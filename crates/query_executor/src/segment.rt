@@ -1,5 +1,5 @@
 //! The rows of a segment are added to the groups of a query.
-ghost use Rattle.std.specs.Prelude.{◌≡◌, ◌-◌, false, Err, IfSome, IsErrOf, List, ℕ, OnOk};
+ghost use Rattle.std.specs.Prelude.{◌≡◌, ◌-◌, false, Err, IfOk, IfSome, IsErrOf, List, ℕ, OnOk};
 ghost use Rattle.outside.specs.Seen.{OnlyReads, seen};
 ghost use Rattle.agg_laws.specs.Numbers.{most_values};
 ghost use Rattle.group_table.specs.Kept.{IsTableOf, groups_in};
@@ -15,17 +15,27 @@ ghost use Rattle.table_schema.specs.ValidQuery.{IsValidQuery};
 ghost use Rattle.table_schema.specs.ValidTable.{IsValidTable};
 ghost use Rattle.query_executor.specs.Logs.{LogsIn};
 ghost use Rattle.query_executor.specs.Segments.{HasNoImage};
-ghost use Rattle.query_executor.specs.Steps.{AddsStored, IsHeadIn, IsStoredOverfull};
+ghost use Rattle.query_executor.specs.Steps.{AddsStored, IsDoneIn, IsHeadIn, IsStoredOverfull};
 
 use crate::loading::load_named;
 use crate::opening::open_segment;
 use group_table::GroupTable;
 use outside::Shelf;
 use segment_file::Head;
-use segment_plan::{SegmentPlan, empty_law, head_tells_law, plan, prune, pruned_law};
+use segment_plan::{
+    SegmentPlan, empty_law, head_tells_law, plan, plan_over_law, prune, pruned_law,
+};
 use segment_scan::{EngineFault, scan_segment};
 use std::alloc::Global;
 use table_schema::{BoundQuery, Table};
+
+/// What was done with a segment for a query.
+#[derive(Drop)]
+pub struct Scanned {
+    pub plan: SegmentPlan,
+    /// How many of its rows its indexes left.
+    pub docs: u32,
+}
 
 /// Adds the rows of the segment of this name that satisfy the filter of a query to its groups. Of a
 /// segment that its bounds exclude no more than the front and the bounds is read.
@@ -36,7 +46,7 @@ pub fn add_segment<S: Shelf>(
     name: &str,
     query: &BoundQuery,
     groups: &mut GroupTable,
-) -> Result<(), EngineFault>
+) -> Result<Scanned, EngineFault>
     requires valid { IsValidTable table.now }
     requires plain { IsPlainTable table.now }
     requires bare { names_unbuilt table.now.settings ≡ false }
@@ -46,6 +56,8 @@ pub fn add_segment<S: Shelf>(
     requires fits { HaveAtMost (most_values - 1048576) (groups_in groups.old) }
     ensures ok { OnOk result
         (AddsStored query.now table.now (S.held shelf.old) name.now groups.old groups.new) }
+    ensures done { IfOk result (λ done. IsDoneIn query.now table.now (S.held shelf.old) name.now
+        done.plan done.docs) }
     ensures full { result ≡ Err TooManyGroups →
         IsStoredOverfull query.now table.now (S.held shelf.old) name.now groups.old }
     ensures bad { (part : Part) → result ≡ Err (NotASegment part) →
@@ -60,8 +72,9 @@ pub fn add_segment<S: Shelf>(
     };
     head_tells_law();
     pruned_law();
+    plan_over_law();
     if prune(query, &head) {
-        return Ok(());
+        return Ok(nothing(SegmentPlan::Pruned));
     }
     match load_named(alloc, shelf, table, query, &mut head) {
         Ok(()) => {}
@@ -78,16 +91,20 @@ fn add_planned<S: Shelf>(
     head: &Head,
     query: &BoundQuery,
     groups: &mut GroupTable,
-) -> Result<(), EngineFault>
+) -> Result<Scanned, EngineFault>
     requires valid { IsValidTable table.now }
     requires bare { names_unbuilt table.now.settings ≡ false }
     requires of_table { IsHeadOf table.now head.now }
     requires loaded { AreNamedLoaded query.now head.now }
+    requires query { IsValidQuery table.now query.now }
     requires of_query { IsTableOf query.now groups.old }
     requires fits { HaveAtMost (most_values - 1048576) (groups_in groups.old) }
     ensures ok { OnOk result ((name : List ℕ) →
         IsHeadIn table.now (S.held shelf.old) name head.now →
         AddsStored query.now table.now (S.held shelf.old) name groups.old groups.new) }
+    ensures done { IfOk result (λ done. (name : List ℕ) →
+        IsHeadIn table.now (S.held shelf.old) name head.now →
+        IsDoneIn query.now table.now (S.held shelf.old) name done.plan done.docs) }
     ensures full { result ≡ Err TooManyGroups → (name : List ℕ) →
         IsHeadIn table.now (S.held shelf.old) name head.now →
         IsStoredOverfull query.now table.now (S.held shelf.old) name groups.old }
@@ -102,15 +119,27 @@ fn add_planned<S: Shelf>(
     head_tells_law();
     pruned_law();
     empty_law();
+    plan_over_law();
     match plan(alloc, query, table, head)? {
         SegmentPlan::Scan(plan) => match scan_segment(
             alloc, shelf, head, table, query, &plan, groups,
         ) {
-            Ok(_) => Ok(()),
+            Ok(docs) => Ok(Scanned {
+                plan: SegmentPlan::Scan(plan),
+                docs,
+            }),
             Err(fault) => Err(fault),
         },
-        SegmentPlan::Pruned => Ok(()),
-        SegmentPlan::Empty => Ok(()),
+        SegmentPlan::Pruned => Ok(nothing(SegmentPlan::Pruned)),
+        SegmentPlan::Empty => Ok(nothing(SegmentPlan::Empty)),
         SegmentPlan::StarTree(_) => unreachable!(),
     }
+}
+
+// None of the rows of a segment with this plan is looked at.
+fn nothing(plan: SegmentPlan) -> Scanned
+    ensures plan { result.plan ≡ plan }
+    ensures none { result.docs ≡ 0 }
+{
+    Scanned { plan, docs: 0 }
 }

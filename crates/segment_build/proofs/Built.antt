@@ -17,8 +17,9 @@ use Rattle.segment_build.specs.Fitting.{AreColumns, FitsKind}
 use Rattle.segment_build.specs.declared.indexes.Indexes.{Indexes}
 use Rattle.segment_build.specs.declared.order.RowOrder.{RowOrder}
 use Rattle.segment_build.specs.Arranging.{Orders, OrdersBy, arranged, places_in}
-use Rattle.segment_build.specs.Sections.{Made, ids_in, made_of, with_column}
+use Rattle.segment_build.specs.Sections.{HasNoTree, Made, ids_in, made_of, with_column}
 use Rattle.segment_build.proofs.Arranged.{ids_arranged, sorted_up}
+use Rattle.segment_build.proofs.Bares.{none_built}
 use Rattle.segment_build.proofs.ColumnLemmas.{column_values, made_all, made_more}
 use Rattle.segment_build.proofs.Stable.{ids_below, ids_count, ordered_count, same_distinct}
 use Rattle.table_schema.specs.NeedIds.{is_the_number}
@@ -66,10 +67,10 @@ rows_most fields t are =
     let few = are.rows.few in
     omega (arith, few)
 
-sections_small : (table : Table) (t : ListedColumns) → IsValidTable table → AreColumns table.schema.fields t → All IsSmall (sections_of_rows table (in_rows table t))
-sections_small table t valid are =
+sections_small : (table : Table) (t : ListedColumns) → IsValidTable table → HasNoTree table → AreColumns table.schema.fields t → All IsSmall (sections_of_rows table (in_rows table t))
+sections_small table t valid built are =
     let sorted : Option ℕ = table.settings.sorted in
-    subst (All IsSmall) (made_all table (in_rows table t) valid)
+    subst (All IsSmall) (made_all table (in_rows table t) valid (none_built table built))
     (made_small table (in_rows table t) (length table.schema.fields) valid.schema.few (omega (arith, ordered_count sorted (rows_of t), rows_most table.schema.fields t are))
     (λ c below. still_modest sorted (rows_of t) c (modest table.schema.fields t c are below)))
 
@@ -80,11 +81,11 @@ front_is table t rows sections counts number are =
     let count : rows ≡ length (in_rows table t) = number ∙ sym (length-rows t.count t.columns counts) ∙ sym (ordered_count table.settings.sorted (rows_of t)) in
     (λ i. record { format = 1; rows = count i; sizes = map length (are i) })
 
-pub built_short : (table : Table) (name : List ℕ) (t : ListedColumns) (rows : ℕ) (sections : List (List ℕ)) → IsValidTable table → IsSegmentName name → AreColumns table.schema.fields t
+pub built_short : (table : Table) (name : List ℕ) (t : ListedColumns) (rows : ℕ) (sections : List (List ℕ)) → IsValidTable table → HasNoTree table → IsSegmentName name → AreColumns table.schema.fields t
     → rows ≡ t.count → sections ≡ sections_of_rows table (in_rows table t) → file_end table name (record { format = 1; rows = rows; sizes = map length sections }) < 2 ^ 64
-built_short table name t rows sections valid named columns number are =
+built_short table name t rows sections valid built named columns number are =
     subst (λ (f : Front). file_end table name f < 2 ^ 64) (sym (front_is table t rows sections columns.counts number are))
-    (file_short table name (in_rows table t) valid named (sections_small table t valid columns))
+    (file_short table name (in_rows table t) valid named (sections_small table t valid built columns))
 
 pub built_image : (table : Table) (name : List ℕ) (t : ListedColumns) (rows : ℕ) (sections : List (List ℕ)) (file : List ℕ) → All (Counts t.count) t.columns
     → rows ≡ t.count → sections ≡ sections_of_rows table (in_rows table t)

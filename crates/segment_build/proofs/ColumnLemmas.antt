@@ -18,6 +18,7 @@ use Rattle.values.specs.Order.{value_eq, value_order}
 use Rattle.values.specs.Order.Laws.{value_eq-equiv, value_eq-ties}
 use Rattle.values.proofs.RowLemmas.{length-rows}
 use Rattle.table_schema.specs.declared.field.Field.{Field}
+use Rattle.table_schema.specs.declared.settings.TreeSetting.{TreeSetting}
 use Rattle.table_schema.specs.declared.table.Table.{Table}
 use Rattle.dictionary.specs.Coding.{AreBelow, Codes, values_at}
 use Rattle.dictionary.specs.Dictionary.{Ascends, Distinct, distinct}
@@ -30,7 +31,7 @@ use Rattle.segment_file.specs.declared.part.Part.TheVariants as parts
 use Rattle.segment_file.specs.Bounds.{bounds_bytes, bounds_of, ends_of, pair_bytes}
 use Rattle.segment_file.specs.Image.{dictionary_of, ids_of, place_of, section_of, sections_of_rows, values_in}
 use Rattle.segment_file.specs.Ordered.{value_in}
-use Rattle.segment_file.specs.Parts.{columns_of, head_sections, marked, marked_from}
+use Rattle.segment_file.specs.Parts.{columns_of, marked, marked_from, raw_sections, sections_of, trees_of}
 use Rattle.table_schema.specs.NeedIds.{is_the_number}
 use Rattle.table_schema.specs.ValidSettings.{is_known_number}
 use Rattle.table_schema.specs.ValidTable.{IsValidTable}
@@ -185,16 +186,24 @@ made_more table rows at indexes lt less is_sorted is_inverted is_ranged =
     ap (λ x. old.ranges ++ only x (ranges at)) is_ranged ∙ marked_more ranges at table.settings.ranged less in
     (λ i. record { bounds = b i; dictionaries = d i; forwards = f i; runs = r i; lists = l i; ranges = n i })
 
+-- the sections of a table without star-trees
+plain_parts : (table : Table) → table.settings.trees ≡ [] → parts.Bounds ∷ (map parts.Dictionary (columns_of table) ++ raw_sections table) ≡ sections_of table
+plain_parts table none =
+    let no : trees_of table ≡ [] = ap (λ (ts : List TreeSetting). range_with_len 0 (length ts)) none in
+    let ds : List Part = map parts.Dictionary (columns_of table) in
+    (λ i. parts.Bounds ∷ (sym (append-nil ds) i ++ sym (append-nil (raw_sections table)) i))
+    ∙ (λ i. (parts.Bounds ∷ (ds ++ map parts.Nodes (sym no i))) ++ (raw_sections table ++ map parts.Star (sym no i)))
+
 -- the sections of all columns are those of the rows
-pub made_all : (table : Table) (rows : List (List Value)) → IsValidTable table → in_order (made_of table rows (length table.schema.fields)) ≡ sections_of_rows table rows
-made_all table rows valid =
+pub made_all : (table : Table) (rows : List (List Value)) → IsValidTable table → table.settings.trees ≡ [] → in_order (made_of table rows (length table.schema.fields)) ≡ sections_of_rows table rows
+made_all table rows valid none =
     let section : Part → List ℕ = section_of table rows in
     let columns : List ℕ = columns_of table in
     let marks : List Bool = table.settings.inverted in
     let others : List Bool = table.settings.ranged in
     let count : ℕ = length table.schema.fields in
     let sorted : List ℕ = option_to_list table.settings.sorted in
-    let heads : List Part = head_sections table in
+    let heads : List Part = parts.Bounds ∷ map parts.Dictionary columns in
     let forwards : List Part = map parts.Forward columns in
     let runs : List Part = map parts.Sorted sorted in
     let lists : List Part = map parts.Inverted (marked marks) in
@@ -210,6 +219,7 @@ made_all table rows valid =
     ∙ ap (λ rest. map section heads ++ (map section forwards ++ rest)) (sym (map-append section runs (lists ++ ranges)))
     ∙ ap (λ rest. map section heads ++ rest) (sym (map-append section forwards (runs ++ (lists ++ ranges))))
     ∙ sym (map-append section heads (forwards ++ (runs ++ (lists ++ ranges))))
+    ∙ ap (map section) (plain_parts table none)
 
 -- the sections of a column, as they are pushed
 pub column_pushed : (d : Distinct) (ids : List ℕ) (indexes : Indexes) (old new : Made)

@@ -70,6 +70,7 @@ fn sections_of_columns(
     columns: &Columns,
 ) -> Result<Vec<Bytes>, NoMemory>
     requires valid { IsValidTable table.now }
+    requires built { HasNoTree table.now }
     requires columns { AreColumns table.now.schema.fields columns.now }
     ensures { IfOk result (λ all. all.items ≡ sections_of_rows table.now
         (ordered table.now.settings.sorted (rows_of columns.now))) }
@@ -86,6 +87,7 @@ fn sections_in(
     order: &RowOrder,
 ) -> Result<Vec<Bytes>, NoMemory>
     requires valid { IsValidTable table.now }
+    requires built { HasNoTree table.now }
     requires columns { AreColumns table.now.schema.fields columns.now }
     requires order { Orders table.now.settings.sorted (rows_of columns.now) order.now }
     ensures { IfOk result (λ all. all.items ≡ sections_of_rows table.now

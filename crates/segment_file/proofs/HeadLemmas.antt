@@ -1,6 +1,6 @@
--- The dictionaries of a head, and the sizes of its sections, one after the other.
-use Rattle.std.proofs.Common.{◌≡◌, ◌∙◌, ◌<◌, ◌≤◌, ◌+◌, ℕ, zero, suc, All, List, [], ◌∷◌, ◌++◌, length, get_or, take, refl, sym, ap, subst, arith, length-take}
-use Rattle.std.proofs.lemmas.List.{get_or-map, get_or-take, take_more}
+-- The dictionaries of a head, and the sizes of the sections after it, one after the other.
+use Rattle.std.proofs.Common.{◌≡◌, ◌∙◌, ◌<◌, ◌≤◌, ◌+◌, ℕ, zero, suc, All, List, [], ◌∷◌, ◌++◌, length, map, get_or, take, refl, sym, ap, subst, arith, length-take}
+use Rattle.std.proofs.lemmas.List.{get_or-map, get_or-take, map-append, take_more}
 use Rattle.std.proofs.lemmas.List.Elements.{All-push}
 use Rattle.std.proofs.lemmas.Option.{slice_get-get_or}
 use Rattle.std.specs.List.{AllZip, range_with_len}
@@ -9,9 +9,8 @@ use Rattle.table_schema.specs.declared.table.Table.{Table}
 use Rattle.dictionary.specs.Dictionary.{Distinct}
 use Rattle.segment_file.specs.declared.section.Section.{Section}
 use Rattle.segment_file.specs.Image.{kind_at, kind_or}
-use Rattle.segment_file.specs.Parts.{owner_of}
-use Rattle.segment_file.specs.Reading.{FitsSize, SizeFails, bytes_of_section, count_at, heads_of}
-use Rattle.segment_file.specs.Rules.{AreSpelled, IsSpelled, dictionary_in, size_for}
+use Rattle.segment_file.specs.Reading.{FitsSize, SizeFails, bytes_of_section, count_at, heads_of, heads_read}
+use Rattle.segment_file.specs.Rules.{AreSpelled, IsSpelled, dictionary_in}
 
 pub heads_at : (bytes : List ℕ) (sections : List Section) (count i : ℕ) (s : Section) → i < count → i < length sections → s ≡ get_or sections i s → get_or (heads_of count sections bytes) i [] ≡ bytes_of_section bytes s
 heads_at bytes sections count i s below lt is =
@@ -36,32 +35,38 @@ ranges_push n = let e : n + 1 ≡ suc n = omega arith in ap (range_with_len 0) e
 -- the dictionary of one more field
 pub spelled_more : (table : Table) (rows : ℕ) (bytes here : List ℕ) (sections : List Section) (column : ℕ) (f : Field) (s : Section) (ds : List Distinct) (d : Distinct) → column < length table.schema.fields → length table.schema.fields + 1 ≤ length sections
     → f ≡ get_or table.schema.fields column f → s ≡ get_or sections (column + 1) s → here ≡ bytes_of_section bytes s
-    → AreSpelled table rows (heads_of (length table.schema.fields + 1) sections bytes) (range_with_len 0 column) ds
+    → AreSpelled table rows (heads_read table sections bytes) (range_with_len 0 column) ds
     → IsSpelled f.kind rows here d
-    → AreSpelled table rows (heads_of (length table.schema.fields + 1) sections bytes) (range_with_len 0 (column + 1)) (ds ++ d ∷ [])
+    → AreSpelled table rows (heads_read table sections bytes) (range_with_len 0 (column + 1)) (ds ++ d ∷ [])
 spelled_more table rows bytes here sections column f s ds d lt many field section bytes_are so_far one =
-    let heads : List (List ℕ) = heads_of (length table.schema.fields + 1) sections bytes in
+    let heads : List (List ℕ) = heads_read table sections bytes in
     let R : ℕ → Distinct → Type 0 = λ c x. IsSpelled (kind_at table c) rows (dictionary_in heads c) x in
     let kind : f.kind ≡ kind_at table column = sym (kind_found table column f lt field) in
-    let at : here ≡ dictionary_in heads column = bytes_are ∙ sym (heads_at bytes sections (length table.schema.fields + 1) (column + 1) s (omega arith) (omega arith) section) in
+    let at : here ≡ dictionary_in heads column = bytes_are ∙ sym (heads_at bytes sections (length table.schema.fields + 1 + length table.settings.trees) (column + 1) s (omega arith) (omega arith) section) in
     let now : R column d = subst (λ b. IsSpelled (kind_at table column) rows b d) at (subst (λ k. IsSpelled k rows here d) kind one) in
     subst (λ cs. AllZip R cs (ds ++ d ∷ [])) (sym (ranges_push column)) (zip_push R (range_with_len 0 column) ds column d so_far now)
 
--- ---- sizes
+-- ---- counts
 
-counted_at : (ds : List Distinct) (owner : ℕ) (d : Distinct) → owner < length ds → d ≡ get_or ds owner d → count_at ds owner ≡ length d.values
+pub counted_at : (ds : List Distinct) (owner : ℕ) (d : Distinct) → owner < length ds → d ≡ get_or ds owner d → count_at ds owner ≡ length d.values
 counted_at ds owner d lt is = ap length (get_or-map (λ x. x.values) ds owner d [] lt ∙ ap (λ x. x.values) (sym is))
 
-pub fits_size : (rows : ℕ) (ds : List Distinct) (s : Section) (owner count size : ℕ) (d : Distinct) → owner ≡ owner_of s.part → owner < length ds → d ≡ get_or ds owner d → count ≡ length d.values → size ≡ size_for rows count s.part
-    → size ≡ size_for rows (count_at ds (owner_of s.part)) s.part
-fits_size rows ds s owner count size d owner_is lt is count_is size_is =
-    let counts : count ≡ count_at ds (owner_of s.part) = count_is ∙ sym (counted_at ds owner d lt is) ∙ ap (count_at ds) owner_is in
-    size_is ∙ ap (λ n. size_for rows n s.part) counts
+-- one more column is counted
+pub counts_more : (ds : List Distinct) (columns : List ℕ) (i c n : ℕ) (old new : List ℕ) → i < length columns → c ≡ get_or columns i c → n ≡ count_at ds c → old ≡ map (count_at ds) (take i columns) → new ≡ old ++ n ∷ []
+    → new ≡ map (count_at ds) (take (i + 1) columns)
+counts_more ds columns i c n old new lt is number so_far new_is =
+    let one : n ≡ count_at ds (get_or columns i c) = number ∙ ap (count_at ds) is in
+    new_is
+    ∙ (λ j. so_far j ++ one j ∷ [])
+    ∙ sym (map-append (count_at ds) (take i columns) (get_or columns i c ∷ []))
+    ∙ ap (map (count_at ds)) (sym (take_more columns i c lt))
 
-pub size_stops : (rows : ℕ) (ds : List Distinct) (sections : List Section) (i : ℕ) (s : Section) → i < length sections → s ≡ get_or sections i s → All (FitsSize rows ds) (take i sections) → ¬ FitsSize rows ds s → SizeFails rows ds sections s.part
-size_stops rows ds sections i s lt is sized other = record { at = i; within = lt; failing = s; is_at = is; sized = sized; other = other; is_of = refl }
+-- ---- sizes
 
-pub sized_more : (rows : ℕ) (ds : List Distinct) (sections : List Section) (i : ℕ) (s : Section) → i < length sections → s ≡ get_or sections i s → All (FitsSize rows ds) (take i sections) → FitsSize rows ds s → All (FitsSize rows ds) (take (i + 1) sections)
-sized_more rows ds sections i s lt is sized one =
-    subst (All (FitsSize rows ds)) (sym (take_more sections i s lt))
-    (All-push (FitsSize rows ds) (take i sections) (get_or sections i s) sized (subst (FitsSize rows ds) is one))
+pub size_stops : (table : Table) (rows : ℕ) (heads : List (List ℕ)) (sections : List Section) (i : ℕ) (s : Section) → i < length sections → s ≡ get_or sections i s → All (FitsSize table rows heads) (take i sections) → ¬ FitsSize table rows heads s → SizeFails table rows heads sections s.part
+size_stops table rows heads sections i s lt is sized other = record { at = i; within = lt; failing = s; is_at = is; sized = sized; other = other; is_of = refl }
+
+pub sized_more : (table : Table) (rows : ℕ) (heads : List (List ℕ)) (sections : List Section) (i : ℕ) (s : Section) → i < length sections → s ≡ get_or sections i s → All (FitsSize table rows heads) (take i sections) → FitsSize table rows heads s → All (FitsSize table rows heads) (take (i + 1) sections)
+sized_more table rows heads sections i s lt is sized one =
+    subst (All (FitsSize table rows heads)) (sym (take_more sections i s lt))
+    (All-push (FitsSize table rows heads) (take i sections) (get_or sections i s) sized (subst (FitsSize table rows heads) is one))

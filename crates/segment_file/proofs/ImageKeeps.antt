@@ -1,12 +1,16 @@
 -- The file of rows keeps all rules of a head.
-use Rattle.std.proofs.Common.{◌≡◌, ◌∙◌, ◌<◌, ◌≤◌, ◌+◌, ◌*◌, ◌^◌, ℕ, zero, suc, All, List, [], ◌∷◌, ◌++◌, length, map, get_or, take, drop, sum, refl, sym, ap, arith, append_assoc}
+use Rattle.std.proofs.Common.{◌≡◌, ◌∙◌, ◌<◌, ◌≤◌, ◌+◌, ◌*◌, ◌^◌, ℕ, zero, suc, All, List, [], ◌∷◌, ◌++◌, length, map, get_or, take, drop, sum, true, refl, sym, ap, subst, arith, append_assoc}
 use Rattle.std.proofs.Math.Seq.{drop-append_seam, take-append_seam}
-use Rattle.std.proofs.lemmas.List.{get_or-map, length-append, length-map}
+use Rattle.std.proofs.Math.ListN.{get_or-append}
+use Rattle.std.proofs.lemmas.List.{get_or-append-add, get_or-map, length-append, length-map}
 use Rattle.std.proofs.lemmas.List.Elements.{All-cons, All-head, All-nil, All-tail}
 use Rattle.std.proofs.lemmas.List.FromFn.{get_or-range_with_len, length-range_with_len}
 use Rattle.std.proofs.lemmas.List.Sums.{sum_by-cons}
-use Rattle.std.specs.List.{AllZip, concat, range_with_len, take-map}
-use borrow.Author.Tests.{leb-true}
+use Rattle.std.specs.List.{AllZip, concat, list_all, range_with_len, take-map}
+use Rattle.std.specs.Prelude.{slice_get, Some}
+use borrow.Author.Tests.{leb-true, ltb-true}
+use Rattle.star_file.specs.Reading.{doc_width}
+use Rattle.table_schema.specs.ValidSettings.{is_number_of}
 use Rattle.values.specs.declared.value.Value.{Value}
 use Rattle.dictionary.specs.Dictionary.{Distinct, IsUnicode}
 use Rattle.dictionary.specs.Spelling.{spelling}
@@ -21,13 +25,16 @@ use Rattle.segment_file.specs.Heads.{bounded}
 use Rattle.segment_file.specs.Image.{count_of, dictionary_of, file_of_rows, front_of, kind_at, section_of, sections_of_rows}
 use Rattle.segment_file.specs.Laws.{ImageKeeps}
 use Rattle.segment_file.specs.Ordered.{ordered}
-use Rattle.segment_file.specs.Parts.{columns_of, head_sections, owner_of, raw_sections, sections_of}
-use Rattle.segment_file.specs.Rules.{AreSpelled, HasFront, IsSized, IsSpelled, KeepsAll, count_in, dictionary_in, heads_in, section_bytes, size_for}
-use Rattle.segment_file.proofs.Composed.{IsRawPart, raw_parts, spelled_count}
+use Rattle.segment_file.specs.Parts.{columns_of, head_sections, sections_of, tail_sections, trees_of}
+use Rattle.segment_file.specs.Reading.{IsTailPart}
+use Rattle.segment_file.specs.Rules.{AreNodes, AreSpelled, HasFront, HasNodes, HaveNodes, IsSized, IsSpelled, KeepsAll, count_in, dictionary_in, heads_in, nodes_in, section_bytes, size_for, size_in, split_counts, star_size}
+use Rattle.segment_file.specs.Trees.{TreeFits, nodes_of, star_of}
+use Rattle.segment_file.proofs.Composed.{spelled_count, tail_parts}
 use Rattle.segment_file.proofs.Fronts.{front_bytes_size}
-use Rattle.segment_file.proofs.ImageRows.{column_dictionary, few_values, ordered_all, ordered_count, some_values}
-use Rattle.segment_file.proofs.ImageSizes.{bounds_few, image_small, raw_size}
-use Rattle.segment_file.proofs.Steps.{bounds_there}
+use Rattle.segment_file.proofs.ImageRows.{and_first, and_second, column_dictionary, few_values, ordered_all, ordered_count, some_values}
+use Rattle.segment_file.proofs.ImageSizes.{bounds_few, columns_all, image_small, raw_size, there}
+use Rattle.segment_file.proofs.Steps.{bounds_there, if_some}
+use Rattle.segment_file.proofs.TreeRows.{TreeThere}
 
 -- ---- the sections are cut out of the file
 
@@ -77,17 +84,19 @@ module _ (table : Table) (name : List ℕ) (os : List (List Value)) (few : lengt
       sym (take-map (section_bytes (file_of_rows 1 table name os)) n (extents_of table name (front_of 1 table os)))
       ∙ ap (take n) all-cut
       ∙ take-map (section_of table os) n (sections_of table)
-      ∙ ap (map (section_of table os)) (take-append_seam (head_sections table) (raw_sections table))
+      ∙ ap (map (section_of table os)) (take-append_seam (head_sections table) (tail_sections table))
 
   dictionary-is : (column : ℕ) → column < length table.schema.fields → dictionary_in (heads_in table name (front_of 1 table os) (file_of_rows 1 table name os)) column ≡ spelling (dictionary_of table os column)
   dictionary-is column lt =
       let n : ℕ = length table.schema.fields in
       let ps : List Part = map parts.Dictionary (columns_of table) in
+      let ns : List Part = map parts.Nodes (trees_of table) in
+      let count : length ps ≡ n = length-map (columns_of table) parts.Dictionary ∙ length-range_with_len 0 n in
       let next : column + 1 ≡ suc column = omega arith in
       ap (λ heads. dictionary_in heads column) heads-are
-      ∙ ap (λ i. get_or (map (section_of table os) (parts.Bounds ∷ ps)) i []) next
-      ∙ get_or-map (section_of table os) ps column parts.Bounds [] (omega (arith, lt, length-map (columns_of table) parts.Dictionary, length-range_with_len 0 n))
-      ∙ ap (section_of table os) (get_or-map parts.Dictionary (columns_of table) column 0 parts.Bounds (omega (arith, lt, length-range_with_len 0 n)) ∙ ap parts.Dictionary (get_or-range_with_len 0 n column 0 lt ∙ zero-plus column))
+      ∙ ap (λ i. get_or (map (section_of table os) (parts.Bounds ∷ (ps ++ ns))) i []) next
+      ∙ get_or-map (section_of table os) (ps ++ ns) column parts.Bounds [] (omega (arith, lt, count, length-append ps ns))
+      ∙ ap (section_of table os) (get_or-append ps ns parts.Bounds column (omega (arith, lt, count)) ∙ get_or-map parts.Dictionary (columns_of table) column 0 parts.Bounds (omega (arith, lt, length-range_with_len 0 n)) ∙ ap parts.Dictionary (get_or-range_with_len 0 n column 0 lt ∙ zero-plus column))
 
   spelled-is : (column : ℕ) → column < length table.schema.fields → IsSpelled (kind_at table column) (length os) (dictionary_in (heads_in table name (front_of 1 table os) (file_of_rows 1 table name os)) column) (dictionary_of table os column)
   spelled-is column lt = record {
@@ -109,22 +118,84 @@ module _ (table : Table) (name : List ℕ) (os : List (List Value)) (few : lengt
       let limit = is.stands.few in
       spelled_count (dictionary_in (heads_in table name (front_of 1 table os) (file_of_rows 1 table name os)) column) (dictionary_of table os column) (omega (arith, limit)) is.spelled
 
-  -- a section of the rows is as long as it is to be
-  part-sized : (p : Part) (offset : ℕ) → IsRawPart (length table.schema.fields) p → IsSized (length os) (heads_in table name (front_of 1 table os) (file_of_rows 1 table name os)) (record { part = p; offset = offset; size = length (section_of table os p) })
-  part-sized p offset raw = raw_size table os p raw.1 ∙ ap (λ n. size_for (length os) n p) (sym (count-is (owner_of p) raw.0))
+  -- the nodes of a tree are the section of the head that is said to be theirs
+  pub nodes-are : (t : ℕ) → t < length table.settings.trees → nodes_in table (heads_in table name (front_of 1 table os) (file_of_rows 1 table name os)) t ≡ section_of table os (parts.Nodes t)
+  nodes-are t lt =
+      let n : ℕ = length table.schema.fields in
+      let m : ℕ = length table.settings.trees in
+      let ps : List Part = map parts.Dictionary (columns_of table) in
+      let ns : List Part = map parts.Nodes (trees_of table) in
+      let count : length ps ≡ n = length-map (columns_of table) parts.Dictionary ∙ length-range_with_len 0 n in
+      let number : length ns ≡ m = length-map (trees_of table) parts.Nodes ∙ length-range_with_len 0 m in
+      let next : n + 1 + t ≡ suc (length ps + t) = omega (arith, count) in
+      ap (λ heads. nodes_in table heads t) heads-are
+      ∙ ap (λ i. get_or (map (section_of table os) (parts.Bounds ∷ (ps ++ ns))) i []) next
+      ∙ get_or-map (section_of table os) (ps ++ ns) (length ps + t) parts.Bounds [] (omega (arith, lt, number, length-append ps ns))
+      ∙ ap (section_of table os) (get_or-append-add ps ns t parts.Bounds ∙ get_or-map parts.Nodes (trees_of table) t 0 parts.Bounds (omega (arith, lt, length-range_with_len 0 m)) ∙ ap parts.Nodes (get_or-range_with_len 0 m t 0 lt ∙ zero-plus t))
 
-  sized-all : (offset : ℕ) (ps : List Part) → All (IsRawPart (length table.schema.fields)) ps → All (IsSized (length os) (heads_in table name (front_of 1 table os) (file_of_rows 1 table name os))) (extents_from offset ps (map length (map (section_of table os) ps)))
-  sized-all offset [] raw = All-nil (IsSized (length os) (heads_in table name (front_of 1 table os) (file_of_rows 1 table name os)))
-  sized-all offset (p ∷ ps) raw =
-      let P : Extent → Type 0 = IsSized (length os) (heads_in table name (front_of 1 table os) (file_of_rows 1 table name os)) in
-      let R : Part → Type 0 = IsRawPart (length table.schema.fields) in
-      let size : ℕ = length (section_of table os p) in
-      All-cons P (record { part = p; offset = offset; size = size }) (extents_from (offset + size) ps (map length (map (section_of table os) ps))) (part-sized p offset (All-head R p ps raw)) (sized-all (offset + size) ps (All-tail R p ps raw))
+  counts-are : (split : List ℕ) → list_all (is_number_of table.schema.fields) split ≡ true → map (λ c. count_in (dictionary_in (heads_in table name (front_of 1 table os) (file_of_rows 1 table name os)) c)) split ≡ map (count_of os) split
+  counts-are [] known = refl
+  counts-are (c ∷ split) known =
+      let n : ℕ = length table.schema.fields in
+      let here = count-is c (ltb-true c n (and_first (is_number_of table.schema.fields c) (list_all (is_number_of table.schema.fields) split) known)) in
+      let more = counts-are split (and_second (is_number_of table.schema.fields c) (list_all (is_number_of table.schema.fields) split) known) in
+      (λ i. here i ∷ more i)
 
-  sized-after : (offset : ℕ) (hs ps : List Part) → All (IsRawPart (length table.schema.fields)) ps
-      → All (IsSized (length os) (heads_in table name (front_of 1 table os) (file_of_rows 1 table name os))) (drop (length hs) (extents_from offset (hs ++ ps) (map length (map (section_of table os) (hs ++ ps)))))
-  sized-after offset [] ps raw = sized-all offset ps raw
-  sized-after offset (h ∷ hs) ps raw = sized-after (offset + length (section_of table os h)) hs ps raw
+  module _ (valid : IsValidTable table) (fits : All (TreeFits os) table.settings.trees) where
+    pub tree-there : (t : ℕ) → t < length table.settings.trees → TreeThere table.schema.fields os table.settings.trees t
+    tree-there = there table os valid (omega (arith, few)) each fits
+
+    has-nodes : (t : ℕ) → t < length table.settings.trees → HasNodes table (length os) (heads_in table name (front_of 1 table os) (file_of_rows 1 table name os)) t
+    has-nodes t lt =
+        let heads : List (List ℕ) = heads_in table name (front_of 1 table os) (file_of_rows 1 table name os) in
+        let th = tree-there t lt in
+        let tree = th.tree in
+        let counts : map (count_of os) tree.split ≡ split_counts heads tree = sym (counts-are tree.split th.valid.split_known) in
+        let bytes : nodes_of os (Some tree) ≡ nodes_in table heads t = ap (nodes_of os) (sym th.at) ∙ sym (nodes-are t lt) in
+        if_some (slice_get table.settings.trees t) tree (λ tr. AreNodes tr.shape (split_counts heads tr) (length os) (nodes_in table heads t)) th.at
+        (subst (AreNodes tree.shape (split_counts heads tree) (length os)) bytes (subst (λ c. AreNodes tree.shape c (length os) (nodes_of os (Some tree))) counts th.sections.are_nodes))
+
+    have-nodes : HaveNodes table (length os) (heads_in table name (front_of 1 table os) (file_of_rows 1 table name os)) (length table.settings.trees)
+    have-nodes =
+        let m : ℕ = length table.settings.trees in
+        columns_all (HasNodes table (length os) (heads_in table name (front_of 1 table os) (file_of_rows 1 table name os))) 0 m m (omega arith) has-nodes
+
+    -- a section after the head is as long as it is to be
+    field-sized : (c : ℕ) (p : Part) → c < length table.schema.fields → length (section_of table os p) ≡ size_for (length os) (count_of os c) p
+        → length (section_of table os p) ≡ size_for (length os) (count_in (dictionary_in (heads_in table name (front_of 1 table os) (file_of_rows 1 table name os)) c)) p
+    field-sized c p lt is = is ∙ ap (λ n. size_for (length os) n p) (sym (count-is c lt))
+
+    part-sized : (p : Part) → IsTailPart table p → length (section_of table os p) ≡ size_in table (length os) (heads_in table name (front_of 1 table os) (file_of_rows 1 table name os)) p
+    part-sized parts.Table raw = absurd raw
+    part-sized parts.Head raw = absurd raw
+    part-sized parts.Bounds raw = absurd raw
+    part-sized (parts.Dictionary c) raw = absurd raw
+    part-sized (parts.Nodes t) raw = absurd raw
+    part-sized (parts.Forward c) raw = field-sized c (parts.Forward c) raw (raw_size table os (parts.Forward c) refl)
+    part-sized (parts.Sorted c) raw = field-sized c (parts.Sorted c) raw (raw_size table os (parts.Sorted c) refl)
+    part-sized (parts.Inverted c) raw = field-sized c (parts.Inverted c) raw (raw_size table os (parts.Inverted c) refl)
+    part-sized (parts.Range c) raw = field-sized c (parts.Range c) raw (raw_size table os (parts.Range c) refl)
+    part-sized (parts.Star t) raw =
+        let th = tree-there t raw in
+        let tree = th.tree in
+        let bytes : nodes_of os (Some tree) ≡ nodes_in table (heads_in table name (front_of 1 table os) (file_of_rows 1 table name os)) t = ap (nodes_of os) (sym th.at) ∙ sym (nodes-are t raw) in
+        ap (λ o. length (star_of os o)) th.at
+        ∙ th.sections.docs_size
+        ∙ ap (λ n. n * doc_width tree.shape) (sym th.sections.documents_said)
+        ∙ (λ i. star_size (bytes i) (sym th.at i))
+
+    sized-all : (offset : ℕ) (ps : List Part) → All (IsTailPart table) ps → All (IsSized table (length os) (heads_in table name (front_of 1 table os) (file_of_rows 1 table name os))) (extents_from offset ps (map length (map (section_of table os) ps)))
+    sized-all offset [] raw = All-nil (IsSized table (length os) (heads_in table name (front_of 1 table os) (file_of_rows 1 table name os)))
+    sized-all offset (p ∷ ps) raw =
+        let P : Extent → Type 0 = IsSized table (length os) (heads_in table name (front_of 1 table os) (file_of_rows 1 table name os)) in
+        let R : Part → Type 0 = IsTailPart table in
+        let size : ℕ = length (section_of table os p) in
+        All-cons P (record { part = p; offset = offset; size = size }) (extents_from (offset + size) ps (map length (map (section_of table os) ps))) (part-sized p (All-head R p ps raw)) (sized-all (offset + size) ps (All-tail R p ps raw))
+
+    sized-after : (offset : ℕ) (hs ps : List Part) → All (IsTailPart table) ps
+        → All (IsSized table (length os) (heads_in table name (front_of 1 table os) (file_of_rows 1 table name os))) (drop (length hs) (extents_from offset (hs ++ ps) (map length (map (section_of table os) (hs ++ ps)))))
+    sized-after offset [] ps raw = sized-all offset ps raw
+    sized-after offset (h ∷ hs) ps raw = sized-after (offset + length (section_of table os h)) hs ps raw
 
   bounds-length : length (section_of table os parts.Bounds) ≤ 1028 * length table.schema.fields
   bounds-length =
@@ -133,17 +204,17 @@ module _ (table : Table) (name : List ℕ) (os : List (List Value)) (few : lengt
       let there = bounds_there table (length os) heads (bounds_bytes (bounds_of ds)) ds all-spelled refl in
       omega (arith, bounds_few (bounded (length os) table.schema.fields) (bounds_of ds) there.each, bounded_few (length os) table.schema.fields)
 
-  pub rows_small : IsValidTable table → length name ≤ 64 → file_end table name (front_of 1 table os) < 2 ^ 64
-  rows_small valid short_name = image_small table name os valid short_name (omega (arith, few)) each unicode bounds-length
+  pub rows_small : IsValidTable table → All (TreeFits os) table.settings.trees → length name ≤ 64 → file_end table name (front_of 1 table os) < 2 ^ 64
+  rows_small valid fits short_name = image_small table os valid (omega (arith, few)) each fits name short_name unicode bounds-length
 
-  has-front : IsValidTable table → length name ≤ 64 → HasFront table name (file_of_rows 1 table name os) (front_of 1 table os)
-  has-front valid short_name =
+  has-front : IsValidTable table → All (TreeFits os) table.settings.trees → length name ≤ 64 → HasFront table name (file_of_rows 1 table name os) (front_of 1 table os)
+  has-front valid fits short_name =
       let f : Front = front_of 1 table os in
       let rest : List ℕ = concat (sections_of_rows table os) in
       let sizes : length f.sizes ≡ length (sections_of table) = length-map (sections_of_rows table os) length ∙ length-map (sections_of table) (section_of table os) in
       let front : length (front_bytes table name f) ≡ front_size table name = front_bytes_size table name f sizes in
       let whole : length (front_bytes table name f ++ rest) ≡ file_end table name f = omega (arith, length-append (front_bytes table name f) rest, front, concat_length (sections_of_rows table os)) in
-      let small = rows_small valid short_name in
+      let small = rows_small valid fits short_name in
       record {
         known = refl;
         few = few;
@@ -153,16 +224,17 @@ module _ (table : Table) (name : List ℕ) (os : List (List Value)) (few : lengt
         small = omega (arith, whole, small);
       }
 
-  pub rows_keep : IsValidTable table → length name ≤ 64 → KeepsAll table name (file_of_rows 1 table name os) (front_of 1 table os) (map (dictionary_of table os) (columns_of table))
-  rows_keep valid short_name = record {
-    front_is = has-front valid short_name;
+  pub rows_keep : IsValidTable table → All (TreeFits os) table.settings.trees → length name ≤ 64 → KeepsAll table name (file_of_rows 1 table name os) (front_of 1 table os) (map (dictionary_of table os) (columns_of table))
+  rows_keep valid fits short_name = record {
+    front_is = has-front valid fits short_name;
     heads = record { spelled = all-spelled; bounds = ap (λ heads. get_or heads 0 []) heads-are };
-    sized = sized-after (front_size table name) (head_sections table) (raw_sections table) (raw_parts table valid);
+    trees = have-nodes valid fits;
+    sized = sized-after valid fits (front_size table name) (head_sections table) (tail_sections table) (tail_parts table valid);
   }
 
 pub image_keeps : ImageKeeps
 image_keeps table name rows valid named can =
     let os : List (List Value) = ordered table.settings.sorted rows in
     let limit = can.fit.few in
-    rows_keep table name os (omega (arith, limit, ordered_count table.settings.sorted rows)) (ordered_all (IsRow table.schema.fields) table.settings.sorted rows can.fit.each) (ordered_all (λ row. All IsUnicode row) table.settings.sorted rows can.unicode) valid
+    rows_keep table name os (omega (arith, limit, ordered_count table.settings.sorted rows)) (ordered_all (IsRow table.schema.fields) table.settings.sorted rows can.fit.each) (ordered_all (λ row. All IsUnicode row) table.settings.sorted rows can.unicode) valid can.trees
     (leb-true (length name) 64 named.few)

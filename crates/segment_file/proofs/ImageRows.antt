@@ -60,7 +60,7 @@ ordered_count (Some column) rows = sorted_count column rows
 
 -- ---- the values of a column
 
-and_first : (a b : Bool) → (a && b) ≡ true → a ≡ true
+pub and_first : (a b : Bool) → (a && b) ≡ true → a ≡ true
 and_first true b e = refl
 and_first false b e = absurd (false≢true e)
 

@@ -1,5 +1,5 @@
 -- How long the sections of rows are.
-use Rattle.std.proofs.Common.{◌≡◌, ◌∙◌, ◌<◌, ◌≤◌, ◌+◌, ◌*◌, ◌^◌, ℕ, zero, suc, true, All, List, [], ◌∷◌, length, map, sum, ap, arith}
+use Rattle.std.proofs.Common.{◌≡◌, ◌∙◌, ◌<◌, ◌≤◌, ◌+◌, ◌*◌, ◌^◌, ℕ, zero, suc, Bool, true, false, All, List, [], ◌∷◌, ◌++◌, length, map, sum, refl, ap, arith}
 use Rattle.std.proofs.lemmas.Bool.{false≢true}
 use Rattle.std.proofs.lemmas.List.{length-append, length-map}
 use Rattle.std.proofs.lemmas.List.Elements.{All-append, All-cons, All-head, All-map, All-nil, All-tail, All-weaker}
@@ -29,15 +29,25 @@ use Rattle.segment_file.specs.declared.part.Part.TheVariants as parts
 use Rattle.segment_file.specs.Bounds.{MayBound, MayEnd, bound_bytes, bounds_bytes, pair_bytes}
 use Rattle.segment_file.specs.Front.{file_end, short}
 use Rattle.segment_file.specs.Image.{count_of, dictionary_of, front_of, ids_of, section_of}
-use Rattle.segment_file.specs.Parts.{columns_of, head_sections, owner_of, raw_sections, sections_of}
+use Rattle.segment_file.specs.Parts.{columns_of, head_sections, owner_of, sections_of, tail_sections, trees_of}
+use Rattle.segment_file.specs.Reading.{IsTailPart}
+use Rattle.segment_file.specs.Trees.{TreeFits, nodes_of, star_of}
 use Rattle.segment_file.specs.Rules.{size_for}
 use Rattle.segment_file.proofs.BoundLemmas.{fits_short}
 use Rattle.segment_file.proofs.BoundReads.{length-short}
-use Rattle.segment_file.proofs.Composed.{IsRawPart, is_raw, raw_parts}
+use Rattle.segment_file.proofs.Composed.{tail_parts}
+use Rattle.segment_file.proofs.TreeRows.{TreeThere, tree_there}
 use Rattle.segment_file.proofs.Counts.{few_sections}
 use Rattle.segment_file.proofs.ImageRows.{column_dictionary, few_values, ids_below, ids_count}
 
 -- ---- the sections of the rows
+
+abbrev pub is_raw : Part → Bool
+is_raw (parts.Forward column) = true
+is_raw (parts.Sorted column) = true
+is_raw (parts.Inverted column) = true
+is_raw (parts.Range column) = true
+is_raw other = false
 
 pub raw_size : (table : Table) (os : List (List Value)) (p : Part) → is_raw p ≡ true → length (section_of table os p) ≡ size_for (length os) (count_of os (owner_of p)) p
 raw_size table os parts.Table raw = absurd (false≢true raw)
@@ -124,26 +134,54 @@ sum_few most (x ∷ xs) all =
     let more : suc (length xs) * most ≡ length xs * most + most = omega arith in
     omega (arith, sum_by-cons (λ k. k) x xs, All-head (λ n. n ≤ most) x xs all, sum_few most xs (All-tail (λ n. n ≤ most) x xs all))
 
-columns_all : (P : ℕ → Type 0) (a n limit : ℕ) → a + n ≤ limit → ((c : ℕ) → c < limit → P c) → All P (range_with_len a n)
+pub columns_all : (P : ℕ → Type 0) (a n limit : ℕ) → a + n ≤ limit → ((c : ℕ) → c < limit → P c) → All P (range_with_len a n)
 columns_all P a zero limit le each = All-nil P
 columns_all P a (suc n) limit le each = All-cons P a (range_with_len (a + 1) n) (each a (omega arith)) (columns_all P (a + 1) n limit (omega arith) each)
 
--- the file of rows is shorter than the greatest number of 64 bits
-pub image_small : (table : Table) (name : List ℕ) (os : List (List Value)) → IsValidTable table → length name ≤ 64 → length os ≤ 1048576 → All (IsRow table.schema.fields) os → All (λ row. All IsUnicode row) os
-    → length (section_of table os parts.Bounds) ≤ 1028 * length table.schema.fields → file_end table name (front_of 1 table os) < 2 ^ 64
-image_small table name os valid short_name few each unicode bounds =
-    let n : ℕ = length table.schema.fields in
-    let most : ℕ = 1099511627776 in
-    let P : Part → Type 0 = λ p. length (section_of table os p) ≤ most in
-    let fields = valid.schema.few in
-    let dictionaries : All P (map parts.Dictionary (columns_of table)) =
-    All-map P parts.Dictionary (columns_of table) (columns_all (λ c. length (section_of table os (parts.Dictionary c)) ≤ most) 0 n n (omega arith) (λ c lt. spelling_few (dictionary_of table os c) (column_dictionary table os c lt few each unicode))) in
-    let head : All P (head_sections table) = All-cons P parts.Bounds (map parts.Dictionary (columns_of table)) (omega (arith, bounds, fields)) dictionaries in
-    let raw : All P (raw_sections table) =
-    All-weaker (IsRawPart n) P (λ p is. omega (arith, raw_size table os p is.1, size_few (length os) (count_of os (owner_of p)) p few (few_values os (owner_of p)))) (raw_sections table) (raw_parts table valid) in
-    let all : All P (sections_of table) = All-append P (head_sections table) (raw_sections table) head raw in
-    let sizes : All (λ k. k ≤ most) (map length (map (section_of table os) (sections_of table))) =
-    All-map (λ k. k ≤ most) length (map (section_of table os) (sections_of table)) (All-map (λ x. length x ≤ most) (section_of table os) (sections_of table) all) in
-    let count : length (map length (map (section_of table os) (sections_of table))) ≡ length (sections_of table) = length-map (map (section_of table os) (sections_of table)) length ∙ length-map (sections_of table) (section_of table os) in
-    let total = sum_few most (map length (map (section_of table os) (sections_of table))) sizes in
-    omega (arith, total, count, few_sections table valid, short_name)
+module _ (table : Table) (os : List (List Value)) (valid : IsValidTable table) (few : length os ≤ 1048576) (each : All (IsRow table.schema.fields) os) (fits : All (TreeFits os) table.settings.trees) where
+  -- the sections of a tree of the table
+  pub there : (t : ℕ) → t < length table.settings.trees → TreeThere table.schema.fields os table.settings.trees t
+  there t lt = tree_there table.schema.fields os table.settings.trees t valid.settings.trees_valid fits few each lt
+
+  nodes_few : (t : ℕ) → t < length table.settings.trees → length (section_of table os (parts.Nodes t)) ≤ 1099511627776
+  nodes_few t lt =
+      let th = there t lt in
+      let s = th.sections in
+      omega (arith, ap (λ o. length (nodes_of os o)) th.at, s.nodes_long, s.bytes)
+
+  tail_few : (p : Part) → IsTailPart table p → length (section_of table os p) ≤ 1099511627776
+  tail_few parts.Table is = absurd is
+  tail_few parts.Head is = absurd is
+  tail_few parts.Bounds is = absurd is
+  tail_few (parts.Dictionary column) is = absurd is
+  tail_few (parts.Nodes t) is = absurd is
+  tail_few (parts.Forward column) is = omega (arith, raw_size table os (parts.Forward column) refl, size_few (length os) (count_of os column) (parts.Forward column) few (few_values os column))
+  tail_few (parts.Sorted column) is = omega (arith, raw_size table os (parts.Sorted column) refl, size_few (length os) (count_of os column) (parts.Sorted column) few (few_values os column))
+  tail_few (parts.Inverted column) is = omega (arith, raw_size table os (parts.Inverted column) refl, size_few (length os) (count_of os column) (parts.Inverted column) few (few_values os column))
+  tail_few (parts.Range column) is = omega (arith, raw_size table os (parts.Range column) refl, size_few (length os) (count_of os column) (parts.Range column) few (few_values os column))
+  tail_few (parts.Star t) is =
+      let th = there t is in
+      let s = th.sections in
+      omega (arith, ap (λ o. length (star_of os o)) th.at, s.docs_size, s.bytes)
+
+  -- the file of rows is shorter than the greatest number of 64 bits
+  pub image_small : (name : List ℕ) → length name ≤ 64 → All (λ row. All IsUnicode row) os → length (section_of table os parts.Bounds) ≤ 1028 * length table.schema.fields → file_end table name (front_of 1 table os) < 2 ^ 64
+  image_small name short_name unicode bounds =
+      let n : ℕ = length table.schema.fields in
+      let m : ℕ = length table.settings.trees in
+      let most : ℕ = 1099511627776 in
+      let P : Part → Type 0 = λ p. length (section_of table os p) ≤ most in
+      let fields = valid.schema.few in
+      let ds : List Part = map parts.Dictionary (columns_of table) in
+      let ns : List Part = map parts.Nodes (trees_of table) in
+      let dictionaries : All P ds =
+      All-map P parts.Dictionary (columns_of table) (columns_all (λ c. length (section_of table os (parts.Dictionary c)) ≤ most) 0 n n (omega arith) (λ c lt. spelling_few (dictionary_of table os c) (column_dictionary table os c lt few each unicode))) in
+      let nodes : All P ns = All-map P parts.Nodes (trees_of table) (columns_all (λ t. length (section_of table os (parts.Nodes t)) ≤ most) 0 m m (omega arith) nodes_few) in
+      let head : All P (head_sections table) = All-cons P parts.Bounds (ds ++ ns) (omega (arith, bounds, fields)) (All-append P ds ns dictionaries nodes) in
+      let tail : All P (tail_sections table) = All-weaker (IsTailPart table) P tail_few (tail_sections table) (tail_parts table valid) in
+      let all : All P (sections_of table) = All-append P (head_sections table) (tail_sections table) head tail in
+      let sizes : All (λ k. k ≤ most) (map length (map (section_of table os) (sections_of table))) =
+      All-map (λ k. k ≤ most) length (map (section_of table os) (sections_of table)) (All-map (λ x. length x ≤ most) (section_of table os) (sections_of table) all) in
+      let count : length (map length (map (section_of table os) (sections_of table))) ≡ length (sections_of table) = length-map (map (section_of table os) (sections_of table)) length ∙ length-map (sections_of table) (section_of table os) in
+      let total = sum_few most (map length (map (section_of table os) (sections_of table))) sizes in
+      omega (arith, total, count, few_sections table valid, short_name)

@@ -3,7 +3,7 @@ use Rattle.std.proofs.Common.{◌≡◌, ◌∙◌, ◌<◌, ◌≤◌, ◌+◌,
 use Rattle.std.specs.Prelude.{if◌then◌else◌, pos}
 use Rattle.std.proofs.lemmas.Bool.{false≢true}
 use Rattle.std.proofs.Math.ListN.{get_or-append}
-use Rattle.std.proofs.lemmas.List.{get_or-append-add, get_or-map, length-map, take_all}
+use Rattle.std.proofs.lemmas.List.{get_or-append-add, get_or-map, length-append, length-map, take_all}
 use Rattle.std.proofs.lemmas.List.Elements.{All-head, All-tail, All-weaker}
 use Rattle.std.proofs.lemmas.List.FromFn.{get_or-range_with_len, length-range_with_len}
 use Rattle.std.specs.List.{concat}
@@ -30,8 +30,8 @@ use Rattle.segment_file.specs.Front.{Front, front_bytes}
 use Rattle.segment_file.specs.Image.{count_of, dictionary_of, front_of, ids_of, place_of, section_of, sections_of_rows, values_in}
 use Rattle.segment_file.specs.Laws.{ImagesTell}
 use Rattle.segment_file.specs.Ordered.{ordered, value_in}
-use Rattle.segment_file.specs.Parts.{columns_of, head_sections, raw_sections, sections_of}
-use Rattle.segment_file.proofs.Counts.{head_count, raw_count, some_sections}
+use Rattle.segment_file.specs.Parts.{columns_of, head_sections, raw_sections, sections_of, tail_sections, trees_of}
+use Rattle.segment_file.proofs.Counts.{all_sections, head_count, raw_count}
 use Rattle.segment_file.proofs.Fronts.{front_bytes_size, fronts_tell}
 use borrow.Author.Tests.{leb-true}
 use Rattle.segment_file.proofs.ImageKeeps.{rows_small, zero-plus}
@@ -131,18 +131,21 @@ dictionary_at table c lt =
     let ps : List Part = map parts.Dictionary (columns_of table) in
     let next : c + 1 ≡ suc c = omega arith in
     let count : length ps ≡ n = length-map (columns_of table) parts.Dictionary ∙ length-range_with_len 0 n in
-    ap (λ i. get_or (parts.Bounds ∷ (ps ++ raw_sections table)) i parts.Head) next
-    ∙ get_or-append ps (raw_sections table) parts.Head c (omega (arith, lt, count))
+    let ns : List Part = map parts.Nodes (trees_of table) in
+    ap (λ i. get_or (parts.Bounds ∷ ((ps ++ ns) ++ tail_sections table)) i parts.Head) next
+    ∙ get_or-append (ps ++ ns) (tail_sections table) parts.Head c (omega (arith, lt, count, length-append ps ns))
+    ∙ get_or-append ps ns parts.Head c (omega (arith, lt, count))
     ∙ get_or-map parts.Dictionary (columns_of table) c 0 parts.Head (omega (arith, lt, length-range_with_len 0 n))
     ∙ ap parts.Dictionary (get_or-range_with_len 0 n c 0 lt ∙ zero-plus c)
 
-forward_at : (table : Table) (c : ℕ) → c < length table.schema.fields → get_or (sections_of table) (length table.schema.fields + 1 + c) parts.Head ≡ parts.Forward c
+forward_at : (table : Table) (c : ℕ) → c < length table.schema.fields → get_or (sections_of table) (length table.schema.fields + 1 + length table.settings.trees + c) parts.Head ≡ parts.Forward c
 forward_at table c lt =
     let n : ℕ = length table.schema.fields in
     let fs : List Part = map parts.Forward (columns_of table) in
-    let at : n + 1 + c ≡ length (head_sections table) + c = omega (arith, head_count table) in
-    ap (λ i. get_or (head_sections table ++ raw_sections table) i parts.Head) at
-    ∙ get_or-append-add (head_sections table) (raw_sections table) c parts.Head
+    let at : n + 1 + length table.settings.trees + c ≡ length (head_sections table) + c = omega (arith, head_count table) in
+    ap (λ i. get_or (head_sections table ++ tail_sections table) i parts.Head) at
+    ∙ get_or-append-add (head_sections table) (tail_sections table) c parts.Head
+    ∙ get_or-append (raw_sections table) (map parts.Star (trees_of table)) parts.Head c (omega (arith, lt, raw_count table))
     ∙ get_or-append fs _ parts.Head c (omega (arith, lt, length-map (columns_of table) parts.Forward, length-range_with_len 0 n))
     ∙ get_or-map parts.Forward (columns_of table) c 0 parts.Head (omega (arith, lt, length-range_with_len 0 n))
     ∙ ap parts.Forward (get_or-range_with_len 0 n c 0 lt ∙ zero-plus c)
@@ -169,8 +172,8 @@ module _ (table : Table) (os ps : List (List Value)) (few : length os ≤ 104857
   sections_tell =
       rows_tell table.schema.fields os ps long first second
       (λ c lt. column-same c lt
-      (part-same (parts.Dictionary c) (c + 1) (omega (arith, lt, some_sections table, head_count table)) (dictionary_at table c lt))
-      (part-same (parts.Forward c) (length table.schema.fields + 1 + c) (omega (arith, lt, some_sections table, head_count table, raw_count table)) (forward_at table c lt)))
+      (part-same (parts.Dictionary c) (c + 1) (omega (arith, lt, all_sections table, head_count table)) (dictionary_at table c lt))
+      (part-same (parts.Forward c) (length table.schema.fields + 1 + length table.settings.trees + c) (omega (arith, lt, all_sections table, head_count table)) (forward_at table c lt)))
 
 pub images_tell : ImagesTell
 images_tell table name rows others format other valid named can also small below e =
@@ -192,8 +195,8 @@ images_tell table name rows others format other valid named can also small below
     let rests : concat (sections_of_rows table os) ≡ concat (sections_of_rows table ps) = same_rests (front_bytes table name f) (front_bytes table name g) (concat (sections_of_rows table os)) (concat (sections_of_rows table ps)) heads e in
     let os_few : length os ≤ 1048576 = omega (arith, few, ordered_count sorted rows) in
     let ps_few : length ps ≤ 1048576 = omega (arith, less, ordered_count sorted others) in
-    let f_small = rows_small table name os (omega (arith, few, ordered_count sorted rows)) first unicode valid (leb-true (length name) 64 named.few) in
-    let g_small = rows_small table name ps (omega (arith, less, ordered_count sorted others)) second texts valid (leb-true (length name) 64 named.few) in
+    let f_small = rows_small table name os (omega (arith, few, ordered_count sorted rows)) first unicode valid can.trees (leb-true (length name) 64 named.few) in
+    let g_small = rows_small table name ps (omega (arith, less, ordered_count sorted others)) second texts valid also.trees (leb-true (length name) 64 named.few) in
     let tell : f ≡ g = fronts_tell table name f g small below (omega (arith, os_few)) (omega (arith, ps_few)) f_each g_each (omega (arith, f_small)) (omega (arith, g_small)) fronts in
     let sections : sections_of_rows table os ≡ sections_of_rows table ps = concat_tells (sections_of_rows table os) (sections_of_rows table ps) (ap (λ x. x.sizes) tell) rests in
     (ap (λ x. x.format) tell, sections_tell table os ps os_few (ap (λ x. x.rows) tell) first second unicode texts sections)

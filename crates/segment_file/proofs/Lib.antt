@@ -7,7 +7,11 @@ pub mod Composed
 pub mod RuleLaws
 mod Openings
 mod Steps
-mod ImageRows
+pub mod ImageRows
 mod ImageSizes
 pub mod ImageKeeps
 pub mod ImageTells
+pub mod TreeRows
+pub mod TreeChecks
+mod TreeSteps
+pub mod ImageTrees

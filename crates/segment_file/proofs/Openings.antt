@@ -11,12 +11,12 @@ use Rattle.segment_file.specs.Heads.{IsHeadOf, IsPlaced, IsWithin, LogsWithin, S
 use Rattle.segment_file.specs.Parts.{head_sections}
 use Rattle.segment_file.specs.Reading.{IsFrontOf}
 use Rattle.segment_file.specs.Rules.{HasFront, IsFront}
-use Rattle.segment_file.proofs.Counts.{head_count, raw_count, some_sections}
+use Rattle.segment_file.proofs.Counts.{head_count, some_sections}
 use Rattle.segment_file.proofs.Fronts.{front_bytes_size}
 
 -- a front has a size for each section of the head
-pub has_heads : (table : Table) (name bytes : List ℕ) (size : ℕ) (front : Front) → IsFront table name bytes size front → length table.schema.fields < length front.sizes
-has_heads table name bytes size front is = omega (arith, is.each, some_sections table, head_count table, raw_count table)
+pub has_heads : (table : Table) (name bytes : List ℕ) (size : ℕ) (front : Front) → IsFront table name bytes size front → length table.schema.fields + length table.settings.trees < length front.sizes
+has_heads table name bytes size front is = omega (arith, is.each, some_sections table, head_count table)
 
 pub front_length : (table : Table) (name bytes : List ℕ) (size : ℕ) (front : Front) → IsFront table name bytes size front → length bytes ≡ front_size table name
 front_length table name bytes size front is = ap length is.spelled ∙ front_bytes_size table name front is.each

@@ -12,8 +12,9 @@ use Rattle.segment_file.specs.Front.{Front, front_size}
 use Rattle.segment_file.specs.Image.{kind_at}
 use Rattle.segment_file.specs.Laws.{FailsNotAll}
 use Rattle.segment_file.specs.Parts.{columns_of}
-use Rattle.segment_file.specs.Rules.{AreSpelled, FailsAt, FailsBounds, FailsDictionary, FailsSize, HasFront, IsSized, IsSpelled, KeepsAll, dictionary_in, heads_in, raw_extents}
+use Rattle.segment_file.specs.Rules.{AreSpelled, FailsAt, FailsBounds, FailsDictionary, FailsNodes, FailsSize, HasFront, HasNodes, IsSized, IsSpelled, KeepsAll, dictionary_in, heads_in, raw_extents}
 use Rattle.segment_file.proofs.Composed.{zip_at}
+use Rattle.segment_file.proofs.Counts.{all_at}
 use Rattle.segment_file.proofs.Fronts.{is_said}
 
 pub fronts_one : (table : Table) (name bytes : List ℕ) (f g : Front) → HasFront table name bytes f → HasFront table name bytes g → g ≡ f
@@ -54,24 +55,30 @@ module _ (table : Table) (name bytes : List ℕ) (front : Front) (ds : List Dist
       let other = subst (λ f. ¬ (get_or (heads_in table name f bytes) 0 [] ≡ bounds_bytes (bounds_of fails.dictionaries))) same fails.others in
       other (keeps.heads.bounds ∙ ap (λ xs. bounds_bytes (bounds_of xs)) (sym those))
 
+  no_nodes : (t : ℕ) → FailsNodes table name bytes t → ⊥
+  no_nodes t fails =
+      let same : fails.front ≡ front = fronts_one table name bytes front fails.front keeps.front_is fails.front_is in
+      let missing : HasNodes table front.rows (heads_in table name front bytes) t → ⊥ = subst (λ f. ¬ HasNodes table f.rows (heads_in table name f bytes) t) same fails.none in
+      missing (all_at (HasNodes table front.rows (heads_in table name front bytes)) (length table.settings.trees) t keeps.trees fails.tree)
+
   no_size : (p : Part) → FailsSize table name bytes p → ⊥
   no_size p fails =
       let same : fails.front ≡ front = fronts_one table name bytes front fails.front keeps.front_is fails.front_is in
       let order : raw_extents table name front ≡ fails.before ++ fails.failing ∷ fails.after = subst (λ f. raw_extents table name f ≡ fails.before ++ fails.failing ∷ fails.after) same fails.order in
-      let other : IsSized front.rows (heads_in table name front bytes) fails.failing → ⊥ = subst (λ f. ¬ IsSized f.rows (heads_in table name f bytes) fails.failing) same fails.other in
-      other (amid (IsSized front.rows (heads_in table name front bytes)) fails.before fails.failing fails.after (subst (All (IsSized front.rows (heads_in table name front bytes))) order keeps.sized))
+      let other : IsSized table front.rows (heads_in table name front bytes) fails.failing → ⊥ = subst (λ f. ¬ IsSized table f.rows (heads_in table name f bytes) fails.failing) same fails.other in
+      other (amid (IsSized table front.rows (heads_in table name front bytes)) fails.before fails.failing fails.after (subst (All (IsSized table front.rows (heads_in table name front bytes))) order keeps.sized))
 
   none_fails : (p : Part) → FailsAt table name bytes p → ⊥
   none_fails parts.Table fails = fails
   none_fails parts.Head fails = fails front keeps.front_is
   none_fails parts.Bounds fails = no_bounds fails
   none_fails (parts.Dictionary column) fails = no_dictionary column fails
-  none_fails (parts.Nodes tree) fails = no_size (parts.Nodes tree) fails
+  none_fails (parts.Nodes t) fails = no_nodes t fails
   none_fails (parts.Forward column) fails = no_size (parts.Forward column) fails
   none_fails (parts.Sorted column) fails = no_size (parts.Sorted column) fails
   none_fails (parts.Inverted column) fails = no_size (parts.Inverted column) fails
   none_fails (parts.Range column) fails = no_size (parts.Range column) fails
-  none_fails (parts.Star tree) fails = no_size (parts.Star tree) fails
+  none_fails (parts.Star t) fails = no_size (parts.Star t) fails
 
 pub fails_not_all : FailsNotAll
 fails_not_all table name bytes p (front, ds, keeps) fails = none_fails table name bytes front ds keeps p fails

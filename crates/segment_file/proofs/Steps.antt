@@ -3,6 +3,7 @@ use Rattle.std.proofs.Common.{◌≡◌, ◌≢◌, ◌∙◌, ◌<◌, ◌≤�
 use Rattle.std.specs.Prelude.{option_map, slice_get}
 use Rattle.std.proofs.lemmas.List.{get_or-map, get_or-replicate, get_or-take, length-map, length-append, length-replicate, take-take}
 use Rattle.std.proofs.lemmas.List.Elements.{All-get_or}
+use Rattle.std.proofs.lemmas.List.FromFn.{length-range_with_len}
 use Rattle.std.proofs.lemmas.List.Sums.{sum_by-cons, sum_by-take-le}
 use Rattle.std.proofs.lemmas.Option.{get_or_from_slice_get, slice_get-get_or, slice_get-map, slice_get_within}
 use Rattle.std.specs.Int.{w32, from_be_bytes}
@@ -29,11 +30,12 @@ use Rattle.segment_file.specs.declared.part.Part.TheVariants as parts
 use Rattle.segment_file.specs.declared.section.Section.{Section}
 use Rattle.segment_file.specs.Bounds.{AreBounds, MayEnd, bounds_bytes, bounds_of, ends_of}
 use Rattle.segment_file.specs.Front.{Extent, Front, bounds_end, extents_from, extents_of, front_size}
-use Rattle.segment_file.specs.Heads.{HasCount, IsHead, IsHeadOf, IsLoaded, IsOpened, IsPartOf, IsPlaced, IsSlotOf, KeepsRules, Loads, OfWhole, Seen, bounded, placed, with_dictionary}
+use Rattle.segment_file.specs.Heads.{AreNodesLoaded, HasCount, IsHead, IsHeadOf, IsLoaded, IsOpened, IsPartOf, IsPlaced, IsSlotOf, KeepsRules, Loads, LoadsNodes, OfWhole, Seen, bounded, nodes_said, placed, trees_said, with_dictionary, with_nodes}
+use Rattle.segment_file.specs.declared.trees.TreeNodes.{TreeNodes}
 use Rattle.segment_file.specs.Image.{kind_at, kind_or}
-use Rattle.segment_file.specs.Parts.{columns_of, head_sections, sections_of}
+use Rattle.segment_file.specs.Parts.{columns_of, head_sections, sections_of, trees_of}
 use Rattle.segment_file.specs.Reading.{IsFrontOf}
-use Rattle.segment_file.specs.Rules.{AreSpelled, HasFront, IsFront, IsSpelled, dictionary_in, heads_in, section_bytes}
+use Rattle.segment_file.specs.Rules.{AreSpelled, HasFront, IsFront, IsSpelled, dictionary_in, heads_in, nodes_in, section_bytes}
 use Rattle.segment_file.proofs.BoundReads.{bounds_once}
 use Rattle.segment_file.proofs.Composed.{made_count, spelled_count, spelled_length, zip_at}
 use Rattle.segment_file.proofs.Counts.{head_count}
@@ -85,39 +87,54 @@ pub record DictionaryThere (table : Table) (rows column : ℕ) (file bytes : Lis
   pub at : slice_get whole.dictionaries column ≡ Some (Some d)
   pub spelled : IsSpelled (kind_at table column) rows (take s.place.length (drop s.place.offset bytes)) d
 
-dictionary_there : (table : Table) (name file bytes : List ℕ) (whole head : Seen) (column : ℕ) (s : Section) → column < length table.schema.fields → slice_get head.sections (column + 1) ≡ Some s
-    → IsHead table name file bytes whole → IsPartOf whole head → DictionaryThere table head.rows column file bytes whole s
-dictionary_there table name file bytes whole head column s field at full part =
-    let lt : column + 1 < length head.sections = slice_get_within head.sections (column + 1) s at in
-    let is : s ≡ get_or head.sections (column + 1) s = sym (get_or_from_slice_get head.sections (column + 1) s s at) in
+-- a section of the head of a file of which all rules hold
+pub record SectionThere (table : Table) (name file bytes : List ℕ) (front : Front) (i : ℕ) (s : Section) : Type 0 where
+  pub file_is : s.place.file ≡ file
+  pub within : s.place.offset + s.place.length ≤ length bytes
+  pub here : get_or (heads_in table name front bytes) i [] ≡ take s.place.length (drop s.place.offset bytes)
+
+pub section_there : (table : Table) (name file bytes : List ℕ) (whole head : Seen) (i : ℕ) (s : Section) → i < length (head_sections table) → slice_get head.sections i ≡ Some s → (full : IsHead table name file bytes whole) → IsPartOf whole head → SectionThere table name file bytes full.front i s
+section_there table name file bytes whole head i s early at full part =
+    let lt : i < length head.sections = slice_get_within head.sections i s at in
+    let is : s ≡ get_or head.sections i s = sym (get_or_from_slice_get head.sections i s s at) in
     let front : Front = full.front in
     let count : ℕ = length (head_sections table) in
     let es : List Extent = extents_of table name front in
     let none : Extent = record { part = parts.Head; offset = 0; size = 0 } in
-    let nothing : Distinct = record { kind = Long; values = [] } in
     let sections : head.sections ≡ map (placed file) es = part.sections_same ∙ full.sections_are in
-    let below : column + 1 < length es = omega (arith, lt, ap length sections, length-map es (placed file)) in
-    let e : Extent = get_or es (column + 1) none in
-    let same : s ≡ placed file e = placed_at file es (column + 1) s none below (is ∙ ap (λ xs. get_or xs (column + 1) s) sections) in
-    let both = extent_within (front_size table name) (sections_of table) front.sizes (column + 1) none below in
+    let below : i < length es = omega (arith, lt, ap length sections, length-map es (placed file)) in
+    let e : Extent = get_or es i none in
+    let same : s ≡ placed file e = placed_at file es i s none below (is ∙ ap (λ xs. get_or xs i s) sections) in
+    let both = extent_within (front_size table name) (sections_of table) front.sizes i none below in
     let offset : s.place.offset ≡ e.offset = ap (λ x. x.place.offset) same in
     let size : s.place.length ≡ e.size = ap (λ x. x.place.length) same in
+    record {
+      file_is = ap (λ x. x.place.file) same;
+      within = omega (arith, both.1, offset, size, full.keeps.front_is.whole);
+      here =
+          get_or-map (section_bytes bytes) (take count es) i none [] (omega (arith, early, below, length-take count es))
+          ∙ ap (section_bytes bytes) (get_or-take count es i none early)
+          ∙ sym (λ j. take (size j) (drop (offset j) bytes));
+    }
+
+dictionary_there : (table : Table) (name file bytes : List ℕ) (whole head : Seen) (column : ℕ) (s : Section) → column < length table.schema.fields → slice_get head.sections (column + 1) ≡ Some s
+    → IsHead table name file bytes whole → IsPartOf whole head → DictionaryThere table head.rows column file bytes whole s
+dictionary_there table name file bytes whole head column s field at full part =
+    let front : Front = full.front in
+    let there = section_there table name file bytes whole head (column + 1) s (omega (arith, field, head_count table)) at full part in
+    let nothing : Distinct = record { kind = Long; values = [] } in
     let d : Distinct = get_or full.dictionaries column nothing in
     let R : ℕ → Distinct → Type 0 = λ c x. IsSpelled (kind_at table c) front.rows (dictionary_in (heads_in table name front bytes) c) x in
     let from_zero : 0 + column ≡ column = omega arith in
     let found : R column d = subst (λ k. R k d) from_zero (zip_at R 0 (length table.schema.fields) column full.dictionaries nothing full.keeps.heads.spelled field) in
-    let here : dictionary_in (heads_in table name front bytes) column ≡ take s.place.length (drop s.place.offset bytes) =
-    get_or-map (section_bytes bytes) (take count es) (column + 1) none [] (omega (arith, length-take count es, head_count table))
-    ∙ ap (section_bytes bytes) (get_or-take count es (column + 1) none (omega (arith, head_count table)))
-    ∙ sym (λ i. take (size i) (drop (offset i) bytes)) in
     let many : column < length full.dictionaries = omega (arith, field, spelled_length table front.rows (heads_in table name front bytes) full.dictionaries full.keeps.heads.spelled) in
     let rows_are : front.rows ≡ head.rows = sym full.rows_are ∙ sym part.rows_same in
     record {
-      file_is = ap (λ x. x.place.file) same;
-      within = omega (arith, both.1, offset, size, full.keeps.front_is.whole);
+      file_is = there.file_is;
+      within = there.within;
       d = d;
       at = ap (λ xs. slice_get xs column) full.dictionaries_are ∙ slice_get-map Some full.dictionaries column ∙ ap (option_map Some) (slice_get-get_or full.dictionaries column nothing many);
-      spelled = subst (λ b. IsSpelled (kind_at table column) head.rows b d) here (subst (λ r. IsSpelled (kind_at table column) r (dictionary_in (heads_in table name front bytes) column) d) rows_are found);
+      spelled = subst (λ b. IsSpelled (kind_at table column) head.rows b d) there.here (subst (λ r. IsSpelled (kind_at table column) r (dictionary_in (heads_in table name front bytes) column) d) rows_are found);
     }
 
 module _ (table : Table) (head : Seen) (column : ℕ) (s : Section) (field : column < length table.schema.fields) (at : slice_get head.sections (column + 1) ≡ Some s) where
@@ -236,26 +253,30 @@ bounds_there table rows heads first ds all is = record { each = bounds_each tabl
 
 -- ---- a head without dictionaries
 
-slots_free : (ds : List Distinct) (n : ℕ) → n ≡ length ds → AllZip IsSlotOf (map Some ds) (replicate n None)
+slots_free : {A : Type 0} (ds : List A) (n : ℕ) → n ≡ length ds → AllZip IsSlotOf (map Some ds) (replicate n None)
 slots_free [] zero e = tt
 slots_free [] (suc n) e = absurd (omega arith)
 slots_free (d ∷ ds) zero e = absurd (omega arith)
 slots_free (d ∷ ds) (suc n) e = (tt, slots_free ds n (omega arith))
 
-pub opened_part : (table : Table) (name file bytes : List ℕ) (whole head : Seen) → IsOpened table name file bytes head → head.dictionaries ≡ replicate (length table.schema.fields) None → IsHead table name file bytes whole → IsPartOf whole head
-opened_part table name file bytes whole head opened free full =
+pub opened_part : (table : Table) (name file bytes : List ℕ) (whole head : Seen) → IsOpened table name file bytes head → head.dictionaries ≡ replicate (length table.schema.fields) None → head.trees ≡ replicate (length table.settings.trees) None → IsHead table name file bytes whole → IsPartOf whole head
+opened_part table name file bytes whole head opened free bare full =
     let front : Front = full.front in
     let first : Front → List ℕ = λ f. get_or (heads_in table name f bytes) 0 [] in
     let same : opened.front ≡ front = fronts_one table name bytes front opened.front full.keeps.front_is opened.has in
     let ours : AreBounds (bounded front.rows table.schema.fields) (first front) head.bounds = subst (λ f. AreBounds (bounded f.rows table.schema.fields) (first f) head.bounds) same opened.bounds_are in
     let spelled = full.keeps.heads.spelled in
     let theirs : AreBounds (bounded front.rows table.schema.fields) (first front) (bounds_of full.dictionaries) = bounds_there table front.rows (heads_in table name front bytes) (first front) full.dictionaries spelled full.keeps.heads.bounds in
+    let said : List TreeNodes = trees_said table (heads_in table name front bytes) in
+    let number : length table.settings.trees ≡ length said = sym (length-map (trees_of table) (λ t. nodes_said (nodes_in table (heads_in table name front bytes) t)) ∙ length-range_with_len 0 (length table.settings.trees)) in
+    let tree_slots : AllZip IsSlotOf (map Some said) (replicate (length table.settings.trees) None) = slots_free said (length table.settings.trees) number in
     let slots : AllZip IsSlotOf (map Some full.dictionaries) (replicate (length table.schema.fields) None) = slots_free full.dictionaries (length table.schema.fields) (spelled_length table front.rows (heads_in table name front bytes) full.dictionaries spelled) in
     record {
       rows_same = opened.rows_are ∙ ap (λ f. f.rows) same ∙ sym full.rows_are;
       sections_same = opened.sections_are ∙ ap (λ f. map (placed file) (extents_of table name f)) same ∙ sym full.sections_are;
       bounds_same = bounds_once (bounded front.rows table.schema.fields) head.bounds (bounds_of full.dictionaries) ours.each theirs.each (sym ours.spelled ∙ theirs.spelled) ∙ sym full.bounds_are;
       slots = subst (λ xs. AllZip IsSlotOf xs head.dictionaries) (sym full.dictionaries_are) (subst (AllZip IsSlotOf (map Some full.dictionaries)) (sym free) slots);
+      tree_slots = subst (λ xs. AllZip IsSlotOf xs head.trees) (sym full.trees_are) (subst (AllZip IsSlotOf (map Some said)) (sym bare) tree_slots);
     }
 
 -- where a file has this front and its first section is no bounds, not all rules hold
@@ -286,15 +307,15 @@ opened_told table name file bytes (Some files) front head is has bounds = record
   bounds_are = bounds;
 }
 
-pub part_told : (table : Table) (name file : List ℕ) (held : Option Files) (head : Seen) → IfSome held (λ files. IsOpened table name file (bytes_of (Some files) file) head) → head.dictionaries ≡ replicate (length table.schema.fields) None
+pub part_told : (table : Table) (name file : List ℕ) (held : Option Files) (head : Seen) → IfSome held (λ files. IsOpened table name file (bytes_of (Some files) file) head) → head.dictionaries ≡ replicate (length table.schema.fields) None → head.trees ≡ replicate (length table.settings.trees) None
     → IfSome held (λ files. (whole : Seen) → IsHead table name file (bytes_of (Some files) file) whole → IsPartOf whole head)
-part_told table name file None head opened free = tt
-part_told table name file (Some files) head opened free = λ whole full. opened_part table name file (bytes_of (Some files) file) whole head opened free full
+part_told table name file None head opened free bare = tt
+part_told table name file (Some files) head opened free bare = λ whole full. opened_part table name file (bytes_of (Some files) file) whole head opened free bare full
 
--- a column of a head without dictionaries has none that is loaded
-pub none_loaded : (head : Seen) (n column : ℕ) → head.dictionaries ≡ replicate n None → ¬ IsLoaded head column
-none_loaded head n column free (d, at) =
-    let nothing : Option Distinct = None in
+-- where nothing was loaded, nothing is
+pub none_loaded : {A : Type 0} (slots : List (Option A)) (n column : ℕ) → slots ≡ replicate n None → ¬ ((d : A) × (slice_get slots column ≡ Some (Some d)))
+none_loaded {A} slots n column free (d, at) =
+    let nothing : Option A = None in
     let there : slice_get (replicate n nothing) column ≡ Some (Some d) = ap (λ xs. slice_get xs column) (sym free) ∙ at in
     let lt : column < n = omega (arith, slice_get_within (replicate n nothing) column (Some d) there, length-replicate n nothing) in
     let none : nothing ≡ Some d = sym (get_or-replicate n column nothing nothing lt) ∙ get_or_from_slice_get (replicate n nothing) column (Some d) nothing there in
@@ -339,9 +360,9 @@ pub none_read : (o : Option Section) (count : Section → ℕ) (log : Option (Li
 none_read None count log = tt
 none_read (Some s) count log = (s.place.offset, omega arith, LogsThrough-none s.place.file s.place.offset log)
 
--- ---- dictionaries that are loaded
+-- ---- dictionaries and nodes that are loaded
 
-slot_at : (ws xs : List (Option Distinct)) (i : ℕ) (d : Distinct) → AllZip IsSlotOf ws xs → slice_get xs i ≡ Some (Some d) → slice_get ws i ≡ Some (Some d)
+pub slot_at : {A : Type 0} (ws xs : List (Option A)) (i : ℕ) (d : A) → AllZip IsSlotOf ws xs → slice_get xs i ≡ Some (Some d) → slice_get ws i ≡ Some (Some d)
 slot_at [] [] i d all at = at
 slot_at [] (x ∷ xs) i d all at = absurd all
 slot_at (w ∷ ws) [] i d all at = absurd all
@@ -350,7 +371,7 @@ slot_at (w ∷ ws) (x ∷ xs) zero d all at =
     ap Some (subst (IsSlotOf w) here all.0)
 slot_at (w ∷ ws) (x ∷ xs) (suc i) d all at = slot_at ws xs i d all.1 at
 
-slot_set : (ws xs : List (Option Distinct)) (i : ℕ) (d : Distinct) → AllZip IsSlotOf ws xs → slice_get ws i ≡ Some (Some d) → AllZip IsSlotOf ws (set xs i (Some d))
+slot_set : {A : Type 0} (ws xs : List (Option A)) (i : ℕ) (d : A) → AllZip IsSlotOf ws xs → slice_get ws i ≡ Some (Some d) → AllZip IsSlotOf ws (set xs i (Some d))
 slot_set [] [] i d all at = tt
 slot_set [] (x ∷ xs) i d all at = absurd all
 slot_set (w ∷ ws) [] i d all at = absurd all
@@ -368,6 +389,17 @@ kept_part table head column d (Some files) loaded = λ name file whole full part
   sections_same = part.sections_same;
   bounds_same = part.bounds_same;
   slots = slot_set whole.dictionaries head.dictionaries column d part.slots (loaded name file whole full part);
+  tree_slots = part.tree_slots;
+}
+
+pub kept_nodes : (table : Table) (head : Seen) (t : ℕ) (tree : TreeNodes) (held : Option Files) → OfWhole table held head (λ whole. slice_get whole.trees t ≡ Some (Some tree)) → OfWhole table held head (λ whole. IsPartOf whole (with_nodes t tree head))
+kept_nodes table head t tree None loaded = tt
+kept_nodes table head t tree (Some files) loaded = λ name file whole full part. record {
+  rows_same = part.rows_same;
+  sections_same = part.sections_same;
+  bounds_same = part.bounds_same;
+  slots = part.slots;
+  tree_slots = slot_set whole.trees head.trees t tree part.tree_slots (loaded name file whole full part);
 }
 
 pub same_part : (table : Table) (head : Seen) (held : Option Files) → OfWhole table held head (λ whole. IsPartOf whole head)
@@ -392,11 +424,25 @@ kept_loads head column d lt = record {
   rows_same = refl;
   sections_same = refl;
   bounds_same = refl;
+  trees_same = refl;
   others = λ other apart. slice_get-set_other head.dictionaries column other (Some d) apart;
 }
 
+pub kept_nodes_loads : (head : Seen) (t : ℕ) (tree : TreeNodes) → t < length head.trees → LoadsNodes t head (with_nodes t tree head)
+kept_nodes_loads head t tree lt = record {
+  loaded = (tree, slice_get-set head.trees t (Some tree) lt);
+  rows_same = refl;
+  sections_same = refl;
+  bounds_same = refl;
+  dictionaries_same = refl;
+  others = λ other apart. slice_get-set_other head.trees t other (Some tree) apart;
+}
+
+pub same_nodes : (head : Seen) (t : ℕ) → AreNodesLoaded head t → LoadsNodes t head head
+same_nodes head t loaded = record { loaded = loaded; rows_same = refl; sections_same = refl; bounds_same = refl; dictionaries_same = refl; others = λ other apart. refl }
+
 pub same_loads : (head : Seen) (column : ℕ) (d : Distinct) → slice_get head.dictionaries column ≡ Some (Some d) → Loads column head head
-same_loads head column d at = record { loaded = (d, at); rows_same = refl; sections_same = refl; bounds_same = refl; others = λ other apart. refl }
+same_loads head column d at = record { loaded = (d, at); rows_same = refl; sections_same = refl; bounds_same = refl; trees_same = refl; others = λ other apart. refl }
 
 -- a dictionary that is not loaded
 pub not_loaded : (head : Seen) (column : ℕ) → slice_get head.dictionaries column ≡ Some None → ¬ IsLoaded head column

@@ -1,28 +1,33 @@
 -- Heads: what is kept of a segment's file where its rows are not read.
-use Rattle.std.specs.Prelude.{◌≡◌, ◌≢◌, ◌≤◌, ◌<◌, ◌^◌, ◌+◌, ◌⊎◌, ℕ, zero, suc, List, [], map, length, Option, Some, None, IfSome, option_map, slice_get, slice_index_or, slice_set}
+use Rattle.std.specs.Prelude.{◌≡◌, ◌≢◌, ◌≤◌, ◌<◌, ◌^◌, ◌+◌, ◌⊎◌, ℕ, zero, suc, List, [], ◌∷◌, drop, map, length, Option, Some, None, IfSome, option_map, slice_get, slice_index_or, slice_set}
 use Rattle.std.specs.List.{All, AllZip, find}
+use Rattle.std.specs.Option.{option_map_or, unwrap_or}
 use Rattle.outside.specs.Files.{Files, bytes_of}
-use Rattle.outside.specs.Reads.{Entry, LogsThrough}
+use Rattle.outside.specs.Reads.{Entry, LogsThrough, LogsUpTo}
 use Rattle.outside.specs.declared.place.Place.{Place}
 use Rattle.table_schema.specs.declared.field.Field.{Field}
 use Rattle.table_schema.specs.declared.table.Table.{Table}
 use Rattle.table_schema.specs.ValidTable.{most_rows}
 use Rattle.dictionary.specs.Dictionary.{Distinct}
 use Rattle.bit_column.specs.Sections.{section}
+use Rattle.star_file.specs.Rules as nodes
+use Rattle.star_file.specs.Rules.{number_at}
 use Rattle.segment_file.specs.declared.bounds.Ends.{Ends}
 use Rattle.segment_file.specs.declared.part.Part.{Part}
 use Rattle.segment_file.specs.declared.section.Section.{Section}
+use Rattle.segment_file.specs.declared.trees.TreeNodes.{TreeNodes}
 use Rattle.segment_file.specs.Bounds.{AreBounds, bounds_of}
 use Rattle.segment_file.specs.Front.{Extent, Front, bounds_end, extents_of, file_end, front_size, head_end}
-use Rattle.segment_file.specs.Parts.{is_same, sections_of}
-use Rattle.segment_file.specs.Rules.{HasFront, KeepsAll, heads_in}
+use Rattle.segment_file.specs.Parts.{is_same, sections_of, trees_of}
+use Rattle.segment_file.specs.Rules.{HasFront, KeepsAll, heads_in, nodes_in}
 
--- a head: how many rows there are, where the sections are, the bounds of the columns where there are rows, and the dictionaries that were loaded
+-- a head: how many rows there are, where the sections are, the bounds of the columns where there are rows, and the dictionaries and the nodes of trees that were loaded
 pub record Seen : Type 0 where
   pub rows : ℕ
   pub sections : List Section
   pub bounds : List Ends
   pub dictionaries : List (Option Distinct)
+  pub trees : List (Option TreeNodes)
 
 -- a section as a part of its file
 abbrev pub placed : List ℕ → Extent → Section
@@ -35,6 +40,22 @@ AreIn file sections = All (λ s. s.place.file ≡ file) sections
 -- the dictionary of a column was loaded
 abbrev pub IsLoaded : Seen → ℕ → Type 0
 IsLoaded head column = (d : Distinct) × (slice_get head.dictionaries column ≡ Some (Some d))
+
+-- the nodes of a tree were loaded
+abbrev pub AreNodesLoaded : Seen → ℕ → Type 0
+AreNodesLoaded head t = (tree : TreeNodes) × (slice_get head.trees t ≡ Some (Some tree))
+
+-- the nodes of a tree, if they were loaded
+abbrev pub tree_in : Seen → ℕ → Option TreeNodes
+tree_in head t = unwrap_or (slice_get head.trees t) None
+
+-- what a section of nodes says
+abbrev pub nodes_said : List ℕ → TreeNodes
+nodes_said bytes = record { documents = number_at 0 bytes; nodes = nodes.nodes_in (nodes.count_in bytes) (drop 4 bytes) }
+
+-- what the sections of the head say of each tree
+abbrev pub trees_said : Table → List (List ℕ) → List TreeNodes
+trees_said table heads = map (λ t. nodes_said (nodes_in table heads t)) (trees_of table)
 
 -- where a section is, if there is such a one
 abbrev pub place_in : List Section → Part → Option Place
@@ -58,7 +79,7 @@ pub record IsOpened (table : Table) (name file bytes : List ℕ) (head : Seen) :
   pub sections_are : head.sections ≡ map (placed file) (extents_of table name front)
   pub bounds_are : AreBounds (bounded front.rows table.schema.fields) (slice_index_or (heads_in table name front bytes) 0 []) head.bounds
 
--- the head is that of the bytes of the file, of which all rules hold, with all dictionaries
+-- the head is that of the bytes of the file, of which all rules hold, with all dictionaries and nodes
 pub record IsHead (table : Table) (name file bytes : List ℕ) (head : Seen) : Type 0 where
   pub front : Front
   pub dictionaries : List Distinct
@@ -67,6 +88,7 @@ pub record IsHead (table : Table) (name file bytes : List ℕ) (head : Seen) : T
   pub sections_are : head.sections ≡ map (placed file) (extents_of table name front)
   pub dictionaries_are : head.dictionaries ≡ map Some dictionaries
   pub bounds_are : head.bounds ≡ bounds_of dictionaries
+  pub trees_are : head.trees ≡ map Some (trees_said table (heads_in table name front bytes))
 
 -- all rules of a head hold on the bytes
 abbrev pub KeepsRules : Table → List ℕ → List ℕ → Type 0
@@ -74,11 +96,12 @@ KeepsRules table name bytes = (front : Front) × (dictionaries : List Distinct) 
 
 -- ---- a head that is opened in steps
 
--- the rows and sections are those of this front, and there is room for a dictionary a field
+-- the rows and sections are those of this front, and there is room for a dictionary a field and for the nodes of each tree
 pub record IsPlaced (table : Table) (name file : List ℕ) (front : Front) (head : Seen) : Type 0 where
   pub rows_are : head.rows ≡ front.rows
   pub sections_are : head.sections ≡ map (placed file) (extents_of table name front)
   pub slots : length head.dictionaries ≡ length table.schema.fields
+  pub tree_slots : length head.trees ≡ length table.settings.trees
 
 -- a head of some file of the table, whatever a device tells
 pub record IsHeadOf (table : Table) (head : Seen) : Type 0 where
@@ -90,17 +113,18 @@ pub record IsHeadOf (table : Table) (head : Seen) : Type 0 where
   pub small : file_end table name front < 2 ^ 64
   pub has : IsPlaced table name file front head
 
--- a dictionary is not loaded, or it is the one of the whole head
-abbrev pub IsSlotOf : Option Distinct → Option Distinct → Type 0
+-- a dictionary, or the nodes of a tree, are not loaded, or they are those of the whole head
+abbrev pub IsSlotOf : {A : Type 0} → Option A → Option A → Type 0
 IsSlotOf whole None = Unit {0}
 IsSlotOf whole (Some d) = whole ≡ Some d
 
--- a head has what the whole one has, but for dictionaries that are not loaded
+-- a head has what the whole one has, but for dictionaries and nodes that are not loaded
 pub record IsPartOf (whole head : Seen) : Type 0 where
   pub rows_same : head.rows ≡ whole.rows
   pub sections_same : head.sections ≡ whole.sections
   pub bounds_same : head.bounds ≡ whole.bounds
   pub slots : AllZip IsSlotOf whole.dictionaries head.dictionaries
+  pub tree_slots : AllZip IsSlotOf whole.trees head.trees
 
 -- where files are told: the whole head of which this is a part, if all rules hold of its file, has P
 abbrev pub OfWhole : Table → Option Files → Seen → (Seen → Type 0) → Type 0
@@ -112,13 +136,27 @@ pub record HasCount (column count : ℕ) (head : Seen) : Type 0 where
   pub at : slice_get head.dictionaries column ≡ Some (Some d)
   pub many : count ≡ length d.values
 
+-- the dictionaries of these columns have so many values
+abbrev pub HaveCounts : List ℕ → List ℕ → Seen → Type 0
+HaveCounts columns counts head = AllZip (λ column count. HasCount column count head) columns counts
+
 -- a head before and after a dictionary of a column was loaded
 pub record Loads (column : ℕ) (old new : Seen) : Type 0 where
   pub loaded : IsLoaded new column
   pub rows_same : new.rows ≡ old.rows
   pub sections_same : new.sections ≡ old.sections
   pub bounds_same : new.bounds ≡ old.bounds
+  pub trees_same : new.trees ≡ old.trees
   pub others : (other : ℕ) → other ≢ column → slice_get new.dictionaries other ≡ slice_get old.dictionaries other
+
+-- a head before and after the nodes of a tree were loaded
+pub record LoadsNodes (t : ℕ) (old new : Seen) : Type 0 where
+  pub loaded : AreNodesLoaded new t
+  pub rows_same : new.rows ≡ old.rows
+  pub sections_same : new.sections ≡ old.sections
+  pub bounds_same : new.bounds ≡ old.bounds
+  pub dictionaries_same : new.dictionaries ≡ old.dictionaries
+  pub others : (other : ℕ) → other ≢ t → slice_get new.trees other ≡ slice_get old.trees other
 
 -- the head with this dictionary of a column
 abbrev pub with_dictionary : ℕ → Distinct → Seen → Seen
@@ -127,6 +165,18 @@ with_dictionary column d head = record head { dictionaries = slice_set head.dict
 -- the section of the dictionary of a column: the one after the bounds and the dictionaries before it
 abbrev pub dictionary_section : Seen → ℕ → Option Section
 dictionary_section head column = slice_get head.sections (column + 1)
+
+-- the head with these nodes of a tree
+abbrev pub with_nodes : ℕ → TreeNodes → Seen → Seen
+with_nodes t tree head = record head { trees = slice_set head.trees t (Some tree) }
+
+-- the section of the nodes of a tree: the one after the bounds, the dictionaries and the nodes before it
+abbrev pub nodes_section : Table → Seen → ℕ → Option Section
+nodes_section table head t = slice_get head.sections (length table.schema.fields + 1 + t)
+
+-- the columns of the split dimensions of a tree
+abbrev pub split_of : Table → ℕ → List ℕ
+split_of table t = option_map_or (λ tree. tree.split) (slice_get table.settings.trees t) []
 
 -- ---- what is read
 
@@ -145,3 +195,19 @@ LogsHead = LogsWithin head_end
 -- none of them past the bounds
 abbrev pub LogsOpened : Table → List ℕ → List ℕ → Option Files → Option (List Entry) → Option (List Entry) → Type 0
 LogsOpened = LogsWithin bounds_end
+
+-- the told log grew by reads of the first four bytes of a column's dictionary, where it is not loaded
+pub record LogsCount (head : Seen) (column : ℕ) (old new : Option (List Entry)) : Type 0 where
+  pub still : IsLoaded head column → new ≡ old
+  pub first : IfSome (dictionary_section head column) (λ s. LogsUpTo s.place.file s.place.offset (s.place.offset + 4) old new)
+
+-- it grew by those of these columns, one after the other
+abbrev pub LogsCounts : Seen → List ℕ → Option (List Entry) → Option (List Entry) → Type 0
+LogsCounts head [] old new = new ≡ old
+LogsCounts head (column ∷ columns) old new = (between : Option (List Entry)) × LogsCount head column old between × LogsCounts head columns between new
+
+-- it grew by those of the split dimensions of a tree, and then by reads of its nodes
+pub record LogsTree (table : Table) (head : Seen) (t : ℕ) (old new : Option (List Entry)) : Type 0 where
+  pub between : Option (List Entry)
+  pub counts : LogsCounts head (split_of table t) old between
+  pub nodes : IfSome (nodes_section table head t) (λ s. LogsUpTo s.place.file s.place.offset (s.place.offset + s.place.length) between new)

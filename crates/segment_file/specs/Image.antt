@@ -1,14 +1,10 @@
--- The image of a segment: the file of its rows. Each section is a function of the lists of values of the columns.
-use Rattle.std.specs.Prelude.{ℕ, suc, List, [], ◌∷◌, ◌++◌, map, length, slice_get, Option, Some, None, if◌then◌else◌}
+-- The image of a segment: the file of its rows. Each section is a function of the lists of values of the columns, or of the rows as a tree has them.
+use Rattle.std.specs.Prelude.{ℕ, List, [], ◌++◌, map, length, slice_get}
 use Rattle.std.specs.List.{All, concat}
-use Rattle.values.specs.declared.kind.FieldKind.{FieldKind}
-use Rattle.values.specs.declared.kind.FieldKind.TheVariants.{Long}
 use Rattle.values.specs.declared.value.Value.{Value}
-use Rattle.values.specs.Order.{value_eq}
-use Rattle.table_schema.specs.declared.field.Field.{Field}
 use Rattle.table_schema.specs.declared.table.Table.{Table}
 use Rattle.table_schema.specs.ValidTable.{AreRows}
-use Rattle.dictionary.specs.Dictionary.{Distinct, IsUnicode, distinct}
+use Rattle.dictionary.specs.Dictionary.{IsUnicode}
 use Rattle.dictionary.specs.Spelling.{spelling}
 use Rattle.bit_column.specs.Column.{spelled, width_of}
 use Rattle.bit_column.specs.Postings.{inverted, ranged}
@@ -16,43 +12,11 @@ use Rattle.bit_column.specs.SortedRuns.{sorted_runs}
 use Rattle.segment_file.specs.declared.part.Part.{Part}
 use Rattle.segment_file.specs.declared.part.Part.TheVariants as parts
 use Rattle.segment_file.specs.Bounds.{bounds_bytes, bounds_of}
+pub use Rattle.segment_file.specs.Columns.{kind_or, kind_at, values_in, dictionary_of, place_of, ids_of, count_of}
 use Rattle.segment_file.specs.Front.{Front, front_bytes}
-use Rattle.segment_file.specs.Ordered.{ordered, value_in}
+use Rattle.segment_file.specs.Ordered.{ordered}
 use Rattle.segment_file.specs.Parts.{columns_of, sections_of}
-
--- ---- the columns
-
--- the kind of a field, if there is one
-abbrev pub kind_or : Option Field → FieldKind
-kind_or None = Long
-kind_or (Some field) = field.kind
-
--- the kind of the field of that number
-abbrev pub kind_at : Table → ℕ → FieldKind
-kind_at table column = kind_or (slice_get table.schema.fields column)
-
--- the values of the rows in a column
-abbrev pub values_in : ℕ → List (List Value) → List Value
-values_in column rows = map (value_in column) rows
-
--- the dictionary of a column
-abbrev pub dictionary_of : Table → List (List Value) → ℕ → Distinct
-dictionary_of table rows column = record { kind = kind_at table column; values = distinct (values_in column rows) }
-
--- the number of a value among these
-abbrev pub place_of : List Value → Value → ℕ
-place_of [] value = 0
-place_of (first ∷ values) value = if value_eq first value then 0 else suc (place_of values value)
-
--- the id of each row in a column: the number of its value among the distinct ones
-abbrev pub ids_of : List (List Value) → ℕ → List ℕ
-ids_of rows column = map (place_of (distinct (values_in column rows))) (values_in column rows)
-
--- how many distinct values a column has
-abbrev pub count_of : List (List Value) → ℕ → ℕ
-count_of rows column = length (distinct (values_in column rows))
-
--- ---- the file
+use Rattle.segment_file.specs.Trees.{TreeFits, nodes_of, star_of}
 
 -- the bytes of a section
 abbrev pub section_of : Table → List (List Value) → Part → List ℕ
@@ -60,12 +24,12 @@ section_of table rows parts.Table = []
 section_of table rows parts.Head = []
 section_of table rows parts.Bounds = bounds_bytes (bounds_of (map (dictionary_of table rows) (columns_of table)))
 section_of table rows (parts.Dictionary column) = spelling (dictionary_of table rows column)
-section_of table rows (parts.Nodes tree) = []
+section_of table rows (parts.Nodes tree) = nodes_of rows (slice_get table.settings.trees tree)
 section_of table rows (parts.Forward column) = spelled (width_of (count_of rows column)) (ids_of rows column)
 section_of table rows (parts.Sorted column) = sorted_runs (count_of rows column) (ids_of rows column)
 section_of table rows (parts.Inverted column) = inverted (count_of rows column) (ids_of rows column)
 section_of table rows (parts.Range column) = ranged (count_of rows column) (ids_of rows column)
-section_of table rows (parts.Star tree) = []
+section_of table rows (parts.Star tree) = star_of rows (slice_get table.settings.trees tree)
 
 -- the sections of rows in their order
 abbrev pub sections_of_rows : Table → List (List Value) → List (List ℕ)
@@ -87,3 +51,4 @@ image format table name rows = file_of_rows format table name (ordered table.set
 pub record CanHold (table : Table) (rows : List (List Value)) : Type 0 where
   pub fit : AreRows table.schema.fields rows
   pub unicode : All (λ row. All IsUnicode row) rows
+  pub trees : All (TreeFits (ordered table.settings.sorted rows)) table.settings.trees

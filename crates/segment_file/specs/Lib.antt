@@ -3,6 +3,8 @@ pub mod Parts
 pub mod Front
 pub mod Bounds
 pub mod Ordered
+pub mod Columns
+pub mod Trees
 pub mod Image
 pub mod Rules
 pub mod Reading

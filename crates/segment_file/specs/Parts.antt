@@ -49,9 +49,13 @@ marked_from at (false ∷ marks) = marked_from (at + 1) marks
 abbrev pub marked : List Bool → List ℕ
 marked marks = marked_from 0 marks
 
--- the sections of the head: the bounds, and each field's dictionary
+-- the numbers of the trees
+abbrev pub trees_of : Table → List ℕ
+trees_of table = range_with_len 0 (length table.settings.trees)
+
+-- the sections of the head: the bounds, each field's dictionary, and each tree's nodes
 abbrev pub head_sections : Table → List Part
-head_sections table = parts.Bounds ∷ map parts.Dictionary (columns_of table)
+head_sections table = parts.Bounds ∷ (map parts.Dictionary (columns_of table) ++ map parts.Nodes (trees_of table))
 
 -- the sections of the rows: each field's forward index, and the other indexes that the settings name
 abbrev pub raw_sections : Table → List Part
@@ -61,10 +65,14 @@ raw_sections table =
     ++ (map parts.Inverted (marked table.settings.inverted)
     ++ map parts.Range (marked table.settings.ranged)))
 
+-- the sections after those of the head: those of the rows, and each tree's documents
+abbrev pub tail_sections : Table → List Part
+tail_sections table = raw_sections table ++ map parts.Star (trees_of table)
+
 -- the sections of a table's segments, in the order of the file: by kind, and then by owner
 abbrev pub sections_of : Table → List Part
-sections_of table = head_sections table ++ raw_sections table
+sections_of table = head_sections table ++ tail_sections table
 
--- what is not here yet: a table without star-trees
+-- a table without star-trees
 pub record IsPlainTable (table : Table) : Type 0 where
   pub no_trees : length table.settings.trees ≡ 0

@@ -12,6 +12,7 @@ ghost use Rattle.segment_file.specs.declared.fault.HeadFault.TheVariants.{NotASe
 use crate::bounds::{Ends, push_bounds};
 use crate::dictionaries::{check_dictionaries, section_bytes};
 use crate::sizes::check_sizes;
+use crate::trees::check_trees;
 use crate::{Front, Head, HeadFault, NoMemory, Part, Section, front_size};
 use dictionary::Dictionary;
 use outside::{Name, Place};
@@ -55,13 +56,19 @@ pub fn check_head(
     if !has_bounds(alloc, &dictionaries, section_bytes(bytes, &sections[0]))? {
         return Err(HeadFault::NotASegment(Part::Bounds));
     }
-    let raw = sections_after(&sections, table.schema.fields.len() + 1);
-    if let Err(part) = check_sizes(front.rows(), &dictionaries, raw) {
+    let trees = match check_trees(alloc, table, front.rows(), &dictionaries, &sections, bytes) {
+        Ok(trees) => trees,
+        Err(fault) => return Err(fault),
+    };
+    let heads = table.schema.fields.len() + 1 + table.settings.trees.len();
+    let tail = sections_after(&sections, heads);
+    if let Err(part) = check_sizes(table, front.rows(), &dictionaries, &trees, tail) {
         return Err(HeadFault::NotASegment(part));
     }
     let bounds = all_bounds(alloc, &dictionaries)?;
     let dictionaries = loaded(alloc, dictionaries)?;
-    Ok(Head::new(front.rows(), sections, bounds, dictionaries))
+    let trees = loaded(alloc, trees)?;
+    Ok(Head::new(front.rows(), sections, bounds, dictionaries, trees))
 }
 
 // The sections after the first so many.
@@ -139,9 +146,9 @@ fn keep_ends(alloc: Global, dictionary: &Dictionary, bounds: &mut Vec<Ends>) -> 
     Ok(())
 }
 
-// The dictionaries as those that were loaded.
-fn loaded(alloc: Global, dictionaries: Vec<Dictionary>) -> Result<Vec<Option<Dictionary>>, NoMemory>
-    ensures { IfOk result (λ all. all.items ≡ map Some dictionaries.items) }
+// Things as those that were loaded.
+fn loaded<T: Drop>(alloc: Global, things: Vec<T>) -> Result<Vec<Option<T>>, NoMemory>
+    ensures { IfOk result (λ all. all.items ≡ map Some things.items) }
 {
-    dictionaries.into_iter().map(Some).collect(alloc)
+    things.into_iter().map(Some).collect(alloc)
 }

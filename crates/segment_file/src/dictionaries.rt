@@ -2,7 +2,7 @@
 ghost use Rattle.std.specs.Prelude.{◌≡◌, ◌≤◌, ◌+◌, ◌++◌, ◌∷◌, [], length, IfOk, IfErr, OnOk, IsErrOf, ℕ};
 ghost use Rattle.dictionary.specs.Dictionary.{Distinct};
 ghost use Rattle.segment_file.specs.Parts.{columns_of};
-ghost use Rattle.segment_file.specs.Reading.{StopsAt, bytes_of_section, heads_of};
+ghost use Rattle.segment_file.specs.Reading.{StopsAt, bytes_of_section, heads_read};
 ghost use Rattle.segment_file.specs.Rules.{AreSpelled, IsSpelled};
 ghost use Rattle.segment_file.specs.declared.part.Part.{Part};
 ghost use Rattle.segment_file.specs.declared.part.Part.TheVariants as part;
@@ -60,12 +60,11 @@ pub fn check_dictionaries(
     requires fields { length table.now.schema.fields ≤ 64 }
     requires each { length table.now.schema.fields + 1 ≤ length sections.now }
     ensures ok { IfOk result (λ ds. AreSpelled table.now rows
-        (heads_of (length table.now.schema.fields + 1) sections.now bytes.now)
-        (columns_of table.now) ds.items) }
+        (heads_read table.now sections.now bytes.now) (columns_of table.now) ds.items) }
     ensures read { ¬ IsErrOf result HeadFault.ReadFault }
     ensures bad { IfErr result (λ fault. (p : Part) → fault ≡ NotASegment p →
         (column : ℕ) × (p ≡ part.Dictionary column) × StopsAt table.now rows
-        (heads_of (length table.now.schema.fields + 1) sections.now bytes.now) column) }
+        (heads_read table.now sections.now bytes.now) column) }
 {
     let fields = table.schema.fields.as_slice();
     let mut dictionaries = Vec::with_capacity(alloc, fields.len())?;

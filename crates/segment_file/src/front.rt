@@ -70,11 +70,12 @@ impl Front {
 
     /// How many bytes the sections of the head have together.
     pub fn head_size(&self, table: &Table) -> u64
-        requires some { length table.now.schema.fields < length self.now.sizes }
+        requires some { length table.now.schema.fields + length table.now.settings.trees
+            < length self.now.sizes }
         requires short { sum self.now.sizes < 2 ^ 64 }
         ensures { result ≡ sum (take (length (head_sections table.now)) self.now.sizes) }
     {
-        total(&self.sizes[..=table.schema.fields.len()])
+        total(&self.sizes[..=table.schema.fields.len() + table.settings.trees.len()])
     }
 
     /// The bytes of the front of a file with these sections.

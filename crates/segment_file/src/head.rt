@@ -1,23 +1,26 @@
 //! The head of a segment's file.
-ghost use Rattle.std.specs.Prelude.{◌≡◌, List, map, MatchOption, None, Some, slice_get};
+ghost use Rattle.std.specs.Prelude.{◌≡◌, List, map, MatchOption, None, Some, option_map, slice_get};
 ghost use Rattle.std.specs.Option.{option_copied};
 ghost use Rattle.segment_file.specs.Heads as spec;
-ghost use Rattle.segment_file.specs.Heads.{IsLoaded, place_in};
+ghost use Rattle.segment_file.specs.Heads.{AreNodesLoaded, IsLoaded, place_in, tree_in};
 
-use crate::{Ends, Part, Section};
+use crate::{Ends, Part, Section, TreeNodes};
 use dictionary::Dictionary;
 use outside::Place;
+use star_file::Nodes;
 use std::marker::Model;
 use values::Value;
 
 /// What a segment's file says of its rows where they are not read: how many there are, where the
-/// sections are, the bounds of each column where there are rows, and the dictionaries.
+/// sections are, the bounds of each column where there are rows, the dictionaries, and the nodes of
+/// the trees.
 #[derive(Drop)]
 pub struct Head {
     pub(crate) rows: u32,
     pub(crate) sections: Vec<Section>,
     bounds: Vec<Ends>,
     pub(crate) dictionaries: Vec<Option<Dictionary>>,
+    pub(crate) trees: Vec<Option<TreeNodes>>,
 }
 
 impl Model for Head {
@@ -30,6 +33,7 @@ impl Model for Head {
       sections = h.sections.items;
       bounds = h.bounds.items;
       dictionaries = h.dictionaries.items;
+      trees = h.trees.items;
     } };
 }
 
@@ -39,12 +43,14 @@ impl Head {
         sections: Vec<Section>,
         bounds: Vec<Ends>,
         dictionaries: Vec<Option<Dictionary>>,
+        trees: Vec<Option<TreeNodes>>,
     ) -> Self
         ensures { result ≡ record {
           rows = rows;
           sections = sections.items;
           bounds = bounds.items;
           dictionaries = dictionaries.items;
+          trees = trees.items;
         } }
     {
         Head {
@@ -52,6 +58,7 @@ impl Head {
             sections,
             bounds,
             dictionaries,
+            trees,
         }
     }
 
@@ -69,6 +76,33 @@ impl Head {
     {
         match &self.dictionaries[column as usize] {
             Some(dictionary) => dictionary,
+            None => unreachable!(),
+        }
+    }
+
+    /// The nodes of a tree, which were loaded.
+    pub fn nodes(&self, tree: u8) -> &Nodes
+        requires { AreNodesLoaded self.now tree }
+        ensures { option_map (λ t. t.nodes) (tree_in self.now tree) ≡ Some result.now }
+    {
+        &self.tree(tree).nodes
+    }
+
+    /// How many documents a tree has, whose nodes were loaded.
+    pub fn documents(&self, tree: u8) -> u32
+        requires { AreNodesLoaded self.now tree }
+        ensures { option_map (λ t. t.documents) (tree_in self.now tree) ≡ Some result }
+    {
+        self.tree(tree).documents
+    }
+
+    // What was loaded of a tree.
+    fn tree(&self, tree: u8) -> &TreeNodes
+        requires { AreNodesLoaded self.now tree }
+        ensures { tree_in self.now tree ≡ Some result.now }
+    {
+        match &self.trees[tree as usize] {
+            Some(nodes) => nodes,
             None => unreachable!(),
         }
     }

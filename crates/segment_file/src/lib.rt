@@ -18,6 +18,8 @@ mod section;
 mod sections;
 mod sizes;
 mod stepwise;
+mod tree_loading;
+mod trees;
 
 pub use bounds::{Ends, push_bounds, push_ends, read_bounds};
 pub use check::check_head;
@@ -25,7 +27,7 @@ pub use dictionaries::check_dictionary;
 pub use fault::HeadFault;
 pub use front::{Front, front_size};
 pub use head::Head;
-pub use laws::{head_rules_law, image_keeps_law, images_tell_law};
+pub use laws::{head_rules_law, head_tells_trees_law, image_keeps_law, images_tell_law};
 pub use name::is_segment_name;
 pub use opening::read_head;
 pub use part::Part;
@@ -34,6 +36,7 @@ pub use section::Section;
 pub use sections::sections_of;
 pub use sizes::size_for;
 pub use stepwise::open_head;
+pub use trees::TreeNodes;
 
 /// A growth was refused.
 pub type NoMemory = std::alloc::AllocError;

@@ -8,7 +8,7 @@ ghost use Rattle.segment_file.specs.Front as spec;
 ghost use Rattle.segment_file.specs.Front.{front_size, head_end};
 ghost use Rattle.segment_file.specs.Heads.{IsHead, IsHeadOf, LogsHead};
 ghost use Rattle.segment_file.specs.Names.{IsSegmentName};
-ghost use Rattle.segment_file.specs.Parts.{IsPlainTable, sections_of};
+ghost use Rattle.segment_file.specs.Parts.{sections_of};
 ghost use Rattle.segment_file.specs.Reading.{IsFrontOf};
 ghost use Rattle.segment_file.specs.Rules.{FailsAt, HasFront};
 ghost use Rattle.segment_file.specs.declared.fault.HeadFault.TheVariants.{NotASegment};
@@ -22,8 +22,8 @@ use outside::Shelf;
 use std::alloc::Global;
 use table_schema::Table;
 
-/// The head of a file that is to be the segment's of this name, with all dictionaries, or the part of
-/// the first rule that fails. A file that is missing is an empty one. No byte past the head is read,
+/// The head of a file that is to be the segment's of this name, with all dictionaries and nodes, or
+/// the part of the first rule that fails. A file that is missing is an empty one. No byte past the head is read,
 /// and none twice.
 pub fn read_head<S: Shelf>(
     alloc: Global,
@@ -33,7 +33,6 @@ pub fn read_head<S: Shelf>(
     table: &Table,
 ) -> Result<Head, HeadFault>
     requires valid { IsValidTable table.now }
-    requires plain { IsPlainTable table.now }
     requires name { IsSegmentName name.now }
     ensures of { IfOk result (IsHeadOf table.now) }
     ensures head { IfOk result (λ head. IfSome (S.held shelf.old) (λ files.

@@ -14,15 +14,18 @@ pub fn sections_of(alloc: Global, table: &Table) -> Result<Vec<Part>, NoMemory>
     ensures { IfOk result (λ parts. parts.items ≡ sections_of table.now) }
 {
     let columns = table.schema.fields.len();
-    let mut parts = Vec::with_capacity(alloc, 1 + 2 * columns)?;
+    let trees = table.settings.trees.len();
+    let mut parts = Vec::with_capacity(alloc, 1 + 2 * columns + 2 * trees)?;
     parts.push(Part::Bounds)?;
     push_dictionaries(columns, &mut parts)?;
+    push_nodes(trees, &mut parts)?;
     push_forwards(columns, &mut parts)?;
     if let Some(column) = table.settings.sorted {
         parts.push(Part::Sorted(column))?;
     }
     push_inverted(table.settings.inverted.as_slice(), &mut parts)?;
     push_ranges(table.settings.ranged.as_slice(), &mut parts)?;
+    push_stars(trees, &mut parts)?;
     Ok(parts)
 }
 
@@ -33,6 +36,28 @@ fn push_dictionaries(columns: usize, parts: &mut Vec<Part>) -> Result<(), NoMemo
 {
     for column in 0..columns {
         parts.push(Part::Dictionary(column as u16))?;
+    }
+    Ok(())
+}
+
+fn push_nodes(trees: usize, parts: &mut Vec<Part>) -> Result<(), NoMemory>
+    requires { trees ≤ 8 }
+    ensures { OnOk result
+        (parts.new.items ≡ parts.old.items ++ map Part.Nodes (range_with_len 0 trees)) }
+{
+    for tree in 0..trees {
+        parts.push(Part::Nodes(tree as u8))?;
+    }
+    Ok(())
+}
+
+fn push_stars(trees: usize, parts: &mut Vec<Part>) -> Result<(), NoMemory>
+    requires { trees ≤ 8 }
+    ensures { OnOk result
+        (parts.new.items ≡ parts.old.items ++ map Part.Star (range_with_len 0 trees)) }
+{
+    for tree in 0..trees {
+        parts.push(Part::Star(tree as u8))?;
     }
     Ok(())
 }

@@ -8,9 +8,8 @@ ghost use Rattle.table_schema.specs.ValidTable.{IsValidTable};
 ghost use Rattle.segment_file.specs.Bounds.{AreBounds};
 ghost use Rattle.segment_file.specs.Front.{bounds_end, front_size};
 ghost use Rattle.segment_file.specs.Heads as spec;
-ghost use Rattle.segment_file.specs.Heads.{AreIn, IsHead, IsHeadOf, IsLoaded, IsOpened, IsPartOf, KeepsRules, LogsOpened, bounded};
+ghost use Rattle.segment_file.specs.Heads.{AreIn, AreNodesLoaded, IsHead, IsHeadOf, IsLoaded, IsOpened, IsPartOf, KeepsRules, LogsOpened, bounded};
 ghost use Rattle.segment_file.specs.Names.{IsSegmentName};
-ghost use Rattle.segment_file.specs.Parts.{IsPlainTable};
 ghost use Rattle.segment_file.specs.Reading.{IsFrontOf};
 ghost use Rattle.segment_file.specs.Rules.{heads_in};
 ghost use Rattle.segment_file.specs.declared.bounds.Ends.{Ends};
@@ -20,14 +19,13 @@ ghost use Rattle.segment_file.specs.declared.part.Part.{Part};
 use crate::check::place_sections;
 use crate::opening::{FrontRead, read_front};
 use crate::{Ends, Head, HeadFault, NoMemory, Part, read_bounds, read_exactly, sections_of};
-use dictionary::Dictionary;
 use outside::Shelf;
 use std::alloc::Global;
 use table_schema::{Field, Table};
 
-/// The head of a file that is to be the segment's of this name, without dictionaries. Only the front
-/// and the bounds are read and looked at; each dictionary is looked at when it is loaded, and the
-/// other sections not at all.
+/// The head of a file that is to be the segment's of this name, without dictionaries and nodes. Only
+/// the front and the bounds are read and looked at; each dictionary, and the nodes of each tree, are
+/// looked at when they are loaded, and the other sections not at all.
 pub fn open_head<S: Shelf>(
     alloc: Global,
     shelf: &mut S,
@@ -36,10 +34,10 @@ pub fn open_head<S: Shelf>(
     table: &Table,
 ) -> Result<Head, HeadFault>
     requires valid { IsValidTable table.now }
-    requires plain { IsPlainTable table.now }
     requires name { IsSegmentName name.now }
     ensures of { IfOk result (IsHeadOf table.now) }
     ensures none { IfOk result (λ head. (column : ℕ) → ¬ IsLoaded head column) }
+    ensures no_nodes { IfOk result (λ head. (tree : ℕ) → ¬ AreNodesLoaded head tree) }
     ensures placed { IfOk result (λ head. AreIn file.now head.sections) }
     ensures opened { IfOk result (λ head. IfSome (S.held shelf.old) (λ files.
         IsOpened table.now name.now file.now (bytes_of (Some files) file.now) head)) }
@@ -66,7 +64,8 @@ pub fn open_head<S: Shelf>(
     let start = read.bytes.len() as u64;
     let sections = place_sections(alloc, file, &parts, read.front.sizes(), start)?;
     let dictionaries = unloaded(alloc, table.schema.fields.len())?;
-    Ok(Head::new(read.front.rows(), sections, bounds, dictionaries))
+    let trees = unloaded(alloc, table.settings.trees.len())?;
+    Ok(Head::new(read.front.rows(), sections, bounds, dictionaries, trees))
 }
 
 // The bounds, which are the first section of a file with this front.
@@ -114,8 +113,8 @@ fn bounded(rows: u32, fields: &[Field]) -> &[Field]
     if rows == 0 { &[] } else { fields }
 }
 
-// Room for so many dictionaries, none of which is loaded.
-fn unloaded(alloc: Global, count: usize) -> Result<Vec<Option<Dictionary>>, NoMemory>
+// Room for so many things, none of which is loaded.
+fn unloaded<T: Drop>(alloc: Global, count: usize) -> Result<Vec<Option<T>>, NoMemory>
     ensures { IfOk result (λ all. all.items ≡ replicate count None) }
 {
     let mut all = Vec::with_capacity(alloc, count)?;

@@ -48,6 +48,11 @@ column_at table rows from (suc count) (suc k) d at =
     let same : from + 1 + k ≡ from + suc k = omega arith in
     column_at table rows (from + 1) count k d at ∙ ap (dictionary_of table rows) same
 
+pub dictionary_at : (table : Table) (rows : List (List Value)) (column : ℕ) (d : Distinct) → slice_get (map Some (map (dictionary_of table rows) (columns_of table))) column ≡ Some (Some d) → d ≡ dictionary_of table rows column
+dictionary_at table rows column d at =
+    let plain : 0 + column ≡ column = omega arith in
+    column_at table rows 0 (length table.schema.fields) column d at ∙ ap (dictionary_of table rows) plain
+
 pub head_tells : HeadTells
 head_tells table name file rows whole head valid named can is part =
     let os : List (List Value) = ordered table.settings.sorted rows in
@@ -65,6 +70,5 @@ head_tells table name file rows whole head valid named can is part =
       bounds_are = part.bounds_same ∙ is.bounds_are ∙ ap bounds_of those;
       dictionaries_are = (λ column d at.
           let there : slice_get (map Some ds) column ≡ Some (Some d) = ap (λ x. slice_get x column) (sym all) ∙ slot_at whole.dictionaries head.dictionaries column d part.slots at in
-          let plain : 0 + column ≡ column = omega arith in
-          column_at table os 0 (length table.schema.fields) column d there ∙ ap (dictionary_of table os) plain);
+          dictionary_at table os column d there);
     }

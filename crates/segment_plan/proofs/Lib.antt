@@ -6,3 +6,4 @@ mod Emptied
 mod Images
 mod OnePlan
 mod OneFactors
+mod OverRows

@@ -1,11 +1,13 @@
 -- What is not looked at has no row for the query.
-use Rattle.std.specs.Prelude.{◌≡◌, ℕ, true, false, List, map, length, Some, slice_get}
+use Rattle.std.specs.Prelude.{◌≡◌, ◌⊎◌, ℕ, true, false, List, map, length, Some, slice_get}
 use Rattle.std.specs.List.{AllByRecursion}
 use Rattle.values.specs.declared.value.Value.{Value}
 use Rattle.table_schema.specs.declared.query.BoundQuery.{BoundQuery}
 use Rattle.table_schema.specs.declared.query.Conjunct.{Conjunct}
 use Rattle.table_schema.specs.declared.settings.TreeSetting.{TreeSetting}
 use Rattle.table_schema.specs.declared.table.Table.{Table}
+use Rattle.table_schema.specs.ValidQuery.{IsValidQuery}
+use Rattle.table_schema.specs.ValidSettings.{IsValidTree}
 use Rattle.table_schema.specs.ValidTable.{IsValidTable}
 use Rattle.table_schema.specs.Conditions.{all_hold}
 use Rattle.dictionary.specs.Dictionary.{Distinct}
@@ -15,9 +17,11 @@ use Rattle.segment_file.specs.Image.{CanHold, dictionary_of, image}
 use Rattle.segment_file.specs.Names.{IsSegmentName}
 use Rattle.segment_file.specs.Ordered.{ordered}
 use Rattle.segment_file.specs.Parts.{columns_of}
+use Rattle.segment_plan.specs.Explained.{IsDetailed, explained_by, explained_over}
 use Rattle.segment_plan.specs.Factors.{AreWholeLoaded, factors_of}
 use Rattle.segment_plan.specs.Matched.{AreLoaded}
 use Rattle.segment_plan.specs.Plan.{is_emptied, plan_of}
+use Rattle.segment_plan.specs.Planned.{factors_over, plan_over}
 use Rattle.segment_plan.specs.Pruning.{is_pruned}
 
 -- a head tells how many these rows are, the bounds of their columns, and dictionaries of these where they are loaded, as that of their image does
@@ -53,3 +57,25 @@ abbrev pub OneFactors : Type 0
 OneFactors =
     (query : BoundQuery) (table : Table) (rows : List (List Value)) (tree : TreeSetting) (a b : Seen) → TellsOf table rows a → TellsOf table rows b → AreLoaded query.conjuncts a → AreLoaded query.conjuncts b → AreWholeLoaded query a tree → AreWholeLoaded query b tree
     → factors_of query a tree ≡ factors_of query b tree
+
+-- ---- the head of a segment, and its rows
+
+-- what a plan looks at is known: the bounds exclude all rows, or the dictionaries of the columns that conjuncts name alone were loaded
+abbrev pub IsPlannable : BoundQuery → Seen → Type 0
+IsPlannable query head = (is_pruned query head ≡ true) ⊎ AreLoaded query.conjuncts head
+
+-- a head that tells of rows has their plan
+abbrev pub PlanIsOver : Type 0
+PlanIsOver = (query : BoundQuery) (table : Table) (rows : List (List Value)) (head : Seen) → IsValidQuery table query → TellsOf table rows head → IsPlannable query head → plan_of query table head ≡ plan_over query table rows
+
+-- it gives a tree their factors
+abbrev pub FactorsAreOver : Type 0
+FactorsAreOver =
+    (query : BoundQuery) (table : Table) (rows : List (List Value)) (tree : TreeSetting) (head : Seen) → IsValidQuery table query → IsValidTree table.schema.fields tree → TellsOf table rows head → AreLoaded query.conjuncts head → AreWholeLoaded query head tree
+    → factors_of query head tree ≡ factors_over query table rows tree
+
+-- what is written of its plan is what is written of theirs
+abbrev pub ExplainedIsOver : Type 0
+ExplainedIsOver =
+    (query : BoundQuery) (table : Table) (rows : List (List Value)) (head : Seen) → IsValidTable table → IsValidQuery table query → TellsOf table rows head → IsPlannable query head → IsDetailed query table head (plan_of query table head)
+    → explained_by query table head ≡ explained_over query table rows

@@ -39,7 +39,7 @@ use Rattle.segment_file.specs.Image.{count_of, dictionary_of, file_of_rows, fron
 use Rattle.segment_file.specs.Image as segment
 use Rattle.segment_file.specs.Ordered.{ordered, sorted_by, value_in}
 use Rattle.segment_file.specs.Ordered as order_of
-use Rattle.segment_file.specs.Parts.{columns_of, head_sections, is_same, raw_sections, sections_of}
+use Rattle.segment_file.specs.Parts.{columns_of, head_sections, is_same, raw_sections, sections_of, tail_sections, trees_of}
 use Rattle.segment_file.specs.Rules.{KeepsAll}
 use Rattle.segment_file.proofs.Fronts.{front_bytes_size}
 use Rattle.segment_file.proofs.ImageKeeps.{image_keeps}
@@ -83,12 +83,16 @@ any_front p xs ys e = list_any-append p xs ys ∙ or_left (list_any p xs) (list_
 pub any_back : (p : Part → Bool) (xs ys : List Part) → list_any p ys ≡ true → list_any p (xs ++ ys) ≡ true
 any_back p xs ys e = list_any-append p xs ys ∙ or_right (list_any p xs) (list_any p ys) e
 
+-- a part that is among the sections of the rows is among all
+pub any_raw : (table : Table) (p : Part → Bool) → list_any p (raw_sections table) ≡ true → list_any p (sections_of table) ≡ true
+any_raw table p e = any_back p (head_sections table) (tail_sections table) (any_front p (raw_sections table) (map parts.Star (trees_of table)) e)
+
 has_forward : (table : Table) (c : ℕ) → c < length table.schema.fields → list_any (λ p. is_same p (parts.Forward c)) (sections_of table) ≡ true
 has_forward table c lt =
     let plain : 0 + c ≡ c = omega arith in
     let own : list_any (λ p. is_same p (parts.Forward c)) (map parts.Forward (columns_of table)) ≡ true =
     subst (λ m. list_any (λ p. is_same p (parts.Forward m)) (map parts.Forward (columns_of table)) ≡ true) plain (forward_among 0 (length table.schema.fields) c lt) in
-    any_back (λ p. is_same p (parts.Forward c)) (head_sections table) (raw_sections table) (any_front (λ p. is_same p (parts.Forward c)) (map parts.Forward (columns_of table)) _ own)
+    any_raw table (λ p. is_same p (parts.Forward c)) (any_front (λ p. is_same p (parts.Forward c)) (map parts.Forward (columns_of table)) _ own)
 
 -- a part that is among the sections has a place
 pub some_place : (file : List ℕ) (p : Part) (offset : ℕ) (ps : List Part) (sizes : List ℕ) → length sizes ≡ length ps → list_any (λ q. is_same q p) ps ≡ true → IsSome (place_in (map (placed file) (extents_from offset ps sizes)) p)

@@ -34,7 +34,7 @@ use Rattle.segment_file.specs.Heads.{IsHeadOf, IsLoaded, Seen, bytes_in, place_i
 use Rattle.segment_file.specs.Image.{count_of, dictionary_of, front_of, ids_of, image, place_of, section_of, sections_of_rows}
 use Rattle.segment_file.specs.Image as segment
 use Rattle.segment_file.specs.Ordered.{ordered, sorted_by, value_in}
-use Rattle.segment_file.specs.Parts.{columns_of, head_sections, is_same, marked, marked_from, raw_sections, sections_of}
+use Rattle.segment_file.specs.Parts.{columns_of, is_same, marked, marked_from, sections_of}
 use Rattle.segment_file.specs.Rules.{KeepsAll}
 use Rattle.segment_file.proofs.Fronts.{front_bytes_size}
 use Rattle.segment_file.proofs.ImageKeeps.{image_keeps}
@@ -50,7 +50,7 @@ use Rattle.segment_scan.specs.Indexes.{IsIndexed, IsReady, OfEach, OfIndex, Tell
 use Rattle.segment_scan.specs.Named.{conjunct_names}
 use Rattle.segment_scan.specs.Served.{choice_at, is_served, served}
 use Rattle.segment_scan.proofs.AgreementLemmas.{conjuncts_in_names, or_left, or_right}
-use Rattle.segment_scan.proofs.ImageLemmas.{IsPlace, any_back, any_front, cut_section, ids-below, ids-count, item_there, ordered_count, places, some_place}
+use Rattle.segment_scan.proofs.ImageLemmas.{IsPlace, any_back, any_front, any_raw, cut_section, ids-below, ids-count, item_there, ordered_count, places, some_place}
 use Rattle.segment_scan.proofs.OrderLemmas.{sorted_ids}
 
 lt_true : (a b : ℕ) → a < b → nat_lt a b ≡ true
@@ -112,12 +112,12 @@ among_sorted (Some s) c e = or_left (s == c) false e
 has_index : (table : Table) (kind : ListKind) (c : ℕ) → NamesIndex table.settings kind c → list_any (λ p. is_same p (part_of kind c)) (sections_of table) ≡ true
 has_index table kinds.Sorted c names =
     let p : Part → Bool = λ q. is_same q (parts.Sorted c) in
-    any_back p (head_sections table) (raw_sections table) (any_back p (map parts.Forward (columns_of table)) _ (any_front p (map parts.Sorted (option_to_list table.settings.sorted)) _ (among_sorted table.settings.sorted c names)))
+    any_raw table p (any_back p (map parts.Forward (columns_of table)) _ (any_front p (map parts.Sorted (option_to_list table.settings.sorted)) _ (among_sorted table.settings.sorted c names)))
 has_index table kinds.Inverted c names =
     let p : Part → Bool = λ q. is_same q (parts.Inverted c) in
     let plain : 0 + c ≡ c = omega arith in
     let own : list_any p (map parts.Inverted (marked table.settings.inverted)) ≡ true = subst (λ m. list_any (λ q. is_same q (parts.Inverted m)) (map parts.Inverted (marked table.settings.inverted)) ≡ true) plain (among_marked table.settings.inverted 0 c names) in
-    any_back p (head_sections table) (raw_sections table) (any_back p (map parts.Forward (columns_of table)) _ (any_back p (map parts.Sorted (option_to_list table.settings.sorted)) _ (any_front p (map parts.Inverted (marked table.settings.inverted)) _ own)))
+    any_raw table p (any_back p (map parts.Forward (columns_of table)) _ (any_back p (map parts.Sorted (option_to_list table.settings.sorted)) _ (any_front p (map parts.Inverted (marked table.settings.inverted)) _ own)))
 
 -- ---- the choice of an index
 

@@ -15,7 +15,7 @@ ghost use Rattle.segment_scan.specs.declared.fault.EngineFault.TheVariants.{NoMe
 use crate::EngineFault;
 use crate::columns::keep;
 use crate::reading::of_column;
-use bit_column::{read_range, width_for};
+use bit_column::{append_range, width_for};
 use doc_lists::Run;
 use outside::{Seq, Shelf};
 use segment_file::{Head, Part};
@@ -107,8 +107,8 @@ fn pick_named<S: Shelf>(
     }
 }
 
-/// The ids of documents in a column: of its forward section the ids of the runs are read, each run
-/// with one read, and nothing else.
+/// The ids of documents in a column: of its forward section the ids of the runs are read, one run
+/// after the other, and nothing else.
 pub fn pick_column<S: Shelf>(
     alloc: Global,
     shelf: &mut S,
@@ -139,15 +139,22 @@ pub fn pick_column<S: Shelf>(
     };
     let values = head.dictionary(column).count();
     let width = width_for(values);
+    let mut buffer = Vec::new(alloc);
     let mut ids = Vec::with_capacity(alloc, count)?;
     for run in runs {
-        let more = match read_range(alloc, shelf, place, width, values, run.first, run.last + 1) {
-            Ok(more) => more,
-            Err(fault) => return Err(of_column(fault, column)),
-        };
-        match ids.extend_from_slice(more.as_slice()) {
+        match append_range(
+            alloc,
+            shelf,
+            place,
+            width,
+            values,
+            run.first,
+            run.last + 1,
+            &mut buffer,
+            &mut ids,
+        ) {
             Ok(()) => {}
-            Err(_) => return Err(EngineFault::NoMemory),
+            Err(fault) => return Err(of_column(fault, column)),
         }
     }
     Ok(Seq::from_vec(ids))

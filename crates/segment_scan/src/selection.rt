@@ -1,7 +1,7 @@
 //! Which rows of a segment satisfy conjuncts: each condition is tested once for each distinct value
 //! of its column, and looked up by id.
 
-ghost use Rattle.std.specs.Prelude.{◌≡◌, ◌&&◌, ◌||◌, IfOk, OnOk, get_or, false, length, pos};
+ghost use Rattle.std.specs.Prelude.{◌≡◌, ◌&&◌, ◌||◌, IfOk, OnOk, get_or, false, length, nat_eq, pos};
 ghost use Rattle.values.specs.Columns.{row_of};
 ghost use Rattle.values.specs.Tests.{holds};
 ghost use Rattle.dictionary.specs.Ids.{has_id};
@@ -135,6 +135,27 @@ fn is_kept(mark: bool, holds: bool) -> bool
 
 // Leaves the marks of the rows whose id is in a set.
 fn keep_ids(marks: &mut [bool], ids: &[u32], matching: &IdSet)
+    requires { length marks.old ≡ length ids.now }
+    ensures { Keeps (λ at. has_id matching.now (get_or ids.now at 0)) marks.old marks.new }
+{
+    match matching.as_slice() {
+        [only] => keep_only(marks, ids, *only),
+        _ => keep_any(marks, ids, matching),
+    }
+}
+
+// Leaves the marks of the rows of one id.
+fn keep_only(marks: &mut [bool], ids: &[u32], only: u32)
+    requires { length marks.old ≡ length ids.now }
+    ensures { Keeps (λ at. nat_eq (get_or ids.now at 0) only) marks.old marks.new }
+{
+    for at in 0..marks.len() {
+        marks[at] = is_kept(marks[at], ids[at] == only);
+    }
+}
+
+// Leaves the marks of the rows whose id has its bit in the mask of a set.
+fn keep_any(marks: &mut [bool], ids: &[u32], matching: &IdSet)
     requires { length marks.old ≡ length ids.now }
     ensures { Keeps (λ at. has_id matching.now (get_or ids.now at 0)) marks.old marks.new }
 {

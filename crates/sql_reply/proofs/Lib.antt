@@ -1,3 +1,4 @@
+pub mod AskedLemmas
 mod FindingLemmas
 pub mod GroupLemmas
 mod ParsedLemmas

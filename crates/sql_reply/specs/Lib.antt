@@ -1,3 +1,4 @@
+pub mod Asked
 pub mod Laws
 pub mod Parts
 pub mod Reply

@@ -8,5 +8,5 @@ mod reply;
 
 pub use bound::bound_query;
 pub use fault::SqlFault;
-pub use laws::reply_law;
+pub use laws::{reply_law, unasked_law};
 pub use reply::{MOST_GROUPS, answer};

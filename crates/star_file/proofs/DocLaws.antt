@@ -25,7 +25,7 @@ front a b ks ls e = cc
 rest : (a b : AggKind) (ks ls : List AggKind) → a ∷ ks ≡ b ∷ ls → ks ≡ ls
 rest a b ks ls e = cc
 
-length_states : (vs : List AggState) (ks : List AggKind) → kinds_of vs ≡ ks → RowStored vs
+pub length_states : (vs : List AggState) (ks : List AggKind) → kinds_of vs ≡ ks → RowStored vs
     → length (state_bytes vs) ≡ widths ks
 length_states [] [] h s = refl
 length_states [] (k ∷ ks) h s = cc

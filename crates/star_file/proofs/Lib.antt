@@ -4,3 +4,5 @@ pub mod SectionLemmas
 pub mod DocSteps
 pub mod RangeSteps
 pub mod DocLaws
+pub mod TreeDocs
+pub mod TreeLaws

@@ -1,6 +1,6 @@
 -- Nodes are read back from their bytes.
 use Rattle.std.proofs.Common.{◌≡◌, ℕ, ◌+◌, ◌-◌, ◌*◌, ◌/◌, ◌^◌, ◌<◌, List, [], ◌∷◌, ◌++◌}
-use Rattle.std.proofs.Common.{length, take, refl, sym, ap, subst, ◌∙◌, arith}
+use Rattle.std.proofs.Common.{length, take, drop, refl, sym, ap, subst, ◌∙◌, arith}
 use Rattle.std.specs.Int.{w32, to_be_bytes, from_be_bytes}
 use Rattle.std.proofs.lemmas.Nat.{from_be_bytes-to_be_bytes_4}
 use Rattle.agg_laws.specs.declared.node.Node.{Node}
@@ -35,16 +35,23 @@ length_nodes (n ∷ ns) = let l = length_nodes ns in omega (arith, l)
 counted : (m : ℕ) → (4 + 28 * m - 4) / 28 ≡ m
 counted m = omega arith
 
+pub section_count : (documents : ℕ) (ns : List Node) → length (nodes_section documents ns) ≡ 4 + 28 * length ns
+section_count documents ns = let l = length_nodes ns in omega (arith, l)
+
+nodes_count : (documents : ℕ) (ns : List Node) → count_in (nodes_section documents ns) ≡ length ns
+nodes_count documents ns = ap (λ m. (m - 4) / 28) (section_count documents ns) ∙ counted (length ns)
+
+-- the nodes of a section are read back
+pub section_nodes : (documents : ℕ) (ns : List Node) → AreWords ns → nodes_in (count_in (nodes_section documents ns)) (drop 4 (nodes_section documents ns)) ≡ ns
+section_nodes documents ns small = ap (λ m. nodes_in m (node_bytes ns)) (nodes_count documents ns) ∙ nodes_back ns small
+
 pub section_back : (shape : TreeShape) (counts : List ℕ) (documents : ℕ) (ns : List Node)
     → documents < 2 ^ 32 → AreWords ns → KeepAll shape counts documents ns
     → KeepsSection shape counts (nodes_section documents ns)
 section_back shape counts documents ns lt small keeps =
-    let l = length_nodes ns in
-    let whole : length (nodes_section documents ns) ≡ 4 + 28 * length ns = omega (arith, l) in
-    let count : count_in (nodes_section documents ns) ≡ length ns =
-    ap (λ m. (m - 4) / 28) whole ∙ counted (length ns) in
+    let count = nodes_count documents ns in
     record {
-      long = whole ∙ ap (λ m. 4 + 28 * m) (sym count);
+      long = section_count documents ns ∙ ap (λ m. 4 + 28 * m) (sym count);
       keeps = subst (λ m. KeepAll shape counts (number_at 0 (nodes_section documents ns))
           (nodes_in m (node_bytes ns))) (sym count)
           (subst (λ (l : List Node). KeepAll shape counts (number_at 0 (nodes_section documents ns)) l)

@@ -12,8 +12,6 @@ ghost use Rattle.star_file.specs.Bytes.{doc_bytes, nodes_section};
 ghost use Rattle.star_file.specs.Reading.{DocsHaveIds, HasDocuments, SpellDocs};
 ghost use Rattle.star_file.specs.Rules.{widths, most_bytes, AreWords, KeepAll, KeepsSection};
 
-use agg_laws::node_rules_law;
-
 /// The nodes of the flat tree keep all rules, where the tree takes no more bytes than one may; and
 /// the section of nodes that keep all rules is read as such.
 pub fn nodes_law()
@@ -27,9 +25,7 @@ pub fn nodes_law()
     ensures sections { (shape : TreeShape) (counts : List ℕ) (documents : ℕ) (ns : List Node)
         → documents < 2 ^ 32 → AreWords ns → KeepAll shape counts documents ns
         → KeepsSection shape counts (nodes_section documents ns) }
-{
-    node_rules_law();
-}
+{}
 
 /// The documents that are written are those that their section has, from any number to any other;
 /// and bytes spell no others.

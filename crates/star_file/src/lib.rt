@@ -16,6 +16,7 @@ mod writing;
 
 pub use agg_laws::Node;
 pub use checking::{NodesFault, check_nodes};
+pub use doc_reading::width_of;
 pub use docs_fault::DocsFault;
 pub use laws::{docs_law, nodes_law};
 pub use node_list::Nodes;

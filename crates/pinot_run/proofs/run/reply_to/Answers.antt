@@ -23,7 +23,7 @@ returns-in-Some-Build g c =
     subst (λ command. Ran command (devices g.I.Shelf g.D.Shelf c.args.inputs.now c.args.depot.now) (devices g.I.Shelf g.D.Shelf c.build.new.inputs c.build.new.depot) c.build.result)
     (ap (λ command. Some (command_view command)) (sym c.in-Some-Build.field-0-is) ∙ c.in-Some-Build.ensures.spelled) c.build.ensures
 
-pub returns-in-Some-Query : goal.returns-in-Some-Query
-returns-in-Some-Query g c =
-    subst (λ command. Ran command (devices g.I.Shelf g.D.Shelf c.args.inputs.now c.args.depot.now) (devices g.I.Shelf g.D.Shelf c.args.inputs.now c.query.new.depot) c.query.result)
-    (ap (λ command. Some (command_view command)) (sym c.in-Some-Query.field-0-is) ∙ c.in-Some-Query.ensures.spelled) (c.query.ensures (seen g.I.Shelf c.args.inputs.now))
+pub returns-in-Some-Ask : goal.returns-in-Some-Ask
+returns-in-Some-Ask g c =
+    subst (λ command. Ran command (devices g.I.Shelf g.D.Shelf c.args.inputs.now c.args.depot.now) (devices g.I.Shelf g.D.Shelf c.args.inputs.now c.ask.new.depot) c.ask.result)
+    (ap (λ command. Some (command_view command)) (sym c.in-Some-Ask.field-0-is) ∙ c.in-Some-Ask.ensures.spelled) (c.ask.ensures (seen g.I.Shelf c.args.inputs.now))

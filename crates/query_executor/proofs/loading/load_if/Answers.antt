@@ -9,8 +9,8 @@ returns-in-Ok-clause-grows g c =
     grows_one c.args.table.now (g.S.Shelf.held c.args.shelf.now) c.args.column c.args.head.now c.load_dictionary.new.self c.in-Ok.ensures.of c.in-Ok.ensures.loads c.in-Ok.ensures.part
 
 pub returns-in-Ok-clause-log : goal.returns-in-Ok-clause-log
-returns-in-Ok-clause-log g c = λ file within.
-    dictionary_log c.args.table.now c.args.head.now c.args.column file (g.S.Shelf.log c.args.shelf.now) (g.S.Shelf.log c.load_dictionary.new.shelf) c.requires.of_table c.requires.column within c.in-Ok.ensures.log
+returns-in-Ok-clause-log g c = λ file end within ends.
+    dictionary_log c.args.table.now c.args.head.now c.args.column file end (g.S.Shelf.log c.args.shelf.now) (g.S.Shelf.log c.load_dictionary.new.shelf) c.requires.of_table c.requires.column within ends c.in-Ok.ensures.log
 
 pub returns-in-Err-clause-bad : goal.returns-in-Err-clause-bad
 returns-in-Err-clause-bad g c = λ part is name in_file.
@@ -18,5 +18,5 @@ returns-in-Err-clause-bad g c = λ part is name in_file.
     unread_none c.args.table.now (g.S.Shelf.held c.args.shelf.now) c.args.head.now (c.in-Err.ensures.refused part (bad_head c.in-Err.fault part (sym c.engine_fault.ensures ∙ own))) name in_file
 
 pub returns-in-Err-clause-log : goal.returns-in-Err-clause-log
-returns-in-Err-clause-log g c = λ file within.
-    dictionary_log c.args.table.now c.args.head.now c.args.column file (g.S.Shelf.log c.args.shelf.now) (g.S.Shelf.log c.load_dictionary.new.shelf) c.requires.of_table c.requires.column within c.in-Err.ensures.log
+returns-in-Err-clause-log g c = λ file end within ends.
+    dictionary_log c.args.table.now c.args.head.now c.args.column file end (g.S.Shelf.log c.args.shelf.now) (g.S.Shelf.log c.load_dictionary.new.shelf) c.requires.of_table c.requires.column within ends c.in-Err.ensures.log

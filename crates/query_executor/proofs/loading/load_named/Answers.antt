@@ -1,59 +1,16 @@
-use Rattle.std.proofs.Common.{◌≡◌, ◌∙◌, ◌<◌, false, IfSome, length, get_or, sym, subst, arith}
-use Rattle.std.proofs.lemmas.List.{get_or_read}
-use Rattle.outside.specs.Seen.{Seen, seen}
-use Rattle.segment_file.specs.Heads.{AreIn}
-use Rattle.segment_scan.specs.Named.{query_names}
-use Rattle.query_executor.specs.Segments.{HasNoImage}
-use Rattle.query_executor.specs.Steps.{Grows, IsHeadIn}
-use Rattle.query_executor.proofs.HeadLemmas.{grows_none, grows_then, loaded_more}
-use Rattle.query_executor.proofs.LogLemmas.{logs_none, logs_then, reads_as, reads_none, reads_then}
+use Rattle.std.proofs.Common.{◌≡◌, ◌∙◌, ◌<◌, ℕ, true, false, length, get_or, ap, arith}
+use Rattle.segment_file.specs.Heads.{IsLoaded}
+use Rattle.segment_scan.specs.Images.{AreNamedLoaded}
 use Rattle.query_executor.proofs.NamedLemmas.{named_within}
+use Rattle.query_executor.proofs.SegmentLemmas.{ok_so}
 use Rattle.query_executor.proofs.loading.load_named.Goals as goal
 
-pub columns-init : goal.columns-init
-columns-init g c = record {
-  grows = grows_none c.args.table.now (g.S.Shelf.held c.args.shelf.now) c.args.head.now c.requires.of_table;
-  loaded = λ k lt. absurd (omega (arith, lt));
-  reads = reads_none (seen g.S.Shelf c.args.shelf.now);
-  log = λ file within. logs_none (λ other. other ≡ file) (g.S.Shelf.log c.args.shelf.now);
-}
-
-pub columns-preserved : goal.columns-preserved
-columns-preserved g c =
-    let a : Seen = seen g.S.Shelf c.args.shelf.now in
-    let b : Seen = seen g.S.Shelf c.columns.shelf in
-    let d : Seen = seen g.S.Shelf c.load_if.new.shelf in
+pub returns-clause-loaded : goal.returns-clause-loaded
+returns-clause-loaded g c =
     let table = c.args.table.now in
     let query = c.args.query.now in
-    let lt : c.columns.column < length table.schema.fields = omega arith in
-    let read : c.index.result.now ≡ get_or c.in_ok-named.named.items c.columns.column false = get_or_read c.in_ok-named.named.items _ _ (omega (arith, lt, c.in_ok-named.ensures.count, c.len.ensures)) c.index.ensures false in
-    let grown : Grows table a.held c.columns.head c.load_if.new.head = subst (λ held. Grows table held c.columns.head c.load_if.new.head) c.columns.invariant.reads.held c.in-Ok.ensures.grows in
-    record {
-      grows = grows_then table a.held c.args.head.now c.columns.head c.load_if.new.head c.columns.invariant.grows grown;
-      loaded = loaded_more (query_names query) c.columns.head c.load_if.new.head c.columns.column grown.loaded c.columns.invariant.loaded (λ named. c.in-Ok.ensures.loaded (read ∙ c.in_ok-named.ensures.each c.columns.column (omega (arith, lt, c.len.ensures)) ∙ named));
-      reads = reads_then a b d c.columns.invariant.reads (reads_as b d c.in-Ok.ensures.only_reads (λ e. absurd e) (λ e. absurd cc));
-      log = λ file within. logs_then (λ other. other ≡ file) a.log b.log d.log (c.columns.invariant.log file within) (c.in-Ok.ensures.log file (subst (AreIn file) (sym c.columns.invariant.grows.sections_same) within));
-    }
-
-pub returns-in-Err-clause-bad : goal.returns-in-Err-clause-bad
-returns-in-Err-clause-bad g c = λ part is name in_file.
-    let table = c.args.table.now in
-    subst (λ held. IfSome held (λ files. HasNoImage table files name)) c.columns.invariant.reads.held
-    (c.in-Err.ensures.bad part is name (subst (λ held. IsHeadIn table held name c.columns.head) (sym c.columns.invariant.reads.held) (c.columns.invariant.grows.image name in_file)))
-
-pub returns-in-Err-clause-only_reads : goal.returns-in-Err-clause-only_reads
-returns-in-Err-clause-only_reads g c =
-    reads_then (seen g.S.Shelf c.args.shelf.now) (seen g.S.Shelf c.columns.shelf) (seen g.S.Shelf c.load_if.new.shelf) c.columns.invariant.reads c.in-Err.ensures.only_reads
-
-pub returns-in-Err-clause-log : goal.returns-in-Err-clause-log
-returns-in-Err-clause-log g c = λ file within.
-    logs_then (λ other. other ≡ file) (g.S.Shelf.log c.args.shelf.now) (g.S.Shelf.log c.columns.shelf) (g.S.Shelf.log c.load_if.new.shelf) (c.columns.invariant.log file within)
-    (c.in-Err.ensures.log file (subst (AreIn file) (sym c.columns.invariant.grows.sections_same) within))
-
-pub returns-clause-loaded : goal.returns-clause-loaded
-returns-clause-loaded g c = λ column named.
-    let lt = named_within c.args.table.now c.args.query.now column c.requires.query named in
-    c.columns.invariant.loaded column (omega (arith, lt)) named
-
-pub returns-clause-only_reads : goal.returns-clause-only_reads
-returns-clause-only_reads g c = reads_as (seen g.S.Shelf c.args.shelf.now) (seen g.S.Shelf c.columns.shelf) c.columns.invariant.reads (λ e. absurd cc) (λ e. absurd e)
+    ok_so c.load_marked.result ((column : ℕ) → column < length table.schema.fields → get_or c.as_slice.result.now column false ≡ true → IsLoaded c.load_marked.new.head column) (AreNamedLoaded query c.load_marked.new.head)
+    (λ loaded column is.
+    let lt = named_within table query column c.requires.query is in
+    loaded column lt (ap (λ l. get_or l column false) c.as_slice.ensures.value ∙ c.in_ok-named.ensures.each column (omega (arith, lt, c.len.ensures)) ∙ is))
+    c.load_marked.ensures.loaded

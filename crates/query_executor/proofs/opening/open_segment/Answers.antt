@@ -1,13 +1,12 @@
 use Rattle.std.proofs.Common.{◌≡◌, ◌∙◌, Err, sym, ap, subst}
 use Rattle.outside.specs.Seen.{seen}
 use Rattle.segment_file.specs.Heads.{AreIn}
-use Rattle.segment_file.specs.Names.{file_of}
 use Rattle.segment_file.specs.declared.fault.HeadFault.TheVariants as head
 use Rattle.segment_scan.specs.declared.fault.EngineFault.TheVariants as engine
 use Rattle.query_executor.specs.Steps.{fault_of}
 use Rattle.query_executor.proofs.FaultLemmas.{bad_head, never_full, read_head}
 use Rattle.query_executor.proofs.HeadLemmas.{broken_none, opened_image}
-use Rattle.query_executor.proofs.LogLemmas.{opened_log, reads_as}
+use Rattle.query_executor.proofs.LogLemmas.{opened_ends, opened_log, reads_as}
 use Rattle.query_executor.proofs.opening.open_segment.Goals as goal
 
 pub returns-in-Ok-clause-placed : goal.returns-in-Ok-clause-placed
@@ -17,12 +16,15 @@ pub returns-in-Ok-clause-image : goal.returns-in-Ok-clause-image
 returns-in-Ok-clause-image g c =
     opened_image c.image_keeps_law.ensures c.args.table.now c.requires.valid c.args.name.now c.requires.name (g.S.Shelf.held c.args.shelf.now) c.as_str.result.now c.in-Ok.head (c.as_str.ensures.value ∙ c.in_ok-file.ensures) c.in-Ok.ensures.part
 
+pub returns-in-Ok-clause-ends : goal.returns-in-Ok-clause-ends
+returns-in-Ok-clause-ends g c = opened_ends c.args.table.now c.args.name.now c.as_str.result.now (g.S.Shelf.held c.args.shelf.now) c.in-Ok.head (c.as_str.ensures.value ∙ c.in_ok-file.ensures) c.in-Ok.ensures.opened
+
 pub returns-in-Ok-clause-only_reads : goal.returns-in-Ok-clause-only_reads
 returns-in-Ok-clause-only_reads g c = reads_as (seen g.S.Shelf c.args.shelf.now) (seen g.S.Shelf c.open_head.new.shelf) c.in-Ok.ensures.only_reads (λ e. absurd cc) (λ e. absurd cc)
 
 pub returns-in-Ok-clause-log : goal.returns-in-Ok-clause-log
 returns-in-Ok-clause-log g c =
-    opened_log c.args.table.now c.args.name.now c.as_str.result.now (file_of c.args.name.now) (g.S.Shelf.held c.args.shelf.now) (g.S.Shelf.log c.args.shelf.now) (g.S.Shelf.log c.open_head.new.shelf) (c.as_str.ensures.value ∙ c.in_ok-file.ensures) c.in-Ok.ensures.log
+    opened_log c.args.table.now c.args.name.now c.as_str.result.now (g.S.Shelf.held c.args.shelf.now) (g.S.Shelf.log c.args.shelf.now) (g.S.Shelf.log c.open_head.new.shelf) (c.as_str.ensures.value ∙ c.in_ok-file.ensures) c.in-Ok.ensures.log
 
 pub returns-clause-bad : goal.returns-clause-bad
 returns-clause-bad g c = λ part is.
@@ -41,4 +43,4 @@ returns-clause-only_reads g c =
 
 pub returns-clause-log : goal.returns-clause-log
 returns-clause-log g c =
-    opened_log c.args.table.now c.args.name.now c.as_str.result.now (file_of c.args.name.now) (g.S.Shelf.held c.args.shelf.now) (g.S.Shelf.log c.args.shelf.now) (g.S.Shelf.log c.open_head.new.shelf) (c.as_str.ensures.value ∙ c.in_ok-file.ensures) c.in-Err.ensures.log
+    opened_log c.args.table.now c.args.name.now c.as_str.result.now (g.S.Shelf.held c.args.shelf.now) (g.S.Shelf.log c.args.shelf.now) (g.S.Shelf.log c.open_head.new.shelf) (c.as_str.ensures.value ∙ c.in_ok-file.ensures) c.in-Err.ensures.log

@@ -1,4 +1,6 @@
-use Rattle.std.proofs.Common.{◌≡◌, ◌∙◌, Err, refl, sym, ap}
+use Rattle.std.proofs.Common.{◌≡◌, ◌∙◌, Err, inr, refl, sym, ap}
+use Rattle.segment_plan.specs.declared.plans.SegmentPlan.TheVariants.{Empty, Pruned, Scan}
+use Rattle.query_executor.proofs.DoneLemmas.{done_so, none_looked, scan_looked}
 use Rattle.segment_scan.specs.declared.fault.EngineFault.TheVariants as engine
 use Rattle.query_executor.proofs.NamedLemmas.{conjuncts_loaded}
 use Rattle.query_executor.proofs.PlanLemmas.{is_empty_so, is_pruned_so, scan_planned}
@@ -24,16 +26,16 @@ returns-in-Ok-clause-log g c = λ file within.
     scan_in_file c.args.query.now c.args.table.now c.args.head.now file within (g.S.Shelf.held c.args.shelf.now) c.requires.of_table c.requires.loaded
     _ (g.S.Shelf.log c.args.shelf.now) (g.S.Shelf.log c.scan_segment.new.shelf) c.in-Ok.ensures.log
 
-pub returns-in-Scan-clause-full : goal.returns-in-Scan-clause-full
-returns-in-Scan-clause-full g c = λ full name is.
+pub returns-in-Err-clause-full : goal.returns-in-Err-clause-full
+returns-in-Err-clause-full g c = λ full name is.
     overfull_scanned c.args.query.now c.args.table.now name c.args.head.now (g.S.Shelf.held c.args.shelf.now) c.args.groups.now (let own : c.in-Err.fault ≡ engine.TooManyGroups = cc in c.in-Err.ensures.full (ap Err own)) is
 
-pub returns-in-Scan-clause-bad : goal.returns-in-Scan-clause-bad
-returns-in-Scan-clause-bad g c = λ part bad name is.
+pub returns-in-Err-clause-bad : goal.returns-in-Err-clause-bad
+returns-in-Err-clause-bad g c = λ part bad name is.
     bad_scanned c.args.query.now c.args.table.now name c.args.head.now (g.S.Shelf.held c.args.shelf.now) part (let own : c.in-Err.fault ≡ engine.NotASegment part = cc in c.in-Err.ensures.bad part (ap Err own)) is
 
-pub returns-in-Scan-clause-log : goal.returns-in-Scan-clause-log
-returns-in-Scan-clause-log g c = λ file within.
+pub returns-in-Err-clause-log : goal.returns-in-Err-clause-log
+returns-in-Err-clause-log g c = λ file within.
     scan_partly c.args.query.now c.args.table.now c.args.head.now file within (g.S.Shelf.held c.args.shelf.now) c.requires.of_table c.requires.loaded
     (g.S.Shelf.log c.args.shelf.now) (g.S.Shelf.log c.scan_segment.new.shelf) c.in-Err.ensures.log_of_fault
 
@@ -52,3 +54,33 @@ returns-in-Empty-clause-ok g c = λ name is.
     let head = c.args.head.now in
     adds_none query table name head c.head_tells_law.ensures c.requires.valid (g.S.Shelf.held c.args.shelf.now) c.args.groups.now c.requires.of_query
     (λ rows tells. c.empty_law.ensures query.conjuncts table rows head tells (conjuncts_loaded query head c.requires.loaded) (is_empty_so query table head (sym c.in-Empty.is ∙ c.in_ok-plan.ensures))) is
+
+pub returns-in-Ok-clause-done : goal.returns-in-Ok-clause-done
+returns-in-Ok-clause-done g c = λ name is.
+    let query = c.args.query.now in
+    let table = c.args.table.now in
+    let head = c.args.head.now in
+    let held = g.S.Shelf.held c.args.shelf.now in
+    let plan_is = sym c.in-Scan.is ∙ c.in_ok-plan.ensures in
+    done_so query table c.head_tells_law.ensures c.plan_over_law.ensures c.requires.valid c.requires.query held name head (Scan c.in-Scan.plan) c.in-Ok.docs plan_is (inr (conjuncts_loaded query head c.requires.loaded))
+    (scan_looked query table held head c.in-Scan.plan c.in-Ok.docs (scan_planned query table head c.in-Scan.plan c.requires.bare plan_is) c.in-Ok.ensures.count) is
+
+pub returns-in-Pruned-clause-done : goal.returns-in-Pruned-clause-done
+returns-in-Pruned-clause-done g c = λ name is.
+    let query = c.args.query.now in
+    let table = c.args.table.now in
+    let head = c.args.head.now in
+    let held = g.S.Shelf.held c.args.shelf.now in
+    done_so query table c.head_tells_law.ensures c.plan_over_law.ensures c.requires.valid c.requires.query held name head c.nothing.result.plan c.nothing.result.docs
+    (c.nothing.ensures.plan ∙ sym c.in-Pruned.is ∙ c.in_ok-plan.ensures) (inr (conjuncts_loaded query head c.requires.loaded))
+    (none_looked query table held head c.nothing.result.plan Pruned c.nothing.result.docs c.nothing.ensures.plan (λ rows. refl) c.nothing.ensures.none) is
+
+pub returns-in-Empty-clause-done : goal.returns-in-Empty-clause-done
+returns-in-Empty-clause-done g c = λ name is.
+    let query = c.args.query.now in
+    let table = c.args.table.now in
+    let head = c.args.head.now in
+    let held = g.S.Shelf.held c.args.shelf.now in
+    done_so query table c.head_tells_law.ensures c.plan_over_law.ensures c.requires.valid c.requires.query held name head c.nothing-in-Empty.result.plan c.nothing-in-Empty.result.docs
+    (c.nothing-in-Empty.ensures.plan ∙ sym c.in-Empty.is ∙ c.in_ok-plan.ensures) (inr (conjuncts_loaded query head c.requires.loaded))
+    (none_looked query table held head c.nothing-in-Empty.result.plan Empty c.nothing-in-Empty.result.docs c.nothing-in-Empty.ensures.plan (λ rows. refl) c.nothing-in-Empty.ensures.none) is

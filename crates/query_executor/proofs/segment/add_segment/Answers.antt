@@ -1,14 +1,24 @@
-use Rattle.std.proofs.Common.{◌≡◌, ◌∙◌, ℕ, List, Err, IfSome, sym, ap, subst}
+use Rattle.std.proofs.Common.{◌≡◌, ◌∙◌, ℕ, List, Err, IfOk, IfSome, inl, refl, sym, ap, subst}
 use Rattle.std.specs.Prelude.{OnOk}
 use Rattle.segment_file.specs.Heads.{AreIn}
 use Rattle.segment_file.specs.Names.{file_of}
 use Rattle.segment_scan.specs.declared.fault.EngineFault.TheVariants as engine
 use Rattle.query_executor.specs.Segments.{HasNoImage}
-use Rattle.query_executor.specs.Steps.{AddsStored, IsHeadIn, IsStoredOverfull}
+use Rattle.query_executor.specs.Steps.{AddsStored, IsDoneIn, IsHeadIn, IsStoredOverfull}
+use Rattle.segment_plan.specs.declared.plans.SegmentPlan.TheVariants.{Pruned}
+use Rattle.query_executor.proofs.DoneLemmas.{done_so, none_looked}
+use Rattle.query_executor.proofs.PlanLemmas.{pruned_planned}
+use Rattle.query_executor.proofs.ReplyLemmas.{found_so}
 use Rattle.query_executor.proofs.HeadLemmas.{image_later}
-use Rattle.query_executor.proofs.LogLemmas.{logs_then}
+use Rattle.query_executor.proofs.LogLemmas.{head_in, loaded_in, logs_then}
 use Rattle.query_executor.proofs.SegmentLemmas.{adds_none, ok_so}
 use Rattle.query_executor.proofs.segment.add_segment.Goals as goal
+
+pub returns-in-Err-clause-log : goal.returns-in-Err-clause-log
+returns-in-Err-clause-log g c = head_in c.args.table.now c.args.name.now (g.S.Shelf.held c.args.shelf.now) (g.S.Shelf.log c.args.shelf.now) (g.S.Shelf.log c.open_segment.new.shelf) c.in-Err.ensures.log
+
+pub returns-then-prune-clause-log : goal.returns-then-prune-clause-log
+returns-then-prune-clause-log g c = head_in c.args.table.now c.args.name.now (g.S.Shelf.held c.args.shelf.now) (g.S.Shelf.log c.args.shelf.now) (g.S.Shelf.log c.open_segment.new.shelf) c.in-Ok.ensures.log
 
 pub returns-then-prune-clause-ok : goal.returns-then-prune-clause-ok
 returns-then-prune-clause-ok g c =
@@ -17,6 +27,16 @@ returns-then-prune-clause-ok g c =
     let head = c.in-Ok.head in
     adds_none query table c.args.name.now head c.head_tells_law.ensures c.requires.valid (g.S.Shelf.held c.args.shelf.now) c.args.groups.now c.requires.of_query
     (λ rows tells. c.pruned_law.ensures query table rows head tells (sym c.prune.ensures ∙ c.if-prune.true)) c.in-Ok.ensures.image
+
+pub returns-then-prune-clause-done : goal.returns-then-prune-clause-done
+returns-then-prune-clause-done g c =
+    let query = c.args.query.now in
+    let table = c.args.table.now in
+    let head = c.in-Ok.head in
+    let held = g.S.Shelf.held c.args.shelf.now in
+    let is = sym c.prune.ensures ∙ c.if-prune.true in
+    done_so query table c.head_tells_law.ensures c.plan_over_law.ensures c.requires.valid c.requires.query held c.args.name.now head c.nothing.result.plan c.nothing.result.docs
+    (c.nothing.ensures.plan ∙ pruned_planned query table head is) (inl is) (none_looked query table held head c.nothing.result.plan Pruned c.nothing.result.docs c.nothing.ensures.plan (λ rows. refl) c.nothing.ensures.none) c.in-Ok.ensures.image
 
 pub returns-in-Err-load_named-clause-bad : goal.returns-in-Err-load_named-clause-bad
 returns-in-Err-load_named-clause-bad g c = λ part is.
@@ -30,8 +50,11 @@ returns-in-Err-load_named-clause-bad g c = λ part is.
 pub returns-in-Err-load_named-clause-log : goal.returns-in-Err-load_named-clause-log
 returns-in-Err-load_named-clause-log g c =
     let file = file_of c.args.name.now in
-    logs_then (λ other. other ≡ file) (g.S.Shelf.log c.args.shelf.now) (g.S.Shelf.log c.open_segment.new.shelf) (g.S.Shelf.log c.load_named.new.shelf) c.in-Ok.ensures.log
-    (c.in-Err-load_named.ensures.log file c.in-Ok.ensures.placed)
+    let a = g.S.Shelf.log c.args.shelf.now in
+    let b = g.S.Shelf.log c.open_segment.new.shelf in
+    let d = g.S.Shelf.log c.load_named.new.shelf in
+    logs_then (λ other. other ≡ file) a b d (head_in c.args.table.now c.args.name.now (g.S.Shelf.held c.args.shelf.now) a b c.in-Ok.ensures.log)
+    (loaded_in c.args.table.now c.args.name.now c.in-Ok.head b d c.in-Ok.ensures.of c.in-Ok.ensures.placed c.in-Err-load_named.ensures.log)
 
 pub returns-clause-bad : goal.returns-clause-bad
 returns-clause-bad g c = λ part is.
@@ -49,7 +72,8 @@ returns-clause-log g c =
     let b = g.S.Shelf.log c.open_segment.new.shelf in
     let d = g.S.Shelf.log c.load_named.new.shelf in
     logs_then (λ other. other ≡ file) a d (g.S.Shelf.log c.add_planned.new.shelf)
-    (logs_then (λ other. other ≡ file) a b d c.in-Ok.ensures.log (c.in-Ok-load_named.ensures.log file c.in-Ok.ensures.placed))
+    (logs_then (λ other. other ≡ file) a b d (head_in c.args.table.now c.args.name.now (g.S.Shelf.held c.args.shelf.now) a b c.in-Ok.ensures.log)
+    (loaded_in c.args.table.now c.args.name.now c.in-Ok.head b d c.in-Ok.ensures.of c.in-Ok.ensures.placed c.in-Ok-load_named.ensures.log))
     (c.add_planned.ensures.log file (subst (AreIn file) (sym c.in-Ok-load_named.ensures.grows.sections_same) c.in-Ok.ensures.placed))
 
 pub returns-clause-full : goal.returns-clause-full
@@ -73,3 +97,16 @@ returns-clause-ok g c =
     (λ adds. adds name
     (image_later table name (g.S.Shelf.held c.args.shelf.now) (g.S.Shelf.held c.open_segment.new.shelf) held c.in-Ok.head c.load_named.new.head c.in-Ok.ensures.only_reads.held c.in-Ok-load_named.ensures.only_reads.held c.in-Ok-load_named.ensures.grows c.in-Ok.ensures.image))
     c.add_planned.ensures.ok)
+
+pub returns-clause-done : goal.returns-clause-done
+returns-clause-done g c =
+    let query = c.args.query.now in
+    let table = c.args.table.now in
+    let name = c.args.name.now in
+    let held = g.S.Shelf.held c.load_named.new.shelf in
+    let same = c.in-Ok-load_named.ensures.only_reads.held ∙ c.in-Ok.ensures.only_reads.held in
+    subst (λ h. IfOk c.add_planned.result (λ done. IsDoneIn query table h name done.plan done.docs)) same
+    (found_so c.add_planned.result (λ done. (name : List ℕ) → IsHeadIn table held name c.load_named.new.head → IsDoneIn query table held name done.plan done.docs) (λ done. IsDoneIn query table held name done.plan done.docs)
+    (λ done is. is name
+    (image_later table name (g.S.Shelf.held c.args.shelf.now) (g.S.Shelf.held c.open_segment.new.shelf) held c.in-Ok.head c.load_named.new.head c.in-Ok.ensures.only_reads.held c.in-Ok-load_named.ensures.only_reads.held c.in-Ok-load_named.ensures.grows c.in-Ok.ensures.image))
+    c.add_planned.ensures.done)

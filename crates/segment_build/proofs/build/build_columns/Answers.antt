@@ -9,7 +9,7 @@ overflow_cast-rows c =
 
 pub file_of-requires-clause-short : goal.file_of-requires-clause-short
 file_of-requires-clause-short c =
-    built_short c.args.table.now c.args.name.now c.args.columns.now c.len-rows.result c.deref.result.now c.requires.valid c.requires.name
+    built_short c.args.table.now c.args.name.now c.args.columns.now c.len-rows.result c.deref.result.now c.requires.valid c.requires.built c.requires.name
     (record { width = c.requires.width; counts = c.len-rows.ensures.each; rows = c.requires.rows }) c.len-rows.ensures.count
     (c.deref.ensures.value ∙ c.in_ok-sections.ensures)
 

@@ -9,6 +9,7 @@ use Rattle.segment_file.specs.Ordered.{ordered}
 use Rattle.segment_build.specs.Fitting.{FitsKind}
 use Rattle.segment_build.specs.Sections.{in_order, made_of, with_column}
 use Rattle.segment_build.proofs.Built.{IsCoded, coded_below, coded_few, coded_is, coded_more, coded_up, places_within}
+use Rattle.segment_build.proofs.Bares.{none_built}
 use Rattle.segment_build.proofs.ColumnLemmas.{if_ok_items, made_all, made_none}
 use Rattle.segment_build.proofs.Fits.{columns_fit}
 use Rattle.segment_build.proofs.build.sections_in.Goals as goal
@@ -105,4 +106,4 @@ returns c =
     let table = c.args.table.now in
     let os = ordered table.settings.sorted (rows_of c.args.columns.now) in
     let end : c.columns.at ≡ length table.schema.fields = omega (arith, c.columns-test.false, c.columns.auto.at-end, ap length c.as_slice-fields.ensures) in
-    if_ok_items c.into_list.result _ _ (ap in_order c.columns.invariant ∙ ap (λ n. in_order (made_of table os n)) end ∙ made_all table os c.requires.valid) c.into_list.ensures
+    if_ok_items c.into_list.result _ _ (ap in_order c.columns.invariant ∙ ap (λ n. in_order (made_of table os n)) end ∙ made_all table os c.requires.valid (none_built table c.requires.built)) c.into_list.ensures

@@ -1,17 +1,24 @@
-use Rattle.std.proofs.Common.{◌≡◌, ◌≢◌, ◌∙◌, ◌+◌, Bool, true, false, All, Some, [], length, map, get_or, drop, ap, sym, subst, arith}
+use Rattle.std.proofs.Common.{◌≡◌, ◌≢◌, ◌∙◌, ◌+◌, ℕ, Bool, true, false, All, List, Some, [], length, map, get_or, drop, ap, sym, subst, arith}
 use Rattle.std.proofs.lemmas.Bool.{false≢true}
 use Rattle.std.proofs.lemmas.List.{length-map}
 use Rattle.std.specs.Bool.{MatchBool}
 use Rattle.segment_file.specs.declared.part.Part.TheVariants as parts
+use Rattle.segment_file.specs.declared.section.Section.{Section}
 use Rattle.segment_file.specs.Bounds.{bounds_bytes, bounds_of}
 use Rattle.segment_file.specs.Front.{extents_of}
-use Rattle.segment_file.specs.Heads.{placed}
-use Rattle.segment_file.specs.Reading.{FitsSize, SizeFails, heads_of}
-use Rattle.segment_file.specs.Rules.{FailsAt, raw_extents}
+use Rattle.segment_file.specs.Heads.{placed, trees_said}
+use Rattle.segment_file.specs.Parts.{columns_of}
+use Rattle.segment_file.specs.Reading.{AreRead, FitsSize, NodesStop, SizeFails, heads_read}
+use Rattle.segment_file.specs.Rules.{AreSpelled, FailsAt, HaveNodes, raw_extents}
 use Rattle.segment_file.proofs.Counts.{few_sections}
 use Rattle.segment_file.proofs.HeadLemmas.{heads_at}
-use Rattle.segment_file.proofs.Composed.{all_hold, bounds_fail, dictionary_fails, made_count, made_is, owners_below, raw_made, size_fails, spelled_length}
+use Rattle.segment_file.proofs.Composed.{all_hold, bounds_fail, dictionary_fails, made_count, made_is, nodes_fail, parts_made, raw_made, size_fails, spelled_length, trees_told}
+use Rattle.segment_file.proofs.TreeChecks.{said_count}
 use Rattle.segment_file.proofs.check.check_head.Goals as goal
+
+-- what holds of rows and sections holds of their equals
+along : (P : ℕ → List Section → Type 0) (r q : ℕ) (s t : List Section) → r ≡ q → s ≡ t → P r s → P q t
+along P r q s t er es p = subst (P q) es (subst (λ x. P x s) er p)
 
 agrees : (answer : Bool) (P : Type 0) → MatchBool answer P (P → ⊥) → answer ≡ true → P
 agrees true P h e = h
@@ -32,7 +39,7 @@ check_dictionaries-requires-clause-each c =
     let front = c.args.front.now in
     let made : c.deref.result.now ≡ map (placed file) (extents_of table name front) =
     made_is table name file front c.args.parts.now c.deref.result.now c.in_ok-sections.sections.items c.front_size-start.result c.sizes.result.now c.front_size-start.ensures c.requires.parts c.sizes.ensures c.in_ok-sections.ensures c.deref.ensures.value in
-    made_count table name file front c.args.parts.now c.deref.result.now c.requires.parts c.requires.each made
+    omega (arith, made_count table name file front c.args.parts.now c.deref.result.now c.requires.parts c.requires.each made)
 
 pub returns-in-Err-clause-bad : goal.returns-in-Err-clause-bad
 returns-in-Err-clause-bad c = λ p is whole has cut.
@@ -55,37 +62,76 @@ returns-then-not-branch-clause-bad c = λ p is whole has cut.
     let ds = c.in-Ok.dictionaries.items in
     let first = c.section_bytes.result.now in
     let zeroth : c.index.result.now ≡ get_or c.deref.result.now 0 c.index.result.now = c.index.ensures ∙ ap (λ xs. get_or xs 0 c.index.result.now) (sym c.deref.ensures.value) in
-    let first_is : first ≡ get_or (heads_of (length table.schema.fields + 1) c.deref.result.now c.args.bytes.now) 0 [] =
+    let first_is : first ≡ get_or (heads_read table c.deref.result.now c.args.bytes.now) 0 [] =
     c.section_bytes.ensures
-    ∙ sym (heads_at c.args.bytes.now c.deref.result.now (length table.schema.fields + 1) 0 c.index.result.now (omega arith) (omega (arith, made_count table name file front c.args.parts.now c.deref.result.now c.requires.parts c.requires.each made)) zeroth) in
+    ∙ sym (heads_at c.args.bytes.now c.deref.result.now (length table.schema.fields + 1 + length table.settings.trees) 0 c.index.result.now (omega arith) (omega (arith, made_count table name file front c.args.parts.now c.deref.result.now c.requires.parts c.requires.each made)) zeroth) in
     let other : first ≢ bounds_bytes (bounds_of ds) =
     subst (λ xs. first ≢ bounds_bytes (bounds_of xs)) c.deref-2.ensures.value (differs c.in_ok-has_bounds.field-0 (first ≡ bounds_bytes (bounds_of c.deref-2.result.now)) c.in_ok-has_bounds.ensures c.if-not-branch.true) in
     let bounds_is : parts.Bounds ≡ p = cc in
     subst (FailsAt table name whole) bounds_is (bounds_fail table name file whole c.args.bytes.now front c.deref.result.now c.rows.result c.requires.valid made c.rows.ensures has cut ds first c.in-Ok.ensures.ok first_is other)
 
-pub sections_after-raw-requires : goal.sections_after-raw-requires
-sections_after-raw-requires c =
+pub check_trees-requires-clause-each : goal.check_trees-requires-clause-each
+check_trees-requires-clause-each c =
     let table = c.args.table.now in
     let name = c.args.name.now in
     let file = c.args.file.now in
     let front = c.args.front.now in
     let made : c.deref.result.now ≡ map (placed file) (extents_of table name front) =
     made_is table name file front c.args.parts.now c.deref.result.now c.in_ok-sections.sections.items c.front_size-start.result c.sizes.result.now c.front_size-start.ensures c.requires.parts c.sizes.ensures c.in_ok-sections.ensures c.deref.ensures.value in
-    omega (arith, made_count table name file front c.args.parts.now c.deref.result.now c.requires.parts c.requires.each made, c.len.ensures, ap length c.deref-3.ensures.value, ap length c.deref.ensures.value)
+    omega (arith, made_count table name file front c.args.parts.now c.deref.result.now c.requires.parts c.requires.each made, ap length (c.deref-4.ensures.value ∙ sym c.deref.ensures.value))
 
-pub check_sizes-requires-clause-owners : goal.check_sizes-requires-clause-owners
-check_sizes-requires-clause-owners c =
+pub returns-in-Err-check_trees-clause-bad : goal.returns-in-Err-check_trees-clause-bad
+returns-in-Err-check_trees-clause-bad c = λ p is whole has cut.
     let table = c.args.table.now in
     let name = c.args.name.now in
     let file = c.args.file.now in
     let front = c.args.front.now in
     let made : c.deref.result.now ≡ map (placed file) (extents_of table name front) =
     made_is table name file front c.args.parts.now c.deref.result.now c.in_ok-sections.sections.items c.front_size-start.result c.sizes.result.now c.front_size-start.ensures c.requires.parts c.sizes.ensures c.in_ok-sections.ensures c.deref.ensures.value in
-    let raw_is : c.sections_after-raw.result.now ≡ map (placed file) (raw_extents table name front) =
-    c.sections_after-raw.ensures ∙ (λ i. drop (c.len.ensures i + 1) ((c.deref-3.ensures.value ∙ sym c.deref.ensures.value) i)) ∙ raw_made table name file front c.deref.result.now made in
-    let count : length table.schema.fields ≡ length c.deref-4.result.now =
-    spelled_length table c.rows.result (heads_of (length table.schema.fields + 1) c.deref.result.now c.args.bytes.now) c.in-Ok.dictionaries.items c.in-Ok.ensures.ok ∙ ap length (sym c.deref-4.ensures.value) in
-    owners_below table name file front c.sections_after-raw.result.now (length c.deref-4.result.now) c.requires.valid count raw_is
+    let ds = c.in-Ok.dictionaries.items in
+    let first = c.section_bytes.result.now in
+    let zeroth : c.index.result.now ≡ get_or c.deref.result.now 0 c.index.result.now = c.index.ensures ∙ ap (λ xs. get_or xs 0 c.index.result.now) (sym c.deref.ensures.value) in
+    let first_is : first ≡ get_or (heads_read table c.deref.result.now c.args.bytes.now) 0 [] =
+    c.section_bytes.ensures
+    ∙ sym (heads_at c.args.bytes.now c.deref.result.now (length table.schema.fields + 1 + length table.settings.trees) 0 c.index.result.now (omega arith) (omega (arith, made_count table name file front c.args.parts.now c.deref.result.now c.requires.parts c.requires.each made)) zeroth) in
+    let same : first ≡ bounds_bytes (bounds_of ds) = agrees c.in_ok-has_bounds.field-0 (first ≡ bounds_bytes (bounds_of c.deref-2.result.now)) c.in_ok-has_bounds.ensures c.if-not-branch.false ∙ ap (λ xs. bounds_bytes (bounds_of xs)) c.deref-2.ensures.value in
+    let heads = heads_read table c.deref.result.now c.args.bytes.now in
+    let fourth : c.deref-4.result.now ≡ c.deref.result.now = c.deref-4.ensures.value ∙ sym c.deref.ensures.value in
+    let second = c.rows-2.ensures ∙ sym c.rows.ensures in
+    let stops : (t : ℕ) × (p ≡ parts.Nodes t) × NodesStop table c.rows.result heads t = along (λ r s. (t : ℕ) × (p ≡ parts.Nodes t) × NodesStop table r (heads_read table s c.args.bytes.now) t) _ _ _ _ second fourth (c.in-Err-check_trees.ensures.bad p is) in
+    nodes_fail table name file whole c.args.bytes.now front c.deref.result.now c.rows.result c.requires.valid made c.rows.ensures has cut ds first c.in-Ok.ensures.ok first_is same p stops
+
+pub sections_after-tail-requires : goal.sections_after-tail-requires
+sections_after-tail-requires c =
+    let table = c.args.table.now in
+    let name = c.args.name.now in
+    let file = c.args.file.now in
+    let front = c.args.front.now in
+    let made : c.deref.result.now ≡ map (placed file) (extents_of table name front) =
+    made_is table name file front c.args.parts.now c.deref.result.now c.in_ok-sections.sections.items c.front_size-start.result c.sizes.result.now c.front_size-start.ensures c.requires.parts c.sizes.ensures c.in_ok-sections.ensures c.deref.ensures.value in
+    omega (arith, made_count table name file front c.args.parts.now c.deref.result.now c.requires.parts c.requires.each made, c.len.ensures, c.len-2.ensures, ap length (c.deref-5.ensures.value ∙ sym c.deref.ensures.value))
+
+pub check_sizes-requires-clause-dictionaries : goal.check_sizes-requires-clause-dictionaries
+check_sizes-requires-clause-dictionaries c =
+    let table = c.args.table.now in
+    ap length c.deref-6.ensures.value ∙ sym (spelled_length table c.rows.result (heads_read table c.deref.result.now c.args.bytes.now) c.in-Ok.dictionaries.items c.in-Ok.ensures.ok)
+
+pub check_sizes-requires-clause-trees : goal.check_sizes-requires-clause-trees
+check_sizes-requires-clause-trees c =
+    let table = c.args.table.now in
+    ap length c.deref-7.ensures.value ∙ ap length c.in-Ok-check_trees.ensures.said ∙ said_count table (heads_read table c.deref-4.result.now c.args.bytes.now)
+
+pub check_sizes-requires-clause-parts : goal.check_sizes-requires-clause-parts
+check_sizes-requires-clause-parts c =
+    let table = c.args.table.now in
+    let name = c.args.name.now in
+    let file = c.args.file.now in
+    let front = c.args.front.now in
+    let made : c.deref.result.now ≡ map (placed file) (extents_of table name front) =
+    made_is table name file front c.args.parts.now c.deref.result.now c.in_ok-sections.sections.items c.front_size-start.result c.sizes.result.now c.front_size-start.ensures c.requires.parts c.sizes.ensures c.in_ok-sections.ensures c.deref.ensures.value in
+    let raw_is : c.sections_after-tail.result.now ≡ map (placed file) (raw_extents table name front) =
+    c.sections_after-tail.ensures ∙ (λ i. drop (c.len.ensures i + 1 + c.len-2.ensures i) ((c.deref-5.ensures.value ∙ sym c.deref.ensures.value) i)) ∙ raw_made table name file front c.deref.result.now made in
+    parts_made table name file front c.sections_after-tail.result.now c.requires.valid raw_is
 
 pub returns-in-Err-check_sizes-clause-bad : goal.returns-in-Err-check_sizes-clause-bad
 returns-in-Err-check_sizes-clause-bad c = λ p is whole has cut.
@@ -98,18 +144,29 @@ returns-in-Err-check_sizes-clause-bad c = λ p is whole has cut.
     let ds = c.in-Ok.dictionaries.items in
     let first = c.section_bytes.result.now in
     let zeroth : c.index.result.now ≡ get_or c.deref.result.now 0 c.index.result.now = c.index.ensures ∙ ap (λ xs. get_or xs 0 c.index.result.now) (sym c.deref.ensures.value) in
-    let first_is : first ≡ get_or (heads_of (length table.schema.fields + 1) c.deref.result.now c.args.bytes.now) 0 [] =
+    let first_is : first ≡ get_or (heads_read table c.deref.result.now c.args.bytes.now) 0 [] =
     c.section_bytes.ensures
-    ∙ sym (heads_at c.args.bytes.now c.deref.result.now (length table.schema.fields + 1) 0 c.index.result.now (omega arith) (omega (arith, made_count table name file front c.args.parts.now c.deref.result.now c.requires.parts c.requires.each made)) zeroth) in
-    let raw_is : c.sections_after-raw.result.now ≡ map (placed file) (raw_extents table name front) =
-    c.sections_after-raw.ensures ∙ (λ i. drop (c.len.ensures i + 1) ((c.deref-3.ensures.value ∙ sym c.deref.ensures.value) i)) ∙ raw_made table name file front c.deref.result.now made in
+    ∙ sym (heads_at c.args.bytes.now c.deref.result.now (length table.schema.fields + 1 + length table.settings.trees) 0 c.index.result.now (omega arith) (omega (arith, made_count table name file front c.args.parts.now c.deref.result.now c.requires.parts c.requires.each made)) zeroth) in
     let same : first ≡ bounds_bytes (bounds_of ds) = agrees c.in_ok-has_bounds.field-0 (first ≡ bounds_bytes (bounds_of c.deref-2.result.now)) c.in_ok-has_bounds.ensures c.if-not-branch.false ∙ ap (λ xs. bounds_bytes (bounds_of xs)) c.deref-2.ensures.value in
+    let heads = heads_read table c.deref.result.now c.args.bytes.now in
+    let fourth : c.deref-4.result.now ≡ c.deref.result.now = c.deref-4.ensures.value ∙ sym c.deref.ensures.value in
+    let second = c.rows-2.ensures ∙ sym c.rows.ensures in
+    let have = along (λ r s. HaveNodes table r (heads_read table s c.args.bytes.now) (length table.settings.trees)) _ _ _ _ second fourth c.in-Ok-check_trees.ensures.ok in
+    let said : c.in-Ok-check_trees.trees.items ≡ trees_said table heads = c.in-Ok-check_trees.ensures.said ∙ ap (λ s. trees_said table (heads_read table s c.args.bytes.now)) fourth in
+    let raw_is : c.sections_after-tail.result.now ≡ map (placed file) (raw_extents table name front) =
+    c.sections_after-tail.ensures ∙ (λ i. drop (c.len.ensures i + 1 + c.len-2.ensures i) ((c.deref-5.ensures.value ∙ sym c.deref.ensures.value) i)) ∙ raw_made table name file front c.deref.result.now made in
+    let third = c.rows-3.ensures ∙ sym c.rows.ensures in
+    let read : AreRead table c.rows-3.result heads c.deref-6.result.now c.deref-7.result.now = record {
+      spelled =
+          subst (λ r. AreSpelled table r heads (columns_of table) c.deref-6.result.now) (sym third)
+          (subst (AreSpelled table c.rows.result heads (columns_of table)) (sym c.deref-6.ensures.value) c.in-Ok.ensures.ok);
+      said = c.deref-7.ensures.value ∙ said;
+    } in
     let part_is : c.in-Err-check_sizes.part ≡ p = cc in
-    let fails : SizeFails c.rows.result ds c.sections_after-raw.result.now p =
-    subst (SizeFails c.rows.result ds c.sections_after-raw.result.now) part_is
-    (subst (λ r. SizeFails r ds c.sections_after-raw.result.now c.in-Err-check_sizes.part) (c.rows-2.ensures ∙ sym c.rows.ensures)
-    (subst (λ xs. SizeFails c.rows-2.result xs c.sections_after-raw.result.now c.in-Err-check_sizes.part) c.deref-4.ensures.value c.in-Err-check_sizes.ensures.bad)) in
-    size_fails table name file whole c.args.bytes.now front c.deref.result.now c.rows.result c.requires.valid made c.rows.ensures has cut ds first c.in-Ok.ensures.ok first_is same p c.sections_after-raw.result.now raw_is fails
+    let fails : SizeFails table c.rows.result heads c.sections_after-tail.result.now p =
+    subst (SizeFails table c.rows.result heads c.sections_after-tail.result.now) part_is
+    (subst (λ r. SizeFails table r heads c.sections_after-tail.result.now c.in-Err-check_sizes.part) third (c.in-Err-check_sizes.ensures.bad heads read)) in
+    size_fails table name file whole c.args.bytes.now front c.deref.result.now c.rows.result c.requires.valid made c.rows.ensures has cut ds first c.in-Ok.ensures.ok first_is same have p c.sections_after-tail.result.now raw_is fails
 
 pub returns-clause-ok : goal.returns-clause-ok
 returns-clause-ok c = λ whole has cut.
@@ -122,23 +179,37 @@ returns-clause-ok c = λ whole has cut.
     let ds = c.in-Ok.dictionaries.items in
     let first = c.section_bytes.result.now in
     let zeroth : c.index.result.now ≡ get_or c.deref.result.now 0 c.index.result.now = c.index.ensures ∙ ap (λ xs. get_or xs 0 c.index.result.now) (sym c.deref.ensures.value) in
-    let first_is : first ≡ get_or (heads_of (length table.schema.fields + 1) c.deref.result.now c.args.bytes.now) 0 [] =
+    let first_is : first ≡ get_or (heads_read table c.deref.result.now c.args.bytes.now) 0 [] =
     c.section_bytes.ensures
-    ∙ sym (heads_at c.args.bytes.now c.deref.result.now (length table.schema.fields + 1) 0 c.index.result.now (omega arith) (omega (arith, made_count table name file front c.args.parts.now c.deref.result.now c.requires.parts c.requires.each made)) zeroth) in
-    let raw_is : c.sections_after-raw.result.now ≡ map (placed file) (raw_extents table name front) =
-    c.sections_after-raw.ensures ∙ (λ i. drop (c.len.ensures i + 1) ((c.deref-3.ensures.value ∙ sym c.deref.ensures.value) i)) ∙ raw_made table name file front c.deref.result.now made in
+    ∙ sym (heads_at c.args.bytes.now c.deref.result.now (length table.schema.fields + 1 + length table.settings.trees) 0 c.index.result.now (omega arith) (omega (arith, made_count table name file front c.args.parts.now c.deref.result.now c.requires.parts c.requires.each made)) zeroth) in
     let same : first ≡ bounds_bytes (bounds_of ds) = agrees c.in_ok-has_bounds.field-0 (first ≡ bounds_bytes (bounds_of c.deref-2.result.now)) c.in_ok-has_bounds.ensures c.if-not-branch.false ∙ ap (λ xs. bounds_bytes (bounds_of xs)) c.deref-2.ensures.value in
-    let fits =
-    subst (λ r. All (FitsSize r ds) c.sections_after-raw.result.now) (c.rows-2.ensures ∙ sym c.rows.ensures)
-    (subst (λ xs. All (FitsSize c.rows-2.result xs) c.sections_after-raw.result.now) c.deref-4.ensures.value c.in_default.ensures.ok) in
+    let heads = heads_read table c.deref.result.now c.args.bytes.now in
+    let fourth : c.deref-4.result.now ≡ c.deref.result.now = c.deref-4.ensures.value ∙ sym c.deref.ensures.value in
+    let second = c.rows-2.ensures ∙ sym c.rows.ensures in
+    let have = along (λ r s. HaveNodes table r (heads_read table s c.args.bytes.now) (length table.settings.trees)) _ _ _ _ second fourth c.in-Ok-check_trees.ensures.ok in
+    let said : c.in-Ok-check_trees.trees.items ≡ trees_said table heads = c.in-Ok-check_trees.ensures.said ∙ ap (λ s. trees_said table (heads_read table s c.args.bytes.now)) fourth in
+    let raw_is : c.sections_after-tail.result.now ≡ map (placed file) (raw_extents table name front) =
+    c.sections_after-tail.ensures ∙ (λ i. drop (c.len.ensures i + 1 + c.len-2.ensures i) ((c.deref-5.ensures.value ∙ sym c.deref.ensures.value) i)) ∙ raw_made table name file front c.deref.result.now made in
+    let third = c.rows-3.ensures ∙ sym c.rows.ensures in
+    let read : AreRead table c.rows-3.result heads c.deref-6.result.now c.deref-7.result.now = record {
+      spelled =
+          subst (λ r. AreSpelled table r heads (columns_of table) c.deref-6.result.now) (sym third)
+          (subst (AreSpelled table c.rows.result heads (columns_of table)) (sym c.deref-6.ensures.value) c.in-Ok.ensures.ok);
+      said = c.deref-7.ensures.value ∙ said;
+    } in
+    let fits = subst (λ r. All (FitsSize table r heads) c.sections_after-tail.result.now) third (c.in_default.ensures.ok heads read) in
     record {
       front = front;
       dictionaries = ds;
-      keeps = all_hold table name file whole c.args.bytes.now front c.deref.result.now c.rows.result c.requires.valid made c.rows.ensures has cut ds first c.in-Ok.ensures.ok first_is same c.sections_after-raw.result.now raw_is fits;
-      rows_are = ap (λ h. h.rows) c.new.ensures ∙ c.rows-3.ensures;
+      keeps = all_hold table name file whole c.args.bytes.now front c.deref.result.now c.rows.result c.requires.valid made c.rows.ensures has cut ds first c.in-Ok.ensures.ok first_is same have c.sections_after-tail.result.now raw_is fits;
+      rows_are = ap (λ h. h.rows) c.new.ensures ∙ c.rows-4.ensures;
       sections_are = ap (λ h. h.sections) c.new.ensures ∙ sym c.deref.ensures.value ∙ made;
       dictionaries_are = ap (λ h. h.dictionaries) c.new.ensures ∙ c.in_ok-dictionaries.ensures;
-      bounds_are = ap (λ h. h.bounds) c.new.ensures ∙ c.in_ok-bounds.ensures ∙ ap bounds_of c.deref-5.ensures.value;
+      bounds_are = ap (λ h. h.bounds) c.new.ensures ∙ c.in_ok-bounds.ensures ∙ ap bounds_of c.deref-8.ensures.value;
+      trees_are =
+          ap (λ h. h.trees) c.new.ensures
+          ∙ c.in_ok-trees.ensures
+          ∙ ap (map Some) (trees_told table name file whole c.args.bytes.now front c.deref.result.now c.rows.result c.requires.valid made c.rows.ensures has cut ds first c.in-Ok.ensures.ok first_is same c.in-Ok-check_trees.trees.items said);
     }
 
 pub returns-clause-placed : goal.returns-clause-placed
@@ -151,11 +222,17 @@ returns-clause-placed c =
     made_is table name file front c.args.parts.now c.deref.result.now c.in_ok-sections.sections.items c.front_size-start.result c.sizes.result.now c.front_size-start.ensures c.requires.parts c.sizes.ensures c.in_ok-sections.ensures c.deref.ensures.value in
     let ds = c.in-Ok.dictionaries.items in
     record {
-      rows_are = ap (λ h. h.rows) c.new.ensures ∙ c.rows-3.ensures;
+      rows_are = ap (λ h. h.rows) c.new.ensures ∙ c.rows-4.ensures;
       sections_are = ap (λ h. h.sections) c.new.ensures ∙ sym c.deref.ensures.value ∙ made;
       slots =
           ap (λ h. length h.dictionaries) c.new.ensures
           ∙ ap length c.in_ok-dictionaries.ensures
           ∙ length-map ds Some
-          ∙ sym (spelled_length table c.rows.result (heads_of (length table.schema.fields + 1) c.deref.result.now c.args.bytes.now) ds c.in-Ok.ensures.ok);
+          ∙ sym (spelled_length table c.rows.result (heads_read table c.deref.result.now c.args.bytes.now) ds c.in-Ok.ensures.ok);
+      tree_slots =
+          ap (λ h. length h.trees) c.new.ensures
+          ∙ ap length c.in_ok-trees.ensures
+          ∙ length-map c.in-Ok-check_trees.trees.items Some
+          ∙ ap length c.in-Ok-check_trees.ensures.said
+          ∙ said_count table (heads_read table c.deref-4.result.now c.args.bytes.now);
     }

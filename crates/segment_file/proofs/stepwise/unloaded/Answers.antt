@@ -3,4 +3,4 @@ use Rattle.std.proofs.lemmas.List.{replicate-append-replicate}
 use Rattle.segment_file.proofs.stepwise.unloaded.Goals as goal
 
 pub loop-preserved : goal.loop-preserved
-loop-preserved c = c.in_ok-push.ensures.items ∙ ap (λ xs. xs ++ None ∷ []) c.loop.invariant ∙ replicate-append-replicate c.loop.counter 1 None
+loop-preserved g c = c.in_ok-push.ensures.items ∙ ap (λ xs. xs ++ None ∷ []) c.loop.invariant ∙ replicate-append-replicate c.loop.counter 1 None

@@ -2,4 +2,4 @@ use Rattle.std.proofs.Common.{◌≡◌, None, replicate}
 use Rattle.segment_file.proofs.stepwise.unloaded.Given as goal
 
 abbrev pub invariant-loop : goal.invariant-loop
-invariant-loop l = l.all.items ≡ replicate l.counter None
+invariant-loop g l = l.all.items ≡ replicate l.counter None

@@ -1,10 +1,8 @@
-use Rattle.std.proofs.Common.{◌≡◌, ◌≤◌, ◌∙◌, ◌+◌, ℕ, [], ◌∷◌, ◌++◌, List, Option, Some, IfSome, ap, drop, get_or, inl, inr, length, le_refl, sym, subst, map, refl, arith}
+use Rattle.std.proofs.Common.{◌≡◌, ◌≤◌, ◌∙◌, ◌+◌, ℕ, [], ◌∷◌, List, Option, Some, IfSome, ap, drop, get_or, inl, inr, length, sym, subst, map, refl, arith}
 use Rattle.std.proofs.lemmas.List.{drop_all, drop_more}
 use Rattle.outside.specs.Reads.{Entry}
 use Rattle.outside.specs.Seen.{seen}
 use Rattle.outside.specs.declared.place.Place.{Place}
-use Rattle.outside.proofs.ReadLemmas.{logs-up}
-use Rattle.bit_column.specs.Sections.{end_byte, first_byte}
 use Rattle.doc_lists.specs.declared.run.Run.{Run}
 use Rattle.index_reading.specs.Stretches.{LogsPartly}
 use Rattle.segment_file.specs.Heads.{Seen, place_in}
@@ -51,26 +49,11 @@ returns-in-Err-clause-bad g c = λ bad.
     not_ids (g.S.Shelf.held c.args.shelf.now) c.args.head.now c.args.column c.in-Some.place.now c.width_for-width.result c.count-values.result c.in-Some.ensures
     (c.count-values.ensures.count ∙ sym (ap (λ o. length (values_of o)) c.dictionary.ensures)) c.width_for-width.ensures.width
     (pick_bad c.in-Some.place.now c.width_for-width.result c.count-values.result c.args.head.now.rows runs (drop i runs) (drop (i + 1) runs) run (seen g.S.Shelf c.args.shelf.now) (seen g.S.Shelf c.loop-run.shelf) c.loop-run.ids.items c.loop-run.invariant is
-    (c.in-Err.ensures.bad (column_bad (List ℕ) (List ℕ) c.in-Err.fault c.args.column c.of_column.result c.of_column.ensures bad)))
+    (c.in-Err.ensures.bad (column_bad (Unit {0}) (List ℕ) c.in-Err.fault c.args.column c.of_column.result c.of_column.ensures bad)))
 
 pub returns-in-Err-clause-only_reads : goal.returns-in-Err-clause-only_reads
 returns-in-Err-clause-only_reads g c =
-    column_failed (List ℕ) (List ℕ) c.in-Err.fault c.args.column c.of_column.result (seen g.S.Shelf c.args.shelf.now) (seen g.S.Shelf c.loop-run.shelf) (seen g.S.Shelf c.read_range.new.shelf) c.of_column.ensures c.loop-run.invariant.reads c.in-Err.ensures.only_reads
-
-pub returns-in-Err-extend_from_slice-clause-log_of_fault : goal.returns-in-Err-extend_from_slice-clause-log_of_fault
-returns-in-Err-extend_from_slice-clause-log_of_fault g c =
-    let runs = c.args.runs.now in
-    let i = c.loop-run.run-index in
-    let run : Run = get_or runs i (record { first = 0; last = 0 }) in
-    let is : drop i runs ≡ run ∷ drop (i + 1) runs = drop_more runs i (record { first = 0; last = 0 }) c.loop-run-test.true in
-    let place : Place = c.in-Some.place.now in
-    let width : ℕ = c.width_for-width.result in
-    let first = seen g.S.Shelf c.args.shelf.now in
-    let now = seen g.S.Shelf c.loop-run.shelf in
-    let next = seen g.S.Shelf c.read_range.new.shelf in
-    partly_so c.args.head.now runs c.args.column place width c.count-values.result first.log next.log c.in-Some.ensures (c.count-values.ensures.count ∙ sym (ap (λ o. length (values_of o)) c.dictionary.ensures)) c.width_for-width.ensures.width
-    (pick_partly place width c.count-values.result c.args.head.now.rows runs (drop i runs) (drop (i + 1) runs) run first now next c.loop-run.ids.items c.loop-run.invariant is
-    (logs-up place.file (place.offset + first_byte width run.first) (place.offset + end_byte width run.first (run.last + 1)) (place.offset + end_byte width run.first (run.last + 1)) now.log next.log next.log (le_refl _) c.in-Ok.ensures.log refl))
+    column_failed (Unit {0}) (List ℕ) c.in-Err.fault c.args.column c.of_column.result (seen g.S.Shelf c.args.shelf.now) (seen g.S.Shelf c.loop-run.shelf) (seen g.S.Shelf c.append_range.new.shelf) c.of_column.ensures c.loop-run.invariant.reads c.in-Err.ensures.only_reads
 
 pub returns-in-Err-clause-log_of_fault : goal.returns-in-Err-clause-log_of_fault
 returns-in-Err-clause-log_of_fault g c =
@@ -82,7 +65,7 @@ returns-in-Err-clause-log_of_fault g c =
     let width : ℕ = c.width_for-width.result in
     let first = seen g.S.Shelf c.args.shelf.now in
     let now = seen g.S.Shelf c.loop-run.shelf in
-    let next = seen g.S.Shelf c.read_range.new.shelf in
+    let next = seen g.S.Shelf c.append_range.new.shelf in
     partly_so c.args.head.now runs c.args.column place width c.count-values.result first.log next.log c.in-Some.ensures (c.count-values.ensures.count ∙ sym (ap (λ o. length (values_of o)) c.dictionary.ensures)) c.width_for-width.ensures.width
     (pick_partly place width c.count-values.result c.args.head.now.rows runs (drop i runs) (drop (i + 1) runs) run first now next c.loop-run.ids.items c.loop-run.invariant is c.in-Err.ensures.log_of_fault)
 
@@ -94,10 +77,10 @@ loop-run-preserved g c =
     let is : drop i runs ≡ run ∷ drop (i + 1) runs = drop_more runs i (record { first = 0; last = 0 }) c.loop-run-test.true in
     let first = seen g.S.Shelf c.args.shelf.now in
     let now = seen g.S.Shelf c.loop-run.shelf in
-    let next = seen g.S.Shelf c.read_range.new.shelf in
-    pick_next c.in-Some.place.now c.width_for-width.result c.count-values.result c.args.head.now.rows runs (drop i runs) (drop (i + 1) runs) run first now next c.loop-run.ids.items c.in-Ok.more c.extend_from_slice.new.self.items c.loop-run.invariant is
-    (reads_well (List ℕ) ColumnFault c.in-Ok.more columns.ReadFault now next c.in-Ok.ensures.only_reads) c.in-Ok.ensures.log c.in-Ok.ensures.ids c.in-Ok.ensures.number c.in-Ok.ensures.below
-    (c.in-Ok-extend_from_slice.ensures.items ∙ ap (λ (l : List ℕ). c.loop-run.ids.items ++ l) c.as_slice.ensures)
+    let next = seen g.S.Shelf c.append_range.new.shelf in
+    let more = c.in-Ok.ensures.ids in
+    pick_next c.in-Some.place.now c.width_for-width.result c.count-values.result c.args.head.now.rows runs (drop i runs) (drop (i + 1) runs) run first now next c.loop-run.ids.items more.ids c.append_range.new.ids.items c.loop-run.invariant is
+    (reads_well (Unit {0}) ColumnFault c.in-Ok.field-0 columns.ReadFault now next c.in-Ok.ensures.only_reads) c.in-Ok.ensures.log more.told more.number more.below more.appended
 
 pub returns-clause-bytes : goal.returns-clause-bytes
 returns-clause-bytes g c =

@@ -2,7 +2,7 @@ use Rattle.std.proofs.Common.{◌≡◌, ◌∙◌, ◌+◌, ◌*◌, ◌++◌, 
 use Rattle.segment_file.specs.Front.{counts_bytes, directory, extents_from, front_size}
 use Rattle.segment_file.specs.Parts.{sections_of}
 use Rattle.segment_file.proofs.Fronts.{front_written}
-use Rattle.segment_file.proofs.Counts.{few_sections, head_count, raw_count, some_sections}
+use Rattle.segment_file.proofs.Counts.{few_sections, head_count, some_sections}
 use Rattle.segment_file.proofs.front.Front.write.Goals as goal
 
 pub front_size-start-requires-clause-sections : goal.front_size-start-requires-clause-sections
@@ -11,7 +11,7 @@ front_size-start-requires-clause-sections c = omega (arith, few_sections c.args.
 pub head_size-requires-clause-some : goal.head_size-requires-clause-some
 head_size-requires-clause-some c =
     let table = c.args.table.now in
-    omega (arith, c.requires.each, ap length c.requires.sections, some_sections table, head_count table, raw_count table, few_sections table c.requires.valid)
+    omega (arith, c.requires.each, ap length c.requires.sections, some_sections table, head_count table)
 
 pub overflow_cast-sections : goal.overflow_cast-sections
 overflow_cast-sections c = omega (arith, few_sections c.args.table.now c.requires.valid, ap length c.requires.sections)

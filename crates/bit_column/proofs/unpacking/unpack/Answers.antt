@@ -1,0 +1,54 @@
+use Rattle.std.proofs.Common.{◌≡◌, ◌+◌, ◌-◌, ◌*◌, ◌∷◌, [], ◌++◌, ◌<◌, List, ℕ, take, ap, sym, ◌∙◌, arith, refl}
+use Rattle.std.proofs.lemmas.List.{take_more_set}
+use Rattle.std.proofs.lemmas.List.Elements.{All-push, All-same}
+use Rattle.bit_column.specs.Ahead.{taken_before}
+use Rattle.bit_column.specs.Bits.{bits_of, field, pieces}
+use Rattle.bit_column.specs.declared.window.Window.{Window}
+use Rattle.bit_column.proofs.AheadLemmas.{ahead_first, ahead_less}
+use Rattle.bit_column.proofs.Fields.{pieces-below, pieces-more}
+use Rattle.bit_column.proofs.unpacking.unpack.Goals as goal
+
+pub loop-i-init : goal.loop-i-init
+loop-i-init c =
+    let window : Window = c.filled-window.result in
+    let less : Window = record { bits = window.bits; have = window.have - c.args.bit; next = window.next } in
+    let ahead = ahead_less c.args.bytes.now window less c.args.bit c.filled-window.ensures.ahead c.filled-window.ensures.have refl refl refl in
+    record {
+      ahead = ahead;
+      place = omega (arith, c.filled-window.ensures.same, c.filled-window.ensures.have, c.new.ensures.none, c.filled-window.ensures.ahead.there);
+      ids = refl;
+      below = λ k d lt. absurd (omega (arith, lt));
+    }
+
+pub returns-then-id-count-clause-bad : goal.returns-then-id-count-clause-bad
+returns-then-id-count-clause-bad c = λ all.
+    let window : Window = c.filled-window-in-loop-i.result in
+    let digits : List ℕ = bits_of 8 c.args.bytes.now in
+    let own : c.taken-id.result ≡ field c.args.width (taken_before window) digits = ahead_first c.args.bytes.now window c.args.width c.taken-id.result c.filled-window-in-loop-i.ensures.ahead c.filled-window-in-loop-i.ensures.have c.taken-id.ensures in
+    let there : taken_before window ≡ c.args.bit + c.loop-i.i * c.args.width = c.filled-window-in-loop-i.ensures.same ∙ c.loop-i.invariant.place in
+    let same : c.taken-id.result ≡ field c.args.width (c.args.bit + c.loop-i.i * c.args.width) digits = own ∙ ap (λ k. field c.args.width k digits) there in
+    let below = pieces-below c.args.width c.args.bit _ c.loop-i.i c.args.count digits c.loop-i-test.true all in
+    absurd (omega (arith, below, same, c.if-id-count.true))
+
+pub loop-i-preserved : goal.loop-i-preserved
+loop-i-preserved c =
+    let window : Window = c.filled-window-in-loop-i.result in
+    let less : Window = record { bits = window.bits; have = window.have - c.args.width; next = window.next } in
+    let digits : List ℕ = bits_of 8 c.args.bytes.now in
+    let i : ℕ = c.loop-i.i in
+    let id : ℕ = c.taken-id.result in
+    let have = c.filled-window-in-loop-i.ensures.have in
+    let own : id ≡ field c.args.width (taken_before window) digits = ahead_first c.args.bytes.now window c.args.width id c.filled-window-in-loop-i.ensures.ahead have c.taken-id.ensures in
+    let there : taken_before window ≡ c.args.bit + i * c.args.width = c.filled-window-in-loop-i.ensures.same ∙ c.loop-i.invariant.place in
+    let next : i * c.args.width + c.args.width ≡ (i + 1) * c.args.width = grind arith in
+    let more : take (i + 1) _ ≡ take i c.loop-i.ids ++ id ∷ [] = take_more_set c.loop-i.ids i id (omega (arith, c.loop-i-test.true, c.loop-i.auto.ids)) in
+    record {
+      ahead = ahead_less c.args.bytes.now window less c.args.width c.filled-window-in-loop-i.ensures.ahead have refl refl refl;
+      place = omega (arith, there, next, have, c.filled-window-in-loop-i.ensures.ahead.there);
+      ids =
+          more
+          ∙ ap (λ ids. ids ++ id ∷ []) c.loop-i.invariant.ids
+          ∙ ap (λ x. pieces c.args.width c.args.bit i digits ++ x ∷ []) (own ∙ ap (λ k. field c.args.width k digits) there)
+          ∙ sym (pieces-more c.args.width c.args.bit i digits);
+      below = All-same (λ x. x < c.args.count) _ (take i c.loop-i.ids ++ id ∷ []) more (All-push (λ x. x < c.args.count) (take i c.loop-i.ids) id c.loop-i.invariant.below c.if-id-count.false);
+    }

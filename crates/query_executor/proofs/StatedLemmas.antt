@@ -1,0 +1,63 @@
+-- The reply to a query with a line for each segment.
+use Rattle.std.proofs.Common.{◌≡◌, ◌∙◌, ◌++◌, ◌∷◌, [], ℕ, false, List, map, length, Option, Some, None, IfSome, Ok, Err, refl, sym, ap}
+use Rattle.std.specs.List.{flat_map}
+use Rattle.outside.specs.Files.{Files}
+use Rattle.values.specs.declared.value.Value.{Value}
+use Rattle.table_schema.specs.declared.query.BoundQuery.{BoundQuery}
+use Rattle.table_schema.specs.declared.table.Table.{Table}
+use Rattle.segment_file.specs.Ordered.{ordered}
+use Rattle.sql_reply.specs.Asked.{asked}
+use Rattle.sql_reply.specs.Reply.{conjuncts_reply}
+use Rattle.sql_reply.specs.SqlReply.{replied, sql_reply}
+use Rattle.sql_reply.specs.declared.fault.SqlFault.{SqlFault}
+use Rattle.query_executor.specs.Answers.{IsBoundReply}
+use Rattle.query_executor.specs.Explained.{in_order, lines_of}
+use Rattle.query_executor.specs.Segments.{stored_rows}
+use Rattle.query_executor.specs.Stated.{IsStated, stated_by, stats_line, with_lines}
+use Rattle.query_executor.specs.Steps.{HasLines, IsBoundStated}
+use Rattle.query_executor.proofs.LineLemmas.{lines_all}
+
+-- the rows of all segments are those of each, one after the other
+all_in_order : (f : List (List Value) → List (List Value)) (segments : List (List (List Value))) → flat_map (λ rows. rows) (map f segments) ≡ flat_map f segments
+all_in_order f [] = refl
+all_in_order f (rows ∷ segments) = ap (λ l. f rows ++ l) (all_in_order f segments)
+
+module _ (query : BoundQuery) (table : Table) (names : List (List ℕ)) where
+  -- the reply, an empty line, and the lines
+  pub bound_stated : (held : Option Files) (text lines all : List ℕ) → IfSome held (λ files. IsBoundReply table files names query (Ok text)) → HasLines (stats_line query table) table held names (length names) lines → all ≡ text ++ (10 ∷ lines)
+      → IfSome held (λ files. IsBoundStated table files names query all)
+  bound_stated None text lines all reply so is = tt
+  bound_stated (Some files) text lines all reply so is = λ segments images.
+      (λ i. with_lines (lines_all (stats_line query table) table names files lines so segments images i) (reply segments images i))
+      ∙ ap Ok (sym is)
+
+  module _ (sql : List ℕ) where
+    -- so the text has this reply
+    pub stated_so : asked table false sql ≡ Ok query → ((rows : List (List Value)) → sql_reply table false sql rows ≡ replied (conjuncts_reply query rows)) → (held : Option Files) (all : List ℕ) → IfSome held (λ files. IsBoundStated table files names query all)
+        → IfSome held (λ files. IsStated table files names sql (Ok all))
+    stated_so is same None all stated = tt
+    stated_so is same (Some files) all stated = λ segments images.
+        let rows : List (List Value) = flat_map (λ rows. rows) (in_order table segments) in
+        let lines : List ℕ = lines_of (stats_line query table) names (in_order table segments) in
+        ap (stated_by table names (in_order table segments) (sql_reply table false sql rows)) is
+        ∙ ap (λ r. with_lines lines (sql_reply table false sql r)) (all_in_order (ordered table.settings.sorted) segments)
+        ∙ ap (with_lines lines) (same (stored_rows table segments))
+        ∙ stated segments images
+
+    -- or there are too many groups
+    pub stated_fault : asked table false sql ≡ Ok query → ((rows : List (List Value)) → sql_reply table false sql rows ≡ replied (conjuncts_reply query rows)) → (held : Option Files) (fault : SqlFault)
+        → IfSome held (λ files. IsBoundReply table files names query (Err fault)) → IfSome held (λ files. IsStated table files names sql (Err fault))
+    stated_fault is same None fault reply = tt
+    stated_fault is same (Some files) fault reply = λ segments images.
+        let rows : List (List Value) = flat_map (λ rows. rows) (in_order table segments) in
+        let lines : List ℕ = lines_of (stats_line query table) names (in_order table segments) in
+        ap (stated_by table names (in_order table segments) (sql_reply table false sql rows)) is
+        ∙ ap (λ r. with_lines lines (sql_reply table false sql r)) (all_in_order (ordered table.settings.sorted) segments)
+        ∙ ap (with_lines lines) (same (stored_rows table segments) ∙ reply segments images)
+
+-- a text that is no query
+pub unasked_stated : (table : Table) (names : List (List ℕ)) (sql : List ℕ) (fault : SqlFault) → asked table false sql ≡ Err fault → ((rows : List (List Value)) → sql_reply table false sql rows ≡ Err fault) → (held : Option Files) → IfSome held (λ files. IsStated table files names sql (Err fault))
+unasked_stated table names sql fault is same None = tt
+unasked_stated table names sql fault is same (Some files) = λ segments images.
+    let rows : List (List Value) = flat_map (λ rows. rows) (in_order table segments) in
+    ap (stated_by table names (in_order table segments) (sql_reply table false sql rows)) is ∙ same rows

@@ -1,0 +1,12 @@
+use Rattle.outside.specs.Seen.{OnlyReads, seen}
+use Rattle.query_executor.specs.Explained.{plan_line}
+use Rattle.query_executor.specs.Logs.{LogsHeadsOf}
+use Rattle.query_executor.specs.Steps.{HasLines}
+use Rattle.query_executor.proofs.explain.explain_bound.Given as goal
+
+abbrev pub invariant-names : goal.invariant-names
+invariant-names g l = record {
+  so_far : HasLines (plan_line l.query l.table) l.table (g.S.Shelf.held l.fn.shelf) l.names l.at l.text.items;
+  reads : OnlyReads ⊥ (seen g.S.Shelf l.fn.shelf) (seen g.S.Shelf l.shelf);
+  log : LogsHeadsOf l.table (g.S.Shelf.held l.fn.shelf) l.names (g.S.Shelf.log l.fn.shelf) (g.S.Shelf.log l.shelf);
+}

@@ -1,0 +1,6 @@
+use Rattle.query_executor.proofs.DoneLemmas.{stats_added}
+use Rattle.query_executor.proofs.pass.pass_one.Goals as goal
+
+pub returns-clause-lines : goal.returns-clause-lines
+returns-clause-lines g c = λ wanted.
+    stats_added c.args.query.now c.args.table.now (g.S.Shelf.held c.args.shelf.now) c.args.name.now c.in-Ok.done.plan c.in-Ok.done.docs c.args.pass.now.lines.items _ c.in-Ok.ensures.done (c.in_ok-push_if.ensures wanted)

@@ -1,0 +1,98 @@
+//! What is said of the plans of the segments of a table for a query.
+ghost use Rattle.std.specs.Prelude.{◌≡◌, ◌≢◌, ◌≤◌, ◌<◌, false, ℕ, [], Ok, Err, IfOk, IfSome, IsErrOf, get_or, length};
+ghost use Rattle.std.specs.List.{All};
+ghost use Rattle.outside.specs.Seen.{OnlyReads, seen};
+ghost use Rattle.table_schema.specs.Unbuilt.{names_unbuilt};
+ghost use Rattle.table_schema.specs.ValidQuery.{IsValidQuery};
+ghost use Rattle.table_schema.specs.ValidTable.{IsValidTable};
+ghost use Rattle.segment_file.specs.Names.{IsSegmentName};
+ghost use Rattle.segment_file.specs.Parts.{IsPlainTable};
+ghost use Rattle.segment_file.specs.declared.part.Part.{Part};
+ghost use Rattle.sql_reply.specs.Asked.{asked};
+ghost use Rattle.sql_reply.specs.SqlReply.{IsOfText};
+ghost use Rattle.sql_reply.specs.declared.fault.SqlFault.{SqlFault};
+ghost use Rattle.sql_reply.specs.declared.fault.SqlFault.TheVariants.{NoMemory};
+ghost use Rattle.query_executor.specs.Explained.{IsExplained, plan_line};
+ghost use Rattle.query_executor.specs.Logs.{LogsHeadsOf};
+ghost use Rattle.query_executor.specs.Segments.{HasNoImage};
+ghost use Rattle.query_executor.specs.Steps.{HasLines};
+ghost use Rattle.query_executor.specs.declared.fault.ExecutorFault.TheVariants.{NotASegment, ReadFault, Sql};
+
+use crate::ExecutorFault;
+use crate::planned::explain_segment;
+use crate::segment_fault::fault_at;
+use outside::{Bytes, Name, Seq, Shelf};
+use sql_reply::bound_query;
+use std::alloc::Global;
+use table_schema::{BoundQuery, Table};
+
+/// A line for each segment of these names: what is to be done with it for a query, over the rows that
+/// it has. Nothing is read before the query is known to be one over the table, and no byte past the
+/// head of a segment's file.
+pub fn explain_query<S: Shelf>(
+    alloc: Global,
+    shelf: &mut S,
+    table: &Table,
+    names: &[Name],
+    sql: &str,
+) -> Result<Bytes, ExecutorFault>
+    requires valid { IsValidTable table.now }
+    requires plain { IsPlainTable table.now }
+    requires bare { names_unbuilt table.now.settings ≡ false }
+    requires named { All IsSegmentName names.now }
+    requires few { length names.now ≤ 512 }
+    ensures reply { IfOk result (λ text. IfSome (S.held shelf.old) (λ files.
+        IsExplained table.now files names.now sql.now (Ok text))) }
+    // What is wrong with the query's text is known before anything is read.
+    ensures of_text { (fault : SqlFault) → result ≡ Err (Sql fault) → fault ≢ NoMemory →
+        IsOfText fault × (seen S.Shelf shelf.new ≡ seen S.Shelf shelf.old)
+        × (asked table.now false sql.now ≡ Err fault) }
+    ensures bad { (at : ℕ) (part : Part) → result ≡ Err (NotASegment at part) →
+        (at < length names.now) × IfSome (S.held shelf.old) (λ files.
+        HasNoImage table.now files (get_or names.now at [])) }
+    ensures only_reads { OnlyReads (IsErrOf result ReadFault)
+        (seen S.Shelf shelf.old) (seen S.Shelf shelf.new) }
+    ensures log { LogsHeadsOf table.now (S.held shelf.old) names.now
+        (S.log shelf.old) (S.log shelf.new) }
+{
+    match bound_query(alloc, sql, table, false) {
+        Ok(bound) => explain_bound(alloc, shelf, table, names, &bound),
+        Err(fault) => Err(ExecutorFault::Sql(fault)),
+    }
+}
+
+// The lines of the segments of these names for a query in its normal form.
+fn explain_bound<S: Shelf>(
+    alloc: Global,
+    shelf: &mut S,
+    table: &Table,
+    names: &[Name],
+    query: &BoundQuery,
+) -> Result<Bytes, ExecutorFault>
+    requires valid { IsValidTable table.now }
+    requires plain { IsPlainTable table.now }
+    requires bare { names_unbuilt table.now.settings ≡ false }
+    requires named { All IsSegmentName names.now }
+    requires few { length names.now ≤ 512 }
+    requires query { IsValidQuery table.now query.now }
+    ensures lines { IfOk result (λ text.
+        HasLines (plan_line query.now table.now) table.now (S.held shelf.old) names.now
+        (length names.now) text) }
+    ensures never_wrong { (fault : SqlFault) → result ≡ Err (Sql fault) → fault ≡ NoMemory }
+    ensures bad { (at : ℕ) (part : Part) → result ≡ Err (NotASegment at part) →
+        (at < length names.now) × IfSome (S.held shelf.old) (λ files.
+        HasNoImage table.now files (get_or names.now at [])) }
+    ensures only_reads { OnlyReads (IsErrOf result ReadFault)
+        (seen S.Shelf shelf.old) (seen S.Shelf shelf.new) }
+    ensures log { LogsHeadsOf table.now (S.held shelf.old) names.now
+        (S.log shelf.old) (S.log shelf.new) }
+{
+    let mut text = Vec::new(alloc);
+    'names: for at in 0..names.len() {
+        match explain_segment(alloc, shelf, table, names[at].as_str(), query, &mut text) {
+            Ok(()) => {}
+            Err(fault) => return Err(fault_at(at as u32, fault)),
+        }
+    }
+    Ok(Seq::from_vec(text))
+}

@@ -1,0 +1,128 @@
+//! The plan of a segment is made, and written.
+ghost use Rattle.std.specs.Prelude.{◌≡◌, ◌≢◌, ◌++◌, false, Err, IfOk, IfSome, IsErrOf, OnOk};
+ghost use Rattle.outside.specs.Seen.{OnlyReads, seen};
+ghost use Rattle.table_schema.specs.Unbuilt.{names_unbuilt};
+ghost use Rattle.table_schema.specs.ValidQuery.{IsValidQuery};
+ghost use Rattle.table_schema.specs.ValidTable.{IsValidTable};
+ghost use Rattle.segment_file.specs.Names.{IsSegmentName};
+ghost use Rattle.segment_file.specs.Parts.{IsPlainTable};
+ghost use Rattle.segment_file.specs.declared.part.Part.{Part};
+ghost use Rattle.segment_plan.specs.Explained.{explained_by};
+ghost use Rattle.segment_plan.specs.Plan.{plan_of};
+ghost use Rattle.segment_scan.specs.declared.fault.EngineFault.TheVariants.{NotASegment, ReadFault, TooManyGroups};
+ghost use Rattle.query_executor.specs.Explained.{line_by, plan_line};
+ghost use Rattle.query_executor.specs.Logs.{LogsHeadOf};
+ghost use Rattle.query_executor.specs.Segments.{HasNoImage};
+ghost use Rattle.query_executor.specs.Steps.{AddsLine, IsPlannedIn};
+
+use crate::loading::load_filtered;
+use crate::opening::open_segment;
+use outside::Shelf;
+use segment_file::Head;
+use segment_plan::{SegmentPlan, explained_law, head_tells_law, plan, prune, push_plan};
+use segment_scan::EngineFault;
+use std::alloc::{AllocError, Global};
+use table_schema::{BoundQuery, Table};
+
+/// Adds the line of the segment of this name: its name, and what its plan for a query is.
+pub fn explain_segment<S: Shelf>(
+    alloc: Global,
+    shelf: &mut S,
+    table: &Table,
+    name: &str,
+    query: &BoundQuery,
+    text: &mut Vec<u8>,
+) -> Result<(), EngineFault>
+    requires valid { IsValidTable table.now }
+    requires plain { IsPlainTable table.now }
+    requires bare { names_unbuilt table.now.settings ≡ false }
+    requires name { IsSegmentName name.now }
+    requires query { IsValidQuery table.now query.now }
+    ensures ok { OnOk result
+        (AddsLine (plan_line query.now table.now) table.now (S.held shelf.old) name.now
+        text.old.items text.new.items) }
+    ensures bad { (part : Part) → result ≡ Err (NotASegment part) →
+        IfSome (S.held shelf.old) (λ files. HasNoImage table.now files name.now) }
+    ensures never_full { result ≢ Err TooManyGroups }
+    ensures only_reads { OnlyReads (IsErrOf result ReadFault)
+        (seen S.Shelf shelf.old) (seen S.Shelf shelf.new) }
+    ensures log { LogsHeadOf table.now (S.held shelf.old) name.now
+        (S.log shelf.old) (S.log shelf.new) }
+{
+    let found = match plan_segment(alloc, shelf, table, name, query) {
+        Ok(found) => found,
+        Err(fault) => return Err(fault),
+    };
+    head_tells_law();
+    explained_law();
+    push_line(alloc, table, name, query, &found, text)?;
+    Ok(())
+}
+
+// The head of a segment, and its plan for a query.
+#[derive(Drop)]
+struct Planned {
+    head: Head,
+    plan: SegmentPlan,
+}
+
+// The plan of the segment of this name. Of a segment that its bounds exclude no more than the front
+// and the bounds is read; of another the dictionaries of the columns that conjuncts name alone.
+fn plan_segment<S: Shelf>(
+    alloc: Global,
+    shelf: &mut S,
+    table: &Table,
+    name: &str,
+    query: &BoundQuery,
+) -> Result<Planned, EngineFault>
+    requires valid { IsValidTable table.now }
+    requires plain { IsPlainTable table.now }
+    requires name { IsSegmentName name.now }
+    requires query { IsValidQuery table.now query.now }
+    ensures planned { IfOk result (λ found. IsPlannedIn query.now table.now (S.held shelf.old)
+        name.now found.head found.plan) }
+    ensures bad { (part : Part) → result ≡ Err (NotASegment part) →
+        IfSome (S.held shelf.old) (λ files. HasNoImage table.now files name.now) }
+    ensures never_full { result ≢ Err TooManyGroups }
+    ensures only_reads { OnlyReads (IsErrOf result ReadFault)
+        (seen S.Shelf shelf.old) (seen S.Shelf shelf.new) }
+    ensures log { LogsHeadOf table.now (S.held shelf.old) name.now
+        (S.log shelf.old) (S.log shelf.new) }
+{
+    let mut head = match open_segment(alloc, shelf, table, name) {
+        Ok(head) => head,
+        Err(fault) => return Err(fault),
+    };
+    if prune(query, &head) {
+        let plan = SegmentPlan::Pruned;
+        return Ok(Planned { head, plan });
+    }
+    match load_filtered(alloc, shelf, table, query, &mut head) {
+        Ok(()) => {}
+        Err(fault) => return Err(fault),
+    }
+    let plan = plan(alloc, query, table, &head)?;
+    Ok(Planned { head, plan })
+}
+
+// Adds the line of a segment of this name with its plan.
+fn push_line(
+    alloc: Global,
+    table: &Table,
+    name: &str,
+    query: &BoundQuery,
+    found: &Planned,
+    text: &mut Vec<u8>,
+) -> Result<(), AllocError>
+    requires valid { IsValidTable table.now }
+    requires bare { names_unbuilt table.now.settings ≡ false }
+    requires planned { found.now.plan ≡ plan_of query.now table.now found.now.head }
+    ensures { OnOk result (text.new.items
+        ≡ text.old.items ++ line_by name.now (explained_by query.now table.now found.now.head)) }
+{
+    text.extend_from_slice(name.as_bytes())?;
+    text.push(b',')?;
+    push_plan(alloc, query, table, &found.head, &found.plan, text)?;
+    text.push(b'\n')?;
+    Ok(())
+}

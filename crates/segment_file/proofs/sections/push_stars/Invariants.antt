@@ -1,0 +1,7 @@
+use Rattle.std.proofs.Common.{◌≡◌, ◌++◌, map}
+use Rattle.std.specs.List.{range_with_len}
+use Rattle.segment_file.specs.declared.part.Part.TheVariants.{Star}
+use Rattle.segment_file.proofs.sections.push_stars.Given as goal
+
+abbrev pub invariant-loop-tree : goal.invariant-loop-tree
+invariant-loop-tree l = l.parts.items ≡ l.initial.parts.items ++ map Star (range_with_len 0 l.tree)
