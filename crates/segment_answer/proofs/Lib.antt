@@ -1,0 +1,2 @@
+pub mod TaskSteps
+pub mod AskSteps
