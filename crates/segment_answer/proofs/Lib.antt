@@ -1,2 +1,3 @@
 pub mod TaskSteps
 pub mod AskSteps
+pub mod RowSteps

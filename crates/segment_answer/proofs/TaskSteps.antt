@@ -1,5 +1,5 @@
 -- What a query asks of the split dimensions, conjunct by conjunct and dimension by dimension.
-use Rattle.std.proofs.Common.{◌≡◌, ◌∙◌, ◌<◌, ◌≤◌, ◌+◌, ℕ, Bool, true, false, not, ◌&&◌, ◌||◌}
+use Rattle.std.proofs.Common.{◌≡◌, ◌∙◌, ◌<◌, ◌+◌, ℕ, Bool, true, false, not, ◌&&◌, ◌||◌}
 use Rattle.std.proofs.Common.{◌==◌, List, [], ◌∷◌, ◌++◌, length, take, get_or, Option, Some, None}
 use Rattle.std.proofs.Common.{refl, sym, ap, subst, arith, inl, inr, length-append}
 use Rattle.std.specs.Prelude.{pos, ◌⊎◌}
@@ -14,12 +14,12 @@ use Rattle.values.specs.declared.test.Test.{Test}
 use Rattle.values.specs.Tests.{holds}
 use Rattle.table_schema.specs.declared.query.BoundQuery.{BoundQuery}
 use Rattle.table_schema.specs.declared.query.Conjunct.{Conjunct}
-use Rattle.table_schema.specs.declared.query.Conjunct.TheVariants.{One, Many}
+use Rattle.table_schema.specs.declared.query.Conjunct.TheVariants.{One}
 use Rattle.table_schema.specs.declared.settings.TreeSetting.{TreeSetting}
 use Rattle.table_schema.specs.Columns.{is_member}
 use Rattle.dictionary.specs.Ids.{AreThose, has_id, satisfies}
 use Rattle.segment_file.specs.Heads.{IsLoaded, Seen}
-use Rattle.segment_plan.specs.Matched.{AreLoaded, is_filtered, is_on, passes, values_in}
+use Rattle.segment_plan.specs.Matched.{AreLoaded, is_on, passes, values_in}
 use Rattle.eligibility.specs.Rule.{Serves}
 use Rattle.star_walk.specs.Walking.{is_among, some_ids, task_of}
 use Rattle.star_answer.specs.Served.{AsksFor, field_of}
@@ -112,9 +112,9 @@ push_each P none xs x n many each last d lt =
   where
     cases : (d n : ℕ) → d < n + 1 → (d < n) ⊎ (d ≡ n)
     cases d n lt = elim (cases_lt d n) [
-        | inl before ↦ inl before
-        | inr past ↦ inr (omega (arith, past, lt))
-      ]
+      | inl before ↦ inl before
+      | inr past ↦ inr (omega (arith, past, lt))
+    ]
 
 more_many : {X : Type 0} (xs new : List X) (x : X) (n : ℕ) → length xs ≡ n → new ≡ xs ++ x ∷ []
     → length new ≡ n + 1

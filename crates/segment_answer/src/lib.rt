@@ -3,10 +3,12 @@
 #![tactic(auto)]
 
 mod asking;
+mod laws;
 mod meeting;
 mod tasks;
 
 pub use asking::{group_columns, pair_numbers};
+pub use laws::rows_law;
 pub use tasks::tree_task;
 
 /// A growth was refused.

@@ -1,4 +1,4 @@
-use Rattle.std.proofs.Common.{◌≡◌, List, Option, subst, take}
+use Rattle.std.proofs.Common.{List, subst}
 use Rattle.std.proofs.lemmas.List.{take_all}
 use Rattle.table_schema.specs.declared.query.Conjunct.{Conjunct}
 use Rattle.segment_plan.specs.Matched.{values_in}
@@ -10,9 +10,11 @@ pub loop-conjunct-init : goal.loop-conjunct-init
 loop-conjunct-init c = met_none c.args.column (values_in c.args.head.now c.args.column)
 
 pub meet_conjunct-requires : goal.meet_conjunct-requires
-meet_conjunct-requires c = record { loaded = loaded_at c.args.conjuncts.now c.args.head.now
-    c.loop-conjunct.conjunct-index c.args.column c.conjunct-item.result
-    c.loop-conjunct-test.true c.conjunct-item.is c.requires.loaded }
+meet_conjunct-requires c = record {
+  loaded = loaded_at c.args.conjuncts.now c.args.head.now
+      c.loop-conjunct.conjunct-index c.args.column c.conjunct-item.result
+      c.loop-conjunct-test.true c.conjunct-item.is c.requires.loaded;
+}
 
 pub loop-conjunct-preserved : goal.loop-conjunct-preserved
 loop-conjunct-preserved c = met_more c.args.conjuncts.now c.loop-conjunct.conjunct-index

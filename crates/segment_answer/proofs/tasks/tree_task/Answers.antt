@@ -1,4 +1,4 @@
-use Rattle.std.proofs.Common.{◌≡◌, ℕ, List, length, subst, sym}
+use Rattle.std.proofs.Common.{ℕ, List, length, subst}
 use Rattle.table_schema.specs.declared.query.Conjunct.{Conjunct}
 use Rattle.segment_answer.specs.Tasks.{AreGrouped, AreTested}
 use Rattle.segment_answer.proofs.TaskSteps.{asks_for}
