@@ -1,7 +1,6 @@
 //! What a query asks of the documents of a star-tree.
 
-ghost use Rattle.std.specs.Prelude.{◌≡◌, ◌<◌, ◌≤◌, true, IfOk, length, slice_index_or};
-ghost use Rattle.std.specs.List.{list_all};
+ghost use Rattle.std.specs.Prelude.{◌≡◌, ◌<◌, ◌≤◌, true, IfOk, length};
 ghost use Rattle.table_schema.specs.Columns.{is_member};
 ghost use Rattle.eligibility.specs.Rule.{is_eligible, is_kept};
 ghost use Rattle.segment_file.specs.Heads.{IsLoaded};

@@ -13,8 +13,8 @@ use segment_file::Head;
 use std::alloc::Global;
 use table_schema::Conjunct;
 
-/// The ids of the values of a column that satisfy each conjunct that names it alone, or `None` where
-/// no conjunct does.
+/// The ids of the values of a column that satisfy each conjunct that names it alone, or `None`
+/// where no conjunct does.
 pub fn met_ids(
     alloc: Global,
     conjuncts: &[Conjunct],

@@ -18,8 +18,8 @@ use std::alloc::Global;
 use table_schema::{BoundQuery, Conjunct, TreeSetting};
 use values::Seq;
 
-/// For each split dimension of a tree: the ids of the values that satisfy all conjuncts on it, where
-/// there are such conjuncts, and whether the query groups by it.
+/// For each split dimension of a tree: the ids of the values that satisfy all conjuncts on it,
+/// where there are such conjuncts, and whether the query groups by it.
 pub fn tree_task(
     alloc: Global,
     query: &BoundQuery,
