@@ -86,7 +86,8 @@ pub record AreOfQuery (query : BoundQuery) (split : List ℕ) (pairs : List Agg)
   pub columns : All (λ column. column.values.now.values ≡ values column.dim) asked.columns.now
   pub aggs : map (pair_of pairs) asked.pairs.now ≡ query.aggs
 
--- the tree is that of the rows, and the query and what is asked for it go by its dimensions and pairs
+-- the tree is that of the rows, and the query and what is asked for it go by its dimensions and
+-- pairs
 pub record IsServed (query : BoundQuery) (tree : TreePart) (t : asks.Task) (asked : Asked)
     (files : Files) (rows : List (List Value)) : Type 0 where
   pub split : List ℕ

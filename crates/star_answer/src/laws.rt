@@ -18,8 +18,8 @@ use agg_laws::{flat_law, picks_law};
 use star_walk::walk_law;
 
 /// Where the tree is that of a segment's rows, and the query filters and groups by its dimensions
-/// alone and asks for its pairs, the answer adds the rows that satisfy the filter to the groups; and
-/// there are too many groups just where these rows give too many. Its documents are never refused.
+/// alone and asks for its pairs, the answer adds the rows that satisfy the filter to the groups.
+/// There are too many groups only where these rows give too many, and no document is refused.
 pub fn served_law()
     ensures adds { (query : BoundQuery) (tree : TreePart) (task : Task) (asked : Asked)
         (files : Files) (rows : List (List Value)) (old new : KeptGroups)

@@ -54,8 +54,8 @@ impl Taken {
         })
     }
 
-    /// Takes those documents of a table that pass the tests of their dimensions from a level on, and
-    /// answers whether they may all be taken.
+    /// Takes those documents of a table that pass the tests of their dimensions from a level on,
+    /// and answers whether they may all be taken.
     pub fn take_passing(
         &mut self,
         task: &Task,

@@ -1,0 +1,3 @@
+pub mod TaskSteps
+pub mod AskSteps
+pub mod RowSteps
