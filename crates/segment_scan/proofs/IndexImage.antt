@@ -39,6 +39,7 @@ use Rattle.segment_file.specs.Rules.{KeepsAll}
 use Rattle.segment_file.proofs.Fronts.{front_bytes_size}
 use Rattle.segment_file.proofs.ImageKeeps.{image_keeps}
 use Rattle.segment_file.proofs.RuleLaws.{fronts_one}
+use Rattle.segment_file.proofs.SectionBytes.{any_back, any_front, any_raw, cut_section, some_place}
 use Rattle.segment_plan.specs.Choices.{are_consecutive, choice_of, is_sorted_on}
 use Rattle.segment_plan.specs.Laws.{HeadTells, TellsOf}
 use Rattle.segment_plan.specs.Matched.{values_in, values_of}
@@ -50,7 +51,7 @@ use Rattle.segment_scan.specs.Indexes.{IsIndexed, IsReady, OfEach, OfIndex, Tell
 use Rattle.segment_scan.specs.Named.{conjunct_names}
 use Rattle.segment_scan.specs.Served.{choice_at, is_served, served}
 use Rattle.segment_scan.proofs.AgreementLemmas.{conjuncts_in_names, or_left, or_right}
-use Rattle.segment_scan.proofs.ImageLemmas.{IsPlace, any_back, any_front, any_raw, cut_section, ids-below, ids-count, item_there, ordered_count, places, some_place}
+use Rattle.segment_scan.proofs.ImageLemmas.{IsPlace, ids-below, ids-count, item_there, ordered_count, places}
 use Rattle.segment_scan.proofs.OrderLemmas.{sorted_ids}
 
 lt_true : (a b : ℕ) → a < b → nat_lt a b ≡ true

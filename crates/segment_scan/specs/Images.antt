@@ -1,7 +1,7 @@
 -- Segments whose file is the image of rows, and what a scan of them does to groups.
 use Rattle.std.specs.Prelude.{◌≡◌, ◌≤◌, ◌<◌, ◌⊎◌, ℕ, true, Bool, List, [], map, length, get_or, Option, Some, IfSome}
 use Rattle.std.specs.List.{list_all, range_with_len}
-use Rattle.outside.specs.Files.{Files, bytes_of}
+use Rattle.outside.specs.Files.{Files}
 use Rattle.outside.specs.Reads.{Entry}
 use Rattle.values.specs.declared.value.Value.{Value}
 use Rattle.values.specs.Columns.{row_of, rows_of}
@@ -14,10 +14,9 @@ use Rattle.group_table.specs.Kept.{KeptGroups}
 use Rattle.scan_engine.specs.Scanned.{AddsRows, IsOverfull, selected}
 use Rattle.segment_file.specs.declared.part.Part.{Part}
 use Rattle.segment_file.specs.declared.part.Part.TheVariants.{Forward}
-use Rattle.segment_file.specs.Heads.{IsHead, IsHeadOf, IsLoaded, IsPartOf, Seen}
-use Rattle.segment_file.specs.Image.{CanHold, image}
-use Rattle.segment_file.specs.Names.{IsSegmentName}
+use Rattle.segment_file.specs.Heads.{IsHeadOf, IsLoaded, Seen}
 use Rattle.segment_file.specs.Ordered.{ordered}
+pub use Rattle.segment_file.specs.Stored.{IsOfImage, IsNoImage}
 use Rattle.segment_plan.specs.Choices.{choice_of}
 use Rattle.segment_plan.specs.declared.plans.IndexChoice.{IndexChoice}
 use Rattle.segment_scan.specs.Agreement.{Agree, AgreeAll}
@@ -28,17 +27,6 @@ use Rattle.segment_scan.specs.Series.{LogsPartOf, LogsTo}
 use Rattle.segment_scan.specs.Served.{rest_of, rows_left, served}
 use Rattle.segment_scan.specs.Named.{query_names}
 use Rattle.segment_scan.specs.Scans.{columns_read, selected_read, table_read}
-
--- the file of the head is told to be the image of these rows, which the table can hold
-pub record IsOfImage (table : Table) (files : Files) (rows : List (List Value)) (head : Seen) : Type 0 where
-  pub name : List ℕ
-  pub file : List ℕ
-  pub whole : Seen
-  pub named : IsSegmentName name
-  pub can : CanHold table rows
-  pub stored : bytes_of (Some files) file ≡ image 1 table name rows
-  pub is_head : IsHead table name file (image 1 table name rows) whole
-  pub part : IsPartOf whole head
 
 -- the dictionary of each column that the query names was loaded
 abbrev pub AreNamedLoaded : BoundQuery → Seen → Type 0
@@ -128,10 +116,6 @@ pub record AreDocs (query : BoundQuery) (table : Table) (held : Option Files) (h
   pub told : IfSome held (λ files. (rows : List (List Value)) → IsOfImage table files rows head → count ≡ length (rows_left query (choices_for query table head) (ordered table.settings.sorted rows)))
 
 -- ---- why a scan is refused
-
--- the file of the head is told to be the image of no rows
-abbrev pub IsNoImage : Table → Option Files → Seen → Type 0
-IsNoImage table held head = IfSome held (λ files. (rows : List (List Value)) → ¬ IsOfImage table files rows head)
 
 -- the part is the forward section of a column that the query names; where files are told it has no id
 -- below the count for each row

@@ -1,11 +1,11 @@
 use Rattle.std.proofs.Common.{◌≡◌, ◌∙◌, ◌<◌, ◌+◌, Some, Err, IfSome, length, sym, ap, subst, arith}
 use Rattle.outside.specs.Files.{bytes_at, bytes_of}
 use Rattle.outside.specs.Reads.{LogsThrough, LogsUpTo}
-use Rattle.segment_file.specs.Heads.{HaveCounts, OfWhole, nodes_said, nodes_section}
+use Rattle.segment_file.specs.Heads.{AreKept, HaveCounts, OfWhole, nodes_said, nodes_section}
 use Rattle.segment_file.proofs.Steps.{if_some, none_read, section_within}
 use Rattle.segment_file.proofs.TreeChecks.{bad_nodes, few_kinds, valid_at}
-use Rattle.segment_file.proofs.TreeSteps.{nodes_as, nodes_cut, nodes_none, nodes_slot, nodes_whole, split_is}
-use Rattle.segment_file.proofs.head.Head.read_nodes.Goals as goal
+use Rattle.segment_file.proofs.TreeSteps.{kept_so, nodes_as, nodes_cut, nodes_none, nodes_slot, nodes_whole, split_is}
+use Rattle.segment_file.proofs.head.Head.read_tree.Goals as goal
 
 pub returns-in-Err-clause-log : goal.returns-in-Err-clause-log
 returns-in-Err-clause-log g c = record {
@@ -112,8 +112,8 @@ returns-in-Ok-check_tree-clause-log g c =
       nodes = if_some _ s _ c.nodes_section.ensures (s.place.offset + s.place.length, omega arith, subst (λ f. LogsThrough f s.place.offset (s.place.offset + s.place.length) between last) c.as_str-file.ensures c.in-Ok-read_exactly.ensures.log);
     }
 
-pub returns-clause-refused : goal.returns-clause-refused
-returns-clause-refused g c = λ p is.
+pub returns-in-Err-check_tree-clause-refused : goal.returns-in-Err-check_tree-clause-refused
+returns-in-Err-check_tree-clause-refused g c = λ p is.
     let table = c.args.table.now in
     let head = c.args.self.now in
     let t = c.args.tree in
@@ -131,8 +131,8 @@ returns-clause-refused g c = λ p is.
     nodes_none table head t s tree c.requires.valid c.requires.tree c.nodes_section.ensures setting held bytes counts read have
     (λ are. c.in-Err-check_tree.ensures.bad (ap Err bad) (nodes_as _ _ _ _ _ _ _ (sym c.deref.ensures.value) (sym (ap (λ h. h.rows) c.self.view_is)) (sym c.as_slice.ensures) are))
 
-pub returns-clause-log : goal.returns-clause-log
-returns-clause-log g c =
+pub returns-in-Err-check_tree-clause-log : goal.returns-in-Err-check_tree-clause-log
+returns-in-Err-check_tree-clause-log g c =
     let table = c.args.table.now in
     let head = c.args.self.now in
     let t = c.args.tree in
@@ -145,3 +145,12 @@ returns-clause-log g c =
       counts = c.in-Ok.ensures.log;
       nodes = if_some _ s _ c.nodes_section.ensures (s.place.offset + s.place.length, omega arith, subst (λ f. LogsThrough f s.place.offset (s.place.offset + s.place.length) between last) c.as_str-file.ensures c.in-Ok-read_exactly.ensures.log);
     }
+
+pub returns-in-Ok-check_tree-clause-keeps : goal.returns-in-Ok-check_tree-clause-keeps
+returns-in-Ok-check_tree-clause-keeps g c =
+    let table = c.args.table.now in
+    let tree = c.at.result.now in
+    let valid = valid_at table.schema.fields table.settings.trees c.args.tree tree c.requires.valid.settings.trees_valid c.at.ensures in
+    let each : length c.deref.result.now ≡ tree.shape.dims = ap length c.deref.ensures.value ∙ c.in-Ok.ensures.each ∙ ap length (split_is table c.args.tree tree c.at.ensures) ∙ sym valid.has_dims in
+    if_some _ tree (λ setting. AreKept setting.shape c.in-Ok.counts.items c.in-Ok-check_tree.nodes) c.at.ensures
+    (kept_so tree.shape c.deref.result.now c.in-Ok.counts.items c.as_slice.result.now _ c.in-Ok-check_tree.nodes c.deref.ensures.value c.in-Ok-check_tree.ensures.said c.in-Ok-check_tree.ensures.ok each)
