@@ -1,4 +1,4 @@
-pub mod Bares
+pub mod FitTests
 pub mod Fits
 pub mod ColumnLemmas
 pub mod Stable

@@ -1,6 +1,10 @@
 -- The star-trees of a segment, as they are made one after the other.
-use Rattle.std.specs.Prelude.{◌≡◌, ◌<◌, ℕ, ℤ, pos, false, List, [], map, take, replicate, slice_get, get_or, Option, Some, None}
-use Rattle.std.specs.List.{All}
+use Rattle.std.specs.Prelude.{◌≡◌, ◌<◌, ◌↔◌, ℕ, ℤ, pos, Bool, true, false, nat_le, List, [], map, take, replicate, slice_get, get_or, Option, Some, None}
+use Rattle.std.specs.List.{All, list_all}
+use Rattle.agg_laws.specs.Flat.{tree_bytes}
+use Rattle.agg_laws.specs.Rows.{merged_rows}
+use Rattle.star_file.specs.Reading.{doc_width}
+use Rattle.star_file.specs.Rules.{most_bytes}
 use Rattle.values.specs.declared.value.Value.{Value}
 use Rattle.values.specs.Columns.{Listed, ListedColumns}
 use Rattle.table_schema.specs.declared.settings.TreeSetting.{TreeSetting}
@@ -8,7 +12,7 @@ use Rattle.table_schema.specs.declared.table.Table.{Table}
 use Rattle.segment_build.specs.declared.order.RowOrder.{RowOrder}
 use Rattle.segment_build.specs.Arranging.{arranged}
 use Rattle.segment_file.specs.Ordered.{ordered}
-use Rattle.segment_file.specs.Trees.{TreeFits, nodes_of, number_of, star_of}
+use Rattle.segment_file.specs.Trees.{TreeFits, nested, nodes_of, number_of, star_of}
 
 -- each of the trees takes no more bytes than one may, over the rows in their order
 abbrev pub TreesFit : Table → List (List Value) → Type 0
@@ -20,6 +24,22 @@ pub record IsTooLarge (table : Table) (rows : List (List Value)) (t : ℕ) : Typ
   pub tree : TreeSetting
   pub at : slice_get table.settings.trees t ≡ Some tree
   pub over : ¬ TreeFits (ordered table.settings.sorted rows) tree
+
+-- whether this tree takes no more bytes than one may, over rows in their order
+unfoldable pub tree_fits : List (List Value) → TreeSetting → Bool
+tree_fits rows tree = nat_le (tree_bytes merged_rows (doc_width tree.shape) (nested rows tree)) most_bytes
+
+-- whether each of the trees takes no more bytes than one may, over the rows in their order
+unfoldable pub trees_fit : Table → List (List Value) → Bool
+trees_fit table rows = list_all (tree_fits (ordered table.settings.sorted rows)) table.settings.trees
+
+-- the test says whether the trees fit
+abbrev pub FitIsTested : Type 0
+FitIsTested = (table : Table) (rows : List (List Value)) → (trees_fit table rows ≡ true) ↔ TreesFit table rows
+
+-- where some tree is too large, they do not
+abbrev pub LargeIsTested : Type 0
+LargeIsTested = (table : Table) (rows : List (List Value)) (t : ℕ) → IsTooLarge table rows t → trees_fit table rows ≡ false
 
 -- the sections of nodes of these trees, over rows that are in order
 abbrev pub nodes_grown : List (List Value) → List TreeSetting → List (List ℕ)

@@ -1,9 +1,8 @@
 -- The sections of a segment's file as they are made, a column after the other.
-use Rattle.std.specs.Prelude.{◌≡◌, ℕ, Bool, true, false, nat_lt, List, [], ◌∷◌, ◌++◌, length, map, take, Option, Some, None}
+use Rattle.std.specs.Prelude.{ℕ, Bool, true, false, nat_lt, List, [], ◌∷◌, ◌++◌, length, map, take, Option, Some, None}
 use Rattle.std.specs.List.{range_with_len}
 use Rattle.values.specs.declared.value.Value.{Value}
 use Rattle.table_schema.specs.declared.table.Table.{Table}
-use Rattle.table_schema.specs.Unbuilt.{names_unbuilt}
 use Rattle.dictionary.specs.Dictionary.{Distinct, distinct}
 use Rattle.dictionary.specs.Spelling.{spelling}
 use Rattle.bit_column.specs.Column.{spelled, width_of}
@@ -14,10 +13,6 @@ use Rattle.segment_file.specs.Bounds.{bounds_bytes, bounds_of, ends_of}
 use Rattle.segment_file.specs.Image.{dictionary_of, place_of, section_of}
 use Rattle.segment_file.specs.Parts.{marked}
 use Rattle.segment_build.specs.declared.indexes.Indexes.{Indexes}
-
--- a table whose settings name nothing that is not built so far
-pub record IsBare (table : Table) : Type 0 where
-  pub built : names_unbuilt table.settings ≡ false
 
 -- sections by their kinds: the bounds, of each column the dictionary and the forward index, where ids are in the sorted and the inverted columns, and where buckets of ids are in those with a range index
 pub record Made : Type 0 where

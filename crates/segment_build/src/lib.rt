@@ -16,6 +16,6 @@ pub use build::{build_columns, build_image};
 pub use columns::columns_of;
 pub use fault::BuildFault;
 pub use indexes::{Indexes, indexes_at};
-pub use laws::columns_fit_law;
+pub use laws::{columns_fit_law, trees_fit_law};
 pub use order::{RowOrder, coded, row_order};
 pub use publish::{INCOMING, publish_file, write_columns, write_segment};

@@ -3,4 +3,3 @@ pub mod SettingsLaw
 pub mod PairLaw
 pub mod TreeLaw
 pub mod RawLaw
-pub mod BuiltLaw

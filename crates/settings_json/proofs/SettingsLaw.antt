@@ -1,49 +1,38 @@
 -- What the checks of settings accept is valid.
-use Rattle.std.proofs.Common.{◌≡◌, ℕ, zero, suc, ◌≤◌, Bool, true, false, not, ◌||◌, is_some, true≢false, codes, List, [], ◌∷◌, length, map, Option, Some, None, option_and_then, unwrap_or, ◌==◌, if◌then◌else◌, Result, Ok, Err, IfOk, refl, sym, ap, ◌∙◌, subst, arith}
-use Rattle.std.specs.List.{slice_get, AllByRecursion}
+use Rattle.std.proofs.Common.{◌≡◌, ℕ, zero, suc, Bool, true, false, ◌||◌, codes, List, [], ◌∷◌, length, map, Option, Some, None, option_and_then, unwrap_or, ◌==◌, if◌then◌else◌, Result, Ok, Err, IfOk, refl, sym, subst, arith}
+use Rattle.std.specs.List.{slice_get}
 use Rattle.serde_json.specs.Data.{Data, null}
 use Rattle.table_schema.specs.declared.field.Field.{Field}
 use Rattle.table_schema.specs.declared.field.Schema.{Schema}
-use Rattle.table_schema.specs.declared.settings.TreeSetting.{TreeSetting}
 use Rattle.table_schema.specs.declared.settings.Settings.{Settings}
-use Rattle.schema_json.specs.declared.fault.KeyKind.TheVariants.{BadName, Unsupported}
+use Rattle.schema_json.specs.declared.fault.KeyKind.TheVariants.{BadName}
 use Rattle.table_schema.specs.Names.{Text}
 use Rattle.schema_json.specs.Json.{key_of}
 use Rattle.schema_json.specs.Keys.{optional, object_finding, refused_bool, required_text, unused_key, items_at}
 use Rattle.schema_json.specs.declared.fault.TextFault.{TextFault}
-use Rattle.schema_json.specs.Faults.{Finding, Gives, below, fault_unless}
-use Rattle.table_schema.specs.Firsts.{or_else}
+use Rattle.schema_json.specs.Faults.{Gives, below, fault_unless}
 use Rattle.table_schema.specs.Names.{is_column_name}
 use Rattle.table_schema.specs.Columns.{number_of}
 use Rattle.settings_json.specs.NamedColumns.{columns_finding, named}
 use Rattle.settings_json.specs.Trees.{TREES_KEY, trees_finding, tree_of}
 use Rattle.table_schema.specs.Valid.{no_repeat, IsValidSchema}
-use Rattle.settings_json.specs.Indexes.{INDEX_KEY, INVERTED_KEY, RANGE_KEY, RAW_KEY, SORTED_KEY, sorted_finding, sorted_number, sorted_name, index_form, raw_finding, index_checks, index_finding, indexed, unbuilt_finding}
-use Rattle.table_schema.specs.Unbuilt.{is_set_anywhere, is_no_tree, names_unbuilt}
-use Rattle.table_schema.specs.NeedIds.{is_the_number, is_set, is_split, needs_ids}
-use Rattle.settings_json.specs.TableTexts.{table_name, table_finding, type_finding, ingestion_finding, head_finding, settings_checks, settings_finding, settings_of}
-use Rattle.table_schema.specs.ValidSettings.{IsValidTree, is_known_number, IsValidSettings}
+use Rattle.settings_json.specs.Indexes.{INDEX_KEY, INVERTED_KEY, RANGE_KEY, RAW_KEY, SORTED_KEY, sorted_finding, sorted_number, sorted_name, index_form, raw_finding, index_finding, indexed}
+use Rattle.table_schema.specs.NeedIds.{is_set, needs_ids}
+use Rattle.settings_json.specs.TableTexts.{table_name, table_finding, type_finding, ingestion_finding, head_finding, settings_finding, settings_of}
+use Rattle.table_schema.specs.ValidSettings.{is_known_number, IsValidSettings}
 use Rattle.schema_json.proofs.Places.{length-map}
 use Rattle.table_schema.proofs.NumberLaw.{number_known}
 use Rattle.settings_json.proofs.TreeLaw.{trees_valid}
 use Rattle.settings_json.proofs.RawLaw.{raw_fits}
-use Rattle.schema_json.proofs.SchemaLaw.{unless_none, if_none}
+use Rattle.schema_json.proofs.SchemaLaw.{unless_none}
 use Rattle.table_schema.proofs.FirstLaws.{nones}
 
 -- ---- without indexes
 
-none_named : (fields : List Field) → is_set_anywhere (named fields []) ≡ false
-none_named [] = refl
-none_named (f ∷ fields) = none_named fields
-
-unset : (flags : List Bool) (n : ℕ) → is_set_anywhere flags ≡ false → is_set (slice_get flags n) ≡ false
-unset [] n e = refl
-unset (true ∷ flags) n e = absurd (true≢false e)
-unset (false ∷ flags) zero e = refl
-unset (false ∷ flags) (suc n) e = unset flags n e
-
 unmarked : (fields : List Field) (n : ℕ) → is_set (slice_get (named fields []) n) ≡ false
-unmarked fields n = unset (named fields []) n (none_named fields)
+unmarked [] n = refl
+unmarked (f ∷ fields) zero = refl
+unmarked (f ∷ fields) (suc n) = unmarked fields n
 
 no_ids : (fields : List Field) (table : Text) (n : ℕ) → needs_ids (indexed fields table null) n ≡ false
 no_ids fields table n = (λ i. unmarked fields n i || unmarked fields n i || false)
@@ -87,7 +76,7 @@ sorted_in fields None = refl
 sorted_in fields (Some v) = sorted_by fields (sorted_name v) (length (sorted_name v) == 0)
 
 index_valid : (fields : List Field) (table : Text) (o : Option Data) → no_repeat [] (map (λ f. f.name) fields) ≡ true → is_column_name table ≡ true
-    → optional (index_checks fields table) o ≡ None → IsValidSettings fields (indexed fields table (unwrap_or o null))
+    → optional (index_finding fields table) o ≡ None → IsValidSettings fields (indexed fields table (unwrap_or o null))
 index_valid fields table None apart name none = plain_valid fields table name
 index_valid fields table (Some d) apart name none =
     let s = indexed fields table d in
@@ -113,33 +102,11 @@ index_valid fields table (Some d) apart name none =
       raw_apart = raw_fits fields s (below INDEX_KEY RAW_KEY) (items_at RAW_KEY d) apart all.1.0;
     }
 
-pub checked_valid : (schema : Schema) (d : Data) → IsValidSchema schema → settings_checks schema.fields d ≡ None → IsValidSettings schema.fields (settings_of schema.fields d)
-checked_valid schema d valid none =
-    let fields = schema.fields in
-    let all = nones (head_finding d ∷ optional (index_checks fields (table_name d)) (key_of INDEX_KEY d) ∷ []) none in
-    index_valid fields (table_name d) (key_of INDEX_KEY d) valid.apart (named_by d all.0) all.1.0
-
--- ---- the refusal comes after the checks
-
-two_of_three : (a b f : Finding) → or_else a (or_else b (or_else f None)) ≡ None → or_else a (or_else b None) ≡ None
-two_of_three None None f none = refl
-two_of_three None (Some fault) f none = none
-two_of_three (Some fault) b f none = none
-
-index_checked : (fields : List Field) (table : Text) (o : Option Data) → optional (index_finding fields table) o ≡ None → optional (index_checks fields table) o ≡ None
-index_checked fields table None none = refl
-index_checked fields table (Some d) none = two_of_three (index_form fields d) (raw_finding fields (indexed fields table d) d) (unbuilt_finding (indexed fields table d)) none
-
-pub are_checked : (fields : List Field) (d : Data) → settings_finding fields d ≡ None → settings_checks fields d ≡ None
-are_checked fields d none =
-    let table = table_name d in
-    let all = nones (head_finding d ∷ optional (index_finding fields table) (key_of INDEX_KEY d) ∷ []) none in
-    ap (λ f. or_else f (or_else (optional (index_checks fields table) (key_of INDEX_KEY d)) None)) all.0
-    ∙ ap (λ f. or_else f None) (index_checked fields table (key_of INDEX_KEY d) all.1.0)
-
--- what is not refused as unbuilt either is valid
 pub settings_valid : (schema : Schema) (d : Data) → IsValidSchema schema → settings_finding schema.fields d ≡ None → IsValidSettings schema.fields (settings_of schema.fields d)
-settings_valid schema d valid none = checked_valid schema d valid (are_checked schema.fields d none)
+settings_valid schema d valid none =
+    let fields = schema.fields in
+    let all = nones (head_finding d ∷ optional (index_finding fields (table_name d)) (key_of INDEX_KEY d) ∷ []) none in
+    index_valid fields (table_name d) (key_of INDEX_KEY d) valid.apart (named_by d all.0) all.1.0
 
 -- a call that answers settings answers valid ones
 pub gives_valid : (schema : Schema) (d : Data) (r : Result Settings TextFault) → IsValidSchema schema → Gives (settings_finding schema.fields d) (settings_of schema.fields d) r → IfOk r (IsValidSettings schema.fields)

@@ -1,14 +1,12 @@
 -- What settings say of indexes.
-use Rattle.std.specs.Prelude.{◌≡◌, ℕ, Bool, true, false, not, ◌&&◌, ◌||◌, ◌==◌, nat_le, List, [], ◌∷◌, length, codes, Option, Some, None, is_some, option_and_then, unwrap_or, if◌then◌else◌}
-use Rattle.std.specs.List.{list_any, list_all, slice_get}
+use Rattle.std.specs.Prelude.{◌≡◌, ℕ, Bool, true, false, ◌&&◌, ◌||◌, ◌==◌, nat_le, List, [], ◌∷◌, length, codes, Option, Some, None, is_some, option_and_then, unwrap_or, if◌then◌else◌}
+use Rattle.std.specs.List.{list_all, slice_get}
 use Rattle.serde_json.specs.Data.{Data}
 use Rattle.serde_json.specs.Find.{as_str}
 use Rattle.table_schema.specs.declared.field.Field.{Field}
-use Rattle.table_schema.specs.declared.settings.TreeSetting.{TreeSetting}
 use Rattle.table_schema.specs.declared.settings.Settings.{Settings}
 use Rattle.table_schema.specs.Roles.{is_metric_at}
 use Rattle.table_schema.specs.NeedIds.{needs_ids}
-use Rattle.table_schema.specs.Unbuilt.{names_unbuilt}
 use Rattle.schema_json.specs.declared.fault.KeyKind.TheVariants.{WrongKind, Unsupported, UnknownColumn, TooMany}
 use Rattle.schema_json.specs.declared.fault.TextFault.TheVariants.{At}
 use Rattle.table_schema.specs.Names.{Text}
@@ -123,21 +121,8 @@ abbrev pub raw_finding : List Field → Settings → Data → Finding
 raw_finding fields s d = raw_places fields s (below INDEX_KEY RAW_KEY) (items_at RAW_KEY d)
 
 -- the checks of what stands under `tableIndexConfig`
-abbrev pub index_checks : List Field → Text → Data → Finding
-index_checks fields table d = first_of (
-    index_form fields d
-    ∷ raw_finding fields (indexed fields table d) d
-    ∷ [])
-
--- ---- what is not built yet
-
-abbrev pub unbuilt_finding : Settings → Finding
-unbuilt_finding s = fault_if (names_unbuilt s) Unsupported INDEX_KEY
-
--- the same checks, and the refusal of what is not built
 abbrev pub index_finding : List Field → Text → Data → Finding
 index_finding fields table d = first_of (
     index_form fields d
     ∷ raw_finding fields (indexed fields table d) d
-    ∷ unbuilt_finding (indexed fields table d)
     ∷ [])

@@ -13,7 +13,7 @@ use Rattle.schema_json.specs.Faults.{Finding, fault_unless}
 use Rattle.schema_json.specs.Keys.{optional, object_finding, required_text, text_at, unused_key}
 use Rattle.table_schema.specs.Names.{is_column_name}
 use Rattle.schema_json.specs.Schemas.{read_by}
-use Rattle.settings_json.specs.Indexes.{INDEX_KEY, index_checks, index_finding, indexed}
+use Rattle.settings_json.specs.Indexes.{INDEX_KEY, index_finding, indexed}
 use Rattle.table_schema.specs.Firsts.{first_of}
 
 -- without `_OFFLINE` at the end
@@ -70,13 +70,6 @@ abbrev pub settings_finding : List Field → Data → Finding
 settings_finding fields d = first_of (
     head_finding d
     ∷ optional (index_finding fields (table_name d)) (key_of INDEX_KEY d)
-    ∷ [])
-
--- the same checks without the refusal of what is not built
-abbrev pub settings_checks : List Field → Data → Finding
-settings_checks fields d = first_of (
-    head_finding d
-    ∷ optional (index_checks fields (table_name d)) (key_of INDEX_KEY d)
     ∷ [])
 
 -- without `tableIndexConfig` no index is named

@@ -6,7 +6,6 @@ ghost use Rattle.serde_json.specs.View.{view};
 ghost use Rattle.schema_json.specs.Keys.{items_at};
 ghost use Rattle.settings_json.specs.Indexes as spec;
 ghost use Rattle.table_schema.specs.NeedIds as ids;
-ghost use Rattle.table_schema.specs.Unbuilt as unbuilt;
 ghost use Rattle.schema_json.specs.Faults.{Gives, Passes, Refuses, at_place};
 
 use crate::columns::{columns, is_member, named};
@@ -40,7 +39,6 @@ pub(crate) fn read_indexes(
     let (settings, raw) = indexed(alloc, fields, table, json)?;
     let path = below(alloc, INDEX_KEY, RAW_KEY)?;
     check_raw(alloc, fields, &settings, path.as_str(), raw)?;
-    check_built(alloc, &settings)?;
     Ok(settings)
 }
 
@@ -151,34 +149,6 @@ fn is_split(trees: &[TreeSetting], number: u16) -> bool
 {
     for tree in trees {
         if is_member(tree.split.as_slice(), number) {
-            return true;
-        }
-    }
-    false
-}
-
-/// Range indexes and star-trees are not built yet.
-fn check_built(alloc: Global, settings: &Settings) -> Result<(), TextFault>
-    ensures { Passes (spec.unbuilt_finding settings.now) result }
-{
-    if names_unbuilt(settings) {
-        Err(fault_at(alloc, KeyKind::Unsupported, INDEX_KEY))
-    } else {
-        Ok(())
-    }
-}
-
-fn names_unbuilt(settings: &Settings) -> bool
-    ensures { result ≡ unbuilt.names_unbuilt settings.now }
-{
-    is_set_anywhere(settings.ranged.as_slice()) || !settings.trees.is_empty()
-}
-
-fn is_set_anywhere(flags: &[bool]) -> bool
-    ensures { result ≡ unbuilt.is_set_anywhere flags.now }
-{
-    for flag in flags {
-        if *flag {
             return true;
         }
     }

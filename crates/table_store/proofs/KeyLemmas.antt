@@ -1,5 +1,5 @@
 -- The names of the segments of a standing store.
-use Rattle.std.proofs.Common.{◌≡◌, ◌∙◌, ℕ, Bool, true, false, T, ◌&&◌, List, [], ◌∷◌, map, length, Option, Some, None, refl, sym, ap, subst}
+use Rattle.std.proofs.Common.{◌≡◌, ◌∙◌, ℕ, Bool, true, false, T, ◌&&◌, List, [], ◌∷◌, map, Option, Some, None, refl, sym, ap, subst}
 use Rattle.std.specs.Prelude.{is_some, option_map, unwrap_or}
 use Rattle.std.proofs.lemmas.Bool.{false≢true}
 use Rattle.std.specs.FinMap as tree
@@ -21,7 +21,7 @@ use Rattle.segment_file.specs.Heads.{KeepsRules}
 use Rattle.segment_file.proofs.ImageKeeps.{image_keeps}
 use Rattle.segment_file.specs.Names.{IsSegmentName, file_of, is_segment_name}
 use Rattle.table_store.specs.State.{Segment, Segments, HasTable, Texts}
-use Rattle.table_store.specs.Segments.{AreNames, NamesStand, has_segment}
+use Rattle.table_store.specs.Segments.{NamesStand, has_segment}
 use Rattle.table_store.specs.Accepted.{IsAccepted}
 use Rattle.table_store.specs.Stands.{IsSegment, Stands, segment_file}
 use Rattle.table_store.proofs.AcceptedLemmas.{accepted_valid, one_table}

@@ -13,6 +13,8 @@ pub enum StoreFault {
     NameTaken,
     /// There are as many segments as there may be.
     TooManySegments,
+    /// A star-tree of the rows takes more bytes than one may.
+    TooLarge,
     /// A stored file is not what it stands for.
     NotASegment(Part),
     ReadFault,

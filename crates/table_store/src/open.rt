@@ -1,6 +1,6 @@
 //! The table of a store.
 
-ghost use Rattle.std.specs.Prelude.{◌≡◌, ◌≢◌, ◌⊎◌, false, IfOk, IfErr, IsErrOf, OnErr};
+ghost use Rattle.std.specs.Prelude.{◌≡◌, ◌≢◌, ◌⊎◌, IfOk, IfErr, IsErrOf, OnErr};
 ghost use Rattle.outside.specs.Files.{Has, Lacks, OfFile};
 ghost use Rattle.outside.specs.Seen.{OnlyReads, seen};
 ghost use Rattle.outside.specs.Whole.{LogsFront};
@@ -8,7 +8,6 @@ ghost use Rattle.table_store.specs.Accepted.{IsNoTableFile, IsTableFile};
 ghost use Rattle.table_store.specs.TableFile.{file_limit, table_name};
 ghost use Rattle.segment_file.specs.declared.part.Part.TheVariants as part;
 ghost use Rattle.table_store.specs.declared.fault.StoreFault.TheVariants.{NoMemory, NotASegment};
-ghost use Rattle.table_schema.specs.Unbuilt.{names_unbuilt};
 ghost use Rattle.table_schema.specs.ValidTable.{IsValidTable};
 
 use crate::table_file::{FILE_LIMIT, NAME, texts_of};
@@ -34,7 +33,6 @@ fn of_text(fault: TextFault) -> StoreFault
 fn read_table(alloc: Global, file: &[u8]) -> Result<Table, StoreFault>
     ensures ok { IfOk result (IsTableFile file.now) }
     ensures valid { IfOk result (λ table. IsValidTable table) }
-    ensures built { IfOk result (λ table. names_unbuilt table.settings ≡ false) }
     ensures err { IfErr result (λ fault.
         fault ≢ NoMemory → (fault ≡ NotASegment part.Table) × IsNoTableFile file.now) }
 {
@@ -57,7 +55,6 @@ pub fn open_table<D: Depot>(alloc: Global, depot: &mut D) -> Result<Table, Store
     ensures table { IfOk result (λ table.
         OfFile (D.held depot.old) table_name (λ bytes. IsTableFile bytes table)) }
     ensures valid { IfOk result (λ table. IsValidTable table) }
-    ensures built { IfOk result (λ table. names_unbuilt table.settings ≡ false) }
     ensures none { IsErrOf result StoreFault.NoTable → Lacks (D.held depot.old) table_name }
     ensures other { IsErrOf result (StoreFault.NotASegment Part.Table) →
         OfFile (D.held depot.old) table_name IsNoTableFile }

@@ -7,7 +7,7 @@ ghost use Rattle.outside.specs.Counts.{Rose};
 ghost use Rattle.outside.specs.Files.{Has, Lacks, SameBut, name_order, with_file, without_file};
 ghost use Rattle.table_schema.specs.ValidTable.{AreRows, IsValidTable};
 ghost use Rattle.values.specs.Columns.{rows_of};
-ghost use Rattle.segment_build.specs.Sections.{IsBare};
+ghost use Rattle.segment_build.specs.Growing.{TreesFit, trees_fit};
 ghost use Rattle.segment_file.specs.Image.{image};
 ghost use Rattle.outside.specs.Seen.{OnlyReads, seen};
 ghost use Rattle.segment_file.specs.Names.{IsSegmentName, file_of};
@@ -55,7 +55,6 @@ pub fn publish_columns<D: Depot>(
     columns: &Columns,
 ) -> Result<(), StoreFault>
     requires valid { IsValidTable table.now }
-    requires bare { IsBare table.now }
     requires name { IsSegmentName name.now }
     requires width { length columns.now.columns ≡ length table.now.schema.fields }
     requires rows { AreRows table.now.schema.fields (rows_of columns.now) }
@@ -63,15 +62,19 @@ pub fn publish_columns<D: Depot>(
         (image 1 table.now name.now (rows_of columns.now)) (D.held depot.old)) }
     ensures free { OnOk result (Lacks (D.held depot.old) (file_of name.now)) }
     ensures room { OnOk result (IfSome (D.held depot.old) HasRoom) }
+    ensures fits { OnOk result (TreesFit table.now (rows_of columns.now)) }
     ensures kept { OnErr result (D.held depot.new ≡ D.held depot.old) }
     ensures taken { IsErrOf result StoreFault.NameTaken →
         Has (D.held depot.old) (file_of name.now) }
     ensures many { IsErrOf result StoreFault.TooManySegments →
         Lacks (D.held depot.old) (file_of name.now) × IfSome (D.held depot.old) IsFull }
+    ensures too_large { IsErrOf result StoreFault.TooLarge →
+        Lacks (D.held depot.old) (file_of name.now) × IfSome (D.held depot.old) HasRoom
+        × (trees_fit table.now (rows_of columns.now) ≡ false) }
     ensures only { OnErr result
         (IsErrOf result StoreFault.NameTaken ⊎ IsErrOf result StoreFault.TooManySegments
-        ⊎ IsErrOf result StoreFault.ReadFault ⊎ IsErrOf result StoreFault.WriteFault
-        ⊎ IsErrOf result StoreFault.NoMemory) }
+        ⊎ IsErrOf result StoreFault.TooLarge ⊎ IsErrOf result StoreFault.ReadFault
+        ⊎ IsErrOf result StoreFault.WriteFault ⊎ IsErrOf result StoreFault.NoMemory) }
     ensures gone { OnOk result (D.parts depot.new ≡ without_file incoming (D.parts depot.old)) }
     ensures other_parts { SameBut incoming (D.parts depot.old) (D.parts depot.new) }
     ensures log { D.log depot.new ≡ D.log depot.old }
@@ -92,7 +95,7 @@ pub fn publish_columns<D: Depot>(
         Ok(()) => Ok(()),
         Err(BuildFault::WriteFault) => Err(StoreFault::WriteFault),
         Err(BuildFault::NoMemory) => Err(StoreFault::NoMemory),
-        Err(BuildFault::TooLarge(_)) => unreachable!(),
+        Err(BuildFault::TooLarge(_)) => Err(StoreFault::TooLarge),
     }
 }
 
@@ -105,22 +108,25 @@ pub fn publish_segment<D: Depot>(
     rows: &Rows,
 ) -> Result<(), StoreFault>
     requires valid { IsValidTable table.now }
-    requires bare { IsBare table.now }
     requires name { IsSegmentName name.now }
     requires rows { AreRows table.now.schema.fields rows.now }
     ensures published { OnOk result (D.held depot.new ≡ with_file (file_of name.now)
         (image 1 table.now name.now rows.now) (D.held depot.old)) }
     ensures free { OnOk result (Lacks (D.held depot.old) (file_of name.now)) }
     ensures room { OnOk result (IfSome (D.held depot.old) HasRoom) }
+    ensures fits { OnOk result (TreesFit table.now rows.now) }
     ensures kept { OnErr result (D.held depot.new ≡ D.held depot.old) }
     ensures taken { IsErrOf result StoreFault.NameTaken →
         Has (D.held depot.old) (file_of name.now) }
     ensures many { IsErrOf result StoreFault.TooManySegments →
         Lacks (D.held depot.old) (file_of name.now) × IfSome (D.held depot.old) IsFull }
+    ensures too_large { IsErrOf result StoreFault.TooLarge →
+        Lacks (D.held depot.old) (file_of name.now) × IfSome (D.held depot.old) HasRoom
+        × (trees_fit table.now rows.now ≡ false) }
     ensures only { OnErr result
         (IsErrOf result StoreFault.NameTaken ⊎ IsErrOf result StoreFault.TooManySegments
-        ⊎ IsErrOf result StoreFault.ReadFault ⊎ IsErrOf result StoreFault.WriteFault
-        ⊎ IsErrOf result StoreFault.NoMemory) }
+        ⊎ IsErrOf result StoreFault.TooLarge ⊎ IsErrOf result StoreFault.ReadFault
+        ⊎ IsErrOf result StoreFault.WriteFault ⊎ IsErrOf result StoreFault.NoMemory) }
     ensures gone { OnOk result (D.parts depot.new ≡ without_file incoming (D.parts depot.old)) }
     ensures other_parts { SameBut incoming (D.parts depot.old) (D.parts depot.new) }
     ensures log { D.log depot.new ≡ D.log depot.old }

@@ -1,4 +1,3 @@
-use Rattle.settings_json.proofs.BuiltLaw.{accepted_are_built}
 use Rattle.table_store.specs.State.{Texts}
 use Rattle.table_store.proofs.OpenLemmas.{schema_refused, settings_refused}
 use Rattle.table_store.proofs.open.read_table.Goals as goal
@@ -13,6 +12,3 @@ returns-in-Err-read_settings-clause-err c =
     let texts : Texts = record { schema = c.in-Some.schema.now; settings = c.in-Some.settings.now } in
     settings_refused c.args.file.now texts c.in-Ok.schema c.in-Err-read_settings.fault c.of_text-in-Err-read_settings.result c.in-Some.ensures.0 c.in-Some.ensures.1 c.in-Ok.ensures.ok
     c.in-Err-read_settings.ensures.err c.of_text-in-Err-read_settings.ensures.text c.of_text-in-Err-read_settings.ensures.memory
-
-pub returns-in-Ok-read_settings-clause-built : goal.returns-in-Ok-read_settings-clause-built
-returns-in-Ok-read_settings-clause-built c = accepted_are_built c.in-Ok.schema.fields c.in-Some.settings.now c.in-Ok-read_settings.settings c.in-Ok-read_settings.ensures.ok
