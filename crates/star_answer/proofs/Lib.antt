@@ -13,3 +13,7 @@ pub mod RowGroups
 pub mod ServedSteps
 pub mod CoverLemmas
 pub mod KeyedSteps
+pub mod SamePicks
+pub mod RowIds
+pub mod DocSteps
+pub mod BoundSteps

@@ -3,3 +3,4 @@ pub mod Asked
 pub mod Answers
 pub mod Taken
 pub mod Served
+pub mod Docs
