@@ -1,5 +1,6 @@
 -- The bound on what a query reads of a tree of rows, by the values of each split dimension.
-use Rattle.std.proofs.Common.{◌≡◌, ◌∙◌, ◌<◌, ◌≤◌, ◌+◌, ◌*◌, ◌==◌, ◌&&◌, ◌||◌, ℕ, zero, suc, Bool, true}
+use Rattle.std.proofs.Common.{◌≡◌, ◌∙◌, ◌<◌, ◌≤◌, ◌+◌, ◌*◌, ◌==◌, ◌&&◌, ◌||◌, ℕ, zero, suc, Bool}
+use Rattle.std.proofs.Common.{true}
 use Rattle.std.proofs.Common.{false, List, [], ◌∷◌, cond, length, map, get_or, Option, Some, None}
 use Rattle.std.proofs.Common.{refl, sym, ap, subst, arith}
 use Rattle.std.specs.Prelude.{pos, slice_get}
@@ -13,6 +14,7 @@ use Rattle.values.specs.declared.value.Value.{Value}
 use Rattle.values.specs.declared.value.Value.TheVariants.{Whole}
 use Rattle.agg_laws.specs.declared.tree_shape.TreeShape.{TreeShape}
 use Rattle.agg_laws.specs.Docs.{Doc, HaveIds}
+use Rattle.agg_laws.proofs.DocLemmas.{rows_join}
 use Rattle.agg_laws.specs.Picks as asks
 use Rattle.agg_laws.specs.Picks.{picks, read_of}
 use Rattle.agg_laws.specs.Reads as reads
@@ -31,7 +33,7 @@ use Rattle.segment_file.specs.Heads.{Seen}
 use Rattle.segment_file.specs.Parts.{columns_of}
 use Rattle.segment_file.specs.Trees.{documents}
 use Rattle.segment_file.proofs.ImageRows.{some_values}
-use Rattle.segment_file.proofs.TreeRows.{tree_no_star}
+use Rattle.segment_file.proofs.TreeRows.{count_rows, tree_no_star}
 use Rattle.segment_plan.specs.declared.plans.SegmentPlan.{SegmentPlan}
 use Rattle.segment_plan.specs.declared.plans.SegmentPlan.TheVariants.{Pruned, Empty, StarTree}
 use Rattle.segment_plan.specs.Factors.{factor, factors_from, is_whole}
@@ -41,9 +43,11 @@ use Rattle.segment_plan.specs.Plan.{is_emptied, leaves_none, scan_of, tree_or}
 use Rattle.segment_plan.specs.Planned.{factors_over, plan_over, told_head}
 use Rattle.segment_plan.specs.Pruning.{is_pruned}
 use Rattle.eligibility.specs.Rule.{picked}
-use Rattle.star_answer.specs.Docs.{DocsAreBounded, docs_in, docs_of, product, task_over}
+use Rattle.star_answer.specs.Docs.{DocsAreBounded, DocsAreFew, docs_in, docs_of, product}
+use Rattle.star_answer.specs.Docs.{task_over}
 use Rattle.star_answer.specs.Served.{field_of}
 use Rattle.star_answer.proofs.DocSteps.{tree_ids}
+use Rattle.star_answer.proofs.FewDocs.{few_read}
 use Rattle.star_answer.proofs.RowIds.{ids_are}
 use Rattle.star_answer.proofs.SamePicks.{some_there}
 
@@ -248,6 +252,25 @@ docs_bounded most query table rows t tree valid few plan at =
     ≡ product (factors_over query table rows tree) =
     ap (λ n. reads.factors_from merged_rows task tree.shape docs n 0) dims
     ∙ product_same query table rows tree fine in
-    subst (λ o. docs_in query rows o ≤ tree.shape.leaf * product (factors_over query table rows tree))
-    (sym at)
+    let most_docs = tree.shape.leaf * product (factors_over query table rows tree) in
+    subst (λ o. docs_in query rows o ≤ most_docs) (sym at)
     (subst (λ n. docs_of query rows tree ≤ tree.shape.leaf * n) factors own)
+
+-- ---- no more than there are rows
+
+pub docs_few : DocsAreFew
+unfolding docs_of
+docs_few query table rows t valid few = by (slice_get table.settings.trees t) refl
+  where
+    by : (o : Option TreeSetting) → slice_get table.settings.trees t ≡ o
+        → docs_in query rows o ≤ length rows
+    by None at = omega arith
+    by (Some tree) at =
+        let fields = table.schema.fields in
+        let fine : IsValidTree fields tree =
+        valid_at (IsValidTree fields) table.settings.trees t tree valid.settings.trees_valid at in
+        let size = count_rows rows tree rows in
+        let own = few_read merged_rows rows_join (task_over query rows tree.split) tree.shape.dims
+        tree.shape (documents rows tree) (tree_ids fields rows tree fine)
+        (tree_no_star fields rows tree fine few) in
+        omega (arith, own, size)

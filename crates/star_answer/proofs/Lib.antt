@@ -17,3 +17,4 @@ pub mod SamePicks
 pub mod RowIds
 pub mod DocSteps
 pub mod BoundSteps
+pub mod FewDocs

@@ -1,4 +1,4 @@
--- The ids of rows in a star-tree: the places of their values among the distinct ones of each column.
+-- The ids of rows in a star-tree: the places of their values among the distinct ones of a column.
 use Rattle.std.proofs.Common.{◌≡◌, ◌∙◌, ◌<◌, ◌≤◌, ◌||◌, ℕ, zero, suc, Bool, true, false, All}
 use Rattle.std.proofs.Common.{List, [], ◌∷◌, length, map, get_or, Some, refl, sym, ap, subst, arith}
 use Rattle.std.specs.Prelude.{pos, slice_get, if◌then◌else◌}

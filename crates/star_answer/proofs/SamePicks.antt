@@ -1,6 +1,8 @@
 -- Tasks that ask the same of the ids that there are pick the same nodes of a tree.
-use Rattle.std.proofs.Common.{◌≡◌, ◌∙◌, ◌<◌, ◌≤◌, ◌+◌, ◌==◌, ◌&&◌, ◌++◌, ◌⊎◌, ℕ, zero, suc, Bool, true, false}
-use Rattle.std.proofs.Common.{cond, not, inl, inr, List, [], ◌∷◌, length, refl, sym, ap, subst, arith}
+use Rattle.std.proofs.Common.{◌≡◌, ◌∙◌, ◌<◌, ◌≤◌, ◌+◌, ◌==◌, ◌&&◌, ◌++◌, ◌⊎◌, ℕ, zero, suc, Bool}
+use Rattle.std.proofs.Common.{true, false}
+use Rattle.std.proofs.Common.{cond, not, inl, inr, List, [], ◌∷◌, length, refl, sym, ap, subst}
+use Rattle.std.proofs.Common.{arith}
 use Rattle.std.proofs.lemmas.Bool.{eq-eqb, false≢true}
 use Rattle.agg_laws.specs.declared.node.Node.{Node}
 use Rattle.agg_laws.specs.declared.tree_shape.TreeShape.{TreeShape}

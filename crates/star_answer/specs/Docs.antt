@@ -1,5 +1,5 @@
--- How many documents a query reads of a star-tree of a segment's rows, apart from any file: those of
--- the picks of the nested tree, where the query asks of ids what it asks of their values.
+-- How many documents a query reads of a star-tree of a segment's rows, apart from any file: those
+-- of the picks of the nested tree, where the query asks of ids what it asks of their values.
 use Rattle.std.specs.Prelude.{◌≡◌, ◌≤◌, ℕ, ◌*◌, pos, List, [], ◌∷◌, length, map, Option, Some, None}
 use Rattle.std.specs.Prelude.{slice_get, slice_index_or}
 use Rattle.std.specs.List.{list_all}
@@ -75,3 +75,9 @@ DocsAreBounded = (query : BoundQuery) (table : Table) (rows : List (List Value))
     (tree : TreeSetting) → IsValidTable table → length rows ≤ most_values
     → plan_over query table rows ≡ StarTree t → slice_get table.settings.trees t ≡ Some tree
     → docs_read query table rows t ≤ tree.shape.leaf * product (factors_over query table rows tree)
+
+-- it never reads more of a tree than there are rows
+abbrev pub DocsAreFew : Type 0
+DocsAreFew = (query : BoundQuery) (table : Table) (rows : List (List Value)) (t : ℕ)
+    → IsValidTable table → length rows ≤ most_values
+    → docs_read query table rows t ≤ length rows

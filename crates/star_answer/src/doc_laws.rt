@@ -1,7 +1,7 @@
 //! The laws of how many documents a query reads of a star-tree. Each is the contract of a function
 //! that does nothing of its own.
 
-ghost use Rattle.star_answer.specs.Docs.{DocsAreBounded, WalkReadsDocs};
+ghost use Rattle.star_answer.specs.Docs.{DocsAreBounded, DocsAreFew, WalkReadsDocs};
 
 use agg_laws::{node_rules_law, reads_law};
 use star_walk::walk_law;
@@ -22,3 +22,8 @@ pub fn docs_bound_law()
 {
     reads_law();
 }
+
+/// A query never reads more documents of a star-tree than the segment has rows.
+pub fn docs_few_law()
+    ensures few { DocsAreFew }
+{}

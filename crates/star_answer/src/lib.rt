@@ -15,7 +15,7 @@ mod weighing;
 
 pub use answer::answer_tree;
 pub use asked::{Asked, GroupColumn};
-pub use doc_laws::{docs_bound_law, docs_law};
+pub use doc_laws::{docs_bound_law, docs_few_law, docs_law};
 pub use fault::AnswerFault;
 pub use laws::served_law;
 pub use tree_part::TreePart;
