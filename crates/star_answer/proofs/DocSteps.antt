@@ -19,7 +19,7 @@ use Rattle.segment_file.specs.Trees.{documents}
 use Rattle.segment_file.proofs.TreeRows.{tree_no_star}
 use Rattle.star_walk.specs.Images.{read_of}
 use Rattle.star_walk.specs.Walking.{tree_picks}
-use Rattle.star_answer.specs.Docs.{WalkReadsDocs, docs_of, split_values, task_over}
+use Rattle.star_answer.specs.Docs.{WalkReadsDocs, docs_of, row_values, task_over}
 use Rattle.star_answer.specs.Served.{AsksFor}
 use Rattle.star_answer.proofs.RowIds.{all_placed, are_counted, few_counts, have_ids}
 use Rattle.star_answer.proofs.SamePicks.{AskSame, picks_same}
@@ -39,7 +39,7 @@ module _ (columns : List Field) (rows : List (List Value)) (tree : TreeSetting)
 
   -- the task asks what the query does
   asked_same : (query : BoundQuery) (t : asks.Task)
-      → AsksFor query tree.split (split_values rows tree.split) t
+      → AsksFor query tree.split (row_values rows tree.split) t
       → AskSame t (task_over query rows tree.split) tree.shape.dims
       (map (count_of rows) tree.split)
   asked_same query t asked =

@@ -26,8 +26,8 @@ use Rattle.star_walk.specs.Walking.{tree_picks}
 use Rattle.star_answer.specs.Served.{AsksFor, field_of, flat_of}
 
 -- the distinct values of rows in a split dimension, ascending: an id is the number of one of them
-abbrev pub split_values : List (List Value) → List ℕ → ℕ → List Value
-split_values rows split d = distinct (values_in (field_of split d) rows)
+abbrev pub row_values : List (List Value) → List ℕ → ℕ → List Value
+row_values rows split d = distinct (values_in (field_of split d) rows)
 
 -- what a query asks of the ids of a tree of these rows: of an id what it asks of the value that the
 -- id stands for
@@ -35,7 +35,7 @@ abbrev pub task_over : BoundQuery → List (List Value) → List ℕ → asks.Ta
 task_over query rows split = record {
   filtered = λ d. is_filtered query.conjuncts (field_of split d);
   passes = λ d id. list_all
-      (passes (field_of split d) (slice_index_or (split_values rows split d) id (Whole (pos 0))))
+      (passes (field_of split d) (slice_index_or (row_values rows split d) id (Whole (pos 0))))
       query.conjuncts;
   grouped = λ d. is_member query.groups (field_of split d);
 }
@@ -63,7 +63,7 @@ product (n ∷ ns) = n * product ns
 abbrev pub WalkReadsDocs : Type 0
 WalkReadsDocs = (query : BoundQuery) (columns : List Field) (rows : List (List Value))
     (tree : TreeSetting) (t : asks.Task) → IsValidTree columns tree → length rows ≤ most_values
-    → AsksFor query tree.split (split_values rows tree.split) t
+    → AsksFor query tree.split (row_values rows tree.split) t
     → flat.read_of
     (tree_picks t tree.shape.dims (flat_of tree.shape (map (tree_row rows tree) rows)).0)
     ≡ docs_in query rows (Some tree)
