@@ -53,12 +53,11 @@ use Rattle.star_answer.specs.declared.asked.GroupColumn.{GroupColumn}
 use Rattle.star_answer.specs.declared.tree_part.TreePart.{TreePart}
 use Rattle.star_answer.specs.Answers.{IsTree, asked_of, picks_of}
 use Rattle.star_answer.specs.Asked.{AreAsked, IsTableFor, kinds_for}
-use Rattle.star_answer.specs.Docs.{docs_read, read_over, task_over}
+use Rattle.star_answer.specs.Docs.{WalkReadsDocs, docs_in, docs_read}
 use Rattle.star_answer.specs.OfRows.{entries_of, row_values}
 use Rattle.star_answer.specs.Served.{AsksFor, IsServed, IsTreeOf, field_of, flat_of, pair_of}
 use Rattle.star_answer.specs.Tasks.{AreColumnsOf, AreGroupsLoaded, ArePairsOf, split_values}
 use Rattle.star_answer.proofs.RowSteps.{asks_of_rows, columns_of_rows, rows_projected}
-use Rattle.star_answer.proofs.SamePicks.{picks_alike}
 use Rattle.star_answer.proofs.TreeIds.{rows_ids, tree_ids}
 
 -- what is known of a tree of a segment where it is walked for a query
@@ -81,13 +80,6 @@ pub record Stands (query : BoundQuery) (table : Table) (head : Seen) (t : ℕ) (
   pub columns : AreColumnsOf query.groups setting.split (split_values head setting.split)
       asked.columns.now
   pub pairs : ArePairsOf query.aggs setting.pairs asked.pairs.now
-
--- what the law of walks says of how many documents are read of a tree
-abbrev pub WalkCounts : Type 0
-WalkCounts = (t : asks.Task) (shape : TreeShape) (k : ℕ) (docs : List Doc) → HaveIds k docs
-    → HaveNoStar k docs
-    → read_of (tree_picks t k (flat merged_rows (tree_of merged_rows shape k docs)).0)
-    ≡ asks.read_of (picks merged_rows t k (tree_of merged_rows shape k docs))
 
 -- ---- kinds
 
@@ -325,23 +317,18 @@ module _ (query : BoundQuery) (table : Table) (head : Seen) (t : ℕ) (setting :
           };
         }
 
+    few-rows : length os ≤ 1048576
+    few-rows =
+        let few = s.of_table.few in
+        let many = s.of_table.has.rows_are in
+        let same = tells.rows_are in
+        omega (arith, few, many, same)
+
     -- as many documents are read as the query reads of the tree of the rows
-    pub count_is : WalkCounts
+    pub count_is : WalkReadsDocs
         → read_of (picks_of part task) ≡ docs_read query table (ordered table.settings.sorted rows) t
-    count_is walk =
-        let tk = asked_of task in
-        let k : ℕ = setting.shape.dims in
-        let ds : List Doc = documents os setting in
-        let counts : List ℕ = map (count_of os) setting.split in
-        let long : length task.matched ≡ k = s.entries ∙ sym tree-valid.has_dims in
-        let within : (d : ℕ) → d < k → d < length setting.split =
-        (λ d lt. omega (arith, lt, tree-valid.has_dims)) in
-        (λ i. read_of (tree_picks tk (long i) (nodes-rows i)))
-        ∙ walk tk setting.shape k ds sections.ids sections.no_star
-        ∙ ap asks.read_of (picks_alike tk (task_over query os setting) setting.shape k counts
-        (λ d lt. asks-rows.tested d (within d lt))
-        (λ d lt. asks-rows.grouped d (within d lt))
-        (λ d id lt below is. asks-rows.passing d id (within d lt)
-        (omega (arith, below, values-many d (within d lt))) is)
-        ds sections.counted)
-        ∙ ap (read_over query os) (sym s.at)
+    count_is reads =
+        let long : length task.matched ≡ setting.shape.dims = s.entries ∙ sym tree-valid.has_dims in
+        (λ i. read_of (tree_picks (asked_of task) (long i) (nodes-rows i)))
+        ∙ reads query table.schema.fields os setting (asked_of task) tree-valid few-rows asks-rows
+        ∙ ap (docs_in query os) (sym s.at)

@@ -20,3 +20,7 @@ pub mod SamePicks
 pub mod TreeIds
 pub mod ImageSteps
 pub mod SegmentSteps
+pub mod RowIds
+pub mod DocSteps
+pub mod BoundSteps
+pub mod FewDocs

@@ -43,14 +43,14 @@ use Rattle.star_answer.specs.declared.tree_part.TreePart.{TreePart}
 use Rattle.star_answer.specs.Answers.{Answers, IsBad, IsOverfull, IsTree, asked_of, picks_of}
 use Rattle.star_answer.specs.Answers.{LogsPicks, LogsSome, reads_of, stretch_of, stretches_of}
 use Rattle.star_answer.specs.Asked.{AreAsked, IsTableFor}
-use Rattle.star_answer.specs.Docs.{docs_read}
+use Rattle.star_answer.specs.Docs.{WalkReadsDocs, docs_read}
 use Rattle.star_answer.specs.Segments.{AddsAnswer, AreDocsRead, IsAnswerOverfull, IsInside}
 use Rattle.star_answer.specs.Segments.{LogsAnswer, LogsAnswerPartly, LogsDocs, stretches_in}
 use Rattle.star_answer.specs.Served.{AsksFor, IsServed}
 use Rattle.star_answer.specs.Tasks.{AreColumnsOf, AreGroupsLoaded, ArePairsOf, split_values}
 use Rattle.star_answer.proofs.AnswerSteps.{PicksWithin, reads_many, reads_within}
 use Rattle.star_answer.proofs.ImageSteps as image
-use Rattle.star_answer.proofs.ImageSteps.{Stands, WalkCounts}
+use Rattle.star_answer.proofs.ImageSteps.{Stands}
 
 -- ---- the tree that is picked
 
@@ -183,7 +183,7 @@ module _ (query : BoundQuery) (table : Table) (head : Seen) (t : ℕ) (setting :
         image.served query table head t setting part task asked said s law files rows nodes counts of
 
     -- how many documents are read
-    pub docs_are : WalkCounts → (held : Option Files) → Nodes held → Counts held → (n : ℕ)
+    pub docs_are : WalkReadsDocs → (held : Option Files) → Nodes held → Counts held → (n : ℕ)
         → n ≡ read_of (picks_of part task) → n ≤ head.rows
         → AreDocsRead query table held head t n
     docs_are walk held nodes counts n is few = record { few = few; told = by held nodes counts }
@@ -247,7 +247,7 @@ module _ (query : BoundQuery) (table : Table) (head : Seen) (t : ℕ) (setting :
         (subst (λ n. IsBad part task asked n (Some files)) (many-rows files rows nodes counts of) bad))
 
     -- what is read of the section of documents
-    pub logs_docs : WalkCounts → PicksWithin → (held : Option Files) → Nodes held → Counts held
+    pub logs_docs : WalkReadsDocs → PicksWithin → (held : Option Files) → Nodes held → Counts held
         → (Logs : List ℕ → List Stretch → Option (List Entry) → Option (List Entry) → Type 0)
         → (old new : Option (List Entry))
         → Logs part.documents.now.file (stretches_of part (reads_of part task)) old new
@@ -394,7 +394,7 @@ module _ (query : BoundQuery) (table : Table) (head : Seen) (t : ℕ) (setting :
   pub ready_table : (old : KeptGroups) → IsTableOf query old → IsTableFor part.shape.now asked old
   ready_table = image.for_table query table head t setting part task asked said r.stands
 
-  pub ready_docs : WalkCounts → (old new : KeptGroups) (n : ℕ) → n ≡ read_of (picks_of part task)
+  pub ready_docs : WalkReadsDocs → (old new : KeptGroups) (n : ℕ) → n ≡ read_of (picks_of part task)
       → Answers part task asked rows now old new → AreDocsRead query table held head t n
   ready_docs walk old new n is a =
       docs_are query table head t setting part task asked said r.stands law walk held r.nodes r.counts
@@ -420,7 +420,7 @@ module _ (query : BoundQuery) (table : Table) (head : Seen) (t : ℕ) (setting :
       (subst (λ h. IsBad part task asked head.rows h) same
       (subst (λ n. IsBad part task asked n now) rows-are bad))
 
-  pub ready_log : WalkCounts → PicksWithin → (n : ℕ) (old between new : Option (List Entry))
+  pub ready_log : WalkReadsDocs → PicksWithin → (n : ℕ) (old between new : Option (List Entry))
       → n ≡ read_of (picks_of part task) → LogsTree table head t old between
       → LogsPicks part (reads_of part task) between new
       → LogsAnswer query table held head t n old new
@@ -436,7 +436,7 @@ module _ (query : BoundQuery) (table : Table) (head : Seen) (t : ℕ) (setting :
         (reads_of part task) refl ∙ sym is;
   }
 
-  pub ready_partly : WalkCounts → PicksWithin → (old between new : Option (List Entry))
+  pub ready_partly : WalkReadsDocs → PicksWithin → (old between new : Option (List Entry))
       → LogsTree table head t old between → LogsSome part (reads_of part task) between new
       → LogsAnswerPartly query table held head t old new
   ready_partly walk picks-within old between new nodes logs = inr (record {

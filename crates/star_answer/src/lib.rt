@@ -6,6 +6,7 @@
 mod answer;
 mod asked;
 mod asking;
+mod doc_laws;
 mod fault;
 mod laws;
 mod meeting;
@@ -21,6 +22,7 @@ mod weighing;
 pub use answer::answer_tree;
 pub use asked::{Asked, GroupColumn};
 pub use asking::{group_columns, pair_numbers};
+pub use doc_laws::{docs_bound_law, docs_few_law, docs_read_law};
 pub use fault::AnswerFault;
 pub use laws::{rows_law, served_law};
 pub use segment::answer_segment;

@@ -23,6 +23,7 @@ ghost use Rattle.star_answer.specs.Tasks.{AreGroupsLoaded};
 use crate::answer::answer_tree;
 use crate::asked::Asked;
 use crate::asking::{group_columns, pair_numbers};
+use crate::doc_laws::docs_read_law;
 use crate::laws::served_law;
 use crate::segment_fault::{SegmentFault, of_head, of_tree};
 use crate::tasks::tree_task;
@@ -31,7 +32,7 @@ use group_table::GroupTable;
 use outside::{Place, Shelf};
 use segment_file::{Head, Part};
 use segment_plan::head_tells_law;
-use star_walk::{walk_law, walkable_law};
+use star_walk::walkable_law;
 use std::alloc::Global;
 use table_schema::{BoundQuery, Table};
 
@@ -71,7 +72,7 @@ pub fn answer_segment<S: Shelf>(
         head.now tree (S.log shelf.old) (S.log shelf.new)) }
 {
     served_law();
-    walk_law();
+    docs_read_law();
     walkable_law();
     head_tells_law();
     let opened = match head.read_tree(alloc, shelf, table, tree) {
