@@ -148,7 +148,7 @@ returns-in-Ok-answer_tree-clause-count g c =
     c.as_slice-2.ensures.value in
     steps.ready_docs query table head t setting part task asked said held now ready
     c.in-Ok.ensures.only_reads.held c.head_tells_law.ensures c.rows.result c.rows.ensures
-    c.docs_read_law.ensures c.args.groups.now c.answer_tree.new.groups c.in-Ok-answer_tree.count
+    c.docs_read_law.ensures.read c.args.groups.now c.answer_tree.new.groups c.in-Ok-answer_tree.count
     c.in-Ok-answer_tree.ensures.count c.in-Ok-answer_tree.ensures.ok
 
 pub returns-in-Ok-answer_tree-clause-ok : goal.returns-in-Ok-answer_tree-clause-ok
@@ -202,7 +202,7 @@ returns-in-Ok-answer_tree-clause-log g c =
     c.as_slice-2.ensures.value in
     steps.ready_log query table head t setting part task asked said held now ready
     c.in-Ok.ensures.only_reads.held c.head_tells_law.ensures c.rows.result c.rows.ensures
-    c.docs_read_law.ensures c.walkable_law.ensures.within c.in-Ok-answer_tree.count
+    c.docs_read_law.ensures.read c.walkable_law.ensures.within c.in-Ok-answer_tree.count
     (g.S.Shelf.log c.args.shelf.now) (g.S.Shelf.log c.read_tree.new.shelf)
     (g.S.Shelf.log c.answer_tree.new.shelf) c.in-Ok-answer_tree.ensures.count c.in-Ok.ensures.log
     c.in-Ok-answer_tree.ensures.log
@@ -287,7 +287,7 @@ returns-clause-log_of_fault g c =
     c.as_slice-2.ensures.value in
     steps.ready_partly query table head t setting part task asked said held now ready
     c.in-Ok.ensures.only_reads.held c.head_tells_law.ensures c.rows.result c.rows.ensures
-    c.docs_read_law.ensures c.walkable_law.ensures.within
+    c.docs_read_law.ensures.read c.walkable_law.ensures.within
     (g.S.Shelf.log c.args.shelf.now) (g.S.Shelf.log c.read_tree.new.shelf)
     (g.S.Shelf.log c.answer_tree.new.shelf) c.in-Ok.ensures.log
     c.in-Err-answer_tree.ensures.log_of_fault
