@@ -44,7 +44,7 @@ use Rattle.query_executor.specs.Logs.{LogsIn}
 use Rattle.query_executor.proofs.LogLemmas.{logs_none, logs_on, logs_then, logs_through}
 
 -- the file of the place of a section
-place_file : (file : List ℕ) (sections : List Section) (p : Part) → AreIn file sections → IfSome (place_in sections p) (λ place. place.file ≡ file)
+pub place_file : (file : List ℕ) (sections : List Section) (p : Part) → AreIn file sections → IfSome (place_in sections p) (λ place. place.file ≡ file)
 place_file file [] p within = tt
 place_file file (s ∷ ss) p within =
     let P : Section → Type 0 = λ x. x.place.file ≡ file in
@@ -89,11 +89,11 @@ module _ (head : Seen) (file : List ℕ) (within : AreIn file head.sections) (na
 -- ---- parts of a file, one after the other
 
 module _ (file : List ℕ) where
-  over_in_file : (parts : List Stretch) (old new : Option (List Entry)) → LogsOver file parts old new → LogsIn file old new
+  pub over_in_file : (parts : List Stretch) (old new : Option (List Entry)) → LogsOver file parts old new → LogsIn file old new
   over_in_file [] old new logs = subst (LogsIn file old) (sym logs) (logs_none (λ other. other ≡ file) old)
   over_in_file (part ∷ parts) old new (between, first, rest) = logs_then (λ other. other ≡ file) old between new (logs_on file part.from part.to old between first) (over_in_file parts between new rest)
 
-  over_partly : (parts : List Stretch) (old new : Option (List Entry)) → stretches.LogsPartly file parts old new → LogsIn file old new
+  pub over_partly : (parts : List Stretch) (old new : Option (List Entry)) → stretches.LogsPartly file parts old new → LogsIn file old new
   over_partly [] old new logs = subst (LogsIn file old) (sym logs) (logs_none (λ other. other ≡ file) old)
   over_partly (part ∷ parts) old new (inl (to, le, through)) = logs_through file part.from to old new through
   over_partly (part ∷ parts) old new (inr (between, first, rest)) = logs_then (λ other. other ≡ file) old between new (logs_on file part.from part.to old between first) (over_partly parts between new rest)
