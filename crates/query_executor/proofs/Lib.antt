@@ -14,3 +14,4 @@ mod StatedLemmas
 mod GrownLemmas
 mod TreeLogs
 mod SpanLemmas
+mod PlaceLemmas

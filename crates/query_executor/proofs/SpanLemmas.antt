@@ -1,7 +1,7 @@
 -- Where the parts of a segment's file are, and how many bytes of them reads gave.
 use Rattle.std.proofs.Common.{◌≡◌, ◌≢◌, ◌∙◌, ◌+◌, ◌*◌, ◌-◌, ◌<◌, ◌≤◌, ◌++◌, ◌⊎◌, [], ◌∷◌, ℕ, Bool, true, false, List, All, Option, Some, None, IfSome, inl, inr, length, map, option_map, slice_get, refl, sym, ap, subst, arith}
 use Rattle.std.proofs.lemmas.List.Elements.{All-append, All-head, All-nil, All-tail}
-use Rattle.std.proofs.Math.Nat.{mul-sub_right}
+use Rattle.std.proofs.Math.Nat.{mul-sub}
 use Rattle.std.specs.List.{AllByRecursion}
 use Rattle.outside.specs.Reads.{Entry, LogsThrough, overlap, read_in}
 use Rattle.outside.proofs.ReadLemmas.{LogsOn-through, read_by-apart, read_in-append, read_in-cons, read_in-others, read_in-through}
@@ -85,13 +85,13 @@ partly_read file (part ∷ parts) a b (inr (between, first, rest)) =
 module _ (place : Place) (width : ℕ) where
   -- within a part that the place is in, all that were picked
   pub picks_within : (from to : ℕ) → from ≤ place.offset → place.offset + place.length ≤ to → (ps : List Pick) → AllByRecursion (IsInside place) (map (stretch_of place.offset width) ps) → overlaps (map (stretch_of place.offset width) ps) from to ≡ read_of ps * width
-  picks_within from to begins ends [] all = refl
+  picks_within from to begins ends [] all = omega arith
   picks_within from to begins ends (p ∷ ps) (here, rest) =
       let later = picks_within from to begins ends ps rest in
       let first = here.from in
       let order = here.order in
       let last = here.to in
-      let long : (p.end - p.start) * width ≡ p.end * width - p.start * width = mul-sub_right p.end p.start width in
+      let long : width * (p.end - p.start) ≡ width * p.end - width * p.start = mul-sub width p.end p.start in
       omega (arith, later, first, order, last, long, begins, ends)
 
   -- nothing of a part that ends before the place, or begins after it

@@ -142,9 +142,9 @@ fn add_planned<S: Shelf>(
         SegmentPlan::StarTree(tree) => match answer_segment(
             alloc, shelf, head, table, tree, query, groups,
         ) {
-            Ok(docs) => Ok(Scanned {
+            Ok(read) => Ok(Scanned {
                 plan: SegmentPlan::StarTree(tree),
-                docs,
+                docs: read,
             }),
             Err(fault) => Err(of_answer(fault)),
         },

@@ -55,7 +55,7 @@ returns-clause-planned g c = record {
   known = inr c.in-Ok-load_detailed.ensures.filtered;
   plan_is = c.in_ok-plan.ensures;
   detailed = detailed c.args.query.now c.args.table.now c.load_detailed.new.head c.in_ok-plan.plan c.pick-tree.result
-  (c.pick-tree.ensures ∙ ap (picked c.args.query.now) c.as_slice.ensures) c.in-Ok-load_detailed.ensures.filtered c.in-Ok-load_detailed.ensures.factors c.in_ok-plan.ensures;
+      (c.pick-tree.ensures ∙ ap (picked c.args.query.now) c.as_slice.ensures) c.in-Ok-load_detailed.ensures.filtered c.in-Ok-load_detailed.ensures.factors c.in_ok-plan.ensures;
   image = image_grown c.args.table.now c.args.name.now (g.S.Shelf.held c.args.shelf.now) (g.S.Shelf.held c.open_segment.new.shelf) c.in-Ok.head c.load_detailed.new.head c.in-Ok.ensures.only_reads.held c.in-Ok-load_detailed.ensures.grows c.in-Ok.ensures.image;
 }
 

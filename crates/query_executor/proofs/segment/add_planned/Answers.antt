@@ -103,13 +103,13 @@ returns-in-Ok-answer_segment-clause-done g c = λ name is.
     let head = c.args.head.now in
     let held = g.S.Shelf.held c.args.shelf.now in
     let tree = c.in-StarTree.tree in
-    let docs = c.in-Ok-answer_segment.docs in
+    let docs = c.in-Ok-answer_segment.read in
     done_so query table c.head_tells_law.ensures c.plan_over_law.ensures c.requires.valid c.requires.query held name head (StarTree tree) docs (sym c.in-StarTree.is ∙ c.in_ok-plan.ensures) (inr c.requires.filtered)
     (tree_looked query table held head tree docs c.in-Ok-answer_segment.ensures.count.told) is
 
 pub returns-in-Ok-answer_segment-clause-log : goal.returns-in-Ok-answer_segment-clause-log
 returns-in-Ok-answer_segment-clause-log g c = λ file within.
-    answer_in_file c.args.table.now c.requires.valid c.args.head.now c.requires.of_table file within c.args.query.now (g.S.Shelf.held c.args.shelf.now) c.in-StarTree.tree c.in-Ok-answer_segment.docs
+    answer_in_file c.args.table.now c.requires.valid c.args.head.now c.requires.of_table file within c.args.query.now (g.S.Shelf.held c.args.shelf.now) c.in-StarTree.tree c.in-Ok-answer_segment.read
     (g.S.Shelf.log c.args.shelf.now) (g.S.Shelf.log c.answer_segment.new.shelf) (picked_within c.args.query.now c.args.table.now.settings.trees c.in-StarTree.tree (tree_planned c.args.query.now c.args.table.now c.args.head.now c.in-StarTree.tree (sym c.in-StarTree.is ∙ c.in_ok-plan.ensures)))
     c.in-Ok-answer_segment.ensures.log
 
