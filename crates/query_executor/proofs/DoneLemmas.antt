@@ -10,20 +10,22 @@ use Rattle.segment_file.specs.Heads.{Seen}
 use Rattle.segment_file.specs.Ordered.{ordered}
 use Rattle.segment_plan.specs.declared.plans.ScanPlan.{ScanPlan}
 use Rattle.segment_plan.specs.declared.plans.SegmentPlan.{SegmentPlan}
-use Rattle.segment_plan.specs.declared.plans.SegmentPlan.TheVariants.{Scan}
+use Rattle.segment_plan.specs.declared.plans.SegmentPlan.TheVariants.{Scan, StarTree}
 use Rattle.segment_plan.specs.Laws.{HeadTells, IsPlannable, PlanIsOver}
 use Rattle.segment_plan.specs.Plan.{plan_of}
 use Rattle.segment_plan.specs.Planned.{plan_over}
-use Rattle.segment_scan.specs.Images.{AreDocs, IsOfImage, choices_for}
+use Rattle.segment_file.specs.Stored.{IsOfImage}
+use Rattle.segment_scan.specs.Images.{AreDocs, choices_for}
 use Rattle.segment_scan.specs.Served.{rows_left}
+use Rattle.star_answer.specs.Docs.{docs_read}
 use Rattle.query_executor.specs.Explained.{line_by}
 use Rattle.query_executor.specs.Stated.{docs_by, stats_line, stats_text}
 use Rattle.query_executor.specs.Steps.{AddsLine, IsDoneIn, IsHeadIn}
 
 module _ (query : BoundQuery) (table : Table) where
-  -- where files are told, on the image of rows so many of them are looked at by this plan
+  -- where files are told, on the image of rows so many documents are looked at by this plan
   abbrev AreLookedAt : Option Files → Seen → SegmentPlan → ℕ → Type 0
-  AreLookedAt held head plan docs = IfSome held (λ files. (rows : List (List Value)) → IsOfImage table files rows head → docs ≡ docs_by query (ordered table.settings.sorted rows) plan)
+  AreLookedAt held head plan docs = IfSome held (λ files. (rows : List (List Value)) → IsOfImage table files rows head → docs ≡ docs_by query table (ordered table.settings.sorted rows) plan)
 
   pub done_so : HeadTells → PlanIsOver → IsValidTable table → IsValidQuery table query → (held : Option Files) (name : List ℕ) (head : Seen) (plan : SegmentPlan) (docs : ℕ) → plan ≡ plan_of query table head → IsPlannable query head → AreLookedAt held head plan docs
       → IsHeadIn table held name head → IsDoneIn query table held name plan docs
@@ -33,14 +35,14 @@ module _ (query : BoundQuery) (table : Table) where
       let os : List (List Value) = ordered table.settings.sorted rows in
       let tells = tells_law table i.name i.file rows i.whole head valid i.named i.can i.is_head i.part in
       let over : plan ≡ plan_over query table os = plan_is ∙ law query table os head query_valid tells known in
-      (over, looked rows i ∙ ap (docs_by query os) over)
+      (over, looked rows i ∙ ap (docs_by query table os) over)
 
-  -- none is, by a plan that is no scan
-  pub none_looked : (held : Option Files) (head : Seen) (plan known : SegmentPlan) (docs : ℕ) → plan ≡ known → ((rows : List (List Value)) → docs_by query rows known ≡ 0) → docs ≡ 0 → AreLookedAt held head plan docs
+  -- none is, by a plan that asks for none
+  pub none_looked : (held : Option Files) (head : Seen) (plan known : SegmentPlan) (docs : ℕ) → plan ≡ known → ((rows : List (List Value)) → docs_by query table rows known ≡ 0) → docs ≡ 0 → AreLookedAt held head plan docs
   none_looked None head plan known docs is none zero = tt
   none_looked (Some files) head plan known docs is none zero = λ rows of.
       let os : List (List Value) = ordered table.settings.sorted rows in
-      zero ∙ sym (none os) ∙ ap (docs_by query os) (sym is)
+      zero ∙ sym (none os) ∙ ap (docs_by query table os) (sym is)
 
   -- those that the indexes leave, by a scan
   pub scan_looked : (held : Option Files) (head : Seen) (plan : ScanPlan) (docs : ℕ) → plan.choices ≡ choices_for query table head → AreDocs query table held head docs → AreLookedAt held head (Scan plan) docs
@@ -49,6 +51,11 @@ module _ (query : BoundQuery) (table : Table) where
       by : (h : Option Files) → IfSome h (λ files. (rows : List (List Value)) → IsOfImage table files rows head → docs ≡ length (rows_left query (choices_for query table head) (ordered table.settings.sorted rows))) → AreLookedAt h head (Scan plan) docs
       by None told = tt
       by (Some files) told = λ rows of. told rows of ∙ ap (λ cs. length (rows_left query cs (ordered table.settings.sorted rows))) (sym choices)
+
+  -- those that the query reads of a star-tree
+  pub tree_looked : (held : Option Files) (head : Seen) (tree docs : ℕ) → IfSome held (λ files. (rows : List (List Value)) → IsOfImage table files rows head → docs ≡ docs_read query table (ordered table.settings.sorted rows) tree) → AreLookedAt held head (StarTree tree) docs
+  tree_looked None head tree docs are = tt
+  tree_looked (Some files) head tree docs are = are
 
   -- its line is that of the rows
   pub stats_added : (held : Option Files) (name : List ℕ) (plan : SegmentPlan) (docs : ℕ) (old new : List ℕ) → IsDoneIn query table held name plan docs → new ≡ old ++ line_by name (stats_text plan docs) → AddsLine (stats_line query table) table held name old new

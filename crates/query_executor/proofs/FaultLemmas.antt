@@ -8,7 +8,9 @@ use Rattle.segment_scan.specs.declared.fault.EngineFault.TheVariants as engine
 use Rattle.sql_reply.specs.declared.fault.SqlFault.{SqlFault}
 use Rattle.sql_reply.specs.declared.fault.SqlFault.TheVariants as sql
 use Rattle.query_executor.specs.declared.fault.ExecutorFault.TheVariants.{NotASegment, ReadFault, Sql}
-use Rattle.query_executor.specs.Steps.{fault_at, fault_of}
+use Rattle.star_answer.specs.declared.segment_fault.SegmentFault.{SegmentFault}
+use Rattle.star_answer.specs.declared.segment_fault.SegmentFault.TheVariants as answer
+use Rattle.query_executor.specs.Steps.{fault_at, fault_of, of_answer}
 
 -- ---- of a head, for its segment
 
@@ -53,3 +55,17 @@ wrong_so at engine.TooManyGroups fault e fewer = absurd (fewer refl)
 wrong_so at (engine.NotASegment part) fault e fewer = absurd cc
 wrong_so at engine.ReadFault fault e fewer = absurd cc
 wrong_so at engine.NoMemory fault e fewer = cc
+
+-- ---- of an answer from a star-tree, for its segment
+
+pub full_answer : (f : SegmentFault) → of_answer f ≡ engine.TooManyGroups → f ≡ answer.TooManyGroups
+full_answer answer.TooManyGroups e = refl
+full_answer (answer.NotASegment p) e = absurd cc
+full_answer answer.ReadFault e = absurd cc
+full_answer answer.NoMemory e = absurd cc
+
+pub bad_answer : (f : SegmentFault) (part : Part) → of_answer f ≡ engine.NotASegment part → f ≡ answer.NotASegment part
+bad_answer answer.TooManyGroups part e = absurd cc
+bad_answer (answer.NotASegment p) part e = cc
+bad_answer answer.ReadFault part e = absurd cc
+bad_answer answer.NoMemory part e = absurd cc

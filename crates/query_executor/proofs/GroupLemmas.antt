@@ -18,7 +18,7 @@ use Rattle.group_table.specs.Kept.{IsNew, KeptGroups, groups_in}
 use Rattle.group_table.specs.Shape.{Shape, shape_of}
 use Rattle.broker_merge.specs.Answer.{answer_of, answer_text}
 use Rattle.broker_merge.specs.Reply.{Reply, reply_over}
-use Rattle.scan_engine.specs.Scanned.{AddsRows, selected}
+use Rattle.scan_engine.specs.Scanned.{selected}
 use Rattle.scan_engine.proofs.AddLemmas.{len_more}
 use Rattle.segment_file.specs.Ordered.{ordered}
 use Rattle.sql_reply.specs.Reply.{most_groups}
@@ -26,7 +26,7 @@ use Rattle.sql_reply.specs.SqlReply.{replied}
 use Rattle.sql_reply.specs.declared.fault.SqlFault.TheVariants.{TooManyGroups}
 use Rattle.query_executor.specs.Answers.{IsBoundReply}
 use Rattle.query_executor.specs.Segments.{HasImage, stored_rows}
-use Rattle.query_executor.specs.Steps.{AddsStored, HasGroups, HaveTooMany, IsStoredOverfull, selected_in}
+use Rattle.query_executor.specs.Steps.{AddsGroups, AddsStored, HasGroups, HaveTooMany, IsStoredOverfull, selected_in}
 
 pub zip_at : {A B : Type 0} (R : A → B → Type 0) (xs : List A) (ys : List B) (i : ℕ) (d : A) (e : B) → AllZip R xs ys → i < length xs → R (get_or xs i d) (get_or ys i e)
 zip_at R [] ys i d e all lt = absurd (omega (arith, lt))
@@ -65,13 +65,13 @@ module _ (query : BoundQuery) (table : Table) where
     pub one_more : (held : Option Files) (k : ℕ) (old new : KeptGroups) → k < length names → HasGroups query table held names k old → AddsStored query table held (get_or names k []) old new → HasGroups query table held names (k + 1) new
     one_more held k old new lt so a = by held so a.told
       where
-        by : (h : Option Files) → HasGroups query table h names k old → IfSome h (λ files. (rows : List (List Value)) → HasImage table files (get_or names k []) rows → AddsRows query a.count (selected_in query table rows) old new)
+        by : (h : Option Files) → HasGroups query table h names k old → IfSome h (λ files. (rows : List (List Value)) → HasImage table files (get_or names k []) rows → AddsGroups query (selected_in query table rows) old new)
             → HasGroups query table h names (k + 1) new
         by None so told = tt
         by (Some files) so told = λ segments all.
             let few : k < length segments = omega (arith, lt, AllZip-long (HasImage table files) names segments all) in
             let adds = told (get_or segments k []) (zip_at (HasImage table files) names segments k [] [] all lt) in
-            adds.groups (selected query (stored_rows table (take k segments))) (so segments all)
+            adds (selected query (stored_rows table (take k segments))) (so segments all)
             ∙ ap (groups_of (shape_of query)) (selected_more segments k few)
 
     pub too_many : (held : Option Files) (k : ℕ) (old : KeptGroups) → k < length names → old.most ≡ most_groups → HasGroups query table held names k old → IsStoredOverfull query table held (get_or names k []) old

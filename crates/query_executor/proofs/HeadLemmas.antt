@@ -131,12 +131,12 @@ unread_none table (Some files) head none name was = λ rows has.
 
 -- ---- what is read of it
 
-section_at : (xs : List Section) (k : ℕ) → k < length xs → (s : Section) × (slice_get xs k ≡ Some s)
+pub section_at : (xs : List Section) (k : ℕ) → k < length xs → (s : Section) × (slice_get xs k ≡ Some s)
 section_at [] k lt = absurd (omega (arith, lt))
 section_at (x ∷ xs) zero lt = (x, refl)
 section_at (x ∷ xs) (suc k) lt = section_at xs k (omega (arith, lt))
 
-if_some : {X : Type 0} (o : Option X) (x : X) (P : X → Type 0) → o ≡ Some x → IfSome o P → P x
+pub if_some : {X : Type 0} (o : Option X) (x : X) (P : X → Type 0) → o ≡ Some x → IfSome o P → P x
 if_some None x P is h = absurd cc
 if_some (Some y) x P is h = subst (λ o. IfSome o P) is h
 

@@ -11,3 +11,7 @@ mod LineLemmas
 mod NameLemmas
 mod DoneLemmas
 mod StatedLemmas
+mod GrownLemmas
+mod TreeLogs
+mod SpanLemmas
+mod PlaceLemmas

@@ -1,5 +1,5 @@
 -- The lines of segments, one after the other.
-use Rattle.std.proofs.Common.{◌≡◌, ◌∙◌, ◌<◌, ◌+◌, ◌++◌, ℕ, suc, false, List, [], ◌∷◌, length, drop, get_or, Option, Some, None, IfSome, Ok, refl, sym, ap, arith, append_assoc, append-nil, add-one}
+use Rattle.std.proofs.Common.{◌≡◌, ◌∙◌, ◌<◌, ◌+◌, ◌++◌, ℕ, suc, false, List, [], ◌∷◌, length, drop, get_or, Option, Some, None, IfSome, Ok, refl, sym, ap, subst, arith, append_assoc, append-nil, add-one}
 use Rattle.std.proofs.Math.Seq.{drop-cons, drop-length}
 use Rattle.std.proofs.lemmas.List.{get_or-map, length-map}
 use Rattle.std.proofs.lemmas.Slice.Zip.{AllZip-long}
@@ -8,21 +8,18 @@ use Rattle.outside.specs.Files.{Files}
 use Rattle.values.specs.declared.value.Value.{Value}
 use Rattle.table_schema.specs.declared.query.BoundQuery.{BoundQuery}
 use Rattle.table_schema.specs.declared.table.Table.{Table}
-use Rattle.table_schema.specs.Unbuilt.{names_unbuilt}
 use Rattle.table_schema.specs.ValidQuery.{IsValidQuery}
 use Rattle.table_schema.specs.ValidTable.{IsValidTable}
 use Rattle.segment_file.specs.Heads.{Seen}
 use Rattle.segment_file.specs.Ordered.{ordered}
 use Rattle.segment_plan.specs.declared.plans.SegmentPlan.{SegmentPlan}
-use Rattle.segment_plan.specs.Explained.{explained_by, explained_over}
+use Rattle.segment_plan.specs.Explained.{IsDetailed, explained_by, explained_over}
 use Rattle.segment_plan.specs.Laws.{ExplainedIsOver, HeadTells}
-use Rattle.segment_plan.specs.Plan.{plan_of}
 use Rattle.sql_reply.specs.Asked.{asked}
 use Rattle.query_executor.specs.Explained.{IsExplained, in_order, line_by, lines_of, lines_or, plan_line}
 use Rattle.query_executor.specs.Segments.{HasImage}
 use Rattle.query_executor.specs.Steps.{AddsLine, HasLines, IsPlannedIn}
 use Rattle.query_executor.proofs.GroupLemmas.{zip_at}
-use Rattle.query_executor.proofs.PlanLemmas.{detailed}
 
 -- a line is added part by part
 pub line_pushed : (old name said a b c d : List ℕ) → a ≡ old ++ name → b ≡ a ++ (44 ∷ []) → c ≡ b ++ said → d ≡ c ++ (10 ∷ []) → d ≡ old ++ line_by name said
@@ -38,14 +35,14 @@ pair_pushed old first second a b c is_a is_b is_c =
 
 module _ (query : BoundQuery) (table : Table) where
   -- what is said of the plan of a segment is what is said over its rows
-  pub line_added : HeadTells → ExplainedIsOver → IsValidTable table → IsValidQuery table query → names_unbuilt table.settings ≡ false → (held : Option Files) (name : List ℕ) (head : Seen) (plan : SegmentPlan) (old new : List ℕ)
+  pub line_added : HeadTells → ExplainedIsOver → IsValidTable table → IsValidQuery table query → (held : Option Files) (name : List ℕ) (head : Seen) (plan : SegmentPlan) (old new : List ℕ)
       → IsPlannedIn query table held name head plan → new ≡ old ++ line_by name (explained_by query table head) → AddsLine (plan_line query table) table held name old new
-  line_added tells_law law valid query_valid bare None name head plan old new planned is = tt
-  line_added tells_law law valid query_valid bare (Some files) name head plan old new planned is = λ rows has.
+  line_added tells_law law valid query_valid None name head plan old new planned is = tt
+  line_added tells_law law valid query_valid (Some files) name head plan old new planned is = λ rows has.
       let i = planned.image rows has in
       let os : List (List Value) = ordered table.settings.sorted rows in
       let tells = tells_law table i.name i.file rows i.whole head valid i.named i.can i.is_head i.part in
-      let same : explained_by query table head ≡ explained_over query table os = law query table os head valid query_valid tells planned.known (detailed query table head (plan_of query table head) bare refl) in
+      let same : explained_by query table head ≡ explained_over query table os = law query table os head valid query_valid tells planned.known (subst (IsDetailed query table head) planned.plan_is planned.detailed) in
       is ∙ ap (λ said. old ++ line_by name said) same
 
 module _ (line : List ℕ → List (List Value) → List ℕ) (table : Table) where

@@ -41,11 +41,11 @@ reads_then a b c m n =
 
 -- ---- the log
 
-join_logs : (a : Option (List Entry)) (x y : List Entry) → option_map (λ before. before ++ y) (option_map (λ before. before ++ x) a) ≡ option_map (λ before. before ++ (x ++ y)) a
+pub join_logs : (a : Option (List Entry)) (x y : List Entry) → option_map (λ before. before ++ y) (option_map (λ before. before ++ x) a) ≡ option_map (λ before. before ++ (x ++ y)) a
 join_logs None x y = refl
 join_logs (Some entries) x y = ap Some (append_assoc entries x y)
 
-same_log : (a : Option (List Entry)) → a ≡ option_map (λ before. before ++ []) a
+pub same_log : (a : Option (List Entry)) → a ≡ option_map (λ before. before ++ []) a
 same_log None = refl
 same_log (Some entries) = ap Some (sym (append-nil entries))
 
@@ -72,7 +72,7 @@ logs_then P a b c first second = entries_then (λ entry. P entry.file) a b c fir
 pub logs_as : (P Q : List ℕ → Type 0) (a b : Option (List Entry)) → ((file : List ℕ) → P file → Q file) → LogsWhere P a b → LogsWhere Q a b
 logs_as P Q a b f logs = entries_as (λ entry. P entry.file) (λ entry. Q entry.file) a b (λ entry h. f entry.file h) logs
 
-of_file : (file : List ℕ) (from to : ℕ) (entries : List Entry) → Consecutive file from to entries → All (λ entry. entry.file ≡ file) entries
+pub of_file : (file : List ℕ) (from to : ℕ) (entries : List Entry) → Consecutive file from to entries → All (λ entry. entry.file ≡ file) entries
 of_file file from to [] h = All-nil (λ entry. entry.file ≡ file)
 of_file file from to (entry ∷ entries) h = All-cons (λ entry. entry.file ≡ file) entry entries h.0 (of_file file (from + entry.count) to entries h.2)
 
@@ -104,7 +104,7 @@ pub through_ends : (file : List ℕ) (from to end : ℕ) (a b : Option (List Ent
 through_ends file from to end a b le (entries, is, each) = (entries, is, all_end file from to end entries le each)
 
 -- the bounds end before the head does
-fewer_summed : (xs : List ℕ) (m n : ℕ) → m ≤ n → sum (take m xs) ≤ sum (take n xs)
+pub fewer_summed : (xs : List ℕ) (m n : ℕ) → m ≤ n → sum (take m xs) ≤ sum (take n xs)
 fewer_summed [] zero n le = omega arith
 fewer_summed [] (suc m) zero le = absurd (omega (arith, le))
 fewer_summed [] (suc m) (suc n) le = omega arith

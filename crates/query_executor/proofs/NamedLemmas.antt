@@ -1,10 +1,11 @@
 -- The columns that a query names are fields of its table.
-use Rattle.std.proofs.Common.{◌≡◌, ◌∙◌, ◌<◌, ◌+◌, ◌==◌, ◌||◌, ◌&&◌, ◌∷◌, [], ℕ, Bool, true, false, Option, Some, None, List, map, get_or, length, refl, sym, ap, subst, arith}
-use Rattle.std.specs.List.{flat_map, list_all, list_any, range_with_len}
+use Rattle.std.proofs.Common.{◌≡◌, ◌∙◌, ◌<◌, ◌+◌, ◌==◌, ◌||◌, ◌&&◌, ◌∷◌, [], ℕ, zero, suc, Bool, true, false, Option, Some, None, IfSome, List, map, get_or, slice_get, length, refl, sym, ap, subst, arith}
+use Rattle.std.specs.List.{flat_map, list_all, list_any}
 use Rattle.std.specs.Option.{option_map_or}
-use Rattle.std.proofs.lemmas.Bool.{eqb-true, false≢true, ltb-true}
+use Rattle.std.proofs.lemmas.Bool.{eq-eqb, eqb-true, false≢true, ltb-true}
 use Rattle.std.proofs.lemmas.List.Folds.{list_all-append}
-use Rattle.std.proofs.lemmas.List.FromFn.{get_or-map-range_with_len}
+use Rattle.agg_laws.specs.declared.tree_shape.TreeShape.{TreeShape}
+use Rattle.agg_laws.specs.Tree.{skips}
 use Rattle.values.specs.Tests.{any_true}
 use Rattle.table_schema.specs.declared.field.Field.{Field}
 use Rattle.table_schema.specs.declared.query.Agg.{Agg}
@@ -15,11 +16,18 @@ use Rattle.table_schema.specs.declared.query.Wide.{Wide}
 use Rattle.table_schema.specs.declared.query.Wide.TheOpen.{Wide-F}
 use Rattle.table_schema.specs.declared.query.Wide.TheFolds.{fold-roll-Wide, ind-Wide, map-Wide}
 use Rattle.table_schema.specs.declared.query.Wide.TheViews.{roll-Wide}
+use Rattle.table_schema.specs.declared.settings.TreeSetting.{TreeSetting}
 use Rattle.table_schema.specs.declared.table.Table.{Table}
+use Rattle.table_schema.specs.Columns.{is_member}
 use Rattle.table_schema.specs.ValidQuery.{IsValidQuery, conjunct_known, fields_of, fields_step}
-use Rattle.table_schema.specs.ValidSettings.{is_known_number, is_number_of}
+use Rattle.table_schema.specs.ValidSettings.{IsValidTree, is_known_number, is_number_of}
+use Rattle.table_schema.specs.ValidTable.{IsValidTable}
 use Rattle.segment_file.specs.Heads.{IsLoaded, Seen}
+use Rattle.segment_file.proofs.TreeChecks.{valid_at}
+use Rattle.segment_plan.specs.Factors.{AreWholeLoaded, is_whole}
 use Rattle.segment_plan.specs.Matched.{AreLoaded, is_filtered, is_on}
+use Rattle.star_answer.specs.Tasks.{AreGroupsLoaded}
+use Rattle.query_executor.specs.Wanted.{AreFactorsLoaded, is_detailed, is_keyed, is_wanted, is_whole_from, tree_at}
 use Rattle.segment_scan.specs.Images.{AreNamedLoaded}
 use Rattle.segment_scan.specs.Named.{agg_names, conjunct_names, is_in, names_step, query_names, wide_names}
 
@@ -27,11 +35,11 @@ either : (a b : Bool) (P : Type 0) → a || b ≡ true → (a ≡ true → P) �
 either true b P is here there = here refl
 either false b P is here there = there is
 
-first_true : (a b : Bool) → a && b ≡ true → a ≡ true
+pub first_true : (a b : Bool) → a && b ≡ true → a ≡ true
 first_true true b is = refl
 first_true false b is = is
 
-rest_true : (a b : Bool) → a && b ≡ true → b ≡ true
+pub rest_true : (a b : Bool) → a && b ≡ true → b ≡ true
 rest_true true b is = is
 rest_true false b is = absurd (false≢true is)
 
@@ -125,16 +133,85 @@ filtered_names query column is =
     left_true (list_any (conjunct_names column) query.conjuncts || is_in query.groups column) (list_any (agg_names column) query.aggs)
     (left_true (list_any (conjunct_names column) query.conjuncts) (is_in query.groups column) (some_more (is_on column) (conjunct_names column) (on_names column) query.conjuncts is))
 
--- so what a plan looks at was loaded
-pub conjuncts_loaded : (query : BoundQuery) (head : Seen) → AreNamedLoaded query head → AreLoaded query.conjuncts head
-conjuncts_loaded query head loaded = λ column is. loaded column (filtered_names query column is)
+-- a group column is one that the query names
+pub grouped_names : (query : BoundQuery) (column : ℕ) → is_member query.groups column ≡ true → query_names query column ≡ true
+grouped_names query column is =
+    left_true (list_any (conjunct_names column) query.conjuncts || is_in query.groups column) (list_any (agg_names column) query.aggs)
+    (right_true (list_any (conjunct_names column) query.conjuncts) (is_in query.groups column) is)
+
+-- a star-tree of a valid table is one
+tree_valid : (table : Table) → IsValidTable table → (tree : Option ℕ) (setting : TreeSetting) → tree_at table tree ≡ Some setting → IsValidTree table.schema.fields setting
+tree_valid table valid None setting is = absurd cc
+tree_valid table valid (Some n) setting is = valid_at table.schema.fields table.settings.trees n setting valid.settings.trees_valid is
 
 -- ---- the columns that are marked
 
--- the columns that conjuncts name alone were loaded
-pub filtered_loaded : (table : Table) (query : BoundQuery) (head : Seen) (marks : List Bool) → IsValidQuery table query → marks ≡ map (is_filtered query.conjuncts) (range_with_len 0 (length table.schema.fields))
-    → ((column : ℕ) → column < length table.schema.fields → get_or marks column false ≡ true → IsLoaded head column) → AreLoaded query.conjuncts head
-filtered_loaded table query head marks valid is loaded = λ column on.
-    let lt = named_within table query column valid (filtered_names query column on) in
-    let plain : 0 + column ≡ column = omega arith in
-    loaded column lt (ap (λ l. get_or l column false) is ∙ get_or-map-range_with_len (is_filtered query.conjuncts) 0 (length table.schema.fields) column column false lt plain ∙ on)
+-- the dictionaries of the columns of a table that are marked were loaded
+abbrev pub AreMarkedLoaded : Table → List Bool → Seen → Type 0
+AreMarkedLoaded table marks head = (column : ℕ) → column < length table.schema.fields → get_or marks column false ≡ true → IsLoaded head column
+
+module _ (table : Table) (query : BoundQuery) (valid : IsValidQuery table query) (head : Seen) (marks : List Bool) where
+  -- for an answer
+  module _ (by_tree : Bool) (each : (column : ℕ) → column < length table.schema.fields → get_or marks column false ≡ is_wanted query by_tree column) (loaded : AreMarkedLoaded table marks head) where
+    wanted : (column : ℕ) → query_names query column ≡ true → is_wanted query by_tree column ≡ true → IsLoaded head column
+    wanted column names is = let lt = named_within table query column valid names in loaded column lt (each column lt ∙ is)
+
+    keyed_or_named : (column : ℕ) (b : Bool) → is_keyed query column ≡ true → query_names query column ≡ true → is_wanted query b column ≡ true
+    keyed_or_named column true keyed names = keyed
+    keyed_or_named column false keyed names = names
+
+    pub filtered_wanted : AreLoaded query.conjuncts head
+    filtered_wanted = λ column on.
+        let names = filtered_names query column on in
+        wanted column names (keyed_or_named column by_tree (left_true (is_filtered query.conjuncts column) (is_member query.groups column) on) names)
+
+    pub grouped_wanted : AreGroupsLoaded query.groups head
+    grouped_wanted = λ column on.
+        let names = grouped_names query column on in
+        wanted column names (keyed_or_named column by_tree (right_true (is_filtered query.conjuncts column) (is_member query.groups column) on) names)
+
+    pub named_wanted : by_tree ≡ false → AreNamedLoaded query head
+    named_wanted is = λ column names. wanted column names (ap (λ b. is_wanted query b column) is ∙ names)
+
+  -- for a plan and what is said of it
+  module _ (tree : Option ℕ) (each : (column : ℕ) → column < length table.schema.fields → get_or marks column false ≡ is_detailed query (tree_at table tree) column) (loaded : AreMarkedLoaded table marks head) where
+    on_detailed : (o : Option TreeSetting) (column : ℕ) → is_filtered query.conjuncts column ≡ true → is_detailed query o column ≡ true
+    on_detailed None column on = on
+    on_detailed (Some setting) column on = left_true (is_filtered query.conjuncts column) (is_whole_from query setting.shape 0 setting.split column) on
+
+    pub filtered_detailed : AreLoaded query.conjuncts head
+    filtered_detailed = λ column on.
+        let lt = named_within table query column valid (filtered_names query column on) in
+        loaded column lt (each column lt ∙ on_detailed (tree_at table tree) column on)
+
+    whole_at : (shape : TreeShape) (split : List ℕ) (start level column : ℕ) → slice_get split level ≡ Some column → is_whole query (skips shape (start + level)) column ≡ true → is_whole_from query shape start split column ≡ true
+    whole_at shape [] start level column at whole = absurd cc
+    whole_at shape (dimension ∷ split) start zero column at whole =
+        let same : dimension ≡ column = cc in
+        let plain : start + 0 ≡ start = omega arith in
+        let here : is_whole query (skips shape start) dimension ≡ true = (λ i. is_whole query (skips shape (sym plain i)) (same i)) ∙ whole in
+        left_true (dimension == column && is_whole query (skips shape start) dimension) (is_whole_from query shape (start + 1) split column) ((λ i. eq-eqb dimension column same i && here i))
+    whole_at shape (dimension ∷ split) start (suc level) column at whole =
+        let plain : start + 1 + level ≡ start + suc level = omega arith in
+        right_true (dimension == column && is_whole query (skips shape start) dimension) (is_whole_from query shape (start + 1) split column)
+        (whole_at shape split (start + 1) level column at (ap (λ n. is_whole query (skips shape n) column) plain ∙ whole))
+
+    known_at : (fields : List Field) (split : List ℕ) (level column : ℕ) → list_all (is_number_of fields) split ≡ true → slice_get split level ≡ Some column → is_number_of fields column ≡ true
+    known_at fields [] level column all at = absurd cc
+    known_at fields (dimension ∷ split) zero column all at =
+        let same : dimension ≡ column = cc in
+        subst (λ d. is_number_of fields d ≡ true) same (first_true (is_number_of fields dimension) (list_all (is_number_of fields) split) all)
+    known_at fields (dimension ∷ split) (suc level) column all at =
+        known_at fields split level column (rest_true (is_number_of fields dimension) (list_all (is_number_of fields) split) all) at
+
+    factors_by : IsValidTable table → (o : Option TreeSetting) → tree_at table tree ≡ o → IfSome o (AreWholeLoaded query head)
+    factors_by table_valid None is = tt
+    factors_by table_valid (Some setting) is = λ level column at whole.
+        let ok = tree_valid table table_valid tree setting is in
+        let plain : 0 + level ≡ level = omega arith in
+        let lt : column < length table.schema.fields = ltb-true column (length table.schema.fields) (known_at table.schema.fields setting.split level column ok.split_known at) in
+        loaded column lt (each column lt ∙ ap (λ o. is_detailed query o column) is ∙ right_true (is_filtered query.conjuncts column) (is_whole_from query setting.shape 0 setting.split column)
+        (whole_at setting.shape setting.split 0 level column at (ap (λ n. is_whole query (skips setting.shape n) column) plain ∙ whole)))
+
+    pub factors_detailed : IsValidTable table → AreFactorsLoaded query table tree head
+    factors_detailed table_valid = factors_by table_valid (tree_at table tree) refl

@@ -1,14 +1,11 @@
--- The plan of a segment of a table without star-trees, and segments of which no row satisfies a query.
-use Rattle.std.proofs.Common.{◌≡◌, ◌∙◌, ◌||◌, not, ℕ, Bool, true, false, cond, List, [], ◌∷◌, map, Option, Some, None, refl, sym, ap}
-use Rattle.std.proofs.lemmas.Bool.{false≢true}
+-- The plan of a segment, and segments of which no row satisfies a query.
+use Rattle.std.proofs.Common.{◌≡◌, ◌∙◌, ◌<◌, ◌+◌, ℕ, suc, Bool, true, false, cond, List, [], ◌∷◌, length, map, Option, Some, None, IfSome, refl, sym, ap, subst, arith}
 use Rattle.values.specs.declared.value.Value.{Value}
 use Rattle.table_schema.specs.declared.query.BoundQuery.{BoundQuery}
-use Rattle.table_schema.specs.declared.settings.Settings.{Settings}
 use Rattle.table_schema.specs.declared.settings.TreeSetting.{TreeSetting}
 use Rattle.table_schema.specs.declared.table.Table.{Table}
-use Rattle.table_schema.specs.Unbuilt.{is_no_tree, is_set_anywhere, names_unbuilt}
 use Rattle.scan_engine.specs.Scanned.{selected}
-use Rattle.eligibility.specs.Rule.{picked}
+use Rattle.eligibility.specs.Rule.{is_eligible, picked, picked_from}
 use Rattle.segment_file.specs.Heads.{Seen}
 use Rattle.segment_plan.specs.declared.plans.IndexChoice.{IndexChoice}
 use Rattle.segment_plan.specs.declared.plans.SegmentPlan.{SegmentPlan}
@@ -17,21 +14,32 @@ use Rattle.segment_plan.specs.declared.plans.ScanPlan.{ScanPlan}
 use Rattle.segment_plan.specs.Choices.{choice_of}
 use Rattle.segment_plan.specs.Explained.{IsDetailed}
 use Rattle.segment_plan.specs.Laws.{NoneHolds}
+use Rattle.segment_plan.specs.Matched.{AreLoaded}
 use Rattle.segment_plan.specs.Plan.{is_emptied, plan_of, tree_or}
 use Rattle.segment_plan.specs.Pruning.{is_pruned}
+use Rattle.query_executor.specs.Wanted.{AreFactorsLoaded}
 
--- ---- settings without star-trees
+-- ---- the tree that is picked
 
-rest_false : (a b : Bool) → a || b ≡ false → b ≡ false
-rest_false true b is = absurd (false≢true (sym is))
-rest_false false b is = is
-
-no_tree : (s : Settings) → names_unbuilt s ≡ false → (query : BoundQuery) → picked query s.trees ≡ None
-no_tree s bare query = by s.trees (rest_false (is_set_anywhere s.ranged) (not (is_no_tree s.trees)) bare)
+below_all : (query : BoundQuery) (from : ℕ) (trees : List TreeSetting) (n : ℕ) → picked_from query from trees ≡ Some n → n < from + length trees
+below_all query from [] n is = absurd cc
+below_all query from (tree ∷ trees) n is = by (λ later. below_all query (from + 1) trees n later) (is_eligible query tree) refl
   where
-    by : (trees : List TreeSetting) → not (is_no_tree trees) ≡ false → picked query trees ≡ None
-    by [] is = refl
-    by (t ∷ ts) is = absurd (false≢true (sym is))
+    by : (picked_from query (from + 1) trees ≡ Some n → n < from + 1 + length trees) → (b : Bool) → is_eligible query tree ≡ b → n < from + suc (length trees)
+    by rest true e =
+        let picks : picked_from query from (tree ∷ trees) ≡ Some from = ap (λ b. cond b (Some from) (picked_from query (from + 1) trees)) e in
+        let same : from ≡ n = let both : Some from ≡ Some n = sym picks ∙ is in cc in
+        omega (arith, same)
+    by rest false e =
+        let later : picked_from query from (tree ∷ trees) ≡ picked_from query (from + 1) trees = ap (λ b. cond b (Some from) (picked_from query (from + 1) trees)) e in
+        omega (arith, rest (sym later ∙ is))
+
+pub picked_within : (query : BoundQuery) (trees : List TreeSetting) (n : ℕ) → picked query trees ≡ Some n → n < length trees
+picked_within query trees n is = omega (arith, below_all query 0 trees n is)
+
+pub picked_is_within : (query : BoundQuery) (trees : List TreeSetting) (o : Option ℕ) → o ≡ picked query trees → IfSome o (λ n. n < length trees)
+picked_is_within query trees None is = tt
+picked_is_within query trees (Some n) is = picked_within query trees n (sym is)
 
 -- ---- the plan
 
@@ -43,16 +51,17 @@ choices_in none other = none
 abbrev planned : Bool → Bool → SegmentPlan → Option ℕ → SegmentPlan
 planned pruned emptied scan tree = cond pruned Pruned (cond emptied Empty (tree_or scan tree))
 
-scan_so : (a b : Bool) (choices : List IndexChoice) (tree : Option ℕ) (p : ScanPlan) → tree ≡ None → Scan p ≡ planned a b (Scan (record { choices = choices })) tree → p.choices ≡ choices
-scan_so true b choices tree p none is = absurd cc
-scan_so false true choices tree p none is = absurd cc
-scan_so false false choices tree p none is = ap (choices_in []) (is ∙ ap (tree_or (Scan (record { choices = choices }))) none)
+scan_so : (a b : Bool) (choices : List IndexChoice) (tree : Option ℕ) (p : ScanPlan) → Scan p ≡ planned a b (Scan (record { choices = choices })) tree → (tree ≡ None) × (p.choices ≡ choices)
+scan_so true b choices tree p is = absurd cc
+scan_so false true choices tree p is = absurd cc
+scan_so false false choices None p is = (refl, ap (choices_in []) is)
+scan_so false false choices (Some t) p is = absurd cc
 
-never_tree : (a b : Bool) (p : ScanPlan) (tree : Option ℕ) (n : ℕ) → tree ≡ None → StarTree n ≡ planned a b (Scan p) tree → ⊥
-never_tree true b p tree n none is = absurd cc
-never_tree false true p tree n none is = absurd cc
-never_tree false false p None n none is = absurd cc
-never_tree false false p (Some t) n none is = absurd cc
+tree_so : (a b : Bool) (p : ScanPlan) (tree : Option ℕ) (n : ℕ) → StarTree n ≡ planned a b (Scan p) tree → tree ≡ Some n
+tree_so true b p tree n is = absurd cc
+tree_so false true p tree n is = absurd cc
+tree_so false false p None n is = absurd cc
+tree_so false false p (Some t) n is = let same : t ≡ n = cc in ap Some same
 
 pruned_so : (a b : Bool) (p : ScanPlan) (tree : Option ℕ) → Pruned ≡ planned a b (Scan p) tree → a ≡ true
 pruned_so true b p tree is = refl
@@ -70,11 +79,16 @@ module _ (query : BoundQuery) (table : Table) (head : Seen) where
   abbrev all_choices : ScanPlan
   all_choices = record { choices = map (choice_of table.settings head) query.conjuncts }
 
-  pub scan_planned : (p : ScanPlan) → names_unbuilt table.settings ≡ false → Scan p ≡ plan_of query table head → p.choices ≡ map (choice_of table.settings head) query.conjuncts
-  scan_planned p bare is = scan_so (is_pruned query head) (is_emptied query.conjuncts table head) all_choices.choices (picked query table.settings.trees) p (no_tree table.settings bare query) is
+  -- a scan has a choice for each conjunct, and no tree is picked
+  pub scan_planned : (p : ScanPlan) → Scan p ≡ plan_of query table head → p.choices ≡ map (choice_of table.settings head) query.conjuncts
+  scan_planned p is = (scan_so (is_pruned query head) (is_emptied query.conjuncts table head) all_choices.choices (picked query table.settings.trees) p is).1
 
-  pub tree_never : (n : ℕ) → names_unbuilt table.settings ≡ false → StarTree n ≡ plan_of query table head → ⊥
-  tree_never n bare is = never_tree (is_pruned query head) (is_emptied query.conjuncts table head) all_choices (picked query table.settings.trees) n (no_tree table.settings bare query) is
+  pub scan_unpicked : (p : ScanPlan) → Scan p ≡ plan_of query table head → picked query table.settings.trees ≡ None
+  scan_unpicked p is = (scan_so (is_pruned query head) (is_emptied query.conjuncts table head) all_choices.choices (picked query table.settings.trees) p is).0
+
+  -- the tree that answers is the one that is picked
+  pub tree_planned : (n : ℕ) → StarTree n ≡ plan_of query table head → picked query table.settings.trees ≡ Some n
+  tree_planned n is = tree_so (is_pruned query head) (is_emptied query.conjuncts table head) all_choices (picked query table.settings.trees) n is
 
   pub is_pruned_so : Pruned ≡ plan_of query table head → is_pruned query head ≡ true
   is_pruned_so is = pruned_so (is_pruned query head) (is_emptied query.conjuncts table head) all_choices (picked query table.settings.trees) is
@@ -87,12 +101,17 @@ module _ (query : BoundQuery) (table : Table) (head : Seen) where
   pruned_planned is =
       ap (λ b. planned b (is_emptied query.conjuncts table head) (Scan all_choices) (picked query table.settings.trees)) (sym is)
 
-  -- the detail of a plan wants no more of the head where there are no trees
-  pub detailed : (plan : SegmentPlan) → names_unbuilt table.settings ≡ false → plan ≡ plan_of query table head → IsDetailed query table head plan
-  detailed Pruned bare is = tt
-  detailed Empty bare is = tt
-  detailed (StarTree tree) bare is = absurd (tree_never tree bare is)
-  detailed (Scan plan) bare is = tt
+  -- what the detail of a plan is made of was loaded
+  pub detailed : (plan : SegmentPlan) (tree : Option ℕ) → tree ≡ picked query table.settings.trees → AreLoaded query.conjuncts head → AreFactorsLoaded query table tree head → plan ≡ plan_of query table head → IsDetailed query table head plan
+  detailed Pruned tree picks loaded factors is = tt
+  detailed Empty tree picks loaded factors is = tt
+  detailed (StarTree n) tree picks loaded factors is =
+      let own = tree_planned n is in
+      (picked_within query table.settings.trees n own, loaded, subst (λ t. AreFactorsLoaded query table t head) (picks ∙ own) factors)
+  detailed (Scan plan) tree picks loaded factors is = tt
+
+  pub pruned_detailed : (plan : SegmentPlan) → plan ≡ Pruned → IsDetailed query table head plan
+  pruned_detailed plan is = subst (IsDetailed query table head) (sym is) tt
 
 -- ---- where no row satisfies the query, none is selected
 

@@ -8,7 +8,7 @@ use Rattle.outside.specs.Reads.{Entry}
 use Rattle.outside.specs.declared.place.Place.{Place}
 use Rattle.bit_column.specs.Sections.{end_byte, first_byte}
 use Rattle.segment_file.specs.declared.part.Part.{Part}
-use Rattle.segment_file.specs.declared.part.Part.TheVariants.{Forward}
+use Rattle.segment_file.specs.declared.part.Part.TheVariants.{Forward, Range}
 use Rattle.segment_file.specs.declared.section.Section.{Section}
 use Rattle.segment_file.specs.Heads.{AreIn, Seen, place_in}
 use Rattle.segment_file.specs.Parts.{is_same}
@@ -19,6 +19,8 @@ use Rattle.table_schema.specs.declared.query.Conjunct.{Conjunct}
 use Rattle.table_schema.specs.declared.query.Conjunct.TheVariants.{One, Many}
 use Rattle.table_schema.specs.declared.table.Table.{Table}
 use Rattle.doc_lists.specs.declared.run.Run.{Run}
+use Rattle.bit_column.specs.Postings.{buckets_for}
+use Rattle.index_reading.specs.Buckets.{LogsBuckets, LogsBucketsPartly, bucket_offsets, in_turn}
 use Rattle.index_reading.specs.Entries.{entries_at, offsets_of}
 use Rattle.index_reading.specs.Logs.{LogsIds, LogsIdsPartly}
 use Rattle.index_reading.specs.Runs.{ends_of}
@@ -32,7 +34,7 @@ use Rattle.segment_file.specs.Heads.{IsHeadOf}
 use Rattle.segment_scan.specs.Documents.{LogsDocs, LogsDocsPartly}
 use Rattle.segment_scan.specs.Forward.{IsReadable, LogsColumns, LogsForward, LogsNamed, LogsPart, LogsPartly, LogsSome, width_in}
 use Rattle.segment_scan.specs.Images.{AreNamedLoaded, LogsScan, LogsScanPartly, choices_for, names_in, rest_for}
-use Rattle.segment_scan.specs.Indexes.{IsIndexed, IsReady, LogsAt, LogsAtPartly, LogsIndex, LogsIndexPartly, LogsServed, LogsServedPartly, OfEach, part_of}
+use Rattle.segment_scan.specs.Indexes.{IsIndexed, IsRanged, IsReady, LogsAt, LogsAtPartly, LogsIndex, LogsIndexPartly, LogsIndexed, LogsIndexedPartly, LogsRange, LogsRangePartly, OfEach, part_of}
 use Rattle.segment_scan.specs.Picked.{LogsIf, LogsIfPartly, LogsPicked, LogsPickedPartly, LogsRuns, LogsRunsPartly, ids_of_run}
 use Rattle.segment_scan.specs.Series.{Logs, LogsPartOf, LogsTo}
 use Rattle.segment_scan.specs.Served.{choice_at}
@@ -44,7 +46,7 @@ use Rattle.query_executor.specs.Logs.{LogsIn}
 use Rattle.query_executor.proofs.LogLemmas.{logs_none, logs_on, logs_then, logs_through}
 
 -- the file of the place of a section
-place_file : (file : List ℕ) (sections : List Section) (p : Part) → AreIn file sections → IfSome (place_in sections p) (λ place. place.file ≡ file)
+pub place_file : (file : List ℕ) (sections : List Section) (p : Part) → AreIn file sections → IfSome (place_in sections p) (λ place. place.file ≡ file)
 place_file file [] p within = tt
 place_file file (s ∷ ss) p within =
     let P : Section → Type 0 = λ x. x.place.file ≡ file in
@@ -89,11 +91,11 @@ module _ (head : Seen) (file : List ℕ) (within : AreIn file head.sections) (na
 -- ---- parts of a file, one after the other
 
 module _ (file : List ℕ) where
-  over_in_file : (parts : List Stretch) (old new : Option (List Entry)) → LogsOver file parts old new → LogsIn file old new
+  pub over_in_file : (parts : List Stretch) (old new : Option (List Entry)) → LogsOver file parts old new → LogsIn file old new
   over_in_file [] old new logs = subst (LogsIn file old) (sym logs) (logs_none (λ other. other ≡ file) old)
   over_in_file (part ∷ parts) old new (between, first, rest) = logs_then (λ other. other ≡ file) old between new (logs_on file part.from part.to old between first) (over_in_file parts between new rest)
 
-  over_partly : (parts : List Stretch) (old new : Option (List Entry)) → stretches.LogsPartly file parts old new → LogsIn file old new
+  pub over_partly : (parts : List Stretch) (old new : Option (List Entry)) → stretches.LogsPartly file parts old new → LogsIn file old new
   over_partly [] old new logs = subst (LogsIn file old) (sym logs) (logs_none (λ other. other ≡ file) old)
   over_partly (part ∷ parts) old new (inl (to, le, through)) = logs_through file part.from to old new through
   over_partly (part ∷ parts) old new (inr (between, first, rest)) = logs_then (λ other. other ≡ file) old between new (logs_on file part.from part.to old between first) (over_partly parts between new rest)
@@ -117,6 +119,15 @@ ids_partly kinds.Inverted ids held place count rows old new (inr (inl (runs, are
 ids_partly kinds.Inverted ids held place count rows old new (inr (inr (runs, are, parts, stand, between, first, partly))) =
     logs_then (λ other. other ≡ place.file) old between new (over_in_file place.file (map (offsets_of place.offset) runs) old between first)
     (over_partly place.file (map (entries_at place.offset count) parts) between new partly)
+
+buckets_in_file : (held : Option Files) (place : Place) (count rows low high : ℕ) (old new : Option (List Entry)) → LogsBuckets held place count rows low high old new → LogsIn place.file old new
+buckets_in_file held place count rows low high old new (parts, are, over) =
+    over_in_file place.file (bucket_offsets place.offset low high ∷ map (entries_at place.offset (buckets_for count)) (in_turn parts)) old new over
+
+buckets_partly : (held : Option Files) (place : Place) (count rows low high : ℕ) (old new : Option (List Entry)) → LogsBucketsPartly held place count rows low high old new → LogsIn place.file old new
+buckets_partly held place count rows low high old new (inl partly) = over_partly place.file (bucket_offsets place.offset low high ∷ []) old new partly
+buckets_partly held place count rows low high old new (inr (parts, are, partly)) =
+    over_partly place.file (bucket_offsets place.offset low high ∷ map (entries_at place.offset (buckets_for count)) (in_turn parts)) old new partly
 
 -- an item at each place of a list
 at_place : {X : Type 0} (xs : List X) (at : ℕ) → at < length xs → (x : X) × (slice_get xs at ≡ Some x)
@@ -151,32 +162,43 @@ module _ (head : Seen) (file : List ℕ) (within : AreIn file head.sections) (he
       placed_log (place_in head.sections (part_of kind column)) file _ (LogsIn file old new) is.placed (place_file file head.sections (part_of kind column) within) logs
       (λ place own h. subst (λ f. LogsIn f old new) own (ids_partly kind _ held place _ head.rows old new h))
 
-  served_in_file : (choice : IndexChoice) (conjunct : Conjunct) (old new : Option (List Entry)) → IsReady head choice conjunct → LogsServed held head choice conjunct old new → LogsIn file old new
-  served_in_file choices.Sorted (One column test) old new is logs = index_in_file kinds.Sorted column test old new is logs
-  served_in_file choices.Inverted (One column test) old new is logs = index_in_file kinds.Inverted column test old new is logs
-  served_in_file choices.Range (One column test) old new is logs = same_in_file file old new logs
-  served_in_file choices.Unindexed (One column test) old new is logs = same_in_file file old new logs
-  served_in_file choices.Sorted (Many wide) old new is logs = same_in_file file old new logs
-  served_in_file choices.Inverted (Many wide) old new is logs = same_in_file file old new logs
-  served_in_file choices.Range (Many wide) old new is logs = same_in_file file old new logs
-  served_in_file choices.Unindexed (Many wide) old new is logs = same_in_file file old new logs
+  range_in_file : (column : ℕ) (test : Test) (old new : Option (List Entry)) → IsRanged head column test → LogsRange held head column test old new → LogsIn file old new
+  range_in_file column test old new is logs =
+      placed_log (place_in head.sections (Range column)) file _ (LogsIn file old new) is.placed (place_file file head.sections (Range column) within) logs
+      (λ place own h. subst (λ f. LogsIn f old new) own (buckets_in_file held place _ head.rows _ _ old new h))
 
-  served_partly : (choice : IndexChoice) (conjunct : Conjunct) (old new : Option (List Entry)) → IsReady head choice conjunct → LogsServedPartly held head choice conjunct old new → LogsIn file old new
-  served_partly choices.Sorted (One column test) old new is logs = index_partly kinds.Sorted column test old new is logs
-  served_partly choices.Inverted (One column test) old new is logs = index_partly kinds.Inverted column test old new is logs
-  served_partly choices.Range (One column test) old new is logs = same_in_file file old new logs
-  served_partly choices.Unindexed (One column test) old new is logs = same_in_file file old new logs
-  served_partly choices.Sorted (Many wide) old new is logs = same_in_file file old new logs
-  served_partly choices.Inverted (Many wide) old new is logs = same_in_file file old new logs
-  served_partly choices.Range (Many wide) old new is logs = same_in_file file old new logs
-  served_partly choices.Unindexed (Many wide) old new is logs = same_in_file file old new logs
+  range_partly : (column : ℕ) (test : Test) (old new : Option (List Entry)) → IsRanged head column test → LogsRangePartly held head column test old new → LogsIn file old new
+  range_partly column test old new is (inl same) = same_in_file file old new same
+  range_partly column test old new is (inr logs) =
+      placed_log (place_in head.sections (Range column)) file _ (LogsIn file old new) is.placed (place_file file head.sections (Range column) within) logs
+      (λ place own h. subst (λ f. LogsIn f old new) own (buckets_partly held place _ head.rows _ _ old new h))
+
+  indexed_in_file : (choice : IndexChoice) (conjunct : Conjunct) (old new : Option (List Entry)) → IsReady head choice conjunct → LogsIndexed held head choice conjunct old new → LogsIn file old new
+  indexed_in_file choices.Sorted (One column test) old new is logs = index_in_file kinds.Sorted column test old new is logs
+  indexed_in_file choices.Inverted (One column test) old new is logs = index_in_file kinds.Inverted column test old new is logs
+  indexed_in_file choices.Range (One column test) old new is logs = range_in_file column test old new is logs
+  indexed_in_file choices.Unindexed (One column test) old new is logs = same_in_file file old new logs
+  indexed_in_file choices.Sorted (Many wide) old new is logs = same_in_file file old new logs
+  indexed_in_file choices.Inverted (Many wide) old new is logs = same_in_file file old new logs
+  indexed_in_file choices.Range (Many wide) old new is logs = same_in_file file old new logs
+  indexed_in_file choices.Unindexed (Many wide) old new is logs = same_in_file file old new logs
+
+  indexed_partly : (choice : IndexChoice) (conjunct : Conjunct) (old new : Option (List Entry)) → IsReady head choice conjunct → LogsIndexedPartly held head choice conjunct old new → LogsIn file old new
+  indexed_partly choices.Sorted (One column test) old new is logs = index_partly kinds.Sorted column test old new is logs
+  indexed_partly choices.Inverted (One column test) old new is logs = index_partly kinds.Inverted column test old new is logs
+  indexed_partly choices.Range (One column test) old new is logs = range_partly column test old new is logs
+  indexed_partly choices.Unindexed (One column test) old new is logs = same_in_file file old new logs
+  indexed_partly choices.Sorted (Many wide) old new is logs = same_in_file file old new logs
+  indexed_partly choices.Inverted (Many wide) old new is logs = same_in_file file old new logs
+  indexed_partly choices.Range (Many wide) old new is logs = same_in_file file old new logs
+  indexed_partly choices.Unindexed (Many wide) old new is logs = same_in_file file old new logs
 
   module _ (all : List IndexChoice) (conjuncts : List Conjunct) (ready : OfEach (IsReady head) all conjuncts) where
     at_in_file : (at : ℕ) → at < length conjuncts → (old new : Option (List Entry)) → LogsAt held head all conjuncts at old new → LogsIn file old new
-    at_in_file at lt old new logs = let (conjunct, is) = at_place conjuncts at lt in served_in_file (choice_at all at) conjunct old new (ready at conjunct is) (logs conjunct is)
+    at_in_file at lt old new logs = let (conjunct, is) = at_place conjuncts at lt in indexed_in_file (choice_at all at) conjunct old new (ready at conjunct is) (logs conjunct is)
 
     at_partly : (at : ℕ) → at < length conjuncts → (old new : Option (List Entry)) → LogsAtPartly held head all conjuncts at old new → LogsIn file old new
-    at_partly at lt old new logs = let (conjunct, is) = at_place conjuncts at lt in served_partly (choice_at all at) conjunct old new (ready at conjunct is) (logs conjunct is)
+    at_partly at lt old new logs = let (conjunct, is) = at_place conjuncts at lt in indexed_partly (choice_at all at) conjunct old new (ready at conjunct is) (logs conjunct is)
 
 -- ---- the ids of documents
 

@@ -1,4 +1,4 @@
--- What a query's text is answered over the segments of a table with a line for each: its plan, and how many rows its indexes left.
+-- What a query's text is answered over the segments of a table with a line for each: its plan, and how many documents were looked at.
 use Rattle.std.specs.Prelude.{◌≡◌, ℕ, false, List, ◌∷◌, ◌++◌, flat_map, length, Ok, Err}
 use Rattle.std.specs.Fmt.{decimal}
 use Rattle.std.specs.List.{AllZip}
@@ -7,25 +7,27 @@ use Rattle.values.specs.declared.value.Value.{Value}
 use Rattle.table_schema.specs.declared.query.BoundQuery.{BoundQuery}
 use Rattle.table_schema.specs.declared.table.Table.{Table}
 use Rattle.segment_plan.specs.declared.plans.SegmentPlan.{SegmentPlan}
-use Rattle.segment_plan.specs.declared.plans.SegmentPlan.TheVariants.{Scan}
+use Rattle.segment_plan.specs.declared.plans.SegmentPlan.TheVariants.{Scan, StarTree}
 use Rattle.segment_plan.specs.Explained.{plan_word}
 use Rattle.segment_plan.specs.Planned.{plan_over}
 use Rattle.segment_scan.specs.Served.{rows_left}
+use Rattle.star_answer.specs.Docs.{docs_read}
 use Rattle.sql_reply.specs.Asked.{Asked, asked}
 use Rattle.sql_reply.specs.SqlReply.{SqlReply, sql_reply}
 use Rattle.query_executor.specs.Explained.{in_order, line_by, lines_of}
 use Rattle.query_executor.specs.Segments.{HasImage}
 
--- how many of these rows the indexes of a scan leave; without a scan none is looked at
-abbrev pub docs_by : BoundQuery → List (List Value) → SegmentPlan → ℕ
-docs_by query rows (Scan plan) = length (rows_left query plan.choices rows)
-docs_by query rows other = 0
+-- how many documents are looked at for a plan: of these rows those that the indexes of a scan leave, or the documents that the query reads of their star-tree
+abbrev pub docs_by : BoundQuery → Table → List (List Value) → SegmentPlan → ℕ
+docs_by query table rows (Scan plan) = length (rows_left query plan.choices rows)
+docs_by query table rows (StarTree tree) = docs_read query table rows tree
+docs_by query table rows other = 0
 
--- how many rows of a segment that has these are looked at
+-- how many documents of a segment that has these rows are looked at
 abbrev pub docs_over : BoundQuery → Table → List (List Value) → ℕ
-docs_over query table rows = docs_by query rows (plan_over query table rows)
+docs_over query table rows = docs_by query table rows (plan_over query table rows)
 
--- the word for a plan, and a number of rows
+-- the word for a plan, and a number of documents
 abbrev pub stats_text : SegmentPlan → ℕ → List ℕ
 stats_text plan docs = plan_word plan ++ (44 ∷ decimal docs)
 

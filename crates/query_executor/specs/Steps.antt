@@ -1,5 +1,5 @@
 -- What is done with one segment of a table for a query.
-use Rattle.std.specs.Prelude.{◌≡◌, ◌≤◌, ◌<◌, ◌++◌, ℕ, List, Option, IfSome, Ok, drop, take}
+use Rattle.std.specs.Prelude.{◌≡◌, ◌<◌, ◌+◌, ◌++◌, ℕ, List, Option, IfSome, Ok, drop, take}
 use Rattle.std.specs.FinMap as finite
 use Rattle.std.specs.List.{AllZip}
 use Rattle.outside.specs.Files.{Files}
@@ -7,20 +7,23 @@ use Rattle.values.specs.declared.value.Value.{Value}
 use Rattle.table_schema.specs.declared.query.BoundQuery.{BoundQuery}
 use Rattle.table_schema.specs.declared.table.Table.{Table}
 use Rattle.group_table.specs.Groups.{groups_of}
-use Rattle.group_table.specs.Kept.{KeptGroups, groups_in}
+use Rattle.group_table.specs.Kept.{IsTableOf, KeptGroups, groups_in}
 use Rattle.group_table.specs.Shape.{shape_of}
-use Rattle.scan_engine.specs.Scanned.{AddsRows, IsOverfull, selected}
+use Rattle.scan_engine.specs.Scanned.{HaveAtMost, IsOverfull, selected}
 use Rattle.segment_file.specs.Heads.{IsHeadOf, IsLoaded, Seen}
 use Rattle.segment_file.specs.Ordered.{ordered}
 use Rattle.segment_file.specs.declared.fault.HeadFault.{HeadFault}
 use Rattle.segment_file.specs.declared.fault.HeadFault.TheVariants as head
 use Rattle.segment_plan.specs.declared.plans.SegmentPlan.{SegmentPlan}
+use Rattle.segment_plan.specs.Explained.{IsDetailed}
 use Rattle.segment_plan.specs.Laws.{IsPlannable}
 use Rattle.segment_plan.specs.Plan.{plan_of}
 use Rattle.segment_plan.specs.Planned.{plan_over}
 use Rattle.segment_scan.specs.Images.{IsOfImage}
 use Rattle.segment_scan.specs.declared.fault.EngineFault.{EngineFault}
 use Rattle.segment_scan.specs.declared.fault.EngineFault.TheVariants as engine
+use Rattle.star_answer.specs.declared.segment_fault.SegmentFault.{SegmentFault}
+use Rattle.star_answer.specs.declared.segment_fault.SegmentFault.TheVariants as answer
 use Rattle.sql_reply.specs.Reply.{conjuncts_reply, most_groups}
 use Rattle.sql_reply.specs.SqlReply.{replied}
 use Rattle.sql_reply.specs.declared.fault.SqlFault.TheVariants as sql
@@ -32,11 +35,18 @@ use Rattle.query_executor.specs.Segments.{HasImage, stored_rows}
 
 -- ---- the head of a segment
 
--- what the fault of a head is for the scan of its segment
+-- what the fault of a head is for the answer of its segment
 abbrev pub fault_of : HeadFault → EngineFault
 fault_of (head.NotASegment part) = engine.NotASegment part
 fault_of head.ReadFault = engine.ReadFault
 fault_of head.NoMemory = engine.NoMemory
+
+-- what the fault of an answer from a star-tree is
+abbrev pub of_answer : SegmentFault → EngineFault
+of_answer answer.TooManyGroups = engine.TooManyGroups
+of_answer (answer.NotASegment part) = engine.NotASegment part
+of_answer answer.ReadFault = engine.ReadFault
+of_answer answer.NoMemory = engine.NoMemory
 
 -- where files are told: if the segment's file is the image of rows, this is its head, but for dictionaries that are not loaded
 abbrev pub IsHeadIn : Table → Option Files → List ℕ → Seen → Type 0
@@ -55,14 +65,18 @@ pub record Grows (table : Table) (held : Option Files) (old new : Seen) : Type 0
 abbrev pub selected_in : BoundQuery → Table → List (List Value) → List (List Value)
 selected_in query table rows = selected query (ordered table.settings.sorted rows)
 
--- some rows were added to the groups, no more than a segment may have; where the segment's file is told to be
--- the image of rows, those of them that satisfy the filter
+-- groups of some rows, with more rows in them, are those of all these rows
+abbrev pub AddsGroups : BoundQuery → List (List Value) → KeptGroups → KeptGroups → Type 0
+AddsGroups query rows old new =
+    (done : List (List Value)) → groups_in old ≡ groups_of (shape_of query) done → groups_in new ≡ groups_of (shape_of query) (done ++ rows)
+
+-- the groups are still those of the query, and no aggregate is of more values than those of a segment more; where
+-- the segment's file is told to be the image of rows, those of them that satisfy the filter were added
 pub record AddsStored (query : BoundQuery) (table : Table) (held : Option Files) (name : List ℕ) (old new : KeptGroups) : Type 0 where
-  pub count : ℕ
-  pub few : count ≤ 1048576
-  pub added : List (List Value)
-  pub adds : AddsRows query count added old new
-  pub told : IfSome held (λ files. (rows : List (List Value)) → HasImage table files name rows → AddsRows query count (selected_in query table rows) old new)
+  pub of_query : IsTableOf query new
+  pub most : new.most ≡ old.most
+  pub fits : (n : ℕ) → HaveAtMost n (groups_in old) → HaveAtMost (n + 1048576) (groups_in new)
+  pub told : IfSome held (λ files. (rows : List (List Value)) → HasImage table files name rows → AddsGroups query (selected_in query table rows) old new)
 
 -- where files are told: if the segment's file is the image of rows, there are more groups with those of them that
 -- satisfy the filter than there may be
@@ -72,7 +86,7 @@ IsStoredOverfull query table held name old =
 
 -- ---- the rows of segments
 
--- what the fault of the scan of a segment is for the query, by the segment's number
+-- what the fault of the answer of a segment is for the query, by the segment's number
 abbrev pub fault_at : ℕ → EngineFault → ExecutorFault
 fault_at at engine.TooManyGroups = Sql (sql.TooManyGroups most_groups)
 fault_at at (engine.NotASegment part) = NotASegment at part
@@ -93,10 +107,11 @@ HaveTooMany query table held names most =
 
 -- ---- the plans of segments
 
--- the head of a segment was opened as far as its plan for a query asks, and this is the plan
+-- the head of a segment was opened as far as its plan for a query and what is said of it ask, and this is the plan
 pub record IsPlannedIn (query : BoundQuery) (table : Table) (held : Option Files) (name : List ℕ) (head : Seen) (plan : SegmentPlan) : Type 0 where
   pub known : IsPlannable query head
   pub plan_is : plan ≡ plan_of query table head
+  pub detailed : IsDetailed query table head plan
   pub image : IsHeadIn table held name head
 
 -- where files are told: if the segment's file is the image of rows, its line was added
@@ -110,7 +125,7 @@ HasLines line table held names n text =
     IfSome held (λ files. (segments : List (List (List Value))) → AllZip (HasImage table files) names segments
     → text ++ lines_of line (drop n names) (drop n (in_order table segments)) ≡ lines_of line names (in_order table segments))
 
--- where files are told: if the segment's file is the image of rows, this is their plan, and so many of them are looked at
+-- where files are told: if the segment's file is the image of rows, this is their plan, and so many documents are looked at
 abbrev pub IsDoneIn : BoundQuery → Table → Option Files → List ℕ → SegmentPlan → ℕ → Type 0
 IsDoneIn query table held name plan docs =
     IfSome held (λ files. (rows : List (List Value)) → HasImage table files name rows

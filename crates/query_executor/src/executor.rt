@@ -2,12 +2,10 @@
 ghost use Rattle.std.specs.Prelude.{◌≡◌, ◌≢◌, ◌≤◌, ◌<◌, false, ℕ, [], Ok, Err, IfOk, IfSome, IsErrOf, OnOk, get_or, length};
 ghost use Rattle.std.specs.List.{All};
 ghost use Rattle.outside.specs.Seen.{OnlyReads, seen};
-ghost use Rattle.table_schema.specs.Unbuilt.{names_unbuilt};
 ghost use Rattle.table_schema.specs.ValidQuery.{IsValidQuery};
 ghost use Rattle.table_schema.specs.ValidTable.{IsValidTable};
 ghost use Rattle.group_table.specs.Kept.{IsNew, IsTableOf};
 ghost use Rattle.segment_file.specs.Names.{IsSegmentName};
-ghost use Rattle.segment_file.specs.Parts.{IsPlainTable};
 ghost use Rattle.segment_file.specs.declared.part.Part.{Part};
 ghost use Rattle.sql_reply.specs.Reply.{most_groups};
 ghost use Rattle.sql_reply.specs.Asked.{asked};
@@ -37,8 +35,6 @@ pub fn reply_to_query<S: Shelf>(
     sql: &str,
 ) -> Result<Bytes, ExecutorFault>
     requires valid { IsValidTable table.now }
-    requires plain { IsPlainTable table.now }
-    requires bare { names_unbuilt table.now.settings ≡ false }
     requires named { All IsSegmentName names.now }
     requires few { length names.now ≤ 512 }
     ensures reply { IfOk result (λ text. IfSome (S.held shelf.old) (λ files.
@@ -72,8 +68,6 @@ fn reply_to_bound<S: Shelf>(
     query: &BoundQuery,
 ) -> Result<Bytes, ExecutorFault>
     requires valid { IsValidTable table.now }
-    requires plain { IsPlainTable table.now }
-    requires bare { names_unbuilt table.now.settings ≡ false }
     requires named { All IsSegmentName names.now }
     requires few { length names.now ≤ 512 }
     requires query { IsValidQuery table.now query.now }

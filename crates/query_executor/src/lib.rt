@@ -12,6 +12,7 @@ mod planned;
 mod segment;
 mod segment_fault;
 mod stats;
+mod wanted;
 
 pub use executor::reply_to_query;
 pub use explain::explain_query;

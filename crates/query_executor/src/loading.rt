@@ -1,10 +1,10 @@
 //! The dictionaries of a segment that a query wants are loaded.
-ghost use Rattle.std.specs.Prelude.{◌≡◌, ◌≢◌, ◌<◌, ◌≤◌, true, false, Err, IfOk, IfSome, IsErrOf, List, ℕ, OnOk, get_or, length, map};
-ghost use Rattle.std.specs.List.{range_with_len};
+ghost use Rattle.std.specs.Prelude.{◌≡◌, ◌≢◌, ◌<◌, true, false, Err, IfSome, IsErrOf, List, ℕ, OnOk, get_or, length};
 ghost use Rattle.outside.specs.Seen.{OnlyReads, seen};
 ghost use Rattle.segment_file.specs.Heads.{AreIn, IsHeadOf, IsLoaded};
 ghost use Rattle.segment_file.specs.declared.part.Part.{Part};
-ghost use Rattle.segment_plan.specs.Matched.{AreLoaded, is_filtered};
+ghost use Rattle.segment_plan.specs.Matched.{AreLoaded};
+ghost use Rattle.star_answer.specs.Tasks.{AreGroupsLoaded};
 ghost use Rattle.segment_scan.specs.Images.{AreNamedLoaded};
 ghost use Rattle.segment_scan.specs.declared.fault.EngineFault.TheVariants.{NotASegment, ReadFault, TooManyGroups};
 ghost use Rattle.table_schema.specs.ValidQuery.{IsValidQuery};
@@ -12,28 +12,34 @@ ghost use Rattle.table_schema.specs.ValidTable.{IsValidTable};
 ghost use Rattle.query_executor.specs.Logs.{DictionariesEnd, EndsBy, LogsThat};
 ghost use Rattle.query_executor.specs.Segments.{HasNoImage};
 ghost use Rattle.query_executor.specs.Steps.{Grows, IsHeadIn};
+ghost use Rattle.query_executor.specs.Wanted.{AreFactorsLoaded};
 
 use crate::opening::engine_fault;
+use crate::wanted::{detailed_columns, wanted_columns};
 use outside::Shelf;
 use segment_file::Head;
-use segment_plan::is_filtered;
-use segment_scan::{EngineFault, named_columns};
-use std::alloc::{AllocError, Global};
-use table_schema::{BoundQuery, Conjunct, Table};
+use segment_scan::EngineFault;
+use std::alloc::Global;
+use table_schema::{BoundQuery, Table};
 
-/// Loads the dictionary of each column that the query names, and no other.
-pub fn load_named<S: Shelf>(
+/// Loads the dictionaries that the answer of a segment wants, and no other: where a star-tree
+/// answers, of the columns that a conjunct names alone and of the group columns; else of each column
+/// that the query names.
+pub fn load_wanted<S: Shelf>(
     alloc: Global,
     shelf: &mut S,
     table: &Table,
     query: &BoundQuery,
+    by_tree: bool,
     head: &mut Head,
 ) -> Result<(), EngineFault>
     requires valid { IsValidTable table.now }
     requires query { IsValidQuery table.now query.now }
     requires of_table { IsHeadOf table.now head.old }
     ensures grows { OnOk result (Grows table.now (S.held shelf.old) head.old head.new) }
-    ensures loaded { OnOk result (AreNamedLoaded query.now head.new) }
+    ensures filtered { OnOk result (AreLoaded query.now.conjuncts head.new) }
+    ensures grouped { OnOk result (AreGroupsLoaded query.now.groups head.new) }
+    ensures named { OnOk result (by_tree ≡ false → AreNamedLoaded query.now head.new) }
     ensures bad { (part : Part) → result ≡ Err (NotASegment part) → (name : List ℕ) →
         IsHeadIn table.now (S.held shelf.old) name head.old →
         IfSome (S.held shelf.old) (λ files. HasNoImage table.now files name) }
@@ -44,23 +50,28 @@ pub fn load_named<S: Shelf>(
         DictionariesEnd table.now head.old end →
         LogsThat (EndsBy file end) (S.log shelf.old) (S.log shelf.new) }
 {
-    let named = named_columns(alloc, query, &[], table.schema.fields.len())?;
-    load_marked(alloc, shelf, table, named.as_slice(), head)
+    let wanted = wanted_columns(alloc, query, by_tree, table.schema.fields.len())?;
+    load_marked(alloc, shelf, table, wanted.as_slice(), head)
 }
 
-/// Loads the dictionary of each column that a conjunct of the query names alone, and no other.
-pub fn load_filtered<S: Shelf>(
+/// Loads the dictionaries that the plan of a segment and what is said of it want, and no other: of
+/// the columns that a conjunct names alone, and where this star-tree is picked those that the bound
+/// on its documents is made of.
+pub fn load_detailed<S: Shelf>(
     alloc: Global,
     shelf: &mut S,
     table: &Table,
     query: &BoundQuery,
+    tree: Option<u8>,
     head: &mut Head,
 ) -> Result<(), EngineFault>
     requires valid { IsValidTable table.now }
     requires query { IsValidQuery table.now query.now }
     requires of_table { IsHeadOf table.now head.old }
+    requires tree { IfSome tree (λ n. n < length table.now.settings.trees) }
     ensures grows { OnOk result (Grows table.now (S.held shelf.old) head.old head.new) }
-    ensures loaded { OnOk result (AreLoaded query.now.conjuncts head.new) }
+    ensures filtered { OnOk result (AreLoaded query.now.conjuncts head.new) }
+    ensures factors { OnOk result (AreFactorsLoaded query.now table.now tree head.new) }
     ensures bad { (part : Part) → result ≡ Err (NotASegment part) → (name : List ℕ) →
         IsHeadIn table.now (S.held shelf.old) name head.old →
         IfSome (S.held shelf.old) (λ files. HasNoImage table.now files name) }
@@ -71,26 +82,8 @@ pub fn load_filtered<S: Shelf>(
         DictionariesEnd table.now head.old end →
         LogsThat (EndsBy file end) (S.log shelf.old) (S.log shelf.new) }
 {
-    let conjuncts = query.conjuncts.as_slice();
-    let filtered = filtered_columns(alloc, conjuncts, table.schema.fields.len())?;
-    load_marked(alloc, shelf, table, filtered.as_slice(), head)
-}
-
-// A mark for each of so many columns, whether a conjunct names it alone.
-fn filtered_columns(
-    alloc: Global,
-    conjuncts: &[Conjunct],
-    count: usize,
-) -> Result<Vec<bool>, AllocError>
-    requires { count ≤ 65535 }
-    ensures { IfOk result (λ marks. marks.items
-        ≡ map (is_filtered conjuncts.now) (range_with_len 0 count)) }
-{
-    let mut marks = Vec::with_capacity(alloc, count)?;
-    for column in 0..count {
-        marks.push(is_filtered(conjuncts, column as u16))?;
-    }
-    Ok(marks)
+    let detailed = detailed_columns(alloc, query, table, tree, table.schema.fields.len())?;
+    load_marked(alloc, shelf, table, detailed.as_slice(), head)
 }
 
 // Loads the dictionary of each column that is marked, and no other.

@@ -3,7 +3,6 @@ ghost use Rattle.std.specs.Prelude.{◌≡◌, ◌≢◌, Err, IfOk, IfSome, IsE
 ghost use Rattle.outside.specs.Seen.{OnlyReads, seen};
 ghost use Rattle.segment_file.specs.Heads.{AreIn, IsHeadOf};
 ghost use Rattle.segment_file.specs.Names.{IsSegmentName, file_of};
-ghost use Rattle.segment_file.specs.Parts.{IsPlainTable};
 ghost use Rattle.segment_file.specs.declared.part.Part.{Part};
 ghost use Rattle.segment_scan.specs.declared.fault.EngineFault.TheVariants.{NotASegment, ReadFault, TooManyGroups};
 ghost use Rattle.table_schema.specs.ValidTable.{IsValidTable};
@@ -25,7 +24,6 @@ pub fn open_segment<S: Shelf>(
     name: &str,
 ) -> Result<Head, EngineFault>
     requires valid { IsValidTable table.now }
-    requires plain { IsPlainTable table.now }
     requires name { IsSegmentName name.now }
     ensures of { IfOk result (IsHeadOf table.now) }
     ensures placed { IfOk result (λ head. AreIn (file_of name.now) head.sections) }

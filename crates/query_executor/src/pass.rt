@@ -4,13 +4,11 @@ ghost use Rattle.std.specs.Prelude.{◌≡◌, ◌≢◌, ◌≤◌, ◌<◌, �
 ghost use Rattle.std.specs.List.{All};
 ghost use Rattle.outside.specs.Seen.{OnlyReads, seen};
 ghost use Rattle.agg_laws.specs.Numbers.{most_values};
-ghost use Rattle.table_schema.specs.Unbuilt.{names_unbuilt};
 ghost use Rattle.table_schema.specs.ValidQuery.{IsValidQuery};
 ghost use Rattle.table_schema.specs.ValidTable.{IsValidTable};
 ghost use Rattle.group_table.specs.Kept.{IsNew, IsTableOf, groups_in};
 ghost use Rattle.scan_engine.specs.Scanned.{HaveAtMost};
 ghost use Rattle.segment_file.specs.Names.{IsSegmentName, file_of};
-ghost use Rattle.segment_file.specs.Parts.{IsPlainTable};
 ghost use Rattle.segment_file.specs.declared.part.Part.{Part};
 ghost use Rattle.segment_scan.specs.declared.fault.EngineFault.TheVariants as engine;
 ghost use Rattle.sql_reply.specs.Reply.{most_groups};
@@ -71,8 +69,6 @@ pub fn pass_over<S: Shelf>(
     pass: &mut Pass,
 ) -> Result<(), ExecutorFault>
     requires valid { IsValidTable table.now }
-    requires plain { IsPlainTable table.now }
-    requires bare { names_unbuilt table.now.settings ≡ false }
     requires named { All IsSegmentName names.now }
     requires few { length names.now ≤ 512 }
     requires query { IsValidQuery table.now query.now }
@@ -114,8 +110,6 @@ fn pass_one<S: Shelf>(
     pass: &mut Pass,
 ) -> Result<(), EngineFault>
     requires valid { IsValidTable table.now }
-    requires plain { IsPlainTable table.now }
-    requires bare { names_unbuilt table.now.settings ≡ false }
     requires name { IsSegmentName name.now }
     requires query { IsValidQuery table.now query.now }
     requires of_query { IsTableOf query.now pass.old.groups }

@@ -1,13 +1,11 @@
 //! The plan of a segment is made, and written.
-ghost use Rattle.std.specs.Prelude.{◌≡◌, ◌≢◌, ◌++◌, false, Err, IfOk, IfSome, IsErrOf, OnOk};
+ghost use Rattle.std.specs.Prelude.{◌≡◌, ◌≢◌, ◌++◌, Err, IfOk, IfSome, IsErrOf, OnOk};
 ghost use Rattle.outside.specs.Seen.{OnlyReads, seen};
-ghost use Rattle.table_schema.specs.Unbuilt.{names_unbuilt};
 ghost use Rattle.table_schema.specs.ValidQuery.{IsValidQuery};
 ghost use Rattle.table_schema.specs.ValidTable.{IsValidTable};
 ghost use Rattle.segment_file.specs.Names.{IsSegmentName};
-ghost use Rattle.segment_file.specs.Parts.{IsPlainTable};
 ghost use Rattle.segment_file.specs.declared.part.Part.{Part};
-ghost use Rattle.segment_plan.specs.Explained.{explained_by};
+ghost use Rattle.segment_plan.specs.Explained.{IsDetailed, explained_by};
 ghost use Rattle.segment_plan.specs.Plan.{plan_of};
 ghost use Rattle.segment_scan.specs.declared.fault.EngineFault.TheVariants.{NotASegment, ReadFault, TooManyGroups};
 ghost use Rattle.query_executor.specs.Explained.{line_by, plan_line};
@@ -15,8 +13,9 @@ ghost use Rattle.query_executor.specs.Logs.{LogsHeadOf};
 ghost use Rattle.query_executor.specs.Segments.{HasNoImage};
 ghost use Rattle.query_executor.specs.Steps.{AddsLine, IsPlannedIn};
 
-use crate::loading::load_filtered;
+use crate::loading::load_detailed;
 use crate::opening::open_segment;
+use eligibility::pick;
 use outside::Shelf;
 use segment_file::Head;
 use segment_plan::{SegmentPlan, explained_law, head_tells_law, plan, prune, push_plan};
@@ -34,8 +33,6 @@ pub fn explain_segment<S: Shelf>(
     text: &mut Vec<u8>,
 ) -> Result<(), EngineFault>
     requires valid { IsValidTable table.now }
-    requires plain { IsPlainTable table.now }
-    requires bare { names_unbuilt table.now.settings ≡ false }
     requires name { IsSegmentName name.now }
     requires query { IsValidQuery table.now query.now }
     ensures ok { OnOk result
@@ -67,7 +64,8 @@ struct Planned {
 }
 
 // The plan of the segment of this name. Of a segment that its bounds exclude no more than the front
-// and the bounds is read; of another the dictionaries of the columns that conjuncts name alone.
+// and the bounds is read; of another the dictionaries of the columns that conjuncts name alone, and
+// where a star-tree is picked those that its bound is made of.
 fn plan_segment<S: Shelf>(
     alloc: Global,
     shelf: &mut S,
@@ -76,7 +74,6 @@ fn plan_segment<S: Shelf>(
     query: &BoundQuery,
 ) -> Result<Planned, EngineFault>
     requires valid { IsValidTable table.now }
-    requires plain { IsPlainTable table.now }
     requires name { IsSegmentName name.now }
     requires query { IsValidQuery table.now query.now }
     ensures planned { IfOk result (λ found. IsPlannedIn query.now table.now (S.held shelf.old)
@@ -97,7 +94,8 @@ fn plan_segment<S: Shelf>(
         let plan = SegmentPlan::Pruned;
         return Ok(Planned { head, plan });
     }
-    match load_filtered(alloc, shelf, table, query, &mut head) {
+    let tree = pick(query, table.settings.trees.as_slice());
+    match load_detailed(alloc, shelf, table, query, tree, &mut head) {
         Ok(()) => {}
         Err(fault) => return Err(fault),
     }
@@ -115,8 +113,8 @@ fn push_line(
     text: &mut Vec<u8>,
 ) -> Result<(), AllocError>
     requires valid { IsValidTable table.now }
-    requires bare { names_unbuilt table.now.settings ≡ false }
     requires planned { found.now.plan ≡ plan_of query.now table.now found.now.head }
+    requires detailed { IsDetailed query.now table.now found.now.head found.now.plan }
     ensures { OnOk result (text.new.items
         ≡ text.old.items ++ line_by name.now (explained_by query.now table.now found.now.head)) }
 {

@@ -1,24 +1,27 @@
 //! The rows of a segment are added to the groups of a query.
-ghost use Rattle.std.specs.Prelude.{◌≡◌, ◌-◌, false, Err, IfOk, IfSome, IsErrOf, List, ℕ, OnOk};
+ghost use Rattle.std.specs.Prelude.{◌≡◌, ◌-◌, Err, IfOk, IfSome, IsErrOf, List, None, ℕ, OnOk};
 ghost use Rattle.outside.specs.Seen.{OnlyReads, seen};
 ghost use Rattle.agg_laws.specs.Numbers.{most_values};
 ghost use Rattle.group_table.specs.Kept.{IsTableOf, groups_in};
 ghost use Rattle.scan_engine.specs.Scanned.{HaveAtMost};
 ghost use Rattle.segment_file.specs.Heads.{AreIn, IsHeadOf};
 ghost use Rattle.segment_file.specs.Names.{IsSegmentName, file_of};
-ghost use Rattle.segment_file.specs.Parts.{IsPlainTable};
 ghost use Rattle.segment_file.specs.declared.part.Part.{Part};
 ghost use Rattle.segment_scan.specs.Images.{AreNamedLoaded};
 ghost use Rattle.segment_scan.specs.declared.fault.EngineFault.TheVariants.{NotASegment, ReadFault, TooManyGroups};
-ghost use Rattle.table_schema.specs.Unbuilt.{names_unbuilt};
+ghost use Rattle.segment_plan.specs.Matched.{AreLoaded};
+ghost use Rattle.eligibility.specs.Rule.{picked};
+ghost use Rattle.star_answer.specs.Tasks.{AreGroupsLoaded};
 ghost use Rattle.table_schema.specs.ValidQuery.{IsValidQuery};
 ghost use Rattle.table_schema.specs.ValidTable.{IsValidTable};
 ghost use Rattle.query_executor.specs.Logs.{LogsIn};
 ghost use Rattle.query_executor.specs.Segments.{HasNoImage};
 ghost use Rattle.query_executor.specs.Steps.{AddsStored, IsDoneIn, IsHeadIn, IsStoredOverfull};
+ghost use Rattle.query_executor.specs.Steps as spec;
 
-use crate::loading::load_named;
+use crate::loading::load_wanted;
 use crate::opening::open_segment;
+use eligibility::pick;
 use group_table::GroupTable;
 use outside::Shelf;
 use segment_file::Head;
@@ -26,6 +29,7 @@ use segment_plan::{
     SegmentPlan, empty_law, head_tells_law, plan, plan_over_law, prune, pruned_law,
 };
 use segment_scan::{EngineFault, scan_segment};
+use star_answer::{SegmentFault, answer_segment};
 use std::alloc::Global;
 use table_schema::{BoundQuery, Table};
 
@@ -33,12 +37,14 @@ use table_schema::{BoundQuery, Table};
 #[derive(Drop)]
 pub struct Scanned {
     pub plan: SegmentPlan,
-    /// How many of its rows its indexes left.
+    /// How many documents were looked at: the rows that its indexes left, or the documents of the
+    /// star-tree that were read.
     pub docs: u32,
 }
 
-/// Adds the rows of the segment of this name that satisfy the filter of a query to its groups. Of a
-/// segment that its bounds exclude no more than the front and the bounds is read.
+/// Adds the rows of the segment of this name that satisfy the filter of a query to its groups, by a
+/// star-tree where one serves the query. Of a segment that its bounds exclude no more than the front
+/// and the bounds is read.
 pub fn add_segment<S: Shelf>(
     alloc: Global,
     shelf: &mut S,
@@ -48,8 +54,6 @@ pub fn add_segment<S: Shelf>(
     groups: &mut GroupTable,
 ) -> Result<Scanned, EngineFault>
     requires valid { IsValidTable table.now }
-    requires plain { IsPlainTable table.now }
-    requires bare { names_unbuilt table.now.settings ≡ false }
     requires name { IsSegmentName name.now }
     requires query { IsValidQuery table.now query.now }
     requires of_query { IsTableOf query.now groups.old }
@@ -76,7 +80,8 @@ pub fn add_segment<S: Shelf>(
     if prune(query, &head) {
         return Ok(nothing(SegmentPlan::Pruned));
     }
-    match load_named(alloc, shelf, table, query, &mut head) {
+    let by_tree = pick(query, table.settings.trees.as_slice()).is_some();
+    match load_wanted(alloc, shelf, table, query, by_tree, &mut head) {
         Ok(()) => {}
         Err(fault) => return Err(fault),
     }
@@ -93,9 +98,11 @@ fn add_planned<S: Shelf>(
     groups: &mut GroupTable,
 ) -> Result<Scanned, EngineFault>
     requires valid { IsValidTable table.now }
-    requires bare { names_unbuilt table.now.settings ≡ false }
     requires of_table { IsHeadOf table.now head.now }
-    requires loaded { AreNamedLoaded query.now head.now }
+    requires filtered { AreLoaded query.now.conjuncts head.now }
+    requires grouped { AreGroupsLoaded query.now.groups head.now }
+    requires named { picked query.now table.now.settings.trees ≡ None →
+        AreNamedLoaded query.now head.now }
     requires query { IsValidQuery table.now query.now }
     requires of_query { IsTableOf query.now groups.old }
     requires fits { HaveAtMost (most_values - 1048576) (groups_in groups.old) }
@@ -132,7 +139,27 @@ fn add_planned<S: Shelf>(
         },
         SegmentPlan::Pruned => Ok(nothing(SegmentPlan::Pruned)),
         SegmentPlan::Empty => Ok(nothing(SegmentPlan::Empty)),
-        SegmentPlan::StarTree(_) => unreachable!(),
+        SegmentPlan::StarTree(tree) => match answer_segment(
+            alloc, shelf, head, table, tree, query, groups,
+        ) {
+            Ok(read) => Ok(Scanned {
+                plan: SegmentPlan::StarTree(tree),
+                docs: read,
+            }),
+            Err(fault) => Err(of_answer(fault)),
+        },
+    }
+}
+
+// What the fault of an answer from a star-tree is for the answer of its segment.
+fn of_answer(fault: SegmentFault) -> EngineFault
+    ensures { result ≡ spec.of_answer fault }
+{
+    match fault {
+        SegmentFault::TooManyGroups => EngineFault::TooManyGroups,
+        SegmentFault::NotASegment(part) => EngineFault::NotASegment(part),
+        SegmentFault::ReadFault => EngineFault::ReadFault,
+        SegmentFault::NoMemory => EngineFault::NoMemory,
     }
 }
 

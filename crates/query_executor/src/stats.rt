@@ -2,11 +2,9 @@
 ghost use Rattle.std.specs.Prelude.{◌≡◌, ◌≢◌, ◌≤◌, ◌<◌, ◌∷◌, ◌++◌, false, ℕ, [], Ok, Err, IfOk, IfSome, IsErrOf, get_or, length};
 ghost use Rattle.std.specs.List.{All};
 ghost use Rattle.outside.specs.Seen.{OnlyReads, seen};
-ghost use Rattle.table_schema.specs.Unbuilt.{names_unbuilt};
 ghost use Rattle.table_schema.specs.ValidQuery.{IsValidQuery};
 ghost use Rattle.table_schema.specs.ValidTable.{IsValidTable};
 ghost use Rattle.segment_file.specs.Names.{IsSegmentName};
-ghost use Rattle.segment_file.specs.Parts.{IsPlainTable};
 ghost use Rattle.segment_file.specs.declared.part.Part.{Part};
 ghost use Rattle.sql_reply.specs.Asked.{asked};
 ghost use Rattle.sql_reply.specs.SqlReply.{IsOfText};
@@ -36,8 +34,6 @@ pub fn stats_query<S: Shelf>(
     sql: &str,
 ) -> Result<Bytes, ExecutorFault>
     requires valid { IsValidTable table.now }
-    requires plain { IsPlainTable table.now }
-    requires bare { names_unbuilt table.now.settings ≡ false }
     requires named { All IsSegmentName names.now }
     requires few { length names.now ≤ 512 }
     ensures reply { IfOk result (λ text. IfSome (S.held shelf.old) (λ files.
@@ -71,8 +67,6 @@ fn stats_of_bound<S: Shelf>(
     query: &BoundQuery,
 ) -> Result<Bytes, ExecutorFault>
     requires valid { IsValidTable table.now }
-    requires plain { IsPlainTable table.now }
-    requires bare { names_unbuilt table.now.settings ≡ false }
     requires named { All IsSegmentName names.now }
     requires few { length names.now ≤ 512 }
     requires query { IsValidQuery table.now query.now }

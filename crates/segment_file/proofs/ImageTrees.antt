@@ -5,20 +5,25 @@ use Rattle.std.proofs.lemmas.Option.{get_or_from_slice_get, slice_get_within}
 use Rattle.std.proofs.lemmas.List.{get_or-map}
 use Rattle.values.specs.declared.value.Value.{Value}
 use Rattle.dictionary.specs.Dictionary.{IsUnicode}
-use Rattle.table_schema.specs.ValidTable.{IsRow, most_rows}
+use Rattle.outside.specs.Files.{Files}
+use Rattle.table_schema.specs.declared.settings.TreeSetting.{TreeSetting}
+use Rattle.table_schema.specs.declared.table.Table.{Table}
+use Rattle.table_schema.specs.ValidTable.{IsRow, IsValidTable, most_rows}
 use Rattle.segment_file.specs.declared.trees.TreeNodes.{TreeNodes}
 use Rattle.segment_file.specs.Front.{Front}
-use Rattle.segment_file.specs.Heads.{nodes_said, trees_said}
+use Rattle.segment_file.specs.Heads.{Seen, nodes_said, trees_said}
 use Rattle.segment_file.specs.Image.{front_of, image}
 use Rattle.segment_file.specs.Laws.{HeadTellsTrees, IsTold}
 use Rattle.segment_file.specs.Ordered.{ordered}
 use Rattle.segment_file.specs.Rules.{heads_in}
+use Rattle.segment_file.specs.Stored.{IsOfImage}
 use Rattle.segment_file.specs.Trees.{nodes_of, written}
 use Rattle.segment_file.proofs.ImageKeeps.{image_keeps, nodes-are, tree-there}
 use Rattle.segment_file.proofs.ImageRows.{ordered_all, ordered_count}
 use Rattle.segment_file.proofs.RuleLaws.{fronts_one}
 use Rattle.segment_file.proofs.Steps.{slot_at}
 use Rattle.segment_file.proofs.TreeChecks.{said_at, said_count}
+use Rattle.segment_file.proofs.TreeRows.{TreeSections}
 
 pub head_tells_trees : HeadTellsTrees
 head_tells_trees table name file rows whole head t tree said valid named can is part setting loaded =
@@ -48,3 +53,16 @@ head_tells_trees table name file rows whole head t tree said valid named can is 
     ∙ ap nodes_said (nodes-are table name os few each unicode t lt ∙ ap (nodes_of os) th.at)
     ∙ th.sections.nodes_told in
     subst (λ x. IsTold os x said) that (record { documents_are = ap (λ x. x.documents) told; nodes_are = ap (λ x. x.nodes) told })
+
+-- what there is to say of the sections of a tree of the rows of an image
+pub image_tree : (table : Table) (files : Files) (rows : List (List Value)) (head : Seen) (t : ℕ) (tree : TreeSetting) → IsValidTable table → IsOfImage table files rows head → slice_get table.settings.trees t ≡ Some tree → TreeSections (ordered table.settings.sorted rows) tree
+image_tree table files rows head t tree valid of setting =
+    let os : List (List Value) = ordered table.settings.sorted rows in
+    let limit = of.can.fit.few in
+    let few : length os ≤ most_rows (length table.schema.fields) = omega (arith, limit, ordered_count table.settings.sorted rows) in
+    let each : All (IsRow table.schema.fields) os = ordered_all (IsRow table.schema.fields) table.settings.sorted rows of.can.fit.each in
+    let unicode : All (λ row. All IsUnicode row) os = ordered_all (λ row. All IsUnicode row) table.settings.sorted rows of.can.unicode in
+    let th = tree-there table of.name os few each unicode valid of.can.trees t (slice_get_within table.settings.trees t tree setting) in
+    let trees : Some th.tree ≡ Some tree = sym th.at ∙ setting in
+    let that : th.tree ≡ tree = cc in
+    subst (TreeSections os) that th.sections

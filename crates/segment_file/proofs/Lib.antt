@@ -15,3 +15,4 @@ pub mod TreeRows
 pub mod TreeChecks
 mod TreeSteps
 pub mod ImageTrees
+pub mod SectionBytes

@@ -30,7 +30,7 @@ use Rattle.segment_file.specs.declared.part.Part.TheVariants as parts
 use Rattle.segment_file.specs.declared.section.Section.{Section}
 use Rattle.segment_file.specs.Bounds.{AreBounds, MayEnd, bounds_bytes, bounds_of, ends_of}
 use Rattle.segment_file.specs.Front.{Extent, Front, bounds_end, extents_from, extents_of, front_size}
-use Rattle.segment_file.specs.Heads.{AreNodesLoaded, HasCount, IsHead, IsHeadOf, IsLoaded, IsOpened, IsPartOf, IsPlaced, IsSlotOf, KeepsRules, Loads, LoadsNodes, OfWhole, Seen, bounded, nodes_said, placed, trees_said, with_dictionary, with_nodes}
+use Rattle.segment_file.specs.Heads.{HasCount, IsHead, IsHeadOf, IsLoaded, IsOpened, IsPartOf, IsPlaced, IsSlotOf, KeepsRules, Loads, OfWhole, Seen, bounded, nodes_said, placed, trees_said, with_dictionary}
 use Rattle.segment_file.specs.declared.trees.TreeNodes.{TreeNodes}
 use Rattle.segment_file.specs.Image.{kind_at, kind_or}
 use Rattle.segment_file.specs.Parts.{columns_of, head_sections, sections_of, trees_of}
@@ -392,16 +392,6 @@ kept_part table head column d (Some files) loaded = λ name file whole full part
   tree_slots = part.tree_slots;
 }
 
-pub kept_nodes : (table : Table) (head : Seen) (t : ℕ) (tree : TreeNodes) (held : Option Files) → OfWhole table held head (λ whole. slice_get whole.trees t ≡ Some (Some tree)) → OfWhole table held head (λ whole. IsPartOf whole (with_nodes t tree head))
-kept_nodes table head t tree None loaded = tt
-kept_nodes table head t tree (Some files) loaded = λ name file whole full part. record {
-  rows_same = part.rows_same;
-  sections_same = part.sections_same;
-  bounds_same = part.bounds_same;
-  slots = part.slots;
-  tree_slots = slot_set whole.trees head.trees t tree part.tree_slots (loaded name file whole full part);
-}
-
 pub same_part : (table : Table) (head : Seen) (held : Option Files) → OfWhole table held head (λ whole. IsPartOf whole head)
 same_part table head None = tt
 same_part table head (Some files) = λ name file whole full part. part
@@ -427,19 +417,6 @@ kept_loads head column d lt = record {
   trees_same = refl;
   others = λ other apart. slice_get-set_other head.dictionaries column other (Some d) apart;
 }
-
-pub kept_nodes_loads : (head : Seen) (t : ℕ) (tree : TreeNodes) → t < length head.trees → LoadsNodes t head (with_nodes t tree head)
-kept_nodes_loads head t tree lt = record {
-  loaded = (tree, slice_get-set head.trees t (Some tree) lt);
-  rows_same = refl;
-  sections_same = refl;
-  bounds_same = refl;
-  dictionaries_same = refl;
-  others = λ other apart. slice_get-set_other head.trees t other (Some tree) apart;
-}
-
-pub same_nodes : (head : Seen) (t : ℕ) → AreNodesLoaded head t → LoadsNodes t head head
-same_nodes head t loaded = record { loaded = loaded; rows_same = refl; sections_same = refl; bounds_same = refl; dictionaries_same = refl; others = λ other apart. refl }
 
 pub same_loads : (head : Seen) (column : ℕ) (d : Distinct) → slice_get head.dictionaries column ≡ Some (Some d) → Loads column head head
 same_loads head column d at = record { loaded = (d, at); rows_same = refl; sections_same = refl; bounds_same = refl; trees_same = refl; others = λ other apart. refl }

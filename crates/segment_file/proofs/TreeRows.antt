@@ -154,6 +154,12 @@ pub record TreeSections (os : List (List Value)) (tree : TreeSetting) : Type 0 w
   pub nodes_long : length (nodes_of os (Some tree)) ≡ 4 + 28 * length (written os tree).0
   pub docs_size : length (star_of os (Some tree)) ≡ length (written os tree).1 * doc_width tree.shape
   pub bytes : length (written os tree).1 * doc_width tree.shape + 28 * length (written os tree).0 ≤ most_bytes
+  pub shaped : HaveShape tree.shape.dims tree.shape.kinds (written os tree).1
+  pub stored : AreStored (written os tree).1
+  pub ids : HaveIds tree.shape.dims (documents os tree)
+  pub counted : AreCounted tree.shape.dims (map (count_of os) tree.split) (documents os tree)
+  pub no_star : HaveNoStar tree.shape.dims (documents os tree)
+  pub few_ids : (d : ℕ) → count_at (map (count_of os) tree.split) d ≤ star
 
 first_word : (n : ℕ) (rest : List ℕ) → n < 2 ^ 32 → number_at 0 (words (n ∷ []) ++ rest) ≡ n
 first_word n rest small = word_back n small
@@ -182,6 +188,7 @@ tree_sections columns os tree valid few each fits =
     let said : number_at 0 (nodes_section (length f.1) f.0) ≡ length f.1 = first_word (length f.1) (node_bytes f.0) number in
     let none = no_documents tree.shape k docs in
     let rows_are : length docs ≡ length os = count_rows os tree os in
+    let fine = tree_fine tree.shape k tree.shape.kinds docs good in
     record {
       are_nodes = record {
         keep = section_back tree.shape counts (length f.1) f.0 number word keep;
@@ -191,8 +198,14 @@ tree_sections columns os tree valid few each fits =
       documents_said = said;
       nodes_told = (λ i. record { documents = said i; nodes = section_nodes (length f.1) f.0 word i });
       nodes_long = section_count (length f.1) f.0;
-      docs_size = docs_long tree.shape f.1 (tree_fine tree.shape k tree.shape.kinds docs good);
+      docs_size = docs_long tree.shape f.1 fine;
       bytes = keep.bytes;
+      shaped = fine.0;
+      stored = fine.1;
+      ids = ids;
+      counted = counted;
+      no_star = no_star;
+      few_ids = limit;
     }
 
 -- a tree of a table, with its sections

@@ -22,7 +22,7 @@ use Rattle.segment_file.specs.declared.fault.HeadFault.TheVariants as fault
 use Rattle.segment_file.specs.declared.section.Section.{Section}
 use Rattle.segment_file.specs.declared.trees.TreeNodes.{TreeNodes}
 use Rattle.segment_file.specs.Front.{Front}
-use Rattle.segment_file.specs.Heads.{HasCount, HaveCounts, IsHead, IsHeadOf, IsPartOf, LogsCount, LogsCounts, LogsTree, OfWhole, Seen, dictionary_section, nodes_said, nodes_section, split_of, trees_said}
+use Rattle.segment_file.specs.Heads.{AreKept, HasCount, HaveCounts, IsHead, IsHeadOf, IsPartOf, LogsCount, LogsCounts, OfWhole, Seen, dictionary_section, nodes_said, nodes_section, split_of, trees_said}
 use Rattle.segment_file.specs.Parts.{sections_of}
 use Rattle.segment_file.specs.Rules.{AreNodes, HasNodes, count_in, dictionary_in, heads_in, nodes_in, split_counts}
 use Rattle.segment_file.proofs.Composed.{count_same, made_count, spelled_length}
@@ -124,6 +124,11 @@ nodes_cut table head t s lt at (Some files) short = λ name file whole full part
 pub nodes_as : (shape : TreeShape) (c c2 : List ℕ) (r r2 : ℕ) (b b2 : List ℕ) → c ≡ c2 → r ≡ r2 → b ≡ b2 → AreNodes shape c r b → AreNodes shape c2 r2 b2
 nodes_as shape c c2 r r2 b b2 ec er eb are = subst (AreNodes shape c2 r2) eb (subst (λ x. AreNodes shape c2 x b) er (subst (λ x. AreNodes shape x r b) ec are))
 
+-- nodes that were looked at keep all rules for the counts by which they were
+pub kept_so : (shape : TreeShape) (own counts bytes : List ℕ) (rows : ℕ) (tree : TreeNodes) → own ≡ counts → tree ≡ nodes_said bytes → AreNodes shape own rows bytes → length own ≡ shape.dims → AreKept shape counts tree
+kept_so shape own counts bytes rows tree same said are each =
+    subst (λ c. AreKept shape c tree) same (subst (AreKept shape own) (sym said) (record { each = each; keep = are.keep.keeps }))
+
 -- ---- one more count
 
 -- what holds of the split dimensions of a tree holds of the list that is looked at
@@ -166,10 +171,6 @@ logs_push head columns i c old between new lt at logs one =
 -- the others are not looked at
 pub logs_stop : (head : Seen) (columns : List ℕ) (n : ℕ) (old new : Option (List Entry)) → LogsCounts head (take n columns) old new → LogsCounts head columns old new
 logs_stop head columns n old new logs = subst (λ xs. LogsCounts head xs old new) (take-append-drop n columns) (logs_rest head (take n columns) (drop n columns) old new logs)
-
--- nothing is read of a tree
-pub tree_none : (table : Table) (head : Seen) (t : ℕ) (log : Option (List Entry)) → LogsTree table head t log log
-tree_none table head t log = record { between = log; counts = logs_none head (split_of table t) log; nodes = none_read (nodes_section table head t) (λ s. s.place.length) log }
 
 -- ---- faults
 

@@ -1,17 +1,18 @@
 -- Heads: what is kept of a segment's file where its rows are not read.
 use Rattle.std.specs.Prelude.{◌≡◌, ◌≢◌, ◌≤◌, ◌<◌, ◌^◌, ◌+◌, ◌⊎◌, ℕ, zero, suc, List, [], ◌∷◌, drop, map, length, Option, Some, None, IfSome, option_map, slice_get, slice_index_or, slice_set}
 use Rattle.std.specs.List.{All, AllZip, find}
-use Rattle.std.specs.Option.{option_map_or, unwrap_or}
+use Rattle.std.specs.Option.{option_map_or}
 use Rattle.outside.specs.Files.{Files, bytes_of}
 use Rattle.outside.specs.Reads.{Entry, LogsThrough, LogsUpTo}
 use Rattle.outside.specs.declared.place.Place.{Place}
+use Rattle.agg_laws.specs.declared.tree_shape.TreeShape.{TreeShape}
 use Rattle.table_schema.specs.declared.field.Field.{Field}
 use Rattle.table_schema.specs.declared.table.Table.{Table}
 use Rattle.table_schema.specs.ValidTable.{most_rows}
 use Rattle.dictionary.specs.Dictionary.{Distinct}
 use Rattle.bit_column.specs.Sections.{section}
 use Rattle.star_file.specs.Rules as nodes
-use Rattle.star_file.specs.Rules.{number_at}
+use Rattle.star_file.specs.Rules.{KeepAll, number_at}
 use Rattle.segment_file.specs.declared.bounds.Ends.{Ends}
 use Rattle.segment_file.specs.declared.part.Part.{Part}
 use Rattle.segment_file.specs.declared.section.Section.{Section}
@@ -44,10 +45,6 @@ IsLoaded head column = (d : Distinct) × (slice_get head.dictionaries column ≡
 -- the nodes of a tree were loaded
 abbrev pub AreNodesLoaded : Seen → ℕ → Type 0
 AreNodesLoaded head t = (tree : TreeNodes) × (slice_get head.trees t ≡ Some (Some tree))
-
--- the nodes of a tree, if they were loaded
-abbrev pub tree_in : Seen → ℕ → Option TreeNodes
-tree_in head t = unwrap_or (slice_get head.trees t) None
 
 -- what a section of nodes says
 abbrev pub nodes_said : List ℕ → TreeNodes
@@ -149,15 +146,6 @@ pub record Loads (column : ℕ) (old new : Seen) : Type 0 where
   pub trees_same : new.trees ≡ old.trees
   pub others : (other : ℕ) → other ≢ column → slice_get new.dictionaries other ≡ slice_get old.dictionaries other
 
--- a head before and after the nodes of a tree were loaded
-pub record LoadsNodes (t : ℕ) (old new : Seen) : Type 0 where
-  pub loaded : AreNodesLoaded new t
-  pub rows_same : new.rows ≡ old.rows
-  pub sections_same : new.sections ≡ old.sections
-  pub bounds_same : new.bounds ≡ old.bounds
-  pub dictionaries_same : new.dictionaries ≡ old.dictionaries
-  pub others : (other : ℕ) → other ≢ t → slice_get new.trees other ≡ slice_get old.trees other
-
 -- the head with this dictionary of a column
 abbrev pub with_dictionary : ℕ → Distinct → Seen → Seen
 with_dictionary column d head = record head { dictionaries = slice_set head.dictionaries column (Some d) }
@@ -166,13 +154,14 @@ with_dictionary column d head = record head { dictionaries = slice_set head.dict
 abbrev pub dictionary_section : Seen → ℕ → Option Section
 dictionary_section head column = slice_get head.sections (column + 1)
 
--- the head with these nodes of a tree
-abbrev pub with_nodes : ℕ → TreeNodes → Seen → Seen
-with_nodes t tree head = record head { trees = slice_set head.trees t (Some tree) }
-
 -- the section of the nodes of a tree: the one after the bounds, the dictionaries and the nodes before it
 abbrev pub nodes_section : Table → Seen → ℕ → Option Section
 nodes_section table head t = slice_get head.sections (length table.schema.fields + 1 + t)
+
+-- so many values for each split dimension, and nodes that keep all rules for them
+pub record AreKept (shape : TreeShape) (counts : List ℕ) (tree : TreeNodes) : Type 0 where
+  pub each : length counts ≡ shape.dims
+  pub keep : KeepAll shape counts tree.documents tree.nodes
 
 -- the columns of the split dimensions of a tree
 abbrev pub split_of : Table → ℕ → List ℕ

@@ -10,3 +10,4 @@ pub mod Rules
 pub mod Reading
 pub mod Heads
 pub mod Laws
+pub mod Stored

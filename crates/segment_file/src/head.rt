@@ -1,13 +1,12 @@
 //! The head of a segment's file.
-ghost use Rattle.std.specs.Prelude.{◌≡◌, List, map, MatchOption, None, Some, option_map, slice_get};
+ghost use Rattle.std.specs.Prelude.{◌≡◌, List, map, MatchOption, None, Some, slice_get};
 ghost use Rattle.std.specs.Option.{option_copied};
 ghost use Rattle.segment_file.specs.Heads as spec;
-ghost use Rattle.segment_file.specs.Heads.{AreNodesLoaded, IsLoaded, place_in, tree_in};
+ghost use Rattle.segment_file.specs.Heads.{IsLoaded, place_in};
 
 use crate::{Ends, Part, Section, TreeNodes};
 use dictionary::Dictionary;
 use outside::Place;
-use star_file::Nodes;
 use std::marker::Model;
 use values::Value;
 
@@ -76,33 +75,6 @@ impl Head {
     {
         match &self.dictionaries[column as usize] {
             Some(dictionary) => dictionary,
-            None => unreachable!(),
-        }
-    }
-
-    /// The nodes of a tree, which were loaded.
-    pub fn nodes(&self, tree: u8) -> &Nodes
-        requires { AreNodesLoaded self.now tree }
-        ensures { option_map (λ t. t.nodes) (tree_in self.now tree) ≡ Some result.now }
-    {
-        &self.tree(tree).nodes
-    }
-
-    /// How many documents a tree has, whose nodes were loaded.
-    pub fn documents(&self, tree: u8) -> u32
-        requires { AreNodesLoaded self.now tree }
-        ensures { option_map (λ t. t.documents) (tree_in self.now tree) ≡ Some result }
-    {
-        self.tree(tree).documents
-    }
-
-    // What was loaded of a tree.
-    fn tree(&self, tree: u8) -> &TreeNodes
-        requires { AreNodesLoaded self.now tree }
-        ensures { tree_in self.now tree ≡ Some result.now }
-    {
-        match &self.trees[tree as usize] {
-            Some(nodes) => nodes,
             None => unreachable!(),
         }
     }

@@ -18,7 +18,7 @@ mod section;
 mod sections;
 mod sizes;
 mod stepwise;
-mod tree_loading;
+mod tree_reading;
 mod trees;
 
 pub use bounds::{Ends, push_bounds, push_ends, read_bounds};
@@ -36,6 +36,7 @@ pub use section::Section;
 pub use sections::sections_of;
 pub use sizes::size_for;
 pub use stepwise::open_head;
+pub use tree_reading::OpenTree;
 pub use trees::TreeNodes;
 
 /// A growth was refused.

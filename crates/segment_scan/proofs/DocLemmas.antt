@@ -92,10 +92,10 @@ both_step {X} q x inner outer true b e rest = ap (λ c. cond c (x ∷ filter q i
 both_step q x inner outer false b e rest = rest
 
 -- the items of which both tests hold
-pub filter_both : {X : Type 0} (p q both : X → Bool) → ((x : X) → both x ≡ (p x && q x)) → (xs : List X) → filter q (filter p xs) ≡ filter both xs
-filter_both p q both is [] = refl
-filter_both p q both is (x ∷ xs) =
-    both_step q x (filter p xs) (filter both xs) (p x) (q x) refl (filter_both p q both is xs) ∙ ap (λ b. cond b (x ∷ filter both xs) (filter both xs)) (sym (is x))
+pub filter_both : {X : Type 0} (d : X) (p q both : X → Bool) (xs : List X) → ((k : ℕ) → k < length xs → both (get_or xs k d) ≡ (p (get_or xs k d) && q (get_or xs k d))) → filter q (filter p xs) ≡ filter both xs
+filter_both d p q both [] is = refl
+filter_both d p q both (x ∷ xs) is =
+    both_step q x (filter p xs) (filter both xs) (p x) (q x) refl (filter_both d p q both xs (λ k lt. is (suc k) (omega (arith, lt)))) ∙ ap (λ b. cond b (x ∷ filter both xs) (filter both xs)) (sym (is 0 (omega arith)))
 
 -- in the places of the documents just where the test holds of their rows, there are the rows of which it holds
 pub rows_filtered : {X : Type 0} (d : X) (p : X → Bool) (xs : List X) (docs : List ℕ) → IsStrictlyIncreasing docs → All (λ k. k < length xs) docs → ((k : ℕ) → k < length xs → has_doc docs k ≡ p (get_or xs k d))

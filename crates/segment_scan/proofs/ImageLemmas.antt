@@ -44,6 +44,7 @@ use Rattle.segment_file.specs.Rules.{KeepsAll}
 use Rattle.segment_file.proofs.Fronts.{front_bytes_size}
 use Rattle.segment_file.proofs.ImageKeeps.{image_keeps}
 use Rattle.segment_file.proofs.RuleLaws.{fronts_one}
+use Rattle.segment_file.proofs.SectionBytes.{any_front, any_raw, cut_section, some_place}
 use Rattle.segment_plan.specs.Laws.{HeadTells, TellsOf}
 use Rattle.segment_plan.specs.Matched.{values_in, values_of}
 use Rattle.segment_scan.specs.Agreement.{Agree, AgreeAll}
@@ -77,33 +78,12 @@ forward_among from (suc n) (suc k) lt =
     or_right (is_same (parts.Forward from) (parts.Forward (from + suc k))) (list_any (λ p. is_same p (parts.Forward (from + suc k))) (map parts.Forward (range_with_len (from + 1) n)))
     (subst (λ m. list_any (λ p. is_same p (parts.Forward m)) (map parts.Forward (range_with_len (from + 1) n)) ≡ true) same (forward_among (from + 1) n k (omega (arith, lt))))
 
-pub any_front : (p : Part → Bool) (xs ys : List Part) → list_any p xs ≡ true → list_any p (xs ++ ys) ≡ true
-any_front p xs ys e = list_any-append p xs ys ∙ or_left (list_any p xs) (list_any p ys) e
-
-pub any_back : (p : Part → Bool) (xs ys : List Part) → list_any p ys ≡ true → list_any p (xs ++ ys) ≡ true
-any_back p xs ys e = list_any-append p xs ys ∙ or_right (list_any p xs) (list_any p ys) e
-
--- a part that is among the sections of the rows is among all
-pub any_raw : (table : Table) (p : Part → Bool) → list_any p (raw_sections table) ≡ true → list_any p (sections_of table) ≡ true
-any_raw table p e = any_back p (head_sections table) (tail_sections table) (any_front p (raw_sections table) (map parts.Star (trees_of table)) e)
-
 has_forward : (table : Table) (c : ℕ) → c < length table.schema.fields → list_any (λ p. is_same p (parts.Forward c)) (sections_of table) ≡ true
 has_forward table c lt =
     let plain : 0 + c ≡ c = omega arith in
     let own : list_any (λ p. is_same p (parts.Forward c)) (map parts.Forward (columns_of table)) ≡ true =
     subst (λ m. list_any (λ p. is_same p (parts.Forward m)) (map parts.Forward (columns_of table)) ≡ true) plain (forward_among 0 (length table.schema.fields) c lt) in
     any_raw table (λ p. is_same p (parts.Forward c)) (any_front (λ p. is_same p (parts.Forward c)) (map parts.Forward (columns_of table)) _ own)
-
--- a part that is among the sections has a place
-pub some_place : (file : List ℕ) (p : Part) (offset : ℕ) (ps : List Part) (sizes : List ℕ) → length sizes ≡ length ps → list_any (λ q. is_same q p) ps ≡ true → IsSome (place_in (map (placed file) (extents_from offset ps sizes)) p)
-some_place file p offset [] sizes each found = absurd (false≢true found)
-some_place file p offset (q ∷ qs) [] each found = absurd (omega (arith, each))
-some_place file p offset (q ∷ qs) (size ∷ sizes) each found = go (some_place file p (offset + size) qs sizes (omega (arith, each))) (is_same q p) found
-  where
-    go : (list_any (λ q. is_same q p) qs ≡ true → IsSome (place_in (map (placed file) (extents_from (offset + size) qs sizes)) p)) → (b : Bool) → b || list_any (λ q. is_same q p) qs ≡ true
-        → IsSome (option_map (λ s. s.place) (cond b (Some (placed file (record { part = q; offset = offset; size = size }))) (find (λ s. is_same s.part p) (map (placed file) (extents_from (offset + size) qs sizes)))))
-    go later true found = refl
-    go later false found = later found
 
 pub columns_few : (table : Table) (head : Seen) (column : ℕ) → IsHeadOf table head → IsLoaded head column → column < length table.schema.fields
 columns_few table head column is loaded = omega (arith, some_at head.dictionaries column loaded.0 loaded.1, is.has.slots)
@@ -119,25 +99,6 @@ loaded_readable table head column is loaded = record {
   placed = subst (λ sections. IsSome (place_in sections (parts.Forward column))) (sym is.has.sections_are)
       (some_place is.file (parts.Forward column) (front_size table is.name) (sections_of table) is.front.sizes is.each (has_forward table column (columns_few table head column is loaded)));
 }
-
--- the bytes of a section are those that the file has for it
-pub cut_section : (files : Files) (file : List ℕ) (f : Part → List ℕ) (target : Part) → ((p : Part) → is_same p target ≡ true → p ≡ target) → (before : List ℕ) (offset : ℕ) (ps : List Part) → length before ≡ offset
-    → bytes_of (Some files) file ≡ before ++ concat (map f ps) → list_any (λ p. is_same p target) ps ≡ true
-    → bytes_in files (place_in (map (placed file) (extents_from offset ps (map length (map f ps)))) target) ≡ f target
-cut_section files file f target only before offset [] at is found = absurd (false≢true found)
-cut_section files file f target only before offset (p ∷ ps) at is found =
-    go (cut_section files file f target only (before ++ f p) (offset + length (f p)) ps (omega (arith, at, length-append before (f p))) (is ∙ sym (append_assoc before (f p) (concat (map f ps))))) (is_same p target) refl found
-  where
-    go : (list_any (λ q. is_same q target) ps ≡ true → bytes_in files (place_in (map (placed file) (extents_from (offset + length (f p)) ps (map length (map f ps)))) target) ≡ f target)
-        → (b : Bool) → is_same p target ≡ b → b || list_any (λ q. is_same q target) ps ≡ true
-        → bytes_in files (option_map (λ s. s.place) (cond b (Some (placed file (record { part = p; offset = offset; size = length (f p) }))) (find (λ s. is_same s.part target) (map (placed file) (extents_from (offset + length (f p)) ps (map length (map f ps)))))))
-        ≡ f target
-    go later true same found =
-        (λ i. take (length (f p)) (drop (sym at i) (is i)))
-        ∙ ap (take (length (f p))) (drop-append_seam before (f p ++ concat (map f ps)))
-        ∙ take-append_seam (f p) (concat (map f ps))
-        ∙ ap f (only p same)
-    go later false same found = later found
 
 -- ---- values and ids
 

@@ -10,6 +10,7 @@ use Rattle.outside.specs.Reads.{Entry}
 use Rattle.values.specs.declared.value.Value.{Value}
 use Rattle.values.specs.Columns.{Listed}
 use Rattle.values.specs.declared.test.Test.{Test}
+use Rattle.dictionary.specs.Dictionary.{distinct}
 use Rattle.index_reading.specs.declared.kind.ListKind.{ListKind}
 use Rattle.table_schema.specs.declared.query.BoundQuery.{BoundQuery}
 use Rattle.table_schema.specs.declared.query.Conjunct.{Conjunct}
@@ -23,43 +24,91 @@ use Rattle.scan_engine.specs.Scanned.{AddsRows, IsOverfull, selected}
 use Rattle.segment_file.specs.declared.part.Part.{Part}
 use Rattle.segment_file.specs.declared.part.Part.TheVariants.{Forward}
 use Rattle.segment_file.specs.Heads.{IsHeadOf, Seen}
-use Rattle.segment_file.specs.Ordered.{ordered}
+use Rattle.segment_file.specs.Columns as segment
+use Rattle.segment_file.specs.Ordered.{ordered, value_in}
 use Rattle.segment_plan.specs.declared.plans.IndexChoice.{IndexChoice}
 use Rattle.segment_plan.specs.declared.plans.IndexChoice.TheVariants.{Unindexed, Sorted, Inverted, Range}
 use Rattle.segment_scan.specs.Agreement.{AgreeAll, AreSame}
 use Rattle.segment_scan.specs.Documents.{AddsDocs, selected_docs}
 use Rattle.segment_scan.specs.Forward.{HasIds}
-use Rattle.segment_scan.specs.Images.{AddsImage, AddsWhole, AreDocs, AreLeftFor, AreNamedLoaded, ImagesLeave, ImagesRead, IsBadForward, IsBadIn, IsBadWhole, IsImageOverfull, IsNoImage, IsOfImage, IsWholeOverfull, choices_for, names_in, rest_for, served_for}
-use Rattle.segment_scan.specs.Indexes.{IsBadAny, IsBadIndex, LogsAt, LogsIndex, OfIndex, TellsServed}
+use Rattle.segment_scan.specs.Images.{AddsImage, AddsWhole, AreDocs, AreLeftFor, AreNamedLoaded, ImagesLeave, ImagesRead, IsBadForward, IsBadIn, IsBadWhole, IsImageOverfull, IsNoImage, IsOfImage, IsWholeOverfull, choices_for, indexed_for, names_in, rest_for}
+use Rattle.segment_scan.specs.Indexes.{IsBadAny, IsBadIndex, LogsAt, LogsIndex, LogsRange, OfIndex, TellsIndexed}
 use Rattle.segment_scan.specs.Named.{query_names}
 use Rattle.segment_scan.specs.Scans.{columns_read}
 use Rattle.segment_scan.specs.Series.{LogsTo}
-use Rattle.segment_scan.specs.Served.{choice_at, is_served, rest_of, rows_left, served, unserved}
+use Rattle.segment_scan.specs.Served.{Chosen, all_left, choice_at, indexed, is_indexed, is_row_left, is_served, rest_of, rows_left, unserved}
 use Rattle.segment_scan.proofs.AgreementLemmas.{agreeing_same}
 use Rattle.segment_scan.proofs.DocLemmas.{filter_both, rows_filtered}
+use Rattle.segment_scan.proofs.IndexImage.{again, place_at}
+use Rattle.segment_scan.proofs.LeftLemmas.{one_chosen}
+use Rattle.segment_scan.proofs.RangeLemmas.{value_near}
 use Rattle.segment_scan.proofs.SegmentLemmas.{mark_named, marks_are}
 use Rattle.segment_scan.proofs.ServedLemmas.{unserved_names}
 
--- ---- all conjuncts hold just where the served ones and the others do
+-- ---- all conjuncts hold just where the indexes leave and the conjuncts that are not served hold
 
-split_one : (p : Conjunct → Bool) (b : Bool) (x : Conjunct) (kept others : List Conjunct) (rest : Bool) → rest ≡ (list_all p kept && list_all p others)
-    → (p x && rest) ≡ (list_all p (if b then x ∷ kept else kept) && list_all p (if b then others else x ∷ others))
-split_one p true x kept others rest is = ap (λ r. p x && r) is ∙ assoc (p x) (list_all p kept) (list_all p others)
-  where
-    assoc : (a b c : Bool) → (a && (b && c)) ≡ ((a && b) && c)
-    assoc true b c = refl
-    assoc false b c = refl
-split_one p false x kept others rest is = ap (λ r. p x && r) is ∙ swap (p x) (list_all p kept) (list_all p others)
-  where
-    swap : (a b c : Bool) → (a && (b && c)) ≡ (b && (a && c))
-    swap true b c = refl
-    swap false true c = refl
-    swap false false c = refl
+-- each index leaves just that of which its conjunct holds, or more where the conjunct is not served
+record AreExact (p : Conjunct → Bool) (q : IndexChoice → Conjunct → Bool) : Type 0 where
+  served : (choice : IndexChoice) (conjunct : Conjunct) → is_served choice conjunct ≡ true → q choice conjunct ≡ p conjunct
+  more : (choice : IndexChoice) (conjunct : Conjunct) → p conjunct ≡ true → q choice conjunct ≡ true
 
-split_all : (p : Conjunct → Bool) (choices : List IndexChoice) (conjuncts : List Conjunct) → list_all p conjuncts ≡ (list_all p (served choices conjuncts) && list_all p (unserved choices conjuncts))
-split_all p [] conjuncts = refl
-split_all p (c ∷ cs) [] = refl
-split_all p (c ∷ cs) (x ∷ xs) = split_one p (is_served c x) x (served cs xs) (unserved cs xs) (list_all p xs) (split_all p cs xs)
+served_indexed : (choice : IndexChoice) (conjunct : Conjunct) → is_served choice conjunct ≡ true → is_indexed choice conjunct ≡ true
+served_indexed Sorted (One column test) is = refl
+served_indexed Inverted (One column test) is = refl
+served_indexed Range conjunct is = absurd (false≢true is)
+served_indexed Unindexed conjunct is = absurd (false≢true is)
+served_indexed Sorted (Many wide) is = absurd (false≢true is)
+served_indexed Inverted (Many wide) is = absurd (false≢true is)
+
+module _ (p : Conjunct → Bool) (q : IndexChoice → Conjunct → Bool) (exact : AreExact p q) where
+  split_one : (c : IndexChoice) (x : Conjunct) (s i : Bool) → is_served c x ≡ s → is_indexed c x ≡ i → (kept : List Chosen) (others : List Conjunct) (rest : Bool) → rest ≡ (list_all (λ y. q y.choice y.conjunct) kept && list_all p others)
+      → (p x && rest) ≡ (list_all (λ y. q y.choice y.conjunct) (if i then one_chosen c x ∷ kept else kept) && list_all p (if s then others else x ∷ others))
+  split_one c x true false s_is i_is kept others rest is = absurd (false≢true (sym i_is ∙ served_indexed c x s_is))
+  split_one c x true true s_is i_is kept others rest is =
+      ap (λ r. p x && r) is ∙ assoc (p x) (list_all (λ y. q y.choice y.conjunct) kept) (list_all p others) ∙ ap (λ b. (b && list_all (λ y. q y.choice y.conjunct) kept) && list_all p others) (sym (exact.served c x s_is))
+    where
+      assoc : (a b c : Bool) → (a && (b && c)) ≡ ((a && b) && c)
+      assoc true b c = refl
+      assoc false b c = refl
+  split_one c x false false s_is i_is kept others rest is = ap (λ r. p x && r) is ∙ swap (p x) (list_all (λ y. q y.choice y.conjunct) kept) (list_all p others)
+    where
+      swap : (a b c : Bool) → (a && (b && c)) ≡ (b && (a && c))
+      swap true b c = refl
+      swap false true c = refl
+      swap false false c = refl
+  split_one c x false true s_is i_is kept others rest is =
+      ap (λ r. p x && r) is ∙ twice (p x) (q c x) (list_all (λ y. q y.choice y.conjunct) kept) (list_all p others) (exact.more c x)
+    where
+      twice : (a o b c : Bool) → (a ≡ true → o ≡ true) → (a && (b && c)) ≡ ((o && b) && (a && c))
+      twice true true b c more = refl
+      twice true false b c more = absurd (false≢true (more refl))
+      twice false o b c more = sym (none (o && b))
+        where
+          none : (x : Bool) → (x && false) ≡ false
+          none true = refl
+          none false = refl
+
+  split_all : (choices : List IndexChoice) (conjuncts : List Conjunct) → list_all p conjuncts ≡ (list_all (λ y. q y.choice y.conjunct) (indexed choices conjuncts) && list_all p (unserved choices conjuncts))
+  split_all [] conjuncts = refl
+  split_all (c ∷ cs) [] = refl
+  split_all (c ∷ cs) (x ∷ xs) = split_one c x (is_served c x) (is_indexed c x) refl refl (indexed cs xs) (unserved cs xs) (list_all p xs) (split_all cs xs)
+
+-- a row of these by its place: an index leaves it where it satisfies the conjunct
+row_exact : (rows : List (List Value)) (k : ℕ) → k < length rows → AreExact (conjunct_holds (get_or rows k [])) (is_row_left rows (get_or rows k []))
+row_exact rows k lt = record { served = served; more = more }
+  where
+    served : (choice : IndexChoice) (conjunct : Conjunct) → is_served choice conjunct ≡ true → is_row_left rows (get_or rows k []) choice conjunct ≡ conjunct_holds (get_or rows k []) conjunct
+    served Sorted conjunct is = refl
+    served Inverted conjunct is = refl
+    served Unindexed conjunct is = refl
+    served Range conjunct is = absurd (false≢true is)
+
+    more : (choice : IndexChoice) (conjunct : Conjunct) → conjunct_holds (get_or rows k []) conjunct ≡ true → is_row_left rows (get_or rows k []) choice conjunct ≡ true
+    more Sorted conjunct holds = holds
+    more Inverted conjunct holds = holds
+    more Unindexed conjunct holds = holds
+    more Range (Many wide) holds = holds
+    more Range (One column test) holds = value_near (distinct (segment.values_in column rows)) test (value_in column (get_or rows k [])) (place_at rows column k (get_or rows k []) lt (again rows k [] lt)) holds
 
 -- ---- the query that is left
 
@@ -98,7 +147,7 @@ module _ (law : ImagesRead) (leave : ImagesLeave) (query : BoundQuery) (table : 
     rows_are =
         let lv = leave query table files rows head valid of_table loaded of in
         let those = left.told lv.ids lv.tells in
-        rows_filtered [] (λ row. all_hold row (served choices query.conjuncts)) os docs those.ascend docs_within (λ k lt. those.those k ∙ lv.left k (omega (arith, lt, lv.size)))
+        rows_filtered [] (λ row. all_left os row (indexed choices query.conjuncts)) os docs those.ascend docs_within (λ k lt. those.those k ∙ lv.left k (omega (arith, lt, lv.size)))
 
     agree_at : (ds : List ℕ) → All (λ k. k < length os) ds → AgreeAll (query_names rest) (rows_at cols ds) (map (λ k. get_or os k []) ds)
     agree_at [] within = tt
@@ -114,8 +163,8 @@ module _ (law : ImagesRead) (leave : ImagesLeave) (query : BoundQuery) (table : 
     chosen : selected rest (map (λ k. get_or os k []) docs) ≡ selected query os
     chosen =
         ap (selected rest) rows_are
-        ∙ filter_both (λ row. all_hold row (served choices query.conjuncts)) (λ row. all_hold row (unserved choices query.conjuncts)) (λ row. all_hold row query.conjuncts)
-        (λ row. split_all (conjunct_holds row) choices query.conjuncts) os
+        ∙ filter_both [] (λ row. all_left os row (indexed choices query.conjuncts)) (λ row. all_hold row (unserved choices query.conjuncts)) (λ row. all_hold row query.conjuncts) os
+        (λ k lt. split_all (conjunct_holds (get_or os k [])) (is_row_left os (get_or os k [])) (row_exact os k lt) choices query.conjuncts)
 
     pub left_count : length docs ≡ length (rows_left query choices os)
     left_count = sym (length-map docs (λ k. get_or os k [])) ∙ ap length rows_are
@@ -165,13 +214,14 @@ bad_left law query table held head valid of_table loaded named is part bad =
 -- ---- an index that tells no ids
 
 module _ (leave : ImagesLeave) (query : BoundQuery) (table : Table) (head : Seen) (valid : IsValidTable table) (of_table : IsHeadOf table head) (loaded : AreNamedLoaded query head) where
-  no_tells : (files : Files) (part : Part) (choice : IndexChoice) (conjunct : Conjunct) (ids : ℕ → List ℕ) → TellsServed files head ids choice conjunct → IsBadIndex (Some files) head part choice conjunct → ⊥
+  no_tells : (files : Files) (part : Part) (choice : IndexChoice) (conjunct : Conjunct) (ids : ℕ → List ℕ) → TellsIndexed files head ids choice conjunct → IsBadIndex (Some files) head part choice conjunct → ⊥
   no_tells files part Unindexed conjunct ids tells bad = bad
-  no_tells files part Range conjunct ids tells bad = bad
   no_tells files part Sorted (Many wide) ids tells bad = bad
   no_tells files part Inverted (Many wide) ids tells bad = bad
+  no_tells files part Range (Many wide) ids tells bad = bad
   no_tells files part Sorted (One column test) ids tells bad = bad.1 (ids column) tells
   no_tells files part Inverted (One column test) ids tells bad = bad.1 (ids column) tells
+  no_tells files part Range (One column test) ids tells bad = bad.1 (ids column) tells
 
   pub bad_index : (held : Option Files) (part : Part) → IsBadAny held head part (choices_for query table head) query.conjuncts → IsBadIn query table held head part
   bad_index held part bad = (inr bad, go held bad)
@@ -182,33 +232,35 @@ module _ (leave : ImagesLeave) (query : BoundQuery) (table : Table) (head : Seen
           let lv = leave query table files rows head valid of_table loaded of in
           no_tells files part (choice_at (choices_for query table head) bad.0) bad.1 lv.ids (lv.tells bad.0 bad.1 bad.2) bad.3
 
--- ---- where no conjunct is served
+-- ---- where no conjunct is indexed
 
-nothing_served : (choices : List IndexChoice) (conjuncts : List Conjunct) (i : ℕ) (x : Conjunct) → served choices conjuncts ≡ [] → slice_get conjuncts i ≡ Some x → is_served (choice_at choices i) x ≡ false
-nothing_served [] conjuncts i x none there = refl
-nothing_served (c ∷ cs) [] i x none there = absurd cc
-nothing_served (c ∷ cs) (y ∷ ys) i x none there = go (is_served c y) refl none i there (λ more. nothing_served cs ys)
+nothing_indexed : (choices : List IndexChoice) (conjuncts : List Conjunct) (i : ℕ) (x : Conjunct) → indexed choices conjuncts ≡ [] → slice_get conjuncts i ≡ Some x → is_indexed (choice_at choices i) x ≡ false
+nothing_indexed [] conjuncts i x none there = refl
+nothing_indexed (c ∷ cs) [] i x none there = absurd cc
+nothing_indexed (c ∷ cs) (y ∷ ys) i x none there = go (is_indexed c y) refl none i there (λ more. nothing_indexed cs ys)
   where
-    go : (b : Bool) → is_served c y ≡ b → (if b then y ∷ served cs ys else served cs ys) ≡ [] → (i : ℕ) → slice_get (y ∷ ys) i ≡ Some x → (Unit {0} → (i : ℕ) (x : Conjunct) → served cs ys ≡ [] → slice_get ys i ≡ Some x → is_served (choice_at cs i) x ≡ false)
-        → is_served (choice_at (c ∷ cs) i) x ≡ false
-    go true is none i there later = absurd (let long : suc (length (served cs ys)) ≡ 0 = ap length none in omega (arith, long))
-    go false is none zero there later = (let same : y ≡ x = cc in subst (λ z. is_served c z ≡ false) same is)
+    go : (b : Bool) → is_indexed c y ≡ b → (if b then one_chosen c y ∷ indexed cs ys else indexed cs ys) ≡ [] → (i : ℕ) → slice_get (y ∷ ys) i ≡ Some x
+        → (Unit {0} → (i : ℕ) (x : Conjunct) → indexed cs ys ≡ [] → slice_get ys i ≡ Some x → is_indexed (choice_at cs i) x ≡ false)
+        → is_indexed (choice_at (c ∷ cs) i) x ≡ false
+    go true is none i there later = absurd (let long : suc (length (indexed cs ys)) ≡ 0 = ap length none in omega (arith, long))
+    go false is none zero there later = (let same : y ≡ x = cc in subst (λ z. is_indexed c z ≡ false) same is)
     go false is none (suc i) there later = later tt i x none there
 
-not_read : (P : ListKind → ℕ → Test → Type 0) (other : Type 0) (choice : IndexChoice) (conjunct : Conjunct) → is_served choice conjunct ≡ false → OfIndex P other choice conjunct → other
-not_read P other Unindexed conjunct is logs = logs
-not_read P other Range conjunct is logs = logs
-not_read P other Sorted (Many wide) is logs = logs
-not_read P other Inverted (Many wide) is logs = logs
-not_read P other Sorted (One column test) is logs = absurd (false≢true (sym is))
-not_read P other Inverted (One column test) is logs = absurd (false≢true (sym is))
+not_read : (P : ListKind → ℕ → Test → Type 0) (R : ℕ → Test → Type 0) (other : Type 0) (choice : IndexChoice) (conjunct : Conjunct) → is_indexed choice conjunct ≡ false → OfIndex P R other choice conjunct → other
+not_read P R other Unindexed conjunct is logs = logs
+not_read P R other Sorted (Many wide) is logs = logs
+not_read P R other Inverted (Many wide) is logs = logs
+not_read P R other Range (Many wide) is logs = logs
+not_read P R other Sorted (One column test) is logs = absurd (false≢true (sym is))
+not_read P R other Inverted (One column test) is logs = absurd (false≢true (sym is))
+not_read P R other Range (One column test) is logs = absurd (false≢true (sym is))
 
--- nothing was read for conjuncts that are not served
-pub nothing_logged : (held : Option Files) (head : Seen) (choices : List IndexChoice) (conjuncts : List Conjunct) (n : ℕ) (old new : Option (List Entry)) → served choices conjuncts ≡ [] → n ≤ length conjuncts → LogsTo (LogsAt held head choices conjuncts) n old new → new ≡ old
+-- nothing was read for conjuncts that are not indexed
+pub nothing_logged : (held : Option Files) (head : Seen) (choices : List IndexChoice) (conjuncts : List Conjunct) (n : ℕ) (old new : Option (List Entry)) → indexed choices conjuncts ≡ [] → n ≤ length conjuncts → LogsTo (LogsAt held head choices conjuncts) n old new → new ≡ old
 nothing_logged held head choices conjuncts zero old new none within logs = logs
 nothing_logged held head choices conjuncts (suc n) old new none within logs =
     let x = some_at conjuncts n (omega (arith, within)) in
-    not_read (λ kind column test. LogsIndex held head kind column test logs.0 new) (new ≡ logs.0) (choice_at choices n) x.0 (nothing_served choices conjuncts n x.0 none x.1) (logs.2 x.0 x.1)
+    not_read (λ kind column test. LogsIndex held head kind column test logs.0 new) (λ column test. LogsRange held head column test logs.0 new) (new ≡ logs.0) (choice_at choices n) x.0 (nothing_indexed choices conjuncts n x.0 none x.1) (logs.2 x.0 x.1)
     ∙ nothing_logged held head choices conjuncts n old logs.0 none (omega (arith, within)) logs.1
   where
     some_at : (xs : List Conjunct) (k : ℕ) → k < length xs → (x : Conjunct) × (slice_get xs k ≡ Some x)
@@ -218,19 +270,19 @@ nothing_logged held head choices conjuncts (suc n) old new none within logs =
 
 -- ---- all rows are looked at
 
-pub whole_image : (query : BoundQuery) (table : Table) (held : Option Files) (head : Seen) (old new : KeptGroups) → served_for query table head ≡ [] → AddsWhole query table held head old new → AddsImage query table held head old new
+pub whole_image : (query : BoundQuery) (table : Table) (held : Option Files) (head : Seen) (old new : KeptGroups) → indexed_for query table head ≡ [] → AddsWhole query table held head old new → AddsImage query table held head old new
 whole_image query table None head old new none by = record { added = by.added; adds = by.adds; read = tt; told = tt }
 whole_image query table (Some files) head old new none by = record { added = by.added; adds = by.adds; read = inl (none, by.read); told = by.told }
 
-pub whole_full : (query : BoundQuery) (table : Table) (held : Option Files) (head : Seen) (old : KeptGroups) → served_for query table head ≡ [] → IsWholeOverfull query table held head old → IsImageOverfull query table held head old
+pub whole_full : (query : BoundQuery) (table : Table) (held : Option Files) (head : Seen) (old : KeptGroups) → indexed_for query table head ≡ [] → IsWholeOverfull query table held head old → IsImageOverfull query table held head old
 whole_full query table None head old none over = tt
 whole_full query table (Some files) head old none over = ((_, inl (none, refl), over.0), over.1)
 
-all_left : (xs : List (List Value)) → length (filter (λ row. true) xs) ≡ length xs
-all_left [] = refl
-all_left (x ∷ xs) = ap suc (all_left xs)
+all_kept : (xs : List (List Value)) → length (filter (λ row. true) xs) ≡ length xs
+all_kept [] = refl
+all_kept (x ∷ xs) = ap suc (all_kept xs)
 
-pub whole_docs : (law : ImagesRead) (leave : ImagesLeave) (query : BoundQuery) (table : Table) (held : Option Files) (head : Seen) → IsValidTable table → IsHeadOf table head → AreNamedLoaded query head → served_for query table head ≡ [] → (n : ℕ) → n ≡ head.rows
+pub whole_docs : (law : ImagesRead) (leave : ImagesLeave) (query : BoundQuery) (table : Table) (held : Option Files) (head : Seen) → IsValidTable table → IsHeadOf table head → AreNamedLoaded query head → indexed_for query table head ≡ [] → (n : ℕ) → n ≡ head.rows
     → AreDocs query table held head n
 whole_docs law leave query table held head valid of_table loaded none n is = record { few = omega (arith, is); all = λ same. is; told = go held }
   where
@@ -239,22 +291,23 @@ whole_docs law leave query table held head valid of_table loaded none n is = rec
     go (Some files) = λ rows of.
         let reads = law query table files rows head valid of_table loaded of in
         let lv = leave query table files rows head valid of_table loaded of in
-        is ∙ reads.count ∙ sym lv.size ∙ sym (all_left (ordered table.settings.sorted rows))
-        ∙ ap (λ (l : List Conjunct). length (filter (λ row. all_hold row l) (ordered table.settings.sorted rows))) (sym none)
+        is ∙ reads.count ∙ sym lv.size ∙ sym (all_kept (ordered table.settings.sorted rows))
+        ∙ ap (λ (l : List Chosen). length (filter (λ row. all_left (ordered table.settings.sorted rows) row l) (ordered table.settings.sorted rows))) (sym none)
 
-all_unserved : (choices : List IndexChoice) (conjuncts : List Conjunct) → served choices conjuncts ≡ [] → unserved choices conjuncts ≡ conjuncts
+all_unserved : (choices : List IndexChoice) (conjuncts : List Conjunct) → indexed choices conjuncts ≡ [] → unserved choices conjuncts ≡ conjuncts
 all_unserved [] conjuncts none = refl
 all_unserved (c ∷ cs) [] none = refl
-all_unserved (c ∷ cs) (y ∷ ys) none = go (is_served c y) none (all_unserved cs ys)
+all_unserved (c ∷ cs) (y ∷ ys) none = go (is_indexed c y) (is_served c y) refl refl none (all_unserved cs ys)
   where
-    go : (b : Bool) → (if b then y ∷ served cs ys else served cs ys) ≡ [] → (served cs ys ≡ [] → unserved cs ys ≡ ys) → (if b then unserved cs ys else y ∷ unserved cs ys) ≡ y ∷ ys
-    go true none later = absurd (let long : suc (length (served cs ys)) ≡ 0 = ap length none in omega (arith, long))
-    go false none later = ap (λ (l : List Conjunct). y ∷ l) (later none)
+    go : (b s : Bool) → is_indexed c y ≡ b → is_served c y ≡ s → (if b then one_chosen c y ∷ indexed cs ys else indexed cs ys) ≡ [] → (indexed cs ys ≡ [] → unserved cs ys ≡ ys) → (if s then unserved cs ys else y ∷ unserved cs ys) ≡ y ∷ ys
+    go true s b_is s_is none later = absurd (let long : suc (length (indexed cs ys)) ≡ 0 = ap length none in omega (arith, long))
+    go false true b_is s_is none later = absurd (false≢true (sym b_is ∙ served_indexed c y s_is))
+    go false false b_is s_is none later = ap (λ (l : List Conjunct). y ∷ l) (later none)
 
-rest_is : (query : BoundQuery) (choices : List IndexChoice) → served choices query.conjuncts ≡ [] → rest_of query choices ≡ query
+rest_is : (query : BoundQuery) (choices : List IndexChoice) → indexed choices query.conjuncts ≡ [] → rest_of query choices ≡ query
 rest_is query choices none = ap (λ (l : List Conjunct). record query { conjuncts = l }) (all_unserved choices query.conjuncts none)
 
-pub whole_bad : (query : BoundQuery) (table : Table) (held : Option Files) (head : Seen) (part : Part) → served_for query table head ≡ [] → IsBadWhole query table held head part → IsBadIn query table held head part
+pub whole_bad : (query : BoundQuery) (table : Table) (held : Option Files) (head : Seen) (part : Part) → indexed_for query table head ≡ [] → IsBadWhole query table held head part → IsBadIn query table held head part
 whole_bad query table held head part none bad =
     (inl (subst (λ q. IsBadForward q held head part) (sym (rest_is query (choices_for query table head) none)) (bad.0, bad.1, bad.2, go held bad.3)), image held bad.3)
   where

@@ -1,7 +1,6 @@
 -- The documents that conjuncts leave, one conjunct after the other.
 use Rattle.std.proofs.Common.{◌≡◌, ◌∙◌, ◌<◌, ◌&&◌, ◌||◌, ◌∷◌, ◌++◌, [], ℕ, zero, suc, Bool, true, false, nat_eq, All, List, Option, Some, None, IfSome, length, take, get_or, slice_get, refl, sym, ap, subst, arith}
 use Rattle.std.specs.Prelude.{if◌then◌else◌}
-use Rattle.std.specs.List.{list_all}
 use Rattle.std.proofs.lemmas.Bool.{eqb-true, false≢true}
 use Rattle.std.proofs.lemmas.List.{length-append}
 use Rattle.std.proofs.lemmas.List.Elements.{All-from_get_or, All-head, All-tail}
@@ -18,8 +17,8 @@ use Rattle.table_schema.specs.declared.query.Conjunct.TheVariants.{One, Many}
 use Rattle.segment_file.specs.Heads.{Seen}
 use Rattle.segment_plan.specs.declared.plans.IndexChoice.{IndexChoice}
 use Rattle.segment_plan.specs.declared.plans.IndexChoice.TheVariants.{Unindexed, Sorted, Inverted, Range}
-use Rattle.segment_scan.specs.Indexes.{AreInBoth, AreLeft, Leaves, LeavesBy, LogsAt, LogsAtPartly, LogsServed, LogsServedPartly, OfEach, TellsServed, leaves}
-use Rattle.segment_scan.specs.Served.{choice_at, is_served, served}
+use Rattle.segment_scan.specs.Indexes.{AreInBoth, AreLeft, Leaves, LeavesBy, LogsAt, LogsAtPartly, LogsIndexed, LogsIndexedPartly, OfEach, TellsIndexed, all_leave, leaves}
+use Rattle.segment_scan.specs.Served.{Chosen, choice_at, indexed, is_indexed}
 use Rattle.segment_scan.proofs.DocLemmas.{has_own}
 
 and_true : (x : Bool) → (x && true) ≡ x
@@ -30,49 +29,55 @@ and_left : (a b : Bool) → a && b ≡ true → a ≡ true
 and_left true b e = refl
 and_left false b e = absurd (false≢true e)
 
--- ---- the conjuncts that are served
+-- ---- the conjuncts that are indexed
 
-pub none_served : (choices : List IndexChoice) → served choices [] ≡ []
-none_served [] = refl
-none_served (c ∷ cs) = refl
+-- one conjunct with its choice
+abbrev pub one_chosen : IndexChoice → Conjunct → Chosen
+one_chosen choice conjunct = record { choice = choice; conjunct = conjunct }
 
-front_served : (b : Bool) (y : Conjunct) (xs ys : List Conjunct) → (if b then y ∷ (xs ++ ys) else xs ++ ys) ≡ (if b then y ∷ xs else xs) ++ ys
-front_served true y xs ys = refl
-front_served false y xs ys = refl
+pub none_indexed : (choices : List IndexChoice) → indexed choices [] ≡ []
+none_indexed [] = refl
+none_indexed (c ∷ cs) = refl
 
--- the served ones of the first conjuncts, and then the next one if it is served
-pub served_more : (choices : List IndexChoice) (conjuncts : List Conjunct) (i : ℕ) (x : Conjunct) → slice_get conjuncts i ≡ Some x
-    → served choices (take (suc i) conjuncts) ≡ served choices (take i conjuncts) ++ (if is_served (choice_at choices i) x then x ∷ [] else [])
-served_more choices [] i x at = absurd cc
-served_more [] (y ∷ ys) i x at = refl
-served_more (c ∷ cs) (y ∷ ys) zero x at =
+pub front_indexed : (b : Bool) (y : Chosen) (xs ys : List Chosen) → (if b then y ∷ (xs ++ ys) else xs ++ ys) ≡ (if b then y ∷ xs else xs) ++ ys
+front_indexed true y xs ys = refl
+front_indexed false y xs ys = refl
+
+-- the indexed ones of the first conjuncts, and then the next one if it is indexed
+pub indexed_more : (choices : List IndexChoice) (conjuncts : List Conjunct) (i : ℕ) (x : Conjunct) → slice_get conjuncts i ≡ Some x
+    → indexed choices (take (suc i) conjuncts) ≡ indexed choices (take i conjuncts) ++ (if is_indexed (choice_at choices i) x then one_chosen (choice_at choices i) x ∷ [] else [])
+indexed_more choices [] i x at = absurd cc
+indexed_more [] (y ∷ ys) i x at = refl
+indexed_more (c ∷ cs) (y ∷ ys) zero x at =
     let same : y ≡ x = cc in
-    ap (λ (l : List Conjunct). if is_served c y then y ∷ l else l) (none_served cs) ∙ ap (λ z. if is_served c z then z ∷ [] else []) same
-served_more (c ∷ cs) (y ∷ ys) (suc i) x at =
-    ap (λ (l : List Conjunct). if is_served c y then y ∷ l else l) (served_more cs ys i x at)
-    ∙ front_served (is_served c y) y (served cs (take i ys)) (if is_served (choice_at cs i) x then x ∷ [] else [])
+    ap (λ (l : List Chosen). if is_indexed c y then one_chosen c y ∷ l else l) (none_indexed cs) ∙ ap (λ z. if is_indexed c z then one_chosen c z ∷ [] else []) same
+indexed_more (c ∷ cs) (y ∷ ys) (suc i) x at =
+    ap (λ (l : List Chosen). if is_indexed c y then one_chosen c y ∷ l else l) (indexed_more cs ys i x at)
+    ∙ front_indexed (is_indexed c y) (one_chosen c y) (indexed cs (take i ys)) (if is_indexed (choice_at cs i) x then one_chosen (choice_at cs i) x ∷ [] else [])
 
 -- ---- one conjunct
 
--- what a list of documents is of a conjunct that is served
+-- what a list of documents is of a conjunct that is indexed
 record IsOwn (held : Option Files) (head : Seen) (choice : IndexChoice) (conjunct : Conjunct) (docs : List ℕ) : Type 0 where
-  serves : is_served choice conjunct ≡ true
+  has : is_indexed choice conjunct ≡ true
   within : All (λ doc. doc < head.rows) docs
-  told : IfSome held (λ files. (ids : ℕ → List ℕ) → TellsServed files head ids choice conjunct → AreThose (λ doc. leaves head ids doc conjunct) docs)
+  told : IfSome held (λ files. (ids : ℕ → List ℕ) → TellsIndexed files head ids choice conjunct → AreThose (λ doc. leaves head ids doc choice conjunct) docs)
 
 own : (held : Option Files) (head : Seen) (choice : IndexChoice) (conjunct : Conjunct) (docs : List ℕ) → LeavesBy held head choice conjunct (Some docs) → IsOwn held head choice conjunct docs
 own held head Unindexed conjunct docs by = absurd by
-own held head Range conjunct docs by = absurd by
 own held head Sorted (Many wide) docs by = absurd by
 own held head Inverted (Many wide) docs by = absurd by
-own None head Sorted (One column test) docs by = record { serves = refl; within = by.within; told = tt }
-own None head Inverted (One column test) docs by = record { serves = refl; within = by.within; told = tt }
-own (Some files) head Sorted (One column test) docs by = record { serves = refl; within = by.within; told = λ ids tells. by.told (ids column) tells }
-own (Some files) head Inverted (One column test) docs by = record { serves = refl; within = by.within; told = λ ids tells. by.told (ids column) tells }
+own held head Range (Many wide) docs by = absurd by
+own None head Sorted (One column test) docs by = record { has = refl; within = by.within; told = tt }
+own None head Inverted (One column test) docs by = record { has = refl; within = by.within; told = tt }
+own None head Range (One column test) docs by = record { has = refl; within = by.within; told = tt }
+own (Some files) head Sorted (One column test) docs by = record { has = refl; within = by.within; told = λ ids tells. by.told (ids column) tells }
+own (Some files) head Inverted (One column test) docs by = record { has = refl; within = by.within; told = λ ids tells. by.told (ids column) tells }
+own (Some files) head Range (One column test) docs by = record { has = refl; within = by.within; told = λ ids tells. by.told (ids column) tells }
 
 -- ---- both lists
 
-all_has : (P : ℕ → Type 0) (docs : List ℕ) (doc : ℕ) → has_doc docs doc ≡ true → All P docs → P doc
+pub all_has : (P : ℕ → Type 0) (docs : List ℕ) (doc : ℕ) → has_doc docs doc ≡ true → All P docs → P doc
 all_has P [] doc has all = absurd (false≢true has)
 all_has P (d ∷ ds) doc has all = go (nat_eq doc d) refl has (all_has P ds doc)
   where
@@ -87,71 +92,75 @@ in_both_all P a b c those all = All-from_get_or P c 0 (λ j lt.
 
 module _ (held : Option Files) (head : Seen) (choices : List IndexChoice) (conjuncts : List Conjunct) where
   one_left : (told : Option Files) (i : ℕ) (x : Conjunct) (docs : List ℕ) → slice_get conjuncts i ≡ Some x
-      → IfSome told (λ files. (ids : ℕ → List ℕ) → TellsServed files head ids (choice_at choices i) x → AreThose (λ doc. leaves head ids doc x) docs)
-      → IfSome told (λ files. (ids : ℕ → List ℕ) → OfEach (TellsServed files head ids) choices conjuncts → AreThose (λ doc. list_all (leaves head ids doc) (x ∷ [])) docs)
+      → IfSome told (λ files. (ids : ℕ → List ℕ) → TellsIndexed files head ids (choice_at choices i) x → AreThose (λ doc. leaves head ids doc (choice_at choices i) x) docs)
+      → IfSome told (λ files. (ids : ℕ → List ℕ) → OfEach (TellsIndexed files head ids) choices conjuncts → AreThose (λ doc. all_leave head ids doc (one_chosen (choice_at choices i) x ∷ [])) docs)
   one_left None i x docs at known = tt
   one_left (Some files) i x docs at known = λ ids tells.
       let those = known ids (tells i x at) in
-      record { ascend = those.ascend; those = λ doc. those.those doc ∙ sym (and_true (leaves head ids doc x)) }
+      record { ascend = those.ascend; those = λ doc. those.those doc ∙ sym (and_true (leaves head ids doc (choice_at choices i) x)) }
 
-  more_left : (told : Option Files) (i : ℕ) (x : Conjunct) (list : List Conjunct) (a b c : List ℕ) → slice_get conjuncts i ≡ Some x
-      → IfSome told (λ files. (ids : ℕ → List ℕ) → OfEach (TellsServed files head ids) choices conjuncts → AreThose (λ doc. list_all (leaves head ids doc) list) a)
-      → IfSome told (λ files. (ids : ℕ → List ℕ) → TellsServed files head ids (choice_at choices i) x → AreThose (λ doc. leaves head ids doc x) b)
+  more_left : (told : Option Files) (i : ℕ) (x : Conjunct) (list : List Chosen) (a b c : List ℕ) → slice_get conjuncts i ≡ Some x
+      → IfSome told (λ files. (ids : ℕ → List ℕ) → OfEach (TellsIndexed files head ids) choices conjuncts → AreThose (λ doc. all_leave head ids doc list) a)
+      → IfSome told (λ files. (ids : ℕ → List ℕ) → TellsIndexed files head ids (choice_at choices i) x → AreThose (λ doc. leaves head ids doc (choice_at choices i) x) b)
       → AreThose (λ doc. has_doc a doc && has_doc b doc) c
-      → IfSome told (λ files. (ids : ℕ → List ℕ) → OfEach (TellsServed files head ids) choices conjuncts → AreThose (λ doc. list_all (leaves head ids doc) (list ++ x ∷ [])) c)
+      → IfSome told (λ files. (ids : ℕ → List ℕ) → OfEach (TellsIndexed files head ids) choices conjuncts → AreThose (λ doc. all_leave head ids doc (list ++ one_chosen (choice_at choices i) x ∷ [])) c)
   more_left None i x list a b c at first next both = tt
   more_left (Some files) i x list a b c at first next both = λ ids tells.
       let one = first ids tells in
       let two = next ids (tells i x at) in
       record {
         ascend = both.ascend;
-        those = λ doc. both.those doc ∙ (λ k. one.those doc k && two.those doc k) ∙ ap (λ t. list_all (leaves head ids doc) list && t) (sym (and_true (leaves head ids doc x)))
-            ∙ sym (list_all-append (leaves head ids doc) list (x ∷ []));
+        those = λ doc. both.those doc ∙ (λ k. one.those doc k && two.those doc k) ∙ ap (λ t. all_leave head ids doc list && t) (sym (and_true (leaves head ids doc (choice_at choices i) x)))
+            ∙ sym (list_all-append (λ y. leaves head ids doc y.choice y.conjunct) list (one_chosen (choice_at choices i) x ∷ []));
       }
 
-  with_one : (i : ℕ) (x : Conjunct) (list : List Conjunct) (docs : List ℕ) → slice_get conjuncts i ≡ Some x → list ≡ [] → IsOwn held head (choice_at choices i) x docs → AreLeft held head choices conjuncts (list ++ x ∷ []) docs
+  with_one : (i : ℕ) (x : Conjunct) (list : List Chosen) (docs : List ℕ) → slice_get conjuncts i ≡ Some x → list ≡ [] → IsOwn held head (choice_at choices i) x docs → AreLeft held head choices conjuncts (list ++ one_chosen (choice_at choices i) x ∷ []) docs
   with_one i x list docs at none by =
-      subst (λ (l : List Conjunct). AreLeft held head choices conjuncts (l ++ x ∷ []) docs) (sym none) (record { some = omega arith; within = by.within; told = one_left held i x docs at by.told })
+      subst (λ (l : List Chosen). AreLeft held head choices conjuncts (l ++ one_chosen (choice_at choices i) x ∷ []) docs) (sym none) (record { some = omega arith; within = by.within; told = one_left held i x docs at by.told })
 
-  -- a conjunct that is served, after those before it
-  with_served : (i : ℕ) (x : Conjunct) (list : List Conjunct) (old : Option (List ℕ)) (docs : List ℕ) (new : Option (List ℕ)) → slice_get conjuncts i ≡ Some x → Leaves held head choices conjuncts list old
-      → IsOwn held head (choice_at choices i) x docs → AreInBoth old (Some docs) new → Leaves held head choices conjuncts (list ++ x ∷ []) new
-  with_served i x list None docs new at left by both = subst (Leaves held head choices conjuncts (list ++ x ∷ [])) (sym both) (with_one i x list docs at left by)
-  with_served i x list (Some a) docs None at left by both = absurd both
-  with_served i x list (Some a) docs (Some c) at left by both =
-      record { some = omega (arith, length-append list (x ∷ [])); within = in_both_all (λ doc. doc < head.rows) a docs c both left.within; told = more_left held i x list a docs c at left.told by.told both }
+  -- a conjunct that is indexed, after those before it
+  with_indexed : (i : ℕ) (x : Conjunct) (list : List Chosen) (old : Option (List ℕ)) (docs : List ℕ) (new : Option (List ℕ)) → slice_get conjuncts i ≡ Some x → Leaves held head choices conjuncts list old
+      → IsOwn held head (choice_at choices i) x docs → AreInBoth old (Some docs) new → Leaves held head choices conjuncts (list ++ one_chosen (choice_at choices i) x ∷ []) new
+  with_indexed i x list None docs new at left by both = subst (Leaves held head choices conjuncts (list ++ one_chosen (choice_at choices i) x ∷ [])) (sym both) (with_one i x list docs at left by)
+  with_indexed i x list (Some a) docs None at left by both = absurd both
+  with_indexed i x list (Some a) docs (Some c) at left by both =
+      record {
+        some = omega (arith, length-append list (one_chosen (choice_at choices i) x ∷ []));
+        within = in_both_all (λ doc. doc < head.rows) a docs c both left.within;
+        told = more_left held i x list a docs c at left.told by.told both;
+      }
 
   same_list : (old new : Option (List ℕ)) → AreInBoth old None new → old ≡ new
   same_list None new both = sym both
   same_list (Some a) new both = sym both
 
-  nothing_more : (list : List Conjunct) → list ++ [] ≡ list
+  nothing_more : (list : List Chosen) → list ++ [] ≡ list
   nothing_more [] = refl
-  nothing_more (y ∷ ys) = ap (λ (l : List Conjunct). y ∷ l) (nothing_more ys)
+  nothing_more (y ∷ ys) = ap (λ (l : List Chosen). y ∷ l) (nothing_more ys)
 
   -- the next conjunct
-  pub left_next : (i : ℕ) (x : Conjunct) (old found new : Option (List ℕ)) → slice_get conjuncts i ≡ Some x → Leaves held head choices conjuncts (served choices (take i conjuncts)) old
-      → LeavesBy held head (choice_at choices i) x found → AreInBoth old found new → Leaves held head choices conjuncts (served choices (take (suc i) conjuncts)) new
+  pub left_next : (i : ℕ) (x : Conjunct) (old found new : Option (List ℕ)) → slice_get conjuncts i ≡ Some x → Leaves held head choices conjuncts (indexed choices (take i conjuncts)) old
+      → LeavesBy held head (choice_at choices i) x found → AreInBoth old found new → Leaves held head choices conjuncts (indexed choices (take (suc i) conjuncts)) new
   left_next i x old None new at left by both =
-      let same : served choices (take (suc i) conjuncts) ≡ served choices (take i conjuncts) =
-      served_more choices conjuncts i x at ∙ ap (λ b. served choices (take i conjuncts) ++ (if b then x ∷ [] else [])) by ∙ nothing_more (served choices (take i conjuncts)) in
-      subst (λ (l : List Conjunct). Leaves held head choices conjuncts l new) (sym same) (subst (Leaves held head choices conjuncts (served choices (take i conjuncts))) (same_list old new both) left)
+      let same : indexed choices (take (suc i) conjuncts) ≡ indexed choices (take i conjuncts) =
+      indexed_more choices conjuncts i x at ∙ ap (λ b. indexed choices (take i conjuncts) ++ (if b then one_chosen (choice_at choices i) x ∷ [] else [])) by ∙ nothing_more (indexed choices (take i conjuncts)) in
+      subst (λ (l : List Chosen). Leaves held head choices conjuncts l new) (sym same) (subst (Leaves held head choices conjuncts (indexed choices (take i conjuncts))) (same_list old new both) left)
   left_next i x old (Some docs) new at left by both =
       let its = own held head (choice_at choices i) x docs by in
-      let same : served choices (take (suc i) conjuncts) ≡ served choices (take i conjuncts) ++ x ∷ [] =
-      served_more choices conjuncts i x at ∙ ap (λ b. served choices (take i conjuncts) ++ (if b then x ∷ [] else [])) its.serves in
-      subst (λ (l : List Conjunct). Leaves held head choices conjuncts l new) (sym same) (with_served i x (served choices (take i conjuncts)) old docs new at left its both)
+      let same : indexed choices (take (suc i) conjuncts) ≡ indexed choices (take i conjuncts) ++ one_chosen (choice_at choices i) x ∷ [] =
+      indexed_more choices conjuncts i x at ∙ ap (λ b. indexed choices (take i conjuncts) ++ (if b then one_chosen (choice_at choices i) x ∷ [] else [])) its.has in
+      subst (λ (l : List Chosen). Leaves held head choices conjuncts l new) (sym same) (with_indexed i x (indexed choices (take i conjuncts)) old docs new at left its both)
 
   -- the reads of the conjunct at a place
-  pub logs_at : (now : Option Files) (i : ℕ) (x : Conjunct) (old new : Option (List Entry)) → now ≡ held → slice_get conjuncts i ≡ Some x → LogsServed now head (choice_at choices i) x old new → LogsAt held head choices conjuncts i old new
+  pub logs_at : (now : Option Files) (i : ℕ) (x : Conjunct) (old new : Option (List Entry)) → now ≡ held → slice_get conjuncts i ≡ Some x → LogsIndexed now head (choice_at choices i) x old new → LogsAt held head choices conjuncts i old new
   logs_at now i x old new same at logs = λ y there.
       let is : x ≡ y = (let both : Some x ≡ Some y = sym at ∙ there in cc) in
-      subst (λ h. LogsServed h head (choice_at choices i) y old new) same (subst (λ z. LogsServed now head (choice_at choices i) z old new) is logs)
+      subst (λ h. LogsIndexed h head (choice_at choices i) y old new) same (subst (λ z. LogsIndexed now head (choice_at choices i) z old new) is logs)
 
-  pub logs_at_partly : (now : Option Files) (i : ℕ) (x : Conjunct) (old new : Option (List Entry)) → now ≡ held → slice_get conjuncts i ≡ Some x → LogsServedPartly now head (choice_at choices i) x old new → LogsAtPartly held head choices conjuncts i old new
+  pub logs_at_partly : (now : Option Files) (i : ℕ) (x : Conjunct) (old new : Option (List Entry)) → now ≡ held → slice_get conjuncts i ≡ Some x → LogsIndexedPartly now head (choice_at choices i) x old new → LogsAtPartly held head choices conjuncts i old new
   logs_at_partly now i x old new same at logs = λ y there.
       let is : x ≡ y = (let both : Some x ≡ Some y = sym at ∙ there in cc) in
-      subst (λ h. LogsServedPartly h head (choice_at choices i) y old new) same (subst (λ z. LogsServedPartly now head (choice_at choices i) z old new) is logs)
+      subst (λ h. LogsIndexedPartly h head (choice_at choices i) y old new) same (subst (λ z. LogsIndexedPartly now head (choice_at choices i) z old new) is logs)
 
 -- the item at a place
 pub item_at : {X : Type 0} (xs : List X) (i : ℕ) (x : X) → i < length xs → x ≡ get_or xs i x → slice_get xs i ≡ Some x

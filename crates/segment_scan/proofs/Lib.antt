@@ -14,6 +14,7 @@ pub mod ScanLemmas
 pub mod AgreementLemmas
 pub mod ImageLemmas
 pub mod IndexImage
+pub mod RangeLemmas
 pub mod LeftImage
 pub mod SegmentLemmas
 pub mod LogLemmas

@@ -4,10 +4,9 @@ use Rattle.bit_column.specs.declared.fault.ColumnFault.{ColumnFault}
 use Rattle.bit_column.specs.declared.fault.ColumnFault.TheVariants as columns
 use Rattle.index_reading.specs.declared.fault.ListFault.{ListFault}
 use Rattle.index_reading.specs.declared.fault.ListFault.TheVariants as lists
-use Rattle.index_reading.specs.declared.kind.ListKind.{ListKind}
+use Rattle.segment_file.specs.declared.part.Part.{Part}
 use Rattle.segment_file.specs.declared.part.Part.TheVariants.{Forward}
 use Rattle.segment_scan.specs.declared.fault.EngineFault.{EngineFault}
-use Rattle.segment_scan.specs.Indexes.{part_of}
 use Rattle.segment_scan.specs.declared.fault.EngineFault.TheVariants.{NotASegment, ReadFault, NoMemory, TooManyGroups}
 
 -- what the fault of a column is for a scan
@@ -23,8 +22,8 @@ IsFaultOf column (NotASegment part) = part ≡ Forward column
 IsFaultOf column ReadFault = Unit {0}
 IsFaultOf column NoMemory = Unit {0}
 
--- what the fault of an index is for a scan
-abbrev pub list_fault : ListFault → ListKind → ℕ → EngineFault
-list_fault lists.ReadFault kind column = ReadFault
-list_fault lists.BadList kind column = NotASegment (part_of kind column)
-list_fault lists.NoMemory kind column = NoMemory
+-- what the fault of an index is for a scan, by its section
+abbrev pub list_fault : ListFault → Part → EngineFault
+list_fault lists.ReadFault part = ReadFault
+list_fault lists.BadList part = NotASegment part
+list_fault lists.NoMemory part = NoMemory

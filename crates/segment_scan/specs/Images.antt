@@ -1,44 +1,30 @@
 -- Segments whose file is the image of rows, and what a scan of them does to groups.
 use Rattle.std.specs.Prelude.{◌≡◌, ◌≤◌, ◌<◌, ◌⊎◌, ℕ, true, Bool, List, [], map, length, get_or, Option, Some, IfSome}
-use Rattle.std.specs.List.{list_all, range_with_len}
-use Rattle.outside.specs.Files.{Files, bytes_of}
+use Rattle.std.specs.List.{range_with_len}
+use Rattle.outside.specs.Files.{Files}
 use Rattle.outside.specs.Reads.{Entry}
 use Rattle.values.specs.declared.value.Value.{Value}
 use Rattle.values.specs.Columns.{row_of, rows_of}
-use Rattle.table_schema.specs.declared.query.Conjunct.{Conjunct}
 use Rattle.table_schema.specs.declared.query.BoundQuery.{BoundQuery}
 use Rattle.table_schema.specs.declared.table.Table.{Table}
-use Rattle.table_schema.specs.Conditions.{all_hold}
 use Rattle.table_schema.specs.ValidTable.{IsValidTable}
 use Rattle.group_table.specs.Kept.{KeptGroups}
 use Rattle.scan_engine.specs.Scanned.{AddsRows, IsOverfull, selected}
 use Rattle.segment_file.specs.declared.part.Part.{Part}
 use Rattle.segment_file.specs.declared.part.Part.TheVariants.{Forward}
-use Rattle.segment_file.specs.Heads.{IsHead, IsHeadOf, IsLoaded, IsPartOf, Seen}
-use Rattle.segment_file.specs.Image.{CanHold, image}
-use Rattle.segment_file.specs.Names.{IsSegmentName}
+use Rattle.segment_file.specs.Heads.{IsHeadOf, IsLoaded, Seen}
 use Rattle.segment_file.specs.Ordered.{ordered}
+pub use Rattle.segment_file.specs.Stored.{IsOfImage, IsNoImage}
 use Rattle.segment_plan.specs.Choices.{choice_of}
 use Rattle.segment_plan.specs.declared.plans.IndexChoice.{IndexChoice}
 use Rattle.segment_scan.specs.Agreement.{Agree, AgreeAll}
 use Rattle.segment_scan.specs.Documents.{LogsDocs, LogsDocsPartly, selected_docs}
 use Rattle.segment_scan.specs.Forward.{HasIds, IsReadable, LogsColumns, LogsSome}
-use Rattle.segment_scan.specs.Indexes.{AreLeft, IsBadAny, LogsAt, LogsAtPartly, OfEach, TellsServed, leaves}
+use Rattle.segment_scan.specs.Indexes.{AreLeft, IsBadAny, LogsAt, LogsAtPartly, OfEach, TellsIndexed, all_leave}
 use Rattle.segment_scan.specs.Series.{LogsPartOf, LogsTo}
-use Rattle.segment_scan.specs.Served.{rest_of, rows_left, served}
+use Rattle.segment_scan.specs.Served.{Chosen, all_left, indexed, rest_of, rows_left}
 use Rattle.segment_scan.specs.Named.{query_names}
 use Rattle.segment_scan.specs.Scans.{columns_read, selected_read, table_read}
-
--- the file of the head is told to be the image of these rows, which the table can hold
-pub record IsOfImage (table : Table) (files : Files) (rows : List (List Value)) (head : Seen) : Type 0 where
-  pub name : List ℕ
-  pub file : List ℕ
-  pub whole : Seen
-  pub named : IsSegmentName name
-  pub can : CanHold table rows
-  pub stored : bytes_of (Some files) file ≡ image 1 table name rows
-  pub is_head : IsHead table name file (image 1 table name rows) whole
-  pub part : IsPartOf whole head
 
 -- the dictionary of each column that the query names was loaded
 abbrev pub AreNamedLoaded : BoundQuery → Seen → Type 0
@@ -54,17 +40,17 @@ names_in query table = map (query_names query) (range_with_len 0 (length table.s
 abbrev pub choices_for : BoundQuery → Table → Seen → List IndexChoice
 choices_for query table head = map (choice_of table.settings head) query.conjuncts
 
--- the conjuncts that an index serves
-abbrev pub served_for : BoundQuery → Table → Seen → List Conjunct
-served_for query table head = served (choices_for query table head) query.conjuncts
+-- the conjuncts that are indexed
+abbrev pub indexed_for : BoundQuery → Table → Seen → List Chosen
+indexed_for query table head = indexed (choices_for query table head) query.conjuncts
 
--- the query that is left for the rows that the indexes tell
+-- the query that is left for the rows that the indexes leave
 abbrev pub rest_for : BoundQuery → Table → Seen → BoundQuery
 rest_for query table head = rest_of query (choices_for query table head)
 
--- the documents that the served conjuncts leave, as far as the sections of their indexes tell ids
+-- the documents that the indexes leave, as far as their sections tell ids
 abbrev pub AreLeftFor : BoundQuery → Table → Option Files → Seen → List ℕ → Type 0
-AreLeftFor query table held head docs = AreLeft held head (choices_for query table head) query.conjuncts (served_for query table head) docs
+AreLeftFor query table held head docs = AreLeft held head (choices_for query table head) query.conjuncts (indexed_for query table head) docs
 
 -- ---- images
 
@@ -80,13 +66,13 @@ abbrev pub ImagesRead : Type 0
 ImagesRead =
     (query : BoundQuery) (table : Table) (files : Files) (rows : List (List Value)) (head : Seen) → IsValidTable table → IsHeadOf table head → AreNamedLoaded query head → IsOfImage table files rows head → ReadsImage query table files rows head
 
--- on the image of rows the indexes of the served conjuncts leave just the rows that satisfy them, and
+-- on the image of rows the indexes leave just the documents of the rows that they are to leave, and
 -- their sections tell ids
 pub record LeavesImage (query : BoundQuery) (table : Table) (files : Files) (rows : List (List Value)) (head : Seen) : Type 0 where
   pub size : length (ordered table.settings.sorted rows) ≡ length rows
   pub ids : ℕ → List ℕ
-  pub tells : OfEach (TellsServed files head ids) (choices_for query table head) query.conjuncts
-  pub left : (at : ℕ) → at < length rows → list_all (leaves head ids at) (served_for query table head) ≡ all_hold (get_or (ordered table.settings.sorted rows) at []) (served_for query table head)
+  pub tells : OfEach (TellsIndexed files head ids) (choices_for query table head) query.conjuncts
+  pub left : (at : ℕ) → at < length rows → all_leave head ids at (indexed_for query table head) ≡ all_left (ordered table.settings.sorted rows) (get_or (ordered table.settings.sorted rows) at []) (indexed_for query table head)
 
 abbrev pub ImagesLeave : Type 0
 ImagesLeave =
@@ -98,11 +84,11 @@ LoadedAreReadable = (table : Table) (head : Seen) (column : ℕ) → IsHeadOf ta
 
 -- ---- the rows that are added
 
--- the rows of the segment that satisfy the filter, where no conjunct is served; else those of the
--- documents that the indexes leave which satisfy the other conjuncts
+-- the rows of the segment that satisfy the filter, where no conjunct is indexed; else those of the
+-- documents that the indexes leave which satisfy the conjuncts that are not served
 abbrev pub AreRead : BoundQuery → Table → Files → Seen → List (List Value) → Type 0
 AreRead query table files head rows =
-    ((served_for query table head ≡ []) × (rows ≡ selected_read query files head (names_in query table)))
+    ((indexed_for query table head ≡ []) × (rows ≡ selected_read query files head (names_in query table)))
     ⊎ ((docs : List ℕ) × AreLeftFor query table (Some files) head docs
     × (rows ≡ selected_docs query (choices_for query table head) files head (names_in (rest_for query table head) table) docs))
 
@@ -120,18 +106,14 @@ abbrev pub IsImageOverfull : BoundQuery → Table → Option Files → Seen → 
 IsImageOverfull query table held head old =
     IfSome held (λ files. ((added : List (List Value)) × AreRead query table files head added × IsOverfull query added old) × ((rows : List (List Value)) → IsOfImage table files rows head → IsOverfull query (selected query (ordered table.settings.sorted rows)) old))
 
--- the number of rows that the indexes leave: all where no conjunct is served; on the image of rows
--- those that satisfy each conjunct that is served
+-- the number of rows that the indexes leave: all where no conjunct is indexed; on the image of rows
+-- those that each index leaves
 pub record AreDocs (query : BoundQuery) (table : Table) (held : Option Files) (head : Seen) (count : ℕ) : Type 0 where
   pub few : count ≤ head.rows
-  pub all : served_for query table head ≡ [] → count ≡ head.rows
+  pub all : indexed_for query table head ≡ [] → count ≡ head.rows
   pub told : IfSome held (λ files. (rows : List (List Value)) → IsOfImage table files rows head → count ≡ length (rows_left query (choices_for query table head) (ordered table.settings.sorted rows)))
 
 -- ---- why a scan is refused
-
--- the file of the head is told to be the image of no rows
-abbrev pub IsNoImage : Table → Option Files → Seen → Type 0
-IsNoImage table held head = IfSome held (λ files. (rows : List (List Value)) → ¬ IsOfImage table files rows head)
 
 -- the part is the forward section of a column that the query names; where files are told it has no id
 -- below the count for each row
@@ -139,31 +121,31 @@ abbrev pub IsBadForward : BoundQuery → Option Files → Seen → Part → Type
 IsBadForward query held head part =
     (column : ℕ) × (query_names query column ≡ true) × (part ≡ Forward column) × IfSome held (λ files. ¬ HasIds files head column)
 
--- the part is the forward section of a column that is read, or the section of an index that serves a
--- conjunct; its file is the image of no rows
+-- the part is the forward section of a column that is read, or the section of the index of a conjunct;
+-- its file is the image of no rows
 abbrev pub IsBadIn : BoundQuery → Table → Option Files → Seen → Part → Type 0
 IsBadIn query table held head part =
     (IsBadForward (rest_for query table head) held head part ⊎ IsBadAny held head part (choices_for query table head) query.conjuncts) × IsNoImage table held head
 
 -- ---- what is read
 
--- the reads for the served conjuncts, in their order
+-- the reads for the conjuncts that are indexed, in their order
 abbrev pub LogsIndexes : BoundQuery → Table → Option Files → Seen → Option (List Entry) → Option (List Entry) → Type 0
 LogsIndexes query table held head old new = LogsTo (LogsAt held head (choices_for query table head) query.conjuncts) (length query.conjuncts) old new
 
--- where no conjunct is served, each column that the query names was read once, one after the other;
+-- where no conjunct is indexed, each column that the query names was read once, one after the other;
 -- else the sections of the indexes were, and then, of each column that is named beside the served
--- conjuncts, the ids of the documents that they leave
+-- conjuncts, the ids of the documents that the indexes leave
 abbrev pub LogsScan : BoundQuery → Table → Option Files → Seen → ℕ → Option (List Entry) → Option (List Entry) → Type 0
 LogsScan query table held head count old new =
-    ((served_for query table head ≡ []) × LogsColumns head (names_in query table) (length table.schema.fields) old new)
+    ((indexed_for query table head ≡ []) × LogsColumns head (names_in query table) (length table.schema.fields) old new)
     ⊎ ((docs : List ℕ) × AreLeftFor query table held head docs × (count ≡ length docs) × (between : Option (List Entry)) × LogsIndexes query table held head old between
     × LogsDocs head (names_in (rest_for query table head) table) docs between new)
 
 -- no more than that was read
 abbrev pub LogsScanPartly : BoundQuery → Table → Option Files → Seen → Option (List Entry) → Option (List Entry) → Type 0
 LogsScanPartly query table held head old new =
-    ((served_for query table head ≡ []) × LogsSome head (names_in query table) old new)
+    ((indexed_for query table head ≡ []) × LogsSome head (names_in query table) old new)
     ⊎ (LogsPartOf (LogsAt held head (choices_for query table head) query.conjuncts) (LogsAtPartly held head (choices_for query table head) query.conjuncts) (length query.conjuncts) old new
     ⊎ ((docs : List ℕ) × AreLeftFor query table held head docs × (between : Option (List Entry)) × LogsIndexes query table held head old between
     × LogsDocsPartly head (names_in (rest_for query table head) table) docs between new))

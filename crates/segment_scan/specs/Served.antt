@@ -1,19 +1,33 @@
--- The conjuncts of a query whose rows are found by an index, and those that are tested row by row.
-use Rattle.std.specs.Prelude.{ℕ, Bool, true, false, List, [], ◌∷◌, get_or, if◌then◌else◌}
-use Rattle.std.specs.List.{filter}
+-- The conjuncts of a query whose rows are found by an index, those that are tested row by row, and the rows that are left.
+use Rattle.std.specs.Prelude.{ℕ, Bool, true, false, ◌-◌, List, [], ◌∷◌, length, get_or, if◌then◌else◌}
+use Rattle.std.specs.List.{filter, list_all}
+use Rattle.values.specs.declared.test.Test.{Test}
 use Rattle.values.specs.declared.value.Value.{Value}
+use Rattle.dictionary.specs.Dictionary.{distinct}
+use Rattle.dictionary.specs.Ids.{matching}
+use Rattle.bit_column.specs.Postings.{bucket_of}
+use Rattle.index_reading.specs.Buckets.{overlaps}
 use Rattle.table_schema.specs.declared.query.BoundQuery.{BoundQuery}
 use Rattle.table_schema.specs.declared.query.Conjunct.{Conjunct}
 use Rattle.table_schema.specs.declared.query.Conjunct.TheVariants.{One}
-use Rattle.table_schema.specs.Conditions.{all_hold}
+use Rattle.table_schema.specs.Conditions.{conjunct_holds}
+use Rattle.segment_file.specs.Columns.{place_of, values_in}
+use Rattle.segment_file.specs.Ordered.{value_in}
 use Rattle.segment_plan.specs.declared.plans.IndexChoice.{IndexChoice}
-use Rattle.segment_plan.specs.declared.plans.IndexChoice.TheVariants.{Unindexed, Sorted, Inverted}
+use Rattle.segment_plan.specs.declared.plans.IndexChoice.TheVariants.{Unindexed, Sorted, Inverted, Range}
 
--- an index tells just the rows of the conjunct; the rows that a range index tells are still tested
+-- a conjunct is served where an index tells just its rows; the rows that a range index leaves are still tested
 abbrev pub is_served : IndexChoice → Conjunct → Bool
 is_served Sorted (One column test) = true
 is_served Inverted (One column test) = true
 is_served choice conjunct = false
+
+-- a conjunct is indexed where it is served or has a range index
+abbrev pub is_indexed : IndexChoice → Conjunct → Bool
+is_indexed Sorted (One column test) = true
+is_indexed Inverted (One column test) = true
+is_indexed Range (One column test) = true
+is_indexed choice conjunct = false
 
 -- the choice of the conjunct at a place; without one its rows are looked at
 abbrev pub choice_at : List IndexChoice → ℕ → IndexChoice
@@ -25,16 +39,47 @@ unserved [] conjuncts = conjuncts
 unserved (choice ∷ choices) [] = []
 unserved (choice ∷ choices) (conjunct ∷ conjuncts) = if is_served choice conjunct then unserved choices conjuncts else conjunct ∷ unserved choices conjuncts
 
--- the conjuncts that are served
-abbrev pub served : List IndexChoice → List Conjunct → List Conjunct
-served [] conjuncts = []
-served (choice ∷ choices) [] = []
-served (choice ∷ choices) (conjunct ∷ conjuncts) = if is_served choice conjunct then conjunct ∷ served choices conjuncts else served choices conjuncts
+-- a conjunct with its choice
+pub record Chosen : Type 0 where
+  pub choice : IndexChoice
+  pub conjunct : Conjunct
 
--- the query that is left for the rows that the indexes tell
+-- the conjuncts that are indexed
+abbrev pub indexed : List IndexChoice → List Conjunct → List Chosen
+indexed [] conjuncts = []
+indexed (choice ∷ choices) [] = []
+indexed (first ∷ choices) (other ∷ conjuncts) = if is_indexed first other then record { choice = first; conjunct = other } ∷ indexed choices conjuncts else indexed choices conjuncts
+
+-- the query that is left for the rows that the indexes leave
 abbrev pub rest_of : BoundQuery → List IndexChoice → BoundQuery
 rest_of query choices = record query { conjuncts = unserved choices query.conjuncts }
 
--- the rows that the indexes leave: those that satisfy each conjunct that is served
+-- ---- the rows that are left
+
+-- the first of some ids, and the last of them
+abbrev pub first_of : List ℕ → ℕ
+first_of ids = get_or ids 0 0
+
+abbrev pub last_of : List ℕ → ℕ
+last_of ids = get_or ids (length ids - 1) 0
+
+-- the bucket of an id overlaps the ids from the first of a set to the last, of so many ids that there are
+abbrev pub is_near : ℕ → List ℕ → ℕ → Bool
+is_near count set id = overlaps count (first_of set) (last_of set) (bucket_of id)
+
+-- the bucket of a value's number among these distinct ones overlaps the numbers of those that satisfy a test
+abbrev pub is_value_near : List Value → Test → Value → Bool
+is_value_near values test value = is_near (length values) (matching test values) (place_of values value)
+
+-- an index leaves a row of these: one that satisfies its conjunct, or of a range index one in a bucket that overlaps the matching ids
+abbrev pub is_row_left : List (List Value) → List Value → IndexChoice → Conjunct → Bool
+is_row_left rows row Range (One column test) = is_value_near (distinct (values_in column rows)) test (value_in column row)
+is_row_left rows row choice conjunct = conjunct_holds row conjunct
+
+-- each of these indexes leaves it
+abbrev pub all_left : List (List Value) → List Value → List Chosen → Bool
+all_left rows row list = list_all (λ c. is_row_left rows row c.choice c.conjunct) list
+
+-- the rows that the indexes leave: those that each of them leaves
 abbrev pub rows_left : BoundQuery → List IndexChoice → List (List Value) → List (List Value)
-rows_left query choices rows = filter (λ row. all_hold row (served choices query.conjuncts)) rows
+rows_left query choices rows = filter (λ row. all_left rows row (indexed choices query.conjuncts)) rows

@@ -1,19 +1,21 @@
-//! The documents that the served conjuncts of a query leave.
+//! The documents that the indexes of a query's conjuncts leave.
 
 ghost use Rattle.std.specs.Prelude.{◌≡◌, ◌≤◌, ℕ, List, Err, IfOk, IfSome, IsErrOf, OnErr, length};
 ghost use Rattle.outside.specs.Seen.{OnlyReads, seen};
 ghost use Rattle.segment_file.specs.declared.part.Part.{Part};
+ghost use Rattle.segment_file.specs.declared.part.Part.TheVariants.{Range};
 ghost use Rattle.segment_scan.specs.Coded.{most_rows};
 ghost use Rattle.segment_scan.specs.Faults.{list_fault};
-ghost use Rattle.segment_scan.specs.Indexes.{AreInBoth, IsBadAny, IsBadIndex, IsFoundBy, IsIndexed, IsReady, Leaves, LeavesBy, LogsAt, LogsAtPartly, LogsIndex, LogsIndexPartly, LogsServed, LogsServedPartly, OfEach, TellsIds, part_of};
+ghost use Rattle.segment_scan.specs.Indexes.{AreEndsOf, AreInBoth, IsBadAny, IsBadIndex, IsFoundBy, IsFoundNear, IsIndexed, IsRanged, IsReady, Leaves, LeavesBy, LogsAt, LogsAtPartly, LogsIndex, LogsIndexPartly, LogsIndexed, LogsIndexedPartly, LogsRange, LogsRangePartly, OfEach, TellsBuckets, TellsIds, part_of};
 ghost use Rattle.segment_scan.specs.Series.{LogsPartOf, LogsTo};
-ghost use Rattle.segment_scan.specs.Served.{served};
+ghost use Rattle.segment_scan.specs.Served.{indexed};
 ghost use Rattle.segment_scan.specs.declared.fault.EngineFault.TheVariants.{NotASegment, ReadFault, TooManyGroups};
 
 use crate::EngineFault;
 use crate::serving::choice_at;
-use doc_lists::DocList;
-use index_reading::{ListFault, ListKind, docs_of_ids};
+use dictionary::IdSet;
+use doc_lists::{DocList, join};
+use index_reading::{ListFault, ListKind, docs_between, docs_of_ids};
 use outside::Shelf;
 use segment_file::{Head, Part};
 use segment_plan::IndexChoice;
@@ -21,9 +23,9 @@ use std::alloc::Global;
 use table_schema::Conjunct;
 use values::{NoMemory, Test};
 
-/// The documents that the conjuncts with an index leave, in ascending order; no list where no
-/// conjunct has one. Of the section of each index what it has of the matching ids is read, one
-/// conjunct after the other, and nothing else.
+/// The documents that the indexes of conjuncts leave, in ascending order; no list where no conjunct
+/// is indexed. Of the section of each index what it has of the matching ids, or of the buckets that
+/// overlap them, is read, one conjunct after the other, and nothing else.
 pub fn documents<S: Shelf>(
     alloc: Global,
     shelf: &mut S,
@@ -34,7 +36,7 @@ pub fn documents<S: Shelf>(
     requires rows { head.now.rows ≤ most_rows }
     requires ready { OfEach (IsReady head.now) choices.now conjuncts.now }
     ensures docs { IfOk result (Leaves (S.held shelf.old) head.now choices.now conjuncts.now
-        (served choices.now conjuncts.now)) }
+        (indexed choices.now conjuncts.now)) }
     ensures bad { (part : Part) → result ≡ Err (NotASegment part) →
         IsBadAny (S.held shelf.old) head.now part choices.now conjuncts.now }
     ensures full { ¬ IsErrOf result TooManyGroups }
@@ -62,7 +64,7 @@ pub fn documents<S: Shelf>(
     Ok(docs)
 }
 
-// The documents of a conjunct by its index, if it has one.
+// The documents that a conjunct leaves by its index, if it is indexed.
 fn docs_by<S: Shelf>(
     alloc: Global,
     shelf: &mut S,
@@ -78,9 +80,9 @@ fn docs_by<S: Shelf>(
     ensures full { ¬ IsErrOf result TooManyGroups }
     ensures only_reads { OnlyReads (IsErrOf result ReadFault)
         (seen S.Shelf shelf.old) (seen S.Shelf shelf.new) }
-    ensures log { IfOk result (λ _. LogsServed (S.held shelf.old) head.now choice conjunct.now
+    ensures log { IfOk result (λ _. LogsIndexed (S.held shelf.old) head.now choice conjunct.now
         (S.log shelf.old) (S.log shelf.new)) }
-    ensures log_of_fault { OnErr result (LogsServedPartly (S.held shelf.old) head.now choice
+    ensures log_of_fault { OnErr result (LogsIndexedPartly (S.held shelf.old) head.now choice
         conjunct.now (S.log shelf.old) (S.log shelf.new)) }
 {
     match (choice, conjunct) {
@@ -89,6 +91,9 @@ fn docs_by<S: Shelf>(
         }
         (IndexChoice::Inverted, Conjunct::One(column, test)) => {
             indexed(alloc, shelf, head, ListKind::Inverted, *column, test)
+        }
+        (IndexChoice::Range, Conjunct::One(column, test)) => {
+            ranged(alloc, shelf, head, *column, test)
         }
         (_, _) => Ok(None),
     }
@@ -135,7 +140,63 @@ fn indexed<S: Shelf>(
         &ids,
     ) {
         Ok(docs) => Ok(Some(docs)),
-        Err(fault) => Err(of_list(fault, kind, column)),
+        Err(fault) => Err(of_list(fault, part_of(kind, column))),
+    }
+}
+
+// The documents in the buckets that overlap the ids of the values that satisfy a test, by the range
+// index of a column: those that are sure, and those whose ids are to be checked.
+fn ranged<S: Shelf>(
+    alloc: Global,
+    shelf: &mut S,
+    head: &Head,
+    column: u16,
+    test: &Test,
+) -> Result<Option<DocList>, EngineFault>
+    requires rows { head.now.rows ≤ most_rows }
+    requires ready { IsRanged head.now column test.now }
+    ensures docs { IfOk result (IsFoundNear (S.held shelf.old) head.now column test.now) }
+    ensures bad { (part : Part) → result ≡ Err (NotASegment part) → (part ≡ Range column)
+        × IfSome (S.held shelf.old) (λ files. (ids : List ℕ) →
+        TellsBuckets files head.now column ids → ⊥) }
+    ensures full { ¬ IsErrOf result TooManyGroups }
+    ensures only_reads { OnlyReads (IsErrOf result ReadFault)
+        (seen S.Shelf shelf.old) (seen S.Shelf shelf.new) }
+    ensures log { IfOk result (λ _. LogsRange (S.held shelf.old) head.now column test.now
+        (S.log shelf.old) (S.log shelf.new)) }
+    ensures log_of_fault { OnErr result (LogsRangePartly (S.held shelf.old) head.now column
+        test.now (S.log shelf.old) (S.log shelf.new)) }
+{
+    let dictionary = head.dictionary(column);
+    let ids = match dictionary.ids_matching(alloc, test) {
+        Ok(ids) => ids,
+        Err(_) => return Err(EngineFault::NoMemory),
+    };
+    let Some((low, high)) = ends(&ids) else {
+        unreachable!();
+    };
+    let Some(place) = head.place(Part::Range(column)) else {
+        unreachable!();
+    };
+    let count = dictionary.count();
+    let (sure, check) = match docs_between(alloc, shelf, place, count, head.rows(), low, high) {
+        Ok(docs) => docs,
+        Err(fault) => return Err(of_list(fault, Part::Range(column))),
+    };
+    match join(alloc, &sure, &check) {
+        Ok(docs) => Ok(Some(docs)),
+        Err(_) => Err(EngineFault::NoMemory),
+    }
+}
+
+// The first and the last of some ids, if there are any.
+fn ends(ids: &IdSet) -> Option<(u32, u32)>
+    ensures { AreEndsOf ids.now result }
+{
+    let ids = ids.as_slice();
+    match ids {
+        [] => None,
+        [first, ..] => Some((*first, ids[ids.len() - 1])),
     }
 }
 
@@ -149,13 +210,13 @@ fn part_of(kind: ListKind, column: u16) -> Part
     }
 }
 
-// What the fault of an index is for a scan.
-fn of_list(fault: ListFault, kind: ListKind, column: u16) -> EngineFault
-    ensures { result ≡ list_fault fault kind column }
+// What the fault of an index is for a scan, by its section.
+fn of_list(fault: ListFault, part: Part) -> EngineFault
+    ensures { result ≡ list_fault fault part }
 {
     match fault {
         ListFault::ReadFault => EngineFault::ReadFault,
-        ListFault::BadList => EngineFault::NotASegment(part_of(kind, column)),
+        ListFault::BadList => EngineFault::NotASegment(part),
         ListFault::NoMemory => EngineFault::NoMemory,
     }
 }

@@ -16,7 +16,7 @@ pub fn image_law()
     head_tells_law();
 }
 
-/// On the image of rows, the indexes of the served conjuncts leave just the rows that satisfy them.
+/// On the image of rows, the indexes leave just the documents of the rows that they are to leave.
 pub fn index_law()
     ensures { ImagesLeave }
 {

@@ -24,10 +24,10 @@ use std::alloc::Global;
 use table_schema::{BoundQuery, Table};
 
 /// Adds the rows of a segment that satisfy the filter of a query to its groups, and answers how
-/// many rows the indexes leave. Where no conjunct is served by an index, the forward section of
-/// each column that the query names is read once, one column after the other, and nothing else.
-/// Else what the indexes have of the matching ids is read, and then of each column that is named
-/// beside the served conjuncts the ids of the documents that are left.
+/// many rows the indexes leave. Where no conjunct is indexed, the forward section of each column
+/// that the query names is read once, one column after the other, and nothing else. Else what the
+/// indexes have of the matching ids is read, or of the buckets that overlap them, and then of each
+/// column that is named beside the served conjuncts the ids of the documents that are left.
 pub fn scan_segment<S: Shelf>(
     alloc: Global,
     shelf: &mut S,

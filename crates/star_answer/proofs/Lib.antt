@@ -13,3 +13,14 @@ pub mod RowGroups
 pub mod ServedSteps
 pub mod CoverLemmas
 pub mod KeyedSteps
+pub mod TaskSteps
+pub mod AskSteps
+pub mod RowSteps
+pub mod SamePicks
+pub mod TreeIds
+pub mod ImageSteps
+pub mod SegmentSteps
+pub mod RowIds
+pub mod DocSteps
+pub mod BoundSteps
+pub mod FewDocs

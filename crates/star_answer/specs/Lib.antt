@@ -3,3 +3,7 @@ pub mod Asked
 pub mod Answers
 pub mod Taken
 pub mod Served
+pub mod Tasks
+pub mod OfRows
+pub mod Docs
+pub mod Segments

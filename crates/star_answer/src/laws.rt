@@ -1,4 +1,5 @@
-//! The law of answers from a star-tree: the contract of a function that does nothing of its own.
+//! The laws of answers from a star-tree, and of rows beside it. Each is the contract of a function
+//! that does nothing of its own.
 
 ghost use Rattle.std.specs.Prelude.{◌≡◌, List, Some, length};
 ghost use Rattle.outside.specs.Files.{Files};
@@ -12,9 +13,12 @@ ghost use Rattle.star_answer.specs.declared.asked.Asked.{Asked};
 ghost use Rattle.star_answer.specs.declared.tree_part.TreePart.{TreePart};
 ghost use Rattle.star_answer.specs.Answers.{Answers, IsBad, IsOverfull, IsTree, asked_of};
 ghost use Rattle.star_answer.specs.Asked.{AreAsked};
+ghost use Rattle.star_answer.specs.OfRows.{AsksOfRows, ColumnsOfRows, NodesOfRows};
+ghost use Rattle.star_answer.specs.OfRows.{RowsAreProjected};
 ghost use Rattle.star_answer.specs.Served.{IsServed};
 
 use agg_laws::{flat_law, picks_law};
+use segment_file::head_tells_trees_law;
 use star_walk::walk_law;
 
 /// Where the tree is that of a segment's rows, and the query filters and groups by its dimensions
@@ -42,4 +46,17 @@ pub fn served_law()
     walk_law();
     flat_law();
     picks_law();
+}
+
+/// A tree has of each row of its segment an id for each split dimension, among the distinct values
+/// of the rows there, and a number for each pair. Where a head tells of rows, a query asks of the
+/// tree by these values what it asks by those of the head; and on an image the nodes that are loaded
+/// are those of the tree of the rows.
+pub fn rows_law()
+    ensures projected { RowsAreProjected }
+    ensures asks { AsksOfRows }
+    ensures columns { ColumnsOfRows }
+    ensures nodes { NodesOfRows }
+{
+    head_tells_trees_law();
 }

@@ -1,20 +1,35 @@
-//! The answer of a segment from its star-tree: the documents that a walk picks are read, and the
-//! states of those that pass their remaining tests are merged into the groups of a query.
+//! The answer of a segment from a star-tree of its file: the nodes of the tree are read, and the
+//! documents that a walk picks, and the states of those that pass their remaining tests are merged
+//! into the groups of a query.
 #![tactic(auto)]
 
 mod answer;
 mod asked;
+mod asking;
+mod doc_laws;
 mod fault;
 mod laws;
+mod meeting;
 mod merging;
 mod picked;
+mod segment;
+mod segment_fault;
 mod taking;
+mod tasks;
 mod tree_part;
 mod weighing;
 
 pub use answer::answer_tree;
 pub use asked::{Asked, GroupColumn};
+pub use asking::{group_columns, pair_numbers};
+pub use doc_laws::{docs_bound_law, docs_few_law, docs_read_law};
 pub use fault::AnswerFault;
-pub use laws::served_law;
+pub use laws::{rows_law, served_law};
+pub use segment::answer_segment;
+pub use segment_fault::SegmentFault;
+pub use tasks::tree_task;
 pub use tree_part::TreePart;
 pub use weighing::weight_of;
+
+/// A growth was refused.
+pub type NoMemory = std::alloc::AllocError;

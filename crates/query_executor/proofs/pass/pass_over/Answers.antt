@@ -52,11 +52,10 @@ names-preserved g c =
     let added : AddsStored query table a.held (get_or names c.names.at []) c.names.pass.groups c.pass_one.new.pass.groups =
     subst (λ name. AddsStored query table a.held name c.names.pass.groups c.pass_one.new.pass.groups) is
     (subst (λ held. AddsStored query table held text c.names.pass.groups c.pass_one.new.pass.groups) c.names.invariant.reads.held c.in-Ok.ensures.ok) in
-    let few = added.few in
     record {
-      of_query = added.adds.of_query;
-      most = added.adds.most ∙ c.names.invariant.most;
-      fits = at_most_more (groups_in c.pass_one.new.pass.groups) (c.names.at * 1048576 + added.count) ((c.names.at + 1) * 1048576) (omega (arith, few)) (added.adds.fits (c.names.at * 1048576) c.names.invariant.fits);
+      of_query = added.of_query;
+      most = added.most ∙ c.names.invariant.most;
+      fits = at_most_more (groups_in c.pass_one.new.pass.groups) (c.names.at * 1048576 + 1048576) ((c.names.at + 1) * 1048576) (omega arith) (added.fits (c.names.at * 1048576) c.names.invariant.fits);
       so_far = one_more query table names a.held c.names.at c.names.pass.groups c.pass_one.new.pass.groups lt c.names.invariant.so_far added;
       wants = c.in-Ok.ensures.wants ∙ c.names.invariant.wants;
       lines = λ wanted. lines_more (stats_line query table) table names a.held c.names.at c.names.pass.lines.items c.pass_one.new.pass.lines.items lt (c.names.invariant.lines wanted)

@@ -1,18 +1,19 @@
 use Rattle.std.proofs.Common.{◌≡◌, ◌∙◌, Err, inr, refl, sym, ap}
-use Rattle.segment_plan.specs.declared.plans.SegmentPlan.TheVariants.{Empty, Pruned, Scan}
-use Rattle.query_executor.proofs.DoneLemmas.{done_so, none_looked, scan_looked}
+use Rattle.segment_plan.specs.declared.plans.SegmentPlan.TheVariants.{Empty, Pruned, Scan, StarTree}
+use Rattle.query_executor.proofs.DoneLemmas.{done_so, none_looked, scan_looked, tree_looked}
 use Rattle.segment_scan.specs.declared.fault.EngineFault.TheVariants as engine
-use Rattle.query_executor.proofs.NamedLemmas.{conjuncts_loaded}
-use Rattle.query_executor.proofs.PlanLemmas.{is_empty_so, is_pruned_so, scan_planned}
+use Rattle.query_executor.proofs.PlanLemmas.{is_empty_so, is_pruned_so, picked_within, scan_planned, scan_unpicked, tree_planned}
+use Rattle.query_executor.proofs.FaultLemmas.{bad_answer, full_answer}
+use Rattle.query_executor.proofs.TreeLogs.{answer_in_file, answer_partly}
 use Rattle.query_executor.proofs.ScanLogs.{scan_in_file, scan_partly}
-use Rattle.query_executor.proofs.SegmentLemmas.{adds_none, adds_scanned, bad_scanned, overfull_scanned, room}
+use Rattle.query_executor.proofs.SegmentLemmas.{adds_answered, adds_none, adds_scanned, bad_answered, bad_scanned, overfull_answered, overfull_scanned, room}
 use Rattle.query_executor.proofs.segment.add_planned.Goals as goal
 
-pub plan-requires-clause-loaded : goal.plan-requires-clause-loaded
-plan-requires-clause-loaded g c = conjuncts_loaded c.args.query.now c.args.head.now c.requires.loaded
+pub scan_segment-requires-clause-loaded : goal.scan_segment-requires-clause-loaded
+scan_segment-requires-clause-loaded g c = c.requires.named (scan_unpicked c.args.query.now c.args.table.now c.args.head.now c.in-Scan.plan (sym c.in-Scan.is ∙ c.in_ok-plan.ensures))
 
 pub scan_segment-requires-clause-planned : goal.scan_segment-requires-clause-planned
-scan_segment-requires-clause-planned g c = scan_planned c.args.query.now c.args.table.now c.args.head.now c.in-Scan.plan c.requires.bare (sym c.in-Scan.is ∙ c.in_ok-plan.ensures)
+scan_segment-requires-clause-planned g c = scan_planned c.args.query.now c.args.table.now c.args.head.now c.in-Scan.plan (sym c.in-Scan.is ∙ c.in_ok-plan.ensures)
 
 pub scan_segment-requires-clause-fits : goal.scan_segment-requires-clause-fits
 scan_segment-requires-clause-fits g c = room c.args.table.now c.args.head.now c.args.groups.now c.requires.of_table c.requires.fits
@@ -23,7 +24,7 @@ returns-in-Ok-clause-ok g c = λ name is.
 
 pub returns-in-Ok-clause-log : goal.returns-in-Ok-clause-log
 returns-in-Ok-clause-log g c = λ file within.
-    scan_in_file c.args.query.now c.args.table.now c.args.head.now file within (g.S.Shelf.held c.args.shelf.now) c.requires.of_table c.requires.loaded
+    scan_in_file c.args.query.now c.args.table.now c.args.head.now file within (g.S.Shelf.held c.args.shelf.now) c.requires.of_table (c.requires.named (scan_unpicked c.args.query.now c.args.table.now c.args.head.now c.in-Scan.plan (sym c.in-Scan.is ∙ c.in_ok-plan.ensures)))
     _ (g.S.Shelf.log c.args.shelf.now) (g.S.Shelf.log c.scan_segment.new.shelf) c.in-Ok.ensures.log
 
 pub returns-in-Err-clause-full : goal.returns-in-Err-clause-full
@@ -36,7 +37,7 @@ returns-in-Err-clause-bad g c = λ part bad name is.
 
 pub returns-in-Err-clause-log : goal.returns-in-Err-clause-log
 returns-in-Err-clause-log g c = λ file within.
-    scan_partly c.args.query.now c.args.table.now c.args.head.now file within (g.S.Shelf.held c.args.shelf.now) c.requires.of_table c.requires.loaded
+    scan_partly c.args.query.now c.args.table.now c.args.head.now file within (g.S.Shelf.held c.args.shelf.now) c.requires.of_table (c.requires.named (scan_unpicked c.args.query.now c.args.table.now c.args.head.now c.in-Scan.plan (sym c.in-Scan.is ∙ c.in_ok-plan.ensures)))
     (g.S.Shelf.log c.args.shelf.now) (g.S.Shelf.log c.scan_segment.new.shelf) c.in-Err.ensures.log_of_fault
 
 pub returns-in-Pruned-clause-ok : goal.returns-in-Pruned-clause-ok
@@ -53,7 +54,7 @@ returns-in-Empty-clause-ok g c = λ name is.
     let table = c.args.table.now in
     let head = c.args.head.now in
     adds_none query table name head c.head_tells_law.ensures c.requires.valid (g.S.Shelf.held c.args.shelf.now) c.args.groups.now c.requires.of_query
-    (λ rows tells. c.empty_law.ensures query.conjuncts table rows head tells (conjuncts_loaded query head c.requires.loaded) (is_empty_so query table head (sym c.in-Empty.is ∙ c.in_ok-plan.ensures))) is
+    (λ rows tells. c.empty_law.ensures query.conjuncts table rows head tells c.requires.filtered (is_empty_so query table head (sym c.in-Empty.is ∙ c.in_ok-plan.ensures))) is
 
 pub returns-in-Ok-clause-done : goal.returns-in-Ok-clause-done
 returns-in-Ok-clause-done g c = λ name is.
@@ -62,8 +63,8 @@ returns-in-Ok-clause-done g c = λ name is.
     let head = c.args.head.now in
     let held = g.S.Shelf.held c.args.shelf.now in
     let plan_is = sym c.in-Scan.is ∙ c.in_ok-plan.ensures in
-    done_so query table c.head_tells_law.ensures c.plan_over_law.ensures c.requires.valid c.requires.query held name head (Scan c.in-Scan.plan) c.in-Ok.docs plan_is (inr (conjuncts_loaded query head c.requires.loaded))
-    (scan_looked query table held head c.in-Scan.plan c.in-Ok.docs (scan_planned query table head c.in-Scan.plan c.requires.bare plan_is) c.in-Ok.ensures.count) is
+    done_so query table c.head_tells_law.ensures c.plan_over_law.ensures c.requires.valid c.requires.query held name head (Scan c.in-Scan.plan) c.in-Ok.docs plan_is (inr c.requires.filtered)
+    (scan_looked query table held head c.in-Scan.plan c.in-Ok.docs (scan_planned query table head c.in-Scan.plan plan_is) c.in-Ok.ensures.count) is
 
 pub returns-in-Pruned-clause-done : goal.returns-in-Pruned-clause-done
 returns-in-Pruned-clause-done g c = λ name is.
@@ -72,7 +73,7 @@ returns-in-Pruned-clause-done g c = λ name is.
     let head = c.args.head.now in
     let held = g.S.Shelf.held c.args.shelf.now in
     done_so query table c.head_tells_law.ensures c.plan_over_law.ensures c.requires.valid c.requires.query held name head c.nothing.result.plan c.nothing.result.docs
-    (c.nothing.ensures.plan ∙ sym c.in-Pruned.is ∙ c.in_ok-plan.ensures) (inr (conjuncts_loaded query head c.requires.loaded))
+    (c.nothing.ensures.plan ∙ sym c.in-Pruned.is ∙ c.in_ok-plan.ensures) (inr c.requires.filtered)
     (none_looked query table held head c.nothing.result.plan Pruned c.nothing.result.docs c.nothing.ensures.plan (λ rows. refl) c.nothing.ensures.none) is
 
 pub returns-in-Empty-clause-done : goal.returns-in-Empty-clause-done
@@ -82,5 +83,48 @@ returns-in-Empty-clause-done g c = λ name is.
     let head = c.args.head.now in
     let held = g.S.Shelf.held c.args.shelf.now in
     done_so query table c.head_tells_law.ensures c.plan_over_law.ensures c.requires.valid c.requires.query held name head c.nothing-in-Empty.result.plan c.nothing-in-Empty.result.docs
-    (c.nothing-in-Empty.ensures.plan ∙ sym c.in-Empty.is ∙ c.in_ok-plan.ensures) (inr (conjuncts_loaded query head c.requires.loaded))
+    (c.nothing-in-Empty.ensures.plan ∙ sym c.in-Empty.is ∙ c.in_ok-plan.ensures) (inr c.requires.filtered)
     (none_looked query table held head c.nothing-in-Empty.result.plan Empty c.nothing-in-Empty.result.docs c.nothing-in-Empty.ensures.plan (λ rows. refl) c.nothing-in-Empty.ensures.none) is
+
+pub answer_segment-requires-clause-picked : goal.answer_segment-requires-clause-picked
+answer_segment-requires-clause-picked g c = tree_planned c.args.query.now c.args.table.now c.args.head.now c.in-StarTree.tree (sym c.in-StarTree.is ∙ c.in_ok-plan.ensures)
+
+pub answer_segment-requires-clause-fits : goal.answer_segment-requires-clause-fits
+answer_segment-requires-clause-fits g c = room c.args.table.now c.args.head.now c.args.groups.now c.requires.of_table c.requires.fits
+
+pub returns-in-Ok-answer_segment-clause-ok : goal.returns-in-Ok-answer_segment-clause-ok
+returns-in-Ok-answer_segment-clause-ok g c = λ name is.
+    adds_answered c.args.query.now c.args.table.now name c.args.head.now (g.S.Shelf.held c.args.shelf.now) c.args.groups.now c.answer_segment.new.groups c.requires.of_table c.in-Ok-answer_segment.ensures.ok is
+
+pub returns-in-Ok-answer_segment-clause-done : goal.returns-in-Ok-answer_segment-clause-done
+returns-in-Ok-answer_segment-clause-done g c = λ name is.
+    let query = c.args.query.now in
+    let table = c.args.table.now in
+    let head = c.args.head.now in
+    let held = g.S.Shelf.held c.args.shelf.now in
+    let tree = c.in-StarTree.tree in
+    let docs = c.in-Ok-answer_segment.read in
+    done_so query table c.head_tells_law.ensures c.plan_over_law.ensures c.requires.valid c.requires.query held name head (StarTree tree) docs (sym c.in-StarTree.is ∙ c.in_ok-plan.ensures) (inr c.requires.filtered)
+    (tree_looked query table held head tree docs c.in-Ok-answer_segment.ensures.count.told) is
+
+pub returns-in-Ok-answer_segment-clause-log : goal.returns-in-Ok-answer_segment-clause-log
+returns-in-Ok-answer_segment-clause-log g c = λ file within.
+    answer_in_file c.args.table.now c.requires.valid c.args.head.now c.requires.of_table file within c.args.query.now (g.S.Shelf.held c.args.shelf.now) c.in-StarTree.tree c.in-Ok-answer_segment.read
+    (g.S.Shelf.log c.args.shelf.now) (g.S.Shelf.log c.answer_segment.new.shelf) (picked_within c.args.query.now c.args.table.now.settings.trees c.in-StarTree.tree (tree_planned c.args.query.now c.args.table.now c.args.head.now c.in-StarTree.tree (sym c.in-StarTree.is ∙ c.in_ok-plan.ensures)))
+    c.in-Ok-answer_segment.ensures.log
+
+pub returns-in-Err-answer_segment-clause-full : goal.returns-in-Err-answer_segment-clause-full
+returns-in-Err-answer_segment-clause-full g c = λ full name is.
+    overfull_answered c.args.query.now c.args.table.now name c.args.head.now (g.S.Shelf.held c.args.shelf.now) c.args.groups.now
+    (c.in-Err-answer_segment.ensures.full (ap Err (full_answer c.in-Err-answer_segment.fault (sym c.of_answer.ensures ∙ (let own : c.of_answer.result ≡ engine.TooManyGroups = cc in own))))) is
+
+pub returns-in-Err-answer_segment-clause-bad : goal.returns-in-Err-answer_segment-clause-bad
+returns-in-Err-answer_segment-clause-bad g c = λ part bad name is.
+    bad_answered c.args.query.now c.args.table.now name c.args.head.now (g.S.Shelf.held c.args.shelf.now)
+    (c.in-Err-answer_segment.ensures.bad part (ap Err (bad_answer c.in-Err-answer_segment.fault part (sym c.of_answer.ensures ∙ (let own : c.of_answer.result ≡ engine.NotASegment part = cc in own))))) is
+
+pub returns-in-Err-answer_segment-clause-log : goal.returns-in-Err-answer_segment-clause-log
+returns-in-Err-answer_segment-clause-log g c = λ file within.
+    answer_partly c.args.table.now c.requires.valid c.args.head.now c.requires.of_table file within c.args.query.now (g.S.Shelf.held c.args.shelf.now) c.in-StarTree.tree
+    (g.S.Shelf.log c.args.shelf.now) (g.S.Shelf.log c.answer_segment.new.shelf) (picked_within c.args.query.now c.args.table.now.settings.trees c.in-StarTree.tree (tree_planned c.args.query.now c.args.table.now c.args.head.now c.in-StarTree.tree (sym c.in-StarTree.is ∙ c.in_ok-plan.ensures)))
+    c.in-Err-answer_segment.ensures.log_of_fault

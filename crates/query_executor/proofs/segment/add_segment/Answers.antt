@@ -38,64 +38,64 @@ returns-then-prune-clause-done g c =
     done_so query table c.head_tells_law.ensures c.plan_over_law.ensures c.requires.valid c.requires.query held c.args.name.now head c.nothing.result.plan c.nothing.result.docs
     (c.nothing.ensures.plan ∙ pruned_planned query table head is) (inl is) (none_looked query table held head c.nothing.result.plan Pruned c.nothing.result.docs c.nothing.ensures.plan (λ rows. refl) c.nothing.ensures.none) c.in-Ok.ensures.image
 
-pub returns-in-Err-load_named-clause-bad : goal.returns-in-Err-load_named-clause-bad
-returns-in-Err-load_named-clause-bad g c = λ part is.
+pub returns-in-Err-load_wanted-clause-bad : goal.returns-in-Err-load_wanted-clause-bad
+returns-in-Err-load_wanted-clause-bad g c = λ part is.
     let table = c.args.table.now in
     let name = c.args.name.now in
-    let own : c.in-Err-load_named.fault ≡ engine.NotASegment part = cc in
+    let own : c.in-Err-load_wanted.fault ≡ engine.NotASegment part = cc in
     let same = c.in-Ok.ensures.only_reads.held in
     subst (λ held. IfSome held (λ files. HasNoImage table files name)) same
-    (c.in-Err-load_named.ensures.bad part (ap Err own) name (subst (λ held. IsHeadIn table held name c.in-Ok.head) (sym same) c.in-Ok.ensures.image))
+    (c.in-Err-load_wanted.ensures.bad part (ap Err own) name (subst (λ held. IsHeadIn table held name c.in-Ok.head) (sym same) c.in-Ok.ensures.image))
 
-pub returns-in-Err-load_named-clause-log : goal.returns-in-Err-load_named-clause-log
-returns-in-Err-load_named-clause-log g c =
+pub returns-in-Err-load_wanted-clause-log : goal.returns-in-Err-load_wanted-clause-log
+returns-in-Err-load_wanted-clause-log g c =
     let file = file_of c.args.name.now in
     let a = g.S.Shelf.log c.args.shelf.now in
     let b = g.S.Shelf.log c.open_segment.new.shelf in
-    let d = g.S.Shelf.log c.load_named.new.shelf in
+    let d = g.S.Shelf.log c.load_wanted.new.shelf in
     logs_then (λ other. other ≡ file) a b d (head_in c.args.table.now c.args.name.now (g.S.Shelf.held c.args.shelf.now) a b c.in-Ok.ensures.log)
-    (loaded_in c.args.table.now c.args.name.now c.in-Ok.head b d c.in-Ok.ensures.of c.in-Ok.ensures.placed c.in-Err-load_named.ensures.log)
+    (loaded_in c.args.table.now c.args.name.now c.in-Ok.head b d c.in-Ok.ensures.of c.in-Ok.ensures.placed c.in-Err-load_wanted.ensures.log)
 
 pub returns-clause-bad : goal.returns-clause-bad
 returns-clause-bad g c = λ part is.
     let table = c.args.table.now in
     let name = c.args.name.now in
-    let same = c.in-Ok-load_named.ensures.only_reads.held ∙ c.in-Ok.ensures.only_reads.held in
+    let same = c.in-Ok-load_wanted.ensures.only_reads.held ∙ c.in-Ok.ensures.only_reads.held in
     subst (λ held. IfSome held (λ files. HasNoImage table files name)) same
     (c.add_planned.ensures.bad part is name
-    (image_later table name (g.S.Shelf.held c.args.shelf.now) (g.S.Shelf.held c.open_segment.new.shelf) (g.S.Shelf.held c.load_named.new.shelf) c.in-Ok.head c.load_named.new.head c.in-Ok.ensures.only_reads.held c.in-Ok-load_named.ensures.only_reads.held c.in-Ok-load_named.ensures.grows c.in-Ok.ensures.image))
+    (image_later table name (g.S.Shelf.held c.args.shelf.now) (g.S.Shelf.held c.open_segment.new.shelf) (g.S.Shelf.held c.load_wanted.new.shelf) c.in-Ok.head c.load_wanted.new.head c.in-Ok.ensures.only_reads.held c.in-Ok-load_wanted.ensures.only_reads.held c.in-Ok-load_wanted.ensures.grows c.in-Ok.ensures.image))
 
 pub returns-clause-log : goal.returns-clause-log
 returns-clause-log g c =
     let file = file_of c.args.name.now in
     let a = g.S.Shelf.log c.args.shelf.now in
     let b = g.S.Shelf.log c.open_segment.new.shelf in
-    let d = g.S.Shelf.log c.load_named.new.shelf in
+    let d = g.S.Shelf.log c.load_wanted.new.shelf in
     logs_then (λ other. other ≡ file) a d (g.S.Shelf.log c.add_planned.new.shelf)
     (logs_then (λ other. other ≡ file) a b d (head_in c.args.table.now c.args.name.now (g.S.Shelf.held c.args.shelf.now) a b c.in-Ok.ensures.log)
-    (loaded_in c.args.table.now c.args.name.now c.in-Ok.head b d c.in-Ok.ensures.of c.in-Ok.ensures.placed c.in-Ok-load_named.ensures.log))
-    (c.add_planned.ensures.log file (subst (AreIn file) (sym c.in-Ok-load_named.ensures.grows.sections_same) c.in-Ok.ensures.placed))
+    (loaded_in c.args.table.now c.args.name.now c.in-Ok.head b d c.in-Ok.ensures.of c.in-Ok.ensures.placed c.in-Ok-load_wanted.ensures.log))
+    (c.add_planned.ensures.log file (subst (AreIn file) (sym c.in-Ok-load_wanted.ensures.grows.sections_same) c.in-Ok.ensures.placed))
 
 pub returns-clause-full : goal.returns-clause-full
 returns-clause-full g c = λ full.
     let table = c.args.table.now in
     let name = c.args.name.now in
-    let same = c.in-Ok-load_named.ensures.only_reads.held ∙ c.in-Ok.ensures.only_reads.held in
+    let same = c.in-Ok-load_wanted.ensures.only_reads.held ∙ c.in-Ok.ensures.only_reads.held in
     subst (λ held. IsStoredOverfull c.args.query.now table held name c.args.groups.now) same
     (c.add_planned.ensures.full full name
-    (image_later table name (g.S.Shelf.held c.args.shelf.now) (g.S.Shelf.held c.open_segment.new.shelf) (g.S.Shelf.held c.load_named.new.shelf) c.in-Ok.head c.load_named.new.head c.in-Ok.ensures.only_reads.held c.in-Ok-load_named.ensures.only_reads.held c.in-Ok-load_named.ensures.grows c.in-Ok.ensures.image))
+    (image_later table name (g.S.Shelf.held c.args.shelf.now) (g.S.Shelf.held c.open_segment.new.shelf) (g.S.Shelf.held c.load_wanted.new.shelf) c.in-Ok.head c.load_wanted.new.head c.in-Ok.ensures.only_reads.held c.in-Ok-load_wanted.ensures.only_reads.held c.in-Ok-load_wanted.ensures.grows c.in-Ok.ensures.image))
 
 pub returns-clause-ok : goal.returns-clause-ok
 returns-clause-ok g c =
     let query = c.args.query.now in
     let table = c.args.table.now in
     let name = c.args.name.now in
-    let held = g.S.Shelf.held c.load_named.new.shelf in
-    let same = c.in-Ok-load_named.ensures.only_reads.held ∙ c.in-Ok.ensures.only_reads.held in
+    let held = g.S.Shelf.held c.load_wanted.new.shelf in
+    let same = c.in-Ok-load_wanted.ensures.only_reads.held ∙ c.in-Ok.ensures.only_reads.held in
     subst (λ h. OnOk c.add_planned.result (AddsStored query table h name c.args.groups.now c.add_planned.new.groups)) same
-    (ok_so c.add_planned.result ((name : List ℕ) → IsHeadIn table held name c.load_named.new.head → AddsStored query table held name c.args.groups.now c.add_planned.new.groups) (AddsStored query table held name c.args.groups.now c.add_planned.new.groups)
+    (ok_so c.add_planned.result ((name : List ℕ) → IsHeadIn table held name c.load_wanted.new.head → AddsStored query table held name c.args.groups.now c.add_planned.new.groups) (AddsStored query table held name c.args.groups.now c.add_planned.new.groups)
     (λ adds. adds name
-    (image_later table name (g.S.Shelf.held c.args.shelf.now) (g.S.Shelf.held c.open_segment.new.shelf) held c.in-Ok.head c.load_named.new.head c.in-Ok.ensures.only_reads.held c.in-Ok-load_named.ensures.only_reads.held c.in-Ok-load_named.ensures.grows c.in-Ok.ensures.image))
+    (image_later table name (g.S.Shelf.held c.args.shelf.now) (g.S.Shelf.held c.open_segment.new.shelf) held c.in-Ok.head c.load_wanted.new.head c.in-Ok.ensures.only_reads.held c.in-Ok-load_wanted.ensures.only_reads.held c.in-Ok-load_wanted.ensures.grows c.in-Ok.ensures.image))
     c.add_planned.ensures.ok)
 
 pub returns-clause-done : goal.returns-clause-done
@@ -103,10 +103,10 @@ returns-clause-done g c =
     let query = c.args.query.now in
     let table = c.args.table.now in
     let name = c.args.name.now in
-    let held = g.S.Shelf.held c.load_named.new.shelf in
-    let same = c.in-Ok-load_named.ensures.only_reads.held ∙ c.in-Ok.ensures.only_reads.held in
+    let held = g.S.Shelf.held c.load_wanted.new.shelf in
+    let same = c.in-Ok-load_wanted.ensures.only_reads.held ∙ c.in-Ok.ensures.only_reads.held in
     subst (λ h. IfOk c.add_planned.result (λ done. IsDoneIn query table h name done.plan done.docs)) same
-    (found_so c.add_planned.result (λ done. (name : List ℕ) → IsHeadIn table held name c.load_named.new.head → IsDoneIn query table held name done.plan done.docs) (λ done. IsDoneIn query table held name done.plan done.docs)
+    (found_so c.add_planned.result (λ done. (name : List ℕ) → IsHeadIn table held name c.load_wanted.new.head → IsDoneIn query table held name done.plan done.docs) (λ done. IsDoneIn query table held name done.plan done.docs)
     (λ done is. is name
-    (image_later table name (g.S.Shelf.held c.args.shelf.now) (g.S.Shelf.held c.open_segment.new.shelf) held c.in-Ok.head c.load_named.new.head c.in-Ok.ensures.only_reads.held c.in-Ok-load_named.ensures.only_reads.held c.in-Ok-load_named.ensures.grows c.in-Ok.ensures.image))
+    (image_later table name (g.S.Shelf.held c.args.shelf.now) (g.S.Shelf.held c.open_segment.new.shelf) held c.in-Ok.head c.load_wanted.new.head c.in-Ok.ensures.only_reads.held c.in-Ok-load_wanted.ensures.only_reads.held c.in-Ok-load_wanted.ensures.grows c.in-Ok.ensures.image))
     c.add_planned.ensures.done)

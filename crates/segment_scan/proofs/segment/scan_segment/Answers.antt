@@ -6,10 +6,10 @@ use Rattle.table_schema.specs.declared.query.Conjunct.{Conjunct}
 use Rattle.segment_file.specs.Heads.{Seen}
 use Rattle.segment_plan.specs.declared.plans.IndexChoice.{IndexChoice}
 use Rattle.segment_scan.specs.Forward.{LogsColumns, LogsSome}
-use Rattle.segment_scan.specs.Images.{AddsImage, AddsWhole, IsBadWhole, IsWholeOverfull, LogsScanPartly, choices_for, names_in, served_for}
+use Rattle.segment_scan.specs.Images.{AddsImage, AddsWhole, IsBadWhole, IsWholeOverfull, LogsScanPartly, choices_for, indexed_for, names_in}
 use Rattle.segment_scan.specs.Indexes.{IsBadAny, IsReady, Leaves, LogsAt, OfEach}
 use Rattle.segment_scan.specs.Series.{LogsTo}
-use Rattle.segment_scan.specs.Served.{served}
+use Rattle.segment_scan.specs.Served.{indexed}
 use Rattle.segment_scan.specs.declared.fault.EngineFault.{EngineFault}
 use Rattle.segment_scan.specs.declared.fault.EngineFault.TheVariants.{NotASegment}
 use Rattle.segment_scan.proofs.IndexImage.{ready_for}
@@ -21,12 +21,12 @@ use Rattle.segment_scan.proofs.segment.scan_segment.Goals as goal
 same_err : (T U : Type 0) (fault cause : EngineFault) → IsErrOf {T = T} {E = EngineFault} (Err fault) cause → IsErrOf {T = U} {E = EngineFault} (Err fault) cause
 same_err T U fault cause is = let e : fault ≡ cause = cc in ap (λ (f : EngineFault). Err f) e
 
--- there is no list where no conjunct is served
-none_left : (held : Option Files) (head : Seen) (cs choices : List IndexChoice) (xs conjuncts : List Conjunct) (docs : Option (List ℕ)) → cs ≡ choices → xs ≡ conjuncts → docs ≡ None → Leaves held head cs xs (served cs xs) docs → served choices conjuncts ≡ []
+-- there is no list where no conjunct is indexed
+none_left : (held : Option Files) (head : Seen) (cs choices : List IndexChoice) (xs conjuncts : List Conjunct) (docs : Option (List ℕ)) → cs ≡ choices → xs ≡ conjuncts → docs ≡ None → Leaves held head cs xs (indexed cs xs) docs → indexed choices conjuncts ≡ []
 none_left held head cs choices xs conjuncts docs c_is x_is none left =
-    subst (λ l. served l conjuncts ≡ []) c_is (subst (λ l. served cs l ≡ []) x_is (subst (Leaves held head cs xs (served cs xs)) none left))
+    subst (λ l. indexed l conjuncts ≡ []) c_is (subst (λ l. indexed cs l ≡ []) x_is (subst (Leaves held head cs xs (indexed cs xs)) none left))
 
-nothing_read : (held : Option Files) (head : Seen) (cs choices : List IndexChoice) (xs conjuncts : List Conjunct) (old mid : Option (List Entry)) → cs ≡ choices → xs ≡ conjuncts → served choices conjuncts ≡ [] → LogsTo (LogsAt held head cs xs) (length xs) old mid → mid ≡ old
+nothing_read : (held : Option Files) (head : Seen) (cs choices : List IndexChoice) (xs conjuncts : List Conjunct) (old mid : Option (List Entry)) → cs ≡ choices → xs ≡ conjuncts → indexed choices conjuncts ≡ [] → LogsTo (LogsAt held head cs xs) (length xs) old mid → mid ≡ old
 nothing_read held head cs choices xs conjuncts old mid c_is x_is none logs =
     nothing_logged held head choices conjuncts (length conjuncts) old mid none (omega arith)
     (subst (λ l. LogsTo (LogsAt held head l conjuncts) (length conjuncts) old mid) c_is (subst (λ l. LogsTo (LogsAt held head cs l) (length l) old mid) x_is logs))
@@ -61,7 +61,7 @@ returns-in-None-clause-count g c =
     let held : Option Files = g.S.Shelf.held c.args.shelf.now in
     let choices : c.as_slice-choices.result.now ≡ choices_for query table head = c.as_slice-choices.ensures ∙ c.requires.planned in
     let conjuncts : c.as_slice.result.now ≡ query.conjuncts = c.as_slice.ensures in
-    let none : served_for query table head ≡ [] =
+    let none : indexed_for query table head ≡ [] =
     none_left held head c.as_slice-choices.result.now (choices_for query table head) c.as_slice.result.now query.conjuncts c.in-Ok.docs choices conjuncts c.in-None.is c.in-Ok.ensures.docs in
     let same : g.S.Shelf.held c.documents.new.shelf ≡ held = c.in-Ok.ensures.only_reads.held in
     IfOk-weaker c.scan_whole.result _ _ (λ n is. whole_docs c.image_law.ensures c.index_law.ensures query table held head c.requires.valid c.requires.of_table c.requires.loaded none n is) c.scan_whole.ensures.count
@@ -74,7 +74,7 @@ returns-in-None-clause-ok g c =
     let held : Option Files = g.S.Shelf.held c.args.shelf.now in
     let choices : c.as_slice-choices.result.now ≡ choices_for query table head = c.as_slice-choices.ensures ∙ c.requires.planned in
     let conjuncts : c.as_slice.result.now ≡ query.conjuncts = c.as_slice.ensures in
-    let none : served_for query table head ≡ [] =
+    let none : indexed_for query table head ≡ [] =
     none_left held head c.as_slice-choices.result.now (choices_for query table head) c.as_slice.result.now query.conjuncts c.in-Ok.docs choices conjuncts c.in-None.is c.in-Ok.ensures.docs in
     let same : g.S.Shelf.held c.documents.new.shelf ≡ held = c.in-Ok.ensures.only_reads.held in
     let old = c.args.groups.now in
@@ -90,7 +90,7 @@ returns-in-None-clause-full g c = λ full.
     let held : Option Files = g.S.Shelf.held c.args.shelf.now in
     let choices : c.as_slice-choices.result.now ≡ choices_for query table head = c.as_slice-choices.ensures ∙ c.requires.planned in
     let conjuncts : c.as_slice.result.now ≡ query.conjuncts = c.as_slice.ensures in
-    let none : served_for query table head ≡ [] =
+    let none : indexed_for query table head ≡ [] =
     none_left held head c.as_slice-choices.result.now (choices_for query table head) c.as_slice.result.now query.conjuncts c.in-Ok.docs choices conjuncts c.in-None.is c.in-Ok.ensures.docs in
     let same : g.S.Shelf.held c.documents.new.shelf ≡ held = c.in-Ok.ensures.only_reads.held in
     whole_full query table held head c.args.groups.now none (subst (λ h. IsWholeOverfull query table h head c.args.groups.now) same (c.scan_whole.ensures.full full))
@@ -103,7 +103,7 @@ returns-in-None-clause-bad g c = λ part bad.
     let held : Option Files = g.S.Shelf.held c.args.shelf.now in
     let choices : c.as_slice-choices.result.now ≡ choices_for query table head = c.as_slice-choices.ensures ∙ c.requires.planned in
     let conjuncts : c.as_slice.result.now ≡ query.conjuncts = c.as_slice.ensures in
-    let none : served_for query table head ≡ [] =
+    let none : indexed_for query table head ≡ [] =
     none_left held head c.as_slice-choices.result.now (choices_for query table head) c.as_slice.result.now query.conjuncts c.in-Ok.docs choices conjuncts c.in-None.is c.in-Ok.ensures.docs in
     let same : g.S.Shelf.held c.documents.new.shelf ≡ held = c.in-Ok.ensures.only_reads.held in
     whole_bad query table held head part none (subst (λ h. IsBadWhole query table h head part) same (c.scan_whole.ensures.bad part bad))
@@ -116,7 +116,7 @@ returns-in-None-clause-log g c =
     let held : Option Files = g.S.Shelf.held c.args.shelf.now in
     let choices : c.as_slice-choices.result.now ≡ choices_for query table head = c.as_slice-choices.ensures ∙ c.requires.planned in
     let conjuncts : c.as_slice.result.now ≡ query.conjuncts = c.as_slice.ensures in
-    let none : served_for query table head ≡ [] =
+    let none : indexed_for query table head ≡ [] =
     none_left held head c.as_slice-choices.result.now (choices_for query table head) c.as_slice.result.now query.conjuncts c.in-Ok.docs choices conjuncts c.in-None.is c.in-Ok.ensures.docs in
     let same : g.S.Shelf.held c.documents.new.shelf ≡ held = c.in-Ok.ensures.only_reads.held in
     let old = g.S.Shelf.log c.args.shelf.now in
@@ -134,7 +134,7 @@ returns-in-None-clause-log_of_fault g c =
     let held : Option Files = g.S.Shelf.held c.args.shelf.now in
     let choices : c.as_slice-choices.result.now ≡ choices_for query table head = c.as_slice-choices.ensures ∙ c.requires.planned in
     let conjuncts : c.as_slice.result.now ≡ query.conjuncts = c.as_slice.ensures in
-    let none : served_for query table head ≡ [] =
+    let none : indexed_for query table head ≡ [] =
     none_left held head c.as_slice-choices.result.now (choices_for query table head) c.as_slice.result.now query.conjuncts c.in-Ok.docs choices conjuncts c.in-None.is c.in-Ok.ensures.docs in
     let same : g.S.Shelf.held c.documents.new.shelf ≡ held = c.in-Ok.ensures.only_reads.held in
     let old = g.S.Shelf.log c.args.shelf.now in

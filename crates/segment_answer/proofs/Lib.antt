@@ -1,3 +1,0 @@
-pub mod TaskSteps
-pub mod AskSteps
-pub mod RowSteps

@@ -1,5 +1,0 @@
-use Rattle.segment_answer.specs.Tasks.{AreGrouped}
-use Rattle.segment_answer.proofs.tasks.grouped.Given as goal
-
-abbrev pub invariant-loop-level : goal.invariant-loop-level
-invariant-loop-level l = AreGrouped l.groups l.split l.level l.all

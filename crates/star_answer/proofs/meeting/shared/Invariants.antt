@@ -1,0 +1,5 @@
+use Rattle.dictionary.proofs.SetLemmas.{SharedUpTo}
+use Rattle.star_answer.proofs.meeting.shared.Given as goal
+
+abbrev pub invariant-loop-id : goal.invariant-loop-id
+invariant-loop-id l = SharedUpTo l.list l.b l.id-index l.ids

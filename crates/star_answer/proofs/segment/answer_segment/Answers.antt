@@ -1,0 +1,293 @@
+use Rattle.std.proofs.Common.{◌≡◌, ℕ, Option, Err, ap}
+use Rattle.outside.specs.Files.{Files}
+use Rattle.segment_file.specs.Heads.{Seen}
+use Rattle.star_answer.specs.declared.asked.Asked.{Asked}
+use Rattle.star_answer.specs.declared.segment_fault.SegmentFault.TheVariants as segments
+use Rattle.star_answer.proofs.SegmentSteps as steps
+use Rattle.star_answer.proofs.segment.answer_segment.Goals as goal
+
+pub read_tree-requires-clause-tree : goal.read_tree-requires-clause-tree
+read_tree-requires-clause-tree g c =
+    (steps.picked_there c.args.query.now c.args.table.now.settings.trees c.args.tree c.requires.picked).lt
+
+pub returns-in-Err-clause-bad : goal.returns-in-Err-clause-bad
+returns-in-Err-clause-bad g c part is =
+    let own : c.of_head.result ≡ segments.NotASegment part = cc in
+    steps.none_whole c.args.table.now c.args.head.now (g.S.Shelf.held c.args.shelf.now)
+    (c.in-Err.ensures.refused part (c.of_head.ensures.bad part own))
+
+pub at-setting-requires : goal.at-setting-requires
+at-setting-requires g c =
+    (steps.picked_there c.args.query.now c.args.table.now.settings.trees c.args.tree c.requires.picked).lt
+
+pub documents_of-requires-clause-tree : goal.documents_of-requires-clause-tree
+documents_of-requires-clause-tree g c =
+    (steps.picked_there c.args.query.now c.args.table.now.settings.trees c.args.tree c.requires.picked).lt
+
+pub tree_task-requires-clause-eligible : goal.tree_task-requires-clause-eligible
+tree_task-requires-clause-eligible g c =
+    steps.picked_eligible c.args.query.now c.args.table.now.settings.trees c.args.tree
+    c.at-setting.result.now c.requires.picked c.at-setting.ensures
+
+pub group_columns-requires-clause-eligible : goal.group_columns-requires-clause-eligible
+group_columns-requires-clause-eligible g c =
+    steps.picked_eligible c.args.query.now c.args.table.now.settings.trees c.args.tree
+    c.at-setting.result.now c.requires.picked c.at-setting.ensures
+
+pub pair_numbers-requires-clause-eligible : goal.pair_numbers-requires-clause-eligible
+pair_numbers-requires-clause-eligible g c =
+    steps.picked_eligible c.args.query.now c.args.table.now.settings.trees c.args.tree
+    c.at-setting.result.now c.requires.picked c.at-setting.ensures
+
+pub group_columns-requires-clause-few : goal.group_columns-requires-clause-few
+group_columns-requires-clause-few g c =
+    (steps.setting_valid c.args.table.now c.args.tree c.at-setting.result.now c.requires.valid
+    c.at-setting.ensures).few_split
+
+pub pair_numbers-requires-clause-few : goal.pair_numbers-requires-clause-few
+pair_numbers-requires-clause-few g c =
+    (steps.setting_valid c.args.table.now c.args.tree c.at-setting.result.now c.requires.valid
+    c.at-setting.ensures).few_pairs
+
+pub answer_tree-requires-clause-tree : goal.answer_tree-requires-clause-tree
+answer_tree-requires-clause-tree g c =
+    let query = c.args.query.now in
+    let table = c.args.table.now in
+    let head : Seen = c.args.head.now in
+    let t : ℕ = c.args.tree in
+    let setting = c.at-setting.result.now in
+    let part = c.of_file-part.result in
+    let task = c.in_ok-task.task in
+    let asked : Asked = record { columns = c.as_slice.result; pairs = c.as_slice-2.result } in
+    let said = c.in-Ok.opened.nodes in
+    let held : Option Files = g.S.Shelf.held c.args.shelf.now in
+    let now : Option Files = g.S.Shelf.held c.read_tree.new.shelf in
+    let ready = steps.ready_so query table head t setting part task asked said
+    c.in-Ok.opened.counts.items c.documents_of.result.now c.in_ok-columns.columns.items
+    c.in_ok-pairs.pairs.items held c.requires.valid c.requires.of_table c.requires.query
+    c.requires.picked c.requires.loaded c.requires.groups_loaded c.at-setting.ensures
+    c.in-Ok.ensures.nodes c.in-Ok.ensures.counts c.in-Ok.ensures.keeps c.of_file-part.ensures.shape
+    c.of_file-part.ensures.counts c.of_file-part.ensures.nodes c.of_file-part.ensures.documents
+    c.documents_of.ensures c.in_ok-task.ensures.each c.in_ok-task.ensures.entries
+    c.in_ok-task.ensures.asks c.in_ok-columns.ensures c.as_slice.ensures.value c.in_ok-pairs.ensures
+    c.as_slice-2.ensures.value in
+    steps.ready_tree query table head t setting part task asked said held now ready
+    c.in-Ok.ensures.only_reads.held c.head_tells_law.ensures c.rows.result c.rows.ensures
+
+pub answer_tree-requires-clause-asked : goal.answer_tree-requires-clause-asked
+answer_tree-requires-clause-asked g c =
+    let query = c.args.query.now in
+    let table = c.args.table.now in
+    let head : Seen = c.args.head.now in
+    let t : ℕ = c.args.tree in
+    let setting = c.at-setting.result.now in
+    let part = c.of_file-part.result in
+    let task = c.in_ok-task.task in
+    let asked : Asked = record { columns = c.as_slice.result; pairs = c.as_slice-2.result } in
+    let said = c.in-Ok.opened.nodes in
+    let held : Option Files = g.S.Shelf.held c.args.shelf.now in
+    let now : Option Files = g.S.Shelf.held c.read_tree.new.shelf in
+    let ready = steps.ready_so query table head t setting part task asked said
+    c.in-Ok.opened.counts.items c.documents_of.result.now c.in_ok-columns.columns.items
+    c.in_ok-pairs.pairs.items held c.requires.valid c.requires.of_table c.requires.query
+    c.requires.picked c.requires.loaded c.requires.groups_loaded c.at-setting.ensures
+    c.in-Ok.ensures.nodes c.in-Ok.ensures.counts c.in-Ok.ensures.keeps c.of_file-part.ensures.shape
+    c.of_file-part.ensures.counts c.of_file-part.ensures.nodes c.of_file-part.ensures.documents
+    c.documents_of.ensures c.in_ok-task.ensures.each c.in_ok-task.ensures.entries
+    c.in_ok-task.ensures.asks c.in_ok-columns.ensures c.as_slice.ensures.value c.in_ok-pairs.ensures
+    c.as_slice-2.ensures.value in
+    steps.ready_asked query table head t setting part task asked said held now ready
+    c.in-Ok.ensures.only_reads.held c.head_tells_law.ensures c.rows.result c.rows.ensures
+
+pub answer_tree-requires-clause-table : goal.answer_tree-requires-clause-table
+answer_tree-requires-clause-table g c =
+    let query = c.args.query.now in
+    let table = c.args.table.now in
+    let head : Seen = c.args.head.now in
+    let t : ℕ = c.args.tree in
+    let setting = c.at-setting.result.now in
+    let part = c.of_file-part.result in
+    let task = c.in_ok-task.task in
+    let asked : Asked = record { columns = c.as_slice.result; pairs = c.as_slice-2.result } in
+    let said = c.in-Ok.opened.nodes in
+    let held : Option Files = g.S.Shelf.held c.args.shelf.now in
+    let now : Option Files = g.S.Shelf.held c.read_tree.new.shelf in
+    let ready = steps.ready_so query table head t setting part task asked said
+    c.in-Ok.opened.counts.items c.documents_of.result.now c.in_ok-columns.columns.items
+    c.in_ok-pairs.pairs.items held c.requires.valid c.requires.of_table c.requires.query
+    c.requires.picked c.requires.loaded c.requires.groups_loaded c.at-setting.ensures
+    c.in-Ok.ensures.nodes c.in-Ok.ensures.counts c.in-Ok.ensures.keeps c.of_file-part.ensures.shape
+    c.of_file-part.ensures.counts c.of_file-part.ensures.nodes c.of_file-part.ensures.documents
+    c.documents_of.ensures c.in_ok-task.ensures.each c.in_ok-task.ensures.entries
+    c.in_ok-task.ensures.asks c.in_ok-columns.ensures c.as_slice.ensures.value c.in_ok-pairs.ensures
+    c.as_slice-2.ensures.value in
+    steps.ready_table query table head t setting part task asked said held now ready
+    c.in-Ok.ensures.only_reads.held c.head_tells_law.ensures c.rows.result c.rows.ensures c.args.groups.now c.requires.of_query
+
+pub returns-in-Ok-answer_tree-clause-count : goal.returns-in-Ok-answer_tree-clause-count
+returns-in-Ok-answer_tree-clause-count g c =
+    let query = c.args.query.now in
+    let table = c.args.table.now in
+    let head : Seen = c.args.head.now in
+    let t : ℕ = c.args.tree in
+    let setting = c.at-setting.result.now in
+    let part = c.of_file-part.result in
+    let task = c.in_ok-task.task in
+    let asked : Asked = record { columns = c.as_slice.result; pairs = c.as_slice-2.result } in
+    let said = c.in-Ok.opened.nodes in
+    let held : Option Files = g.S.Shelf.held c.args.shelf.now in
+    let now : Option Files = g.S.Shelf.held c.read_tree.new.shelf in
+    let ready = steps.ready_so query table head t setting part task asked said
+    c.in-Ok.opened.counts.items c.documents_of.result.now c.in_ok-columns.columns.items
+    c.in_ok-pairs.pairs.items held c.requires.valid c.requires.of_table c.requires.query
+    c.requires.picked c.requires.loaded c.requires.groups_loaded c.at-setting.ensures
+    c.in-Ok.ensures.nodes c.in-Ok.ensures.counts c.in-Ok.ensures.keeps c.of_file-part.ensures.shape
+    c.of_file-part.ensures.counts c.of_file-part.ensures.nodes c.of_file-part.ensures.documents
+    c.documents_of.ensures c.in_ok-task.ensures.each c.in_ok-task.ensures.entries
+    c.in_ok-task.ensures.asks c.in_ok-columns.ensures c.as_slice.ensures.value c.in_ok-pairs.ensures
+    c.as_slice-2.ensures.value in
+    steps.ready_docs query table head t setting part task asked said held now ready
+    c.in-Ok.ensures.only_reads.held c.head_tells_law.ensures c.rows.result c.rows.ensures
+    c.docs_read_law.ensures.read c.args.groups.now c.answer_tree.new.groups c.in-Ok-answer_tree.count
+    c.in-Ok-answer_tree.ensures.count c.in-Ok-answer_tree.ensures.ok
+
+pub returns-in-Ok-answer_tree-clause-ok : goal.returns-in-Ok-answer_tree-clause-ok
+returns-in-Ok-answer_tree-clause-ok g c =
+    let query = c.args.query.now in
+    let table = c.args.table.now in
+    let head : Seen = c.args.head.now in
+    let t : ℕ = c.args.tree in
+    let setting = c.at-setting.result.now in
+    let part = c.of_file-part.result in
+    let task = c.in_ok-task.task in
+    let asked : Asked = record { columns = c.as_slice.result; pairs = c.as_slice-2.result } in
+    let said = c.in-Ok.opened.nodes in
+    let held : Option Files = g.S.Shelf.held c.args.shelf.now in
+    let now : Option Files = g.S.Shelf.held c.read_tree.new.shelf in
+    let ready = steps.ready_so query table head t setting part task asked said
+    c.in-Ok.opened.counts.items c.documents_of.result.now c.in_ok-columns.columns.items
+    c.in_ok-pairs.pairs.items held c.requires.valid c.requires.of_table c.requires.query
+    c.requires.picked c.requires.loaded c.requires.groups_loaded c.at-setting.ensures
+    c.in-Ok.ensures.nodes c.in-Ok.ensures.counts c.in-Ok.ensures.keeps c.of_file-part.ensures.shape
+    c.of_file-part.ensures.counts c.of_file-part.ensures.nodes c.of_file-part.ensures.documents
+    c.documents_of.ensures c.in_ok-task.ensures.each c.in_ok-task.ensures.entries
+    c.in_ok-task.ensures.asks c.in_ok-columns.ensures c.as_slice.ensures.value c.in_ok-pairs.ensures
+    c.as_slice-2.ensures.value in
+    steps.ready_adds query table head t setting part task asked said held now ready
+    c.in-Ok.ensures.only_reads.held c.head_tells_law.ensures c.rows.result c.rows.ensures
+    c.served_law.ensures.adds c.args.groups.now c.answer_tree.new.groups c.requires.of_query
+    c.in-Ok-answer_tree.ensures.ok
+
+pub returns-in-Ok-answer_tree-clause-log : goal.returns-in-Ok-answer_tree-clause-log
+returns-in-Ok-answer_tree-clause-log g c =
+    let query = c.args.query.now in
+    let table = c.args.table.now in
+    let head : Seen = c.args.head.now in
+    let t : ℕ = c.args.tree in
+    let setting = c.at-setting.result.now in
+    let part = c.of_file-part.result in
+    let task = c.in_ok-task.task in
+    let asked : Asked = record { columns = c.as_slice.result; pairs = c.as_slice-2.result } in
+    let said = c.in-Ok.opened.nodes in
+    let held : Option Files = g.S.Shelf.held c.args.shelf.now in
+    let now : Option Files = g.S.Shelf.held c.read_tree.new.shelf in
+    let ready = steps.ready_so query table head t setting part task asked said
+    c.in-Ok.opened.counts.items c.documents_of.result.now c.in_ok-columns.columns.items
+    c.in_ok-pairs.pairs.items held c.requires.valid c.requires.of_table c.requires.query
+    c.requires.picked c.requires.loaded c.requires.groups_loaded c.at-setting.ensures
+    c.in-Ok.ensures.nodes c.in-Ok.ensures.counts c.in-Ok.ensures.keeps c.of_file-part.ensures.shape
+    c.of_file-part.ensures.counts c.of_file-part.ensures.nodes c.of_file-part.ensures.documents
+    c.documents_of.ensures c.in_ok-task.ensures.each c.in_ok-task.ensures.entries
+    c.in_ok-task.ensures.asks c.in_ok-columns.ensures c.as_slice.ensures.value c.in_ok-pairs.ensures
+    c.as_slice-2.ensures.value in
+    steps.ready_log query table head t setting part task asked said held now ready
+    c.in-Ok.ensures.only_reads.held c.head_tells_law.ensures c.rows.result c.rows.ensures
+    c.docs_read_law.ensures.read c.walkable_law.ensures.within c.in-Ok-answer_tree.count
+    (g.S.Shelf.log c.args.shelf.now) (g.S.Shelf.log c.read_tree.new.shelf)
+    (g.S.Shelf.log c.answer_tree.new.shelf) c.in-Ok-answer_tree.ensures.count c.in-Ok.ensures.log
+    c.in-Ok-answer_tree.ensures.log
+
+pub returns-clause-full : goal.returns-clause-full
+returns-clause-full g c is =
+    let query = c.args.query.now in
+    let table = c.args.table.now in
+    let head : Seen = c.args.head.now in
+    let t : ℕ = c.args.tree in
+    let setting = c.at-setting.result.now in
+    let part = c.of_file-part.result in
+    let task = c.in_ok-task.task in
+    let asked : Asked = record { columns = c.as_slice.result; pairs = c.as_slice-2.result } in
+    let said = c.in-Ok.opened.nodes in
+    let held : Option Files = g.S.Shelf.held c.args.shelf.now in
+    let now : Option Files = g.S.Shelf.held c.read_tree.new.shelf in
+    let ready = steps.ready_so query table head t setting part task asked said
+    c.in-Ok.opened.counts.items c.documents_of.result.now c.in_ok-columns.columns.items
+    c.in_ok-pairs.pairs.items held c.requires.valid c.requires.of_table c.requires.query
+    c.requires.picked c.requires.loaded c.requires.groups_loaded c.at-setting.ensures
+    c.in-Ok.ensures.nodes c.in-Ok.ensures.counts c.in-Ok.ensures.keeps c.of_file-part.ensures.shape
+    c.of_file-part.ensures.counts c.of_file-part.ensures.nodes c.of_file-part.ensures.documents
+    c.documents_of.ensures c.in_ok-task.ensures.each c.in_ok-task.ensures.entries
+    c.in_ok-task.ensures.asks c.in_ok-columns.ensures c.as_slice.ensures.value c.in_ok-pairs.ensures
+    c.as_slice-2.ensures.value in
+    let own : c.of_tree.result ≡ segments.TooManyGroups = cc in
+    steps.ready_full query table head t setting part task asked said held now ready
+    c.in-Ok.ensures.only_reads.held c.head_tells_law.ensures c.rows.result c.rows.ensures
+    c.served_law.ensures.overfull c.args.groups.now c.requires.of_query
+    (c.in-Err-answer_tree.ensures.full (ap Err (c.of_tree.ensures.full own)))
+
+pub returns-clause-bad : goal.returns-clause-bad
+returns-clause-bad g c bad is =
+    let query = c.args.query.now in
+    let table = c.args.table.now in
+    let head : Seen = c.args.head.now in
+    let t : ℕ = c.args.tree in
+    let setting = c.at-setting.result.now in
+    let part = c.of_file-part.result in
+    let task = c.in_ok-task.task in
+    let asked : Asked = record { columns = c.as_slice.result; pairs = c.as_slice-2.result } in
+    let said = c.in-Ok.opened.nodes in
+    let held : Option Files = g.S.Shelf.held c.args.shelf.now in
+    let now : Option Files = g.S.Shelf.held c.read_tree.new.shelf in
+    let ready = steps.ready_so query table head t setting part task asked said
+    c.in-Ok.opened.counts.items c.documents_of.result.now c.in_ok-columns.columns.items
+    c.in_ok-pairs.pairs.items held c.requires.valid c.requires.of_table c.requires.query
+    c.requires.picked c.requires.loaded c.requires.groups_loaded c.at-setting.ensures
+    c.in-Ok.ensures.nodes c.in-Ok.ensures.counts c.in-Ok.ensures.keeps c.of_file-part.ensures.shape
+    c.of_file-part.ensures.counts c.of_file-part.ensures.nodes c.of_file-part.ensures.documents
+    c.documents_of.ensures c.in_ok-task.ensures.each c.in_ok-task.ensures.entries
+    c.in_ok-task.ensures.asks c.in_ok-columns.ensures c.as_slice.ensures.value c.in_ok-pairs.ensures
+    c.as_slice-2.ensures.value in
+    let own : c.of_tree.result ≡ segments.NotASegment bad = cc in
+    steps.ready_bad query table head t setting part task asked said held now ready
+    c.in-Ok.ensures.only_reads.held c.head_tells_law.ensures c.rows.result c.rows.ensures
+    c.served_law.ensures.never_bad
+    (c.in-Err-answer_tree.ensures.bad (ap Err (c.of_tree.ensures.bad bad own)))
+
+pub returns-clause-log_of_fault : goal.returns-clause-log_of_fault
+returns-clause-log_of_fault g c =
+    let query = c.args.query.now in
+    let table = c.args.table.now in
+    let head : Seen = c.args.head.now in
+    let t : ℕ = c.args.tree in
+    let setting = c.at-setting.result.now in
+    let part = c.of_file-part.result in
+    let task = c.in_ok-task.task in
+    let asked : Asked = record { columns = c.as_slice.result; pairs = c.as_slice-2.result } in
+    let said = c.in-Ok.opened.nodes in
+    let held : Option Files = g.S.Shelf.held c.args.shelf.now in
+    let now : Option Files = g.S.Shelf.held c.read_tree.new.shelf in
+    let ready = steps.ready_so query table head t setting part task asked said
+    c.in-Ok.opened.counts.items c.documents_of.result.now c.in_ok-columns.columns.items
+    c.in_ok-pairs.pairs.items held c.requires.valid c.requires.of_table c.requires.query
+    c.requires.picked c.requires.loaded c.requires.groups_loaded c.at-setting.ensures
+    c.in-Ok.ensures.nodes c.in-Ok.ensures.counts c.in-Ok.ensures.keeps c.of_file-part.ensures.shape
+    c.of_file-part.ensures.counts c.of_file-part.ensures.nodes c.of_file-part.ensures.documents
+    c.documents_of.ensures c.in_ok-task.ensures.each c.in_ok-task.ensures.entries
+    c.in_ok-task.ensures.asks c.in_ok-columns.ensures c.as_slice.ensures.value c.in_ok-pairs.ensures
+    c.as_slice-2.ensures.value in
+    steps.ready_partly query table head t setting part task asked said held now ready
+    c.in-Ok.ensures.only_reads.held c.head_tells_law.ensures c.rows.result c.rows.ensures
+    c.docs_read_law.ensures.read c.walkable_law.ensures.within
+    (g.S.Shelf.log c.args.shelf.now) (g.S.Shelf.log c.read_tree.new.shelf)
+    (g.S.Shelf.log c.answer_tree.new.shelf) c.in-Ok.ensures.log
+    c.in-Err-answer_tree.ensures.log_of_fault

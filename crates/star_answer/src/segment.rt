@@ -1,0 +1,107 @@
+//! A segment is answered from a star-tree of its file.
+
+ghost use Rattle.std.specs.Prelude.{◌≡◌, ◌-◌, ◌<◌, Err, IfOk, IsErrOf, OnErr, OnOk, Some, length};
+ghost use Rattle.outside.specs.Seen.{OnlyReads, seen};
+ghost use Rattle.agg_laws.specs.Numbers.{most_values};
+ghost use Rattle.table_schema.specs.ValidQuery.{IsValidQuery};
+ghost use Rattle.table_schema.specs.ValidTable.{IsValidTable};
+ghost use Rattle.group_table.specs.Kept.{IsTableOf, groups_in};
+ghost use Rattle.scan_engine.specs.Scanned.{HaveAtMost};
+ghost use Rattle.eligibility.specs.Rule.{picked};
+ghost use Rattle.segment_file.specs.declared.part.Part.{Part};
+ghost use Rattle.segment_file.specs.declared.part.Part.TheVariants as parts;
+ghost use Rattle.segment_file.specs.Heads.{IsHeadOf, place_in};
+ghost use Rattle.segment_file.specs.Stored.{IsNoImage};
+ghost use Rattle.segment_plan.specs.Matched.{AreLoaded};
+ghost use Rattle.star_answer.specs.declared.segment_fault.SegmentFault.TheVariants.{NotASegment};
+ghost use Rattle.star_answer.specs.declared.segment_fault.SegmentFault.TheVariants.{ReadFault};
+ghost use Rattle.star_answer.specs.declared.segment_fault.SegmentFault.TheVariants.{TooManyGroups};
+ghost use Rattle.star_answer.specs.Segments.{AddsAnswer, AreDocsRead, IsAnswerOverfull};
+ghost use Rattle.star_answer.specs.Segments.{LogsAnswer, LogsAnswerPartly};
+ghost use Rattle.star_answer.specs.Tasks.{AreGroupsLoaded};
+
+use crate::answer::answer_tree;
+use crate::asked::Asked;
+use crate::asking::{group_columns, pair_numbers};
+use crate::doc_laws::docs_read_law;
+use crate::laws::served_law;
+use crate::segment_fault::{SegmentFault, of_head, of_tree};
+use crate::tasks::tree_task;
+use crate::tree_part::TreePart;
+use group_table::GroupTable;
+use outside::{Place, Shelf};
+use segment_file::{Head, Part};
+use segment_plan::head_tells_law;
+use star_walk::walkable_law;
+use std::alloc::Global;
+use table_schema::{BoundQuery, Table};
+
+/// Merges what a query reads of a star-tree of a segment into its groups, and answers how many
+/// documents were read. The nodes of the tree are read, and of its documents just those of the walk,
+/// each once; no row.
+pub fn answer_segment<S: Shelf>(
+    alloc: Global,
+    shelf: &mut S,
+    head: &Head,
+    table: &Table,
+    tree: u8,
+    query: &BoundQuery,
+    groups: &mut GroupTable,
+) -> Result<u32, SegmentFault>
+    requires valid { IsValidTable table.now }
+    requires of_table { IsHeadOf table.now head.now }
+    requires query { IsValidQuery table.now query.now }
+    requires picked { picked query.now table.now.settings.trees ≡ Some tree }
+    requires loaded { AreLoaded query.now.conjuncts head.now }
+    requires groups_loaded { AreGroupsLoaded query.now.groups head.now }
+    requires of_query { IsTableOf query.now groups.old }
+    requires fits { HaveAtMost (most_values - head.now.rows) (groups_in groups.old) }
+    ensures count { IfOk result
+        (AreDocsRead query.now table.now (S.held shelf.old) head.now tree) }
+    ensures ok { OnOk result (AddsAnswer query.now table.now (S.held shelf.old) head.now
+        groups.old groups.new) }
+    ensures full { result ≡ Err TooManyGroups →
+        IsAnswerOverfull query.now table.now (S.held shelf.old) head.now groups.old }
+    ensures bad { (part : Part) → result ≡ Err (NotASegment part) →
+        IsNoImage table.now (S.held shelf.old) head.now }
+    ensures only_reads { OnlyReads (IsErrOf result ReadFault)
+        (seen S.Shelf shelf.old) (seen S.Shelf shelf.new) }
+    ensures log { IfOk result (λ count. LogsAnswer query.now table.now (S.held shelf.old) head.now
+        tree count (S.log shelf.old) (S.log shelf.new)) }
+    ensures log_of_fault { OnErr result (LogsAnswerPartly query.now table.now (S.held shelf.old)
+        head.now tree (S.log shelf.old) (S.log shelf.new)) }
+{
+    served_law();
+    docs_read_law();
+    walkable_law();
+    head_tells_law();
+    let opened = match head.read_tree(alloc, shelf, table, tree) {
+        Ok(opened) => opened,
+        Err(fault) => return Err(of_head(fault)),
+    };
+    let setting = table.settings.trees.at(tree as usize);
+    let task = tree_task(alloc, query, setting, head)?;
+    let columns = group_columns(alloc, query, setting, head)?;
+    let pairs = pair_numbers(alloc, query, setting)?;
+    let part = TreePart::of_file(setting, &opened, documents_of(head, table, tree));
+    let asked = Asked {
+        columns: columns.as_slice(),
+        pairs: pairs.as_slice(),
+    };
+    match answer_tree(alloc, shelf, &part, &task, &asked, head.rows(), groups) {
+        Ok(count) => Ok(count),
+        Err(fault) => Err(of_tree(fault, tree)),
+    }
+}
+
+// Where the documents of a tree are.
+fn documents_of<'a>(head: &'a Head, table: &Table, tree: u8) -> &'a Place
+    requires of_table { IsHeadOf table.now head.now }
+    requires tree { tree < length table.now.settings.trees }
+    ensures { place_in head.now.sections (parts.Star tree) ≡ Some result.now }
+{
+    match head.place(Part::Star(tree)) {
+        Some(place) => place,
+        None => unreachable!(),
+    }
+}
