@@ -27,7 +27,7 @@ pub fn outcome(
 }
 
 /// How many bytes are read to open a head, to count a column's values, to load its dictionary, to
-/// do both again, to load the nodes of the first star-tree, and to read the whole head.
+/// do both again, to read the nodes of the first star-tree, and to read the whole head.
 pub fn costs(
     alloc: Global,
     shelf: &mut CountingShelf,
@@ -63,7 +63,7 @@ fn try_costs(
     head.load_dictionary(alloc, shelf, table, 0)?;
     let again = shelf.taken();
     if !table.settings.trees.is_empty() {
-        head.load_nodes(alloc, shelf, table, 0)?;
+        let _ = head.read_tree(alloc, shelf, table, 0)?;
     }
     let nodes = shelf.taken();
     let _ = read_head(alloc, shelf, name, name, table)?;

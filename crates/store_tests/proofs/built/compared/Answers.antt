@@ -1,4 +1,4 @@
-use Rattle.std.proofs.Common.{◌≡◌, ◌∙◌, length, map, sym, ap}
+use Rattle.std.proofs.Common.{◌∙◌, length, sym, ap}
 use Rattle.std.proofs.lemmas.List.{length-map}
 use Rattle.csv_ingest.specs.Columns.{is_text_kind}
 use Rattle.csv_ingest.proofs.ValidLemmas.{valid-defaults}
