@@ -17,3 +17,4 @@ mod SpanLemmas
 mod PlaceLemmas
 mod HeadReads
 mod TreeReads
+mod OneReads
