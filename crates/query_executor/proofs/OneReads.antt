@@ -1,6 +1,7 @@
 -- What is read of the file of a segment, where files are told or not.
-use Rattle.std.proofs.Common.{◌≡◌, ◌∙◌, ◌<◌, ◌++◌, ◌⊎◌, [], ℕ, Bool, true, false, List, All, Option, Some, None, IfSome, inl, inr, length, map, option_map, slice_get, refl, sym, ap, subst, arith}
+use Rattle.std.proofs.Common.{◌≡◌, ◌∙◌, ◌<◌, ◌++◌, ◌⊎◌, [], ℕ, Bool, true, false, List, All, Option, Some, None, IfSome, Result, Ok, Err, inl, inr, length, map, option_map, slice_get, refl, sym, ap, subst, arith}
 use Rattle.std.proofs.lemmas.List.Elements.{All-append}
+use Rattle.std.specs.Prelude.{OnErr}
 use Rattle.outside.specs.Files.{Files}
 use Rattle.outside.specs.Reads.{Entry}
 use Rattle.values.specs.declared.value.Value.{Value}
@@ -12,7 +13,6 @@ use Rattle.segment_file.specs.Heads.{AreIn, IsHeadOf, Seen}
 use Rattle.segment_file.specs.Image.{front_of}
 use Rattle.segment_file.specs.Names.{IsSegmentName, file_of}
 use Rattle.segment_file.specs.Ordered.{ordered}
-use Rattle.segment_plan.specs.declared.plans.ScanPlan.{ScanPlan}
 use Rattle.segment_plan.specs.declared.plans.SegmentPlan.{SegmentPlan}
 use Rattle.segment_plan.specs.declared.plans.SegmentPlan.TheVariants.{Pruned, Empty, StarTree, Scan}
 use Rattle.segment_plan.specs.Planned.{plan_over}
@@ -26,6 +26,7 @@ use Rattle.query_executor.proofs.GrownLemmas.{grown_so, grown_that, grown_then}
 use Rattle.query_executor.proofs.HeadReads.{ends_at, head_raw, head_star, opened_entry, planned_after, sizes_each}
 use Rattle.query_executor.proofs.LogLemmas.{all_within, entries_as, entries_then, same_log}
 use Rattle.query_executor.proofs.ScanLogs.{at_place}
+use Rattle.query_executor.proofs.SpanLemmas.{planned_less}
 use Rattle.query_executor.proofs.TreeReads.{answer_reads, answer_reads_partly, planned_head}
 
 module _ (query : BoundQuery) (table : Table) (name : List ℕ) where
@@ -82,12 +83,6 @@ module _ (query : BoundQuery) (table : Table) (name : List ℕ) where
       let os : List (List Value) = ordered table.settings.sorted rows in
       subst (ReadsBy query table name os true entries) (done rows has).0 (quiet_reads os plan entries (heads rows has before entries was now) quiet)
 
-  -- one that is scanned
-  pub scan_one : (answered : Bool) (held : Option Files) (plan : ScanPlan) (docs : ℕ) (a b : Option (List Entry)) → IsDoneIn query table held name (Scan plan) docs → LogsOne (ReadsPlanned query table answered) table held name a b
-  scan_one answered None plan docs a b done = λ before entries was now. tt
-  scan_one answered (Some files) plan docs a b done = λ before entries was now rows has.
-      subst (ReadsBy query table name (ordered table.settings.sorted rows) answered entries) (done rows has).0 tt
-
   module _ (law : DocsAreBounded) (valid : IsValidTable table) where
     -- one of which the head alone was read, before the query was given up
     pub given_up : (held : Option Files) (a b : Option (List Entry)) → LogsHeadOne held a b → LogsOne (ReadsPlanned query table false) table held name a b
@@ -96,16 +91,19 @@ module _ (query : BoundQuery) (table : Table) (name : List ℕ) where
 
     -- one that is answered from a star-tree
     module _ (head : Seen) (of_table : IsHeadOf table head) (t : ℕ) (lt : t < length table.settings.trees) where
-      pub tree_one : (held : Option Files) (count docs : ℕ) (a b : Option (List Entry)) → IsDoneIn query table held name (StarTree t) docs → IsHeadIn table held name head → IsSpreadIn table held name head → LogsAnswer query table held head t count a b → LogsOne (ReadsPlanned query table true) table held name a b
-      tree_one None count docs a b done is spread logs = λ before entries was now. tt
-      tree_one (Some files) count docs a b done is spread logs = λ before entries was now rows has.
-          answer_reads law query table valid files name rows has t (sym (done rows has).0) lt head of_table (spread rows has) (is rows has) count a b logs before entries was now
+      abbrev IsTreePlanned : Option Files → Type 0
+      IsTreePlanned held = (files : Files) (rows : List (List Value)) → HasImage table files name rows → IsHeadIn table (Some files) name head → StarTree t ≡ plan_over query table (ordered table.settings.sorted rows)
 
-      pub tree_given_up : (held : Option Files) (docs : ℕ) (a b : Option (List Entry)) → IsDoneIn query table held name (StarTree t) docs → IsHeadIn table held name head → IsSpreadIn table held name head → LogsAnswerPartly query table held head t a b → LogsOne (ReadsPlanned query table false) table held name a b
-      tree_given_up None docs a b done is spread logs = λ before entries was now. tt
-      tree_given_up (Some files) docs a b done is spread logs = λ before entries was now rows has.
+      pub tree_one : (held : Option Files) (count : ℕ) (a b : Option (List Entry)) → IsTreePlanned held → IsHeadIn table held name head → IsSpreadIn table held name head → LogsAnswer query table held head t count a b → LogsOne (ReadsPlanned query table true) table held name a b
+      tree_one None count a b planned is spread logs = λ before entries was now. tt
+      tree_one (Some files) count a b planned is spread logs = λ before entries was now rows has.
+          answer_reads law query table valid files name rows has t (sym (planned files rows has is)) lt head of_table (spread rows has) (is rows has) count a b logs before entries was now
+
+      pub tree_given_up : (held : Option Files) (a b : Option (List Entry)) → IsTreePlanned held → IsHeadIn table held name head → IsSpreadIn table held name head → LogsAnswerPartly query table held head t a b → LogsOne (ReadsPlanned query table false) table held name a b
+      tree_given_up None a b planned is spread logs = λ before entries was now. tt
+      tree_given_up (Some files) a b planned is spread logs = λ before entries was now rows has.
           let (setting, at) = at_place table.settings.trees t lt in
-          answer_reads_partly law query table valid files name rows has t (sym (done rows has).0) lt head of_table (spread rows has) (is rows has) setting at a b logs before entries was now
+          answer_reads_partly law query table valid files name rows has t (sym (planned files rows has is)) lt head of_table (spread rows has) (is rows has) setting at a b logs before entries was now
 
   -- the head, and what comes after it
   pub headed_one : (answered : Bool) (held : Option Files) (a b c : Option (List Entry)) → LogsIn (file_of name) a b → LogsIn (file_of name) b c → LogsHeadOne held a b → LogsOne (ReadsPlanned query table answered) table held name b c → LogsOne (ReadsPlanned query table answered) table held name a c
@@ -114,3 +112,17 @@ module _ (query : BoundQuery) (table : Table) (name : List ℕ) where
       let os : List (List Value) = ordered table.settings.sorted rows in
       grown_then (All (EndsBy (file_of name) (ends_at table name os))) (ReadsPlanned query table answered name os) (ReadsPlanned query table answered name os) a b c x y made then (heads rows has)
       (λ bf es w n. one bf es w n rows has) (λ l m f s. planned_after query table name os answered l m f s) before entries was now
+
+-- what an answer has holds of one that is weaker
+pub one_less : (query : BoundQuery) (table : Table) (held : Option Files) (name : List ℕ) (a b : Option (List Entry)) → LogsOne (ReadsPlanned query table true) table held name a b → LogsOne (ReadsPlanned query table false) table held name a b
+one_less query table None name a b one = λ before entries was now. tt
+one_less query table (Some files) name a b one = λ before entries was now rows has. planned_less query table name (ordered table.settings.sorted rows) entries (one before entries was now rows has)
+
+-- the head says where the sections are still where more of it is loaded
+pub spread_later : (table : Table) (held : Option Files) (name : List ℕ) (old new : Seen) → new.sections ≡ old.sections → IsSpreadIn table held name old → IsSpreadIn table held name new
+spread_later table None name old new same spread = tt
+spread_later table (Some files) name old new same spread = λ rows has. same ∙ spread rows has
+
+pub err_so : {T E : Type 0} (r : Result T E) (A B : Type 0) → (A → B) → OnErr r A → OnErr r B
+err_so (Ok t) A B f h = tt
+err_so (Err e) A B f h = f h

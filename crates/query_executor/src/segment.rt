@@ -75,11 +75,11 @@ pub fn add_segment<S: Shelf>(
     ensures reads_of_fault { OnErr result (LogsOne (ReadsPlanned query.now table.now false)
         table.now (S.held shelf.old) name.now (S.log shelf.old) (S.log shelf.new)) }
 {
+    docs_bound_law();
     let mut head = match open_segment(alloc, shelf, table, name) {
         Ok(head) => head,
         Err(fault) => return Err(fault),
     };
-    docs_bound_law();
     head_tells_law();
     pruned_law();
     plan_over_law();
