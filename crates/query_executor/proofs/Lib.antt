@@ -15,3 +15,6 @@ mod GrownLemmas
 mod TreeLogs
 mod SpanLemmas
 mod PlaceLemmas
+mod HeadReads
+mod TreeReads
+mod OneReads
