@@ -9,4 +9,3 @@ pub mod ValidSettings
 pub mod ValidTable
 pub mod Conditions
 pub mod ValidQuery
-pub mod Unbuilt
