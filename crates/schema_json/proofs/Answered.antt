@@ -37,9 +37,3 @@ fault_unless-few vs ds m kind path same le = fault_unless-le (length ds) m kind 
 
 pub second_refuses : (a b c rest : Finding) (e : TextFault) → a ≡ None → c ≡ b → Refuses c e → Refuses (or_else a (or_else b rest)) e
 second_refuses a b c rest e none same refuses = λ other. ap (λ f. or_else f (or_else b rest)) none ∙ ap (λ g. or_else g rest) (sym same ∙ refuses other)
-
-pub third_refuses : (a b f g : Finding) (e : TextFault) → a ≡ None → b ≡ None → g ≡ f → Refuses g e → Refuses (or_else a (or_else b (or_else f None))) e
-third_refuses a b f g e none also same refuses = λ other. sym (third_of_three a b f none also) ∙ sym same ∙ refuses other
-
-pub all_none : (a b f : Finding) → a ≡ None → b ≡ None → f ≡ None → or_else a (or_else b (or_else f None)) ≡ None
-all_none a b f none also last = sym (third_of_three a b f none also) ∙ last
