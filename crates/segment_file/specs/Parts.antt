@@ -1,5 +1,5 @@
 -- The sections of a segment's file, and which of them a table's segments have.
-use Rattle.std.specs.Prelude.{◌≡◌, ℕ, ◌+◌, Bool, true, false, ◌==◌, ◌&&◌, List, [], ◌∷◌, ◌++◌, map, length, option_to_list}
+use Rattle.std.specs.Prelude.{ℕ, ◌+◌, Bool, true, false, ◌==◌, ◌&&◌, List, [], ◌∷◌, ◌++◌, map, length, option_to_list}
 use Rattle.std.specs.List.{range_with_len}
 use Rattle.table_schema.specs.declared.table.Table.{Table}
 use Rattle.segment_file.specs.declared.part.Part.{Part}
@@ -72,7 +72,3 @@ tail_sections table = raw_sections table ++ map parts.Star (trees_of table)
 -- the sections of a table's segments, in the order of the file: by kind, and then by owner
 abbrev pub sections_of : Table → List Part
 sections_of table = head_sections table ++ tail_sections table
-
--- a table without star-trees
-pub record IsPlainTable (table : Table) : Type 0 where
-  pub no_trees : length table.settings.trees ≡ 0
