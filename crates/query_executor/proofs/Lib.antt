@@ -18,3 +18,4 @@ mod PlaceLemmas
 mod HeadReads
 mod TreeReads
 mod OneReads
+mod Unread

@@ -24,6 +24,7 @@ use crate::ExecutorFault;
 use crate::pass::{Pass, pass_over};
 use outside::{Bytes, Name, Shelf};
 use sql_reply::{SqlFault, answer, bound_query};
+use star_answer::docs_bound_law;
 use std::alloc::Global;
 use table_schema::{BoundQuery, Table};
 
@@ -63,6 +64,7 @@ pub fn reply_to_query<S: Shelf>(
         LogsEach (ReadsPlanned query table.now false) table.now (S.held shelf.old) names.now
         (length names.now) (S.log shelf.old) (S.log shelf.new)) }
 {
+    docs_bound_law();
     match bound_query(alloc, sql, table, false) {
         Ok(bound) => reply_to_bound(alloc, shelf, table, names, &bound),
         Err(fault) => Err(ExecutorFault::Sql(fault)),
@@ -98,6 +100,7 @@ fn reply_to_bound<S: Shelf>(
         table.now (S.held shelf.old) names.now (length names.now)
         (S.log shelf.old) (S.log shelf.new)) }
 {
+    docs_bound_law();
     let mut pass = Pass::new(alloc, query, false)?;
     match pass_over(alloc, shelf, table, names, query, &mut pass) {
         Ok(()) => {}

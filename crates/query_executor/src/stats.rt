@@ -23,6 +23,7 @@ use crate::ExecutorFault;
 use crate::pass::{Pass, pass_over};
 use outside::{Bytes, Name, Seq, Shelf};
 use sql_reply::{SqlFault, answer, bound_query};
+use star_answer::docs_bound_law;
 use std::alloc::{AllocError, Global};
 use table_schema::{BoundQuery, Table};
 
@@ -62,6 +63,7 @@ pub fn stats_query<S: Shelf>(
         LogsEach (ReadsPlanned query table.now false) table.now (S.held shelf.old) names.now
         (length names.now) (S.log shelf.old) (S.log shelf.new)) }
 {
+    docs_bound_law();
     match bound_query(alloc, sql, table, false) {
         Ok(bound) => stats_of_bound(alloc, shelf, table, names, &bound),
         Err(fault) => Err(ExecutorFault::Sql(fault)),
@@ -97,6 +99,7 @@ fn stats_of_bound<S: Shelf>(
         table.now (S.held shelf.old) names.now (length names.now)
         (S.log shelf.old) (S.log shelf.new)) }
 {
+    docs_bound_law();
     let mut pass = Pass::new(alloc, query, true)?;
     match pass_over(alloc, shelf, table, names, query, &mut pass) {
         Ok(()) => {}

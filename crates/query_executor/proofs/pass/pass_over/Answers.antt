@@ -29,7 +29,7 @@ use Rattle.star_answer.specs.Docs.{DocsAreBounded}
 use Rattle.query_executor.specs.Reads.{LogsEach, ReadsPlanned}
 use Rattle.query_executor.proofs.GrownLemmas.{IsFileBefore, each_as, each_more, each_none, each_rest, more_before, none_before, this_before}
 use Rattle.query_executor.proofs.SpanLemmas.{planned_less, planned_of_file}
-use Rattle.query_executor.proofs.TreeReads.{planned_head}
+use Rattle.query_executor.proofs.Unread.{nothing_read}
 use Rattle.query_executor.proofs.pass.pass_over.Goals as goal
 
 pub names-init : goal.names-init
@@ -150,11 +150,6 @@ returns-clause-reads g c =
     let names : List (List ℕ) = c.args.names.now in
     let done : c.names.at ≡ length names = omega arith in
     subst (λ k. LogsEach (ReadsPlanned c.args.query.now c.args.table.now true) c.args.table.now (g.S.Shelf.held c.args.shelf.now) names k (g.S.Shelf.log c.args.shelf.now) (g.S.Shelf.log c.names.shelf)) done c.names.invariant.each
-
--- of an image the rows are few
-nothing_read : DocsAreBounded → (query : BoundQuery) (table : Table) → IsValidTable table → (held : Option Files) → IfSome held (λ files. (name : List ℕ) (rows : List (List Value)) → HasImage table files name rows → ReadsPlanned query table false name (ordered table.settings.sorted rows) [])
-nothing_read law query table valid None = tt
-nothing_read law query table valid (Some files) = λ name rows has. planned_head law query table valid files name rows has [] (λ k d lt. absurd (omega (arith, lt)))
 
 pub returns-in-Err-clause-reads_of_fault : goal.returns-in-Err-clause-reads_of_fault
 returns-in-Err-clause-reads_of_fault g c =
