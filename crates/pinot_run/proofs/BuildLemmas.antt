@@ -366,7 +366,7 @@ module _ (name csv : List ℕ) (named : IsSegmentName name) (i j a b : Seen) (ta
         record {
           touched = record { inputs = (j, reads, refl); depot = looked_written (file_of name ∷ []) a b d place.reads place.log writes };
           counted = none name csv named i j a d b fine place.reads quiet read (still (λ e. cc));
-          ended = acted name csv named i j a d (Replies text) over refl;
+          ended = acted name csv named i j a d (Replies text) over (refl, tt);
         }
     ran_published (Err (stop.Refused line)) still (is, large, kept) =
         let may : rows_refuse line ≡ true = subst (λ l. rows_refuse l ≡ true) (sym is) refl in

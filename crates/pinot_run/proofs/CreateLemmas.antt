@@ -177,7 +177,7 @@ module _ (schema settings : List ℕ) (inputs inputs_new depot : Seen) (reads : 
   ran_made texts table depot_new (Ok text) told writes none fine no_read no_write (lacks, published, is) = record {
     touched = record { inputs = reads; depot = writes };
     counted = record { inputs = fine; depot_reads = no_read (λ e. cc); depot_writes = no_write (λ e. cc) };
-    ended = acted (Ok (texts, table)) (Replies text) depot_new (record { there = false; known = lacks; answers = ap Replies is; leaves = published }) told refl;
+    ended = acted (Ok (texts, table)) (Replies text) depot_new (record { there = false; known = lacks; answers = ap Replies is; leaves = published }) told (refl, tt);
   }
   ran_made texts table depot_new (Err (stop.Refused line)) told writes none fine no_read no_write (is, has, kept) =
       let exists : Of schema settings inputs inputs_new depot depot_new (Err (stop.Refused note.TableExists)) = record {

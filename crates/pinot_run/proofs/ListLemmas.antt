@@ -81,7 +81,7 @@ module _ (inputs old new : Seen) where
   ran_list (Ok text) l = record {
     touched = record { inputs = refl; depot = looked l.reads l.log };
     counted = none l.reads (λ e. e);
-    ended = acted (Replies text) l.reads.held l.found refl;
+    ended = acted (Replies text) l.reads.held l.found (refl, tt);
   }
   ran_list (Err (stop.Refused line)) l = record {
     touched = record { inputs = refl; depot = looked l.reads l.log };

@@ -22,7 +22,7 @@ use Rattle.pinot_run.specs.Command.{Ask}
 use Rattle.pinot_run.specs.Gives.{AnswersQuery, IsQueryStop, IsSegmentStop, LooksFor, NamesOneOf, StopsQuery, StopsStore, sql_stop}
 use Rattle.pinot_run.specs.Notes.{sql_note}
 use Rattle.pinot_run.specs.Profile.{TableFile, StoreFiles, makes_groups, query_refuses, sql_refuses}
-use Rattle.pinot_run.specs.Queried.{HasNoReply, HasReply, IsFaultOf, IsQueried, QueryRefuses}
+use Rattle.pinot_run.specs.Queried.{HasNoReply, HasReply, IsFaultOf, IsQueried, QueryRefuses, ReadsAbout}
 use Rattle.pinot_run.specs.Ran.{Acted, Caused, Finds, IsAllowed, Over, Queries, Ran}
 use Rattle.pinot_run.specs.Step.{Answer, Refuses, Replies}
 use Rattle.pinot_run.specs.Stored.{HasTableFile, TableRefuses, part_text}
@@ -37,6 +37,7 @@ use Rattle.pinot_run.specs.declared.stop.Stop.{Stop}
 use Rattle.pinot_run.specs.declared.stop.Stop.TheVariants as stop
 use Rattle.pinot_run.proofs.ListLemmas.{looked, none}
 use Rattle.pinot_run.proofs.MachineLemmas.{steps_over}
+use Rattle.pinot_run.proofs.ReadLemmas.{about_after}
 use Rattle.pinot_run.proofs.StoredLemmas.{first_have, logs_then, more_opened, reads_as, reads_then, told_all, told_both, told_each, weaker}
 
 -- ---- looks before the query
@@ -64,19 +65,22 @@ stops_query about sql held (stop.Fault fault.Memory) h = tt
 
 -- a look that stopped
 pub look_stopped : {A : Type 0} (F : Files → A → Type 0) (about : About) (sql : List ℕ) (a b : Seen) (why : Stop) → LooksFor F TableRefuses TableFile a b (Err why) → AnswersQuery about sql a b (Err why)
-look_stopped F about sql a b why l = record { reads = l.reads; log = more_opened a.log b.log l.log; found = tt; stops = stops_query about sql a.held why l.stops }
+look_stopped F about sql a b why l = record { reads = l.reads; log = more_opened a.log b.log l.log; found = tt; consulted = tt; stops = stops_query about sql a.held why l.stops }
 
 -- what came after looks that did not stop
-pub query_after : (about : About) (sql : List ℕ) (a b c : Seen) (result : Result (List ℕ) Stop) → OnlyReads ⊥ a b → LogsOpened StoreFiles a.log b.log → AnswersQuery about sql b c result → AnswersQuery about sql a c result
+pub query_after : (about : About) (sql : List ℕ) (a b c : Seen) (result : Result (List ℕ) Stop) → OnlyReads ⊥ a b → LogsOpened TableFile a.log b.log → AnswersQuery about sql b c result → AnswersQuery about sql a c result
 query_after about sql a b c (Ok text) m log l = record {
   reads = reads_then a b c m l.reads;
-  log = logs_then a.log b.log c.log log l.log;
+  log = logs_then a.log b.log c.log (more_opened a.log b.log log) l.log;
+  consulted = subst (λ held. IfSome held (λ files. ReadsAbout about files sql a.log c.log)) m.held
+      (told_each b.held (λ files. ReadsAbout about files sql b.log c.log) (λ files. ReadsAbout about files sql a.log c.log) (λ files r. about_after about files sql a.log b.log c.log log l.log r) l.consulted);
   found = subst (λ held. IfSome held (λ files. IsQueried about files sql text)) m.held l.found;
   stops = tt;
 }
 query_after about sql a b c (Err why) m log l = record {
   reads = reads_then a b c m l.reads;
-  log = logs_then a.log b.log c.log log l.log;
+  log = logs_then a.log b.log c.log (more_opened a.log b.log log) l.log;
+  consulted = tt;
   found = tt;
   stops = subst (λ held. StopsQuery about sql held why) m.held l.stops;
 }
@@ -118,8 +122,9 @@ module _ (about : About) (table : Table) (names : List (List ℕ)) (sql : List �
   abbrev Found : Files → Type 0
   Found files = HasTableFile files table × AreFirstNames files names
 
-  pub query_replied : {F : Type 0} (text : List ℕ) → OnlyReads F a b → ¬ F → IfSome a.held (λ files. HasReply about table files names sql (Ok text)) → AnswersQuery about sql a b (Ok text)
-  query_replied text reads fine reply = record {
+  pub query_replied : {F : Type 0} (text : List ℕ) → OnlyReads F a b → ¬ F → IfSome a.held (λ files. HasReply about table files names sql (Ok text)) → IfSome a.held (λ files. ReadsAbout about files sql a.log b.log) → AnswersQuery about sql a b (Ok text)
+  query_replied text reads fine reply consulted = record {
+    consulted = consulted;
     reads = reads_as a b reads (λ e. absurd e) (λ f. fine f);
     log = names_opened names a.log b.log named log;
     found = told_both a.held Found (λ files. HasReply about table files names sql (Ok text)) (λ files. IsQueried about files sql text)
@@ -128,7 +133,7 @@ module _ (about : About) (table : Table) (names : List (List ℕ)) (sql : List �
   }
 
   stopped : {F : Type 0} (s : Stop) → OnlyReads F a b → (s ≡ stop.Fault fault.Read → F) → (F → s ≡ stop.Fault fault.Read) → StopsQuery about sql a.held s → AnswersQuery about sql a b (Err s)
-  stopped s reads from to by = record { reads = reads_as a b reads from to; log = names_opened names a.log b.log named log; found = tt; stops = by }
+  stopped s reads from to by = record { reads = reads_as a b reads from to; log = names_opened names a.log b.log named log; found = tt; consulted = tt; stops = by }
 
   no_reply : (wrong : SqlFault) → IfSome a.held (λ files. IsFaultOf about table files names sql wrong) → IfSome a.held (λ files. HasNoReply about files sql (sql_note wrong))
   no_reply wrong is =
@@ -220,7 +225,7 @@ module _ (about : About) (sql : List ℕ) (inputs old new : Seen) where
   ran_query (Ok text) l = record {
     touched = record { inputs = refl; depot = looked inputs old new l.reads l.log };
     counted = none inputs old new l.reads (λ e. e);
-    ended = acted (Replies text) l.reads.held l.found refl;
+    ended = acted (Replies text) l.reads.held l.found (refl, l.consulted);
   }
   ran_query (Err (stop.Refused line)) l = record {
     touched = record { inputs = refl; depot = looked inputs old new l.reads l.log };

@@ -149,7 +149,7 @@ module _ (file sql : List ℕ) (inputs inputs_new depot : Seen) (reads : ReadsFr
   -- the file was read, and the query over it has this reply
   pub ran_replied : (bytes text : List ℕ) → inputs_new.read_faults ≡ inputs.read_faults → IsWhole inputs.held file 134217728 bytes → text_reply sql bytes ≡ Ok text → Of (Ok text)
   ran_replied bytes text still whole is =
-      ran _ (none still) (acted (Replies text) (subst (λ r. IfSome inputs.held (IsOf file sql (answered r))) is (of_whole inputs.held file sql bytes whole)) refl)
+      ran _ (none still) (acted (Replies text) (subst (λ r. IfSome inputs.held (IsOf file sql (answered r))) is (of_whole inputs.held file sql bytes whole)) (refl, tt))
 
   ran_refused : (bytes : List ℕ) (wrong : ScanFault) → inputs_new.read_faults ≡ inputs.read_faults → IsWhole inputs.held file 134217728 bytes → text_reply sql bytes ≡ Err wrong → Of (Err (stop.Refused (scan_note wrong)))
   ran_refused bytes wrong still whole is =

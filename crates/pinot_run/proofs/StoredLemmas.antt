@@ -82,7 +82,7 @@ head_opened : (table : Table) (name file : List ℕ) (held : Option Files) (old 
 head_opened table name file held old new is named (to, (entries, more, each), within) =
     (entries, more, weaker (λ entry. entry.file ≡ file) (λ entry. IsStoreFile entry.file) entries (λ entry e. inr (name, named, e ∙ is)) (of_file file 0 to entries each))
 
-join_logs : (a : Option (List Entry)) (x y : List Entry) → option_map (λ before. before ++ y) (option_map (λ before. before ++ x) a) ≡ option_map (λ before. before ++ (x ++ y)) a
+pub join_logs : (a : Option (List Entry)) (x y : List Entry) → option_map (λ before. before ++ y) (option_map (λ before. before ++ x) a) ≡ option_map (λ before. before ++ (x ++ y)) a
 join_logs None x y = refl
 join_logs (Some entries) x y = ap Some (append_assoc entries x y)
 

@@ -11,9 +11,9 @@ mod LineLemmas
 mod NameLemmas
 mod DoneLemmas
 mod StatedLemmas
-mod GrownLemmas
+pub mod GrownLemmas
 mod TreeLogs
-mod SpanLemmas
+pub mod SpanLemmas
 mod PlaceLemmas
 mod HeadReads
 mod TreeReads

@@ -3,7 +3,8 @@ use Rattle.outside.specs.Seen.{Seen, seen}
 use Rattle.table_store.specs.Segments.{AreFirstNames}
 use Rattle.pinot_run.specs.Stored.{HasTableFile}
 use Rattle.pinot_run.proofs.QueryLemmas.{look_stopped, query_after, query_handed, ran_query, same_found}
-use Rattle.pinot_run.proofs.StoredLemmas.{logs_then, more_opened, reads_then}
+use Rattle.pinot_run.proofs.ReadLemmas.{table_then}
+use Rattle.pinot_run.proofs.StoredLemmas.{reads_then}
 use Rattle.pinot_run.proofs.query.ask.Goals as goal
 
 pub returns-in_err-table : goal.returns-in_err-table
@@ -23,7 +24,7 @@ returns-in_err-names g c = λ inputs.
     let first = c.in_ok-table.ensures.looks in
     ran_query c.args.about c.args.sql.now inputs a d c.from_residual-in_err-names.result
     (query_handed c.args.about c.args.sql.now a d c.from_residual-in_err-names.result why c.from_residual-in_err-names.ensures.1
-    (query_after c.args.about c.args.sql.now a b d _ first.reads (more_opened a.log b.log first.log) (look_stopped AreFirstNames c.args.about c.args.sql.now b d why c.in_err-names.ensures.looks)))
+    (query_after c.args.about c.args.sql.now a b d _ first.reads first.log (look_stopped AreFirstNames c.args.about c.args.sql.now b d why c.in_err-names.ensures.looks)))
 
 pub reply_over-requires-clause-there : goal.reply_over-requires-clause-there
 reply_over-requires-clause-there g c =
@@ -44,4 +45,4 @@ returns g c = λ inputs.
     let first = c.in_ok-table.ensures.looks in
     let second = c.in_ok-names.ensures.looks in
     ran_query c.args.about c.args.sql.now inputs a f c.reply_over.result
-    (query_after c.args.about c.args.sql.now a d f c.reply_over.result (reads_then a b d first.reads second.reads) (logs_then a.log b.log d.log (more_opened a.log b.log first.log) (more_opened b.log d.log second.log)) c.reply_over.ensures)
+    (query_after c.args.about c.args.sql.now a d f c.reply_over.result (reads_then a b d first.reads second.reads) (table_then a.log b.log d.log first.log second.log) c.reply_over.ensures)

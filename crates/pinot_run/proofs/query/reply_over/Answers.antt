@@ -4,6 +4,7 @@ use Rattle.query_executor.proofs.ReplyLemmas.{text_real}
 use Rattle.pinot_run.specs.declared.about.About.TheVariants.{Plans, Rows, RowsAndPlans}
 use Rattle.pinot_run.specs.Gives.{AnswersQuery}
 use Rattle.pinot_run.proofs.QueryLemmas.{heads_of, one_of, plans_wrong, query_replied, query_stopped}
+use Rattle.pinot_run.proofs.ReadLemmas.{heads_read, segments_read}
 use Rattle.pinot_run.proofs.query.reply_over.Goals as goal
 
 pub stop_of-requires : goal.stop_of-requires
@@ -15,7 +16,8 @@ returns-in-Ok g c =
     let b : Seen = seen g.D.Shelf c.reply_to_query.new.shelf in
     let e = c.in-Ok.ensures in
     subst (λ about. AnswersQuery about c.args.sql.now a b (Ok c.in-Ok.text)) (sym c.in-Rows.is)
-    (query_replied Rows c.args.table.now c.args.names.now c.args.sql.now a b c.requires.named c.requires.there e.log c.in-Ok.text e.only_reads (λ f. cc) e.reply)
+    (query_replied Rows c.args.table.now c.args.names.now c.args.sql.now a b c.requires.named c.requires.there e.log c.in-Ok.text e.only_reads (λ f. cc) e.reply
+    (segments_read a.held c.args.table.now c.args.names.now c.args.sql.now a.log b.log c.requires.there e.reads))
 
 pub returns-in-Err : goal.returns-in-Err
 returns-in-Err g c =
@@ -35,7 +37,8 @@ returns-in-Ok-explain_query g c =
     let b : Seen = seen g.D.Shelf c.explain_query.new.shelf in
     let e = c.in-Ok-explain_query.ensures in
     subst (λ about. AnswersQuery about c.args.sql.now a b (Ok c.in-Ok-explain_query.text)) (sym c.in-Plans.is)
-    (query_replied Plans c.args.table.now c.args.names.now c.args.sql.now a b c.requires.named c.requires.there (heads_of c.args.table.now a.held c.args.names.now a.log b.log e.log) c.in-Ok-explain_query.text e.only_reads (λ f. cc) e.reply)
+    (query_replied Plans c.args.table.now c.args.names.now c.args.sql.now a b c.requires.named c.requires.there (heads_of c.args.table.now a.held c.args.names.now a.log b.log e.log) c.in-Ok-explain_query.text e.only_reads (λ f. cc) e.reply
+    (heads_read a.held c.args.table.now c.args.names.now a.log b.log c.requires.there e.log))
 
 pub returns-in-Err-explain_query : goal.returns-in-Err-explain_query
 returns-in-Err-explain_query g c =
@@ -58,7 +61,8 @@ returns-in-Ok-stats_query g c =
     let b : Seen = seen g.D.Shelf c.stats_query.new.shelf in
     let e = c.in-Ok-stats_query.ensures in
     subst (λ about. AnswersQuery about c.args.sql.now a b (Ok c.in-Ok-stats_query.text)) (sym c.in-RowsAndPlans.is)
-    (query_replied RowsAndPlans c.args.table.now c.args.names.now c.args.sql.now a b c.requires.named c.requires.there e.log c.in-Ok-stats_query.text e.only_reads (λ f. cc) e.reply)
+    (query_replied RowsAndPlans c.args.table.now c.args.names.now c.args.sql.now a b c.requires.named c.requires.there e.log c.in-Ok-stats_query.text e.only_reads (λ f. cc) e.reply
+    (segments_read a.held c.args.table.now c.args.names.now c.args.sql.now a.log b.log c.requires.there e.reads))
 
 pub returns-in-Err-stats_query : goal.returns-in-Err-stats_query
 returns-in-Err-stats_query g c =
