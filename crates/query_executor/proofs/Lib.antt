@@ -15,3 +15,5 @@ mod GrownLemmas
 mod TreeLogs
 mod SpanLemmas
 mod PlaceLemmas
+mod PartPlaces
+mod WithinLogs
