@@ -17,3 +17,5 @@ mod SpanLemmas
 mod PlaceLemmas
 mod PartPlaces
 mod WithinLogs
+mod IndexReads
+mod ScanReads

@@ -130,7 +130,7 @@ buckets_partly held place count rows low high old new (inr (parts, are, partly))
     over_partly place.file (bucket_offsets place.offset low high ∷ map (entries_at place.offset (buckets_for count)) (in_turn parts)) old new partly
 
 -- an item at each place of a list
-at_place : {X : Type 0} (xs : List X) (at : ℕ) → at < length xs → (x : X) × (slice_get xs at ≡ Some x)
+pub at_place : {X : Type 0} (xs : List X) (at : ℕ) → at < length xs → (x : X) × (slice_get xs at ≡ Some x)
 at_place [] at lt = absurd (omega (arith, lt))
 at_place (x ∷ xs) zero lt = (x, refl)
 at_place (x ∷ xs) (suc at) lt = at_place xs at (omega (arith, lt))
