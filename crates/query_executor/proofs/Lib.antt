@@ -18,4 +18,5 @@ mod PlaceLemmas
 mod PartPlaces
 mod WithinLogs
 mod IndexReads
+mod ForwardReads
 mod ScanReads

@@ -22,7 +22,7 @@ use Rattle.table_schema.specs.declared.table.Table.{Table}
 use Rattle.table_schema.specs.ValidTable.{IsValidTable}
 use Rattle.segment_file.specs.declared.part.Part.TheVariants.{Forward}
 use Rattle.segment_file.specs.Front.{extents_of}
-use Rattle.segment_file.specs.Heads.{IsHeadOf, IsLoaded, Seen, placed}
+use Rattle.segment_file.specs.Heads.{IsHeadOf, IsLoaded, Seen, place_in, placed}
 use Rattle.segment_file.specs.Image.{count_of, front_of}
 use Rattle.segment_file.specs.Image as segment
 use Rattle.segment_file.specs.Names.{file_of}
@@ -34,7 +34,7 @@ use Rattle.segment_plan.specs.declared.plans.ScanPlan.{ScanPlan}
 use Rattle.table_schema.specs.declared.query.Conjunct.TheVariants.{One, Many}
 use Rattle.segment_scan.specs.Bytes.{GrowsBy}
 use Rattle.segment_scan.specs.Documents.{LogsDocs, LogsDocsPartly}
-use Rattle.segment_scan.specs.Forward.{IsReadable, LogsColumns, LogsForward, LogsNamed, LogsPart, LogsPartly, LogsSome, width_in}
+use Rattle.segment_scan.specs.Forward.{IsReadable, LogsColumns, LogsForward, LogsNamed, LogsPart, LogsPartly, LogsSome, count_in, width_in}
 use Rattle.segment_scan.specs.Images.{AreLeftFor, AreNamedLoaded, ImagesLeave, ImagesRead, IsOfImage, LogsScan, LogsScanPartly, choices_for, indexed_for, names_in, rest_for}
 use Rattle.segment_scan.specs.Indexes.{LogsAt, LogsAtPartly}
 use Rattle.segment_scan.specs.Picked.{LogsIf, LogsIfPartly, LogsPicked, LogsPickedPartly, LogsRuns, LogsRunsPartly, ids_of_run}
@@ -56,204 +56,187 @@ use Rattle.query_executor.proofs.ScanLogs.{at_place}
 use Rattle.query_executor.proofs.SegmentLemmas.{rows_few}
 use Rattle.query_executor.proofs.SpanLemmas.{before_part}
 use Rattle.query_executor.proofs.WithinLogs.{IsWithin, LiesIn, after_part, grows_less, grows_partly, grows_up, lies_end, marks_bytes, marks_few, on_lies, one_if, over_lies, part_grows, part_that, partly_lies, read_few, same_lies, series_grows, series_that, up_lies}
+use Rattle.std.specs.List.{range_with_len}
+use Rattle.segment_plan.specs.declared.plans.SegmentPlan.TheVariants.{Scan}
+use Rattle.segment_scan.specs.Named.{query_names}
+use Rattle.query_executor.specs.Stated.{docs_by}
+use Rattle.query_executor.proofs.ForwardReads.{LiesBefore, columns_before, columns_grow, docs_before, docs_grow, partly_before, partly_grow, some_before, some_grow}
 
--- ---- ids of columns
+-- ---- where no conjunct is indexed
 
-end_by : (b : Bool) (a c whole : ℕ) → a ≤ whole → c ≤ whole → (if b then bytes_for a else c / 8) ≤ bytes_for whole
-end_by true a c whole first last = omega (arith, first)
-end_by false a c whole first last = omega (arith, last)
+served_indexed : (choice : IndexChoice) (conjunct : Conjunct) → is_served choice conjunct ≡ true → is_indexed choice conjunct ≡ true
+served_indexed choices.Sorted (One column test) is = refl
+served_indexed choices.Inverted (One column test) is = refl
+served_indexed choices.Range conjunct is = absurd (false≢true is)
+served_indexed choices.Unindexed conjunct is = absurd (false≢true is)
+served_indexed choices.Sorted (Many wide) is = absurd (false≢true is)
+served_indexed choices.Inverted (Many wide) is = absurd (false≢true is)
 
--- ids end within those of all rows
-end_few : (width first to rows : ℕ) → first ≤ rows → to ≤ rows → end_byte width first to ≤ bytes_for (rows * width)
-end_few width first to rows begins ends = end_by (nat_lt first to) (to * width) (first * width) (rows * width) (mul-le to width rows width ends (omega arith)) (mul-le first width rows width begins (omega arith))
+all_unserved : (cs : List IndexChoice) (conjuncts : List Conjunct) → indexed cs conjuncts ≡ [] → unserved cs conjuncts ≡ conjuncts
+all_unserved [] conjuncts none = refl
+all_unserved (c ∷ cs) [] none = refl
+all_unserved (c ∷ cs) (y ∷ ys) none = go (is_indexed c y) (is_served c y) refl refl none (all_unserved cs ys)
+  where
+    go : (b s : Bool) → is_indexed c y ≡ b → is_served c y ≡ s → (if b then one_chosen c y ∷ indexed cs ys else indexed cs ys) ≡ [] → (indexed cs ys ≡ [] → unserved cs ys ≡ ys) → (if s then unserved cs ys else y ∷ unserved cs ys) ≡ y ∷ ys
+    go true s b_is s_is none later = absurd (let long : suc (length (indexed cs ys)) ≡ 0 = ap length none in omega (arith, long))
+    go false true b_is s_is none later = absurd (false≢true (sym b_is ∙ served_indexed c y s_is))
+    go false false b_is s_is none later = ap (λ l. y ∷ l) (later none)
 
-marked_within : (named : List Bool) (at : ℕ) → get_or named at false ≡ true → at < length named
-marked_within [] at is = absurd (false≢true is)
-marked_within (b ∷ bs) zero is = omega arith
-marked_within (b ∷ bs) (suc at) is = let rest = marked_within bs at is in omega (arith, rest)
+-- all of the query is left
+rest_is : (query : BoundQuery) (cs : List IndexChoice) → indexed cs query.conjuncts ≡ [] → rest_of query cs ≡ query
+rest_is query cs none = ap (λ l. record query { conjuncts = l }) (all_unserved cs query.conjuncts none)
 
-module _ (table : Table) (name : List ℕ) (head : Seen) (rows : List (List Value)) (sections : head.sections ≡ map (placed (file_of name)) (extents_of table name (front_of 1 table rows))) (tells : TellsOf table rows head) (of_table : IsHeadOf table head) where
-  abbrev high : ℕ
-  high = (raw_span table name rows).to
+-- ---- a scan of an image
 
-  -- a read before the documents of the star-trees
-  abbrev LiesBefore : Entry → Type 0
-  LiesBefore = LiesIn (file_of name) 0 high
+module _ (query : BoundQuery) (table : Table) (name : List ℕ) (head : Seen) (rows : List (List Value)) (of_table : IsHeadOf table head) (loaded : AreNamedLoaded query head)
+    (sections : head.sections ≡ map (placed (file_of name)) (extents_of table name (front_of 1 table rows))) (tells : TellsOf table rows head) (held : Option Files) where
+  abbrev Early : Entry → Type 0
+  Early = LiesBefore table name head rows sections tells of_table
 
-  width_small : (column : ℕ) → IsLoaded head column → width_in head column ≤ 20
-  width_small column loaded =
-      let same = count_are table name head rows sections tells column loaded in
-      let few = distinct_few (segment.values_in column rows) in
-      let long = length-map rows (value_in column) in
-      let many = rows_few table head of_table in
-      let count = tells.rows_are in
-      (width-least (segment_count column) (omega (arith, same, few, long, many, count))).2.1 20 (omega arith) (omega (arith, same, few, long, many, count))
+  abbrev Behind : Entry → Type 0
+  Behind = LiesBehind table name head rows sections tells
+
+  abbrev rest : BoundQuery
+  rest = rest_for query table head
+
+  -- the told log grew by reads that gave at most so many bytes of the forward indexes
+  abbrev LogsMost : ℕ → Option (List Entry) → Option (List Entry) → Type 0
+  LogsMost most old new = (x : List Entry) × (new ≡ option_map (λ l. l ++ x) old) × (bytes_read x name (forward_span table name rows) ≤ most)
+
+  most_grown : (most : ℕ) (a b : Option (List Entry)) → GrowsBy most a b → LogsMost most a b
+  most_grown most a b (x, made, few) = (x, made, let less = read_few x (file_of name) (forward_span table name rows).from (forward_span table name rows).to in omega (arith, less, few))
+
+  none_behind : (a b : Option (List Entry)) → LogsThat Behind a b → LogsMost 0 a b
+  none_behind a b (x, made, all) =
+      (x, made, let none = after_part (file_of name) (forward_span table name rows).to (forward_span table name rows).from (forward_span table name rows).to (raw_span table name rows).to x (omega arith) all in omega (arith, none))
+
+  most_then : (most : ℕ) (a b c : Option (List Entry)) → LogsMost 0 a b → LogsMost most b c → LogsMost most a c
+  most_then most a b c (x, made, none) (y, next, few) =
+      let sum = read_in-append x y (file_of name) (forward_span table name rows).from (forward_span table name rows).to in
+      (x ++ y, next ∙ ap (option_map (λ l. l ++ y)) made ∙ join_logs a x y, omega (arith, sum, none, few))
+
+  most_less : (less most : ℕ) (a b : Option (List Entry)) → less ≤ most → LogsMost less a b → LogsMost most a b
+  most_less less most a b le (x, made, few) = (x, made, omega (arith, few, le))
+
+  early_behind : (a b : Option (List Entry)) → LogsThat Behind a b → LogsThat Early a b
+  early_behind a b logs = entries_as Behind Early a b (λ entry l. record { file_is = l.file_is; begins = omega arith; ends = l.ends }) logs
+
+  -- ---- the reads of a scan
+
+  readable : (q : BoundQuery) → AreNamedLoaded q head → (column : ℕ) → get_or (names_in q table) column false ≡ true → IsReadable head column
+  readable q all column marked = loaded_readable table head column of_table (all column (mark_named q table (names_in q table) refl column marked))
+
+  left_readable : (column : ℕ) → get_or (names_in rest table) column false ≡ true → IsReadable head column
+  left_readable = readable rest (rest_loaded query (choices_for query table head) head loaded)
+
+  names_count : length (names_in query table) ≡ length table.schema.fields
+  names_count = length-map (range_with_len 0 (length table.schema.fields)) (query_names query) ∙ length-range_with_len 0 (length table.schema.fields)
+
+  indexes_behind : (a b : Option (List Entry)) → LogsTo (LogsAt held head (choices_for query table head) query.conjuncts) (length query.conjuncts) a b → LogsThat Behind a b
+  indexes_behind a b logs = series_that Behind (LogsAt held head (choices_for query table head) query.conjuncts) (length query.conjuncts) one (length query.conjuncts) (omega arith) a b logs
     where
-      abbrev segment_count : ℕ → ℕ
-      segment_count column = count_of rows column
+      one : (at : ℕ) → at < length query.conjuncts → (a b : Option (List Entry)) → LogsAt held head (choices_for query table head) query.conjuncts at a b → LogsThat Behind a b
+      one at lt a b logs =
+          let (conjunct, is) = at_place query.conjuncts at lt in
+          indexed_behind table name head rows sections tells held a b (choice_at (choices_for query table head) at) conjunct (ready_for query table head of_table loaded at conjunct is) (logs conjunct is)
 
-  module _ (column : ℕ) (is : IsReadable head column) where
-    ids_end : (place : Place) → IsRawPlace table name rows (Forward column) place → (first to : ℕ) → first ≤ head.rows → to ≤ head.rows → place.offset + end_byte (width_in head column) first to ≤ high
-    ids_end place raw first to begins ends =
-        let last = raw.ends in
-        let long = raw.long in
-        let size = forward_size table rows column in
-        let few = end_few (width_in head column) first to head.rows begins ends in
-        let same : bytes_for (head.rows * width_in head column) ≡ bytes_for (length rows * width_of (count_of rows column)) = (λ i. bytes_for (tells.rows_are i * width_of (count_are table name head rows sections tells column is.loaded i))) in
-        omega (arith, last, long, size, few, same)
+  indexes_partly : (a b : Option (List Entry)) → LogsPartOf (LogsAt held head (choices_for query table head) query.conjuncts) (LogsAtPartly held head (choices_for query table head) query.conjuncts) (length query.conjuncts) a b → LogsThat Behind a b
+  indexes_partly a b logs =
+      part_that Behind (LogsAt held head (choices_for query table head) query.conjuncts) (length query.conjuncts) whole (LogsAtPartly held head (choices_for query table head) query.conjuncts) partly a b logs
+    where
+      whole : (at : ℕ) → at < length query.conjuncts → (a b : Option (List Entry)) → LogsAt held head (choices_for query table head) query.conjuncts at a b → LogsThat Behind a b
+      whole at lt a b logs =
+          let (conjunct, is) = at_place query.conjuncts at lt in
+          indexed_behind table name head rows sections tells held a b (choice_at (choices_for query table head) at) conjunct (ready_for query table head of_table loaded at conjunct is) (logs conjunct is)
 
-    whole_few : end_byte (width_in head column) 0 head.rows - first_byte (width_in head column) 0 ≤ 4 * head.rows
-    whole_few =
-        let few = end_few (width_in head column) 0 head.rows head.rows (omega arith) (omega arith) in
-        let most = mul-le head.rows (width_in head column) head.rows 20 (omega arith) (width_small column is.loaded) in
-        omega (arith, few, most)
+      partly : (at : ℕ) → at < length query.conjuncts → (a b : Option (List Entry)) → LogsAtPartly held head (choices_for query table head) query.conjuncts at a b → LogsThat Behind a b
+      partly at lt a b logs =
+          let (conjunct, is) = at_place query.conjuncts at lt in
+          indexed_partly table name head rows sections tells held a b (choice_at (choices_for query table head) at) conjunct (ready_for query table head of_table loaded at conjunct is) (logs conjunct is)
 
-    forward_place : (P : Place → Type 0) (Q : Type 0) → IfSome _ P → ((place : Place) → IsRawPlace table name rows (Forward column) place → P place → Q) → Q
-    forward_place P Q logs f = placed_raw table name head rows sections tells (Forward column) (omega arith) (omega arith) is.placed P Q logs f
+  -- so many documents are left by the indexes: all rows where there is none
+  module _ (n : ℕ) (all : indexed_for query table head ≡ [] → head.rows ≡ n) (few : (docs : List ℕ) → AreLeftFor query table held head docs → length docs ≡ n) where
+    abbrev most : ℕ
+    most = 4 * n * marked_count (names_in rest table)
 
-    module _ (old new : Option (List Entry)) where
-      own_file : (place : Place) → IsRawPlace table name rows (Forward column) place → LogsThat (LiesIn place.file 0 high) old new → LogsThat LiesBefore old new
-      own_file place raw logs = subst (λ f. LogsThat (LiesIn f 0 high) old new) raw.file_is logs
+    -- the documents that are left are those of the query where no conjunct is indexed
+    all_most : indexed_for query table head ≡ [] → 4 * head.rows * marked_count (names_in query table) ≡ most
+    all_most none = (λ i. 4 * all none i * marked_count (names_in (sym (rest_is query (choices_for query table head) none) i) table))
 
-      forward_before : LogsForward head column old new → LogsThat LiesBefore old new
-      forward_before logs =
-          forward_place _ (LogsThat LiesBefore old new) logs (λ place raw h.
-          own_file place raw (on_lies place.file 0 high (place.offset + first_byte (width_in head column) 0) (place.offset + end_byte (width_in head column) 0 head.rows) old new (omega arith) (ids_end place raw 0 head.rows (omega arith) (omega arith)) h))
+    docs_most : (docs : List ℕ) → AreLeftFor query table held head docs → 4 * length docs * marked_count (names_in rest table) ≡ most
+    docs_most docs left = ap (λ k. 4 * k * marked_count (names_in rest table)) (few docs left)
 
-      part_before : LogsPart head column old new → LogsThat LiesBefore old new
-      part_before logs =
-          forward_place _ (LogsThat LiesBefore old new) logs (λ place raw h.
-          own_file place raw (up_lies place.file 0 high (place.offset + first_byte (width_in head column) 0) (place.offset + end_byte (width_in head column) 0 head.rows) old new (omega arith) (ids_end place raw 0 head.rows (omega arith) (omega arith)) h))
+    by_most : (m : ℕ) (a b : Option (List Entry)) → m ≡ most → GrowsBy m a b → LogsMost most a b
+    by_most m a b is grows = most_grown most a b (subst (λ k. GrowsBy k a b) is grows)
 
-      forward_grows : LogsForward head column old new → GrowsBy (4 * head.rows) old new
-      forward_grows logs =
-          let few = whole_few in
-          forward_place _ (GrowsBy (4 * head.rows) old new) logs (λ place raw h.
-          grows_on place.file (place.offset + first_byte (width_in head column) 0) (place.offset + end_byte (width_in head column) 0 head.rows) (4 * head.rows) old new (omega (arith, few)) h)
+    pub scan_bytes : (count : ℕ) (a b : Option (List Entry)) → LogsScan query table held head count a b → LogsMost most a b × LogsThat Early a b
+    scan_bytes count a b (inl (none, logs)) =
+        let long = names_count in
+        (
+          by_most (4 * head.rows * marked_count (names_in query table)) a b (all_most none) (columns_grow table name head rows sections tells of_table (names_in query table) (readable query loaded) (length table.schema.fields) (omega (arith, long)) a b logs),
+          columns_before table name head rows sections tells of_table (names_in query table) (readable query loaded) (length table.schema.fields) (omega (arith, long)) a b logs,
+        )
+    scan_bytes count a b (inr (docs, left, is, between, indexes, logs)) =
+        let behind = indexes_behind a between indexes in
+        (
+          most_then most a between b (none_behind a between behind) (by_most (4 * length docs * marked_count (names_in rest table)) between b (docs_most docs left) (docs_grow table name head rows sections tells of_table (names_in rest table) left_readable docs left.within between b logs)),
+          entries_then Early a between b (early_behind a between behind) (docs_before table name head rows sections tells of_table (names_in rest table) left_readable docs left.within between b logs),
+        )
 
-      part_bytes : LogsPart head column old new → GrowsBy (4 * head.rows) old new
-      part_bytes logs =
-          let few = whole_few in
-          forward_place _ (GrowsBy (4 * head.rows) old new) logs (λ place raw h.
-          grows_up place.file (place.offset + first_byte (width_in head column) 0) (place.offset + end_byte (width_in head column) 0 head.rows) (4 * head.rows) old new (omega (arith, few)) h)
+    pub partly_bytes : (a b : Option (List Entry)) → LogsScanPartly query table held head a b → LogsMost most a b × LogsThat Early a b
+    partly_bytes a b (inl (none, logs)) = (
+      by_most (4 * head.rows * marked_count (names_in query table)) a b (all_most none) (some_grow table name head rows sections tells of_table (names_in query table) (readable query loaded) a b logs),
+      some_before table name head rows sections tells of_table (names_in query table) (readable query loaded) a b logs,
+    )
+    partly_bytes a b (inr (inl logs)) =
+        let behind = indexes_partly a b logs in
+        (most_less 0 most a b (omega arith) (none_behind a b behind), early_behind a b behind)
+    partly_bytes a b (inr (inr (docs, left, between, indexes, logs))) =
+        let behind = indexes_behind a between indexes in
+        (
+          most_then most a between b (none_behind a between behind) (by_most (4 * length docs * marked_count (names_in rest table)) between b (docs_most docs left) (partly_grow table name head rows sections tells of_table (names_in rest table) left_readable docs left.within between b logs)),
+          entries_then Early a between b (early_behind a between behind) (partly_before table name head rows sections tells of_table (names_in rest table) left_readable docs left.within between b logs),
+        )
 
-      -- ---- of runs of documents
-
-      module _ (runs : List Run) (apart : Apart 0 runs) (within : All (λ doc. doc < head.rows) (docs_of runs)) where
-        runs_within : (place : Place) → IsRawPlace table name rows (Forward column) place → _
-        runs_within place raw =
-            each_within 0 high head.rows 0 (ids_of_run (width_in head column) place.offset)
-            (λ run order lt. record { begins = omega arith; ends = ids_end place raw run.first (run.last + 1) (omega (arith, order, lt)) (omega (arith, lt)) }) runs apart (lasts_below 0 runs head.rows apart within)
-
-        runs_before : LogsRuns head runs column old new → LogsThat LiesBefore old new
-        runs_before logs =
-            forward_place _ (LogsThat LiesBefore old new) logs (λ place raw h. own_file place raw (over_lies place.file 0 high (map (ids_of_run (width_in head column) place.offset) runs) old new (runs_within place raw) h))
-
-        runs_part_before : LogsRunsPartly head runs column old new → LogsThat LiesBefore old new
-        runs_part_before (inl same) = same_lies (file_of name) 0 high old new same
-        runs_part_before (inr logs) =
-            forward_place _ (LogsThat LiesBefore old new) logs (λ place raw h. own_file place raw (partly_lies place.file 0 high (map (ids_of_run (width_in head column) place.offset) runs) old new (runs_within place raw) h))
-
-        runs_grow : LogsRuns head runs column old new → GrowsBy (4 * length (docs_of runs)) old new
-        runs_grow logs =
-            let small = width_small column is.loaded in
-            forward_place _ (GrowsBy (4 * length (docs_of runs)) old new) logs (λ place raw h. grows_runs place.file (width_in head column) place.offset 0 runs old new (omega (arith, small)) apart h)
-
-        runs_bytes : LogsRunsPartly head runs column old new → GrowsBy (4 * length (docs_of runs)) old new
-        runs_bytes (inl same) = grows_less 0 (4 * length (docs_of runs)) old new (omega arith) (grows_same old new same)
-        runs_bytes (inr logs) =
-            let small = width_small column is.loaded in
-            forward_place _ (GrowsBy (4 * length (docs_of runs)) old new) logs (λ place raw h. grows_partly place.file (width_in head column) place.offset 0 runs old new (omega (arith, small)) apart h)
-
-  -- ---- all columns that are named
-
-  module _ (named : List Bool) (readable : (column : ℕ) → get_or named column false ≡ true → IsReadable head column) where
-    abbrev Each : ℕ → Option (List Entry) → Option (List Entry) → Type 0
-    Each at old new = LogsNamed head at (get_or named at false) old new
-
-    abbrev Part : ℕ → Option (List Entry) → Option (List Entry) → Type 0
-    Part at old new = (get_or named at false ≡ true) × LogsPart head at old new
-
-    to_series : (n : ℕ) (old new : Option (List Entry)) → LogsColumns head named n old new → LogsTo Each n old new
-    to_series zero old new logs = logs
-    to_series (suc n) old new (between, before, last) = (between, to_series n old between before, last)
-
-    to_part : (old new : Option (List Entry)) → LogsSome head named old new → LogsPartOf Each Part (length named) old new
-    to_part old new s = record { upto = s.upto; few = s.within; between = s.between; before = to_series s.upto old s.between s.before; rest = rest s.rest }
+    -- such reads are those of the scan
+    reads_so : (plan : ScanPlan) (a b : Option (List Entry)) → plan.choices ≡ choices_for query table head → n ≡ docs_by query table rows (Scan plan) → LogsMost most a b × LogsThat Early a b → Grown (ReadsScan query table name rows plan) a b
+    reads_so plan a b chosen counted ((x, made, less), early) = λ before entries is now. record {
+      stars = λ t. before_part (file_of name) (raw_span table name rows).to (star_span table name rows t).from (star_span table name rows t).to entries (stars_after table name rows t)
+          (grown_that (EndsBy (file_of name) (raw_span table name rows).to) a b (lies_end (file_of name) 0 (raw_span table name rows).to a b early) before entries is now);
+      forward = subst (λ m. bytes_read entries name (forward_span table name rows) ≤ m) same (grown_so (λ y. bytes_read y name (forward_span table name rows) ≤ most) a b x made less before entries is now);
+    }
       where
-        rest : LogsPartly head s.upto (get_or named s.upto false) s.between new → (new ≡ s.between) ⊎ ((s.upto < length named) × Part s.upto s.between new)
-        rest (inl same) = inl same
-        rest (inr (is, logs)) = inr (marked_within named s.upto is, is, logs)
+        same : most ≡ 4 * docs_by query table rows (Scan plan) * marked_count (names_in (rest_of query plan.choices) table)
+        same = (λ i. 4 * counted i * marked_count (names_in (rest_of query (sym chosen i)) table))
 
-    named_before : (b : Bool) (column : ℕ) → get_or named column false ≡ b → (old new : Option (List Entry)) → LogsNamed head column b old new → LogsThat LiesBefore old new
-    named_before false column is old new same = same_lies (file_of name) 0 high old new same
-    named_before true column is old new logs = forward_before column (readable column is) old new logs
+    -- what a scan read, whole or in part
+    pub scan_read : (plan : ScanPlan) (count : ℕ) (a b : Option (List Entry)) → plan.choices ≡ choices_for query table head → n ≡ docs_by query table rows (Scan plan) → LogsScan query table held head count a b → Grown (ReadsScan query table name rows plan) a b
+    scan_read plan count a b chosen counted logs = reads_so plan a b chosen counted (scan_bytes count a b logs)
 
-    named_grows : (b : Bool) (column : ℕ) → get_or named column false ≡ b → (old new : Option (List Entry)) → LogsNamed head column b old new → GrowsBy (4 * head.rows * one_if b) old new
-    named_grows false column is old new same = grows_less 0 (4 * head.rows * one_if false) old new (omega arith) (grows_same old new same)
-    named_grows true column is old new logs = grows_less (4 * head.rows) (4 * head.rows * one_if true) old new (omega arith) (forward_grows column (readable column is) old new logs)
+    pub scan_read_partly : (plan : ScanPlan) (a b : Option (List Entry)) → plan.choices ≡ choices_for query table head → n ≡ docs_by query table rows (Scan plan) → LogsScanPartly query table held head a b → Grown (ReadsScan query table name rows plan) a b
+    scan_read_partly plan a b chosen counted logs = reads_so plan a b chosen counted (partly_bytes a b logs)
 
-    columns_before : (n : ℕ) → n ≤ length named → (old new : Option (List Entry)) → LogsColumns head named n old new → LogsThat LiesBefore old new
-    columns_before n le old new logs = series_that LiesBefore Each (length named) (λ at lt a b h. named_before (get_or named at false) at refl a b h) n le old new (to_series n old new logs)
+-- ---- where the file is told to be the image of rows
 
-    columns_grow : (n : ℕ) → n ≤ length named → (old new : Option (List Entry)) → LogsColumns head named n old new → GrowsBy (4 * head.rows * marked_count named) old new
-    columns_grow n le old new logs =
-        grows_less (4 * head.rows * marked_count (take n named)) (4 * head.rows * marked_count named) old new (mul-le (4 * head.rows) (marked_count (take n named)) (4 * head.rows) (marked_count named) (omega arith) (marks_few named n))
-        (series_grows (4 * head.rows) named Each (λ at lt a b h. named_grows (get_or named at false) at refl a b h) n le old new (to_series n old new logs))
+module _ (law : ImagesRead) (leave : ImagesLeave) (query : BoundQuery) (table : Table) (name : List ℕ) (head : Seen) (stored : List (List Value)) (valid : IsValidTable table) (of_table : IsHeadOf table head) (loaded : AreNamedLoaded query head)
+    (sections : head.sections ≡ map (placed (file_of name)) (extents_of table name (front_of 1 table (ordered table.settings.sorted stored)))) (tells : TellsOf table (ordered table.settings.sorted stored) head) (files : Files) (of : IsOfImage table files stored head)
+    (plan : ScanPlan) (chosen : plan.choices ≡ choices_for query table head) where
+  abbrev os : List (List Value)
+  os = ordered table.settings.sorted stored
 
-    some_before : (old new : Option (List Entry)) → LogsSome head named old new → LogsThat LiesBefore old new
-    some_before old new logs =
-        part_that LiesBefore Each (length named) (λ at lt a b h. named_before (get_or named at false) at refl a b h) Part (λ at lt a b h. part_before at (readable at h.0) a b h.1) old new (to_part old new logs)
+  left_are : length (rows_left query (choices_for query table head) os) ≡ docs_by query table os (Scan plan)
+  left_are = ap (λ cs. length (rows_left query cs os)) (sym chosen)
 
-    some_grow : (old new : Option (List Entry)) → LogsSome head named old new → GrowsBy (4 * head.rows * marked_count named) old new
-    some_grow old new logs =
-        part_grows (4 * head.rows) named Each (λ at lt a b h. named_grows (get_or named at false) at refl a b h) Part (λ at lt a b h. one_more at h.0 a b (part_bytes at (readable at h.0) a b h.1)) old new (to_part old new logs)
-      where
-        one_more : (at : ℕ) → get_or named at false ≡ true → (a b : Option (List Entry)) → GrowsBy (4 * head.rows) a b → GrowsBy (4 * head.rows * one_if (get_or named at false)) a b
-        one_more at is a b h = subst (λ m. GrowsBy (4 * head.rows * one_if m) a b) (sym is) (grows_less (4 * head.rows) (4 * head.rows * one_if true) a b (omega arith) h)
+  all_rows : indexed_for query table head ≡ [] → head.rows ≡ docs_by query table os (Scan plan)
+  all_rows none = (whole_docs law leave query table (Some files) head valid of_table loaded none head.rows refl).told stored of ∙ left_are
 
-    -- ---- of some documents
+  some_docs : (docs : List ℕ) → AreLeftFor query table (Some files) head docs → length docs ≡ docs_by query table os (Scan plan)
+  some_docs docs left = left_count law leave query table head valid of_table loaded docs files stored of left ∙ left_are
 
-    module _ (docs : List ℕ) (within : All (λ doc. doc < head.rows) docs) where
-      docs_grow : (old new : Option (List Entry)) → LogsDocs head named docs old new → GrowsBy (4 * length docs * marked_count named) old new
-      docs_grow old new (runs, apart, are, logs, few) = subst (λ n. GrowsBy n old new) (marks_bytes named docs) few
+  -- a scan read at most four bytes of the forward indexes for each document that the indexes leave and each column that is named beside the served conjuncts
+  pub image_scan : (count : ℕ) (a b : Option (List Entry)) → LogsScan query table (Some files) head count a b → Grown (ReadsScan query table name os plan) a b
+  image_scan count a b logs = scan_read query table name head os of_table loaded sections tells (Some files) (docs_by query table os (Scan plan)) all_rows some_docs plan count a b chosen refl logs
 
-      module _ (runs : List Run) (apart : Apart 0 runs) (are : docs_of runs ≡ docs) where
-        abbrev here : All (λ doc. doc < head.rows) (docs_of runs)
-        here = subst (All (λ doc. doc < head.rows)) (sym are) within
-
-        picked_before : (v : Bool) (column : ℕ) → get_or named column false ≡ v → (a b : Option (List Entry)) → LogsIf head runs column v a b → LogsThat LiesBefore a b
-        picked_before false column is a b same = same_lies (file_of name) 0 high a b same
-        picked_before true column is a b h = runs_before column (readable column is) a b runs apart here h
-
-        picked_partly : (v : Bool) (column : ℕ) → get_or named column false ≡ v → (a b : Option (List Entry)) → LogsIfPartly head runs column v a b → LogsThat LiesBefore a b
-        picked_partly false column is a b same = same_lies (file_of name) 0 high a b same
-        picked_partly true column is a b h = runs_part_before column (readable column is) a b runs apart here h
-
-        picked_bytes : (v : Bool) (column : ℕ) → get_or named column false ≡ v → (a b : Option (List Entry)) → LogsIfPartly head runs column v a b → GrowsBy (4 * length docs * one_if v) a b
-        picked_bytes false column is a b same = grows_less 0 (4 * length docs * one_if false) a b (omega arith) (grows_same a b same)
-        picked_bytes true column is a b h =
-            let same : length (docs_of runs) ≡ length docs = ap length are in
-            grows_less (4 * length (docs_of runs)) (4 * length docs * one_if true) a b (omega (arith, same)) (runs_bytes column (readable column is) a b runs apart here h)
-
-        whole_bytes : (v : Bool) (column : ℕ) → get_or named column false ≡ v → (a b : Option (List Entry)) → LogsIf head runs column v a b → GrowsBy (4 * length docs * one_if v) a b
-        whole_bytes false column is a b same = grows_less 0 (4 * length docs * one_if false) a b (omega arith) (grows_same a b same)
-        whole_bytes true column is a b h =
-            let same : length (docs_of runs) ≡ length docs = ap length are in
-            grows_less (4 * length (docs_of runs)) (4 * length docs * one_if true) a b (omega (arith, same)) (runs_grow column (readable column is) a b runs apart here h)
-
-      docs_before : (old new : Option (List Entry)) → LogsDocs head named docs old new → LogsThat LiesBefore old new
-      docs_before old new (runs, apart, are, logs, few) =
-          series_that LiesBefore (LogsPicked head runs named) (length named) (λ at lt a b h. picked_before runs apart are (get_or named at false) at refl a b h) (length named) (omega arith) old new logs
-
-      partly_before : (old new : Option (List Entry)) → LogsDocsPartly head named docs old new → LogsThat LiesBefore old new
-      partly_before old new (inl same) = same_lies (file_of name) 0 high old new same
-      partly_before old new (inr (runs, apart, are, logs)) =
-          part_that LiesBefore (LogsPicked head runs named) (length named) (λ at lt a b h. picked_before runs apart are (get_or named at false) at refl a b h)
-          (LogsPickedPartly head runs named) (λ at lt a b h. picked_partly runs apart are (get_or named at false) at refl a b h) old new logs
-
-      partly_grow : (old new : Option (List Entry)) → LogsDocsPartly head named docs old new → GrowsBy (4 * length docs * marked_count named) old new
-      partly_grow old new (inl same) = grows_less 0 (4 * length docs * marked_count named) old new (omega arith) (grows_same old new same)
-      partly_grow old new (inr (runs, apart, are, logs)) =
-          part_grows (4 * length docs) named (LogsPicked head runs named) (λ at lt a b h. whole_bytes runs apart are (get_or named at false) at refl a b h)
-          (LogsPickedPartly head runs named) (λ at lt a b h. picked_bytes runs apart are (get_or named at false) at refl a b h) old new logs
+  -- and no more where it failed
+  pub image_scan_partly : (a b : Option (List Entry)) → LogsScanPartly query table (Some files) head a b → Grown (ReadsScan query table name os plan) a b
+  image_scan_partly a b logs = scan_read_partly query table name head os of_table loaded sections tells (Some files) (docs_by query table os (Scan plan)) all_rows some_docs plan a b chosen refl logs
