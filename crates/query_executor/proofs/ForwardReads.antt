@@ -1,15 +1,12 @@
 -- What is read of the forward indexes of an image: at most four bytes a document and column, before the documents of the star-trees.
-use Rattle.std.proofs.Common.{◌≡◌, ◌∙◌, ◌+◌, ◌-◌, ◌*◌, ◌/◌, ◌<◌, ◌≤◌, ◌++◌, ◌⊎◌, [], ◌∷◌, ℕ, zero, suc, Bool, true, false, nat_lt, List, All, Option, Some, None, IfSome, inl, inr, length, map, take, get_or, option_map, refl, sym, ap, subst, arith}
+use Rattle.std.proofs.Common.{◌≡◌, ◌+◌, ◌-◌, ◌*◌, ◌/◌, ◌<◌, ◌≤◌, ◌⊎◌, [], ◌∷◌, ℕ, zero, suc, Bool, true, false, nat_lt, List, All, Option, IfSome, inl, inr, length, map, take, get_or, refl, sym, ap, subst, arith}
 use Rattle.std.specs.Prelude.{if◌then◌else◌}
 use Rattle.std.specs.List.{AllByRecursion}
 use Rattle.std.proofs.lemmas.Bool.{false≢true}
 use Rattle.std.proofs.lemmas.List.{length-map}
-use Rattle.std.proofs.lemmas.List.FromFn.{length-range_with_len}
 use Rattle.std.proofs.lemmas.Nat.{mul-le}
-use Rattle.outside.specs.Files.{Files}
-use Rattle.outside.specs.Reads.{Entry, read_in}
+use Rattle.outside.specs.Reads.{Entry}
 use Rattle.outside.specs.declared.place.Place.{Place}
-use Rattle.outside.proofs.ReadLemmas.{read_in-append}
 use Rattle.values.specs.declared.value.Value.{Value}
 use Rattle.bit_column.specs.Column.{bytes_for, width_of}
 use Rattle.bit_column.specs.Sections.{end_byte, first_byte}
@@ -17,46 +14,28 @@ use Rattle.bit_column.proofs.Widths.{width-least}
 use Rattle.doc_lists.specs.Docs.{Apart, docs_of}
 use Rattle.doc_lists.specs.declared.run.Run.{Run}
 use Rattle.index_reading.proofs.RunLemmas.{lasts_below}
-use Rattle.table_schema.specs.declared.query.BoundQuery.{BoundQuery}
-use Rattle.table_schema.specs.declared.query.Conjunct.{Conjunct}
 use Rattle.table_schema.specs.declared.table.Table.{Table}
-use Rattle.table_schema.specs.ValidTable.{IsValidTable}
 use Rattle.segment_file.specs.declared.part.Part.TheVariants.{Forward}
 use Rattle.segment_file.specs.Front.{extents_of}
 use Rattle.segment_file.specs.Heads.{IsHeadOf, IsLoaded, Seen, place_in, placed}
 use Rattle.segment_file.specs.Image.{count_of, front_of}
 use Rattle.segment_file.specs.Image as segment
 use Rattle.segment_file.specs.Names.{file_of}
-use Rattle.segment_file.specs.Ordered.{ordered, value_in}
+use Rattle.segment_file.specs.Ordered.{value_in}
 use Rattle.segment_plan.specs.Laws.{TellsOf}
-use Rattle.segment_plan.specs.declared.plans.IndexChoice.{IndexChoice}
-use Rattle.segment_plan.specs.declared.plans.IndexChoice.TheVariants as choices
-use Rattle.segment_plan.specs.declared.plans.ScanPlan.{ScanPlan}
-use Rattle.table_schema.specs.declared.query.Conjunct.TheVariants.{One, Many}
 use Rattle.segment_scan.specs.Bytes.{GrowsBy}
 use Rattle.segment_scan.specs.Documents.{LogsDocs, LogsDocsPartly}
 use Rattle.segment_scan.specs.Forward.{IsReadable, LogsColumns, LogsForward, LogsNamed, LogsPart, LogsPartly, LogsSome, count_in, width_in}
-use Rattle.segment_scan.specs.Images.{AreLeftFor, AreNamedLoaded, ImagesLeave, ImagesRead, IsOfImage, LogsScan, LogsScanPartly, choices_for, indexed_for, names_in, rest_for}
-use Rattle.segment_scan.specs.Indexes.{LogsAt, LogsAtPartly}
 use Rattle.segment_scan.specs.Picked.{LogsIf, LogsIfPartly, LogsPicked, LogsPickedPartly, LogsRuns, LogsRunsPartly, ids_of_run}
 use Rattle.segment_scan.specs.Series.{LogsPartOf, LogsTo}
-use Rattle.segment_scan.specs.Served.{choice_at, indexed, is_indexed, is_served, rest_of, rows_left, unserved}
-use Rattle.segment_scan.proofs.ByteLemmas.{grows_both, grows_on, grows_runs, grows_same}
-use Rattle.segment_scan.proofs.ImageLemmas.{distinct_few, loaded_readable}
-use Rattle.segment_scan.proofs.IndexImage.{ready_for}
-use Rattle.segment_scan.proofs.LeftImage.{left_count, rest_loaded, whole_docs}
-use Rattle.segment_scan.proofs.LeftLemmas.{one_chosen}
-use Rattle.segment_scan.proofs.SegmentLemmas.{mark_named}
-use Rattle.query_executor.specs.Logs.{EndsBy, LogsThat}
-use Rattle.query_executor.specs.Reads.{Grown, ReadsScan, bytes_read, forward_span, marked_count, raw_span, star_span}
-use Rattle.query_executor.proofs.GrownLemmas.{grown_so, grown_that}
-use Rattle.query_executor.proofs.IndexReads.{LiesBehind, count_are, each_within, indexed_behind, indexed_partly, placed_raw}
-use Rattle.query_executor.proofs.LogLemmas.{entries_as, entries_none, entries_then, join_logs}
-use Rattle.query_executor.proofs.PartPlaces.{IsRawPlace, forward_size, stars_after}
-use Rattle.query_executor.proofs.ScanLogs.{at_place}
+use Rattle.segment_scan.proofs.ByteLemmas.{grows_on, grows_runs, grows_same}
+use Rattle.segment_scan.proofs.ImageLemmas.{distinct_few}
+use Rattle.query_executor.specs.Logs.{LogsThat}
+use Rattle.query_executor.specs.Reads.{marked_count, raw_span}
+use Rattle.query_executor.proofs.IndexReads.{count_are, each_within, placed_raw}
+use Rattle.query_executor.proofs.PartPlaces.{IsRawPlace, forward_size}
 use Rattle.query_executor.proofs.SegmentLemmas.{rows_few}
-use Rattle.query_executor.proofs.SpanLemmas.{before_part}
-use Rattle.query_executor.proofs.WithinLogs.{IsWithin, LiesIn, after_part, grows_less, grows_partly, grows_up, lies_end, marks_bytes, marks_few, on_lies, one_if, over_lies, part_grows, part_that, partly_lies, read_few, same_lies, series_grows, series_that, up_lies}
+use Rattle.query_executor.proofs.WithinLogs.{IsWithin, LiesIn, grows_less, grows_partly, grows_up, marks_bytes, marks_few, on_lies, one_if, over_lies, part_grows, part_that, partly_lies, same_lies, series_grows, series_that, up_lies}
 
 -- ---- ids of columns
 

@@ -1,5 +1,5 @@
 -- Where the sections of the rows are in an image: after the head and before the documents of the star-trees, the forward indexes first.
-use Rattle.std.proofs.Common.{◌≡◌, ◌∙◌, ◌+◌, ◌-◌, ◌*◌, ◌/◌, ◌<◌, ◌≤◌, ◌==◌, ◌&&◌, ◌++◌, [], ◌∷◌, ℕ, zero, suc, Bool, true, false, cond, nat_lt, List, All, Some, length, map, sum, take, get_or, refl, sym, ap, subst, arith, append_assoc}
+use Rattle.std.proofs.Common.{◌≡◌, ◌∙◌, ◌+◌, ◌-◌, ◌*◌, ◌<◌, ◌≤◌, ◌==◌, ◌++◌, [], ◌∷◌, ℕ, zero, suc, Bool, true, false, cond, nat_lt, List, All, Some, length, map, sum, take, get_or, refl, sym, ap, subst, arith, append_assoc}
 use Rattle.std.specs.Prelude.{option_map, option_to_list}
 use Rattle.std.specs.List.{find}
 use Rattle.std.proofs.lemmas.Bool.{eqb-true, ltb-false, ltb-true}
@@ -19,7 +19,7 @@ use Rattle.segment_file.specs.declared.part.Part.{Part}
 use Rattle.segment_file.specs.declared.part.Part.TheVariants as parts
 use Rattle.segment_file.specs.Front.{Front, extents_from, extents_of, front_size}
 use Rattle.segment_file.specs.Heads.{place_in, placed}
-use Rattle.segment_file.specs.Image.{count_of, front_of, ids_of, section_of, sections_of_rows}
+use Rattle.segment_file.specs.Image.{count_of, front_of, ids_of, section_of}
 use Rattle.segment_file.specs.Names.{file_of}
 use Rattle.segment_file.specs.Parts.{columns_of, head_sections, is_same, kind_of, marked, owner_of, raw_sections, sections_of, trees_of}
 use Rattle.segment_scan.proofs.ImageLemmas.{ids-below, ids-count}

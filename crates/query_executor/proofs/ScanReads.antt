@@ -1,47 +1,35 @@
 -- How many bytes a scan reads of the forward indexes of an image, and that it reads none of the documents of its star-trees.
-use Rattle.std.proofs.Common.{◌≡◌, ◌∙◌, ◌+◌, ◌-◌, ◌*◌, ◌/◌, ◌<◌, ◌≤◌, ◌++◌, ◌⊎◌, [], ◌∷◌, ℕ, zero, suc, Bool, true, false, nat_lt, List, All, Option, Some, None, IfSome, inl, inr, length, map, take, get_or, option_map, refl, sym, ap, subst, arith}
+use Rattle.std.proofs.Common.{◌≡◌, ◌∙◌, ◌*◌, ◌<◌, ◌≤◌, ◌++◌, [], ◌∷◌, ℕ, suc, Bool, true, false, List, Option, Some, inl, inr, length, map, get_or, option_map, refl, sym, ap, subst, arith}
 use Rattle.std.specs.Prelude.{if◌then◌else◌}
 use Rattle.std.proofs.lemmas.Bool.{false≢true}
 use Rattle.std.proofs.lemmas.List.{length-map}
 use Rattle.std.proofs.lemmas.List.FromFn.{length-range_with_len}
-use Rattle.std.proofs.lemmas.Nat.{mul-le}
 use Rattle.outside.specs.Files.{Files}
-use Rattle.outside.specs.Reads.{Entry, read_in}
-use Rattle.outside.specs.declared.place.Place.{Place}
+use Rattle.outside.specs.Reads.{Entry}
 use Rattle.outside.proofs.ReadLemmas.{read_in-append}
 use Rattle.values.specs.declared.value.Value.{Value}
-use Rattle.bit_column.specs.Column.{bytes_for, width_of}
-use Rattle.bit_column.specs.Sections.{end_byte, first_byte}
-use Rattle.bit_column.proofs.Widths.{width-least}
-use Rattle.doc_lists.specs.Docs.{Apart, docs_of}
-use Rattle.doc_lists.specs.declared.run.Run.{Run}
-use Rattle.index_reading.proofs.RunLemmas.{lasts_below}
+use Rattle.index_reading.specs.Stretches.{Stretch}
 use Rattle.table_schema.specs.declared.query.BoundQuery.{BoundQuery}
 use Rattle.table_schema.specs.declared.query.Conjunct.{Conjunct}
 use Rattle.table_schema.specs.declared.table.Table.{Table}
 use Rattle.table_schema.specs.ValidTable.{IsValidTable}
-use Rattle.segment_file.specs.declared.part.Part.TheVariants.{Forward}
 use Rattle.segment_file.specs.Front.{extents_of}
-use Rattle.segment_file.specs.Heads.{IsHeadOf, IsLoaded, Seen, place_in, placed}
-use Rattle.segment_file.specs.Image.{count_of, front_of}
-use Rattle.segment_file.specs.Image as segment
+use Rattle.segment_file.specs.Heads.{IsHeadOf, Seen, placed}
+use Rattle.segment_file.specs.Image.{front_of}
 use Rattle.segment_file.specs.Names.{file_of}
-use Rattle.segment_file.specs.Ordered.{ordered, value_in}
+use Rattle.segment_file.specs.Ordered.{ordered}
 use Rattle.segment_plan.specs.Laws.{TellsOf}
 use Rattle.segment_plan.specs.declared.plans.IndexChoice.{IndexChoice}
 use Rattle.segment_plan.specs.declared.plans.IndexChoice.TheVariants as choices
 use Rattle.segment_plan.specs.declared.plans.ScanPlan.{ScanPlan}
 use Rattle.table_schema.specs.declared.query.Conjunct.TheVariants.{One, Many}
 use Rattle.segment_scan.specs.Bytes.{GrowsBy}
-use Rattle.segment_scan.specs.Documents.{LogsDocs, LogsDocsPartly}
-use Rattle.segment_scan.specs.Forward.{IsReadable, LogsColumns, LogsForward, LogsNamed, LogsPart, LogsPartly, LogsSome, count_in, width_in}
+use Rattle.segment_scan.specs.Forward.{IsReadable}
 use Rattle.segment_scan.specs.Images.{AreLeftFor, AreNamedLoaded, ImagesLeave, ImagesRead, IsOfImage, LogsScan, LogsScanPartly, choices_for, indexed_for, names_in, rest_for}
 use Rattle.segment_scan.specs.Indexes.{LogsAt, LogsAtPartly}
-use Rattle.segment_scan.specs.Picked.{LogsIf, LogsIfPartly, LogsPicked, LogsPickedPartly, LogsRuns, LogsRunsPartly, ids_of_run}
 use Rattle.segment_scan.specs.Series.{LogsPartOf, LogsTo}
 use Rattle.segment_scan.specs.Served.{choice_at, indexed, is_indexed, is_served, rest_of, rows_left, unserved}
-use Rattle.segment_scan.proofs.ByteLemmas.{grows_both, grows_on, grows_runs, grows_same}
-use Rattle.segment_scan.proofs.ImageLemmas.{distinct_few, loaded_readable}
+use Rattle.segment_scan.proofs.ImageLemmas.{loaded_readable}
 use Rattle.segment_scan.proofs.IndexImage.{ready_for}
 use Rattle.segment_scan.proofs.LeftImage.{left_count, rest_loaded, whole_docs}
 use Rattle.segment_scan.proofs.LeftLemmas.{one_chosen}
@@ -49,13 +37,12 @@ use Rattle.segment_scan.proofs.SegmentLemmas.{mark_named}
 use Rattle.query_executor.specs.Logs.{EndsBy, LogsThat}
 use Rattle.query_executor.specs.Reads.{Grown, ReadsScan, bytes_read, forward_span, marked_count, raw_span, star_span}
 use Rattle.query_executor.proofs.GrownLemmas.{grown_so, grown_that}
-use Rattle.query_executor.proofs.IndexReads.{LiesBehind, count_are, each_within, indexed_behind, indexed_partly, placed_raw}
-use Rattle.query_executor.proofs.LogLemmas.{entries_as, entries_none, entries_then, join_logs}
-use Rattle.query_executor.proofs.PartPlaces.{IsRawPlace, forward_size, stars_after}
+use Rattle.query_executor.proofs.IndexReads.{LiesBehind, indexed_behind, indexed_partly}
+use Rattle.query_executor.proofs.LogLemmas.{entries_as, entries_then, join_logs}
+use Rattle.query_executor.proofs.PartPlaces.{stars_after}
 use Rattle.query_executor.proofs.ScanLogs.{at_place}
-use Rattle.query_executor.proofs.SegmentLemmas.{rows_few}
 use Rattle.query_executor.proofs.SpanLemmas.{before_part}
-use Rattle.query_executor.proofs.WithinLogs.{IsWithin, LiesIn, after_part, grows_less, grows_partly, grows_up, lies_end, marks_bytes, marks_few, on_lies, one_if, over_lies, part_grows, part_that, partly_lies, read_few, same_lies, series_grows, series_that, up_lies}
+use Rattle.query_executor.proofs.WithinLogs.{after_part, lies_end, part_that, read_few, series_that}
 use Rattle.std.specs.List.{range_with_len}
 use Rattle.segment_plan.specs.declared.plans.SegmentPlan.TheVariants.{Scan}
 use Rattle.segment_scan.specs.Named.{query_names}
@@ -85,6 +72,20 @@ all_unserved (c ∷ cs) (y ∷ ys) none = go (is_indexed c y) (is_served c y) re
 -- all of the query is left
 rest_is : (query : BoundQuery) (cs : List IndexChoice) → indexed cs query.conjuncts ≡ [] → rest_of query cs ≡ query
 rest_is query cs none = ap (λ l. record query { conjuncts = l }) (all_unserved cs query.conjuncts none)
+
+-- ---- reads of a scan, and others
+
+module _ (query : BoundQuery) (table : Table) (name : List ℕ) (rows : List (List Value)) (plan : ScanPlan) where
+  -- no reads
+  pub scan_nothing : ReadsScan query table name rows plan []
+  scan_nothing = record { stars = λ t. refl; forward = omega arith }
+
+  -- reads that gave as many bytes of each part
+  pub scan_as_many : (x y : List Entry) → ((span : Stretch) → bytes_read y name span ≡ bytes_read x name span) → ReadsScan query table name rows plan x → ReadsScan query table name rows plan y
+  scan_as_many x y same r = record {
+    stars = λ t. same (star_span table name rows t) ∙ r.stars t;
+    forward = let few = r.forward in omega (arith, few, same (forward_span table name rows));
+  }
 
 -- ---- a scan of an image
 
@@ -171,14 +172,12 @@ module _ (query : BoundQuery) (table : Table) (name : List ℕ) (head : Seen) (r
 
     pub scan_bytes : (count : ℕ) (a b : Option (List Entry)) → LogsScan query table held head count a b → LogsMost most a b × LogsThat Early a b
     scan_bytes count a b (inl (none, logs)) =
-        let long = names_count in
-        (
+        let long = names_count in (
           by_most (4 * head.rows * marked_count (names_in query table)) a b (all_most none) (columns_grow table name head rows sections tells of_table (names_in query table) (readable query loaded) (length table.schema.fields) (omega (arith, long)) a b logs),
           columns_before table name head rows sections tells of_table (names_in query table) (readable query loaded) (length table.schema.fields) (omega (arith, long)) a b logs,
         )
     scan_bytes count a b (inr (docs, left, is, between, indexes, logs)) =
-        let behind = indexes_behind a between indexes in
-        (
+        let behind = indexes_behind a between indexes in (
           most_then most a between b (none_behind a between behind) (by_most (4 * length docs * marked_count (names_in rest table)) between b (docs_most docs left) (docs_grow table name head rows sections tells of_table (names_in rest table) left_readable docs left.within between b logs)),
           entries_then Early a between b (early_behind a between behind) (docs_before table name head rows sections tells of_table (names_in rest table) left_readable docs left.within between b logs),
         )
@@ -192,8 +191,7 @@ module _ (query : BoundQuery) (table : Table) (name : List ℕ) (head : Seen) (r
         let behind = indexes_partly a b logs in
         (most_less 0 most a b (omega arith) (none_behind a b behind), early_behind a b behind)
     partly_bytes a b (inr (inr (docs, left, between, indexes, logs))) =
-        let behind = indexes_behind a between indexes in
-        (
+        let behind = indexes_behind a between indexes in (
           most_then most a between b (none_behind a between behind) (by_most (4 * length docs * marked_count (names_in rest table)) between b (docs_most docs left) (partly_grow table name head rows sections tells of_table (names_in rest table) left_readable docs left.within between b logs)),
           entries_then Early a between b (early_behind a between behind) (partly_before table name head rows sections tells of_table (names_in rest table) left_readable docs left.within between b logs),
         )

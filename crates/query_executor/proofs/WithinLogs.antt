@@ -1,14 +1,14 @@
 -- Reads that lie between two places of a file, and how many bytes they give together.
-use Rattle.std.proofs.Common.{◌≡◌, ◌∙◌, ◌+◌, ◌-◌, ◌*◌, ◌/◌, ◌<◌, ◌≤◌, ◌++◌, ◌⊎◌, [], ◌∷◌, ℕ, zero, suc, Bool, true, false, nat_lt, List, All, Option, Some, None, IfSome, inl, inr, length, map, take, get_or, option_map, refl, sym, ap, subst, arith, length-append}
+use Rattle.std.proofs.Common.{◌≡◌, ◌∙◌, ◌+◌, ◌-◌, ◌*◌, ◌/◌, ◌<◌, ◌≤◌, ◌⊎◌, [], ◌∷◌, ℕ, zero, suc, Bool, true, false, nat_lt, List, All, Option, inl, inr, length, map, take, get_or, refl, sym, ap, subst, arith, length-append}
 use Rattle.std.specs.Prelude.{if◌then◌else◌}
 use Rattle.std.specs.List.{AllByRecursion, sum_by}
 use Rattle.std.proofs.lemmas.Bool.{false≢true, lt-ltb}
-use Rattle.std.proofs.lemmas.List.Elements.{All-append, All-cons, All-head, All-nil, All-tail}
+use Rattle.std.proofs.lemmas.List.Elements.{All-cons, All-head, All-nil, All-tail}
 use Rattle.std.proofs.lemmas.List.FromFn.{length-range_with_len}
 use Rattle.std.proofs.lemmas.List.Sums.{sum_by-cons}
 use Rattle.std.proofs.lemmas.Nat.{mul-le}
 use Rattle.outside.specs.Reads.{Consecutive, Entry, LogsOn, LogsThrough, LogsUpTo, overlap, read_by, read_in}
-use Rattle.outside.proofs.ReadLemmas.{Consecutive-le, LogsOn-through, read_by-apart, read_in-append, read_in-cons}
+use Rattle.outside.proofs.ReadLemmas.{Consecutive-le, LogsOn-through, read_by-apart, read_in-cons}
 use Rattle.bit_column.specs.Sections.{end_byte, first_byte}
 use Rattle.doc_lists.specs.Docs.{Apart, docs_of, docs_of_run}
 use Rattle.doc_lists.specs.declared.run.Run.{Run}
@@ -19,7 +19,7 @@ use Rattle.segment_scan.specs.Series.{Logs, LogsPartOf, LogsTo}
 use Rattle.segment_scan.proofs.ByteLemmas.{grows_both, grows_on, grows_same}
 use Rattle.query_executor.specs.Logs.{EndsBy, LogsThat}
 use Rattle.query_executor.specs.Reads.{marked_count}
-use Rattle.query_executor.proofs.LogLemmas.{entries_as, entries_none, entries_then, join_logs}
+use Rattle.query_executor.proofs.LogLemmas.{entries_as, entries_none, entries_then}
 
 -- ---- reads between two places
 
