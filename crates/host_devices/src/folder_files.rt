@@ -1,5 +1,5 @@
 //! The files of a real folder.
-ghost use Rattle.std.specs.Prelude.{◌≡◌, ◌≢◌, ◌≤◌, IfOk, IsErrOf, length, string_bytes};
+ghost use Rattle.std.specs.Prelude.{◌≡◌, ◌≢◌, ◌≤◌, true, IfOk, IsErrOf, MatchOption, length, string_bytes};
 ghost use Rattle.outside.specs.Counts.{Rose};
 ghost use Rattle.outside.specs.declared.shelf.ShelfFault.TheVariants.{Missing, Failed};
 
@@ -106,13 +106,21 @@ impl<R: Files + AllocGlobal + Clone + Drop> FolderFiles<R> {
     ) -> Result<usize, ShelfFault>
         ensures { IfOk result (λ n. n ≤ length into.old) }
     {
-        let mut open = self.take(alloc, name)?;
-        match open.file.read_at(offset, into) {
-            Ok(n) => {
-                self.kept = Some(open);
-                Ok(n)
+        if !self.is_kept(name) {
+            self.forget();
+            let (open, _) = self.open(alloc, name)?;
+            self.kept = Some(open);
+        }
+        let answer = match &mut self.kept {
+            Some(open) => open.file.read_at(offset, into),
+            None => unreachable!(),
+        };
+        match answer {
+            Ok(n) => Ok(n),
+            Err(e) => {
+                self.forget();
+                Err(read_fault(&e))
             }
-            Err(e) => Err(read_fault(&e)),
         }
     }
 
@@ -121,21 +129,15 @@ impl<R: Files + AllocGlobal + Clone + Drop> FolderFiles<R> {
         self.kept = None;
     }
 
-    // The file of this name: the one that is kept open, or else one that is opened.
-    fn take(
-        &mut self,
-        alloc: Global,
-        name: &str,
-    ) -> Result<NamedFile<FileReader<R::File>>, ShelfFault>
-        ensures { IfOk result (λ found. string_bytes found.name ≡ name.now) }
+    /// Whether the file that is kept open has this name.
+    pub fn is_kept(&self, name: &str) -> bool
+        ensures { result ≡ true →
+            MatchOption self.now.kept ⊥ (λ kept. string_bytes kept.name ≡ name.now) }
     {
-        if let Some(kept) = self.kept.take() {
-            if kept.name.as_str() == name {
-                return Ok(kept);
-            }
+        match &self.kept {
+            Some(kept) => kept.name.as_str() == name,
+            None => false,
         }
-        let (open, _) = self.open(alloc, name)?;
-        Ok(open)
     }
 
     // Opens a plain file, and says how long it is.

@@ -18,6 +18,7 @@ use Rattle.bit_column.specs.Postings.{entries, offset, offsets, places_from, pla
 use Rattle.bit_column.specs.Sections.{section}
 use Rattle.bit_column.proofs.PostingLaws.{all_entries, offset_few}
 use Rattle.doc_lists.specs.Docs.{Apart, has_doc}
+use Rattle.doc_lists.specs.Sets.{AreThose}
 use Rattle.doc_lists.specs.declared.run.Run.{Run}
 use Rattle.index_reading.specs.Entries.{ArePartsOf, Marked, Rising, TellsPostings, entries_at, entries_in, entries_of, offsets_of, part_of}
 use Rattle.index_reading.specs.Stretches.{LogsOver, LogsPartly, Stretch}
@@ -267,20 +268,27 @@ part_numbers count keys part =
     ∙ ap (λ n. take (part.last - part.first) (drop n (numbers count keys))) start
     ∙ ap (take (part.last - part.first)) (drop-append-add (offsets count keys) (entries count keys) part.first)
 
-words_are : (held : Option Files) (place : Place) (count rows : ℕ) (part : Ends) (words : List ℕ) → rows ≤ 1048576 → part.last ≤ rows → WordsRead held place (count + 1 + part.first) (count + 1 + part.last) words
+pub words_are : (held : Option Files) (place : Place) (count rows : ℕ) (part : Ends) (words : List ℕ) → rows ≤ 1048576 → part.last ≤ rows → WordsRead held place (count + 1 + part.first) (count + 1 + part.last) words
     → Told held place count rows (λ keys. words ≡ entries_of count keys part)
 words_are None place count rows part words few fits read = tt
 words_are (Some files) place count rows part words few fits read = λ keys tells.
     let small : length keys < 2 ^ 32 = omega (arith, tells.0.1, few) in
     read (numbers count keys) (numbers_below count (2 ^ 32) keys small) (omega (arith, numbers_long count keys tells.0.0, tells.0.1, fits)) tells.1 ∙ part_numbers count keys part
 
-words_bad : (held : Option Files) (place : Place) (count rows : ℕ) (part : Ends) → rows ≤ 1048576 → part.last ≤ rows → WordsBad held place rows (count + 1 + part.first) (count + 1 + part.last) → Told held place count rows (λ keys. ⊥)
+pub words_bad : (held : Option Files) (place : Place) (count rows : ℕ) (part : Ends) → rows ≤ 1048576 → part.last ≤ rows → WordsBad held place rows (count + 1 + part.first) (count + 1 + part.last) → Told held place count rows (λ keys. ⊥)
 words_bad None place count rows part few fits bad = tt
 words_bad (Some files) place count rows part few fits bad = λ keys tells.
     let small : length keys < 2 ^ 32 = omega (arith, tells.0.1, few) in
     let below : All (λ n. n < rows) (entries count keys) = entries_below count rows keys (omega (arith, tells.0.1)) in
     let own : All (λ n. n < rows) (entries_of count keys part) = All-take (λ n. n < rows) (part.last - part.first) (drop part.first (entries count keys)) (All-drop (λ n. n < rows) part.first (entries count keys) below) in
     bad (numbers count keys) (numbers_below count (2 ^ 32) keys small) (subst (All (λ n. n < rows)) (sym (part_numbers count keys part)) own) (omega (arith, numbers_long count keys tells.0.0, tells.0.1, fits)) tells.1
+
+-- the documents of a list that was read are those of the part
+pub part_listed : (held : Option Files) (place : Place) (count rows : ℕ) (part : Ends) (words list docs : List ℕ) → rows ≤ 1048576 → part.last ≤ rows → WordsRead held place (count + 1 + part.first) (count + 1 + part.last) words
+    → list ≡ words → AreThose (has_doc list) docs → Told held place count rows (λ keys. AreThose (has_doc (entries_of count keys part)) docs)
+part_listed held place count rows part words list docs few fits read same those =
+    told_map held place count rows (λ keys. words ≡ entries_of count keys part) (λ keys. AreThose (has_doc (entries_of count keys part)) docs)
+    (λ keys own. subst (λ ds. AreThose (has_doc ds) docs) (same ∙ own) those) (words_are held place count rows part words few fits read)
 
 pub marks_next : (count : ℕ) (place : Place) (parts left rest : List Ends) (part : Ends) (first now next : Seen) (old marks new : List Bool) (words : List ℕ)
     → MarksStep count place parts left first now old marks → left ≡ part ∷ rest

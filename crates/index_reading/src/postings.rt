@@ -1,15 +1,16 @@
 //! The documents of keys in postings: the offsets of the keys are read, and then their entries.
-ghost use Rattle.std.specs.Prelude.{◌≡◌, ◌≤◌, ◌<◌, ℕ, List, All, IfOk, OnErr, OnOk, IfSome, IsErrOf, length, map};
+ghost use Rattle.std.specs.Prelude.{◌≡◌, ◌≤◌, ◌<◌, ◌+◌, ◌*◌, ℕ, List, All, IfOk, OnErr, OnOk, IfSome, IsErrOf, length, map};
+ghost use Rattle.outside.specs.Reads.{LogsOn, LogsUpTo};
 ghost use Rattle.outside.specs.Seen.{OnlyReads, seen};
 ghost use Rattle.bit_column.specs.Sections.{section};
 ghost use Rattle.doc_lists.specs.Docs.{Apart, has_doc};
 ghost use Rattle.doc_lists.specs.Sets.{AreThose};
-ghost use Rattle.index_reading.specs.Entries.{ArePartsOf, Marked, Rising, TellsPostings, entries_at, entries_in, offsets_of};
+ghost use Rattle.index_reading.specs.Entries.{ArePartsOf, Marked, Rising, TellsPostings, entries_at, entries_in, entries_of, offsets_of};
 ghost use Rattle.index_reading.specs.Stretches.{LogsOver, LogsPartly};
 
 use crate::ListFault;
 use crate::ends::{Ends, read_ends};
-use crate::marks::{docs_marked, mark_all, no_marks};
+use crate::marks::{docs_listed, docs_marked, mark_all, no_marks};
 use crate::word_reading::read_words;
 use doc_lists::{DocList, Run};
 use outside::{Place, Shelf};
@@ -89,6 +90,9 @@ pub fn docs_of_parts<S: Shelf>(
     ensures bad { IsErrOf result ListFault.BadList → IfSome (S.held shelf.old) (λ files.
         (keys : List ℕ) → TellsPostings count rows (section files place.now) keys → ⊥) }
 {
+    if let [part] = parts {
+        return docs_of_part(alloc, shelf, place, count, rows, *part);
+    }
     let mut marks = match no_marks(alloc, rows as usize) {
         Ok(marks) => marks,
         Err(_) => return Err(ListFault::NoMemory),
@@ -98,6 +102,55 @@ pub fn docs_of_parts<S: Shelf>(
         Err(fault) => return Err(fault),
     }
     match docs_marked(alloc, &marks) {
+        Ok(docs) => Ok(docs),
+        Err(_) => Err(ListFault::NoMemory),
+    }
+}
+
+// The documents that are the entries of a part, ascending. The part is read in one read, and nothing
+// else.
+fn docs_of_part<S: Shelf>(
+    alloc: Global,
+    shelf: &mut S,
+    place: &Place,
+    count: u32,
+    rows: u32,
+    part: Ends,
+) -> Result<DocList, ListFault>
+    requires order { part.first ≤ part.last }
+    requires within { part.last ≤ rows }
+    requires few { count ≤ 1048576 }
+    requires rows { rows ≤ 1048576 }
+    ensures docs { IfOk result (λ docs. IfSome (S.held shelf.old) (λ files. (keys : List ℕ) →
+        TellsPostings count rows (section files place.now) keys →
+        AreThose (has_doc (entries_of count keys part)) docs)) }
+    ensures within { IfOk result (λ docs. All (λ doc. doc < rows) docs) }
+    ensures only_reads { OnlyReads (IsErrOf result ListFault.ReadFault)
+        (seen S.Shelf shelf.old) (seen S.Shelf shelf.new) }
+    ensures log { IfOk result (λ _. LogsOn place.now.file
+        (place.now.offset + 4 * (count + 1 + part.first))
+        (place.now.offset + 4 * (count + 1 + part.last))
+        (S.log shelf.old) (S.log shelf.new)) }
+    ensures log_of_fault { OnErr result (LogsUpTo place.now.file
+        (place.now.offset + 4 * (count + 1 + part.first))
+        (place.now.offset + 4 * (count + 1 + part.last))
+        (S.log shelf.old) (S.log shelf.new)) }
+    ensures bad { IsErrOf result ListFault.BadList → IfSome (S.held shelf.old) (λ files.
+        (keys : List ℕ) → TellsPostings count rows (section files place.now) keys → ⊥) }
+{
+    let start = count + 1;
+    let entries = match read_words(
+        alloc,
+        shelf,
+        place,
+        rows,
+        start + part.first,
+        start + part.last,
+    ) {
+        Ok(entries) => entries,
+        Err(fault) => return Err(fault),
+    };
+    match docs_listed(alloc, rows, entries.as_slice()) {
         Ok(docs) => Ok(docs),
         Err(_) => Err(ListFault::NoMemory),
     }

@@ -1,5 +1,5 @@
 -- What `build` did, by what its parts did.
-use Rattle.std.proofs.Common.{◌≡◌, ◌≢◌, ◌∙◌, ◌≤◌, ◌||◌, ◌++◌, length, inl, inr, ℕ, Bool, true, false, List, [], ◌∷◌, Option, Some, None, Result, Ok, Err, IfSome, IsErrAnd, refl, sym, ap, subst, arith, le_refl}
+use Rattle.std.proofs.Common.{◌≡◌, ◌≢◌, ◌∙◌, ◌≤◌, ◌||◌, ◌++◌, length, inl, inr, ℕ, Bool, true, false, List, [], ◌∷◌, Option, Some, None, Result, Ok, Err, IfSome, IsErrAnd, All, refl, sym, ap, subst, arith, le_refl}
 use Rattle.std.specs.Prelude.{codes}
 use Rattle.std.specs.Fmt.{decimal}
 use Rattle.std.specs.FinMap as tree
@@ -8,12 +8,16 @@ use Rattle.outside.specs.Files.{Files, Has, Lacks, with_file}
 use Rattle.outside.specs.Seen.{OnlyReads, Seen}
 use Rattle.values.specs.declared.value.Value.{Value}
 use Rattle.table_schema.specs.declared.table.Table.{Table}
+use Rattle.table_schema.specs.ValidTable.{AreRows}
+use Rattle.dictionary.specs.Dictionary.{IsUnicode}
+use Rattle.segment_build.specs.Growing.{TreesFit, trees_fit}
+use Rattle.segment_build.proofs.FitTests.{fit_tested}
 use Rattle.segment_file.specs.Image.{CanHold, image}
 use Rattle.segment_file.specs.Names.{IsSegmentName, file_of}
 use Rattle.table_store.specs.Segments.{HasRoom, IsFull}
 use Rattle.table_store.specs.Stands.{most_segments}
 use Rattle.table_store.specs.TableFile.{incoming, table_name}
-use Rattle.pinot_run.specs.Build.{BuildRefuses, HasPlace, PlaceRefuses, built_text, csv_rows}
+use Rattle.pinot_run.specs.Build.{BuildRefuses, HasPlace, PlaceRefuses, built_text, csv_rows, segment_rows}
 use Rattle.pinot_run.specs.Command.{Build}
 use Rattle.pinot_run.specs.Gives.{FindsPlace, IsTakenStop, LooksFor, Publishes, StopsPlace, StopsRows, StopsStore}
 use Rattle.pinot_run.specs.Profile.{NoFile, TableFile, csv_limit, place_refuses, rows_count, rows_refuse, segments_count, store_refuses}
@@ -31,7 +35,7 @@ use Rattle.pinot_run.specs.declared.stop.Stop.{Stop}
 use Rattle.pinot_run.specs.declared.stop.Stop.TheVariants as stop
 use Rattle.pinot_run.proofs.CreateLemmas.{names_same, no_front}
 use Rattle.pinot_run.proofs.MachineLemmas.{steps_over}
-use Rattle.pinot_run.proofs.RowsLemmas.{rows_missing}
+use Rattle.pinot_run.proofs.RowsLemmas.{fitting_all, fitting_large, fitting_none, segment_missing}
 use Rattle.pinot_run.proofs.StoredLemmas.{reads_as, reads_then}
 
 told_each : (held : Option Files) (P Q : Files → Type 0) → ((files : Files) → P files → Q files) → IfSome held P → IfSome held Q
@@ -135,6 +139,7 @@ apart_counts counted.SqlBytes e f = absurd cc
 apart_counts counted.Columns e f = absurd cc
 apart_counts counted.Rows e f = absurd cc
 apart_counts counted.Segments e f = absurd cc
+apart_counts counted.TreeBytes e f = absurd cc
 
 apart : {A : Type 0} (line : Note) → rows_refuse line ≡ true → place_refuses line ≡ true → A
 apart note.BadWords e f = absurd cc
@@ -192,7 +197,14 @@ module _ (name csv : List ℕ) where
 
   module _ (table : Table) where
     abbrev Rows : Result (List (List Value)) Note → Files → Type 0
-    Rows rows inputs = csv_rows table.schema.fields csv (tree.get inputs csv) ≡ rows
+    Rows rows inputs = segment_rows table csv (tree.get inputs csv) ≡ rows
+
+    -- the text of the file alone
+    abbrev Text : Result (List (List Value)) Note → Files → Type 0
+    Text rows inputs = csv_rows table.schema.fields csv (tree.get inputs csv) ≡ rows
+
+    abbrev TextOf : Files → Result (List (List Value)) Note
+    TextOf inputs = csv_rows table.schema.fields csv (tree.get inputs csv)
 
     abbrev Place : Files → Type 0
     Place files = HasPlace files name table
@@ -205,7 +217,7 @@ module _ (name csv : List ℕ) where
     -- the cause of a refusal of the file
     rows_caused : (inputs stored : Option Files) (line : Note) → rows_refuse line ≡ true → IfSome stored Place → IfSome inputs (Rows (Err line)) → Caused (Some (Build name csv)) inputs stored line
     rows_caused inputs stored note.BadWords e place told = absurd cc
-    rows_caused inputs stored (note.NoInput file) e place told = told_each inputs (Rows (Err (note.NoInput file))) (λ files. Lacks (Some files) file) (λ files is. rows_missing table.schema.fields csv file files is) told
+    rows_caused inputs stored (note.NoInput file) e place told = told_each inputs (Rows (Err (note.NoInput file))) (λ files. Lacks (Some files) file) (λ files is. segment_missing table csv file files is) told
     rows_caused inputs stored (note.BadSchema wrong path) e place told = absurd cc
     rows_caused inputs stored (note.BadSettings wrong path) e place told = absurd cc
     rows_caused inputs stored note.TableExists e place told = absurd cc
@@ -303,7 +315,9 @@ module _ (name csv : List ℕ) (named : IsSegmentName name) (i j a b : Seen) (ta
   -- the file was not read, or has no rows
   pub ran_rowless : (why : Stop) → (why ≢ stop.Fault fault.Read → j.read_faults ≡ i.read_faults) → StopsRows table.schema.fields csv i.held (Rose i.read_faults j.read_faults) why
       → Ran (Some (Build name csv)) (record { inputs = i; depot = a }) (record { inputs = j; depot = b }) (Err why)
-  ran_rowless (stop.Refused line) still (may, told) =
+  ran_rowless (stop.Refused line) still (may, none_told) =
+      let told : IfSome i.held (Rows name csv table (Err line)) =
+      told_each i.held (Text name csv table (Err line)) (Rows name csv table (Err line)) (λ inputs is. fitting_none table (TextOf name csv table inputs) line is) none_told in
       let over = told_each i.held (Rows name csv table (Err line)) (λ inputs. IfSome a.held (λ files. Builds name csv inputs files (Refuses line) b.held))
       (λ inputs is. refuses_so a.held b.held (λ files. BuildRefuses name csv inputs files line) place.reads.held
       (told_each a.held (Place name csv table) (λ files. BuildRefuses name csv inputs files line) (λ files has. inr (record { table = table; place = has; rows_are = is })) place.found)) told in
@@ -330,26 +344,47 @@ module _ (name csv : List ℕ) (named : IsSegmentName name) (i j a b : Seen) (ta
   }
 
   module _ (d : Seen) (rows : List (List Value)) (fine : j.read_faults ≡ i.read_faults) (read : d.read_faults ≡ b.read_faults) (writes : WritesThese NoFile (file_of name ∷ []) b d)
-      (told : IfSome i.held (Rows name csv table (Ok rows))) (can : CanHold table rows) where
+      (told : IfSome i.held (Text name csv table (Ok rows))) (fit : AreRows table.schema.fields rows) (unicode : All (λ row. All IsUnicode row) rows) where
     abbrev Whole : Result (List ℕ) Stop → Type 0
     Whole result = Ran (Some (Build name csv)) (record { inputs = i; depot = a }) (record { inputs = j; depot = d }) result
 
-    built_so : (text : List ℕ) (held now : Option Files) → now ≡ with_file (file_of name) (image 1 table name rows) held → text ≡ built_text name rows → IfSome held (Place name csv table) → (inputs : Files)
+    built_so : (trees : TreesFit table rows) (text : List ℕ) (held now : Option Files) → now ≡ with_file (file_of name) (image 1 table name rows) held → text ≡ built_text name rows → IfSome held (Place name csv table) → (inputs : Files)
         → Rows name csv table (Ok rows) inputs → IfSome held (λ files. Builds name csv inputs files (Replies text) now)
-    built_so text None now leaves is has inputs read = tt
-    built_so text (Some files) now leaves is has inputs read = record { named = named; table = table; place = has; rows = rows; rows_are = read; can = can; text_is = is; leaves = leaves }
+    built_so trees text None now leaves is has inputs read = tt
+    built_so trees text (Some files) now leaves is has inputs read =
+        let can : CanHold table rows = record { fit = fit; unicode = unicode; trees = trees } in
+        record { named = named; table = table; place = has; rows = rows; rows_are = read; can = can; text_is = is; leaves = leaves }
 
     -- the segment was published, or not
     pub ran_published : (result : Result (List ℕ) Stop) → (result ≢ Err (stop.Fault fault.Write) → d.write_faults ≡ b.write_faults) → Publishes table name rows b d result → Whole result
-    ran_published (Ok text) still (leaves, is) =
+    ran_published (Ok text) still (leaves, is, trees) =
+        let test : trees_fit table rows ≡ true = (fit_tested table rows).1 trees in
+        let said : IfSome i.held (Rows name csv table (Ok rows)) =
+        told_each i.held (Text name csv table (Ok rows)) (Rows name csv table (Ok rows)) (λ inputs read. fitting_all table (TextOf name csv table inputs) rows read test) told in
         let over = told_each i.held (Rows name csv table (Ok rows)) (λ inputs. IfSome a.held (λ files. Builds name csv inputs files (Replies text) d.held))
-        (λ inputs is_rows. built_so text a.held d.held (leaves ∙ ap (with_file (file_of name) (image 1 table name rows)) place.reads.held) is place.found inputs is_rows) told in
+        (λ inputs is_rows. built_so trees text a.held d.held (leaves ∙ ap (with_file (file_of name) (image 1 table name rows)) place.reads.held) is place.found inputs is_rows) said in
         record {
           touched = record { inputs = (j, reads, refl); depot = looked_written (file_of name ∷ []) a b d place.reads place.log writes };
           counted = none name csv named i j a d b fine place.reads quiet read (still (λ e. cc));
           ended = acted name csv named i j a d (Replies text) over refl;
         }
-    ran_published (Err (stop.Refused line)) still by = absurd by
+    ran_published (Err (stop.Refused line)) still (is, large, kept) =
+        let may : rows_refuse line ≡ true = subst (λ l. rows_refuse l ≡ true) (sym is) refl in
+        let said : IfSome i.held (Rows name csv table (Err line)) =
+        told_each i.held (Text name csv table (Ok rows)) (Rows name csv table (Err line)) (λ inputs read. fitting_large table (TextOf name csv table inputs) rows read large ∙ ap Err (sym is)) told in
+        let over = told_each i.held (Rows name csv table (Err line)) (λ inputs. IfSome a.held (λ files. Builds name csv inputs files (Refuses line) d.held))
+        (λ inputs has_none. refuses_so a.held d.held (λ files. BuildRefuses name csv inputs files line) (kept ∙ place.reads.held)
+        (told_each a.held (Place name csv table) (λ files. BuildRefuses name csv inputs files line) (λ files has. inr (record { table = table; place = has; rows_are = has_none })) place.found)) said in
+        record {
+          touched = record { inputs = (j, reads, refl); depot = looked_written (file_of name ∷ []) a b d place.reads place.log writes };
+          counted = none name csv named i j a d b fine place.reads quiet read (still (λ e. cc));
+          ended = acted name csv named i j a d (Refuses line) over (
+            either_second (place_refuses line) (rows_refuse line) may,
+            rows_caused name csv table i.held a.held line may place.found said,
+            kept ∙ place.reads.held,
+            λ e. apart line may e,
+          );
+        }
     ran_published (Err (stop.Fault fault.Read)) still by = absurd by
     ran_published (Err (stop.Fault fault.Write)) still (kept, rose) = record {
       touched = record { inputs = (j, reads, refl); depot = looked_written (file_of name ∷ []) a b d place.reads place.log writes };

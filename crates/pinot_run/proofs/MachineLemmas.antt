@@ -42,7 +42,7 @@ use Rattle.table_store.proofs.AcceptedLemmas.{one_table}
 use Rattle.table_store.proofs.KeyLemmas.{names_stand, segment_kept_so, segment_there}
 use Rattle.table_store.proofs.NameLemmas.{names_count}
 use Rattle.table_store.proofs.StandsLemmas.{create_stands, none_there, one_there, segment_stands, table_stands, table_there}
-use Rattle.pinot_run.specs.Build.{BuildRefuses, HasPlace, IsBuilt, csv_rows, new_rows, table_of as table_in, with_schema, with_settings as settled}
+use Rattle.pinot_run.specs.Build.{BuildRefuses, HasPlace, IsBuilt, new_rows, segment_rows, table_of as table_in, with_schema, with_settings as settled}
 use Rattle.pinot_run.specs.Command.{Build, Command, Create, Listing, Scan, Ask}
 use Rattle.pinot_run.specs.Create.{Made, beside, json_bytes, json_in, new_table, read_by, schema_in, settings_in, table_of, with_settings}
 use Rattle.pinot_run.proofs.StoredLemmas.{table_segments}
@@ -271,7 +271,7 @@ module _ (stored : Files) (texts : state.Texts) (segments : Segments) (stands : 
       let test : nat_le 512 (map.len segments) ≡ true = as_many (map.len segments) (omega (arith, count, most)) in
       rw free (rw test refl)
 
-  placed_rows : (table : Table) (rows : Result (List (List Value)) Note) → HasPlace stored name table → csv_rows table.schema.fields csv (map.get inputs csv) ≡ rows → new_rows table segments name csv inputs ≡ rows
+  placed_rows : (table : Table) (rows : Result (List (List Value)) Note) → HasPlace stored name table → segment_rows table csv (map.get inputs csv) ≡ rows → new_rows table segments name csv inputs ≡ rows
   placed_rows table rows place are =
       let free : is_some (map.get segments name) ≡ false = ap is_some (free_name place.free) in
       let (all, names, fewer) = place.room in

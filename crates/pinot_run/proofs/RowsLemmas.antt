@@ -9,7 +9,9 @@ use Rattle.outside.specs.Files.{Files, Lacks}
 use Rattle.outside.specs.Whole.{IsTooLong, IsWhole}
 use Rattle.values.specs.declared.value.Value.{Value}
 use Rattle.values.specs.declared.value.Value.TheVariants.{Whole, Text}
+use Rattle.segment_build.specs.Growing.{trees_fit}
 use Rattle.table_schema.specs.declared.field.Field.{Field}
+use Rattle.table_schema.specs.declared.table.Table.{Table}
 use Rattle.dictionary.specs.Dictionary as dictionary
 use Rattle.csv_ingest.specs.Blocks.{RowsOrFault}
 use Rattle.csv_ingest.specs.Rows.{csv_limits, records_of, rows_in}
@@ -18,10 +20,10 @@ use Rattle.csv_ingest.specs.declared.fault.CsvFault.{CsvFault}
 use Rattle.csv_ingest.specs.declared.fault.CsvFault.TheVariants as csv
 use Rattle.csv_ingest.proofs.FaultLemmas.{any_columns}
 use Rattle.csv_ingest.proofs.UnicodeRows.{rows_are_unicode}
-use Rattle.pinot_run.specs.Build.{csv_rows, noted}
+use Rattle.pinot_run.specs.Build.{csv_rows, fitting, noted, segment_rows}
 use Rattle.pinot_run.specs.Gives.{StopsRead, StopsRows, StopsText}
 use Rattle.pinot_run.specs.Notes.{csv_note}
-use Rattle.pinot_run.specs.Profile.{csv_limit, rows_refuse}
+use Rattle.pinot_run.specs.Profile.{csv_limit, rows_refuse, tree_limit}
 use Rattle.pinot_run.specs.declared.fault.Fault.TheVariants as fault
 use Rattle.pinot_run.specs.declared.note.Counted.TheVariants as counted
 use Rattle.pinot_run.specs.declared.note.Note.{Note}
@@ -132,6 +134,35 @@ missing_of fields named file files (Some bytes) got e =
 
 pub rows_missing : (fields : List Field) (named file : List ℕ) (files : Files) → csv_rows fields named (tree.get files named) ≡ Err (note.NoInput file) → tree.get files file ≡ None
 rows_missing fields named file files e = missing_of fields named file files (tree.get files named) refl e
+
+-- ---- the trees of rows
+
+-- what has no rows has none of which the trees are few
+pub fitting_none : (table : Table) (found : Result (List (List Value)) Note) (line : Note) → found ≡ Err line → fitting table found ≡ Err line
+unfolding fitting
+fitting_none table found line is = ap (fitting table) is
+
+pub fitting_all : (table : Table) (found : Result (List (List Value)) Note) (rows : List (List Value)) → found ≡ Ok rows → trees_fit table rows ≡ true → fitting table found ≡ Ok rows
+unfolding fitting
+fitting_all table found rows is fit = ap (fitting table) is ∙ rw fit refl
+
+pub fitting_large : (table : Table) (found : Result (List (List Value)) Note) (rows : List (List Value)) → found ≡ Ok rows → trees_fit table rows ≡ false
+    → fitting table found ≡ Err (note.TooLarge counted.TreeBytes tree_limit)
+unfolding fitting
+fitting_large table found rows is large = ap (fitting table) is ∙ rw large refl
+
+large_missing : (t : Bool) (rows : List (List Value)) (file : List ℕ) → cond t (Ok rows) (Err (note.TooLarge counted.TreeBytes tree_limit)) ≡ Err (note.NoInput file) → ⊥
+large_missing true rows file e = cc
+large_missing false rows file e = cc
+
+fitting_missing : (table : Table) (found : Result (List (List Value)) Note) (file : List ℕ) → fitting table found ≡ Err (note.NoInput file) → found ≡ Err (note.NoInput file)
+unfolding fitting
+fitting_missing table (Ok rows) file e = absurd (large_missing (trees_fit table rows) rows file e)
+fitting_missing table (Err line) file e = e
+
+pub segment_missing : (table : Table) (named file : List ℕ) (files : Files) → segment_rows table named (tree.get files named) ≡ Err (note.NoInput file) → tree.get files file ≡ None
+segment_missing table named file files e =
+    rows_missing table.schema.fields named file files (fitting_missing table (csv_rows table.schema.fields named (tree.get files named)) file e)
 
 -- ---- results
 

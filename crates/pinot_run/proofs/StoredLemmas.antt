@@ -169,6 +169,7 @@ module _ (old new : Seen) (log : LogsOpened TableFile old.log new.log) where
       subst Looks (sym is) (record { reads = reads_as old new reads (λ e. absurd cc) (λ e. absurd cc); log = log; found = tt; stops = (refl, none refl) })
   no_table store.NameTaken s is none other reads only = absurd is
   no_table store.TooManySegments s is none other reads only = absurd is
+  no_table store.TooLarge s is none other reads only = absurd is
   no_table (store.NotASegment p) s (inl is) none other reads only =
       let wrong = other (is_table_part p only) in
       let refused = told_each old.held (λ files. OfFile (Some files) table_name IsNoTableFile) (λ files. TableRefuses files (note.NotASegment table_name (codes "table")))

@@ -13,13 +13,14 @@ use Rattle.table_schema.specs.declared.settings.Settings.{Settings}
 use Rattle.table_schema.specs.declared.table.Table.{Table}
 use Rattle.csv_ingest.specs.Rows.{csv_limits, records_of, rows_in}
 use Rattle.csv_ingest.specs.declared.fault.CsvFault.{CsvFault}
+use Rattle.segment_build.specs.Growing.{trees_fit}
 use Rattle.segment_file.specs.Image.{CanHold, image}
 use Rattle.segment_file.specs.Names.{IsSegmentName, file_of}
 use Rattle.table_store.specs.Segments.{HasRoom, IsFull}
 use Rattle.table_store.specs.Stands.{most_segments}
 use Rattle.table_store.specs.State.{Segments, Texts}
 use Rattle.pinot_run.specs.Notes.{csv_note}
-use Rattle.pinot_run.specs.Profile.{csv_limit}
+use Rattle.pinot_run.specs.Profile.{csv_limit, tree_limit}
 use Rattle.pinot_run.specs.Stored.{HasTableFile, TableRefuses}
 use Rattle.pinot_run.specs.declared.note.Counted.TheVariants as counted
 use Rattle.pinot_run.specs.declared.note.Note.{Note}
@@ -55,12 +56,21 @@ csv_rows fields file (Some bytes) =
     if nat_lt csv_limit (length bytes) then Err (note.TooLarge counted.CsvBytes csv_limit)
     else noted (rows_in csv_limits fields (records_of bytes))
 
+-- rows of which each star-tree takes no more bytes than one may
+unfoldable pub fitting : Table → Result (List (List Value)) Note → Result (List (List Value)) Note
+fitting table (Err line) = Err line
+fitting table (Ok rows) = if trees_fit table rows then Ok rows else Err (note.TooLarge counted.TreeBytes tree_limit)
+
+-- the rows of a segment of the table in the bytes of a file, if there is one
+abbrev pub segment_rows : Table → List ℕ → Option (List ℕ) → Result (List (List Value)) Note
+segment_rows table file bytes = fitting table (csv_rows table.schema.fields file bytes)
+
 -- the rows for a new segment: none of these has its name, and there may be one more
 abbrev pub new_rows : Table → Segments → List ℕ → List ℕ → Files → Result (List (List Value)) Note
 new_rows table segments name csv inputs =
     if is_some (map.get segments name) then Err (note.NameTaken name)
     else if nat_le most_segments (map.len segments) then Err (note.TooLarge counted.Segments most_segments)
-    else csv_rows table.schema.fields csv (map.get inputs csv)
+    else segment_rows table csv (map.get inputs csv)
 
 -- what is said of a segment of rows that was published
 abbrev pub built_text : List ℕ → List (List Value) → List ℕ
@@ -89,11 +99,11 @@ pub record AreMany (files : Files) (name : List ℕ) (line : Note) : Type 0 wher
   pub full : IsFull files
   pub line_is : line ≡ note.TooLarge counted.Segments most_segments
 
--- the CSV file has no rows for the table
+-- the CSV file has no rows for a segment of the table
 pub record LacksRows (inputs files : Files) (name csv : List ℕ) (line : Note) : Type 0 where
   pub table : Table
   pub place : HasPlace files name table
-  pub rows_are : csv_rows table.schema.fields csv (map.get inputs csv) ≡ Err line
+  pub rows_are : segment_rows table csv (map.get inputs csv) ≡ Err line
 
 -- why a store has no place for a segment of this name
 abbrev pub PlaceRefuses : List ℕ → Files → Note → Type 0
@@ -109,7 +119,7 @@ pub record IsBuilt (inputs files : Files) (name csv text : List ℕ) (new : Opti
   pub table : Table
   pub place : HasPlace files name table
   pub rows : List (List Value)
-  pub rows_are : csv_rows table.schema.fields csv (map.get inputs csv) ≡ Ok rows
+  pub rows_are : segment_rows table csv (map.get inputs csv) ≡ Ok rows
   pub can : CanHold table rows
   pub text_is : text ≡ built_text name rows
   pub leaves : new ≡ with_file (file_of name) (image 1 table name rows) (Some files)

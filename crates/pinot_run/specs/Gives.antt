@@ -1,5 +1,5 @@
 -- What the functions below a command's own answer.
-use Rattle.std.specs.Prelude.{◌≡◌, ◌⊎◌, ◌++◌, ◌<◌, true, ℕ, List, [], codes, get_or, length, Option, Result, Ok, Err, IsErrAnd, IfSome, IfErr, IfOk}
+use Rattle.std.specs.Prelude.{◌≡◌, ◌⊎◌, ◌++◌, ◌<◌, true, false, ℕ, List, [], codes, get_or, length, Option, Result, Ok, Err, IsErrAnd, IfSome, IfErr, IfOk}
 use Rattle.std.specs.FinMap as finite
 use Rattle.outside.specs.Counts.{Rose}
 use Rattle.outside.specs.Files.{Files, Has, Lacks, with_file}
@@ -11,10 +11,11 @@ use Rattle.table_schema.specs.declared.table.Table.{Table}
 use Rattle.table_store.specs.State as state
 use Rattle.table_store.specs.TableFile.{table_file, table_name}
 use Rattle.pinot_run.specs.Build.{HasPlace, PlaceRefuses, built_text, csv_rows}
-use Rattle.pinot_run.specs.Profile.{Opens, StoreFiles, TableFile, place_refuses, query_refuses, rows_refuse, store_refuses, texts_refuse}
+use Rattle.pinot_run.specs.Profile.{Opens, StoreFiles, TableFile, place_refuses, query_refuses, rows_refuse, store_refuses, texts_refuse, tree_limit}
 use Rattle.pinot_run.specs.Queried.{IsQueried, QueryRefuses}
 use Rattle.pinot_run.specs.Stored.{part_text}
 use Rattle.pinot_run.specs.Touched.{LogsOpened}
+use Rattle.segment_build.specs.Growing.{TreesFit, trees_fit}
 use Rattle.segment_file.specs.Image.{image}
 use Rattle.segment_file.specs.Names.{file_of}
 use Rattle.segment_file.specs.declared.fault.HeadFault.{HeadFault}
@@ -34,6 +35,7 @@ use Rattle.outside.specs.Seen.{Seen, OnlyReads}
 use Rattle.pinot_run.specs.declared.about.About.{About}
 use Rattle.pinot_run.specs.declared.fault.Fault.TheVariants as fault
 use Rattle.pinot_run.specs.declared.note.Counted.{Counted}
+use Rattle.pinot_run.specs.declared.note.Counted.TheVariants as counted
 use Rattle.pinot_run.specs.declared.note.Note.{Note}
 use Rattle.pinot_run.specs.declared.note.Note.TheVariants as note
 use Rattle.pinot_run.specs.declared.stop.Stop.{Stop}
@@ -181,10 +183,10 @@ StopsRows fields csv held Failing (stop.Fault fault.Read) = Failing
 StopsRows fields csv held Failing (stop.Fault fault.Write) = ⊥
 StopsRows fields csv held Failing (stop.Fault fault.Memory) = Unit {0}
 
--- a segment of these rows was published, or the store could not be written, or memory ran out
+-- a segment of these rows was published, or a tree of them is too large, or the store could not be written, or memory ran out
 abbrev pub Publishes : Table → List ℕ → List (List Value) → Seen → Seen → Result (List ℕ) Stop → Type 0
-Publishes table name rows old new (Ok text) = (new.held ≡ with_file (file_of name) (image 1 table name rows) old.held) × (text ≡ built_text name rows)
-Publishes table name rows old new (Err (stop.Refused line)) = ⊥
+Publishes table name rows old new (Ok text) = (new.held ≡ with_file (file_of name) (image 1 table name rows) old.held) × (text ≡ built_text name rows) × TreesFit table rows
+Publishes table name rows old new (Err (stop.Refused line)) = (line ≡ note.TooLarge counted.TreeBytes tree_limit) × (trees_fit table rows ≡ false) × (new.held ≡ old.held)
 Publishes table name rows old new (Err (stop.Fault fault.Read)) = ⊥
 Publishes table name rows old new (Err (stop.Fault fault.Write)) = (new.held ≡ old.held) × Rose old.write_faults new.write_faults
 Publishes table name rows old new (Err (stop.Fault fault.Memory)) = new.held ≡ old.held

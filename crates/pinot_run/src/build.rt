@@ -8,8 +8,7 @@ ghost use Rattle.outside.specs.Seen.{seen};
 ghost use Rattle.values.specs.Columns.{rows_of};
 ghost use Rattle.csv_ingest.specs.Rows.{csv_limits, records_of, rows_in};
 ghost use Rattle.csv_ingest.specs.Unicode.{IsUnicode};
-ghost use Rattle.segment_build.specs.Sections.{IsBare};
-ghost use Rattle.segment_file.specs.Image.{CanHold};
+ghost use Rattle.dictionary.specs.Dictionary as dictionary;
 ghost use Rattle.segment_file.specs.Names.{IsSegmentName, file_of};
 ghost use Rattle.table_schema.specs.ValidTable.{AreRows, IsValidTable};
 ghost use Rattle.pinot_run.specs.Build.{csv_rows};
@@ -32,6 +31,9 @@ use segment_build::{BuildFault, write_columns};
 use std::alloc::{AllocError, Global};
 use table_schema::{Field, Table};
 use values::{Columns, Value};
+
+// The most bytes that the nodes and documents of a star-tree may take.
+const TREE_LIMIT: u64 = 134_217_728;
 
 /// The reply to `build`. Where the store has no place for the segment, the CSV file is not looked at.
 pub fn build<I: Shelf, D: Depot>(
@@ -59,12 +61,14 @@ fn read_rows<I: Shelf>(
     inputs: &mut I,
 ) -> Result<Columns, Stop>
     requires valid { IsValidTable table.now }
-    requires bare { IsBare table.now }
     ensures rows { IfOk result (λ columns. IfSome (I.held inputs.old) (λ files.
         csv_rows table.now.schema.fields csv.now (map.get files csv.now) ≡ Ok (rows_of columns))) }
     ensures width { IfOk result (λ columns.
         length columns.columns ≡ length table.now.schema.fields) }
-    ensures can { IfOk result (λ columns. CanHold table.now (rows_of columns)) }
+    ensures fit { IfOk result (λ columns.
+        AreRows table.now.schema.fields (rows_of columns)) }
+    ensures unicode { IfOk result (λ columns.
+        All (λ row. All dictionary.IsUnicode row) (rows_of columns)) }
     ensures stops { IfErr result (StopsRows table.now.schema.fields csv.now (I.held inputs.old)
         (Rose (I.read_faults inputs.old) (I.read_faults inputs.new))) }
     ensures still { ¬ IsErrOf result (Stop.Fault Fault.Read) →
@@ -79,13 +83,15 @@ fn read_rows<I: Shelf>(
 // The rows of a CSV text over the fields of a table, column by column.
 fn columns_of(alloc: Global, table: &Table, text: &[u8]) -> Result<Columns, Stop>
     requires valid { IsValidTable table.now }
-    requires bare { IsBare table.now }
     requires short { length text.now ≤ csv_limit }
     ensures rows { IfOk result (λ columns.
         rows_in csv_limits table.now.schema.fields (records_of text.now) ≡ Ok (rows_of columns)) }
     ensures width { IfOk result (λ columns.
         length columns.columns ≡ length table.now.schema.fields) }
-    ensures can { IfOk result (λ columns. CanHold table.now (rows_of columns)) }
+    ensures fit { IfOk result (λ columns.
+        AreRows table.now.schema.fields (rows_of columns)) }
+    ensures unicode { IfOk result (λ columns.
+        All (λ row. All dictionary.IsUnicode row) (rows_of columns)) }
     ensures stops { IfErr result
         (StopsText (rows_in csv_limits table.now.schema.fields (records_of text.now))) }
 {
@@ -131,7 +137,8 @@ fn look_at(value: &Value)
     }
 }
 
-// Publishes a segment of rows. The reply is made before the store is written.
+// Publishes a segment of rows, where their star-trees are not too large. The reply is made before
+// the store is written.
 fn publish<D: Depot>(
     alloc: Global,
     table: &Table,
@@ -140,7 +147,6 @@ fn publish<D: Depot>(
     depot: &mut D,
 ) -> Result<Bytes, Stop>
     requires valid { IsValidTable table.now }
-    requires bare { IsBare table.now }
     requires name { IsSegmentName name.now }
     requires width { length columns.now.columns ≡ length table.now.schema.fields }
     requires rows { AreRows table.now.schema.fields (rows_of columns.now) }
@@ -157,7 +163,10 @@ fn publish<D: Depot>(
         Ok(()) => Ok(reply),
         Err(BuildFault::WriteFault) => Err(Stop::Fault(Fault::Write)),
         Err(BuildFault::NoMemory) => Err(Stop::Fault(Fault::Memory)),
-        Err(BuildFault::TooLarge(_)) => unreachable!(),
+        Err(BuildFault::TooLarge(_)) => Err(Stop::Refused(Note::TooLarge(
+            Counted::TreeBytes,
+            TREE_LIMIT,
+        ))),
     }
 }
 

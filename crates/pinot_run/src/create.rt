@@ -197,6 +197,7 @@ fn make<D: Depot>(alloc: Global, new: &NewTable, depot: &mut D) -> Result<Bytes,
             StoreFault::NoTable
             | StoreFault::NameTaken
             | StoreFault::TooManySegments
+            | StoreFault::TooLarge
             | StoreFault::NotASegment(_),
         ) => unreachable!(),
     }

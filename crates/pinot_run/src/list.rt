@@ -4,7 +4,6 @@ ghost use Rattle.std.specs.Fmt.{decimal};
 ghost use Rattle.std.specs.List.{All, AllZip};
 ghost use Rattle.outside.specs.Seen.{Seen, seen};
 ghost use Rattle.segment_file.specs.Names.{IsSegmentName};
-ghost use Rattle.segment_file.specs.Parts.{IsPlainTable};
 ghost use Rattle.table_schema.specs.ValidTable.{IsValidTable};
 ghost use Rattle.table_store.specs.Segments.{has_segment};
 ghost use Rattle.pinot_run.specs.Command.{Listing};
@@ -44,7 +43,6 @@ fn count_all<D: Depot>(
     names: &[Name],
 ) -> Result<Seq<u32>, Stop>
     requires valid { IsValidTable table.now }
-    requires plain { IsPlainTable table.now }
     requires named { All IsSegmentName names.now }
     requires there { IfSome (D.held depot.old) (λ files. HasTableFile files table.now
         × All (λ name. has_segment files name ≡ true) names.now) }
@@ -76,7 +74,6 @@ fn count_rows<D: Depot>(
     name: &str,
 ) -> Result<u32, Stop>
     requires valid { IsValidTable table.now }
-    requires plain { IsPlainTable table.now }
     requires name { IsSegmentName name.now }
     requires there { IfSome (D.held depot.old) (λ files. HasTableFile files table.now
         × (has_segment files name.now ≡ true)) }

@@ -1,10 +1,8 @@
 //! The commands `query`, `explain` and `stats`: a query over the segments of a store.
-ghost use Rattle.std.specs.Prelude.{◌≡◌, ◌≤◌, false, length, Some, IfSome};
+ghost use Rattle.std.specs.Prelude.{◌≡◌, ◌≤◌, length, Some, IfSome};
 ghost use Rattle.std.specs.List.{All};
 ghost use Rattle.outside.specs.Seen.{Seen, seen};
 ghost use Rattle.segment_file.specs.Names.{IsSegmentName};
-ghost use Rattle.segment_file.specs.Parts.{IsPlainTable};
-ghost use Rattle.table_schema.specs.Unbuilt.{names_unbuilt};
 ghost use Rattle.table_schema.specs.ValidTable.{IsValidTable};
 ghost use Rattle.table_store.specs.Segments.{AreFirstNames};
 ghost use Rattle.pinot_run.specs.Command.{Ask};
@@ -47,8 +45,6 @@ fn reply_over<D: Depot>(
     depot: &mut D,
 ) -> Result<Bytes, Stop>
     requires valid { IsValidTable table.now }
-    requires plain { IsPlainTable table.now }
-    requires built { names_unbuilt table.now.settings ≡ false }
     requires named { All IsSegmentName names.now }
     requires few { length names.now ≤ 512 }
     requires there { IfSome (D.held depot.old) (λ files. HasTableFile files table.now

@@ -1,10 +1,8 @@
 //! What is looked at in a store.
-ghost use Rattle.std.specs.Prelude.{◌≡◌, ◌≤◌, false, codes, length, IfOk};
+ghost use Rattle.std.specs.Prelude.{◌≡◌, ◌≤◌, codes, length, IfOk};
 ghost use Rattle.std.specs.List.{All};
 ghost use Rattle.outside.specs.Seen.{seen};
 ghost use Rattle.segment_file.specs.Names.{IsSegmentName};
-ghost use Rattle.segment_build.specs.Sections.{IsBare};
-ghost use Rattle.table_schema.specs.Unbuilt.{names_unbuilt};
 ghost use Rattle.table_schema.specs.ValidTable.{IsValidTable};
 ghost use Rattle.table_store.specs.Segments.{AreFirstNames};
 ghost use Rattle.table_store.specs.TableFile.{table_name};
@@ -25,7 +23,6 @@ pub fn stored_table<D: Depot>(alloc: Global, depot: &mut D) -> Result<Table, Sto
     ensures looks { LooksFor HasTableFile TableRefuses TableFile
         (seen D.Shelf depot.old) (seen D.Shelf depot.new) result }
     ensures valid { IfOk result (λ table. IsValidTable table) }
-    ensures built { IfOk result (λ table. names_unbuilt table.settings ≡ false) }
 {
     match open_table(alloc, depot) {
         Ok(table) => Ok(table),
@@ -50,7 +47,6 @@ pub fn stored_names<D: Depot>(alloc: Global, depot: &mut D) -> Result<Seq<Name>,
 pub fn table_with_place<D: Depot>(alloc: Global, name: &str, depot: &mut D) -> Result<Table, Stop>
     ensures place { FindsPlace name.now (seen D.Shelf depot.old) (seen D.Shelf depot.new) result }
     ensures valid { IfOk result (λ table. IsValidTable table) }
-    ensures bare { IfOk result (λ table. IsBare table) }
 {
     let table = stored_table(alloc, depot)?;
     match find_room(alloc, depot, name) {
@@ -65,6 +61,7 @@ pub fn table_with_place<D: Depot>(alloc: Global, name: &str, depot: &mut D) -> R
         Err(
             StoreFault::TableExists
             | StoreFault::NoTable
+            | StoreFault::TooLarge
             | StoreFault::NotASegment(_)
             | StoreFault::WriteFault,
         ) => unreachable!(),
@@ -97,6 +94,7 @@ fn stop_of(alloc: Global, fault: StoreFault) -> Stop
         StoreFault::TableExists
         | StoreFault::NameTaken
         | StoreFault::TooManySegments
+        | StoreFault::TooLarge
         | StoreFault::WriteFault => unreachable!(),
     }
 }

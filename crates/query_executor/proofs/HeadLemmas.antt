@@ -21,7 +21,7 @@ use Rattle.segment_file.specs.Rules.{heads_in}
 use Rattle.segment_file.proofs.Composed.{made_count}
 use Rattle.query_executor.specs.Logs.{DictionariesEnd, EndsBy, LogsThat}
 use Rattle.query_executor.specs.Segments.{HasNoImage}
-use Rattle.query_executor.specs.Steps.{Grows, IsHeadIn}
+use Rattle.query_executor.specs.Steps.{Grows, IsHeadIn, IsSpreadIn}
 use Rattle.query_executor.proofs.LogLemmas.{through_ends}
 
 -- ---- a head that is opened
@@ -57,6 +57,15 @@ module _ (law : ImageKeeps) (table : Table) (valid : IsValidTable table) (name :
         is_head = full;
         part = part (image_head table name file rows) (subst (λ bytes. IsHead table name file bytes (image_head table name file rows)) (sym stored) full);
       }
+
+  -- it says where the sections of the image are
+  pub opened_spread : (held : Option Files) (file : List ℕ) (head : Seen) → file ≡ file_of name → IfSome held (λ files. (whole : Seen) → IsHead table name file (bytes_of (Some files) file) whole → IsPartOf whole head)
+      → IsSpreadIn table held name head
+  opened_spread None file head is part = tt
+  opened_spread (Some files) file head is part = λ rows has.
+      let stored : bytes_of (Some files) file ≡ image 1 table name rows = ap (bytes_of (Some files)) is ∙ has.stored in
+      let own = part (image_head table name file rows) (subst (λ bytes. IsHead table name file bytes (image_head table name file rows)) (sym stored) (image_is file rows has.can)) in
+      own.sections_same ∙ ap (λ f. map (placed f) (extents_of table name (front_of 1 table (ordered table.settings.sorted rows)))) is
 
   -- a file that breaks a rule is no image
   pub broken_none : (held : Option Files) (file : List ℕ) → file ≡ file_of name → IfSome held (λ files. ¬ KeepsRules table name (bytes_of (Some files) file)) → IfSome held (λ files. HasNoImage table files name)

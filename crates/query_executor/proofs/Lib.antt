@@ -11,12 +11,16 @@ mod LineLemmas
 mod NameLemmas
 mod DoneLemmas
 mod StatedLemmas
-mod GrownLemmas
+pub mod GrownLemmas
 mod TreeLogs
-mod SpanLemmas
+pub mod SpanLemmas
 mod PlaceLemmas
 mod PartPlaces
 mod WithinLogs
 mod IndexReads
 mod ForwardReads
 mod ScanReads
+mod HeadReads
+mod TreeReads
+mod OneReads
+mod Unread

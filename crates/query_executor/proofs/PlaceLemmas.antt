@@ -136,7 +136,7 @@ module _ (table : Table) (t : ℕ) (lt : t < length table.settings.trees) where
   got_none zero = refl
   got_none (suc n) = refl
 
-  taken_more : (xs : List ℕ) (n : ℕ) → sum (take (n + 1) xs) ≡ sum (take n xs) + get_or xs n 0
+  pub taken_more : (xs : List ℕ) (n : ℕ) → sum (take (n + 1) xs) ≡ sum (take n xs) + get_or xs n 0
   taken_more [] n = let short = taken_none n in let long = taken_none (n + 1) in let none = got_none n in omega (arith, short, long, none)
   taken_more (x ∷ xs) zero =
       let one : sum (take 1 (x ∷ xs)) ≡ x + sum (take 0 xs) = sum_by-cons (λ n. n) x (take 0 xs) in

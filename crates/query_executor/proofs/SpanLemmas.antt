@@ -43,7 +43,7 @@ before_part file end from to (entry ∷ x) le all =
     ∙ (λ i. read_by-apart entry file from to (inl (omega (arith, ends, le))) i + before_part file end from to x le (All-tail (EndsBy file end) entry x all) i)
 
 -- reads of stretches gave what these have in common with a part
-abbrev overlaps : List Stretch → ℕ → ℕ → ℕ
+abbrev pub overlaps : List Stretch → ℕ → ℕ → ℕ
 overlaps [] from to = 0
 overlaps (s ∷ ss) from to = overlap s.from s.to from to + overlaps ss from to
 

@@ -1,5 +1,5 @@
 -- What is done with one segment of a table for a query.
-use Rattle.std.specs.Prelude.{◌≡◌, ◌<◌, ◌+◌, ◌++◌, ℕ, List, Option, IfSome, Ok, drop, take}
+use Rattle.std.specs.Prelude.{◌≡◌, ◌<◌, ◌+◌, ◌++◌, ℕ, List, Option, IfSome, Ok, drop, map, take}
 use Rattle.std.specs.FinMap as finite
 use Rattle.std.specs.List.{AllZip}
 use Rattle.outside.specs.Files.{Files}
@@ -10,7 +10,10 @@ use Rattle.group_table.specs.Groups.{groups_of}
 use Rattle.group_table.specs.Kept.{IsTableOf, KeptGroups, groups_in}
 use Rattle.group_table.specs.Shape.{shape_of}
 use Rattle.scan_engine.specs.Scanned.{HaveAtMost, IsOverfull, selected}
-use Rattle.segment_file.specs.Heads.{IsHeadOf, IsLoaded, Seen}
+use Rattle.segment_file.specs.Front.{extents_of}
+use Rattle.segment_file.specs.Heads.{IsHeadOf, IsLoaded, Seen, placed}
+use Rattle.segment_file.specs.Image.{front_of}
+use Rattle.segment_file.specs.Names.{file_of}
 use Rattle.segment_file.specs.Ordered.{ordered}
 use Rattle.segment_file.specs.declared.fault.HeadFault.{HeadFault}
 use Rattle.segment_file.specs.declared.fault.HeadFault.TheVariants as head
@@ -51,6 +54,10 @@ of_answer answer.NoMemory = engine.NoMemory
 -- where files are told: if the segment's file is the image of rows, this is its head, but for dictionaries that are not loaded
 abbrev pub IsHeadIn : Table → Option Files → List ℕ → Seen → Type 0
 IsHeadIn table held name head = IfSome held (λ files. (rows : List (List Value)) → HasImage table files name rows → IsOfImage table files rows head)
+
+-- where files are told: if the segment's file is the image of rows, the head says where the sections of these are
+abbrev pub IsSpreadIn : Table → Option Files → List ℕ → Seen → Type 0
+IsSpreadIn table held name head = IfSome held (λ files. (rows : List (List Value)) → HasImage table files name rows → head.sections ≡ map (placed (file_of name)) (extents_of table name (front_of 1 table (ordered table.settings.sorted rows))))
 
 -- a head before and after more dictionaries were loaded
 pub record Grows (table : Table) (held : Option Files) (old new : Seen) : Type 0 where

@@ -1,5 +1,5 @@
 //! The reply to a query over the segments of a table.
-ghost use Rattle.std.specs.Prelude.{◌≡◌, ◌≢◌, ◌≤◌, ◌<◌, false, ℕ, [], Ok, Err, IfOk, IfSome, IsErrOf, OnOk, get_or, length};
+ghost use Rattle.std.specs.Prelude.{◌≡◌, ◌≢◌, ◌≤◌, ◌<◌, true, false, ℕ, [], Ok, Err, IfOk, IfSome, IsErrOf, OnErr, OnOk, get_or, length};
 ghost use Rattle.std.specs.List.{All};
 ghost use Rattle.outside.specs.Seen.{OnlyReads, seen};
 ghost use Rattle.table_schema.specs.ValidQuery.{IsValidQuery};
@@ -14,6 +14,8 @@ ghost use Rattle.sql_reply.specs.declared.fault.SqlFault.{SqlFault};
 ghost use Rattle.sql_reply.specs.declared.fault.SqlFault.TheVariants.{NoMemory, TooManyGroups};
 ghost use Rattle.query_executor.specs.Answers.{IsBoundReply, IsReply};
 ghost use Rattle.query_executor.specs.Logs.{LogsOf};
+ghost use Rattle.query_executor.specs.Reads.{LogsEach, ReadsPlanned};
+ghost use Rattle.table_schema.specs.declared.query.BoundQuery.{BoundQuery};
 ghost use Rattle.query_executor.specs.Segments.{HasNoImage};
 ghost use Rattle.query_executor.specs.Steps.{HasGroups, HaveTooMany};
 ghost use Rattle.query_executor.specs.declared.fault.ExecutorFault.TheVariants.{NotASegment, ReadFault, Sql};
@@ -22,6 +24,7 @@ use crate::ExecutorFault;
 use crate::pass::{Pass, pass_over};
 use outside::{Bytes, Name, Shelf};
 use sql_reply::{SqlFault, answer, bound_query};
+use star_answer::docs_bound_law;
 use std::alloc::Global;
 use table_schema::{BoundQuery, Table};
 
@@ -52,7 +55,16 @@ pub fn reply_to_query<S: Shelf>(
     ensures only_reads { OnlyReads (IsErrOf result ReadFault)
         (seen S.Shelf shelf.old) (seen S.Shelf shelf.new) }
     ensures log { LogsOf names.now (S.log shelf.old) (S.log shelf.new) }
+    // What is read of each segment, by its plan.
+    ensures reads { OnOk result ((query : BoundQuery) → asked table.now false sql.now ≡ Ok query →
+        LogsEach (ReadsPlanned query table.now true) table.now (S.held shelf.old) names.now
+        (length names.now) (S.log shelf.old) (S.log shelf.new)) }
+    ensures reads_of_fault { OnErr result ((query : BoundQuery) →
+        asked table.now false sql.now ≡ Ok query →
+        LogsEach (ReadsPlanned query table.now false) table.now (S.held shelf.old) names.now
+        (length names.now) (S.log shelf.old) (S.log shelf.new)) }
 {
+    docs_bound_law();
     match bound_query(alloc, sql, table, false) {
         Ok(bound) => reply_to_bound(alloc, shelf, table, names, &bound),
         Err(fault) => Err(ExecutorFault::Sql(fault)),
@@ -82,7 +94,13 @@ fn reply_to_bound<S: Shelf>(
     ensures only_reads { OnlyReads (IsErrOf result ReadFault)
         (seen S.Shelf shelf.old) (seen S.Shelf shelf.new) }
     ensures log { LogsOf names.now (S.log shelf.old) (S.log shelf.new) }
+    ensures reads { OnOk result (LogsEach (ReadsPlanned query.now table.now true) table.now
+        (S.held shelf.old) names.now (length names.now) (S.log shelf.old) (S.log shelf.new)) }
+    ensures reads_of_fault { OnErr result (LogsEach (ReadsPlanned query.now table.now false)
+        table.now (S.held shelf.old) names.now (length names.now)
+        (S.log shelf.old) (S.log shelf.new)) }
 {
+    docs_bound_law();
     let mut pass = Pass::new(alloc, query, false)?;
     match pass_over(alloc, shelf, table, names, query, &mut pass) {
         Ok(()) => {}

@@ -8,7 +8,7 @@ ghost use Rattle.segment_scan.specs.declared.fault.EngineFault.TheVariants.{NotA
 ghost use Rattle.table_schema.specs.ValidTable.{IsValidTable};
 ghost use Rattle.query_executor.specs.Logs.{EndsInHead, LogsHeadOf};
 ghost use Rattle.query_executor.specs.Segments.{HasNoImage};
-ghost use Rattle.query_executor.specs.Steps.{IsHeadIn, fault_of};
+ghost use Rattle.query_executor.specs.Steps.{IsHeadIn, IsSpreadIn, fault_of};
 
 use outside::Shelf;
 use segment_file::{Head, HeadFault, image_keeps_law, open_head};
@@ -30,6 +30,7 @@ pub fn open_segment<S: Shelf>(
     ensures image { IfOk result (IsHeadIn table.now (S.held shelf.old) name.now) }
     ensures ends { IfOk result (λ head. IfSome (S.held shelf.old) (λ files.
         EndsInHead table.now files name.now head)) }
+    ensures spread { IfOk result (IsSpreadIn table.now (S.held shelf.old) name.now) }
     ensures bad { (part : Part) → result ≡ Err (NotASegment part) →
         IfSome (S.held shelf.old) (λ files. HasNoImage table.now files name.now) }
     ensures never_full { result ≢ Err TooManyGroups }

@@ -1,6 +1,6 @@
 //! A pass over the segments of a table: their rows are added to the groups of a query, and a line is
 //! made for each where that is wanted.
-ghost use Rattle.std.specs.Prelude.{◌≡◌, ◌≢◌, ◌≤◌, ◌<◌, ◌-◌, ◌++◌, true, false, ℕ, [], Err, IfOk, IfSome, IsErrOf, OnOk, get_or, length};
+ghost use Rattle.std.specs.Prelude.{◌≡◌, ◌≢◌, ◌≤◌, ◌<◌, ◌-◌, ◌++◌, true, false, ℕ, [], Err, IfOk, IfSome, IsErrOf, OnErr, OnOk, get_or, length};
 ghost use Rattle.std.specs.List.{All};
 ghost use Rattle.outside.specs.Seen.{OnlyReads, seen};
 ghost use Rattle.agg_laws.specs.Numbers.{most_values};
@@ -16,6 +16,7 @@ ghost use Rattle.sql_reply.specs.declared.fault.SqlFault.{SqlFault};
 ghost use Rattle.sql_reply.specs.declared.fault.SqlFault.TheVariants.{NoMemory, TooManyGroups};
 ghost use Rattle.query_executor.specs.Explained.{line_by};
 ghost use Rattle.query_executor.specs.Logs.{LogsIn, LogsOf};
+ghost use Rattle.query_executor.specs.Reads.{LogsEach, LogsOne, ReadsPlanned};
 ghost use Rattle.query_executor.specs.Segments.{HasNoImage};
 ghost use Rattle.query_executor.specs.Stated.{stats_line, stats_text};
 ghost use Rattle.query_executor.specs.Steps.{AddsLine, AddsStored, HasGroups, HasLines, HaveTooMany, IsStoredOverfull};
@@ -29,6 +30,7 @@ use outside::{Name, Shelf};
 use segment_plan::push_word;
 use segment_scan::EngineFault;
 use sql_reply::MOST_GROUPS;
+use star_answer::docs_bound_law;
 use std::alloc::{AllocError, Global};
 use table_schema::{BoundQuery, Table};
 
@@ -90,7 +92,13 @@ pub fn pass_over<S: Shelf>(
     ensures only_reads { OnlyReads (IsErrOf result ReadFault)
         (seen S.Shelf shelf.old) (seen S.Shelf shelf.new) }
     ensures log { LogsOf names.now (S.log shelf.old) (S.log shelf.new) }
+    ensures reads { OnOk result (LogsEach (ReadsPlanned query.now table.now true) table.now
+        (S.held shelf.old) names.now (length names.now) (S.log shelf.old) (S.log shelf.new)) }
+    ensures reads_of_fault { OnErr result (LogsEach (ReadsPlanned query.now table.now false)
+        table.now (S.held shelf.old) names.now (length names.now)
+        (S.log shelf.old) (S.log shelf.new)) }
 {
+    docs_bound_law();
     'names: for at in 0..names.len() {
         match pass_one(alloc, shelf, table, names[at].as_str(), query, pass) {
             Ok(()) => {}
@@ -127,6 +135,10 @@ fn pass_one<S: Shelf>(
     ensures only_reads { OnlyReads (IsErrOf result engine.ReadFault)
         (seen S.Shelf shelf.old) (seen S.Shelf shelf.new) }
     ensures log { LogsIn (file_of name.now) (S.log shelf.old) (S.log shelf.new) }
+    ensures reads { OnOk result (LogsOne (ReadsPlanned query.now table.now true) table.now
+        (S.held shelf.old) name.now (S.log shelf.old) (S.log shelf.new)) }
+    ensures reads_of_fault { OnErr result (LogsOne (ReadsPlanned query.now table.now false)
+        table.now (S.held shelf.old) name.now (S.log shelf.old) (S.log shelf.new)) }
 {
     let done = match add_segment(alloc, shelf, table, name, query, &mut pass.groups) {
         Ok(done) => done,

@@ -1,5 +1,5 @@
 //! The rows of a segment are added to the groups of a query.
-ghost use Rattle.std.specs.Prelude.{◌≡◌, ◌-◌, Err, IfOk, IfSome, IsErrOf, List, None, ℕ, OnOk};
+ghost use Rattle.std.specs.Prelude.{◌≡◌, ◌-◌, true, false, Err, IfOk, IfSome, IsErrOf, List, None, ℕ, OnErr, OnOk};
 ghost use Rattle.outside.specs.Seen.{OnlyReads, seen};
 ghost use Rattle.agg_laws.specs.Numbers.{most_values};
 ghost use Rattle.group_table.specs.Kept.{IsTableOf, groups_in};
@@ -15,8 +15,9 @@ ghost use Rattle.star_answer.specs.Tasks.{AreGroupsLoaded};
 ghost use Rattle.table_schema.specs.ValidQuery.{IsValidQuery};
 ghost use Rattle.table_schema.specs.ValidTable.{IsValidTable};
 ghost use Rattle.query_executor.specs.Logs.{LogsIn};
+ghost use Rattle.query_executor.specs.Reads.{LogsOne, ReadsPlanned};
 ghost use Rattle.query_executor.specs.Segments.{HasNoImage};
-ghost use Rattle.query_executor.specs.Steps.{AddsStored, IsDoneIn, IsHeadIn, IsStoredOverfull};
+ghost use Rattle.query_executor.specs.Steps.{AddsStored, IsDoneIn, IsHeadIn, IsSpreadIn, IsStoredOverfull};
 ghost use Rattle.query_executor.specs.Steps as spec;
 
 use crate::loading::load_wanted;
@@ -29,7 +30,7 @@ use segment_plan::{
     SegmentPlan, empty_law, head_tells_law, plan, plan_over_law, prune, pruned_law,
 };
 use segment_scan::{EngineFault, scan_segment};
-use star_answer::{SegmentFault, answer_segment};
+use star_answer::{SegmentFault, answer_segment, docs_bound_law};
 use std::alloc::Global;
 use table_schema::{BoundQuery, Table};
 
@@ -69,7 +70,12 @@ pub fn add_segment<S: Shelf>(
     ensures only_reads { OnlyReads (IsErrOf result ReadFault)
         (seen S.Shelf shelf.old) (seen S.Shelf shelf.new) }
     ensures log { LogsIn (file_of name.now) (S.log shelf.old) (S.log shelf.new) }
+    ensures reads { OnOk result (LogsOne (ReadsPlanned query.now table.now true) table.now
+        (S.held shelf.old) name.now (S.log shelf.old) (S.log shelf.new)) }
+    ensures reads_of_fault { OnErr result (LogsOne (ReadsPlanned query.now table.now false)
+        table.now (S.held shelf.old) name.now (S.log shelf.old) (S.log shelf.new)) }
 {
+    docs_bound_law();
     let mut head = match open_segment(alloc, shelf, table, name) {
         Ok(head) => head,
         Err(fault) => return Err(fault),
@@ -122,7 +128,18 @@ fn add_planned<S: Shelf>(
         (seen S.Shelf shelf.old) (seen S.Shelf shelf.new) }
     ensures log { (file : List ℕ) → AreIn file head.now.sections →
         LogsIn file (S.log shelf.old) (S.log shelf.new) }
+    ensures reads { OnOk result ((name : List ℕ) →
+        IsHeadIn table.now (S.held shelf.old) name head.now →
+        IsSpreadIn table.now (S.held shelf.old) name head.now →
+        LogsOne (ReadsPlanned query.now table.now true) table.now (S.held shelf.old) name
+        (S.log shelf.old) (S.log shelf.new)) }
+    ensures reads_of_fault { OnErr result ((name : List ℕ) →
+        IsHeadIn table.now (S.held shelf.old) name head.now →
+        IsSpreadIn table.now (S.held shelf.old) name head.now →
+        LogsOne (ReadsPlanned query.now table.now false) table.now (S.held shelf.old) name
+        (S.log shelf.old) (S.log shelf.new)) }
 {
+    docs_bound_law();
     head_tells_law();
     pruned_law();
     empty_law();

@@ -1,8 +1,5 @@
 //! The file that is made of a CSV text, compared to one.
-ghost use Rattle.std.specs.Prelude.{◌≡◌, false};
 ghost use Rattle.table_schema.specs.ValidTable.{IsValidTable};
-ghost use Rattle.table_schema.specs.Unbuilt.{names_unbuilt};
-ghost use Rattle.segment_build.specs.Sections.{IsBare};
 
 use csv_ingest::read_columns;
 use segment_build::build_columns;
@@ -19,7 +16,6 @@ pub fn compared(
     file: &[u8],
 ) -> Result<String, AllocError>
     requires valid { IsValidTable table.now }
-    requires bare { IsBare table.now }
 {
     if !is_segment_name(name) || csv.len() > 134_217_728 {
         return String::from_str(alloc, "not tried");

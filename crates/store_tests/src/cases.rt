@@ -3,7 +3,6 @@
 ghost use Rattle.table_schema.specs.ValidTable.{IsValidTable};
 
 use crate::heads::outcome;
-use crate::{FILE, NAME};
 use std::alloc::{AllocError, Global};
 use table_schema::Table;
 
@@ -61,6 +60,7 @@ impl Report {
         &mut self,
         alloc: Global,
         table: &Table,
+        name: &str,
         file: &[u8],
         case: &Case,
     ) -> Result<(), AllocError>
@@ -68,7 +68,7 @@ impl Report {
     {
         for at in case.from..case.to.saturating_add(1) {
             let bytes = changed(alloc, file, case.cuts, at)?;
-            let found = outcome(alloc, bytes, FILE, NAME, table)?;
+            let found = outcome(alloc, bytes, name, table)?;
             self.count = self.count.saturating_add(1);
             if found.as_str() != case.expected {
                 let kind = if case.cuts { "cut" } else { "alter" };
@@ -84,6 +84,7 @@ impl Report {
 pub fn run_cases(
     alloc: Global,
     table: &Table,
+    name: &str,
     file: &[u8],
     cases: &str,
 ) -> Result<Report, AllocError>
@@ -95,7 +96,7 @@ pub fn run_cases(
     };
     for line in cases.lines() {
         if let Some(case) = case_of(line) {
-            report.add(alloc, table, file, &case)?;
+            report.add(alloc, table, name, file, &case)?;
         }
     }
     Ok(report)

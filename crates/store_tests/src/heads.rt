@@ -1,4 +1,4 @@
-//! What comes of the head of a segment's file.
+//! What comes of the head of a segment's file. The shelf has the file under every name.
 ghost use Rattle.table_schema.specs.ValidTable.{IsValidTable};
 
 use crate::counting::CountingShelf;
@@ -10,17 +10,16 @@ use table_schema::Table;
 pub fn outcome(
     alloc: Global,
     bytes: Vec<u8>,
-    file: &str,
     name: &str,
     table: &Table,
 ) -> Result<String, AllocError>
     requires { IsValidTable table.now }
 {
-    if !is_segment_name(name) || !table.settings.trees.is_empty() {
+    if !is_segment_name(name) {
         return String::from_str(alloc, "not tried");
     }
     let mut shelf = CountingShelf::new(bytes);
-    match read_head(alloc, &mut shelf, file, name, table) {
+    match read_head(alloc, &mut shelf, name, name, table) {
         Ok(head) => format!(in alloc; "{} rows", head.rows()),
         Err(HeadFault::NotASegment(part)) => format!(in alloc; "{part:?}"),
         Err(fault) => format!(in alloc; "{fault:?}"),
@@ -28,17 +27,16 @@ pub fn outcome(
 }
 
 /// How many bytes are read to open a head, to count a column's values, to load its dictionary, to
-/// do both again, and to read the whole head.
+/// do both again, to load the nodes of the first star-tree, and to read the whole head.
 pub fn costs(
     alloc: Global,
     shelf: &mut CountingShelf,
-    file: &str,
     name: &str,
     table: &Table,
 ) -> Result<String, AllocError>
     requires { IsValidTable table.now }
 {
-    match try_costs(alloc, shelf, file, name, table) {
+    match try_costs(alloc, shelf, name, table) {
         Ok(costs) => Ok(costs),
         Err(fault) => format!(in alloc; "{fault:?}"),
     }
@@ -47,19 +45,15 @@ pub fn costs(
 fn try_costs(
     alloc: Global,
     shelf: &mut CountingShelf,
-    file: &str,
     name: &str,
     table: &Table,
 ) -> Result<String, HeadFault>
     requires { IsValidTable table.now }
 {
-    if !is_segment_name(name)
-        || !table.settings.trees.is_empty()
-        || table.schema.fields.is_empty()
-    {
+    if !is_segment_name(name) || table.schema.fields.is_empty() {
         return Ok(String::from_str(alloc, "not tried")?);
     }
-    let mut head = open_head(alloc, shelf, file, name, table)?;
+    let mut head = open_head(alloc, shelf, name, name, table)?;
     let opened = shelf.taken();
     let _ = head.count(alloc, shelf, table, 0)?;
     let counted = shelf.taken();
@@ -68,7 +62,11 @@ fn try_costs(
     let _ = head.count(alloc, shelf, table, 0)?;
     head.load_dictionary(alloc, shelf, table, 0)?;
     let again = shelf.taken();
-    let _ = read_head(alloc, shelf, file, name, table)?;
+    if !table.settings.trees.is_empty() {
+        head.load_nodes(alloc, shelf, table, 0)?;
+    }
+    let nodes = shelf.taken();
+    let _ = read_head(alloc, shelf, name, name, table)?;
     let whole = shelf.taken();
-    Ok(format!(in alloc; "{opened} {counted} {loaded} {again} {whole}")?)
+    Ok(format!(in alloc; "{opened} {counted} {loaded} {again} {nodes} {whole}")?)
 }

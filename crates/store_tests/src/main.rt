@@ -1,9 +1,9 @@
-//! Runs cases over the file of a small segment, which another program wrote: whether the same file is made of its
+//! Runs cases over the files of two small segments, which another program wrote: whether the same file is made of the
 //! rows, what its head costs, and what comes of it where it is cut or a byte of it is another one.
 #![tactic(auto)]
 
+ghost use Rattle.std.specs.Prelude.{IfSome};
 ghost use Rattle.table_schema.specs.ValidTable.{IsValidTable};
-ghost use Rattle.segment_build.specs.Sections.{IsBare};
 
 mod built;
 mod cases;
@@ -13,29 +13,28 @@ mod heads;
 use cases::run_cases;
 use counting::CountingShelf;
 use host_devices::FolderDepot;
+use schema_json::read_schema;
+use settings_json::read_settings;
+use std::alloc::Global;
 use std::{fs, io};
 use table_schema::Table;
 use table_store::open_table;
 
-// The name of the segment, and its file.
-const NAME: &str = "s";
-
-const FILE: &str = "s.seg";
-
-// Runs everything over the file of this table's segment.
-fn run(rt: &HostRuntime, table: &Table) -> io::Result<()>
-    requires valid { IsValidTable table.now }
-    requires bare { IsBare table.now }
+// Runs everything over the file `NAME.seg` of the segment of a table, with the rows of `NAME.csv` and
+// the cases of `NAME.txt`.
+fn run(rt: &HostRuntime, table: &Table, name: &str) -> io::Result<()>
+    requires { IsValidTable table.now }
 {
-    let file = fs::read(rt, FILE)?;
-    let rows = fs::read(rt, "s.csv")?;
-    let cases = fs::read_to_string(rt, "heads.txt")?;
-    let built = built::compared(rt.alloc(), table, NAME, rows.as_slice(), file.as_slice())?;
+    let alloc = rt.alloc();
+    let file = fs::read(rt, format!(in alloc; "{name}.seg")?.as_str())?;
+    let rows = fs::read(rt, format!(in alloc; "{name}.csv")?.as_str())?;
+    let cases = fs::read_to_string(rt, format!(in alloc; "{name}.txt")?.as_str())?;
+    let built = built::compared(alloc, table, name, rows.as_slice(), file.as_slice())?;
     println!(rt; "built: {built}")?;
     let mut shelf = CountingShelf::new(file.clone()?);
-    let costs = heads::costs(rt.alloc(), &mut shelf, FILE, NAME, table)?;
+    let costs = heads::costs(alloc, &mut shelf, name, table)?;
     println!(rt; "read: {costs}")?;
-    let report = run_cases(rt.alloc(), table, file.as_slice(), cases.as_str())?;
+    let report = run_cases(alloc, table, name, file.as_slice(), cases.as_str())?;
     println!(rt; "heads: {} cases", report.count)?;
     for line in &report.wrong {
         println!(rt; "wrong: {line}")?;
@@ -43,11 +42,40 @@ fn run(rt: &HostRuntime, table: &Table) -> io::Result<()>
     Ok(())
 }
 
-fn main(rt: HostRuntime) -> io::Result<()> {
+// The segment of a table that is stored in the folder.
+fn run_stored(rt: &HostRuntime) -> io::Result<()> {
     let folder = String::from_str(rt.alloc(), ".")?;
-    let mut depot = FolderDepot::new(&rt, folder);
+    let mut depot = FolderDepot::new(rt, folder);
     match open_table(rt.alloc(), &mut depot) {
-        Ok(table) => run(&rt, &table),
+        Ok(table) => run(rt, &table, "s"),
         Err(fault) => println!(rt; "no table: {fault:?}"),
     }
+}
+
+// The table of these texts, if they are accepted.
+fn table_of(alloc: Global, schema: &[u8], settings: &[u8]) -> Option<Table>
+    ensures { IfSome result (λ table. IsValidTable table) }
+{
+    let Ok(schema) = read_schema(alloc, schema) else {
+        return None;
+    };
+    let Ok(settings) = read_settings(alloc, &schema, settings) else {
+        return None;
+    };
+    Some(Table { schema, settings })
+}
+
+// The segment of a table with a star-tree.
+fn run_with_tree(rt: &HostRuntime) -> io::Result<()> {
+    let schema = fs::read(rt, "V1.schema.json")?;
+    let settings = fs::read(rt, "V1.settings.json")?;
+    match table_of(rt.alloc(), schema.as_slice(), settings.as_slice()) {
+        Some(table) => run(rt, &table, "V1"),
+        None => println!(rt; "no table of V1"),
+    }
+}
+
+fn main(rt: HostRuntime) -> io::Result<()> {
+    run_stored(&rt)?;
+    run_with_tree(&rt)
 }

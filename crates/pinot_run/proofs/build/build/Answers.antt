@@ -33,5 +33,5 @@ returns g c =
     let d = seen g.D.Shelf c.publish.new.depot in
     let rows = c.in_ok-columns.ensures in
     let made = c.publish.ensures in
-    ran_published c.args.name.now c.args.csv.now c.requires i j a b c.in_ok-table.table c.in_ok-table.ensures.place rows.reads d (rows_of c.in_ok-columns.columns) (rows.still (λ e. cc)) made.reads_still made.writes rows.rows rows.can
+    ran_published c.args.name.now c.args.csv.now c.requires i j a b c.in_ok-table.table c.in_ok-table.ensures.place rows.reads d (rows_of c.in_ok-columns.columns) (rows.still (λ e. cc)) made.reads_still made.writes rows.rows rows.fit rows.unicode
     c.publish.result made.writes_still made.publishes

@@ -7,7 +7,6 @@ use Rattle.csv_ingest.proofs.FaultLemmas.{any_columns}
 use Rattle.csv_ingest.proofs.ValidLemmas.{valid-defaults}
 use Rattle.table_schema.specs.declared.field.Field.{Field}
 use Rattle.values.specs.Columns.{rows_of}
-use Rattle.segment_build.proofs.Bares.{bare_fits}
 use Rattle.pinot_run.proofs.RowsLemmas.{rows_unicode, stops-by}
 use Rattle.pinot_run.proofs.build.columns_of.Goals as goal
 
@@ -20,15 +19,14 @@ returns-in-Ok-clause-width c =
     let columns = c.in-Ok.columns.columns in
     sym (length-map columns (λ x. x.are_texts)) ∙ ap length c.in-Ok.ensures.sorts ∙ length-map fields (λ f. is_text_kind f.kind)
 
-pub returns-in-Ok-clause-can : goal.returns-in-Ok-clause-can
-returns-in-Ok-clause-can c =
+pub returns-in-Ok-clause-fit : goal.returns-in-Ok-clause-fit
+returns-in-Ok-clause-fit c = c.in-Ok.ensures.valid c.requires.valid.schema
+
+pub returns-in-Ok-clause-unicode : goal.returns-in-Ok-clause-unicode
+returns-in-Ok-clause-unicode c =
     let fields = c.args.table.now.schema.fields in
     let defaults : All (λ (field : Field). IsUnicode field.default) fields = subst (All (λ (field : Field). IsUnicode field.default)) c.as_slice.ensures c.look_at_defaults.ensures in
-    record {
-      fit = c.in-Ok.ensures.valid c.requires.valid.schema;
-      unicode = rows_unicode fields (records_of c.args.text.now) (rows_of c.in-Ok.columns) defaults c.in-Ok.ensures.ok;
-      trees = bare_fits c.args.table.now (rows_of c.in-Ok.columns) c.requires.bare;
-    }
+    rows_unicode fields (records_of c.args.text.now) (rows_of c.in-Ok.columns) defaults c.in-Ok.ensures.ok
 
 pub stop_of-requires : goal.stop_of-requires
 stop_of-requires c = λ same. any_columns c.args.table.now.schema.fields (records_of c.args.text.now) c.in-Err.fault (c.in-Err.ensures.err (λ e. cc)) same

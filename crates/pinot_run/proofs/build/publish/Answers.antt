@@ -1,5 +1,5 @@
-use Rattle.std.proofs.Common.{◌∙◌, ◌∷◌, [], sym, subst, arith}
-use Rattle.segment_build.proofs.Bares.{never_large}
+use Rattle.std.proofs.Common.{◌∙◌, ◌∷◌, [], refl, sym, subst, arith}
+use Rattle.segment_build.proofs.FitTests.{large_tested}
 use Rattle.segment_file.specs.Image.{image}
 use Rattle.segment_file.specs.Names.{file_of}
 use Rattle.table_store.specs.TableFile.{incoming}
@@ -14,6 +14,7 @@ pub returns-in-Ok-clause-publishes : goal.returns-in-Ok-clause-publishes
 returns-in-Ok-clause-publishes g c = (
   c.in-Ok.ensures.published,
   c.in_ok-reply.ensures ∙ built_of c.args.name.now (rows_of c.args.columns.now) c.len.result (length-rows c.args.columns.now.count c.args.columns.now.columns c.len.ensures.each ∙ sym c.len.ensures.count),
+  c.in-Ok.ensures.fits,
 )
 
 pub returns-in-Ok-clause-writes : goal.returns-in-Ok-clause-writes
@@ -26,7 +27,7 @@ returns-in-Ok-clause-writes g c = record {
   log = c.write_columns.ensures.only_writes.log;
 }
 
-pub unreachable-requires : goal.unreachable-requires
-unreachable-requires g c =
+pub returns-clause-publishes : goal.returns-clause-publishes
+returns-clause-publishes g c =
     let large = c.in-Err-TooLarge.ensures.too_large c.in-Err-TooLarge.field-0-0 c.in-Err-TooLarge.field-0-is in
-    never_large c.args.table.now (rows_of c.args.columns.now) c.in-Err-TooLarge.field-0-0 c.requires.bare large
+    (refl, large_tested c.args.table.now (rows_of c.args.columns.now) c.in-Err-TooLarge.field-0-0 large, c.in-Err-TooLarge.ensures.kept)

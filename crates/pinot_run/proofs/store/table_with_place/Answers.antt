@@ -18,9 +18,6 @@ returns-in-Ok-clause-place g c =
     let e = c.in-Ok.ensures in
     place_found c.args.name.now a b d c.in_ok-table.table c.in_ok-table.ensures.looks e.log e.only_reads (λ f. cc) e.free e.room
 
-pub returns-in-Ok-clause-bare : goal.returns-in-Ok-clause-bare
-returns-in-Ok-clause-bare g c = record { built = c.in_ok-table.ensures.built }
-
 pub returns-in-Err-NameTaken-clause-place : goal.returns-in-Err-NameTaken-clause-place
 returns-in-Err-NameTaken-clause-place g c =
     let a = seen g.D.Shelf c.args.depot.now in

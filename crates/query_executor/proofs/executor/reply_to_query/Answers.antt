@@ -1,6 +1,9 @@
-use Rattle.std.proofs.Common.{◌≡◌, ◌∙◌, ℕ, List, Ok, Err, IfSome, refl, sym, ap}
+use Rattle.std.proofs.Common.{true, false, length, ◌≡◌, ◌∙◌, ℕ, List, Ok, Err, IfSome, refl, sym, ap}
 use Rattle.query_executor.specs.Answers.{IsBoundReply, IsReply}
 use Rattle.query_executor.proofs.ReplyLemmas.{fault_so, found_so, reply_so, text_real}
+use Rattle.query_executor.specs.Reads.{LogsEach, ReadsPlanned}
+use Rattle.sql_reply.specs.Asked.{asked}
+use Rattle.query_executor.proofs.Unread.{asked_err, asked_ok, unread}
 use Rattle.query_executor.proofs.executor.reply_to_query.Goals as goal
 
 pub returns-in-Ok-clause-reply : goal.returns-in-Ok-clause-reply
@@ -31,3 +34,23 @@ pub returns-in-Err-clause-of_text : goal.returns-in-Err-clause-of_text
 returns-in-Err-clause-of_text g c = λ fault is text.
     let same : c.in-Err.fault ≡ fault = cc in
     (refl, c.in-Err.ensures.asked (λ e. text_real fault text (sym same ∙ e)) ∙ ap Err same)
+
+pub returns-in-Ok-clause-reads : goal.returns-in-Ok-clause-reads
+returns-in-Ok-clause-reads g c =
+    let table = c.args.table.now in
+    let names : List (List ℕ) = c.args.names.now in
+    asked_ok c.reply_to_bound.result
+    (λ query. LogsEach (ReadsPlanned query table true) table (g.S.Shelf.held c.args.shelf.now) names (length names) (g.S.Shelf.log c.args.shelf.now) (g.S.Shelf.log c.reply_to_bound.new.shelf))
+    (asked table false c.args.sql.now) c.in-Ok.bound c.in-Ok.ensures.asked c.reply_to_bound.ensures.reads
+
+pub returns-in-Ok-clause-reads_of_fault : goal.returns-in-Ok-clause-reads_of_fault
+returns-in-Ok-clause-reads_of_fault g c =
+    let table = c.args.table.now in
+    let names : List (List ℕ) = c.args.names.now in
+    asked_err c.reply_to_bound.result
+    (λ query. LogsEach (ReadsPlanned query table false) table (g.S.Shelf.held c.args.shelf.now) names (length names) (g.S.Shelf.log c.args.shelf.now) (g.S.Shelf.log c.reply_to_bound.new.shelf))
+    (asked table false c.args.sql.now) c.in-Ok.bound c.in-Ok.ensures.asked c.reply_to_bound.ensures.reads_of_fault
+
+pub returns-in-Err-clause-reads_of_fault : goal.returns-in-Err-clause-reads_of_fault
+returns-in-Err-clause-reads_of_fault g c = λ query asks.
+    unread c.docs_bound_law.ensures.bound query c.args.table.now c.requires.valid (g.S.Shelf.held c.args.shelf.now) c.args.names.now (g.S.Shelf.log c.args.shelf.now)

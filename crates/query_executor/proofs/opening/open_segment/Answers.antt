@@ -5,7 +5,7 @@ use Rattle.segment_file.specs.declared.fault.HeadFault.TheVariants as head
 use Rattle.segment_scan.specs.declared.fault.EngineFault.TheVariants as engine
 use Rattle.query_executor.specs.Steps.{fault_of}
 use Rattle.query_executor.proofs.FaultLemmas.{bad_head, never_full, read_head}
-use Rattle.query_executor.proofs.HeadLemmas.{broken_none, opened_image}
+use Rattle.query_executor.proofs.HeadLemmas.{broken_none, opened_image, opened_spread}
 use Rattle.query_executor.proofs.LogLemmas.{opened_ends, opened_log, reads_as}
 use Rattle.query_executor.proofs.opening.open_segment.Goals as goal
 
@@ -15,6 +15,10 @@ returns-in-Ok-clause-placed g c = subst (λ file. AreIn file c.in-Ok.head.sectio
 pub returns-in-Ok-clause-image : goal.returns-in-Ok-clause-image
 returns-in-Ok-clause-image g c =
     opened_image c.image_keeps_law.ensures c.args.table.now c.requires.valid c.args.name.now c.requires.name (g.S.Shelf.held c.args.shelf.now) c.as_str.result.now c.in-Ok.head (c.as_str.ensures.value ∙ c.in_ok-file.ensures) c.in-Ok.ensures.part
+
+pub returns-in-Ok-clause-spread : goal.returns-in-Ok-clause-spread
+returns-in-Ok-clause-spread g c =
+    opened_spread c.image_keeps_law.ensures c.args.table.now c.requires.valid c.args.name.now c.requires.name (g.S.Shelf.held c.args.shelf.now) c.as_str.result.now c.in-Ok.head (c.as_str.ensures.value ∙ c.in_ok-file.ensures) c.in-Ok.ensures.part
 
 pub returns-in-Ok-clause-ends : goal.returns-in-Ok-clause-ends
 returns-in-Ok-clause-ends g c = opened_ends c.args.table.now c.args.name.now c.as_str.result.now (g.S.Shelf.held c.args.shelf.now) c.in-Ok.head (c.as_str.ensures.value ∙ c.in_ok-file.ensures) c.in-Ok.ensures.opened

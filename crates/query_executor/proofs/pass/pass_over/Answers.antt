@@ -1,4 +1,4 @@
-use Rattle.std.proofs.Common.{◌≡◌, ◌∙◌, ◌+◌, ◌*◌, ◌-◌, ◌<◌, [], ℕ, List, IfSome, Err, length, get_or, refl, sym, ap, subst, arith}
+use Rattle.std.proofs.Common.{◌≡◌, ◌∙◌, ◌+◌, ◌*◌, ◌-◌, ◌<◌, [], ℕ, true, false, List, Option, Some, None, IfSome, Err, length, get_or, refl, sym, ap, subst, arith}
 use Rattle.outside.specs.Seen.{Seen, seen}
 use Rattle.agg_laws.specs.Numbers.{most_values}
 use Rattle.segment_file.specs.Names.{file_of}
@@ -10,7 +10,7 @@ use Rattle.scan_engine.specs.Scanned.{HaveAtMost}
 use Rattle.scan_engine.proofs.AddLemmas.{at_most_more}
 use Rattle.sql_reply.proofs.GroupLemmas.{none_fit}
 use Rattle.query_executor.specs.Logs.{IsFileOf}
-use Rattle.query_executor.specs.Segments.{HasNoImage}
+use Rattle.query_executor.specs.Segments.{HasImage, HasNoImage}
 use Rattle.query_executor.specs.Stated.{stats_line}
 use Rattle.query_executor.specs.Steps.{AddsLine, AddsStored, HasGroups, HasLines, IsStoredOverfull, fault_at}
 use Rattle.query_executor.proofs.LineLemmas.{lines_more, no_lines}
@@ -18,7 +18,18 @@ use Rattle.query_executor.specs.declared.fault.ExecutorFault.TheVariants.{ReadFa
 use Rattle.query_executor.proofs.FaultLemmas.{bad_so, read_so, refused_so}
 use Rattle.query_executor.proofs.GroupLemmas.{no_groups, one_more, too_many}
 use Rattle.query_executor.proofs.NameLemmas.{among, is_named}
-use Rattle.query_executor.proofs.LogLemmas.{logs_as, logs_none, logs_then, reads_as, reads_none, reads_then}
+use Rattle.query_executor.proofs.LogLemmas.{entries_as, entries_then, logs_as, logs_none, logs_then, reads_as, reads_none, reads_then}
+use Rattle.outside.specs.Files.{Files}
+use Rattle.values.specs.declared.value.Value.{Value}
+use Rattle.table_schema.specs.declared.query.BoundQuery.{BoundQuery}
+use Rattle.table_schema.specs.declared.table.Table.{Table}
+use Rattle.table_schema.specs.ValidTable.{IsValidTable}
+use Rattle.segment_file.specs.Ordered.{ordered}
+use Rattle.star_answer.specs.Docs.{DocsAreBounded}
+use Rattle.query_executor.specs.Reads.{LogsEach, ReadsPlanned}
+use Rattle.query_executor.proofs.GrownLemmas.{IsFileBefore, each_as, each_more, each_none, each_rest, more_before, none_before, this_before}
+use Rattle.query_executor.proofs.SpanLemmas.{planned_less, planned_of_file}
+use Rattle.query_executor.proofs.Unread.{nothing_read}
 use Rattle.query_executor.proofs.pass.pass_over.Goals as goal
 
 pub names-init : goal.names-init
@@ -31,6 +42,8 @@ names-init g c = record {
   lines = λ wanted. subst (HasLines (stats_line c.args.query.now c.args.table.now) c.args.table.now (g.S.Shelf.held c.args.shelf.now) c.args.names.now 0) (sym c.requires.none) (no_lines (stats_line c.args.query.now c.args.table.now) c.args.table.now c.args.names.now (g.S.Shelf.held c.args.shelf.now));
   reads = reads_none (seen g.S.Shelf c.args.shelf.now);
   log = logs_none (IsFileOf c.args.names.now) (g.S.Shelf.log c.args.shelf.now);
+  files = none_before c.args.names.now (g.S.Shelf.log c.args.shelf.now);
+  each = each_none (ReadsPlanned c.args.query.now c.args.table.now true) c.args.table.now (g.S.Shelf.held c.args.shelf.now) c.args.names.now (g.S.Shelf.log c.args.shelf.now);
 }
 
 pub pass_one-requires-clause-fits : goal.pass_one-requires-clause-fits
@@ -64,6 +77,10 @@ names-preserved g c =
       reads = reads_then a b d c.names.invariant.reads (reads_as b d c.in-Ok.ensures.only_reads (λ e. absurd e) (λ e. absurd cc));
       log = logs_then (IsFileOf names) a.log b.log d.log c.names.invariant.log
           (logs_as (λ file. file ≡ file_of text) (IsFileOf names) b.log d.log (λ file e. (get_or names c.names.at [], among names c.names.at lt, e ∙ ap file_of is)) c.in-Ok.ensures.log);
+      files = entries_then (λ entry. IsFileBefore names (c.names.at + 1) entry.file) a.log b.log d.log
+          (entries_as (λ entry. IsFileBefore names c.names.at entry.file) (λ entry. IsFileBefore names (c.names.at + 1) entry.file) a.log b.log (λ entry h. more_before names c.names.at entry.file h) c.names.invariant.files)
+          (entries_as (λ entry. entry.file ≡ file_of text) (λ entry. IsFileBefore names (c.names.at + 1) entry.file) b.log d.log (λ entry e. this_before names c.names.at text entry.file is e) c.in-Ok.ensures.log);
+      each = each_more (ReadsPlanned query table true) table a.held names (planned_of_file query table true) b.held c.names.at text a.log b.log d.log lt is c.names.invariant.reads.held c.names.invariant.files c.in-Ok.ensures.log c.names.invariant.each c.in-Ok.ensures.reads;
     }
 
 pub returns-in-Err-clause-refused : goal.returns-in-Err-clause-refused
@@ -127,3 +144,27 @@ returns-clause-lines g c = λ wanted.
     let names : List (List ℕ) = c.args.names.now in
     let done : c.names.at ≡ length names = omega arith in
     subst (λ k. HasLines (stats_line c.args.query.now c.args.table.now) c.args.table.now (g.S.Shelf.held c.args.shelf.now) names k c.names.pass.lines.items) done (c.names.invariant.lines wanted)
+
+pub returns-clause-reads : goal.returns-clause-reads
+returns-clause-reads g c =
+    let names : List (List ℕ) = c.args.names.now in
+    let done : c.names.at ≡ length names = omega arith in
+    subst (λ k. LogsEach (ReadsPlanned c.args.query.now c.args.table.now true) c.args.table.now (g.S.Shelf.held c.args.shelf.now) names k (g.S.Shelf.log c.args.shelf.now) (g.S.Shelf.log c.names.shelf)) done c.names.invariant.each
+
+pub returns-in-Err-clause-reads_of_fault : goal.returns-in-Err-clause-reads_of_fault
+returns-in-Err-clause-reads_of_fault g c =
+    let a : Seen = seen g.S.Shelf c.args.shelf.now in
+    let b : Seen = seen g.S.Shelf c.names.shelf in
+    let d : Seen = seen g.S.Shelf c.pass_one.new.shelf in
+    let query = c.args.query.now in
+    let table = c.args.table.now in
+    let names : List (List ℕ) = c.args.names.now in
+    let text : List ℕ = c.as_str.result.now in
+    let lt : c.names.at < length names = omega arith in
+    let is : text ≡ get_or names c.names.at [] = is_named names c.names.at text c.index-names-at.result lt c.as_str.ensures c.index-names-at.is in
+    let before = each_as (ReadsPlanned query table true) (ReadsPlanned query table false) table a.held names c.names.at a.log b.log (planned_less query table) c.names.invariant.each in
+    let here = each_more (ReadsPlanned query table false) table a.held names (planned_of_file query table false) b.held c.names.at text a.log b.log d.log lt is c.names.invariant.reads.held c.names.invariant.files c.in-Err.ensures.log before c.in-Err.ensures.reads_of_fault in
+    let files = entries_then (λ entry. IsFileBefore names (c.names.at + 1) entry.file) a.log b.log d.log
+    (entries_as (λ entry. IsFileBefore names c.names.at entry.file) (λ entry. IsFileBefore names (c.names.at + 1) entry.file) a.log b.log (λ entry h. more_before names c.names.at entry.file h) c.names.invariant.files)
+    (entries_as (λ entry. entry.file ≡ file_of text) (λ entry. IsFileBefore names (c.names.at + 1) entry.file) b.log d.log (λ entry e. this_before names c.names.at text entry.file is e) c.in-Err.ensures.log) in
+    each_rest (ReadsPlanned query table false) table a.held names (planned_of_file query table false) (c.names.at + 1) a.log d.log (omega (arith, lt)) (nothing_read c.docs_bound_law.ensures.bound query table c.requires.valid a.held) files here

@@ -3,7 +3,9 @@ use Rattle.outside.specs.Seen.{OnlyReads, seen}
 use Rattle.group_table.specs.Kept.{IsTableOf, groups_in}
 use Rattle.scan_engine.specs.Scanned.{HaveAtMost}
 use Rattle.sql_reply.specs.Reply.{most_groups}
-use Rattle.query_executor.specs.Logs.{LogsOf}
+use Rattle.query_executor.specs.Logs.{LogsOf, LogsWhere}
+use Rattle.query_executor.specs.Reads.{LogsEach, ReadsPlanned}
+use Rattle.query_executor.proofs.GrownLemmas.{IsFileBefore}
 use Rattle.query_executor.specs.Steps.{HasGroups, HasLines}
 use Rattle.query_executor.specs.Stated.{stats_line}
 use Rattle.query_executor.proofs.pass.pass_over.Given as goal
@@ -18,4 +20,6 @@ invariant-names g l = record {
   lines : l.fn.pass.wants_lines ≡ true → HasLines (stats_line l.query l.table) l.table (g.S.Shelf.held l.fn.shelf) l.names l.at l.pass.lines.items;
   reads : OnlyReads ⊥ (seen g.S.Shelf l.fn.shelf) (seen g.S.Shelf l.shelf);
   log : LogsOf l.names (g.S.Shelf.log l.fn.shelf) (g.S.Shelf.log l.shelf);
+  files : LogsWhere (IsFileBefore l.names l.at) (g.S.Shelf.log l.fn.shelf) (g.S.Shelf.log l.shelf);
+  each : LogsEach (ReadsPlanned l.query l.table true) l.table (g.S.Shelf.held l.fn.shelf) l.names l.at (g.S.Shelf.log l.fn.shelf) (g.S.Shelf.log l.shelf);
 }

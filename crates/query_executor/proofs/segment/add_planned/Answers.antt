@@ -1,4 +1,23 @@
-use Rattle.std.proofs.Common.{◌≡◌, ◌∙◌, Err, inr, refl, sym, ap}
+use Rattle.std.proofs.Common.{◌≡◌, ◌∙◌, ℕ, Bool, true, false, List, Option, Some, None, Err, inl, inr, refl, sym, ap, subst}
+use Rattle.outside.specs.Files.{Files}
+use Rattle.outside.specs.Reads.{Entry}
+use Rattle.outside.proofs.ReadLemmas.{on-err}
+use Rattle.values.specs.declared.value.Value.{Value}
+use Rattle.table_schema.specs.declared.query.BoundQuery.{BoundQuery}
+use Rattle.table_schema.specs.declared.table.Table.{Table}
+use Rattle.table_schema.specs.ValidQuery.{IsValidQuery}
+use Rattle.table_schema.specs.ValidTable.{IsValidTable}
+use Rattle.segment_file.specs.Heads.{Seen}
+use Rattle.segment_file.specs.Ordered.{ordered}
+use Rattle.segment_plan.specs.declared.plans.ScanPlan.{ScanPlan}
+use Rattle.segment_plan.specs.Laws.{HeadTells, PlanIsOver}
+use Rattle.segment_plan.specs.Matched.{AreLoaded}
+use Rattle.segment_plan.specs.Plan.{plan_of}
+use Rattle.segment_plan.specs.Planned.{plan_over}
+use Rattle.query_executor.specs.Reads.{LogsOne, ReadsBy, ReadsPlanned}
+use Rattle.query_executor.specs.Segments.{HasImage}
+use Rattle.query_executor.specs.Steps.{IsHeadIn, IsSpreadIn}
+use Rattle.query_executor.proofs.OneReads.{given_up, none_one, quiet_one, tree_given_up, tree_one}
 use Rattle.segment_plan.specs.declared.plans.SegmentPlan.TheVariants.{Empty, Pruned, Scan, StarTree}
 use Rattle.query_executor.proofs.DoneLemmas.{done_so, none_looked, scan_looked, tree_looked}
 use Rattle.segment_scan.specs.declared.fault.EngineFault.TheVariants as engine
@@ -128,3 +147,95 @@ returns-in-Err-answer_segment-clause-log g c = λ file within.
     answer_partly c.args.table.now c.requires.valid c.args.head.now c.requires.of_table file within c.args.query.now (g.S.Shelf.held c.args.shelf.now) c.in-StarTree.tree
     (g.S.Shelf.log c.args.shelf.now) (g.S.Shelf.log c.answer_segment.new.shelf) (picked_within c.args.query.now c.args.table.now.settings.trees c.in-StarTree.tree (tree_planned c.args.query.now c.args.table.now c.args.head.now c.in-StarTree.tree (sym c.in-StarTree.is ∙ c.in_ok-plan.ensures)))
     c.in-Err-answer_segment.ensures.log_of_fault
+
+pub returns-in-Pruned-clause-reads : goal.returns-in-Pruned-clause-reads
+returns-in-Pruned-clause-reads g c = λ name is spread.
+    let query = c.args.query.now in
+    let table = c.args.table.now in
+    let head = c.args.head.now in
+    let held = g.S.Shelf.held c.args.shelf.now in
+    let log = g.S.Shelf.log c.args.shelf.now in
+    let done = done_so query table c.head_tells_law.ensures c.plan_over_law.ensures c.requires.valid c.requires.query held name head c.nothing.result.plan c.nothing.result.docs
+    (c.nothing.ensures.plan ∙ sym c.in-Pruned.is ∙ c.in_ok-plan.ensures) (inr c.requires.filtered)
+    (none_looked query table held head c.nothing.result.plan Pruned c.nothing.result.docs c.nothing.ensures.plan (λ rows. refl) c.nothing.ensures.none) is in
+    quiet_one query table name held c.nothing.result.plan c.nothing.result.docs log log done (inl c.nothing.ensures.plan) (none_one query table name held log)
+
+pub returns-in-Empty-clause-reads : goal.returns-in-Empty-clause-reads
+returns-in-Empty-clause-reads g c = λ name is spread.
+    let query = c.args.query.now in
+    let table = c.args.table.now in
+    let head = c.args.head.now in
+    let held = g.S.Shelf.held c.args.shelf.now in
+    let log = g.S.Shelf.log c.args.shelf.now in
+    let done = done_so query table c.head_tells_law.ensures c.plan_over_law.ensures c.requires.valid c.requires.query held name head c.nothing-in-Empty.result.plan c.nothing-in-Empty.result.docs
+    (c.nothing-in-Empty.ensures.plan ∙ sym c.in-Empty.is ∙ c.in_ok-plan.ensures) (inr c.requires.filtered)
+    (none_looked query table held head c.nothing-in-Empty.result.plan Empty c.nothing-in-Empty.result.docs c.nothing-in-Empty.ensures.plan (λ rows. refl) c.nothing-in-Empty.ensures.none) is in
+    quiet_one query table name held c.nothing-in-Empty.result.plan c.nothing-in-Empty.result.docs log log done (inr c.nothing-in-Empty.ensures.plan) (none_one query table name held log)
+
+pub returns-in_err-plan-clause-reads_of_fault : goal.returns-in_err-plan-clause-reads_of_fault
+returns-in_err-plan-clause-reads_of_fault g c =
+    let query = c.args.query.now in
+    let table = c.args.table.now in
+    let head = c.args.head.now in
+    let held = g.S.Shelf.held c.args.shelf.now in
+    let log = g.S.Shelf.log c.args.shelf.now in
+    let all : (name : List ℕ) → IsHeadIn table held name head → IsSpreadIn table held name head → LogsOne (ReadsPlanned query table false) table held name log log = λ name is spread.
+    given_up query table name c.docs_bound_law.ensures.bound c.requires.valid held log log (none_one query table name held log) in
+    on-err _ _ all
+
+scan_done : (query : BoundQuery) (table : Table) → HeadTells → PlanIsOver → IsValidTable table → IsValidQuery table query → (held : Option Files) (head : Seen) (plan : ScanPlan) → Scan plan ≡ plan_of query table head → AreLoaded query.conjuncts head → (name : List ℕ) → IsHeadIn table held name head → (answered : Bool) (a b : Option (List Entry))
+    → LogsOne (ReadsPlanned query table answered) table held name a b
+scan_done query table tells law valid query_valid None head plan is loaded name in_file answered a b = λ before entries was now. tt
+scan_done query table tells law valid query_valid (Some files) head plan is loaded name in_file answered a b = λ before entries was now rows has.
+    let i = in_file rows has in
+    let os : List (List Value) = ordered table.settings.sorted rows in
+    let told = tells table i.name i.file rows i.whole head valid i.named i.can i.is_head i.part in
+    subst (ReadsBy query table name os answered entries) (is ∙ law query table os head query_valid told (inr loaded)) tt
+
+pub returns-in-Ok-clause-reads : goal.returns-in-Ok-clause-reads
+returns-in-Ok-clause-reads g c = λ name is spread.
+    let query = c.args.query.now in
+    let table = c.args.table.now in
+    let head = c.args.head.now in
+    let held = g.S.Shelf.held c.args.shelf.now in
+    let log = g.S.Shelf.log c.args.shelf.now in
+    scan_done query table c.head_tells_law.ensures c.plan_over_law.ensures c.requires.valid c.requires.query held head c.in-Scan.plan (sym c.in-Scan.is ∙ c.in_ok-plan.ensures) c.requires.filtered name is true log (g.S.Shelf.log c.scan_segment.new.shelf)
+
+pub returns-in-Err-clause-reads_of_fault : goal.returns-in-Err-clause-reads_of_fault
+returns-in-Err-clause-reads_of_fault g c = λ name is spread.
+    let query = c.args.query.now in
+    let table = c.args.table.now in
+    let head = c.args.head.now in
+    let held = g.S.Shelf.held c.args.shelf.now in
+    let log = g.S.Shelf.log c.args.shelf.now in
+    scan_done query table c.head_tells_law.ensures c.plan_over_law.ensures c.requires.valid c.requires.query held head c.in-Scan.plan (sym c.in-Scan.is ∙ c.in_ok-plan.ensures) c.requires.filtered name is false log (g.S.Shelf.log c.scan_segment.new.shelf)
+
+tree_plan : (query : BoundQuery) (table : Table) → HeadTells → PlanIsOver → IsValidTable table → IsValidQuery table query → (files : Files) (name : List ℕ) (head : Seen) (t : ℕ) → StarTree t ≡ plan_of query table head → AreLoaded query.conjuncts head → IsHeadIn table (Some files) name head → (rows : List (List Value)) → HasImage table files name rows
+    → StarTree t ≡ plan_over query table (ordered table.settings.sorted rows)
+tree_plan query table tells law valid query_valid files name head t is loaded in_file rows has =
+    let i = in_file rows has in
+    is ∙ law query table (ordered table.settings.sorted rows) head query_valid (tells table i.name i.file rows i.whole head valid i.named i.can i.is_head i.part) (inr loaded)
+
+pub returns-in-Ok-answer_segment-clause-reads : goal.returns-in-Ok-answer_segment-clause-reads
+returns-in-Ok-answer_segment-clause-reads g c = λ name is spread.
+    let query = c.args.query.now in
+    let table = c.args.table.now in
+    let head = c.args.head.now in
+    let held = g.S.Shelf.held c.args.shelf.now in
+    let log = g.S.Shelf.log c.args.shelf.now in
+    let t = c.in-StarTree.tree in
+    let planned = sym c.in-StarTree.is ∙ c.in_ok-plan.ensures in
+    tree_one query table name c.docs_bound_law.ensures.bound c.requires.valid head c.requires.of_table t (picked_within query table.settings.trees t (tree_planned query table head t planned)) held c.in-Ok-answer_segment.read log (g.S.Shelf.log c.answer_segment.new.shelf)
+    (λ files rows has in_file. tree_plan query table c.head_tells_law.ensures c.plan_over_law.ensures c.requires.valid c.requires.query files name head t planned c.requires.filtered in_file rows has) is spread c.in-Ok-answer_segment.ensures.log
+
+pub returns-in-Err-answer_segment-clause-reads_of_fault : goal.returns-in-Err-answer_segment-clause-reads_of_fault
+returns-in-Err-answer_segment-clause-reads_of_fault g c = λ name is spread.
+    let query = c.args.query.now in
+    let table = c.args.table.now in
+    let head = c.args.head.now in
+    let held = g.S.Shelf.held c.args.shelf.now in
+    let log = g.S.Shelf.log c.args.shelf.now in
+    let t = c.in-StarTree.tree in
+    let planned = sym c.in-StarTree.is ∙ c.in_ok-plan.ensures in
+    tree_given_up query table name c.docs_bound_law.ensures.bound c.requires.valid head c.requires.of_table t (picked_within query table.settings.trees t (tree_planned query table head t planned)) held log (g.S.Shelf.log c.answer_segment.new.shelf)
+    (λ files rows has in_file. tree_plan query table c.head_tells_law.ensures c.plan_over_law.ensures c.requires.valid c.requires.query files name head t planned c.requires.filtered in_file rows has) is spread c.in-Err-answer_segment.ensures.log_of_fault
