@@ -8,7 +8,6 @@ use Rattle.outside.specs.Files.{Files}
 use Rattle.outside.specs.Reads.{Entry}
 use Rattle.outside.proofs.ReadLemmas.{read_in-append}
 use Rattle.values.specs.declared.value.Value.{Value}
-use Rattle.index_reading.specs.Stretches.{Stretch}
 use Rattle.table_schema.specs.declared.query.BoundQuery.{BoundQuery}
 use Rattle.table_schema.specs.declared.query.Conjunct.{Conjunct}
 use Rattle.table_schema.specs.declared.table.Table.{Table}
@@ -72,20 +71,6 @@ all_unserved (c ∷ cs) (y ∷ ys) none = go (is_indexed c y) (is_served c y) re
 -- all of the query is left
 rest_is : (query : BoundQuery) (cs : List IndexChoice) → indexed cs query.conjuncts ≡ [] → rest_of query cs ≡ query
 rest_is query cs none = ap (λ l. record query { conjuncts = l }) (all_unserved cs query.conjuncts none)
-
--- ---- reads of a scan, and others
-
-module _ (query : BoundQuery) (table : Table) (name : List ℕ) (rows : List (List Value)) (plan : ScanPlan) where
-  -- no reads
-  pub scan_nothing : ReadsScan query table name rows plan []
-  scan_nothing = record { stars = λ t. refl; forward = omega arith }
-
-  -- reads that gave as many bytes of each part
-  pub scan_as_many : (x y : List Entry) → ((span : Stretch) → bytes_read y name span ≡ bytes_read x name span) → ReadsScan query table name rows plan x → ReadsScan query table name rows plan y
-  scan_as_many x y same r = record {
-    stars = λ t. same (star_span table name rows t) ∙ r.stars t;
-    forward = let few = r.forward in omega (arith, few, same (forward_span table name rows));
-  }
 
 -- ---- a scan of an image
 

@@ -84,7 +84,7 @@ abbrev pub ReadsBy : BoundQuery → Table → List ℕ → List (List Value) →
 ReadsBy query table name rows answered entries Pruned = ReadsNone table name rows entries
 ReadsBy query table name rows answered entries Empty = ReadsNone table name rows entries
 ReadsBy query table name rows answered entries (StarTree t) = ReadsTree query table name rows t answered entries
-ReadsBy query table name rows answered entries (Scan plan) = Unit {0}
+ReadsBy query table name rows answered entries (Scan plan) = ReadsScan query table name rows plan entries
 
 -- what is read of a segment that has these rows in this order: that of their plan
 abbrev pub ReadsPlanned : BoundQuery → Table → Bool → List ℕ → List (List Value) → List Entry → Type 0
