@@ -38,7 +38,7 @@ use Rattle.segment_plan.specs.Planned.{factors_over, plan_over}
 use Rattle.star_file.specs.Reading.{doc_width}
 use Rattle.star_answer.specs.Docs.{DocsAreBounded, docs_read, product}
 use Rattle.query_executor.specs.Logs.{EndsBy, IsHeadRead, LogsThat}
-use Rattle.query_executor.specs.Reads.{AreBytes, ReadsBy, ReadsNone, ReadsPlanned, ReadsTree, bytes_read, raw_span, star_span}
+use Rattle.query_executor.specs.Reads.{AreBytes, ReadsBy, ReadsNone, ReadsPlanned, ReadsScan, ReadsTree, bytes_read, forward_span, raw_span, star_span}
 use Rattle.query_executor.specs.Segments.{HasImage}
 use Rattle.query_executor.proofs.HeadLemmas.{if_some, section_at}
 use Rattle.query_executor.proofs.LogLemmas.{entries_none, entries_then, fewer_summed, through_ends}
@@ -174,6 +174,9 @@ module _ (query : BoundQuery) (table : Table) (name : List ℕ) (os : List (List
   pub head_raw : (x : List Entry) → All (EndsBy (file_of name) (ends_at table name os)) x → bytes_read x name (raw_span table name os) ≡ 0
   head_raw x all = before_part (file_of name) (ends_at table name os) (raw_span table name os).from (raw_span table name os).to x (omega arith) all
 
+  head_forward : (x : List Entry) → All (EndsBy (file_of name) (ends_at table name os)) x → bytes_read x name (forward_span table name os) ≡ 0
+  head_forward x all = before_part (file_of name) (ends_at table name os) (forward_span table name os).from (forward_span table name os).to x (omega arith) all
+
   pub head_star : (x : List Entry) (t : ℕ) → All (EndsBy (file_of name) (ends_at table name os)) x → bytes_read x name (star_span table name os t) ≡ 0
   head_star x t all =
       let less = fewer_summed (front_of 1 table os).sizes (length (head_sections table)) (length (head_sections table) + length (raw_sections table) + t) (omega arith) in
@@ -184,6 +187,12 @@ module _ (query : BoundQuery) (table : Table) (name : List ℕ) (os : List (List
     raw_after =
         let sum = read_in-append x y (file_of name) (raw_span table name os).from (raw_span table name os).to in
         let none = head_raw x all in
+        omega (arith, sum, none)
+
+    forward_after : bytes_read (x ++ y) name (forward_span table name os) ≡ bytes_read y name (forward_span table name os)
+    forward_after =
+        let sum = read_in-append x y (file_of name) (forward_span table name os).from (forward_span table name os).to in
+        let none = head_forward x all in
         omega (arith, sum, none)
 
     star_after : (t : ℕ) → bytes_read (x ++ y) name (star_span table name os t) ≡ bytes_read y name (star_span table name os t)
@@ -201,7 +210,10 @@ module _ (query : BoundQuery) (table : Table) (name : List ℕ) (os : List (List
       others = λ other ne. star_after other ∙ p.others other ne;
       bounded = p.bounded;
     }
-    after_by (Scan plan) p = tt
+    after_by (Scan plan) p = record {
+      stars = λ t. star_after t ∙ p.stars t;
+      forward = let few = p.forward in let same = forward_after in omega (arith, few, same);
+    }
 
     -- reads of the head before them change nothing
     pub planned_after : ReadsPlanned query table answered name os y → ReadsPlanned query table answered name os (x ++ y)

@@ -15,6 +15,11 @@ pub mod GrownLemmas
 mod TreeLogs
 pub mod SpanLemmas
 mod PlaceLemmas
+mod PartPlaces
+mod WithinLogs
+mod IndexReads
+mod ForwardReads
+mod ScanReads
 mod HeadReads
 mod TreeReads
 mod OneReads

@@ -13,9 +13,12 @@ use Rattle.segment_file.specs.Heads.{AreIn, IsHeadOf, Seen}
 use Rattle.segment_file.specs.Image.{front_of}
 use Rattle.segment_file.specs.Names.{IsSegmentName, file_of}
 use Rattle.segment_file.specs.Ordered.{ordered}
+use Rattle.segment_plan.specs.Laws.{TellsOf}
+use Rattle.segment_plan.specs.declared.plans.ScanPlan.{ScanPlan}
 use Rattle.segment_plan.specs.declared.plans.SegmentPlan.{SegmentPlan}
 use Rattle.segment_plan.specs.declared.plans.SegmentPlan.TheVariants.{Pruned, Empty, StarTree, Scan}
 use Rattle.segment_plan.specs.Planned.{plan_over}
+use Rattle.segment_scan.specs.Images.{AreNamedLoaded, ImagesLeave, ImagesRead, LogsScan, LogsScanPartly, choices_for}
 use Rattle.star_answer.specs.Docs.{DocsAreBounded}
 use Rattle.star_answer.specs.Segments.{LogsAnswer, LogsAnswerPartly}
 use Rattle.query_executor.specs.Logs.{DictionariesEnd, EndsBy, LogsHeadOf, LogsIn, LogsThat}
@@ -26,6 +29,7 @@ use Rattle.query_executor.proofs.GrownLemmas.{grown_so, grown_that, grown_then}
 use Rattle.query_executor.proofs.HeadReads.{ends_at, head_raw, head_star, opened_entry, planned_after, sizes_each}
 use Rattle.query_executor.proofs.LogLemmas.{all_within, entries_as, entries_then, same_log}
 use Rattle.query_executor.proofs.ScanLogs.{at_place}
+use Rattle.query_executor.proofs.ScanReads.{image_scan, image_scan_partly}
 use Rattle.query_executor.proofs.SpanLemmas.{planned_less}
 use Rattle.query_executor.proofs.TreeReads.{answer_reads, answer_reads_partly, planned_head}
 
@@ -104,6 +108,23 @@ module _ (query : BoundQuery) (table : Table) (name : List ℕ) where
       tree_given_up (Some files) a b planned is spread logs = λ before entries was now rows has.
           let (setting, at) = at_place table.settings.trees t lt in
           answer_reads_partly law query table valid files name rows has t (sym (planned files rows has is)) lt head of_table (spread rows has) (is rows has) setting at a b logs before entries was now
+
+  -- one that is scanned
+  module _ (read : ImagesRead) (leave : ImagesLeave) (valid : IsValidTable table) (head : Seen) (of_table : IsHeadOf table head) (loaded : AreNamedLoaded query head) (plan : ScanPlan) (chosen : plan.choices ≡ choices_for query table head)
+      (planned : (files : Files) (rows : List (List Value)) → HasImage table files name rows → IsHeadIn table (Some files) name head → TellsOf table (ordered table.settings.sorted rows) head × (Scan plan ≡ plan_over query table (ordered table.settings.sorted rows))) where
+    pub scan_one : (held : Option Files) (count : ℕ) (a b : Option (List Entry)) → IsHeadIn table held name head → IsSpreadIn table held name head → LogsScan query table held head count a b → LogsOne (ReadsPlanned query table true) table held name a b
+    scan_one None count a b is spread logs = λ before entries was now. tt
+    scan_one (Some files) count a b is spread logs = λ before entries was now rows has.
+        let (tells, plan_is) = planned files rows has is in
+        subst (ReadsBy query table name (ordered table.settings.sorted rows) true entries) plan_is
+        (image_scan read leave query table name head rows valid of_table loaded (spread rows has) tells files (is rows has) plan chosen count a b logs before entries was now)
+
+    pub scan_given_up : (held : Option Files) (a b : Option (List Entry)) → IsHeadIn table held name head → IsSpreadIn table held name head → LogsScanPartly query table held head a b → LogsOne (ReadsPlanned query table false) table held name a b
+    scan_given_up None a b is spread logs = λ before entries was now. tt
+    scan_given_up (Some files) a b is spread logs = λ before entries was now rows has.
+        let (tells, plan_is) = planned files rows has is in
+        subst (ReadsBy query table name (ordered table.settings.sorted rows) false entries) plan_is
+        (image_scan_partly read leave query table name head rows valid of_table loaded (spread rows has) tells files (is rows has) plan chosen a b logs before entries was now)
 
   -- the head, and what comes after it
   pub headed_one : (answered : Bool) (held : Option Files) (a b c : Option (List Entry)) → LogsIn (file_of name) a b → LogsIn (file_of name) b c → LogsHeadOne held a b → LogsOne (ReadsPlanned query table answered) table held name b c → LogsOne (ReadsPlanned query table answered) table held name a c

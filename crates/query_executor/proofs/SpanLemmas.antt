@@ -13,6 +13,7 @@ use Rattle.table_schema.specs.ValidTable.{IsValidTable}
 use Rattle.dictionary.specs.Dictionary.{most_values}
 use Rattle.index_reading.specs.Stretches.{LogsOver, LogsPartly, Stretch}
 use Rattle.segment_file.specs.Names.{file_of}
+use Rattle.segment_plan.specs.declared.plans.ScanPlan.{ScanPlan}
 use Rattle.segment_plan.specs.declared.plans.SegmentPlan.{SegmentPlan}
 use Rattle.segment_plan.specs.declared.plans.SegmentPlan.TheVariants.{Pruned, Empty, StarTree, Scan}
 use Rattle.segment_plan.specs.Planned.{factors_over, plan_over}
@@ -24,7 +25,7 @@ use Rattle.star_answer.specs.Answers.{stretch_of}
 use Rattle.star_answer.specs.Docs.{DocsAreBounded, docs_read, product}
 use Rattle.star_answer.specs.Segments.{IsInside}
 use Rattle.query_executor.specs.Logs.{EndsBy}
-use Rattle.query_executor.specs.Reads.{AreBytes, ReadsBy, ReadsNone, ReadsPlanned, ReadsTree, bytes_read, raw_span, star_span}
+use Rattle.query_executor.specs.Reads.{AreBytes, ReadsBy, ReadsNone, ReadsPlanned, ReadsScan, ReadsTree, bytes_read, forward_span, raw_span, star_span}
 use Rattle.query_executor.proofs.GrownLemmas.{IsOfFile}
 use Rattle.query_executor.proofs.LogLemmas.{join_logs, of_file, same_log}
 
@@ -121,6 +122,18 @@ module _ (name : List ℕ) (x y : List Entry) where
       let none = read_in-others x (file_of name) span.from span.to all in
       omega (arith, sum, none)
 
+module _ (query : BoundQuery) (table : Table) (name : List ℕ) (rows : List (List Value)) (plan : ScanPlan) where
+  -- no reads of a scan
+  scan_nothing : ReadsScan query table name rows plan []
+  scan_nothing = record { stars = λ t. refl; forward = omega arith }
+
+  -- reads of a scan that gave as many bytes of each part
+  scan_as_many : (x y : List Entry) → ((span : Stretch) → bytes_read y name span ≡ bytes_read x name span) → ReadsScan query table name rows plan x → ReadsScan query table name rows plan y
+  scan_as_many x y same r = record {
+    stars = λ t. same (star_span table name rows t) ∙ r.stars t;
+    forward = let few = r.forward in omega (arith, few, same (forward_span table name rows));
+  }
+
 module _ (query : BoundQuery) (table : Table) (answered : Bool) (name : List ℕ) (rows : List (List Value)) where
   -- reads that gave as many bytes of each part
   as_many : (x y : List Entry) → ((span : Stretch) → bytes_read y name span ≡ bytes_read x name span) → (plan : SegmentPlan) → ReadsBy query table name rows answered x plan → ReadsBy query table name rows answered y plan
@@ -132,7 +145,7 @@ module _ (query : BoundQuery) (table : Table) (answered : Bool) (name : List ℕ
     others = λ other ne. same (star_span table name rows other) ∙ p.others other ne;
     bounded = p.bounded;
   }
-  as_many x y same (Scan plan) p = tt
+  as_many x y same (Scan plan) p = scan_as_many query table name rows plan x y same p
 
 pub planned_of_file : (query : BoundQuery) (table : Table) (answered : Bool) → IsOfFile (ReadsPlanned query table answered)
 planned_of_file query table answered = record {
@@ -160,7 +173,7 @@ planned_less query table name rows entries p = by (plan_over query table rows) p
       others = p.others;
       bounded = p.bounded;
     }
-    by (Scan plan) p = tt
+    by (Scan plan) p = p
 
 -- nothing is within it, whatever the plan is
 pub planned_nothing : DocsAreBounded → (query : BoundQuery) (table : Table) (name : List ℕ) (rows : List (List Value)) → IsValidTable table → length rows ≤ most_values → ReadsPlanned query table false name rows []
@@ -183,4 +196,4 @@ planned_nothing law query table name rows valid few = by (plan_over query table 
         all_trees : (o : Option TreeSetting) → IfSome o (λ tree. 0 ≤ docs_read query table rows t * doc_width tree.shape)
         all_trees None = tt
         all_trees (Some tree) = omega arith
-    by (Scan plan) is = tt
+    by (Scan plan) is = scan_nothing query table name rows plan

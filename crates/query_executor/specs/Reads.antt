@@ -1,5 +1,5 @@
 -- The bytes that a query reads of a segment's file after its head, by the plan of the segment's rows.
-use Rattle.std.specs.Prelude.{◌≡◌, ◌≢◌, ◌≤◌, ◌<◌, ◌+◌, ◌*◌, ◌++◌, ℕ, Bool, true, false, List, [], take, sum, length, get_or, Option, Some, IfSome, slice_get}
+use Rattle.std.specs.Prelude.{◌≡◌, ◌≢◌, ◌≤◌, ◌<◌, ◌+◌, ◌*◌, ◌++◌, ℕ, suc, Bool, true, false, List, [], ◌∷◌, take, sum, length, get_or, Option, Some, IfSome, slice_get}
 use Rattle.std.specs.List.{AllZip}
 use Rattle.outside.specs.Files.{Files}
 use Rattle.outside.specs.Reads.{Entry, read_in}
@@ -12,12 +12,16 @@ use Rattle.segment_file.specs.Image.{front_of}
 use Rattle.segment_file.specs.Names.{file_of}
 use Rattle.segment_file.specs.Ordered.{ordered}
 use Rattle.segment_file.specs.Parts.{head_sections, raw_sections}
+use Rattle.segment_plan.specs.declared.plans.ScanPlan.{ScanPlan}
 use Rattle.segment_plan.specs.declared.plans.SegmentPlan.{SegmentPlan}
 use Rattle.segment_plan.specs.declared.plans.SegmentPlan.TheVariants.{Pruned, Empty, StarTree, Scan}
 use Rattle.segment_plan.specs.Planned.{factors_over, plan_over}
+use Rattle.segment_scan.specs.Images.{names_in}
+use Rattle.segment_scan.specs.Served.{rest_of}
 use Rattle.star_file.specs.Reading.{doc_width}
 use Rattle.star_answer.specs.Docs.{docs_read, product}
 use Rattle.query_executor.specs.Segments.{HasImage}
+use Rattle.query_executor.specs.Stated.{docs_by}
 
 -- ---- where the sections after the head are
 
@@ -31,6 +35,10 @@ span_of table name front before count = record {
 -- the sections of the rows: the forward indexes, and where ids are
 abbrev pub raw_span : Table → List ℕ → List (List Value) → Stretch
 raw_span table name rows = span_of table name (front_of 1 table rows) (length (head_sections table)) (length (raw_sections table))
+
+-- the forward indexes, which follow the head
+abbrev pub forward_span : Table → List ℕ → List (List Value) → Stretch
+forward_span table name rows = span_of table name (front_of 1 table rows) (length (head_sections table)) (length table.schema.fields)
 
 -- the documents of a star-tree
 abbrev pub star_span : Table → List ℕ → List (List Value) → ℕ → Stretch
@@ -59,12 +67,24 @@ pub record ReadsTree (query : BoundQuery) (table : Table) (name : List ℕ) (row
   pub others : (other : ℕ) → other ≢ t → bytes_read entries name (star_span table name rows other) ≡ 0
   pub bounded : IfSome (slice_get table.settings.trees t) (λ tree. docs_read query table rows t ≤ tree.shape.leaf * product (factors_over query table rows tree))
 
+-- how many columns are marked
+abbrev pub marked_count : List Bool → ℕ
+marked_count [] = 0
+marked_count (true ∷ marks) = suc (marked_count marks)
+marked_count (false ∷ marks) = marked_count marks
+
+-- of no star-tree's documents anything, and of the forward indexes together at most four bytes for each document that the indexes leave and each column
+-- that is named beside the conjuncts that the indexes serve
+pub record ReadsScan (query : BoundQuery) (table : Table) (name : List ℕ) (rows : List (List Value)) (plan : ScanPlan) (entries : List Entry) : Type 0 where
+  pub stars : (t : ℕ) → bytes_read entries name (star_span table name rows t) ≡ 0
+  pub forward : bytes_read entries name (forward_span table name rows) ≤ 4 * docs_by query table rows (Scan plan) * marked_count (names_in (rest_of query plan.choices) table)
+
 -- what is read by a plan
 abbrev pub ReadsBy : BoundQuery → Table → List ℕ → List (List Value) → Bool → List Entry → SegmentPlan → Type 0
 ReadsBy query table name rows answered entries Pruned = ReadsNone table name rows entries
 ReadsBy query table name rows answered entries Empty = ReadsNone table name rows entries
 ReadsBy query table name rows answered entries (StarTree t) = ReadsTree query table name rows t answered entries
-ReadsBy query table name rows answered entries (Scan plan) = Unit {0}
+ReadsBy query table name rows answered entries (Scan plan) = ReadsScan query table name rows plan entries
 
 -- what is read of a segment that has these rows in this order: that of their plan
 abbrev pub ReadsPlanned : BoundQuery → Table → Bool → List ℕ → List (List Value) → List Entry → Type 0

@@ -29,7 +29,7 @@ use segment_file::Head;
 use segment_plan::{
     SegmentPlan, empty_law, head_tells_law, plan, plan_over_law, prune, pruned_law,
 };
-use segment_scan::{EngineFault, scan_segment};
+use segment_scan::{EngineFault, image_law, index_law, scan_segment};
 use star_answer::{SegmentFault, answer_segment, docs_bound_law};
 use std::alloc::Global;
 use table_schema::{BoundQuery, Table};
@@ -144,6 +144,8 @@ fn add_planned<S: Shelf>(
     pruned_law();
     empty_law();
     plan_over_law();
+    image_law();
+    index_law();
     match plan(alloc, query, table, head)? {
         SegmentPlan::Scan(plan) => match scan_segment(
             alloc, shelf, head, table, query, &plan, groups,

@@ -1,6 +1,5 @@
-use Rattle.std.proofs.Common.{◌≡◌, ◌∙◌, ℕ, Bool, true, false, List, Option, Some, None, Err, inl, inr, refl, sym, ap, subst}
+use Rattle.std.proofs.Common.{◌≡◌, ◌∙◌, ℕ, false, List, Some, Err, inl, inr, refl, sym, ap}
 use Rattle.outside.specs.Files.{Files}
-use Rattle.outside.specs.Reads.{Entry}
 use Rattle.outside.proofs.ReadLemmas.{on-err}
 use Rattle.values.specs.declared.value.Value.{Value}
 use Rattle.table_schema.specs.declared.query.BoundQuery.{BoundQuery}
@@ -10,14 +9,14 @@ use Rattle.table_schema.specs.ValidTable.{IsValidTable}
 use Rattle.segment_file.specs.Heads.{Seen}
 use Rattle.segment_file.specs.Ordered.{ordered}
 use Rattle.segment_plan.specs.declared.plans.ScanPlan.{ScanPlan}
-use Rattle.segment_plan.specs.Laws.{HeadTells, PlanIsOver}
+use Rattle.segment_plan.specs.Laws.{HeadTells, PlanIsOver, TellsOf}
 use Rattle.segment_plan.specs.Matched.{AreLoaded}
 use Rattle.segment_plan.specs.Plan.{plan_of}
 use Rattle.segment_plan.specs.Planned.{plan_over}
-use Rattle.query_executor.specs.Reads.{LogsOne, ReadsBy, ReadsPlanned}
+use Rattle.query_executor.specs.Reads.{LogsOne, ReadsPlanned}
 use Rattle.query_executor.specs.Segments.{HasImage}
 use Rattle.query_executor.specs.Steps.{IsHeadIn, IsSpreadIn}
-use Rattle.query_executor.proofs.OneReads.{given_up, none_one, quiet_one, tree_given_up, tree_one}
+use Rattle.query_executor.proofs.OneReads.{given_up, none_one, quiet_one, scan_given_up, scan_one, tree_given_up, tree_one}
 use Rattle.segment_plan.specs.declared.plans.SegmentPlan.TheVariants.{Empty, Pruned, Scan, StarTree}
 use Rattle.query_executor.proofs.DoneLemmas.{done_so, none_looked, scan_looked, tree_looked}
 use Rattle.segment_scan.specs.declared.fault.EngineFault.TheVariants as engine
@@ -183,14 +182,12 @@ returns-in_err-plan-clause-reads_of_fault g c =
     given_up query table name c.docs_bound_law.ensures.bound c.requires.valid held log log (none_one query table name held log) in
     on-err _ _ all
 
-scan_done : (query : BoundQuery) (table : Table) → HeadTells → PlanIsOver → IsValidTable table → IsValidQuery table query → (held : Option Files) (head : Seen) (plan : ScanPlan) → Scan plan ≡ plan_of query table head → AreLoaded query.conjuncts head → (name : List ℕ) → IsHeadIn table held name head → (answered : Bool) (a b : Option (List Entry))
-    → LogsOne (ReadsPlanned query table answered) table held name a b
-scan_done query table tells law valid query_valid None head plan is loaded name in_file answered a b = λ before entries was now. tt
-scan_done query table tells law valid query_valid (Some files) head plan is loaded name in_file answered a b = λ before entries was now rows has.
+scan_plan : (query : BoundQuery) (table : Table) → HeadTells → PlanIsOver → IsValidTable table → IsValidQuery table query → (files : Files) (name : List ℕ) (head : Seen) (plan : ScanPlan) → Scan plan ≡ plan_of query table head → AreLoaded query.conjuncts head → IsHeadIn table (Some files) name head → (rows : List (List Value)) → HasImage table files name rows
+    → TellsOf table (ordered table.settings.sorted rows) head × (Scan plan ≡ plan_over query table (ordered table.settings.sorted rows))
+scan_plan query table tells law valid query_valid files name head plan is loaded in_file rows has =
     let i = in_file rows has in
-    let os : List (List Value) = ordered table.settings.sorted rows in
     let told = tells table i.name i.file rows i.whole head valid i.named i.can i.is_head i.part in
-    subst (ReadsBy query table name os answered entries) (is ∙ law query table os head query_valid told (inr loaded)) tt
+    (told, is ∙ law query table (ordered table.settings.sorted rows) head query_valid told (inr loaded))
 
 pub returns-in-Ok-clause-reads : goal.returns-in-Ok-clause-reads
 returns-in-Ok-clause-reads g c = λ name is spread.
@@ -199,7 +196,10 @@ returns-in-Ok-clause-reads g c = λ name is spread.
     let head = c.args.head.now in
     let held = g.S.Shelf.held c.args.shelf.now in
     let log = g.S.Shelf.log c.args.shelf.now in
-    scan_done query table c.head_tells_law.ensures c.plan_over_law.ensures c.requires.valid c.requires.query held head c.in-Scan.plan (sym c.in-Scan.is ∙ c.in_ok-plan.ensures) c.requires.filtered name is true log (g.S.Shelf.log c.scan_segment.new.shelf)
+    let plan = c.in-Scan.plan in
+    let planned = sym c.in-Scan.is ∙ c.in_ok-plan.ensures in
+    scan_one query table name c.image_law.ensures c.index_law.ensures c.requires.valid head c.requires.of_table (c.requires.named (scan_unpicked query table head plan planned)) plan (scan_planned query table head plan planned)
+    (λ files rows has in_file. scan_plan query table c.head_tells_law.ensures c.plan_over_law.ensures c.requires.valid c.requires.query files name head plan planned c.requires.filtered in_file rows has) held c.in-Ok.docs log (g.S.Shelf.log c.scan_segment.new.shelf) is spread c.in-Ok.ensures.log
 
 pub returns-in-Err-clause-reads_of_fault : goal.returns-in-Err-clause-reads_of_fault
 returns-in-Err-clause-reads_of_fault g c = λ name is spread.
@@ -208,7 +208,10 @@ returns-in-Err-clause-reads_of_fault g c = λ name is spread.
     let head = c.args.head.now in
     let held = g.S.Shelf.held c.args.shelf.now in
     let log = g.S.Shelf.log c.args.shelf.now in
-    scan_done query table c.head_tells_law.ensures c.plan_over_law.ensures c.requires.valid c.requires.query held head c.in-Scan.plan (sym c.in-Scan.is ∙ c.in_ok-plan.ensures) c.requires.filtered name is false log (g.S.Shelf.log c.scan_segment.new.shelf)
+    let plan = c.in-Scan.plan in
+    let planned = sym c.in-Scan.is ∙ c.in_ok-plan.ensures in
+    scan_given_up query table name c.image_law.ensures c.index_law.ensures c.requires.valid head c.requires.of_table (c.requires.named (scan_unpicked query table head plan planned)) plan (scan_planned query table head plan planned)
+    (λ files rows has in_file. scan_plan query table c.head_tells_law.ensures c.plan_over_law.ensures c.requires.valid c.requires.query files name head plan planned c.requires.filtered in_file rows has) held log (g.S.Shelf.log c.scan_segment.new.shelf) is spread c.in-Err.ensures.log_of_fault
 
 tree_plan : (query : BoundQuery) (table : Table) → HeadTells → PlanIsOver → IsValidTable table → IsValidQuery table query → (files : Files) (name : List ℕ) (head : Seen) (t : ℕ) → StarTree t ≡ plan_of query table head → AreLoaded query.conjuncts head → IsHeadIn table (Some files) name head → (rows : List (List Value)) → HasImage table files name rows
     → StarTree t ≡ plan_over query table (ordered table.settings.sorted rows)
