@@ -1,6 +1,9 @@
 pub mod WalkSteps
 pub mod ImageSteps
 pub mod WithinSteps
+pub mod TreePicks
+pub mod CoverLemmas
+pub mod CoverSteps
 pub mod JoinSteps
 pub mod TestSteps
 pub mod KeySteps

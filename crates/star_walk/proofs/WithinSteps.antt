@@ -88,7 +88,7 @@ abbrev those : Task → ℕ → List (ℕ × List Doc) → List Doc
 those t k [] = []
 those t k (x ∷ xs) = filter (λ e. holds_from t (k - x.0) x.0 e.0) x.1 ++ those t k xs
 
-length_range : (from to : ℕ) (docs : List Doc) → to ≤ length docs
+pub length_range : (from to : ℕ) (docs : List Doc) → to ≤ length docs
     → length (range from to docs) ≡ to - from
 length_range from to docs h =
     length-take-le (to - from) (drop from docs) (omega (arith, length-drop from docs))

@@ -1,12 +1,13 @@
 //! The laws of walks. Each is the contract of a function that does nothing of its own.
 
 ghost use Rattle.std.specs.Prelude.{◌≡◌, ℕ, ◌^◌, ◌<◌, ◌≤◌, [], List, length, map};
+ghost use Rattle.std.specs.Prelude.{All, count_by};
 ghost use Rattle.agg_laws.specs.declared.node.Node.{Node};
 ghost use Rattle.agg_laws.specs.declared.states.AggState.{AggState};
 ghost use Rattle.agg_laws.specs.declared.tree_shape.TreeShape.{TreeShape};
 ghost use Rattle.agg_laws.specs.Rows.{merged_rows};
 ghost use Rattle.agg_laws.specs.Docs.{Doc, HaveIds};
-ghost use Rattle.agg_laws.specs.Tree.{Nodes, none, tree_of, HaveNoStar};
+ghost use Rattle.agg_laws.specs.Tree.{Nodes, none, agrees, tree_of, HaveNoStar};
 ghost use Rattle.agg_laws.specs.Flat.{Flat, FlatAt, flat};
 ghost use Rattle.agg_laws.specs.Picks.{Task, picks};
 ghost use Rattle.agg_laws.specs.Picks as nested;
@@ -16,6 +17,7 @@ ghost use Rattle.agg_laws.specs.NodeRules.{KeepsRules};
 ghost use Rattle.star_walk.specs.declared.pick.Pick.{Pick};
 ghost use Rattle.star_walk.specs.Walking.{AreWalkable, tree_picks};
 ghost use Rattle.star_walk.specs.Images.{bare, shown, read_of, passing, AreWithin};
+ghost use Rattle.star_walk.specs.Covering.{covers, AreCovered, HaveValues, has_number};
 ghost use Rattle.star_walk.specs.Joins.{joined, numbers_of, AreApart};
 
 /// A walk goes through any nodes that keep the rules by which the nodes of a file are checked, and
@@ -54,6 +56,34 @@ pub fn walk_law()
         (flat merged_rows (tree_of merged_rows shape k docs)).1
         (tree_picks t k (flat merged_rows (tree_of merged_rows shape k docs)).0))
         ≡ groups_of merged_rows t k (rows_that_hold t k docs) }
+{}
+
+/// Each row that holds is covered by exactly one pick, whose remaining tests it passes. A row that
+/// does not hold is covered by none, or by one whose remaining tests, from the pick's level on, it
+/// fails. On a grouped dimension the picked documents have the row's own value. A pick of the
+/// nested tree covers just those rows that agree with the path of its node, and no document of the
+/// flat tree is picked twice.
+pub fn covered_law()
+    ensures nested { (t : Task) (shape : TreeShape) (k : ℕ) (rows : List Doc) → HaveIds k rows
+        → HaveNoStar k rows
+        → AreCovered t k (map bare (picks merged_rows t k (tree_of merged_rows shape k rows))) rows }
+    ensures paths { (t : Task) (shape : TreeShape) (k : ℕ) (rows : List Doc) → HaveIds k rows
+        → HaveNoStar k rows
+        → All (λ p. All (λ row. covers row.0 (bare p) ≡ agrees p.path row.0) rows)
+        (picks merged_rows t k (tree_of merged_rows shape k rows)) }
+    ensures flat { (t : Task) (shape : TreeShape) (k : ℕ) (rows : List Doc) → HaveIds k rows
+        → HaveNoStar k rows
+        → AreCovered t k (map (shown (flat merged_rows (tree_of merged_rows shape k rows)).1)
+        (tree_picks t k (flat merged_rows (tree_of merged_rows shape k rows)).0)) rows }
+    ensures values { (t : Task) (shape : TreeShape) (k : ℕ) (rows : List Doc) → HaveIds k rows
+        → HaveNoStar k rows
+        → All (λ p. HaveValues t k rows p.1)
+        (map (shown (flat merged_rows (tree_of merged_rows shape k rows)).1)
+        (tree_picks t k (flat merged_rows (tree_of merged_rows shape k rows)).0)) }
+    ensures once { (t : Task) (shape : TreeShape) (k : ℕ) (rows : List Doc) (at : ℕ)
+        → HaveIds k rows → HaveNoStar k rows
+        → count_by (has_number at)
+        (tree_picks t k (flat merged_rows (tree_of merged_rows shape k rows)).0) ≤ 1 }
 {}
 
 /// Joined picks are of the same documents in the same order, with the same levels; and none of them

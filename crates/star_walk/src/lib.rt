@@ -11,7 +11,7 @@ mod walking;
 
 pub use joining::joined;
 pub use keys::key_of;
-pub use laws::{joined_law, walk_law, walkable_law};
+pub use laws::{covered_law, joined_law, walk_law, walkable_law};
 pub use pick::{Pick, Picks};
 pub use task::Task;
 pub use testing::{passes_from, passing};

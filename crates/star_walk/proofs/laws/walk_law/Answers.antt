@@ -1,74 +1,48 @@
-use Rattle.std.proofs.Common.{◌≡◌, ℕ, ◌<◌, ◌≤◌, List, [], length, map, ap, sym, ◌∙◌, arith}
-use Rattle.std.proofs.Common.{subst}
-use Rattle.agg_laws.specs.declared.states.AggState.{AggState}
+use Rattle.std.proofs.Common.{◌≡◌, ℕ, ◌<◌, ◌≤◌, List, ap, sym, ◌∙◌, subst}
 use Rattle.agg_laws.specs.declared.tree_shape.TreeShape.{TreeShape}
 use Rattle.agg_laws.specs.Rows.{merged_rows}
 use Rattle.agg_laws.specs.Docs.{Doc, HaveIds}
-use Rattle.agg_laws.specs.Tree.{HaveNoStar, Nodes, none, merged_docs, root_of, tree_of}
-use Rattle.agg_laws.specs.Flat.{Flat, flat, node_at}
-use Rattle.agg_laws.specs.FlatNodes.{IsOfTree}
+use Rattle.agg_laws.specs.Tree.{HaveNoStar, tree_of}
+use Rattle.agg_laws.specs.Flat.{flat}
 use Rattle.agg_laws.specs.Reads.{factor, bound}
 use Rattle.agg_laws.specs.Picks.{Task, picks}
 use Rattle.agg_laws.specs.Picks as nested
 use Rattle.agg_laws.specs.Groups.{groups_of, rows_that_hold}
 use Rattle.agg_laws.proofs.DocLemmas.{rows_join}
-use Rattle.agg_laws.proofs.FlatTrees.{nodes_of_tree, tree_flat}
 use Rattle.agg_laws.proofs.ReadLemmas.{tree_read}
 use Rattle.agg_laws.proofs.AnswerLemmas.{same_groups}
 use Rattle.star_walk.specs.Walking.{tree_picks}
-use Rattle.star_walk.specs.Images.{bare, shown, read_of, passing, AreWithin}
+use Rattle.star_walk.specs.declared.pick.Pick.{Pick}
+use Rattle.star_walk.specs.Images.{read_of, passing}
 use Rattle.star_walk.proofs.ImageSteps.{tree_same}
-use Rattle.star_walk.proofs.WithinSteps.{InDocs, tree_in, read_same, passing_same}
+use Rattle.star_walk.proofs.WithinSteps.{read_same, passing_same}
+use Rattle.star_walk.proofs.TreePicks.{same, within}
 use Rattle.star_walk.proofs.laws.walk_law.Goals as goal
-
-no_root : (shape : TreeShape) (k : ℕ) (docs : List Doc)
-    → root_of merged_rows shape k docs ≡ none
-    → (flat merged_rows (root_of merged_rows shape k docs)).0 ≡ []
-no_root shape k docs e = ap (λ tree. (flat merged_rows tree).0) e
-
-of_tree : (shape : TreeShape) (k : ℕ) (rows : List Doc) (at : ℕ) (f : Flat (List AggState))
-    → IsOfTree merged_rows shape k rows at f → InDocs (length f.1) f.0 (node_at f.0 at)
-of_tree shape k rows at f h =
-    let e = h.is.children_are in
-    let i = h.is.kids_in in
-    record {
-      order = h.is.docs_are.order;
-      inside = h.is.docs_are.inside;
-      total_in = h.is.total_in;
-      kids_in = omega (arith, e, i);
-    }
 
 module _ (t : Task) (shape : TreeShape) (k : ℕ) (docs : List Doc) (ids : HaveIds k docs)
     (no_star : HaveNoStar k docs) where
-  abbrev tree : Nodes (List AggState)
-  tree = tree_of merged_rows shape k docs
+  abbrev its : List Pick
+  its = tree_picks t k (flat merged_rows (tree_of merged_rows shape k docs)).0
 
-  abbrev f : Flat (List AggState)
-  f = flat merged_rows (tree_of merged_rows shape k docs)
-
-  same : map (shown f.1) (tree_picks t k f.0) ≡ map bare (picks merged_rows t k tree)
-  same = tree_same t k tree f (no_root shape k (merged_docs merged_rows docs))
-      (tree_flat merged_rows rows_join shape k docs ids no_star)
-
-  within : AreWithin (length f.1) k (tree_picks t k f.0)
-  within = tree_in t k (length f.1) f.0 (λ at lt. of_tree shape k docs at f
-      (nodes_of_tree merged_rows rows_join shape k docs ids no_star at lt))
-
-  count : read_of (tree_picks t k f.0) ≡ nested.read_of (picks merged_rows t k tree)
-  count = read_same f.1 k (tree_picks t k f.0) (picks merged_rows t k tree) within same
+  count : read_of its ≡ nested.read_of (picks merged_rows t k (tree_of merged_rows shape k docs))
+  count = read_same (flat merged_rows (tree_of merged_rows shape k docs)).1 k its
+      (picks merged_rows t k (tree_of merged_rows shape k docs))
+      (within t shape k docs ids no_star) (same t shape k docs ids no_star)
 
   few : 1 ≤ shape.leaf → ((d : ℕ) → d < k → 1 ≤ factor merged_rows t shape docs d)
-      → read_of (tree_picks t k f.0) ≤ bound merged_rows t shape docs k
+      → read_of its ≤ bound merged_rows t shape docs k
   few leaf some =
       subst (λ n. n ≤ bound merged_rows t shape docs k)
       (sym count)
       (tree_read merged_rows rows_join t k shape docs ids no_star leaf some)
 
-  answers : groups_of merged_rows t k (passing t k f.1 (tree_picks t k f.0))
+  answers : groups_of merged_rows t k
+      (passing t k (flat merged_rows (tree_of merged_rows shape k docs)).1 its)
       ≡ groups_of merged_rows t k (rows_that_hold t k docs)
   answers =
       ap (groups_of merged_rows t k)
-      (passing_same t k f.1 (tree_picks t k f.0) (picks merged_rows t k tree) same)
+      (passing_same t k (flat merged_rows (tree_of merged_rows shape k docs)).1 its
+      (picks merged_rows t k (tree_of merged_rows shape k docs)) (same t shape k docs ids no_star))
       ∙ same_groups merged_rows rows_join t k shape docs ids no_star
 
 pub returns : goal.returns
