@@ -21,6 +21,7 @@ abbrev pub unsigned_number : List ℕ → Option ℕ
 unsigned_number [] = None
 unsigned_number (digit ∷ digits) = if list_all is_digit (digit ∷ digits) then Some (place_value (digit ∷ digits)) else None
 
+-- what digits are with a `-` before them
 abbrev pub negative : ℕ → ℤ
 negative n = neg_ℤ (pos n)
 
@@ -40,6 +41,7 @@ abbrev pub is_in_range : FieldKind → ℤ → Bool
 is_in_range kind (pos n) = nat_lt n (range_of kind)
 is_in_range kind (negsuc n) = nat_lt n (range_of kind)
 
+-- the number, if there is one and the type has it, or the fault
 abbrev pub ranged : FieldKind → Option ℤ → Result ℤ WholeFault
 ranged kind None = Err NotANumber
 ranged kind (Some number) = if is_in_range kind number then Ok number else Err OutOfRange

@@ -8,6 +8,7 @@ use Rattle.values.specs.declared.text_pool.Span.{Span}
 abbrev pub piece : List ℕ → Span → List ℕ
 piece bytes span = take span.len (drop span.start bytes)
 
+-- the texts of a pool, in the order of their spans
 abbrev pub pieces : List ℕ → List Span → List (List ℕ)
 pieces bytes spans = map (piece bytes) spans
 
@@ -16,5 +17,6 @@ pub record IsPiece (bytes : List ℕ) (span : Span) : Type 0 where
   pub within : span.start + span.len ≤ length bytes
   pub text : is_utf8 (piece bytes span) ≡ true
 
+-- each span lies within the bytes and is a text
 abbrev pub ArePieces : List ℕ → List Span → Type 0
 ArePieces bytes spans = All (IsPiece bytes) spans

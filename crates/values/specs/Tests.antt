@@ -36,10 +36,12 @@ is_at_most a b = is_le (value_order a b)
 abbrev pub is_between : Value → Value → Value → Bool
 is_between low value high = is_at_most low value && is_at_most value high
 
+-- the AND of truth values; true where there is none
 abbrev pub all_true : List Bool → Bool
 all_true [] = true
 all_true (b ∷ bs) = b && all_true bs
 
+-- the OR of truth values; false where there is none
 abbrev pub any_true : List Bool → Bool
 any_true [] = false
 any_true (b ∷ bs) = b || any_true bs
