@@ -26,6 +26,7 @@ abbrev pub AreAbove : ℕ → List Node → Type 0
 AreAbove v [] = Unit {0}
 AreAbove v (n ∷ ns) = (v < n.id) × AreAbove v ns
 
+-- the ids ascend strictly, from the first node to the last
 abbrev pub Ascend : List Node → Type 0
 Ascend [] = Unit {0}
 Ascend (n ∷ ns) = AreAbove n.id ns × Ascend ns

@@ -82,6 +82,7 @@ times left x (p ∷ ps) = (if agrees p.path x && left p.level then 1 else 0) + t
 abbrev pub times_covered : {S : Type 0} → List ℕ → List (Pick S) → ℕ
 times_covered x ps = times (λ _. true) x ps
 
+-- how many picks count a row: those that cover it and whose remaining tests it passes
 abbrev pub times_counted : {S : Type 0} → Task → ℕ → List ℕ → List (Pick S) → ℕ
 times_counted t k x ps = times (λ level. holds_from t (k - level) level x) x ps
 

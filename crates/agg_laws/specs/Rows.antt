@@ -11,6 +11,7 @@ abbrev pub head_of : List ℤ → ℤ
 head_of [] = pos 0
 head_of (x ∷ xs) = x
 
+-- the numbers of a row after the first, which are those of the next pairs
 abbrev pub tail_of : List ℤ → List ℤ
 tail_of [] = []
 tail_of (x ∷ xs) = xs
