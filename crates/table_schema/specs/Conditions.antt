@@ -24,6 +24,7 @@ wide_step row (Wide-F.Any inner) = any_true inner
 abbrev pub wide_holds : List Value → Wide → Bool
 wide_holds row = fold-Wide Bool (wide_step row)
 
+-- whether the row satisfies the conjunct, a test of one field or a condition on several
 abbrev pub conjunct_holds : List Value → Conjunct → Bool
 conjunct_holds row (One field test) = holds (cell row field) test
 conjunct_holds row (Many wide) = wide_holds row wide

@@ -1,6 +1,7 @@
 -- Checks in order, of which the first that fails is the fault. A check finds a fault, or `None`.
 use Rattle.std.specs.Prelude.{List, [], ◌∷◌, ◌++◌, Option, Some, None}
 
+-- the earlier fault, or the later one where there is none
 abbrev pub or_else : {F : Type 0} → Option F → Option F → Option F
 or_else (Some fault) later = Some fault
 or_else None later = later

@@ -5,14 +5,17 @@ use Rattle.table_schema.specs.declared.settings.TreeSetting.{TreeSetting}
 use Rattle.table_schema.specs.declared.settings.Settings.{Settings}
 use Rattle.table_schema.specs.Columns.{is_member}
 
+-- there is a number, and it is n
 abbrev pub is_the_number : ℕ → Option ℕ → Bool
 is_the_number n None = false
 is_the_number n (Some m) = m == n
 
+-- there is a flag for the column, and it is true
 abbrev pub is_set : Option Bool → Bool
 is_set None = false
 is_set (Some b) = b
 
+-- the column is a split dimension of one of the star-trees
 abbrev pub is_split : List TreeSetting → ℕ → Bool
 is_split trees n = list_any (λ tree. is_member tree.split n) trees
 

@@ -21,6 +21,7 @@ is_short (value.Whole z) = true
 abbrev pub default_fits : FieldKind → Value → Bool
 default_fits kind v = fits kind v && is_short v
 
+-- the name keeps the rule of column names, no metric is of texts, and the default fits
 abbrev pub is_valid_field : Field → Bool
 is_valid_field f = is_column_name f.name && not (is_text_metric f.role f.kind) && default_fits f.kind f.default
 

@@ -24,6 +24,7 @@ use Rattle.table_schema.specs.ValidSettings.{is_number_of, is_known_number, pair
 
 -- ---- the fields that a condition names
 
+-- one condition, with the fields that each inner one names in its place
 abbrev pub fields_step : Wide-F (List ℕ) → List ℕ
 fields_step (Wide-F.Leaf field test) = field ∷ []
 fields_step (Wide-F.All inner) = flat_map (λ fields. fields) inner
@@ -66,6 +67,7 @@ fits_step kind (Test-F.Between low high negated) = is_typed kind low && is_typed
 fits_step kind (Test-F.All inner) = all_true inner
 fits_step kind (Test-F.Any inner) = all_true inner
 
+-- each value in the test has that type
 abbrev pub test_fits : Option FieldKind → Test → Bool
 test_fits kind = fold-Test Bool (fits_step kind)
 
@@ -75,6 +77,7 @@ wide_step fields (Wide-F.Leaf c test) = test_fits (kind_at fields c) test
 wide_step fields (Wide-F.All inner) = all_true inner
 wide_step fields (Wide-F.Any inner) = all_true inner
 
+-- each value in the condition has the type of the field that it is compared with
 abbrev pub wide_fits : List Field → Wide → Bool
 wide_fits fields = fold-Wide Bool (wide_step fields)
 

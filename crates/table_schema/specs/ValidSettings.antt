@@ -12,6 +12,7 @@ use Rattle.table_schema.specs.Roles.{is_numeric}
 use Rattle.table_schema.specs.Roles.{is_metric_at}
 use Rattle.table_schema.specs.NeedIds.{is_set, needs_ids}
 
+-- one of the fields has this number, from 0
 abbrev pub is_number_of : List Field → ℕ → Bool
 is_number_of fields n = nat_lt n (length fields)
 
@@ -41,6 +42,7 @@ pub record IsValidTree (columns : List Field) (t : TreeSetting) : Type 0 where
   pub has_kinds : t.shape.kinds ≡ map (λ p. p.kind) t.pairs
   pub has_leaf : 0 < t.shape.leaf
 
+-- there is no number, or one of the fields has it
 abbrev pub is_known_number : List Field → Option ℕ → Bool
 is_known_number fields None = true
 is_known_number fields (Some n) = is_number_of fields n
