@@ -17,6 +17,7 @@ use Rattle.schema_json.specs.Json.{key_of}
 use Rattle.schema_json.specs.Faults.{Finding, below, fault_unless}
 use Rattle.schema_json.specs.Keys.{optional}
 
+-- the key of the value that a field has where a row gives none
 abbrev pub DEFAULT_KEY : Text
 DEFAULT_KEY = codes "defaultNullValue"
 
@@ -24,13 +25,16 @@ DEFAULT_KEY = codes "defaultNullValue"
 abbrev pub short_text : Text → Option Value
 short_text text = if nat_le (length text) 64 then Some (value.Text text) else None
 
+-- the default that a JSON string gives: itself, or the number that it spells
 abbrev pub text_default : FieldKind → Text → Option Value
 text_default kind.Text text = short_text text
 text_default kind text = result_ok (value_of kind text)
 
+-- the number as a value, if it is in the range of the type
 abbrev pub whole_default : FieldKind → ℤ → Option Value
 whole_default kind z = if is_in_range kind z then Some (value.Whole z) else None
 
+-- the default that a JSON number gives; none for a field of texts
 abbrev pub number_default : FieldKind → Num → Option Value
 number_default kind.Text n = None
 number_default kind n = option_and_then (whole_default kind) (as_i64 n)
@@ -41,12 +45,15 @@ given_default kind (string text) = text_default kind text
 given_default kind (number n) = number_default kind n
 given_default kind _ = None
 
+-- where `defaultNullValue` is there, it gives a default of the type
 abbrev pub default_finding : Text → FieldKind → Data → Finding
 default_finding base kind d = optional (λ v. fault_unless (is_some (given_default kind v)) WrongKind (below base DEFAULT_KEY)) (key_of DEFAULT_KEY d)
 
+-- the least INT or the least LONG
 abbrev pub least_of : FieldKind → ℤ
 least_of kind = neg_ℤ (pos (range_of kind))
 
+-- 0 for a metric, and else the least number of the type
 abbrev pub usual_number : Role → FieldKind → ℤ
 usual_number Metric kind = pos 0
 usual_number Dimension kind = least_of kind

@@ -17,9 +17,11 @@ below base key = if length base == 0 then key else base ++ codes "." ++ key
 abbrev pub at_place : Text → ℕ → Text
 at_place base place = base ++ codes "[" ++ decimal place ++ codes "]"
 
+-- a fault with its kind and path, where a test fails
 abbrev pub fault_unless : Bool → KeyKind → Text → Finding
 fault_unless passes kind path = if passes then None else Some (At kind path)
 
+-- a fault with its kind and path, where something is so
 abbrev pub fault_if : Bool → KeyKind → Text → Finding
 fault_if fails kind path = if fails then Some (At kind path) else None
 

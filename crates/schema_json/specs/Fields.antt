@@ -31,10 +31,12 @@ pub record Entry : Type 0 where
   pub place : ℕ
   pub json : Data
 
+-- the items of a list as entries, of which the first has this place
 abbrev pub entries_from : Role → ℕ → List Data → List Entry
 entries_from role place [] = []
 entries_from role place (d ∷ ds) = record { role = role; place = place; json = d } ∷ entries_from role (place + 1) ds
 
+-- the entries of the list of one role, none where its key is absent
 abbrev pub entries_of : Role → Data → List Entry
 entries_of role d = entries_from role 0 (items_at (list_key role) d)
 
@@ -42,14 +44,17 @@ entries_of role d = entries_from role 0 (items_at (list_key role) d)
 abbrev pub all_entries : Data → List Entry
 all_entries d = entries_of Dimension d ++ entries_of Metric d ++ entries_of DateTime d
 
+-- where an entry is in the schema, such as `metricFieldSpecs[0]`
 abbrev pub path_of : Entry → Text
 path_of e = at_place (list_key e.role) e.place
 
 -- ---- the name
 
+-- the name that an entry gives its field; empty where it gives none
 abbrev pub name_of : Entry → Text
 name_of e = text_at (codes "name") e.json
 
+-- the name is there, and keeps the rule of column names
 abbrev pub name_finding : Text → Data → Finding
 name_finding base d = first_of (
     required_text base (codes "name") d
@@ -58,14 +63,17 @@ name_finding base d = first_of (
 
 -- ---- the type
 
+-- the type of a name in capitals; the other types of Pinot are not supported
 abbrev pub kind_named : Text → Option FieldKind
 kind_named name =
     if bytes_eq name (codes "INT") then Some kind.Int else (if bytes_eq name (codes "LONG") then Some kind.Long
     else (if bytes_eq name (codes "STRING") then Some kind.Text else None))
 
+-- the type that `dataType` names, and STRING where it names none
 abbrev pub kind_of : Data → FieldKind
 kind_of d = unwrap_or (kind_named (text_at (codes "dataType") d)) kind.Text
 
+-- `dataType` is there and names a type, for a metric one of numbers
 abbrev pub type_finding : Text → Role → Data → Finding
 type_finding base role d = first_of (
     required_text base (codes "dataType") d
@@ -75,10 +83,12 @@ type_finding base role d = first_of (
 
 -- ---- what is not supported
 
+-- there is a number, and it is less than the limit
 abbrev pub is_below : ℤ → Option ℤ → Bool
 is_below limit None = false
 is_below limit (Some n) = int_lt n limit
 
+-- the integer that a JSON value is, if it is one
 abbrev pub whole_number : Data → Option ℤ
 whole_number d = option_and_then as_integer (as_number d)
 
@@ -86,6 +96,7 @@ whole_number d = option_and_then as_integer (as_number d)
 abbrev pub length_finding : Text → Data → Finding
 length_finding base d = optional (λ v. fault_if (is_below (pos 512) (whole_number v)) Unsupported (below base (codes "maxLength"))) (key_of (codes "maxLength") d)
 
+-- no field of several values, no transformed or virtual one, and no `maxLength` below 512
 abbrev pub support_finding : Text → Data → Finding
 support_finding base d = first_of (
     refused_bool false base (codes "singleValueField") d

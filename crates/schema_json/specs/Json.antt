@@ -19,13 +19,16 @@ given d = Some d
 abbrev pub key_of : Text → Data → Option Data
 key_of key d = option_and_then given (get key d)
 
+-- the items of an array as a list
 abbrev pub items : Items → List Data
 items no_items = []
 items (item d ds) = d ∷ items ds
 
+-- the items of a value, if it is an array
 abbrev pub array_of : Data → Option (List Data)
 array_of d = option_map items (as_array d)
 
+-- the array is empty
 abbrev pub is_no_items : Items → Bool
 is_no_items no_items = true
 is_no_items (item d ds) = false

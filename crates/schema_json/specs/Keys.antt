@@ -8,14 +8,17 @@ use Rattle.table_schema.specs.Names.{Text}
 use Rattle.schema_json.specs.Json.{key_of, array_of, is_empty}
 use Rattle.schema_json.specs.Faults.{Finding, below, fault_unless, fault_if}
 
+-- a key has to be there, and its value passes a check
 abbrev pub required : Text → (Data → Finding) → Option Data → Finding
 required path check None = Some (At MissingKey path)
 required path check (Some d) = check d
 
+-- where a key is there, its value passes a check
 abbrev pub optional : (Data → Finding) → Option Data → Finding
 optional check None = None
 optional check (Some d) = check d
 
+-- the fault of a value that is no object
 abbrev pub object_finding : Text → Data → Finding
 object_finding path d = fault_unless (is_some (as_object d)) WrongKind path
 
@@ -23,6 +26,7 @@ object_finding path d = fault_unless (is_some (as_object d)) WrongKind path
 abbrev pub text_finding : Text → Data → Finding
 text_finding path d = fault_unless (is_some (as_str d)) WrongKind path
 
+-- the fault of a value that is no array
 abbrev pub array_finding : Text → Data → Finding
 array_finding path d = fault_unless (is_some (as_array d)) WrongKind path
 
@@ -38,11 +42,13 @@ optional_array base key d = optional (array_finding (below base key)) (key_of ke
 abbrev pub unused_key : Text → Text → Data → Finding
 unused_key base key d = optional (λ v. fault_unless (is_empty v) Unsupported (below base key)) (key_of key d)
 
+-- there is a truth value, and it is the one that is asked for
 abbrev pub is_the_bool : Bool → Option Bool → Bool
 is_the_bool wanted None = false
 is_the_bool true (Some b) = b
 is_the_bool false (Some b) = not b
 
+-- a JSON value is `true`, or is `false`, as is asked for
 abbrev pub is_bool : Bool → Data → Bool
 is_bool wanted d = is_the_bool wanted (as_bool d)
 

@@ -15,6 +15,7 @@ use Rattle.table_schema.specs.Firsts.{first_of, by_place}
 
 -- ---- texts
 
+-- the value where the checks find no fault, and else the fault
 abbrev pub answer : {A : Type 0} → Finding → A → Result A TextFault
 answer None value = Ok value
 answer (Some fault) value = Err fault
@@ -26,6 +27,7 @@ read_by check value (Some d) = answer (check d) (value d)
 
 -- ---- schemas
 
+-- the checks of the keys beside the three lists; null handling by column may not be enabled
 abbrev pub head_finding : Data → Finding
 head_finding d = first_of (
     object_finding [] d
@@ -35,10 +37,12 @@ head_finding d = first_of (
     ∷ refused_bool true [] (codes "enableColumnBasedNullHandling") d
     ∷ [])
 
+-- the three lists have no entry
 abbrev pub is_none_listed : List Entry → Bool
 is_none_listed [] = true
 is_none_listed (e ∷ es) = false
 
+-- each list that is there is an array, and together they have one entry or more
 abbrev pub lists_finding : Data → Finding
 lists_finding d = first_of (
     optional_array [] (list_key Dimension) d
@@ -47,6 +51,7 @@ lists_finding d = first_of (
     ∷ fault_if (is_none_listed (all_entries d)) MissingKey (list_key Dimension)
     ∷ [])
 
+-- each entry passes the checks of a field, after those before it
 abbrev pub fields_finding : List Entry → Finding
 fields_finding entries = by_place (λ before e. field_finding (map name_of before) e) [] entries
 
