@@ -31,16 +31,19 @@ column_finding fields path d = first_of (
 abbrev pub column_places : List Field → Text → List Data → Finding
 column_places fields path ds = by_place (λ before d. column_finding fields (at_place path (length before)) d) [] ds
 
+-- where the key is there, it has an array of names of fields
 abbrev pub columns_finding : List Field → Text → Text → Data → Finding
 columns_finding fields base key d = first_of (
     optional_array base key d
     ∷ column_places fields (below base key) (items_at key d)
     ∷ [])
 
+-- there is a text, and it is this name byte for byte
 abbrev pub is_the_text : Text → Option Text → Bool
 is_the_text name None = false
 is_the_text name (Some text) = bytes_eq text name
 
+-- the name is one of the texts of an array
 abbrev pub has_text : List Data → Text → Bool
 has_text ds name = list_any (λ d. is_the_text name (as_str d)) ds
 

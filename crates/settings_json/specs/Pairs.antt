@@ -24,6 +24,7 @@ function_named name =
     else (if str_eq_ignore_ascii_case name (codes "MIN") then Some Least else (if str_eq_ignore_ascii_case name (codes "MAX") then Some Greatest
     else (if str_eq_ignore_ascii_case name (codes "AVG") then Some Average else None))))
 
+-- the text begins with `_`
 abbrev pub begins_low : Text → Bool
 begins_low [] = false
 begins_low (b ∷ bs) = b == 95
@@ -33,6 +34,7 @@ abbrev pub mark_from : ℕ → Text → Option ℕ
 mark_from i [] = None
 mark_from i (b ∷ bs) = if b == 95 && begins_low bs then Some i else mark_from (i + 1) bs
 
+-- the function of the field of this number, if that is a field of numbers
 abbrev pub numeric_pair : List Field → AggKind → ℕ → Option Agg
 numeric_pair fields function n = if is_numeric (slice_get fields n) then Some (record { kind = function; column = Some n }) else None
 
@@ -41,6 +43,7 @@ abbrev pub pair_by : List Field → AggKind → Text → Option Agg
 pair_by fields Count column = if bytes_eq column (codes "*") || is_known fields column then Some (record { kind = Count; column = None }) else None
 pair_by fields function column = option_and_then (numeric_pair fields function) (number_of fields column)
 
+-- the pair of a text whose `__` is at this place, with the function before it and the column after it
 abbrev pub split_pair : List Field → Text → ℕ → Option Agg
 split_pair fields text at = option_and_then (λ function. pair_by fields function (drop (at + 2) text)) (function_named (take at text))
 
@@ -50,9 +53,11 @@ pair_of fields text = option_and_then (split_pair fields text) (mark_from 0 text
 
 -- ---- lists of pairs
 
+-- a list with one more pair, unless it is there
 abbrev pub with_pair : List Agg → Agg → List Agg
 with_pair kept p = if list_any (λ q. same_agg q p) kept then kept else kept ++ p ∷ []
 
+-- the same with the pair that a place gives, if it gives one
 abbrev pub with_found : List Agg → Option Agg → List Agg
 with_found kept None = kept
 with_found kept (Some p) = with_pair kept p
@@ -62,15 +67,18 @@ abbrev pub pairs_from : List Field → List Agg → List Data → List Agg
 pairs_from fields kept [] = kept
 pairs_from fields kept (d ∷ ds) = pairs_from fields (with_found kept (pair_of fields (text_of d))) ds
 
+-- the pairs of an array, each once, in the order in which they first come
 abbrev pub pairs_of : List Field → List Data → List Agg
 pairs_of fields ds = pairs_from fields [] ds
 
+-- a place has a text that is a pair
 abbrev pub pair_finding : List Field → Text → Data → Finding
 pair_finding fields path d = first_of (
     text_finding path d
     ∷ fault_unless (is_some (pair_of fields (text_of d))) BadPair path
     ∷ [])
 
+-- each place of an array has a text that is a pair
 abbrev pub pair_places : List Field → Text → List Data → Finding
 pair_places fields path ds = by_place (λ before d. pair_finding fields (at_place path (length before)) d) [] ds
 

@@ -20,24 +20,29 @@ use Rattle.table_schema.specs.Firsts.{first_of}
 abbrev pub bare_name : Text → Text
 bare_name name = if ends_with nat_eq name (codes "_OFFLINE") then take (length name - 8) name else name
 
+-- the name that `tableName` gives, without the suffix of the type
 abbrev pub table_name : Data → Text
 table_name d = bare_name (text_at (codes "tableName") d)
 
+-- `tableName` is there, and without its suffix keeps the rule of column names
 abbrev pub table_finding : Data → Finding
 table_finding d = first_of (
     required_text [] (codes "tableName") d
     ∷ fault_unless (is_column_name (table_name d)) BadName (codes "tableName")
     ∷ [])
 
+-- the one type of table that is supported, in any case of its letters
 abbrev pub is_offline : Text → Bool
 is_offline name = str_eq_ignore_ascii_case name (codes "OFFLINE")
 
+-- `tableType` is there and is that type; `REALTIME` is not supported
 abbrev pub type_finding : Data → Finding
 type_finding d = first_of (
     required_text [] (codes "tableType") d
     ∷ fault_unless (is_offline (text_at (codes "tableType") d)) Unsupported (codes "tableType")
     ∷ [])
 
+-- the key of what is done to rows as they come in, such as filters
 abbrev pub INGESTION_KEY : Text
 INGESTION_KEY = codes "ingestionConfig"
 
@@ -52,9 +57,11 @@ ingestion_form d = first_of (
     ∷ unused_key INGESTION_KEY (codes "enrichmentConfigs") d
     ∷ [])
 
+-- the check of `ingestionConfig`, which may be absent
 abbrev pub ingestion_finding : Data → Finding
 ingestion_finding d = optional ingestion_form (key_of INGESTION_KEY d)
 
+-- the checks of all keys but `tableIndexConfig`; upsert and dedup are not supported
 abbrev pub head_finding : Data → Finding
 head_finding d = first_of (
     object_finding [] d

@@ -19,35 +19,43 @@ use Rattle.table_schema.specs.Firsts.{first_of, by_place}
 
 -- ---- arrays that are not empty
 
+-- the value has to be an array with one item or more
 abbrev pub some_items : Text → Option (List Data) → Finding
 some_items path None = Some (At WrongKind path)
 some_items path (Some []) = Some (At MissingKey path)
 some_items path (Some (d ∷ ds)) = None
 
+-- the key has to be there, with such an array
 abbrev pub needed_array : Text → Text → Data → Finding
 needed_array base key d = required (below base key) (λ v. some_items (below base key) (array_of v)) (key_of key d)
 
 -- ---- the split order
 
+-- there is a number, and it is in the list
 abbrev pub has_number : List ℕ → Option ℕ → Bool
 has_number ns None = false
 has_number ns (Some n) = is_member ns n
 
+-- the field of that name is in this split order
 abbrev pub is_taken : List Field → List ℕ → Text → Bool
 is_taken fields split name = has_number split (number_of fields name)
 
+-- a place has the name of a field that no place before it has
 abbrev pub split_place : List Field → Text → List ℕ → Data → Finding
 split_place fields path split d = first_of (
     column_finding fields path d
     ∷ fault_if (is_taken fields split (text_of d)) DuplicateColumn path
     ∷ [])
 
+-- each place of the split order is so
 abbrev pub split_places : List Field → Text → List Data → Finding
 split_places fields path ds = by_place (λ before d. split_place fields (at_place path (length before)) (numbers_of fields before) d) [] ds
 
+-- the key of the dimensions of a star-tree, from the root of the tree down
 abbrev pub SPLIT_KEY : Text
 SPLIT_KEY = codes "dimensionsSplitOrder"
 
+-- the split order is there and has 1 to 16 fields, none of them twice
 abbrev pub split_finding : List Field → Text → Data → Finding
 split_finding fields base d = first_of (
     needed_array base SPLIT_KEY d
@@ -55,29 +63,35 @@ split_finding fields base d = first_of (
     ∷ split_places fields (below base SPLIT_KEY) (items_at SPLIT_KEY d)
     ∷ [])
 
+-- the numbers of the split dimensions, in their order
 abbrev pub split_of : List Field → Data → List ℕ
 split_of fields d = numbers_of fields (items_at SPLIT_KEY d)
 
 -- ---- the dimensions for which no star child is made
 
+-- a place has the name of a split dimension of the same tree
 abbrev pub skip_place : List Field → Text → List ℕ → Data → Finding
 skip_place fields path split d = first_of (
     text_finding path d
     ∷ fault_unless (is_taken fields split (text_of d)) UnknownColumn path
     ∷ [])
 
+-- each place of the array is so
 abbrev pub skip_places : List Field → Text → List ℕ → List Data → Finding
 skip_places fields path split ds = by_place (λ before d. skip_place fields (at_place path (length before)) split d) [] ds
 
+-- the key of the split dimensions on which nodes have no star child
 abbrev pub SKIP_KEY : Text
 SKIP_KEY = codes "skipStarNodeCreationForDimensions"
 
+-- where the key is there, it has an array of names of split dimensions
 abbrev pub skip_finding : List Field → Text → List ℕ → Data → Finding
 skip_finding fields base split d = first_of (
     optional_array base SKIP_KEY d
     ∷ skip_places fields (below base SKIP_KEY) split (items_at SKIP_KEY d)
     ∷ [])
 
+-- the numbers of the fields that it names
 abbrev pub skips_of : List Field → Data → List ℕ
 skips_of fields d = numbers_of fields (items_at SKIP_KEY d)
 
@@ -88,28 +102,35 @@ bits_of skipped (n ∷ split) = (if is_member skipped n then 1 else 0) + 2 * bit
 
 -- ---- the pairs and the leaf size
 
+-- the key of the aggregates that a star-tree keeps, such as `SUM__clicks`
 abbrev pub PAIRS_KEY : Text
 PAIRS_KEY = codes "functionColumnPairs"
 
+-- the key is there and each item is a pair; at most 16 of them differ
 abbrev pub tree_pairs_finding : List Field → Text → Data → Finding
 tree_pairs_finding fields base d = first_of (
     needed_array base PAIRS_KEY d
     ∷ pairs_finding fields (below base PAIRS_KEY) (items_at PAIRS_KEY d)
     ∷ [])
 
+-- the pairs of a tree, each once
 abbrev pub tree_pairs_of : List Field → Data → List Agg
 tree_pairs_of fields d = pairs_of fields (items_at PAIRS_KEY d)
 
+-- there is a number, and it is at most the greatest INT
 abbrev pub leaf_in_range : Option ℕ → Bool
 leaf_in_range None = false
 leaf_in_range (Some n) = nat_le n 2147483647
 
+-- the whole number from 0 on that a JSON value is, if it is one
 abbrev pub count_of : Data → Option ℕ
 count_of d = option_and_then as_u64 (as_number d)
 
+-- the key of the most documents that a leaf of the tree has
 abbrev pub LEAF_KEY : Text
 LEAF_KEY = codes "maxLeafRecords"
 
+-- where the key is there, it has a number in that range
 abbrev pub leaf_finding : Text → Data → Finding
 leaf_finding base d = optional (λ v. fault_unless (leaf_in_range (count_of v)) WrongKind (below base LEAF_KEY)) (key_of LEAF_KEY d)
 
@@ -117,11 +138,13 @@ leaf_finding base d = optional (λ v. fault_unless (leaf_in_range (count_of v)) 
 abbrev pub leaf_size : ℕ → ℕ
 leaf_size n = if n == 0 then 10000 else n
 
+-- the leaf size of a tree, the usual one where the key is absent
 abbrev pub leaf_of : Data → ℕ
 leaf_of d = leaf_size (unwrap_or (option_and_then count_of (key_of LEAF_KEY d)) 0)
 
 -- ---- the tree
 
+-- the checks of one star-tree, whose aggregates are given by pairs and not by `aggregationConfigs`
 abbrev pub tree_finding : List Field → Text → Data → Finding
 tree_finding fields base d = first_of (
     object_finding base d
@@ -132,6 +155,7 @@ tree_finding fields base d = first_of (
     ∷ leaf_finding base d
     ∷ [])
 
+-- how many dimensions a tree has, which have no star children, its leaf size and its functions
 abbrev pub shape_of : List Field → Data → TreeShape
 shape_of fields d = record {
   dims = length (split_of fields d);
@@ -140,15 +164,19 @@ shape_of fields d = record {
   kinds = map (λ p. p.kind) (tree_pairs_of fields d);
 }
 
+-- the star-tree that an object describes
 abbrev pub tree_of : List Field → Data → TreeSetting
 tree_of fields d = record { split = split_of fields d; pairs = tree_pairs_of fields d; shape = shape_of fields d }
 
+-- the key of the array of star-trees
 abbrev pub TREES_KEY : Text
 TREES_KEY = codes "starTreeIndexConfigs"
 
+-- each item of the array describes a star-tree
 abbrev pub tree_places : List Field → Text → List Data → Finding
 tree_places fields path ds = by_place (λ before d. tree_finding fields (at_place path (length before)) d) [] ds
 
+-- where the key is there, it has an array of at most 8 star-trees
 abbrev pub trees_finding : List Field → Text → Data → Finding
 trees_finding fields base d = first_of (
     optional_array base TREES_KEY d
@@ -156,5 +184,6 @@ trees_finding fields base d = first_of (
     ∷ tree_places fields (below base TREES_KEY) (items_at TREES_KEY d)
     ∷ [])
 
+-- the star-trees in their order, none where the key is absent
 abbrev pub trees_of : List Field → Data → List TreeSetting
 trees_of fields d = map (tree_of fields) (items_at TREES_KEY d)
