@@ -14,6 +14,7 @@ use Rattle.query_parser.specs.declared.token.Kind.{Kind}
 use Rattle.query_parser.specs.declared.token.Kind.TheVariants as k
 use Rattle.query_parser.specs.declared.token.Token.{Token}
 
+-- the text of a query, or what is left of it
 abbrev pub Bytes : Type 0
 Bytes = List ℕ
 
@@ -120,6 +121,7 @@ in_quotes kind too_long longest z = quotes_token kind too_long longest (quoted (
 
 -- ---- signs, by their first two bytes
 
+-- the sign that two bytes begin with, or the fault where there is none
 abbrev pub sign : ℕ → ℕ → Token
 sign b next =
     if b == 40 then plain k.LParen 1 else (if b == 41 then plain k.RParen 1 else (if b == 44 then plain k.Comma 1 else (if b == 59 then plain k.Semi 1

@@ -25,22 +25,27 @@ abbrev pub Reads : {A : Type 0} → Outcome A → Result A QueryFault → Stream
 Reads outcome (Ok a) new = outcome ≡ Ok (a, new)
 Reads outcome (Err e) new = e ≢ NoMemory → outcome ≡ Err e
 
+-- goes on after what was read, with the tokens after it; a fault stays
 abbrev pub and_then : {A B : Type 0} → Outcome A → (A → Parser B) → Outcome B
 and_then (Ok p) f = f p.0 p.1
 and_then (Err e) f = Err e
 
 infixl 10 ◌>>=◌
+-- one rule, and then the rule that is chosen by what the first one read
 abbrev pub ◌>>=◌ : {A B : Type 0} → Parser A → (A → Parser B) → Parser B
 p >>= f = λ ts. and_then (p ts) f
 
 infixl 10 ◌>>◌
+-- one rule, and then another, of which only the second gives the tree
 abbrev pub ◌>>◌ : {A B : Type 0} → Parser A → Parser B → Parser B
 p >> q = p >>= (λ _. q)
 
+-- takes no token and gives this
 abbrev pub pure : {A : Type 0} → A → Parser A
 pure a = λ ts. Ok (a, ts)
 
 infixr 11 ◌<$>◌
+-- one rule, with a function applied to what it read
 abbrev pub ◌<$>◌ : {A B : Type 0} → (A → B) → Parser A → Parser B
 f <$> p = p >>= (λ x. pure (f x))
 
@@ -56,15 +61,19 @@ reason_of _ = reason.Unexpected
 unfoldable pub refusal : Stream → QueryFault
 refusal ts = At (reason_of (kind ts)) (place ts)
 
+-- no token is read: the fault at the next one, with the reason by its kind
 abbrev pub refuse : {A : Type 0} → Parser A
 refuse = λ ts. Err (refusal ts)
 
+-- no token is read: the fault of a condition in more parentheses or NOTs than are allowed
 abbrev pub too_deep : {A : Type 0} → Parser A
 too_deep = λ ts. Err (At reason.TooDeep (place ts))
 
+-- the kind of the next token, which is not taken
 abbrev pub peek : Parser Kind
 peek = λ ts. Ok (kind ts, ts)
 
+-- takes the next token, whatever it is; the last one stays
 abbrev pub take_token : Parser (Unit {0})
 take_token = λ ts. Ok (tt, next ts)
 
@@ -84,6 +93,7 @@ expect k = λ ts. if sees k ts then Ok (tt, next ts) else refuse ts
 unfoldable pub name : Parser NameAt
 name = λ ts. if sees k.Name ts then Ok (record { name = word ts; offset = place ts }, next ts) else refuse ts
 
+-- the number or the text of the next token, which has this kind
 abbrev pub literal_by : Kind → Parser LiteralAt
 literal_by k.Number = λ ts. Ok (record { value = Whole (number ts); offset = place ts }, next ts)
 literal_by k.Text = λ ts. Ok (record { value = Text (word ts); offset = place ts }, next ts)

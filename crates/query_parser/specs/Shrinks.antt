@@ -14,9 +14,11 @@ use Rattle.query_parser.specs.Stream.{Stream, kind, next}
 use Rattle.query_parser.specs.Reading.{Outcome, Parser, and_then, ◌>>=◌, pure, refuse, peek, take_token, sees, after, eat, expect, name, literal_by, literal, separated_from, separated, too_deep}
 use Rattle.query_parser.specs.Cond as c
 
+-- where the rule reads something, fewer tokens are left
 abbrev pub Shrinks : {A : Type 0} → Parser A → Type 0
 Shrinks {A} p = (ts us : Stream) (a : A) → p ts ≡ Ok (a, us) → length us < length ts
 
+-- where the rule reads something, no more tokens are left than there were
 abbrev pub Keeps : {A : Type 0} → Parser A → Type 0
 Keeps {A} p = (ts us : Stream) (a : A) → p ts ≡ Ok (a, us) → length us ≤ length ts
 
@@ -64,12 +66,15 @@ bind_keeps p f hp hf ts us b e =
     let second = hf m.0.0 m.0.1 us b m.2 in
     omega (arith, first, second)
 
+-- this was read, and these tokens are left
 abbrev pub ok : {A : Type 0} → A → Stream → Outcome A
 ok a ts = Ok (a, ts)
 
+-- the reading stops with this fault
 abbrev pub stop : {A : Type 0} → QueryFault → Outcome A
 stop e = Err e
 
+-- the tokens that an outcome leaves, or the given ones where it is a fault
 abbrev pub rest_or : {A : Type 0} → Stream → Outcome A → Stream
 rest_or us (Ok p) = p.1
 rest_or us (Err e) = us
