@@ -47,14 +47,17 @@ abbrev pub item_of : List ℕ → List Agg → Meaning → Item
 item_of groups aggs (meaning.Column c) = item.Group (position_or_len (λ g. g == c) groups)
 item_of groups aggs (meaning.Agg a) = item.Agg (position_or_len (same_agg a) aggs)
 
+-- the items of the select list, each by its place
 abbrev pub items_of : List ℕ → List Agg → List TermAt → List Item
 items_of groups aggs terms = map (λ t. item_of groups aggs t.meaning) terms
 
+-- the keys of ORDER BY, each by its place, and whether it is descending
 abbrev pub keys_of : List ℕ → List Agg → List KeyAt → List OrderKey
 keys_of groups aggs keys = map (λ k. record { item = item_of groups aggs k.term.meaning; descending = k.descending }) keys
 
 -- ---- labels
 
+-- the name of a function as a label has it, in small letters
 abbrev pub word_of : Func → Text
 word_of func.Count = codes "count"
 word_of func.Sum = codes "sum"
@@ -62,6 +65,7 @@ word_of func.Min = codes "min"
 word_of func.Max = codes "max"
 word_of func.Avg = codes "avg"
 
+-- the column of a call, or `*`
 abbrev pub argument_text : Argument → Text
 argument_text argument.Star = codes "*"
 argument_text (argument.Column n) = n.name
@@ -71,6 +75,7 @@ abbrev pub call_label : Func → Argument → Text
 call_label func.Count a = codes "count(*)"
 call_label f a = word_of f ++ codes "(" ++ argument_text a ++ codes ")"
 
+-- the name of a column, or a call such as `sum(clicks)`
 abbrev pub term_label : Term → Text
 term_label (term.Column n) = n.name
 term_label (term.Call c) = call_label c.func c.argument
@@ -80,6 +85,7 @@ abbrev pub label_by : Term → Option NameAt → Text
 label_by t None = term_label t
 label_by t (Some l) = l.name
 
+-- the name of an item in the header of the answer
 abbrev pub label_of : QueryItem → Text
 label_of i = label_by i.term i.label
 
@@ -97,6 +103,7 @@ pub record Bound : Type 0 where
   pub offset : ℕ
   pub limit : ℕ
 
+-- the terms of a query, and its group columns and aggregates, each once
 abbrev pub parts_of : List Field → Query → Terms × Lists
 parts_of fields q = (terms_of fields q, lists_of (terms_of fields q))
 
@@ -142,6 +149,7 @@ query_finding table any_table q = first_of (
     ∷ limits_finding (terms_of table.schema.fields q)
     ∷ [])
 
+-- the value where the checks find no fault, and else the fault
 abbrev pub answer : {A : Type 0} → Finding → A → Result A BindFault
 answer None value = Ok value
 answer (Some fault) value = Err fault

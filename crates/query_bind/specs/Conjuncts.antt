@@ -33,10 +33,12 @@ opposite AtLeast = Less
 abbrev pub opposite_if : Bool → CompareOp → CompareOp
 opposite_if negated op = if negated then opposite op else op
 
+-- the members where the condition has the form of an AND, else the condition alone
 abbrev pub members_of_all : Wide-F Wide → Wide → List Wide
 members_of_all (Wide-F.All inner) w = inner
 members_of_all _ w = w ∷ []
 
+-- the members where the condition has the form of an OR, else the condition alone
 abbrev pub members_of_any : Wide-F Wide → Wide → List Wide
 members_of_any (Wide-F.Any inner) w = inner
 members_of_any _ w = w ∷ []
@@ -73,6 +75,7 @@ abbrev mutual
 
 -- ---- conjuncts
 
+-- the first field of a list, if there is one
 abbrev pub first : List ℕ → Option ℕ
 first [] = None
 first (field ∷ fields) = Some field
@@ -82,6 +85,7 @@ abbrev pub only_field : List ℕ → Option ℕ
 only_field [] = None
 only_field (field ∷ fields) = if list_all (λ other. other == field) fields then Some field else None
 
+-- one condition, with the test of each inner one in its place
 abbrev pub test_step : Wide-F Test → Test
 test_step (Wide-F.Leaf field test) = test
 test_step (Wide-F.All inner) = test.All inner
@@ -91,10 +95,12 @@ test_step (Wide-F.Any inner) = test.Any inner
 abbrev pub test_of : Wide → Test
 test_of = fold-Wide Test test_step
 
+-- a test of the field that is given, or else a condition on several
 abbrev pub conjunct_by : Wide → Option ℕ → Conjunct
 conjunct_by w None = Many w
 conjunct_by w (Some field) = One field (test_of w)
 
+-- a condition on one field as a test of its values, and any other as it is
 abbrev pub conjunct : Wide → Conjunct
 conjunct w = conjunct_by w (only_field (fields_of w))
 

@@ -8,6 +8,7 @@ use Rattle.query_bind.specs.declared.fault.BindFault.TheVariants.{At, NoMemory}
 abbrev pub Finding : Type 0
 Finding = Option BindFault
 
+-- a fault with its reason and place, where a test fails
 abbrev pub fault_unless : Bool → BindReason → ℕ → Finding
 fault_unless passes reason place = if passes then None else Some (At reason place)
 

@@ -9,6 +9,7 @@ use Rattle.query_bind.specs.declared.normal.Joint.TheVariants.{All, Any}
 use Rattle.query_bind.specs.Written.{written}
 use Rattle.query_bind.specs.Conjuncts.{conjoined, disjoined, normal}
 
+-- AND for OR, and OR for AND
 abbrev pub other : Joint → Joint
 other All = Any
 other Any = All
@@ -17,6 +18,7 @@ other Any = All
 abbrev pub other_if : Bool → Joint → Joint
 other_if negated joint = if negated then other joint else joint
 
+-- one condition of these members, an AND or an OR
 abbrev pub join : Joint → List Wide → Wide
 join All ws = wide.All ws
 join Any ws = wide.Any ws

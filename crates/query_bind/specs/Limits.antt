@@ -35,6 +35,7 @@ keys_finding others kept (k ∷ ks) = or_else
     (fault_if (nat_le 16 others || nat_lt 16 (length (with_agg kept k.term.meaning))) TooMany k.term.offset)
     (keys_finding (others + 1) (with_agg kept k.term.meaning) ks)
 
+-- the first fault of the aggregates of the select list, of GROUP BY and of ORDER BY, in this order
 abbrev pub limits_finding : Terms → Finding
 limits_finding terms = first_of (
     aggs_finding [] terms.items
@@ -49,6 +50,7 @@ abbrev pub natural : ℤ → ℕ
 natural (pos n) = n
 natural (negsuc n) = 0
 
+-- the number of a literal; 0 for a text, which no LIMIT or OFFSET has
 abbrev pub number_in : Value → ℕ
 number_in (value.Whole z) = natural z
 number_in (value.Text t) = 0
@@ -63,6 +65,7 @@ abbrev pub is_number : Value → Bool
 is_number (value.Whole z) = is_natural z
 is_number (value.Text t) = false
 
+-- LIMIT or OFFSET is absent, or has such a number
 abbrev pub is_count : Option LiteralAt → Bool
 is_count None = true
 is_count (Some l) = is_number l.value

@@ -48,6 +48,7 @@ column_finding fields n = fault_unless (is_known fields n.name) UnknownColumn n.
 
 -- ---- terms
 
+-- the type is INT or LONG; false where there is no such field
 abbrev pub is_number : Option FieldKind → Bool
 is_number None = false
 is_number (Some kind.Text) = false
@@ -59,6 +60,7 @@ abbrev pub takes : Func → Option FieldKind → Bool
 takes func.Count kind = true
 takes f kind = is_number kind
 
+-- the argument is `*`, or a field that the function takes
 abbrev pub argument_finding : List Field → Func → Argument → Finding
 argument_finding fields f argument.Star = None
 argument_finding fields f (argument.Column n) = first_of (
@@ -66,12 +68,14 @@ argument_finding fields f (argument.Column n) = first_of (
     ∷ fault_unless (takes f (kind_of fields n)) NotNumeric n.offset
     ∷ [])
 
+-- a column is a field, and a call has an argument that it takes
 abbrev pub term_finding : List Field → Term → Finding
 term_finding fields (term.Column n) = column_finding fields n
 term_finding fields (term.Call c) = argument_finding fields c.func c.argument
 
 -- ---- conditions
 
+-- a literal has the type of the column that is tested
 abbrev pub literal_finding : Option FieldKind → LiteralAt → Finding
 literal_finding kind l = fault_unless (is_typed kind l.value) TypeMismatch l.offset
 
@@ -99,6 +103,7 @@ where_finding fields (Some c) = condition_finding fields c
 
 -- ---- labels
 
+-- there is an AS name, and it is this one byte for byte
 abbrev pub has_label : Option NameAt → Text → Bool
 has_label None name = false
 has_label (Some l) name = bytes_eq l.name name
@@ -115,6 +120,7 @@ term_of items (term.Call c) = term.Call c
 
 -- ---- the query
 
+-- the first fault in the names and literals of the select list, WHERE, GROUP BY and ORDER BY, in this order
 abbrev pub names_finding : List Field → Query → Finding
 names_finding fields q = first_of (
     first_in (λ i. term_finding fields i.term) q.items

@@ -21,6 +21,7 @@ GroupsAreNamed = (ns : List ColumnAt) (c : ℕ) → list_any (λ g. g == c) (col
 abbrev pub AggsStandOnce : Type 0
 AggsStandOnce = (ts : List TermAt) → IsDistinct same_agg (aggs_from [] ts)
 
+-- the term is a call, with that function and column
 abbrev pub is_agg : Agg → Meaning → Bool
 is_agg a (meaning.Column c) = false
 is_agg a (meaning.Agg b) = same_agg a b

@@ -28,6 +28,7 @@ use Rattle.table_schema.specs.Aggs.{same_agg}
 
 -- ---- terms
 
+-- the kind of aggregate that a function computes
 abbrev pub kind_of : Func → AggKind
 kind_of func.Count = Count
 kind_of func.Sum = Sum
@@ -35,6 +36,7 @@ kind_of func.Min = Least
 kind_of func.Max = Greatest
 kind_of func.Avg = Average
 
+-- the number of the field of an argument; none for `*`
 abbrev pub column_of : List Field → Argument → Option ℕ
 column_of fields argument.Star = None
 column_of fields (argument.Column n) = Some (field_number fields n)
@@ -44,6 +46,7 @@ abbrev pub agg_of : List Field → Func → Argument → Agg
 agg_of fields func.Count a = record { kind = Count; column = None }
 agg_of fields f a = record { kind = kind_of f; column = column_of fields a }
 
+-- a term with numbers of fields in place of names
 abbrev pub meaning_of : List Field → Term → Meaning
 meaning_of fields (term.Column n) = meaning.Column (field_number fields n)
 meaning_of fields (term.Call c) = meaning.Agg (agg_of fields c.func c.argument)
@@ -53,9 +56,11 @@ abbrev pub place : Term → ℕ
 place (term.Column n) = n.offset
 place (term.Call c) = c.offset
 
+-- the same with the byte where it begins, which is the place of its faults
 abbrev pub term_at : List Field → Term → TermAt
 term_at fields t = record { meaning = meaning_of fields t; offset = place t }
 
+-- the terms of the select list
 abbrev pub items_at : List Field → Query → List TermAt
 items_at fields q = map (λ i. term_at fields i.term) q.items
 
@@ -63,15 +68,19 @@ items_at fields q = map (λ i. term_at fields i.term) q.items
 abbrev pub key_at : List Field → List QueryItem → QueryKey → KeyAt
 key_at fields items k = record { term = record { meaning = meaning_of fields (term_of items k.term); offset = place k.term }; descending = k.descending }
 
+-- the keys of ORDER BY, with the term in place of an AS name
 abbrev pub keys_at : List Field → Query → List KeyAt
 keys_at fields q = map (key_at fields q.items) q.order
 
+-- the number of the field of a name, with the byte where the name begins
 abbrev pub column_at : List Field → NameAt → ColumnAt
 column_at fields n = record { column = field_number fields n; offset = n.offset }
 
+-- the columns of GROUP BY as written, each as often as it is named
 abbrev pub groups_at : List Field → Query → List ColumnAt
 groups_at fields q = map (column_at fields) q.groups
 
+-- the terms of the select list, of GROUP BY and of ORDER BY
 abbrev pub terms_of : List Field → Query → Terms
 terms_of fields q = record { items = items_at fields q; groups = groups_at fields q; keys = keys_at fields q }
 
@@ -81,6 +90,7 @@ terms_of fields q = record { items = items_at fields q; groups = groups_at field
 abbrev pub with_new : {A : Type 0} → (A → A → Bool) → List A → A → List A
 with_new same kept x = if list_any (same x) kept then kept else kept ++ x ∷ []
 
+-- the columns with one more, unless it is there
 abbrev pub with_column : List ℕ → ℕ → List ℕ
 with_column = with_new (λ a b. b == a)
 
@@ -89,6 +99,7 @@ abbrev pub columns_from : List ℕ → List ColumnAt → List ℕ
 columns_from kept [] = kept
 columns_from kept (n ∷ ns) = columns_from (with_column kept n.column) ns
 
+-- the aggregates with that of a term, unless it is there or the term is a column
 abbrev pub with_agg : List Agg → Meaning → List Agg
 with_agg kept (meaning.Column c) = kept
 with_agg kept (meaning.Agg a) = with_new same_agg kept a
@@ -102,8 +113,10 @@ aggs_from kept (t ∷ ts) = aggs_from (with_agg kept t.meaning) ts
 abbrev pub aggs_of : Terms → List Agg
 aggs_of terms = aggs_from (aggs_from [] terms.items) (map (λ k. k.term) terms.keys)
 
+-- the columns of GROUP BY, each once, in the order in which they first come
 abbrev pub groups_of : Terms → List ℕ
 groups_of terms = columns_from [] terms.groups
 
+-- the group columns and the aggregates of a query, each once
 abbrev pub lists_of : Terms → Lists
 lists_of terms = record { groups = groups_of terms; aggs = aggs_of terms }

@@ -62,6 +62,7 @@ field_number fields n = unwrap_or (number_of fields n.name) 0
 abbrev pub value_in : LiteralAt → Value
 value_in l = l.value
 
+-- a list of conditions as the members of one AND or OR
 abbrev pub members_of : List Written → Members
 members_of [] = no_members
 members_of (w ∷ ws) = member w (members_of ws)
