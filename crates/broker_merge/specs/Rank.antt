@@ -93,5 +93,6 @@ turned_order true true a b = ordering_reverse (seen_order a b)
 turned_order false true a b = Less
 turned_order true false a b = Greater
 
+-- two groups at one key of ORDER BY, each with its direction
 abbrev pub placed_order : Placed → Placed → Ordering
 placed_order a b = turned_order a.greatest_first b.greatest_first a.seen b.seen
