@@ -34,6 +34,7 @@ entry_at count key bytes = ids_between 32 (count + 1 + id_at 32 key bytes) (coun
 
 -- ---- the two indexes
 
+-- the documents of each id, for a column of so many distinct values
 abbrev pub inverted : ℕ → List ℕ → List ℕ
 inverted count ids = postings count ids
 
@@ -45,5 +46,6 @@ bucket_of id = id / 16
 abbrev pub buckets_for : ℕ → ℕ
 buckets_for count = (count + 15) / 16
 
+-- the documents of each bucket of ids, for a column of so many distinct values
 abbrev pub ranged : ℕ → List ℕ → List ℕ
 ranged count ids = postings (buckets_for count) (map bucket_of ids)
