@@ -23,6 +23,7 @@ pub record Limits : Type 0 where
   pub many_columns : ℕ → Bool
   pub most_rows : ℕ → ℕ
 
+-- the most columns of a file that is read without a schema
 abbrev pub most_columns : ℕ
 most_columns = 64
 
@@ -34,6 +35,7 @@ csv_limits = record { many_columns = λ n. nat_lt most_columns n; most_rows = mo
 abbrev pub records_of : List ℕ → List (List (List ℕ))
 records_of bytes = records default_config (strip_bom bytes)
 
+-- a list with one more in front, or the first fault of the two
 abbrev pub joined : {A E : Type 0} → Result A E → Result (List A) E → Result (List A) E
 joined (Err e) rest = Err e
 joined (Ok a) (Err e) = Err e
@@ -61,6 +63,7 @@ header_of reading header = all_or_first (map (name_at reading header) (enumerate
 abbrev pub place_of : List (List ℕ) → Field → Option ℕ
 place_of header field = position_from (bytes_eq field.name) 1 header
 
+-- a value as it is, and the fault of a text as that of a cell
 abbrev pub kinded : Result Value ValueFault → Result Value CsvKind
 kinded (Ok value) = Ok value
 kinded (Err refused.NotANumber) = Err NotANumber
@@ -96,6 +99,7 @@ row_at limits fields header (row, cells) =
 abbrev pub rows_of : Limits → List Field → List (List ℕ) → List (List (List ℕ)) → Result (List (List Value)) CsvFault
 rows_of limits fields header rows = all_or_first (map (row_at limits fields header) (enumerate_from 1 rows))
 
+-- what is read with the header, or the fault of the header
 abbrev pub under : {A B E : Type 0} → Result A E → (A → Result B E) → Result B E
 under (Err fault) rows = Err fault
 under (Ok header) rows = rows header
@@ -105,10 +109,12 @@ unfoldable pub rows_in : Limits → List Field → List (List (List ℕ)) → Re
 rows_in limits fields [] = Err (At NoHeader 0 0)
 rows_in limits fields (header ∷ rows) = under (header_of (schema_name fields) header) (λ _. rows_of limits fields header rows)
 
+-- the rows beside the schema of these fields
 abbrev pub with_schema : List Field → Result (List (List Value)) CsvFault → Result (Schema × List (List Value)) CsvFault
 with_schema fields (Err fault) = Err fault
 with_schema fields (Ok rows) = Ok (record { fields = fields }, rows)
 
+-- the value is a number, not a text
 abbrev pub is_number : Value → Bool
 is_number (Whole n) = true
 is_number (Text text) = false
