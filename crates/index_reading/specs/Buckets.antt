@@ -16,6 +16,7 @@ use Rattle.index_reading.specs.declared.ends.Ends.{Ends}
 abbrev pub least_id : ℕ → ℕ
 least_id bucket = 16 * bucket
 
+-- the greatest id of a bucket; the last bucket may have fewer than sixteen
 abbrev pub greatest_id : ℕ → ℕ → ℕ
 greatest_id count bucket = min (16 * bucket + 15) (count - 1)
 

@@ -46,6 +46,7 @@ Marked docs old new = (doc : ℕ) → get_or new doc false ≡ get_or old doc fa
 abbrev pub offsets_of : ℕ → Run → Stretch
 offsets_of start run = record { from = start + 4 * run.first; to = start + 4 * (run.last + 2) }
 
+-- the bytes of the entries of a part, which come after the offsets of all keys and of the end
 abbrev pub entries_at : ℕ → ℕ → Ends → Stretch
 entries_at start count part = record { from = start + 4 * (count + 1 + part.first); to = start + 4 * (count + 1 + part.last) }
 
