@@ -22,5 +22,6 @@ pub record AreSame (query : BoundQuery) (rows others : List (List Value)) : Type
   pub adds : (count : ℕ) (old new : KeptGroups) → AddsRows query count (selected query rows) old new → AddsRows query count (selected query others) old new
   pub overfull : (table : KeptGroups) → IsOverfull query (selected query rows) table → IsOverfull query (selected query others) table
 
+-- rows with the same values in the columns that a query names are the same to it
 abbrev pub AgreeingAreSame : Type 0
 AgreeingAreSame = (query : BoundQuery) (rows others : List (List Value)) → AgreeAll (query_names query) rows others → AreSame query rows others

@@ -24,6 +24,7 @@ abbrev pub values_of : ℕ → Option Coded → List Value
 values_of count None = replicate count (Whole (pos 0))
 values_of count (Some column) = values_at column.dictionary.now.values column.ids.now
 
+-- a column as a list of values, and whether these are texts
 abbrev pub listed : ℕ → Option Coded → Listed
 listed count column = record { are_texts = list_any is_text (values_of count column); values = values_of count column }
 

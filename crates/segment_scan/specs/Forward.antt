@@ -19,6 +19,7 @@ pub record IsReadable (head : Seen) (column : ℕ) : Type 0 where
 abbrev pub count_in : Seen → ℕ → ℕ
 count_in head column = length (values_in head column)
 
+-- how many bits an id of the column has in its forward section
 abbrev pub width_in : Seen → ℕ → ℕ
 width_in head column = width_of (count_in head column)
 

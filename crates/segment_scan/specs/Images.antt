@@ -62,6 +62,7 @@ pub record ReadsImage (query : BoundQuery) (table : Table) (files : Files) (rows
   pub readable : (column : ℕ) → query_names query column ≡ true → HasIds files head column
   pub each : (at : ℕ) → at < length rows → Agree (query_names query) (row_of (columns_read files head 0 (names_in query table)) at) (get_or (ordered table.settings.sorted rows) at [])
 
+-- so it is for every query and every image of rows
 abbrev pub ImagesRead : Type 0
 ImagesRead =
     (query : BoundQuery) (table : Table) (files : Files) (rows : List (List Value)) (head : Seen) → IsValidTable table → IsHeadOf table head → AreNamedLoaded query head → IsOfImage table files rows head → ReadsImage query table files rows head
@@ -74,6 +75,7 @@ pub record LeavesImage (query : BoundQuery) (table : Table) (files : Files) (row
   pub tells : OfEach (TellsIndexed files head ids) (choices_for query table head) query.conjuncts
   pub left : (at : ℕ) → at < length rows → all_leave head ids at (indexed_for query table head) ≡ all_left (ordered table.settings.sorted rows) (get_or (ordered table.settings.sorted rows) at []) (indexed_for query table head)
 
+-- so it is for every query and every image of rows
 abbrev pub ImagesLeave : Type 0
 ImagesLeave =
     (query : BoundQuery) (table : Table) (files : Files) (rows : List (List Value)) (head : Seen) → IsValidTable table → IsHeadOf table head → AreNamedLoaded query head → IsOfImage table files rows head → LeavesImage query table files rows head
@@ -159,10 +161,12 @@ pub record AddsWhole (query : BoundQuery) (table : Table) (held : Option Files) 
   pub read : IfSome held (λ files. added ≡ selected_read query files head (names_in query table))
   pub told : IfSome held (λ files. (rows : List (List Value)) → IsOfImage table files rows head → (head.rows ≡ length rows) × AddsRows query (length rows) (selected query (ordered table.settings.sorted rows)) old new)
 
+-- with the rows that satisfy the filter, found without an index, there are too many groups
 abbrev pub IsWholeOverfull : BoundQuery → Table → Option Files → Seen → KeptGroups → Type 0
 IsWholeOverfull query table held head old =
     IfSome held (λ files. IsOverfull query (selected_read query files head (names_in query table)) old × ((rows : List (List Value)) → IsOfImage table files rows head → IsOverfull query (selected query (ordered table.settings.sorted rows)) old))
 
+-- why such a scan is refused: a named column has a bad forward section, and its file is no image
 abbrev pub IsBadWhole : BoundQuery → Table → Option Files → Seen → Part → Type 0
 IsBadWhole query table held head part =
     (column : ℕ) × (query_names query column ≡ true) × (part ≡ Forward column) × IfSome held (λ files. (¬ HasIds files head column) × ((rows : List (List Value)) → ¬ IsOfImage table files rows head))

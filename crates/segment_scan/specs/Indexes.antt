@@ -169,6 +169,7 @@ LogsRangePartly held head column test old new = (new ≡ old) ⊎ IfSome (place_
 abbrev pub LogsIndexed : Option Files → Seen → IndexChoice → Conjunct → Option (List Entry) → Option (List Entry) → Type 0
 LogsIndexed held head choice conjunct old new = OfIndex (λ kind column test. LogsIndex held head kind column test old new) (λ column test. LogsRange held head column test old new) (new ≡ old) choice conjunct
 
+-- none or some of these reads
 abbrev pub LogsIndexedPartly : Option Files → Seen → IndexChoice → Conjunct → Option (List Entry) → Option (List Entry) → Type 0
 LogsIndexedPartly held head choice conjunct old new =
     OfIndex (λ kind column test. LogsIndexPartly held head kind column test old new) (λ column test. LogsRangePartly held head column test old new) (new ≡ old) choice conjunct
@@ -177,5 +178,6 @@ LogsIndexedPartly held head choice conjunct old new =
 abbrev pub LogsAt : Option Files → Seen → List IndexChoice → List Conjunct → ℕ → Option (List Entry) → Option (List Entry) → Type 0
 LogsAt held head choices conjuncts at old new = (conjunct : Conjunct) → slice_get conjuncts at ≡ Some conjunct → LogsIndexed held head (choice_at choices at) conjunct old new
 
+-- none or some of the reads for the conjunct at a place
 abbrev pub LogsAtPartly : Option Files → Seen → List IndexChoice → List Conjunct → ℕ → Option (List Entry) → Option (List Entry) → Type 0
 LogsAtPartly held head choices conjuncts at old new = (conjunct : Conjunct) → slice_get conjuncts at ≡ Some conjunct → LogsIndexedPartly held head (choice_at choices at) conjunct old new

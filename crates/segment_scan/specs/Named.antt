@@ -25,10 +25,12 @@ names_step column (Wide-F.Any inner) = any_true inner
 abbrev pub wide_names : ℕ → Wide → Bool
 wide_names column = fold-Wide Bool (names_step column)
 
+-- whether a test in the conjunct is of the column
 abbrev pub conjunct_names : ℕ → Conjunct → Bool
 conjunct_names column (One other test) = other == column
 conjunct_names column (Many wide) = wide_names column wide
 
+-- whether the aggregate takes the numbers of the column; COUNT takes none
 abbrev pub agg_names : ℕ → Agg → Bool
 agg_names column agg = option_map_or (λ other. other == column) agg.column false
 

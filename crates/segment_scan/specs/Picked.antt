@@ -45,6 +45,7 @@ abbrev pub LogsIf : Seen → List Run → ℕ → Bool → Option (List Entry) �
 LogsIf head runs column false old new = new ≡ old
 LogsIf head runs column true old new = LogsRuns head runs column old new
 
+-- the reads of the column of a number, by its flag among those of all columns
 abbrev pub LogsPicked : Seen → List Run → List Bool → ℕ → Option (List Entry) → Option (List Entry) → Type 0
 LogsPicked head runs named column old new = LogsIf head runs column (get_or named column false) old new
 
@@ -53,5 +54,6 @@ abbrev pub LogsIfPartly : Seen → List Run → ℕ → Bool → Option (List En
 LogsIfPartly head runs column false old new = new ≡ old
 LogsIfPartly head runs column true old new = LogsRunsPartly head runs column old new
 
+-- none or some of the reads of the column of a number
 abbrev pub LogsPickedPartly : Seen → List Run → List Bool → ℕ → Option (List Entry) → Option (List Entry) → Type 0
 LogsPickedPartly head runs named column old new = LogsIfPartly head runs column (get_or named column false) old new

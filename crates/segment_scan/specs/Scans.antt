@@ -21,6 +21,7 @@ abbrev pub values_read : Files → Seen → ℕ → Bool → List Value
 values_read files head column false = replicate head.rows (Whole (pos 0))
 values_read files head column true = values_at (values_in head column) (ids_between (width_in head column) 0 head.rows (forward_in files head column))
 
+-- one column of the segment, and whether its values are texts
 abbrev pub column_read : Files → Seen → ℕ → Bool → Listed
 column_read files head column named = record { are_texts = list_any is_text (values_read files head column named); values = values_read files head column named }
 

@@ -60,6 +60,7 @@ rest_of query choices = record query { conjuncts = unserved choices query.conjun
 abbrev pub first_of : List ℕ → ℕ
 first_of ids = get_or ids 0 0
 
+-- the last of some ids; 0 where there is none
 abbrev pub last_of : List ℕ → ℕ
 last_of ids = get_or ids (length ids - 1) 0
 
