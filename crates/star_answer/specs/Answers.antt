@@ -44,6 +44,7 @@ asked_of task = task_of task.matched task.grouped
 abbrev pub picks_of : TreePart → Task → List Pick
 picks_of tree task = tree_picks (asked_of task) (length task.matched) tree.nodes.now
 
+-- the picks as they are read: those that follow one another are one
 abbrev pub reads_of : TreePart → Task → List Pick
 reads_of tree task = joined (picks_of tree task)
 
@@ -106,6 +107,7 @@ IsBad tree task asked rows held =
 abbrev pub stretch_of : ℕ → ℕ → Pick → Stretch
 stretch_of offset width p = record { from = offset + p.start * width; to = offset + p.end * width }
 
+-- the bytes that each pick has in the section of documents
 abbrev pub stretches_of : TreePart → List Pick → List Stretch
 stretches_of tree ps = map (stretch_of tree.documents.now.offset (doc_width tree.shape.now)) ps
 

@@ -33,6 +33,7 @@ states_of pairs states = map (λ pair. slice_index_or states pair (Count 0)) pai
 abbrev pub entry_of : Asked → Doc → Group
 entry_of asked e = (key_of asked.columns.now e.0, states_of asked.pairs.now e.1)
 
+-- what each document gives, in the order of the documents
 abbrev pub entries_of : Asked → List Doc → List Group
 entries_of asked docs = map (entry_of asked) docs
 

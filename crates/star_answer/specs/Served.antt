@@ -30,6 +30,7 @@ use Rattle.star_answer.specs.declared.tree_part.TreePart.{TreePart}
 abbrev pub field_of : List ℕ → ℕ → ℕ
 field_of split d = slice_index_or split d 0
 
+-- the pair of the tree that answers an aggregate of the query, by its number
 abbrev pub pair_of : List Agg → ℕ → Agg
 pair_of pairs i = slice_index_or pairs i (record { kind = kinds.Count; column = None })
 

@@ -30,6 +30,7 @@ key_ids columns ids = map (λ column. dim column.dim ids) columns
 abbrev pub taken_doc : Asked → Doc → Doc
 taken_doc asked e = (key_ids asked.columns.now e.0, states_of asked.pairs.now e.1)
 
+-- documents as they are taken, in their order
 abbrev pub taken_docs : Asked → List Doc → List Doc
 taken_docs asked docs = map (taken_doc asked) docs
 
