@@ -12,6 +12,7 @@ use Rattle.star_walk.specs.declared.pick.Pick.{Pick}
 abbrev pub bare : nested.Pick (List AggState) → ℕ × List Doc
 bare p = (p.level, p.docs)
 
+-- the level of a pick of the flat tree, and the documents that its numbers name
 abbrev pub shown : List Doc → Pick → ℕ × List Doc
 shown docs p = (p.level, range p.start p.end docs)
 

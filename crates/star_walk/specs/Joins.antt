@@ -16,6 +16,7 @@ joined_from p [] = p ∷ []
 joined_from p (q ∷ qs) =
     if touches p q then joined_from (reaching p q) qs else p ∷ joined_from q qs
 
+-- the picks, where those that touch one another are one
 abbrev pub joined : List Pick → List Pick
 joined [] = []
 joined (p ∷ ps) = joined_from p ps

@@ -17,6 +17,7 @@ abbrev pub some_ids : Option (List ℕ) → Bool
 some_ids None = false
 some_ids (Some ids) = true
 
+-- whether an id passes: one of those listed, or any where the dimension is not tested
 abbrev pub is_among : Option (List ℕ) → ℕ → Bool
 is_among None id = true
 is_among (Some ids) id = has_id ids id
@@ -25,9 +26,11 @@ is_among (Some ids) id = has_id ids id
 abbrev pub is_tested : List (Option (List ℕ)) → ℕ → Bool
 is_tested matched d = some_ids (slice_index_or matched d None)
 
+-- whether an id of a dimension passes the test of the filter
 abbrev pub passes : List (Option (List ℕ)) → ℕ → ℕ → Bool
 passes matched d id = is_among (slice_index_or matched d None) id
 
+-- whether GROUP BY names the dimension
 abbrev pub is_grouped : List Bool → ℕ → Bool
 is_grouped grouped d = slice_index_or grouped d false
 
