@@ -20,9 +20,10 @@ use Rattle.bit_column.proofs.PostingLaws.{all_entries, offset_few}
 use Rattle.doc_lists.specs.Docs.{Apart, has_doc}
 use Rattle.doc_lists.specs.Sets.{AreThose}
 use Rattle.doc_lists.specs.declared.run.Run.{Run}
-use Rattle.index_reading.specs.Entries.{ArePartsOf, Marked, Rising, TellsPostings, entries_at, entries_in, entries_of, offsets_of, part_of}
+use Rattle.index_reading.specs.Entries.{ArePartsOf, Marked, MarkedBelow, Rising, TellsPostings, entries_at, entries_in, entries_of, is_marked, offsets_of, part_of}
 use Rattle.index_reading.specs.Stretches.{LogsOver, LogsPartly, Stretch}
 use Rattle.index_reading.specs.declared.ends.Ends.{Ends}
+use Rattle.index_reading.proofs.MarkLemmas.{below_marked}
 use Rattle.index_reading.proofs.PostingEntries.{offsets_ascend}
 
 -- ---- the numbers of the section
@@ -232,23 +233,23 @@ or_assoc true b c = refl
 or_assoc false b c = refl
 
 -- what is known between two parts
-pub record MarksStep (count : ℕ) (place : Place) (parts left : List Ends) (first now : Seen) (old marks : List Bool) : Type 0 where
+pub record MarksStep (count rows : ℕ) (place : Place) (parts left : List Ends) (first now : Seen) (old marks : List ℕ) : Type 0 where
   pub reads : OnlyReads ⊥ first now
   pub whole : (last : Option (List Entry)) → LogsOver place.file (map (entries_at place.offset count) left) now.log last → LogsOver place.file (map (entries_at place.offset count) parts) first.log last
   pub partly : (last : Option (List Entry)) → LogsPartly place.file (map (entries_at place.offset count) left) now.log last → LogsPartly place.file (map (entries_at place.offset count) parts) first.log last
-  pub size : length marks ≡ length old
-  pub rising : (from : ℕ) × Rising from (length old) left
-  pub told : Told first.held place count (length old) (λ keys. (doc : ℕ) → get_or marks doc false || has_doc (entries_in count keys left) doc ≡ get_or old doc false || has_doc (entries_in count keys parts) doc)
+  pub below : MarkedBelow rows marks
+  pub rising : (from : ℕ) × Rising from rows left
+  pub told : Told first.held place count rows (λ keys. (doc : ℕ) → is_marked marks doc || has_doc (entries_in count keys left) doc ≡ is_marked old doc || has_doc (entries_in count keys parts) doc)
 
-pub marks_start : (count : ℕ) (place : Place) (parts left : List Ends) (shelf : Seen) (old : List Bool) → left ≡ parts → Rising 0 (length old) parts → MarksStep count place parts left shelf shelf old old
-marks_start count place parts left shelf old all rising =
-    subst (λ ps. MarksStep count place parts ps shelf shelf old old) (sym all) (record {
+pub marks_start : (count rows : ℕ) (place : Place) (parts left : List Ends) (shelf : Seen) (old : List ℕ) → left ≡ parts → Rising 0 rows parts → MarkedBelow rows old → MarksStep count rows place parts left shelf shelf old old
+marks_start count rows place parts left shelf old all rising below =
+    subst (λ ps. MarksStep count rows place parts ps shelf shelf old old) (sym all) (record {
       reads = reads_none shelf;
       whole = λ last logs. logs;
       partly = λ last logs. logs;
-      size = refl;
+      below = below;
       rising = (0, rising);
-      told = told_all shelf.held place count (length old) (λ keys. (doc : ℕ) → get_or old doc false || has_doc (entries_in count keys parts) doc ≡ get_or old doc false || has_doc (entries_in count keys parts) doc) (λ keys doc. refl);
+      told = told_all shelf.held place count rows (λ keys. (doc : ℕ) → is_marked old doc || has_doc (entries_in count keys parts) doc ≡ is_marked old doc || has_doc (entries_in count keys parts) doc) (λ keys doc. refl);
     })
 
 abbrev pub WordsRead : Option Files → Place → ℕ → ℕ → List ℕ → Type 0
@@ -290,54 +291,53 @@ part_listed held place count rows part words list docs few fits read same those 
     told_map held place count rows (λ keys. words ≡ entries_of count keys part) (λ keys. AreThose (has_doc (entries_of count keys part)) docs)
     (λ keys own. subst (λ ds. AreThose (has_doc ds) docs) (same ∙ own) those) (words_are held place count rows part words few fits read)
 
-pub marks_next : (count : ℕ) (place : Place) (parts left rest : List Ends) (part : Ends) (first now next : Seen) (old marks new : List Bool) (words : List ℕ)
-    → MarksStep count place parts left first now old marks → left ≡ part ∷ rest
+pub marks_next : (count rows : ℕ) (place : Place) (parts left rest : List Ends) (part : Ends) (first now next : Seen) (old marks new words : List ℕ)
+    → MarksStep count rows place parts left first now old marks → left ≡ part ∷ rest
     → OnlyReads ⊥ now next → LogsOn place.file (place.offset + 4 * (count + 1 + part.first)) (place.offset + 4 * (count + 1 + part.last)) now.log next.log
-    → WordsRead now.held place (count + 1 + part.first) (count + 1 + part.last) words → length old ≤ 1048576 → Marked words marks new → length new ≡ length marks
-    → MarksStep count place parts rest first next old new
-marks_next count place parts left rest part first now next old marks new words step is reads log read few marked same =
-    let at : MarksStep count place parts (part ∷ rest) first now old marks = subst (λ ps. MarksStep count place parts ps first now old marks) is step in
+    → WordsRead now.held place (count + 1 + part.first) (count + 1 + part.last) words → rows ≤ 1048576 → All (λ n. n < rows) words → Marked words marks new
+    → MarksStep count rows place parts rest first next old new
+marks_next count rows place parts left rest part first now next old marks new words step is reads log read few all marked =
+    let at : MarksStep count rows place parts (part ∷ rest) first now old marks = subst (λ ps. MarksStep count rows place parts ps first now old marks) is step in
     let rise = at.rising.1 in
-    let rows = length old in
     let are = words_are first.held place count rows part words few rise.2 (subst (λ h. WordsRead h place (count + 1 + part.first) (count + 1 + part.last) words) at.reads.held read) in
     record {
       reads = reads_after ⊥ first now next at.reads reads;
       whole = λ last over. at.whole last (next.log, log, over);
       partly = λ last over. at.partly last (inr (next.log, log, over));
-      size = same ∙ at.size;
+      below = below_marked rows words marks new all at.below marked;
       rising = (part.last, rise.3);
-      told = told_both first.held place count rows (λ keys. (doc : ℕ) → get_or marks doc false || has_doc (entries_in count keys (part ∷ rest)) doc ≡ get_or old doc false || has_doc (entries_in count keys parts) doc)
+      told = told_both first.held place count rows (λ keys. (doc : ℕ) → is_marked marks doc || has_doc (entries_in count keys (part ∷ rest)) doc ≡ is_marked old doc || has_doc (entries_in count keys parts) doc)
           (λ keys. words ≡ entries_of count keys part)
-          (λ keys. (doc : ℕ) → get_or new doc false || has_doc (entries_in count keys rest) doc ≡ get_or old doc false || has_doc (entries_in count keys parts) doc)
+          (λ keys. (doc : ℕ) → is_marked new doc || has_doc (entries_in count keys rest) doc ≡ is_marked old doc || has_doc (entries_in count keys parts) doc)
           (λ keys told own doc.
-          ap (λ t. t || has_doc (entries_in count keys rest) doc) (marked doc ∙ ap (λ ws. get_or marks doc false || has_doc ws doc) own)
-          ∙ or_assoc (get_or marks doc false) (has_doc (entries_of count keys part) doc) (has_doc (entries_in count keys rest) doc)
-          ∙ ap (λ t. get_or marks doc false || t) (sym (list_any-append (nat_eq doc) (entries_of count keys part) (entries_in count keys rest)))
+          ap (λ t. t || has_doc (entries_in count keys rest) doc) (marked doc ∙ ap (λ ws. is_marked marks doc || has_doc ws doc) own)
+          ∙ or_assoc (is_marked marks doc) (has_doc (entries_of count keys part) doc) (has_doc (entries_in count keys rest) doc)
+          ∙ ap (λ t. is_marked marks doc || t) (sym (list_any-append (nat_eq doc) (entries_of count keys part) (entries_in count keys rest)))
           ∙ told doc)
           at.told are;
     }
 
-pub marks_partly : (count : ℕ) (place : Place) (parts left rest : List Ends) (part : Ends) (first now next : Seen) (old marks : List Bool)
-    → MarksStep count place parts left first now old marks → left ≡ part ∷ rest
+pub marks_partly : (count rows : ℕ) (place : Place) (parts left rest : List Ends) (part : Ends) (first now next : Seen) (old marks : List ℕ)
+    → MarksStep count rows place parts left first now old marks → left ≡ part ∷ rest
     → LogsUpTo place.file (place.offset + 4 * (count + 1 + part.first)) (place.offset + 4 * (count + 1 + part.last)) now.log next.log
     → LogsPartly place.file (map (entries_at place.offset count) parts) first.log next.log
-marks_partly count place parts left rest part first now next old marks step is logs =
-    let at : MarksStep count place parts (part ∷ rest) first now old marks = subst (λ ps. MarksStep count place parts ps first now old marks) is step in
+marks_partly count rows place parts left rest part first now next old marks step is logs =
+    let at : MarksStep count rows place parts (part ∷ rest) first now old marks = subst (λ ps. MarksStep count rows place parts ps first now old marks) is step in
     at.partly next.log (inl logs)
 
-pub marks_bad : (count : ℕ) (place : Place) (parts left rest : List Ends) (part : Ends) (first now : Seen) (old marks : List Bool)
-    → MarksStep count place parts left first now old marks → left ≡ part ∷ rest → length old ≤ 1048576
-    → WordsBad now.held place (length old) (count + 1 + part.first) (count + 1 + part.last) → Told first.held place count (length old) (λ keys. ⊥)
-marks_bad count place parts left rest part first now old marks step is few bad =
-    let at : MarksStep count place parts (part ∷ rest) first now old marks = subst (λ ps. MarksStep count place parts ps first now old marks) is step in
-    words_bad first.held place count (length old) part few at.rising.1.2 (subst (λ h. WordsBad h place (length old) (count + 1 + part.first) (count + 1 + part.last)) at.reads.held bad)
+pub marks_bad : (count rows : ℕ) (place : Place) (parts left rest : List Ends) (part : Ends) (first now : Seen) (old marks : List ℕ)
+    → MarksStep count rows place parts left first now old marks → left ≡ part ∷ rest → rows ≤ 1048576
+    → WordsBad now.held place rows (count + 1 + part.first) (count + 1 + part.last) → Told first.held place count rows (λ keys. ⊥)
+marks_bad count rows place parts left rest part first now old marks step is few bad =
+    let at : MarksStep count rows place parts (part ∷ rest) first now old marks = subst (λ ps. MarksStep count rows place parts ps first now old marks) is step in
+    words_bad first.held place count rows part few at.rising.1.2 (subst (λ h. WordsBad h place rows (count + 1 + part.first) (count + 1 + part.last)) at.reads.held bad)
 
-pub marks_end : (count : ℕ) (place : Place) (parts left : List Ends) (first now : Seen) (old marks : List Bool) → MarksStep count place parts left first now old marks → left ≡ []
-    → Told first.held place count (length old) (λ keys. Marked (entries_in count keys parts) old marks) × LogsOver place.file (map (entries_at place.offset count) parts) first.log now.log
-marks_end count place parts left first now old marks step is =
-    let at : MarksStep count place parts [] first now old marks = subst (λ ps. MarksStep count place parts ps first now old marks) is step in (
-      told_map first.held place count (length old) (λ keys. (doc : ℕ) → get_or marks doc false || has_doc (entries_in count keys []) doc ≡ get_or old doc false || has_doc (entries_in count keys parts) doc)
-          (λ keys. Marked (entries_in count keys parts) old marks) (λ keys told doc. sym (or-false (get_or marks doc false)) ∙ told doc) at.told,
+pub marks_end : (count rows : ℕ) (place : Place) (parts left : List Ends) (first now : Seen) (old marks : List ℕ) → MarksStep count rows place parts left first now old marks → left ≡ []
+    → Told first.held place count rows (λ keys. Marked (entries_in count keys parts) old marks) × LogsOver place.file (map (entries_at place.offset count) parts) first.log now.log
+marks_end count rows place parts left first now old marks step is =
+    let at : MarksStep count rows place parts [] first now old marks = subst (λ ps. MarksStep count rows place parts ps first now old marks) is step in (
+      told_map first.held place count rows (λ keys. (doc : ℕ) → is_marked marks doc || has_doc (entries_in count keys []) doc ≡ is_marked old doc || has_doc (entries_in count keys parts) doc)
+          (λ keys. Marked (entries_in count keys parts) old marks) (λ keys told doc. sym (or-false (is_marked marks doc)) ∙ told doc) at.told,
       at.whole now.log refl,
     )
 
@@ -358,10 +358,10 @@ parts_known count rows place runs left rest run first now end parts step is =
     let at : PartsStep count rows place runs (run ∷ rest) first now end parts = subst (λ rs. PartsStep count rows place runs rs first now end parts) is step in
     (at.after.1.1, All-head (λ r. r.last < count) run rest at.within)
 
-pub marks_known : (count : ℕ) (place : Place) (parts left rest : List Ends) (part : Ends) (first now : Seen) (old marks : List Bool)
-    → MarksStep count place parts left first now old marks → left ≡ part ∷ rest → (part.first ≤ part.last) × (part.last ≤ length old)
-marks_known count place parts left rest part first now old marks step is =
-    let at : MarksStep count place parts (part ∷ rest) first now old marks = subst (λ ps. MarksStep count place parts ps first now old marks) is step in
+pub marks_known : (count rows : ℕ) (place : Place) (parts left rest : List Ends) (part : Ends) (first now : Seen) (old marks : List ℕ)
+    → MarksStep count rows place parts left first now old marks → left ≡ part ∷ rest → (part.first ≤ part.last) × (part.last ≤ rows)
+marks_known count rows place parts left rest part first now old marks step is =
+    let at : MarksStep count rows place parts (part ∷ rest) first now old marks = subst (λ ps. MarksStep count rows place parts ps first now old marks) is step in
     (at.rising.1.1, at.rising.1.2)
 
 -- nothing of parts was read

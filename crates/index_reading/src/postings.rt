@@ -5,7 +5,7 @@ ghost use Rattle.outside.specs.Seen.{OnlyReads, seen};
 ghost use Rattle.bit_column.specs.Sections.{section};
 ghost use Rattle.doc_lists.specs.Docs.{Apart, has_doc};
 ghost use Rattle.doc_lists.specs.Sets.{AreThose};
-ghost use Rattle.index_reading.specs.Entries.{ArePartsOf, Marked, Rising, TellsPostings, entries_at, entries_in, entries_of, offsets_of};
+ghost use Rattle.index_reading.specs.Entries.{ArePartsOf, Marked, MarkedBelow, Rising, TellsPostings, entries_at, entries_in, entries_of, offsets_of};
 ghost use Rattle.index_reading.specs.Stretches.{LogsOver, LogsPartly};
 
 use crate::ListFault;
@@ -93,11 +93,11 @@ pub fn docs_of_parts<S: Shelf>(
     if let [part] = parts {
         return docs_of_part(alloc, shelf, place, count, rows, *part);
     }
-    let mut marks = match no_marks(alloc, rows as usize) {
+    let mut marks = match no_marks(alloc, rows) {
         Ok(marks) => marks,
         Err(_) => return Err(ListFault::NoMemory),
     };
-    match mark_entries(alloc, shelf, place, count, parts, &mut marks) {
+    match mark_entries(alloc, shelf, place, count, rows, parts, &mut marks) {
         Ok(()) => {}
         Err(fault) => return Err(fault),
     }
@@ -163,15 +163,19 @@ fn mark_entries<S: Shelf>(
     shelf: &mut S,
     place: &Place,
     count: u32,
+    rows: u32,
     parts: &[Ends],
-    marks: &mut [bool],
+    marks: &mut [u64],
 ) -> Result<(), ListFault>
-    requires rising { Rising 0 (length marks.old) parts.now }
+    requires rising { Rising 0 rows parts.now }
     requires few { count ≤ 1048576 }
-    requires rows { length marks.old ≤ 1048576 }
+    requires rows { rows ≤ 1048576 }
+    requires room { rows ≤ 64 * length marks.old }
+    requires below { MarkedBelow rows marks.old }
     ensures marked { OnOk result (IfSome (S.held shelf.old) (λ files. (keys : List ℕ) →
-        TellsPostings count (length marks.old) (section files place.now) keys →
+        TellsPostings count rows (section files place.now) keys →
         Marked (entries_in count keys parts.now) marks.old marks.new)) }
+    ensures below { OnOk result (MarkedBelow rows marks.new) }
     ensures only_reads { OnlyReads (IsErrOf result ListFault.ReadFault)
         (seen S.Shelf shelf.old) (seen S.Shelf shelf.new) }
     ensures log { OnOk result (LogsOver place.now.file
@@ -179,10 +183,8 @@ fn mark_entries<S: Shelf>(
     ensures log_of_fault { OnErr result (LogsPartly place.now.file
         (map (entries_at place.now.offset count) parts.now) (S.log shelf.old) (S.log shelf.new)) }
     ensures bad { IsErrOf result ListFault.BadList → IfSome (S.held shelf.old) (λ files.
-        (keys : List ℕ) →
-        TellsPostings count (length marks.old) (section files place.now) keys → ⊥) }
+        (keys : List ℕ) → TellsPostings count rows (section files place.now) keys → ⊥) }
 {
-    let rows = marks.len() as u32;
     for part in parts {
         let first = count + 1 + part.first;
         let last = count + 1 + part.last;
