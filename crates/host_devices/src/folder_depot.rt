@@ -78,7 +78,11 @@ impl<R: Files + AllocGlobal + Clone + Drop> Shelf for FolderDepot<R> {
         offset: u64,
         into: &mut [u8],
     ) -> Result<usize, ShelfFault> {
-        if !self.parts.files.is_kept(name) && !is_published_name(name) {
+        if self.parts.files.is_kept(name) {
+            let answer = self.parts.files.read_kept(offset, into);
+            return count_read(&mut self.read_faults, answer);
+        }
+        if !is_published_name(name) {
             return Err(ShelfFault::Missing);
         }
         let answer = self.parts.files.read_at(alloc, name, offset, into);
