@@ -182,6 +182,7 @@ impl<R: Files + AllocGlobal + Clone + Drop> FolderFiles<R> {
     }
 
     /// Whether the file that is kept open has this name.
+    #[inline(never)]
     pub fn is_kept(&self, name: &str) -> bool
         ensures { result ≡ true →
             MatchOption self.now.kept ⊥ (λ kept. string_bytes kept.name ≡ name.now) }
