@@ -1,5 +1,5 @@
 //! Depots over real folders.
-ghost use Rattle.std.specs.Prelude.{◌≡◌, ◌≤◌, None, IsErrOf};
+ghost use Rattle.std.specs.Prelude.{◌≡◌, ◌≤◌, None, IfOk, IsErrOf, length};
 ghost use Rattle.outside.specs.Counts.{Rose};
 
 use crate::folder_files::count_read;
@@ -29,6 +29,31 @@ impl<R: Files + AllocGlobal + Clone + Drop> FolderDepot<R> {
             read_faults: 0,
             write_faults: 0,
         }
+    }
+
+    // Reads bytes of a file that is not kept open.
+    #[cold]
+    #[inline(never)]
+    fn read_other(
+        &mut self,
+        alloc: Global,
+        name: &str,
+        offset: u64,
+        into: &mut [u8],
+    ) -> Result<usize, ShelfFault>
+        ensures read { IfOk result (λ n. n ≤ length into.old) }
+        ensures later { self.old.read_faults ≤ self.new.read_faults }
+        ensures rose { IsErrOf result ShelfFault.Failed →
+            Rose self.old.read_faults self.new.read_faults }
+        ensures still { ¬ IsErrOf result ShelfFault.Failed →
+            self.new.read_faults ≡ self.old.read_faults }
+        ensures writes { self.new.write_faults ≡ self.old.write_faults }
+    {
+        if !is_published_name(name) {
+            return Err(ShelfFault::Missing);
+        }
+        let answer = self.parts.files.read_at(alloc, name, offset, into);
+        count_read(&mut self.read_faults, answer)
     }
 }
 
@@ -78,11 +103,11 @@ impl<R: Files + AllocGlobal + Clone + Drop> Shelf for FolderDepot<R> {
         offset: u64,
         into: &mut [u8],
     ) -> Result<usize, ShelfFault> {
-        if !self.parts.files.is_kept(name) && !is_published_name(name) {
-            return Err(ShelfFault::Missing);
+        if self.parts.files.is_kept(name) {
+            let answer = self.parts.files.read_kept(offset, into);
+            return count_read(&mut self.read_faults, answer);
         }
-        let answer = self.parts.files.read_at(alloc, name, offset, into);
-        count_read(&mut self.read_faults, answer)
+        self.read_other(alloc, name, offset, into)
     }
 }
 

@@ -1,12 +1,12 @@
 //! The files of a real folder.
-ghost use Rattle.std.specs.Prelude.{◌≡◌, ◌≢◌, ◌≤◌, true, IfOk, IsErrOf, MatchOption, length, string_bytes};
+ghost use Rattle.std.specs.Prelude.{◌≡◌, ◌≢◌, ◌≤◌, ◌<◌, ◌+◌, true, IfOk, IsErrOf, IsSome, MatchOption, length, string_bytes, vec_len};
 ghost use Rattle.outside.specs.Counts.{Rose};
 ghost use Rattle.outside.specs.declared.shelf.ShelfFault.TheVariants.{Missing, Failed};
 
 use outside::{Name, ShelfFault};
 use std::alloc::{AllocError, Global};
 use std::fs::{Metadata, OpenFile};
-use std::io::{BufReader, ErrorKind, Read, Seek, SeekFrom};
+use std::io::{ErrorKind, Read, Seek, SeekFrom};
 use std::rt::Files;
 use std::{fs, io};
 
@@ -21,11 +21,15 @@ pub struct NamedFile<F: Drop> {
     pub file: F,
 }
 
-/// A file that is read, with the bytes that were read ahead and the offset that is read next.
+/// A file that is read, and the last bytes that were read ahead: those before the offset that the file
+/// is read from next.
 #[derive(Drop)]
 pub struct FileReader<F: Read + Drop> {
-    bytes: BufReader<F>,
-    offset: u64,
+    file: F,
+    next: u64,
+    ahead: Vec<u8>,
+    held: usize,
+    ghost in_bounds: { held ≤ vec_len ahead },
 }
 
 /// The files of a folder. The one that was read last is kept open.
@@ -39,33 +43,71 @@ pub struct FolderFiles<R: Files + AllocGlobal + Clone + Drop> {
 impl<F: Read + Seek + Drop> FileReader<F> {
     fn new(alloc: Global, file: F) -> io::Result<Self> {
         Ok(FileReader {
-            bytes: BufReader::with_capacity(alloc, READ_AHEAD, file)?,
-            offset: 0,
+            file,
+            next: 0,
+            ahead: vec![in alloc; 0u8; READ_AHEAD]?,
+            held: 0,
         })
     }
 
-    // Reads from an offset on. No file is longer than a signed 64-bit number says.
+    // Reads from an offset on.
+    #[inline]
     fn read_at(&mut self, offset: u64, into: &mut [u8]) -> io::Result<usize>
+        ensures { IfOk result (λ n. n ≤ length into.old) }
+    {
+        if self.is_ahead(offset) {
+            return Ok(self.copy(offset, into));
+        }
+        self.read_on(offset, into)
+    }
+
+    // Whether the byte at an offset was read ahead.
+    #[inline]
+    fn is_ahead(&self, offset: u64) -> bool
+        ensures before { result ≡ true → offset < self.now.next }
+        ensures held { result ≡ true → self.now.next ≤ offset + self.now.held }
+    {
+        offset < self.next && self.next - offset <= self.held as u64
+    }
+
+    // Copies bytes from an offset on that were read ahead, as many as there are and fit.
+    #[inline]
+    fn copy(&self, offset: u64, into: &mut [u8]) -> usize
+        requires before { offset < self.now.next }
+        requires held { self.now.next ≤ offset + self.now.held }
+        ensures { result ≤ length into.old }
+    {
+        let from = self.held - (self.next - offset) as usize;
+        let bytes = &self.ahead[from..self.held];
+        let n = bytes.len().min(into.len());
+        into[..n].copy_from_slice(&bytes[..n]);
+        n
+    }
+
+    // Reads bytes that were not read ahead. No file is longer than a signed 64-bit number says.
+    #[cold]
+    fn read_on(&mut self, offset: u64, into: &mut [u8]) -> io::Result<usize>
         ensures { IfOk result (λ n. n ≤ length into.old) }
     {
         if offset > i64::MAX as u64 {
             return Ok(0);
         }
-        self.seek(offset)?;
-        let n = self.bytes.read(into)?;
-        self.offset = offset + n as u64;
-        Ok(n)
-    }
-
-    // Goes to an offset. Bytes that were read ahead are kept where it lies among them.
-    fn seek(&mut self, offset: u64) -> io::Result<()> {
-        match i64::try_from(offset as i128 - self.offset as i128) {
-            Ok(distance) => self.bytes.seek_relative(distance),
-            Err(_) => {
-                self.bytes.seek(SeekFrom::Start(offset))?;
-                Ok(())
-            }
+        self.held = 0;
+        if offset != self.next {
+            self.file.seek(SeekFrom::Start(offset))?;
         }
+        if into.len() >= READ_AHEAD {
+            let n = self.file.read(into)?;
+            self.next = offset + n as u64;
+            return Ok(n);
+        }
+        let n = self.file.read(&mut self.ahead)?;
+        self.next = offset + n as u64;
+        self.held = n;
+        if n == 0 {
+            return Ok(0);
+        }
+        Ok(self.copy(offset, into))
     }
 }
 
@@ -111,6 +153,16 @@ impl<R: Files + AllocGlobal + Clone + Drop> FolderFiles<R> {
             let (open, _) = self.open(alloc, name)?;
             self.kept = Some(open);
         }
+        self.read_kept(offset, into)
+    }
+
+    /// Reads bytes of the file that is kept open from an offset on.
+    #[inline]
+    pub fn read_kept(&mut self, offset: u64, into: &mut [u8]) -> Result<usize, ShelfFault>
+        requires { IsSome self.old.kept }
+        ensures read { IfOk result (λ n. n ≤ length into.old) }
+        ensures there { ¬ IsErrOf result Missing }
+    {
         let answer = match &mut self.kept {
             Some(open) => open.file.read_at(offset, into),
             None => unreachable!(),
@@ -130,6 +182,7 @@ impl<R: Files + AllocGlobal + Clone + Drop> FolderFiles<R> {
     }
 
     /// Whether the file that is kept open has this name.
+    #[inline(never)]
     pub fn is_kept(&self, name: &str) -> bool
         ensures { result ≡ true →
             MatchOption self.now.kept ⊥ (λ kept. string_bytes kept.name ≡ name.now) }
