@@ -8,6 +8,7 @@
 //! word `open?` opens the table, and `file?` shows its file.
 
 use crate::cases::{Report, compared};
+use crate::counting::Span;
 use crate::devices::{Devices, Failing, Files, run_over_long_files};
 use crate::escapes::unescaped;
 use outside::{Name, Seq};
@@ -119,6 +120,17 @@ fn words_of(alloc: Global, text: &str) -> Result<Vec<String>, AllocError> {
 struct Given {
     files: Vec<(String, Vec<u8>)>,
     stored: Vec<(String, Vec<u8>)>,
+    spans: Vec<Span>,
+}
+
+// The bytes of a file that a line gives: a label, the file's name, and from where up to where.
+fn span(alloc: Global, text: &str) -> Result<Span, AllocError> {
+    let (label, rest) = text.split_once(' ').unwrap_or((text, ""));
+    let (file, rest) = rest.split_once(' ').unwrap_or((rest, ""));
+    let (from, to) = rest.split_once(' ').unwrap_or((rest, ""));
+    let label = String::from_str(alloc, label)?;
+    let file = String::from_str(alloc, file)?;
+    Ok(Span::new(label, file, u64::from(number(from)), u64::from(number(to))))
 }
 
 fn copies(alloc: Global, files: &[(String, Vec<u8>)]) -> Result<Files, AllocError> {
@@ -154,7 +166,8 @@ impl Given {
     fn devices(&self, alloc: Global, calls: &str) -> Result<Devices, AllocError> {
         let files = copies(alloc, self.files.as_slice())?;
         let stored = copies(alloc, self.stored.as_slice())?;
-        Devices::new(alloc, files, stored, failing(alloc, calls)?)
+        let failing = failing(alloc, calls)?;
+        Devices::new(alloc, files, stored, self.spans.as_slice(), failing)
     }
 }
 
@@ -169,6 +182,9 @@ fn found(
         "open?" => return devices.open(alloc),
         "file?" => return devices.table_file(alloc),
         _ => {}
+    }
+    if let Some(labels) = words.strip_prefix("reads ") {
+        return devices.reads(alloc, labels);
     }
     let words = words_of(alloc, words)?;
     if calls == "long" {
@@ -191,6 +207,7 @@ impl Run {
         let given = Given {
             files: Vec::new(alloc),
             stored: Vec::new(alloc),
+            spans: Vec::new(alloc),
         };
         Ok(Run {
             devices: given.devices(alloc, "")?,
@@ -206,6 +223,9 @@ impl Run {
         }
         if let Some(count) = line.strip_prefix("segments ") {
             return self.given.add_segments(alloc, number(count));
+        }
+        if let Some(text) = line.strip_prefix("span ") {
+            return self.given.spans.push(span(alloc, text)?);
         }
         match file_line(alloc, line)? {
             Some(file) => self.given.add(alloc, file),

@@ -1,7 +1,8 @@
 //! The devices of a command, in memory.
 
+use crate::counting::{CountingDepot, Span};
 use crate::long_files::LongFiles;
-use outside::{Bytes, MemoryDepot, MemoryShelf, MemorySink, Name, Seq, Shelf, read_all};
+use outside::{Bytes, Depot, MemoryDepot, MemoryShelf, MemorySink, Name, Seq, Shelf, read_all};
 use pinot_run::run_command;
 use std::alloc::{AllocError, Global};
 use table_store::{StoreFault, open_table};
@@ -29,7 +30,7 @@ struct Streams {
 #[derive(Drop)]
 pub struct Devices {
     inputs: MemoryShelf,
-    depot: MemoryDepot,
+    depot: CountingDepot,
     streams: Streams,
 }
 
@@ -52,11 +53,11 @@ fn make_streams(alloc: Global, out: Vec<u64>, notes: Vec<u64>) -> Result<Streams
     })
 }
 
-fn run_over<I: Shelf>(
+fn run_over<I: Shelf, D: Depot>(
     alloc: Global,
     words: &Vec<String>,
     inputs: &mut I,
-    depot: &mut MemoryDepot,
+    depot: &mut D,
     streams: &mut Streams,
 ) -> Result<String, AllocError> {
     let (out, notes) = (streams.out.bytes().len(), streams.notes.bytes().len());
@@ -86,11 +87,13 @@ impl Devices {
         alloc: Global,
         files: Files,
         stored: Files,
+        spans: &[Span],
         failing: Failing,
     ) -> Result<Devices, AllocError> {
+        let depot = MemoryDepot::new(alloc, stored, Seq::from_vec(failing.depot))?;
         Ok(Devices {
             inputs: MemoryShelf::new(alloc, files, Seq::from_vec(failing.inputs))?,
-            depot: MemoryDepot::new(alloc, stored, Seq::from_vec(failing.depot))?,
+            depot: CountingDepot::new(alloc, depot, spans)?,
             streams: make_streams(alloc, failing.out, failing.notes)?,
         })
     }
@@ -99,6 +102,17 @@ impl Devices {
     pub fn run(&mut self, alloc: Global, words: &Vec<String>) -> Result<String, AllocError> {
         let streams = &mut self.streams;
         run_over(alloc, words, &mut self.inputs, &mut self.depot, streams)
+    }
+
+    /// How many bytes were read of the spans of each label since this was last asked.
+    pub fn reads(&mut self, alloc: Global, labels: &str) -> Result<String, AllocError> {
+        let mut text = String::new(alloc);
+        for label in labels.split(' ') {
+            let gap = if text.is_empty() { "" } else { " " };
+            let more = format!(in alloc; "{gap}{label} {}", self.depot.taken(label))?;
+            text.push_str(more.as_str())?;
+        }
+        Ok(text)
     }
 
     /// The bytes of the table's file.

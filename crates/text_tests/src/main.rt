@@ -5,6 +5,7 @@
 mod bindings;
 mod cases;
 mod commands;
+mod counting;
 mod csv_texts;
 mod devices;
 mod escapes;

@@ -1,0 +1,139 @@
+//! A depot in memory that counts what is read of some parts of its files.
+
+use outside::{Depot, DepotFault, MemoryDepot, Name, Seq, Shelf, ShelfFault};
+use std::alloc::{AllocError, Global};
+
+/// The bytes of a file from one place up to another, and how many of them were read.
+#[derive(Drop)]
+pub struct Span {
+    label: String,
+    file: String,
+    from: u64,
+    to: u64,
+    read: u64,
+}
+
+impl Span {
+    pub fn new(label: String, file: String, from: u64, to: u64) -> Self {
+        Span {
+            label,
+            file,
+            from,
+            to,
+            read: 0,
+        }
+    }
+
+    // A span of the same bytes, of which nothing was read.
+    fn fresh(&self, alloc: Global) -> Result<Span, AllocError> {
+        let label = String::from_str(alloc, self.label.as_str())?;
+        let file = String::from_str(alloc, self.file.as_str())?;
+        Ok(Span::new(label, file, self.from, self.to))
+    }
+
+    // Counts those of so many bytes of a file from an offset on that are in the span.
+    fn count(&mut self, file: &str, offset: u64, count: u64) {
+        if self.file.as_str() != file {
+            return;
+        }
+        let end = offset.saturating_add(count).min(self.to);
+        let more = end.saturating_sub(offset.max(self.from));
+        self.read = self.read.saturating_add(more);
+    }
+}
+
+/// A depot in memory, and what was read of spans of its files.
+#[derive(Drop)]
+pub struct CountingDepot {
+    depot: MemoryDepot,
+    spans: Vec<Span>,
+}
+
+impl CountingDepot {
+    /// A depot whose reads of these spans are counted from now on.
+    pub fn new(alloc: Global, depot: MemoryDepot, spans: &[Span]) -> Result<Self, AllocError> {
+        let mut fresh = Vec::with_capacity(alloc, spans.len())?;
+        for span in spans {
+            fresh.push(span.fresh(alloc)?)?;
+        }
+        Ok(CountingDepot {
+            depot,
+            spans: fresh,
+        })
+    }
+
+    /// How many bytes were read of the spans of a label since this was last asked.
+    pub fn taken(&mut self, label: &str) -> u64 {
+        let mut taken: u64 = 0;
+        for span in &mut self.spans {
+            if span.label.as_str() == label {
+                taken = taken.saturating_add(span.read);
+                span.read = 0;
+            }
+        }
+        taken
+    }
+
+    // Counts a read of every span.
+    fn count(&mut self, file: &str, offset: u64, count: u64) {
+        for span in &mut self.spans {
+            span.count(file, offset, count);
+        }
+    }
+}
+
+impl Shelf for CountingDepot {
+    ghost use Rattle.std.specs.Prelude.{Some};
+
+    ghost held = { λ counting. Some counting.depot.held };
+
+    ghost parts = { λ counting. Some counting.depot.parts };
+
+    ghost log = { λ counting. Some counting.depot.log };
+
+    ghost read_faults = { λ counting. counting.depot.read_faults };
+
+    ghost write_faults = { λ counting. counting.depot.write_faults };
+
+    fn names(&mut self, alloc: Global) -> Result<Seq<Name>, ShelfFault> {
+        self.depot.names(alloc)
+    }
+
+    fn length(&mut self, alloc: Global, name: &str) -> Result<u64, ShelfFault> {
+        self.depot.length(alloc, name)
+    }
+
+    fn read_at(
+        &mut self,
+        alloc: Global,
+        name: &str,
+        offset: u64,
+        into: &mut [u8],
+    ) -> Result<usize, ShelfFault> {
+        let n = self.depot.read_at(alloc, name, offset, into)?;
+        self.count(name, offset, n as u64);
+        Ok(n)
+    }
+}
+
+impl Depot for CountingDepot {
+    ghost use Rattle.outside.specs.Told.{tells_both};
+
+    ghost tells_both = { λ counting. tells_both counting.depot.held counting.depot.parts };
+
+    fn begin(&mut self, alloc: Global, part: &str) -> Result<(), DepotFault> {
+        self.depot.begin(alloc, part)
+    }
+
+    fn append(&mut self, alloc: Global, part: &str, bytes: &[u8]) -> Result<(), DepotFault> {
+        self.depot.append(alloc, part, bytes)
+    }
+
+    fn publish(&mut self, alloc: Global, part: &str, name: &str) -> Result<(), DepotFault> {
+        self.depot.publish(alloc, part, name)
+    }
+
+    fn remove(&mut self, alloc: Global, name: &str) -> Result<(), DepotFault> {
+        self.depot.remove(alloc, name)
+    }
+}
