@@ -1,13 +1,13 @@
 -- Runs of two lists are gone through together, stretch by stretch.
-use Rattle.std.proofs.Common.{◌≡◌, ◌∙◌, inl, inr, ℕ, zero, suc, ◌+◌, ◌-◌, ◌<◌, ◌≤◌, ◌^◌, Bool, true, false, ◌&&◌, ◌||◌, nat_eq, nat_le, nat_lt, ◌/◌, List, [], ◌∷◌, ◌++◌, length, drop, get_or, refl, sym, ap, subst, arith}
+use Rattle.std.proofs.Common.{◌≡◌, ◌∙◌, ◌⊎◌, min, max, not, cond, le_refl, inl, inr, ℕ, zero, suc, ◌+◌, ◌-◌, ◌<◌, ◌≤◌, ◌^◌, Bool, true, false, ◌&&◌, ◌||◌, nat_eq, nat_le, nat_lt, ◌/◌, List, [], ◌∷◌, ◌++◌, length, drop, get_or, refl, sym, ap, subst, arith}
+use mir.Val.{bool_byte}
 use Rattle.std.specs.List.{All, range_with_len}
 use Rattle.std.proofs.lemmas.Bool.{cases_lt, leb-true, leb-false, le-leb, lt-leb, ltb-true, ltb-false, eqb-false, ne_eqb}
 use Rattle.std.proofs.lemmas.List.Elements.{All-append, All-cons, All-nil}
 use Rattle.std.proofs.lemmas.List.Folds.{list_any-append, list_any_none}
 use Rattle.doc_lists.specs.Docs.{Apart, docs_of, docs_of_run, has_doc}
-use Rattle.doc_lists.specs.Sets.{Ahead, AreThose, Left, SameFrom, Swept, Up, ends_before, in_run, in_runs, keeps}
+use Rattle.doc_lists.specs.Sets.{Ahead, AreThose, IsSooner, Left, SameFrom, Swept, Up, ends_before, in_run, in_runs}
 use Rattle.doc_lists.specs.declared.run.Run.{Run}
-use Rattle.doc_lists.specs.declared.sets.Kept.{Kept}
 use Rattle.doc_lists.proofs.Runs.{apart_less, up_from_less, up_increasing}
 
 -- ---- the documents of runs
@@ -125,6 +125,10 @@ skip_same from (suc n) doc (run ∷ runs) d apart within lt =
     let later : run.last + 2 ≤ (get_or runs n d).last = end_from (run.last + 2) n runs d apart.3 inner in
     λ other le. skip_same (run.last + 2) n doc runs d apart.3 inner lt other le ∙ ap (λ b. b || in_runs runs other) (sym (run_before run other (omega (arith, later, lt, le))))
 
+last_grows : (run : Run) (runs : List Run) (k : ℕ) (d : Run) → Apart 0 (run ∷ runs) → k < length (run ∷ runs) → run.last ≤ (get_or (run ∷ runs) k d).last
+last_grows run runs zero d apart lt = le_refl run.last
+last_grows run runs (suc k) d apart lt = let more = end_from (run.last + 2) k runs d apart.3 (omega (arith, lt)) in omega (arith, more)
+
 -- what a step over runs finds
 pub record Steps (old runs : List Run) (doc step : ℕ) : Type 0 where
   pub apart : Apart 0 runs
@@ -240,31 +244,252 @@ pub ahead_apart : (doc : ℕ) (runs : List Run) → Ahead doc runs → Apart 0 r
 ahead_apart doc [] ahead = tt
 ahead_apart doc (run ∷ runs) ahead = ahead.1
 
+ahead_first : (start : ℕ) (runs : List Run) (d : Run) (doc : ℕ) → 0 < length runs → Ahead start runs → doc ≤ (get_or runs 0 d).last → Ahead doc runs
+ahead_first start [] d doc some ahead le = tt
+ahead_first start (run ∷ runs) d doc some ahead le = (le, ahead.1)
+
 pub left_next : (start end : ℕ) (docs : List ℕ) (old new : List Run) → start ≤ end → Left start docs old → Ahead end new → SameFrom end old new → Left end docs new
 left_next start end docs old new order left ahead same = record {
   ahead = ahead;
   same = (λ doc from. same doc from ∙ left.same doc (omega (arith, from, order)));
 }
 
--- up to the end of its stretch, whether a document is in a list is as it is at the start
-pub same_in : (start doc first : ℕ) (a : List ℕ) (ours : List Run) (is : Bool) → Left start a ours → is ≡ in_runs ours start → ((doc : ℕ) → start ≤ doc → doc < first → in_runs ours doc ≡ in_runs ours start) → start ≤ doc → doc < first → has_doc a doc ≡ is
-same_in start doc first a ours is left at same from to = sym (left.same doc from) ∙ same doc from to ∙ sym at
+-- a list has a document from a start on where the runs that are left of it do
+pub left_has : (start doc : ℕ) (docs : List ℕ) (runs : List Run) → Left start docs runs → start ≤ doc → has_doc docs doc ≡ in_runs runs doc
+left_has start doc docs runs left from = sym (left.same doc from)
 
-pub ahead_below : (start : ℕ) (runs : List Run) → 0 < length runs → Ahead start runs → start < 2 ^ 32
-ahead_below start [] some ahead = absurd (omega (arith, some))
-ahead_below start (run ∷ runs) some ahead = omega (arith, ahead.0, ahead.1.2)
+-- up to the end of the first run, a document is in the runs where that has begun
+first_has : (runs : List Run) (d : Run) (doc : ℕ) → 0 < length runs → Apart 0 runs → doc ≤ (get_or runs 0 d).last → in_runs runs doc ≡ nat_le (get_or runs 0 d).first doc
+first_has [] d doc some apart le = absurd (omega (arith, some))
+first_has (run ∷ runs) d doc some apart le = sym (reaches_is (run ∷ runs) d doc (omega arith) (le, apart))
 
-pub all_swept : (kept : Kept) (start : ℕ) (a b docs : List ℕ) (ours theirs : List Run) → Swept (λ doc. keeps kept (has_doc a doc) (has_doc b doc)) start docs → Left start a ours → Left start b theirs →
-    ((doc : ℕ) → keeps kept (in_runs ours doc) (in_runs theirs doc) ≡ false) → AreThose (λ doc. keeps kept (has_doc a doc) (has_doc b doc)) docs
-all_swept kept start a b docs ours theirs swept left other none = record {
-  ascend = up_increasing 0 docs swept.ascend;
+pub left_begun : (start doc : ℕ) (docs : List ℕ) (runs : List Run) (d : Run) → 0 < length runs → Left start docs runs → start ≤ doc → doc ≤ (get_or runs 0 d).last → has_doc docs doc ≡ nat_le (get_or runs 0 d).first doc
+left_begun start doc docs runs d some left from to = left_has start doc docs runs left from ∙ first_has runs d doc some (ahead_apart start runs left.ahead) to
+
+-- what is known of the first run
+pub record First (start : ℕ) (run : Run) : Type 0 where
+  pub onwards : start ≤ run.last
+  pub order : run.first ≤ run.last
+  pub within : run.last < 2 ^ 32
+
+pub first_known : (start : ℕ) (runs : List Run) (d : Run) → 0 < length runs → Ahead start runs → First start (get_or runs 0 d)
+first_known start [] d some ahead = absurd (omega (arith, some))
+first_known start (run ∷ runs) d some ahead = record { onwards = ahead.0; order = ahead.1.1; within = ahead.1.2 }
+
+none_in : (start doc : ℕ) (docs : List ℕ) (runs : List Run) (d : Run) → 0 < length runs → Left start docs runs → start ≤ doc → doc < (get_or runs 0 d).first → has_doc docs doc ≡ false
+none_in start doc docs runs d some left from to =
+    let order = (first_known start runs d some left.ahead).order in
+    left_begun start doc docs runs d some left from (omega (arith, to, order)) ∙ lt-leb (get_or runs 0 d).first doc to
+
+-- ---- the first runs are left out
+
+nearest : (runs : List Run) (d : Run) (doc : ℕ) → 0 < length runs → Apart 0 runs → doc ≤ (get_or runs 0 d).last + 1 → (get_or runs 0 d).last < doc → Ahead doc (drop 1 runs)
+nearest [] d doc some apart near lt = absurd (omega (arith, some))
+nearest (run ∷ []) d doc some apart near lt = tt
+nearest (run ∷ next ∷ runs) d doc some apart near lt =
+    (omega (arith, near, apart.3.0, apart.3.1), apart_less (run.last + 2) 0 (next ∷ runs) (omega arith) apart.3)
+
+-- the runs without the first, where it ends too soon
+pub record Without (doc : ℕ) (old new : List Run) : Type 0 where
+  pub ahead : Ahead doc new
+  pub same : SameFrom doc old new
+
+pub first_out : (t : Bool) (runs : List Run) (d : Run) (doc : ℕ) → 0 < length runs → Apart 0 runs → doc ≤ (get_or runs 0 d).last + 1 → nat_lt (get_or runs 0 d).last doc ≡ t → Without doc runs (drop (bool_byte t) runs)
+first_out true runs d doc some apart near e =
+    let lt = ltb-true (get_or runs 0 d).last doc e in record {
+      ahead = nearest runs d doc some apart near lt;
+      same = skip_same 0 0 doc runs d apart some lt;
+    }
+first_out false [] d doc some apart near e = absurd (omega (arith, some))
+first_out false (run ∷ runs) d doc some apart near e = record { ahead = (ltb-false run.last doc e, apart); same = (λ other from. refl) }
+
+-- ---- a step of each walk
+
+-- what is known between two steps of a walk through two lists
+pub record Walk (test : ℕ → Bool) (start : ℕ) (a b docs : List ℕ) (ours theirs : List Run) : Type 0 where
+  pub swept : Swept test start docs
+  pub first : Left start a ours
+  pub second : Left start b theirs
+
+pub walk_first : (test : ℕ → Bool) (a b docs : List ℕ) (ours theirs : List Run) → docs ≡ [] → docs_of ours ≡ a → Apart 0 ours → docs_of theirs ≡ b → Apart 0 theirs → Walk test 0 a b docs ours theirs
+walk_first test a b docs ours theirs none one apart other aside = record {
+  swept = subst (Swept test 0) (sym none) (swept_none test);
+  first = left_first a ours one apart;
+  second = left_first b theirs other aside;
+}
+
+pub walk_done : (test : ℕ → Bool) (start : ℕ) (a b docs : List ℕ) (ours theirs : List Run) → Walk test start a b docs ours theirs → ((doc : ℕ) → start ≤ doc → test doc ≡ false) → AreThose test docs
+walk_done test start a b docs ours theirs walk none = record {
+  ascend = up_increasing 0 docs walk.swept.ascend;
   those = (λ doc.
       elim (cases_lt doc start) [
-        | inl below ↦ swept.those doc below
-        | inr from ↦ none_from docs start doc swept.below from ∙ sym (
-            ap (λ x. keeps kept x (has_doc b doc)) (sym (left.same doc from))
-            ∙ ap (keeps kept (in_runs ours doc)) (sym (other.same doc from))
-            ∙ none doc
-            )
+        | inl below ↦ walk.swept.those doc below
+        | inr from ↦ none_from docs start doc walk.swept.below from ∙ sym (none doc from)
       ]);
 }
+
+-- the runs of a list are passed over up to a document, where the other list's first run begins there
+pub far_start : (runs : List Run) (start doc count : ℕ) → Ahead start runs → 1 ≤ count → ends_before runs count doc ≡ true → start < doc
+far_start [] start doc zero ahead some held = absurd (omega (arith, some))
+far_start [] start doc (suc count) ahead some held = absurd (let none = step_within [] doc (suc count) held in omega (arith, none))
+far_start (run ∷ runs) start doc count ahead some held =
+    let parts = yes_both (nat_le count (length (run ∷ runs))) (nat_lt (get_or (run ∷ runs) (count - 1) (record { first = 0; last = 0 })).last doc) held in
+    let less = ltb-true (get_or (run ∷ runs) (count - 1) (record { first = 0; last = 0 })).last doc parts.1 in
+    let within = step_within (run ∷ runs) doc count held in
+    let last = last_grows run runs (count - 1) (record { first = 0; last = 0 }) ahead.1 (omega (arith, within, some)) in
+    omega (arith, ahead.0, last, less)
+
+both_no : (x y : Bool) → (x ≡ false) ⊎ (y ≡ false) → x && y ≡ false
+both_no x y (inl is) = ap (λ b. b && y) is
+both_no x y (inr is) = ap (λ b. x && b) is ∙ and_false x
+
+pub meet_far_ours : (start : ℕ) (a b docs : List ℕ) (ours theirs new : List Run) (d : Run) → Walk (λ doc. has_doc a doc && has_doc b doc) start a b docs ours theirs → 0 < length theirs → start < (get_or theirs 0 d).first
+    → Ahead (get_or theirs 0 d).first new → SameFrom (get_or theirs 0 d).first ours new → Walk (λ doc. has_doc a doc && has_doc b doc) (get_or theirs 0 d).first a b docs new theirs
+meet_far_ours start a b docs ours theirs new d walk some more ahead same =
+    let doc = (get_or theirs 0 d).first in
+    let known = first_known start theirs d some walk.second.ahead in record {
+      swept = swept_no (λ doc. has_doc a doc && has_doc b doc) start doc docs (omega (arith, more)) walk.swept
+          (λ other from to. both_no (has_doc a other) (has_doc b other) (inr (none_in start other b theirs d some walk.second from to)));
+      first = left_next start doc a ours new (omega (arith, more)) walk.first ahead same;
+      second = left_next start doc b theirs theirs (omega (arith, more)) walk.second (ahead_first start theirs d doc some walk.second.ahead (omega (arith, known.order))) (λ other from. refl);
+    }
+
+pub meet_far_theirs : (start : ℕ) (a b docs : List ℕ) (ours theirs new : List Run) (d : Run) → Walk (λ doc. has_doc a doc && has_doc b doc) start a b docs ours theirs → 0 < length ours → start < (get_or ours 0 d).first
+    → Ahead (get_or ours 0 d).first new → SameFrom (get_or ours 0 d).first theirs new → Walk (λ doc. has_doc a doc && has_doc b doc) (get_or ours 0 d).first a b docs ours new
+meet_far_theirs start a b docs ours theirs new d walk some more ahead same =
+    let doc = (get_or ours 0 d).first in
+    let known = first_known start ours d some walk.first.ahead in record {
+      swept = swept_no (λ doc. has_doc a doc && has_doc b doc) start doc docs (omega (arith, more)) walk.swept
+          (λ other from to. both_no (has_doc a other) (has_doc b other) (inl (none_in start other a ours d some walk.first from to)));
+      first = left_next start doc a ours ours (omega (arith, more)) walk.first (ahead_first start ours d doc some walk.first.ahead (omega (arith, known.order))) (λ other from. refl);
+      second = left_next start doc b theirs new (omega (arith, more)) walk.second ahead same;
+    }
+
+pub walk_next : (test : ℕ → Bool) (start end : ℕ) (a b docs : List ℕ) (ours theirs more other : List Run) (added : List ℕ) → Walk test start a b docs ours theirs → start ≤ end → Swept test end added
+    → Ahead end more → SameFrom end ours more → Ahead end other → SameFrom end theirs other → Walk test end a b added more other
+walk_next test start end a b docs ours theirs more other added walk order swept ahead same aside alike = record {
+  swept = swept;
+  first = left_next start end a ours more order walk.first ahead same;
+  second = left_next start end b theirs other order walk.second aside alike;
+}
+
+begun_by : (s t : Bool) (one other start doc : ℕ) → start ≤ doc → nat_le one doc ≡ s → nat_le other doc ≡ t → s && t ≡ nat_le (max start (max one other)) doc
+begun_by true true one other start doc from is also =
+    let low = leb-true one doc is in
+    let high = leb-true other doc also in
+    sym (le-leb (max start (max one other)) doc (omega (arith, from, low, high)))
+begun_by true false one other start doc from is also = let less = leb-false other doc also in sym (lt-leb (max start (max one other)) doc (omega (arith, less)))
+begun_by false t one other start doc from is also = let less = leb-false one doc is in sym (lt-leb (max start (max one other)) doc (omega (arith, less)))
+
+-- up to the end of the first run that ends, a document is in both lists where both first runs have begun
+pub meet_test : (start doc end : ℕ) (a b docs : List ℕ) (ours theirs : List Run) (d : Run) → Walk (λ doc. has_doc a doc && has_doc b doc) start a b docs ours theirs → 0 < length ours → 0 < length theirs
+    → end ≡ min (get_or ours 0 d).last (get_or theirs 0 d).last + 1 → start ≤ doc → doc < end → has_doc a doc && has_doc b doc ≡ nat_le (max start (max (get_or ours 0 d).first (get_or theirs 0 d).first)) doc
+meet_test start doc end a b docs ours theirs d walk some any is from to =
+    ap (λ x. x && has_doc b doc) (left_begun start doc a ours d some walk.first from (omega (arith, is, to)))
+    ∙ ap (λ y. nat_le (get_or ours 0 d).first doc && y) (left_begun start doc b theirs d any walk.second from (omega (arith, is, to)))
+    ∙ begun_by (nat_le (get_or ours 0 d).first doc) (nat_le (get_or theirs 0 d).first doc) (get_or ours 0 d).first (get_or theirs 0 d).first start doc from refl refl
+
+no_runs : (runs : List Run) (doc : ℕ) → length runs ≡ 0 → in_runs runs doc ≡ false
+no_runs [] doc none = refl
+no_runs (run ∷ runs) doc none = absurd (omega (arith, none))
+
+pub meet_over : (start : ℕ) (a b docs : List ℕ) (ours theirs : List Run) → Walk (λ doc. has_doc a doc && has_doc b doc) start a b docs ours theirs → (length ours ≡ 0) ⊎ (length theirs ≡ 0) → (doc : ℕ) → start ≤ doc → has_doc a doc && has_doc b doc ≡ false
+meet_over start a b docs ours theirs walk (inl none) doc from = both_no (has_doc a doc) (has_doc b doc) (inl (left_has start doc a ours walk.first from ∙ no_runs ours doc none))
+meet_over start a b docs ours theirs walk (inr none) doc from = both_no (has_doc a doc) (has_doc b doc) (inr (left_has start doc b theirs walk.second from ∙ no_runs theirs doc none))
+
+-- ---- the run that begins sooner
+
+either_by : (s t : Bool) (one other doc : ℕ) → one ≤ other → nat_le one doc ≡ s → (t ≡ true → other ≤ doc) → s || t ≡ s
+either_by true t one other doc le is also = refl
+either_by false true one other doc le is also =
+    let less = leb-false one doc is in
+    let more = also refl in absurd (omega (arith, less, more, le))
+either_by false false one other doc le is also = refl
+
+or_swap : (x y : Bool) → x || y ≡ y || x
+or_swap true true = refl
+or_swap true false = refl
+or_swap false true = refl
+or_swap false false = refl
+
+begun_in : (runs : List Run) (d : Run) (doc : ℕ) → 0 < length runs → Apart 0 runs → in_runs runs doc ≡ true → (get_or runs 0 d).first ≤ doc
+begun_in [] d doc some apart held = absurd (omega (arith, some))
+begun_in (run ∷ runs) d doc some apart held =
+    elim (cases_lt doc run.first) [
+      | inl lt ↦ absurd (let both : true ≡ false = sym held ∙ before_first run runs doc apart lt in cc)
+      | inr le ↦ le
+    ]
+
+-- the first run of the one list, where the other has none or begins with it or later
+sooner_one : (start : ℕ) (ours theirs : List Run) (d : Run) → 0 < length ours → (length theirs ≡ 0) ⊎ ((0 < length theirs) × ((get_or ours 0 d).first ≤ (get_or theirs 0 d).first)) → Ahead start ours → Ahead start theirs
+    → (doc : ℕ) → start ≤ doc → doc ≤ (get_or ours 0 d).last → in_runs ours doc || in_runs theirs doc ≡ nat_le (get_or ours 0 d).first doc
+sooner_one start ours [] d some (inl none) ahead aside doc from to = or_false (in_runs ours doc) ∙ first_has ours d doc some (ahead_apart start ours ahead) to
+sooner_one start ours [] d some (inr later) ahead aside doc from to = absurd (omega (arith, later.0))
+sooner_one start ours (other ∷ theirs) d some (inl none) ahead aside doc from to = absurd (omega (arith, none))
+sooner_one start ours (other ∷ theirs) d some (inr later) ahead aside doc from to =
+    ap (λ x. x || in_runs (other ∷ theirs) doc) (first_has ours d doc some (ahead_apart start ours ahead) to)
+    ∙ either_by (nat_le (get_or ours 0 d).first doc) (in_runs (other ∷ theirs) doc) (get_or ours 0 d).first other.first doc later.1 refl (begun_in (other ∷ theirs) d doc later.0 aside.1)
+
+pub is_sooner_ours : (start : ℕ) (ours theirs : List Run) (d : Run) → 0 < length ours → (length theirs ≡ 0) ⊎ ((0 < length theirs) × ((get_or ours 0 d).first ≤ (get_or theirs 0 d).first)) → Ahead start ours → Ahead start theirs
+    → IsSooner start ours theirs (get_or ours 0 d)
+is_sooner_ours start ours theirs d some later ahead aside =
+    let known = first_known start ours d some ahead in record {
+      within = known.within;
+      onwards = known.onwards;
+      those = sooner_one start ours theirs d some later ahead aside;
+    }
+
+pub is_sooner_theirs : (start : ℕ) (ours theirs : List Run) (d : Run) → 0 < length theirs → (length ours ≡ 0) ⊎ ((0 < length ours) × ((get_or theirs 0 d).first ≤ (get_or ours 0 d).first)) → Ahead start ours → Ahead start theirs
+    → IsSooner start ours theirs (get_or theirs 0 d)
+is_sooner_theirs start ours theirs d some later ahead aside =
+    let known = first_known start theirs d some aside in record {
+      within = known.within;
+      onwards = known.onwards;
+      those = λ doc from to. or_swap (in_runs ours doc) (in_runs theirs doc) ∙ sooner_one start theirs ours d some later aside ahead doc from to;
+    }
+
+sooner_begun : (t : Bool) (first start doc : ℕ) → start ≤ doc → nat_le first doc ≡ t → t ≡ nat_le (max start first) doc
+sooner_begun true first start doc from is = let low = leb-true first doc is in sym (le-leb (max start first) doc (omega (arith, from, low)))
+sooner_begun false first start doc from is = let less = leb-false first doc is in sym (lt-leb (max start first) doc (omega (arith, less)))
+
+-- up to the end of the sooner run, a document is in one of the lists where that run has begun
+pub join_test : (start doc : ℕ) (a b docs : List ℕ) (ours theirs : List Run) (run : Run) → Walk (λ doc. has_doc a doc || has_doc b doc) start a b docs ours theirs → IsSooner start ours theirs run
+    → start ≤ doc → doc < run.last + 1 → has_doc a doc || has_doc b doc ≡ nat_le (max start run.first) doc
+join_test start doc a b docs ours theirs run walk sooner from to =
+    ap (λ x. x || has_doc b doc) (left_has start doc a ours walk.first from)
+    ∙ ap (λ y. in_runs ours doc || y) (left_has start doc b theirs walk.second from)
+    ∙ sooner.those doc from (omega (arith, to)) ∙ sooner_begun (nat_le run.first doc) run.first start doc from refl
+
+pub join_over : (start : ℕ) (a b docs : List ℕ) (ours theirs : List Run) → Walk (λ doc. has_doc a doc || has_doc b doc) start a b docs ours theirs → length ours ≡ 0 → length theirs ≡ 0 → (doc : ℕ) → start ≤ doc → has_doc a doc || has_doc b doc ≡ false
+join_over start a b docs ours theirs walk none also doc from =
+    ap (λ x. x || has_doc b doc) (left_has start doc a ours walk.first from ∙ no_runs ours doc none) ∙ left_has start doc b theirs walk.second from ∙ no_runs theirs doc also
+
+-- ---- documents that are in the one list alone
+
+kept_by : (taken : Bool) (kept end first doc : ℕ) → kept ≡ cond taken end first → first ≤ doc → doc < end → not taken ≡ nat_le kept doc
+kept_by true kept end first doc is from to = sym (lt-leb kept doc (omega (arith, is, to)))
+kept_by false kept end first doc is from to = sym (le-leb kept doc (omega (arith, is, from)))
+
+not_yet : (taken : Bool) (kept end first doc : ℕ) → kept ≡ cond taken end first → doc < first → doc < end → nat_le kept doc ≡ false
+not_yet true kept end first doc is before to = lt-leb kept doc (omega (arith, is, to))
+not_yet false kept end first doc is before to = lt-leb kept doc (omega (arith, is, before))
+
+-- up to the end of a stretch and of the run, a document is in the first list alone from where it is kept
+pub without_test : (start first doc stretch end kept : ℕ) (a b docs : List ℕ) (ours theirs skipped : List Run) (d : Run) (taken : Bool) → Walk (λ doc. has_doc a doc && not (has_doc b doc)) start a b docs ours theirs → 0 < length ours
+    → first ≡ max start (get_or ours 0 d).first → SameFrom first theirs skipped → taken ≡ in_runs skipped first → ((doc : ℕ) → first ≤ doc → doc < stretch → in_runs skipped doc ≡ in_runs skipped first)
+    → end ≡ min stretch ((get_or ours 0 d).last + 1) → kept ≡ cond taken end first → start ≤ doc → doc < end → has_doc a doc && not (has_doc b doc) ≡ nat_le kept doc
+without_test start first doc stretch end kept a b docs ours theirs skipped d taken walk some begins same taking all ends is from to =
+    let begun : has_doc a doc ≡ nat_le (get_or ours 0 d).first doc = left_begun start doc a ours d some walk.first from (omega (arith, ends, to)) in
+    elim (cases_lt doc first) [
+      | inl before ↦ ap (λ x. x && not (has_doc b doc)) (begun ∙ lt-leb (get_or ours 0 d).first doc (omega (arith, before, begins, from))) ∙ sym (not_yet taken kept end first doc is before to)
+      | inr after ↦
+          let there : has_doc b doc ≡ taken = left_has start doc b theirs walk.second from ∙ sym (same doc after) ∙ all doc after (omega (arith, ends, to)) ∙ sym taking in
+          ap (λ x. x && not (has_doc b doc)) (begun ∙ le-leb (get_or ours 0 d).first doc (omega (arith, after, begins))) ∙ ap not there ∙ kept_by taken kept end first doc is after to
+    ]
+
+pub without_over : (start : ℕ) (a b docs : List ℕ) (ours theirs : List Run) → Walk (λ doc. has_doc a doc && not (has_doc b doc)) start a b docs ours theirs → length ours ≡ 0 → (doc : ℕ) → start ≤ doc → has_doc a doc && not (has_doc b doc) ≡ false
+without_over start a b docs ours theirs walk none doc from = ap (λ x. x && not (has_doc b doc)) (left_has start doc a ours walk.first from ∙ no_runs ours doc none)
+
+-- runs that were left out twice
+pub same_twice : (first end : ℕ) (old mid new : List Run) → first ≤ end → SameFrom first old mid → SameFrom end mid new → SameFrom end old new
+same_twice first end old mid new order one other = λ doc from. other doc from ∙ one doc (omega (arith, from, order))

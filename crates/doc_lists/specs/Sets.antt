@@ -1,22 +1,14 @@
 -- Sets of documents made of two others.
-use Rattle.std.specs.Prelude.{◌≡◌, ◌≤◌, ◌<◌, ℕ, Bool, not, ◌&&◌, ◌||◌, nat_le, nat_lt, length, ◌-◌, List, [], ◌∷◌, ◌+◌}
+use Rattle.std.specs.Prelude.{◌≡◌, ◌≤◌, ◌<◌, ℕ, Bool, ◌&&◌, ◌||◌, ◌^◌, nat_le, nat_lt, length, ◌-◌, List, [], ◌∷◌, ◌+◌}
 use Rattle.std.specs.List.{All, list_any, slice_index_or}
 use Rattle.std.specs.List.Sorted.{IsStrictlyIncreasing}
 use Rattle.doc_lists.specs.declared.run.Run.{Run}
-use Rattle.doc_lists.specs.declared.sets.Kept.{Kept}
-use Rattle.doc_lists.specs.declared.sets.Kept.TheVariants.{Both, Either, First}
 use Rattle.doc_lists.specs.Docs.{Apart, has_doc}
 
 -- the documents of which the test holds, ascending
 pub record AreThose (test : ℕ → Bool) (docs : List ℕ) : Type 0 where
   pub ascend : IsStrictlyIncreasing docs
   pub those : (doc : ℕ) → has_doc docs doc ≡ test doc
-
--- whether a document is kept, by whether it is in the first of two lists and in the second
-abbrev pub keeps : Kept → Bool → Bool → Bool
-keeps Both first second = first && second
-keeps Either first second = first || second
-keeps First first second = first && not second
 
 -- whether a document is in a run
 abbrev pub in_run : ℕ → Run → Bool
@@ -38,6 +30,12 @@ ends_before runs count doc = nat_le count (length runs) && nat_lt (slice_index_o
 -- the runs have the same documents from one on
 abbrev pub SameFrom : ℕ → List Run → List Run → Type 0
 SameFrom from old new = (doc : ℕ) → from ≤ doc → in_runs new doc ≡ in_runs old doc
+
+-- a run that ends at a document or after it; up to its end, a document is in one of two lists of runs where the run has begun
+pub record IsSooner (start : ℕ) (ours theirs : List Run) (run : Run) : Type 0 where
+  pub within : run.last < 2 ^ 32
+  pub onwards : start ≤ run.last
+  pub those : (doc : ℕ) → start ≤ doc → doc ≤ run.last → in_runs ours doc || in_runs theirs doc ≡ nat_le run.first doc
 
 -- runs with the documents of a list from one on
 pub record Left (from : ℕ) (docs : List ℕ) (runs : List Run) : Type 0 where

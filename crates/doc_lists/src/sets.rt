@@ -1,125 +1,101 @@
 //! The documents that two lists have in common or apart.
-ghost use Rattle.std.specs.Prelude.{◌≡◌, ◌≤◌, ◌<◌, ◌&&◌, ◌||◌, ◌^◌, ◌⊎◌, ℕ, Bool, false, true, not, All, drop, length, min, max, IfOk, OnOk};
+ghost use Rattle.std.specs.Prelude.{◌≡◌, ◌≤◌, ◌<◌, ◌+◌, ◌&&◌, ◌||◌, ◌^◌, ◌⊎◌, ℕ, Bool, not, nat_le, All, drop, get_or, length, IfOk, OnOk};
 ghost use Rattle.doc_lists.specs.Docs.{Apart, has_doc};
-ghost use Rattle.doc_lists.specs.Sets.{Ahead, AreThose, SameFrom, Swept, ends_before, in_runs, keeps};
+ghost use Rattle.doc_lists.specs.Sets.{Ahead, AreThose, IsSooner, SameFrom, Swept, ends_before, in_runs};
 
 use crate::{DocList, NoMemory, Run};
 use std::alloc::Global;
+
+// Runs are left out by steps that double where so many end too soon, and else one by one.
+const MANY: usize = 8;
 
 /// The documents that are in both lists.
 pub fn meet(alloc: Global, a: &DocList, b: &DocList) -> Result<DocList, NoMemory>
     ensures { IfOk result (AreThose (λ doc. has_doc a.now doc && has_doc b.now doc)) }
 {
-    combine(alloc, Kept::Both, a, b)
+    let mut docs = DocList::new(alloc);
+    let mut ours = a.runs();
+    let mut theirs = b.runs();
+    let mut start = 0;
+    while !ours.is_empty() && !theirs.is_empty() {
+        let one = ours[0];
+        let other = theirs[0];
+        if ends_before(ours, MANY, other.first as u64) {
+            start = other.first as u64;
+            ours = left_from(ours, start);
+        } else if ends_before(theirs, MANY, one.first as u64) {
+            start = one.first as u64;
+            theirs = left_from(theirs, start);
+        } else {
+            let first = start.max(one.first.max(other.first) as u64);
+            let end = one.last.min(other.last) as u64 + 1;
+            push_from(&mut docs, start, first, end)?;
+            ours = without_first(ours, end);
+            theirs = without_first(theirs, end);
+            start = end;
+        }
+    }
+    Ok(docs)
 }
 
 /// The documents that are in one of the lists or in both.
 pub fn join(alloc: Global, a: &DocList, b: &DocList) -> Result<DocList, NoMemory>
     ensures { IfOk result (AreThose (λ doc. has_doc a.now doc || has_doc b.now doc)) }
 {
-    combine(alloc, Kept::Either, a, b)
+    let mut docs = DocList::new(alloc);
+    let mut ours = a.runs();
+    let mut theirs = b.runs();
+    let mut start = 0;
+    while !ours.is_empty() || !theirs.is_empty() {
+        let run = sooner(ours, theirs);
+        let end = run.last as u64 + 1;
+        push_from(&mut docs, start, start.max(run.first as u64), end)?;
+        ours = left_from(ours, end);
+        theirs = left_from(theirs, end);
+        start = end;
+    }
+    Ok(docs)
 }
 
 /// The documents of the first list that are not in the second.
 pub fn without(alloc: Global, a: &DocList, b: &DocList) -> Result<DocList, NoMemory>
     ensures { IfOk result (AreThose (λ doc. has_doc a.now doc && not (has_doc b.now doc))) }
 {
-    combine(alloc, Kept::First, a, b)
-}
-
-// Which documents of two lists are kept.
-#[derive(Clone, Copy)]
-enum Kept {
-    Both,
-    Either,
-    First,
-}
-
-impl Kept {
-    fn keeps(self, first: bool, second: bool) -> bool
-        ensures { result ≡ keeps self first second }
-    {
-        match self {
-            Kept::Both => first && second,
-            Kept::Either => first || second,
-            Kept::First => first && !second,
-        }
-    }
-
-    // Whether the first list says alone whether a document is kept.
-    fn is_by_first(self, first: bool) -> bool
-        ensures { result ≡ true → (x y : Bool) → keeps self first x ≡ keeps self first y }
-    {
-        match self {
-            Kept::Both | Kept::First => !first,
-            Kept::Either => first,
-        }
-    }
-
-    // Whether the second list says alone whether a document is kept.
-    fn is_by_second(self, second: bool) -> bool
-        ensures { result ≡ true → (x y : Bool) → keeps self x second ≡ keeps self y second }
-    {
-        match self {
-            Kept::Both => !second,
-            Kept::Either | Kept::First => second,
-        }
-    }
-
-    // Up to where documents are kept as one is, by where the stretches of both lists end.
-    fn end_of_stretch(self, first: bool, second: bool, ours: u64, theirs: u64) -> u64
-        ensures least { min ours theirs ≤ result }
-        ensures most { result ≤ max ours theirs }
-        ensures same { (doc : ℕ) (x y : Bool) → (doc < ours → x ≡ first) →
-            (doc < theirs → y ≡ second) → doc < result →
-            keeps self x y ≡ keeps self first second }
-    {
-        match (self.is_by_first(first), self.is_by_second(second)) {
-            (true, true) => ours.max(theirs),
-            (true, false) => ours,
-            (false, true) => theirs,
-            (false, false) => ours.min(theirs),
-        }
-    }
-
-    // Whether a document may be kept of runs that are left of two lists.
-    fn goes_on(self, ours: &[Run], theirs: &[Run]) -> bool
-        ensures over { (doc : ℕ) → result ≡ false →
-            keeps self (in_runs ours.now doc) (in_runs theirs.now doc) ≡ false }
-        ensures some { result ≡ true → (0 < length ours.now) ⊎ (0 < length theirs.now) }
-    {
-        match self {
-            Kept::Both => !ours.is_empty() && !theirs.is_empty(),
-            Kept::Either => !ours.is_empty() || !theirs.is_empty(),
-            Kept::First => !ours.is_empty(),
-        }
-    }
-}
-
-// The documents that are kept of two lists, stretch by stretch: of each all are kept, or none.
-fn combine(alloc: Global, kept: Kept, a: &DocList, b: &DocList) -> Result<DocList, NoMemory>
-    ensures { IfOk result (AreThose (λ doc. keeps kept (has_doc a.now doc) (has_doc b.now doc))) }
-{
     let mut docs = DocList::new(alloc);
     let mut ours = a.runs();
     let mut theirs = b.runs();
-    let mut start = 0;
-    while kept.goes_on(ours, theirs) {
-        let first = reaches(ours, start);
-        let second = reaches(theirs, start);
-        let end = kept.end_of_stretch(
-            first,
-            second,
-            end_of_stretch(ours, start),
-            end_of_stretch(theirs, start),
-        );
-        let keep = kept.keeps(first, second);
-        push_kept(&mut docs, keep, start, end)?;
+    let mut start = 0u64;
+    while !ours.is_empty() {
+        let run = ours[0];
+        let first = start.max(run.first as u64);
+        theirs = left_from(theirs, first);
+        let end = end_of_stretch(theirs, first).min(run.last as u64 + 1);
+        let kept = if reaches(theirs, first) { end } else { first };
+        push_from(&mut docs, start, kept, end)?;
         ours = left_from(ours, end);
         theirs = left_from(theirs, end);
         start = end;
     }
     Ok(docs)
+}
+
+// The run that begins sooner, of the first runs of two lists.
+fn sooner(ours: &[Run], theirs: &[Run]) -> Run
+    requires some { (0 < length ours.now) ⊎ (0 < length theirs.now) }
+    ensures { (start : ℕ) → Ahead start ours.now → Ahead start theirs.now →
+        IsSooner start ours.now theirs.now result }
+{
+    if theirs.is_empty() {
+        return ours[0];
+    }
+    if ours.is_empty() {
+        return theirs[0];
+    }
+    if ours[0].first <= theirs[0].first {
+        ours[0]
+    } else {
+        theirs[0]
+    }
 }
 
 // Whether a document is in runs that do not end before it.
@@ -185,19 +161,32 @@ fn ends_before(runs: &[Run], count: usize, doc: u64) -> bool
     count <= runs.len() && (runs[count - 1].last as u64) < doc
 }
 
-// Adds a stretch of documents if it is kept.
-fn push_kept(docs: &mut DocList, keep: bool, start: u64, end: u64) -> Result<(), NoMemory>
-    requires order { start < end }
+// The runs without the first, where it ends before a document.
+fn without_first(runs: &[Run], doc: u64) -> &[Run]
+    requires some { 0 < length runs.now }
+    requires apart { Apart 0 runs.now }
+    requires near { (d : Run) → doc ≤ (get_or runs.now 0 d).last + 1 }
+    ensures ahead { Ahead doc result.now }
+    ensures same { SameFrom doc runs.now result.now }
+{
+    &runs[((runs[0].last as u64) < doc) as usize..]
+}
+
+// Adds the documents of a stretch from one of them on, where it has any.
+fn push_from(docs: &mut DocList, start: u64, first: u64, end: u64) -> Result<(), NoMemory>
+    requires order { start ≤ first }
+    requires onwards { start ≤ end }
     requires within { end ≤ 2 ^ 32 }
     requires above { All (λ doc. doc < start) docs.old }
     ensures { OnOk result ((test : ℕ → Bool) → Swept test start docs.old →
-        ((doc : ℕ) → start ≤ doc → doc < end → test doc ≡ keep) → Swept test end docs.new) }
+        ((doc : ℕ) → start ≤ doc → doc < end → test doc ≡ nat_le first doc) →
+        Swept test end docs.new) }
 {
-    if !keep {
+    if end <= first {
         return Ok(());
     }
     let run = Run {
-        first: start as u32,
+        first: first as u32,
         last: (end - 1) as u32,
     };
     docs.push_run(run)
