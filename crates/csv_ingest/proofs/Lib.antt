@@ -4,7 +4,11 @@ mod ColumnLemmas
 mod CountLemmas
 mod Fields
 mod HeaderLemmas
+mod HeaderLine
 mod InOrder
+mod LineBlocks
+mod LineLemmas
+mod LineRows
 mod MarkLemmas
 mod NumberLemmas
 mod NumberTextLemmas

@@ -1,15 +1,20 @@
 -- A text of whole numbers, whose rows are read block by block.
-use Rattle.std.specs.Prelude.{◌≡◌, ◌<◌, ◌≤◌, ◌+◌, ◌^◌, ℕ, List, [], length, false, Result, Ok}
+use Rattle.std.specs.Prelude.{◌≡◌, ◌<◌, ◌≤◌, ◌+◌, ◌^◌, ℕ, List, [], length, false, ⊤, Result, Ok}
 use Rattle.std.specs.List.{All}
+use Rattle.csv.specs.Reading.{default_config, records_from}
 use Rattle.csv.specs.Records.{fields_of}
+use Rattle.csv.specs.declared.parser.State.TheVariants as st
 use Rattle.values.specs.Columns.{Listed}
 use Rattle.values.specs.declared.value.Value.{Value}
 use Rattle.table_schema.specs.declared.field.Field.{Field}
 use Rattle.table_schema.specs.declared.field.Schema.{Schema}
 use Rattle.csv_ingest.specs.declared.blocks.NumberBlocks.{NumberBlocks}
 use Rattle.csv_ingest.specs.declared.blocks.NumberHeader.{NumberHeader}
+use Rattle.csv_ingest.specs.declared.blocks.Source.{Source}
+use Rattle.csv_ingest.specs.declared.blocks.Source.TheVariants as source
 use Rattle.csv_ingest.specs.declared.fault.CsvFault.{CsvFault}
 use Rattle.csv_ingest.specs.Blocks.{RowsOrFault, rows_from}
+use Rattle.csv_ingest.specs.Lines.{AtLineEnd}
 use Rattle.csv_ingest.specs.Names.{number_name}
 use Rattle.csv_ingest.specs.Reading.{Reads, TextReader, records_left}
 use Rattle.csv_ingest.specs.Rows.{header_of, with_schema}
@@ -30,10 +35,25 @@ pub record HasRows (fields : List Field) (header : List (List ℕ)) (reader : Te
   pub reads : Reads reader rest
   pub is : whole ≡ rows_from before fields header (records_left left reader rest)
 
+-- the same where the text is left from the end of a line on
+pub record HasLines (fields : List Field) (header : List (List ℕ)) (text : List ℕ) (before left : ℕ) (whole : RowsOrFault) : Type 0 where
+  pub at_end : AtLineEnd text
+  pub is : whole ≡ rows_from before fields header (records_from default_config left st.StartRecord text)
+
+-- either
+abbrev pub HasLeft : List Field → List (List ℕ) → Source → ℕ → ℕ → RowsOrFault → Type 0
+HasLeft fields header (source.Records reader) before left whole = HasRows fields header reader before left whole
+HasLeft fields header (source.Lines text) before left whole = HasLines fields header text.now before left whole
+
+-- the text is read by records
+abbrev pub IsByRecords : Source → Type 0
+IsByRecords (source.Records reader) = ⊤
+IsByRecords (source.Lines text) = ⊥
+
 -- the text gives these rows from here on, or this fault
 pub record Gives (blocks : NumberBlocks) (whole : RowsOrFault) : Type 0 where
   pub none : blocks.left ≡ 0 → whole ≡ Ok []
-  pub some : 0 < blocks.left → HasRows blocks.header.fields (fields_of blocks.header.names) blocks.reader blocks.before blocks.left whole
+  pub some : 0 < blocks.left → HasLeft blocks.header.fields (fields_of blocks.header.names) blocks.source blocks.before blocks.left whole
 
 -- and with the fields this table, or this fault
 pub record GivesTable (blocks : NumberBlocks) (table : Result (Schema × List (List Value)) CsvFault) : Type 0 where

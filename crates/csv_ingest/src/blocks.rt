@@ -1,21 +1,25 @@
 //! The rows of a text of whole numbers, block by block.
-ghost use Rattle.std.specs.Prelude.{◌≡◌, ◌≢◌, ◌≤◌, ◌<◌, ◌+◌, ◌^◌, ◌∷◌, ℕ, List, length, IfOk, IfErr, IfSome, MatchBool, MatchOption, Ok, Err, []};
+ghost use Rattle.std.specs.Prelude.{◌≡◌, ◌≢◌, ◌≤◌, ◌<◌, ◌+◌, ◌^◌, ◌∷◌, ℕ, List, length, IfOk, IfErr, IfSome, OnOk, MatchBool, MatchOption, None, Ok, Err, drop, []};
+ghost use Rattle.csv.specs.Reading.{default_config, records, records_from};
 ghost use Rattle.csv.specs.Records.{fields_of};
+ghost use Rattle.csv.specs.declared.parser.State.TheVariants as st;
 ghost use Rattle.values.specs.Columns.{rows_of as rows_of_columns};
 ghost use Rattle.csv_ingest.specs.Blocks.{IsFullBlock, IsLastBlock, RowsOrFault, after, rows_from};
 ghost use Rattle.csv_ingest.specs.Columns.{OfSorts};
 ghost use Rattle.csv_ingest.specs.Names.{number_name};
-ghost use Rattle.csv_ingest.specs.NumberBlocks.{AreNumbers, Gives, GivesTable, IsNumberBlocks, IsNumberHeader};
+ghost use Rattle.csv_ingest.specs.Lines.{AreLines, IsHeaderEnd, is_bare};
+ghost use Rattle.csv_ingest.specs.NumberBlocks.{AreNumbers, Gives, GivesTable, IsByRecords, IsNumberBlocks, IsNumberHeader};
 ghost use Rattle.csv_ingest.specs.Reading.{Reads, records_left};
 ghost use Rattle.csv_ingest.specs.Rows.{csv_limits, header_of, plain_in, records_of};
 
 use crate::header::{names_in, number_columns};
 use crate::layout::Layout;
-use crate::records::{next_record, text_reader, unmarked_len};
+use crate::lines::{Lines, read_lines};
+use crate::records::{from_place, next_record, text_reader, unmarked, unmarked_len};
 use crate::rows::{Block, read_block};
 use crate::{CsvFault, CsvKind};
 use csv::{ByteRecord, Reader};
-use std::alloc::Global;
+use std::alloc::{AllocError, Global};
 use table_schema::{Field, Schema};
 use values::{Columns, Seq};
 
@@ -32,11 +36,21 @@ pub struct NumberHeader {
     pub fields: Seq<Field>,
 }
 
+/// What is left of a text of whole numbers.
+#[derive(Drop)]
+pub enum Source<'a> {
+    /// The text from the end of a line on, where each line before it was of whole numbers without
+    /// quotes, or the header.
+    Lines(&'a [u8]),
+    /// The records that a reader has left.
+    Records(Reader<&'a [u8]>),
+}
+
 /// A text of whole numbers, of which some rows were read.
 #[derive(Drop)]
 pub struct NumberBlocks<'a> {
     pub header: NumberHeader,
-    pub reader: Reader<&'a [u8]>,
+    pub source: Source<'a>,
     /// How many rows were read.
     pub before: usize,
     /// How many records are left at most.
@@ -107,6 +121,26 @@ impl NumberHeader {
         let layout = Layout::new(alloc, self.fields.as_slice(), &names)?;
         read_block(alloc, reader, &layout, before, room)
     }
+
+    // The rows of the plain lines at the start of a text, after `before` others.
+    fn next_lines(
+        &self,
+        alloc: Global,
+        text: &[u8],
+        before: usize,
+        room: usize,
+    ) -> Result<Lines, CsvFault>
+        requires { IsNumberHeader self.now }
+        ensures lines { IfOk result (λ l. AreLines self.now.fields (fields_of self.now.names) before
+            text.now l.columns l.taken) }
+        ensures sorts { IfOk result (λ l. OfSorts self.now.fields l.columns.columns) }
+        ensures most { IfOk result (λ l. l.columns.count ≤ room) }
+        ensures err { IfErr result (λ fault. fault ≡ CsvFault.NoMemory) }
+    {
+        let names = names_in(alloc, &self.names)?;
+        let layout = Layout::new(alloc, self.fields.as_slice(), &names)?;
+        Ok(read_lines(alloc, text, &layout, before, room)?)
+    }
 }
 
 // The columns of whole numbers that the cells of a record name.
@@ -120,9 +154,67 @@ fn fields_in(alloc: Global, names: &ByteRecord) -> Result<Seq<Field>, CsvFault>
     number_columns(alloc, &names)
 }
 
-/// The text of whole numbers that some bytes are, with its header read. The fields and the rows, or the
-/// first fault, are those of `read_plain_columns`.
-pub fn number_blocks<'a>(alloc: Global, bytes: &'a [u8]) -> Result<NumberBlocks<'a>, CsvFault>
+// Whether a byte of a header stands for itself, or ends a cell.
+fn is_bare(byte: u8) -> bool
+    ensures { result ≡ is_bare byte }
+{
+    byte < 128 && byte != b'"' && byte != b'\r' && byte != b'\n'
+}
+
+// The end of the first line of a text, if it has no quotes.
+fn header_end(text: &[u8]) -> Option<usize>
+    ensures { IfSome result (IsHeaderEnd text.now) }
+{
+    'bytes: for i in 0..text.len() {
+        if text[i] == b'\n' && i > 0 {
+            return Some(i);
+        }
+        if !is_bare(text[i]) {
+            return None;
+        }
+    }
+    None
+}
+
+// The cells of the first line of a text, which ends here.
+fn header_line(alloc: Global, text: &[u8], end: usize) -> Result<ByteRecord, AllocError>
+    requires { IsHeaderEnd text.now end }
+    ensures { IfOk result (λ names. (n : ℕ) → records_from default_config (n + 1) st.StartRecord text.now
+        ≡ fields_of names ∷ records_from default_config n st.StartRecord (drop end text.now)) }
+{
+    let mut reader = text_reader(alloc, &text[..end + 1]);
+    let mut names = ByteRecord::new(alloc);
+    if next_record(&mut reader, &mut names)? {
+        Ok(names)
+    } else {
+        unreachable!()
+    }
+}
+
+// The text of whole numbers that a text is, whose first line has no quotes and ends here.
+fn line_blocks<'a>(alloc: Global, text: &'a [u8], end: usize) -> Result<NumberBlocks<'a>, CsvFault>
+    requires few { length text.now ≤ 134217728 }
+    requires end { IsHeaderEnd text.now end }
+    ensures blocks { IfOk result IsNumberBlocks }
+    ensures few { IfOk result (λ b. b.left ≤ 134217728) }
+    ensures ok { IfOk result (λ b. GivesTable b (plain_in csv_limits (records default_config text.now))) }
+    ensures err { IfErr result (λ fault. fault ≢ CsvFault.NoMemory
+        → plain_in csv_limits (records default_config text.now) ≡ Err fault) }
+{
+    let names = header_line(alloc, text, end)?;
+    match NumberHeader::of_record(alloc, names) {
+        Ok(header) => Ok(NumberBlocks {
+            header,
+            source: Source::Lines(from_place(text, end)),
+            before: 0,
+            left: text.len(),
+        }),
+        Err(fault) => Err(fault),
+    }
+}
+
+// The text of whole numbers that some bytes are, by their records.
+fn record_blocks<'a>(alloc: Global, bytes: &'a [u8]) -> Result<NumberBlocks<'a>, CsvFault>
     requires { length bytes.now ≤ 134217728 }
     ensures blocks { IfOk result IsNumberBlocks }
     ensures few { IfOk result (λ b. b.left ≤ 134217728) }
@@ -139,7 +231,7 @@ pub fn number_blocks<'a>(alloc: Global, bytes: &'a [u8]) -> Result<NumberBlocks<
     match NumberHeader::of_record(alloc, names) {
         Ok(header) => Ok(NumberBlocks {
             header,
-            reader,
+            source: Source::Records(reader),
             before: 0,
             left,
         }),
@@ -147,7 +239,91 @@ pub fn number_blocks<'a>(alloc: Global, bytes: &'a [u8]) -> Result<NumberBlocks<
     }
 }
 
-impl NumberBlocks<'_> {
+/// The text of whole numbers that some bytes are, with its header read. The fields and the rows, or the
+/// first fault, are those of `read_plain_columns`.
+pub fn number_blocks<'a>(alloc: Global, bytes: &'a [u8]) -> Result<NumberBlocks<'a>, CsvFault>
+    requires { length bytes.now ≤ 134217728 }
+    ensures blocks { IfOk result IsNumberBlocks }
+    ensures few { IfOk result (λ b. b.left ≤ 134217728) }
+    ensures ok { IfOk result (λ b. GivesTable b (plain_in csv_limits (records_of bytes.now))) }
+    ensures err { IfErr result (λ fault. fault ≢ CsvFault.NoMemory
+        → plain_in csv_limits (records_of bytes.now) ≡ Err fault) }
+{
+    let text = unmarked(bytes);
+    match header_end(text) {
+        Some(end) => line_blocks(alloc, text, end),
+        None => record_blocks(alloc, bytes),
+    }
+}
+
+impl<'a> NumberBlocks<'a> {
+    // The rows of the next lines, where the text is read by lines and the next one is of whole numbers
+    // without quotes. From the first other line on, records are read.
+    fn next_lines(&mut self, alloc: Global, room: usize) -> Result<Option<Columns>, CsvFault>
+        requires is { IsNumberBlocks self.old }
+        requires room { room ≤ self.old.left }
+        ensures blocks { IsNumberBlocks self.new }
+        ensures header { self.new.header ≡ self.old.header }
+        ensures ok { IfOk result (λ block. (whole : RowsOrFault) → Gives self.old whole
+            → MatchOption block (Gives self.new whole) (λ columns. (more : RowsOrFault) × Gives self.new more
+            × (whole ≡ after (rows_of_columns columns) more))) }
+        ensures none { IfOk result (λ block. block ≡ None → IsByRecords self.new.source
+            × (self.new.left ≡ self.old.left)) }
+        ensures numbers { IfOk result (λ block. IfSome block (λ columns.
+            AreNumbers self.old.header.fields columns.columns)) }
+        ensures count { IfOk result (λ block. IfSome block (λ columns. (0 < columns.count)
+            × (columns.count + self.new.left ≡ self.old.left))) }
+        ensures err { IfErr result (λ fault. fault ≡ CsvFault.NoMemory) }
+    {
+        let Source::Lines(text) = &self.source else {
+            return Ok(None);
+        };
+        let text = *text;
+        let Lines { columns, taken } = self.header.next_lines(alloc, text, self.before, room)?;
+        let count = columns.len();
+        if count == 0 {
+            self.source = Source::Records(text_reader(alloc, text));
+            return Ok(None);
+        }
+        self.source = Source::Lines(from_place(text, taken));
+        self.before += count;
+        self.left -= count;
+        Ok(Some(columns))
+    }
+
+    // The rows of the next records, where the text is read by records.
+    fn next_records(&mut self, alloc: Global, room: usize) -> Result<Columns, CsvFault>
+        requires is { IsNumberBlocks self.old }
+        requires source { IsByRecords self.old.source }
+        requires some { 0 < room }
+        requires room { room ≤ self.old.left }
+        ensures blocks { IsNumberBlocks self.new }
+        ensures header { self.new.header ≡ self.old.header }
+        ensures ok { IfOk result (λ columns. (whole : RowsOrFault) → Gives self.old whole
+            → (more : RowsOrFault) × Gives self.new more × (whole ≡ after (rows_of_columns columns) more)) }
+        ensures numbers { IfOk result (λ columns. AreNumbers self.old.header.fields columns.columns) }
+        ensures fewer { OnOk result (self.new.left < self.old.left) }
+        ensures count { IfOk result (λ columns. columns.count + self.new.left ≤ self.old.left) }
+        ensures err { IfErr result (λ fault. fault ≢ CsvFault.NoMemory → (whole : RowsOrFault)
+            → Gives self.old whole → whole ≡ Err fault) }
+    {
+        let Source::Records(reader) = &mut self.source else {
+            unreachable!()
+        };
+        match self.header.next_block(alloc, reader, self.before, room) {
+            Ok(Block { columns, last }) => {
+                if last {
+                    self.left = 0;
+                    return Ok(columns);
+                }
+                self.left -= room;
+                self.before += room;
+                Ok(columns)
+            }
+            Err(fault) => Err(fault),
+        }
+    }
+
     /// The next rows, if any are left: a few thousand, or else the last.
     pub fn next(&mut self, alloc: Global) -> Result<Option<Columns>, CsvFault>
         requires { IsNumberBlocks self.old }
@@ -168,19 +344,11 @@ impl NumberBlocks<'_> {
         if room == 0 {
             return Ok(None);
         }
-        match self
-            .header
-            .next_block(alloc, &mut self.reader, self.before, room)
-        {
-            Ok(Block { columns, last }) => {
-                if last {
-                    self.left = 0;
-                    return Ok(Some(columns));
-                }
-                self.left -= room;
-                self.before += room;
-                Ok(Some(columns))
-            }
+        if let Some(columns) = self.next_lines(alloc, room)? {
+            return Ok(Some(columns));
+        }
+        match self.next_records(alloc, room) {
+            Ok(columns) => Ok(Some(columns)),
             Err(fault) => Err(fault),
         }
     }

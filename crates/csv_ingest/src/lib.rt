@@ -8,6 +8,7 @@ mod fault;
 mod header;
 mod laws;
 mod layout;
+mod lines;
 mod numbers;
 mod records;
 mod row;

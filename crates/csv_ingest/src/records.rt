@@ -1,5 +1,5 @@
 //! The records of a CSV text, one at a time.
-ghost use Rattle.std.specs.Prelude.{◌≡◌, ◌<◌, ◌≤◌, ◌∷◌, ◌+◌, ℕ, List, [], IfOk, MatchBool, length, slice_index_or};
+ghost use Rattle.std.specs.Prelude.{◌≡◌, ◌<◌, ◌≤◌, ◌∷◌, ◌+◌, ℕ, List, [], IfOk, MatchBool, drop, length, slice_index_or};
 ghost use Rattle.csv.specs.Records.{fields_of};
 ghost use Rattle.csv.specs.Reading.{is_bom, strip_bom, records_from, default_config};
 ghost use Rattle.csv.specs.declared.parser.State.TheVariants as st;
@@ -50,16 +50,33 @@ fn is_mark(a: u8, b: u8, c: u8) -> bool
     a == 0xEF && b == 0xBB && c == 0xBF
 }
 
+/// A text from a place on.
+#[inline(always)]
+pub fn from_place(text: &[u8], at: usize) -> &[u8]
+    requires { at ≤ length text.now }
+    ensures { result.now ≡ drop at text.now }
+{
+    &text[at..]
+}
+
+/// A text without a byte order mark at its start.
+pub fn unmarked(text: &[u8]) -> &[u8]
+    ensures value { result.now ≡ strip_bom text.now }
+    ensures within { length result.now ≤ length text.now }
+{
+    if text.len() < 3 {
+        return text;
+    }
+    if is_mark(text[0], text[1], text[2]) {
+        return from_place(text, 3);
+    }
+    text
+}
+
 /// How many bytes a text has after a byte order mark at its start.
 pub fn unmarked_len(text: &[u8]) -> usize
     ensures value { result ≡ length (strip_bom text.now) }
     ensures within { result ≤ length text.now }
 {
-    if text.len() < 3 {
-        return text.len();
-    }
-    if is_mark(text[0], text[1], text[2]) {
-        return text.len() - 3;
-    }
-    text.len()
+    unmarked(text).len()
 }

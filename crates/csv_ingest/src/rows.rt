@@ -27,7 +27,11 @@ fn empty_column(alloc: Global, kind: FieldKind) -> Column
 }
 
 // A column with no value for each field, and with room for so many.
-fn empty_columns(alloc: Global, fields: &[Field], rows: usize) -> Result<Vec<Column>, AllocError>
+pub fn empty_columns(
+    alloc: Global,
+    fields: &[Field],
+    rows: usize,
+) -> Result<Vec<Column>, AllocError>
     ensures sorts { IfOk result (λ columns. OfSorts fields.now columns.items) }
     ensures empty { IfOk result (λ columns. All (Counts 0) columns.items) }
 {

@@ -6,7 +6,7 @@ use Rattle.csv_ingest.specs.Reading.{records_left}
 use Rattle.csv_ingest.specs.Rows.{csv_limits, plain_in, rows_of, with_schema}
 use Rattle.csv_ingest.proofs.BlockLemmas.{nothing-left}
 use Rattle.csv_ingest.proofs.NumberTextLemmas.{below-header, no-record}
-use Rattle.csv_ingest.proofs.blocks.number_blocks.Goals as goal
+use Rattle.csv_ingest.proofs.blocks.record_blocks.Goals as goal
 
 pub returns-then-not-branch-clause-err : goal.returns-then-not-branch-clause-err
 returns-then-not-branch-clause-err c = λ _.

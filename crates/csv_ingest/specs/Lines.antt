@@ -1,0 +1,69 @@
+-- Lines of whole numbers in a text, whose cells have no quotes.
+use Rattle.std.specs.Prelude.{◌≡◌, ◌<◌, ◌≤◌, ◌+◌, ◌^◌, ◌∷◌, ◌⊎◌, ℕ, ℤ, List, [], Bool, not, nat_lt, ◌==◌, ◌&&◌, Some, None, length, map, take, drop, Ok, true, get_or}
+use Rattle.std.specs.List.{list_all}
+use Rattle.csv.specs.Machine.{next_record}
+use Rattle.csv.specs.Reading.{default_config, records_from}
+use Rattle.csv.specs.declared.parser.State.{State}
+use Rattle.csv.specs.declared.parser.State.TheVariants as st
+use Rattle.values.specs.Columns.{ListedColumns, rows_of}
+use Rattle.values.specs.Numbers.{is_digit, place_value, whole_of}
+use Rattle.values.specs.declared.kind.FieldKind.TheVariants.{Long}
+use Rattle.table_schema.specs.declared.field.Field.{Field}
+use Rattle.csv_ingest.specs.Blocks.{after, rows_from}
+use Rattle.csv_ingest.specs.declared.layout.Layout.{Layout}
+
+-- so many digits at the start of a text spell a number below 10 ^ 18, and another byte comes after them
+pub record SpellsAt (text : List ℕ) (number len : ℕ) : Type 0 where
+  pub within : len < length text
+  pub digits : list_all is_digit (take len text) ≡ true
+  pub value : place_value (take len text) ≡ number
+  pub small : number < 10 ^ 18
+
+-- a field starts in the state
+abbrev pub IsStart : State → Type 0
+IsStart s = (s ≡ st.StartRecord) ⊎ (s ≡ st.StartField)
+
+-- the cell of so many bytes at the start of a text spells a number, and this byte comes after it
+pub record IsCell (text : List ℕ) (end : ℕ) (number : ℤ) (len : ℕ) : Type 0 where
+  pub cell : List ℕ
+  pub rest : List ℕ
+  pub within : len < length text
+  pub left : drop len text ≡ end ∷ rest
+  pub spells : whole_of Long cell ≡ Ok number
+  pub reads : (s : State) → IsStart s → (fields : List (List ℕ)) → next_record default_config s fields [] text ≡ next_record default_config st.InField fields cell (end ∷ rest)
+
+-- the text starts with the end of a line
+abbrev pub AtLineEnd : List ℕ → Type 0
+AtLineEnd text = (rest : List ℕ) × (text ≡ 10 ∷ rest)
+
+-- whether a byte of a header stands for itself or is a comma, and is ASCII
+abbrev pub is_bare : ℕ → Bool
+is_bare byte = nat_lt byte 128 && not (byte == 34) && not (byte == 13) && not (byte == 10)
+
+-- the first line of a text has no quotes and ends at this place
+pub record IsHeaderEnd (text : List ℕ) (end : ℕ) : Type 0 where
+  pub some : 0 < end
+  pub within : end < length text
+  pub bare : list_all is_bare (take end text) ≡ true
+  pub line_feed : get_or text end 0 ≡ 10
+
+-- the line after the line's end at the start of a text is of these numbers, and this much of the text is before its own end
+pub record IsLine (text : List ℕ) (numbers : List ℤ) (len : ℕ) : Type 0 where
+  pub cells : List (List ℕ)
+  pub within : len ≤ length text
+  pub spell : map (whole_of Long) cells ≡ map Ok numbers
+  pub at_end : AtLineEnd (drop len text)
+  pub reads : (n : ℕ) → records_from default_config (n + 1) st.StartRecord text ≡ cells ∷ records_from default_config n st.StartRecord (drop len text)
+
+-- each field is of whole numbers, and in its own column
+pub record IsStraight (layout : Layout) : Type 0 where
+  pub kinds : (k : ℕ) (d : Field) → k < length layout.fields.now → (get_or layout.fields.now k d).kind ≡ Long
+  pub places : (k : ℕ) → k < length layout.fields.now → get_or layout.places.items k None ≡ Some (k + 1)
+  pub width : length layout.fields.now ≡ length layout.names.now
+
+-- the rows of lines are the first that the records of a text give, of which this much is before the records that are left
+pub record AreLines (fields : List Field) (header : List (List ℕ)) (before : ℕ) (text : List ℕ) (columns : ListedColumns) (taken : ℕ) : Type 0 where
+  pub within : taken ≤ length text
+  pub at_end : AtLineEnd text → AtLineEnd (drop taken text)
+  pub each : (n : ℕ) → rows_from before fields header (records_from default_config (n + columns.count) st.StartRecord text)
+      ≡ after (rows_of columns) (rows_from (before + columns.count) fields header (records_from default_config n st.StartRecord (drop taken text)))
