@@ -1,11 +1,9 @@
 -- The parts of runs of keys, run by run, and the documents that their entries are, part by part.
-use Rattle.std.proofs.Common.{◌≡◌, ◌∙◌, ℕ, zero, suc, ◌+◌, ◌-◌, ◌*◌, ◌<◌, ◌≤◌, ◌^◌, ◌⊎◌, ◌||◌, ◌++◌, nat_eq, Bool, true, false, cond, ◌==◌, inl, inr, List, [], ◌∷◌, All, Option, Some, None, IfSome, length, map, take, drop, get_or, refl, sym, ap, subst, arith, append_assoc, append-nil, length-append}
+use Rattle.std.proofs.Common.{◌≡◌, ◌∙◌, ℕ, zero, suc, ◌+◌, ◌-◌, ◌*◌, ◌<◌, ◌≤◌, ◌^◌, ◌⊎◌, ◌++◌, Bool, true, false, cond, ◌==◌, inl, inr, List, [], ◌∷◌, All, Option, Some, None, IfSome, length, map, take, drop, get_or, refl, sym, ap, subst, arith, append_assoc, append-nil, length-append}
 use Rattle.std.specs.List.{enumerate_from, filter, range_with_len}
-use Rattle.std.proofs.Math.Bool.{or-false}
 use Rattle.std.proofs.Math.Seq.{drop-append-add}
 use Rattle.std.proofs.lemmas.List.{get_or_append_left}
 use Rattle.std.proofs.lemmas.List.Elements.{All-nil, All-cons, All-head, All-tail, All-append, All-drop, All-take}
-use Rattle.std.proofs.lemmas.List.Folds.{list_any-append}
 use Rattle.std.proofs.lemmas.List.FromFn.{length-map-range_with_len, get_or-map-range_with_len}
 use Rattle.outside.specs.Files.{Files}
 use Rattle.outside.specs.Reads.{Entry, LogsOn, LogsUpTo}
@@ -20,10 +18,9 @@ use Rattle.bit_column.proofs.PostingLaws.{all_entries, offset_few}
 use Rattle.doc_lists.specs.Docs.{Apart, has_doc}
 use Rattle.doc_lists.specs.Sets.{AreThose}
 use Rattle.doc_lists.specs.declared.run.Run.{Run}
-use Rattle.index_reading.specs.Entries.{ArePartsOf, Marked, MarkedBelow, Rising, TellsPostings, entries_at, entries_in, entries_of, is_marked, offsets_of, part_of}
+use Rattle.index_reading.specs.Entries.{ArePartsOf, Rising, TellsPostings, entries_at, entries_in, entries_of, offsets_of, part_of}
 use Rattle.index_reading.specs.Stretches.{LogsOver, LogsPartly, Stretch}
 use Rattle.index_reading.specs.declared.ends.Ends.{Ends}
-use Rattle.index_reading.proofs.MarkLemmas.{below_marked}
 use Rattle.index_reading.proofs.PostingEntries.{offsets_ascend}
 
 -- ---- the numbers of the section
@@ -226,31 +223,27 @@ parts_end count rows place runs left first now end parts step is =
       log = at.whole now.log refl;
     }
 
--- ---- the documents, part by part
-
-or_assoc : (a b c : Bool) → (a || b) || c ≡ a || (b || c)
-or_assoc true b c = refl
-or_assoc false b c = refl
+-- ---- the entries, part by part
 
 -- what is known between two parts
-pub record MarksStep (count rows : ℕ) (place : Place) (parts left : List Ends) (first now : Seen) (old marks : List ℕ) : Type 0 where
+pub record EntriesStep (count rows : ℕ) (place : Place) (parts left : List Ends) (first now : Seen) (words : List ℕ) : Type 0 where
   pub reads : OnlyReads ⊥ first now
   pub whole : (last : Option (List Entry)) → LogsOver place.file (map (entries_at place.offset count) left) now.log last → LogsOver place.file (map (entries_at place.offset count) parts) first.log last
   pub partly : (last : Option (List Entry)) → LogsPartly place.file (map (entries_at place.offset count) left) now.log last → LogsPartly place.file (map (entries_at place.offset count) parts) first.log last
-  pub below : MarkedBelow rows marks
+  pub below : All (λ doc. doc < rows) words
   pub rising : (from : ℕ) × Rising from rows left
-  pub told : Told first.held place count rows (λ keys. (doc : ℕ) → is_marked marks doc || has_doc (entries_in count keys left) doc ≡ is_marked old doc || has_doc (entries_in count keys parts) doc)
+  pub told : Told first.held place count rows (λ keys. words ++ entries_in count keys left ≡ entries_in count keys parts)
 
-pub marks_start : (count rows : ℕ) (place : Place) (parts left : List Ends) (shelf : Seen) (old : List ℕ) → left ≡ parts → Rising 0 rows parts → MarkedBelow rows old → MarksStep count rows place parts left shelf shelf old old
-marks_start count rows place parts left shelf old all rising below =
-    subst (λ ps. MarksStep count rows place parts ps shelf shelf old old) (sym all) (record {
+pub entries_start : (count rows : ℕ) (place : Place) (parts left : List Ends) (shelf : Seen) (words : List ℕ) → left ≡ parts → words ≡ [] → Rising 0 rows parts → EntriesStep count rows place parts left shelf shelf words
+entries_start count rows place parts left shelf words all none rising =
+    subst (λ ws. EntriesStep count rows place parts left shelf shelf ws) (sym none) (subst (λ ps. EntriesStep count rows place parts ps shelf shelf []) (sym all) (record {
       reads = reads_none shelf;
       whole = λ last logs. logs;
       partly = λ last logs. logs;
-      below = below;
+      below = All-nil (λ doc. doc < rows);
       rising = (0, rising);
-      told = told_all shelf.held place count rows (λ keys. (doc : ℕ) → is_marked old doc || has_doc (entries_in count keys parts) doc ≡ is_marked old doc || has_doc (entries_in count keys parts) doc) (λ keys doc. refl);
-    })
+      told = told_all shelf.held place count rows (λ keys. entries_in count keys parts ≡ entries_in count keys parts) (λ keys. refl);
+    }))
 
 abbrev pub WordsRead : Option Files → Place → ℕ → ℕ → List ℕ → Type 0
 WordsRead held place from to words = IfSome held (λ files. (list : List ℕ) →
@@ -291,53 +284,53 @@ part_listed held place count rows part words list docs few fits read same those 
     told_map held place count rows (λ keys. words ≡ entries_of count keys part) (λ keys. AreThose (has_doc (entries_of count keys part)) docs)
     (λ keys own. subst (λ ds. AreThose (has_doc ds) docs) (same ∙ own) those) (words_are held place count rows part words few fits read)
 
-pub marks_next : (count rows : ℕ) (place : Place) (parts left rest : List Ends) (part : Ends) (first now next : Seen) (old marks new words : List ℕ)
-    → MarksStep count rows place parts left first now old marks → left ≡ part ∷ rest
+-- the documents of the entries of parts that were read
+pub parts_listed : (held : Option Files) (place : Place) (count rows : ℕ) (parts : List Ends) (words docs : List ℕ) → Told held place count rows (λ keys. words ≡ entries_in count keys parts) → AreThose (has_doc words) docs
+    → Told held place count rows (λ keys. AreThose (has_doc (entries_in count keys parts)) docs)
+parts_listed held place count rows parts words docs told those =
+    told_map held place count rows (λ keys. words ≡ entries_in count keys parts) (λ keys. AreThose (has_doc (entries_in count keys parts)) docs) (λ keys own. subst (λ ds. AreThose (has_doc ds) docs) own those) told
+
+pub entries_next : (count rows : ℕ) (place : Place) (parts left rest : List Ends) (part : Ends) (first now next : Seen) (old new words : List ℕ)
+    → EntriesStep count rows place parts left first now old → left ≡ part ∷ rest
     → OnlyReads ⊥ now next → LogsOn place.file (place.offset + 4 * (count + 1 + part.first)) (place.offset + 4 * (count + 1 + part.last)) now.log next.log
-    → WordsRead now.held place (count + 1 + part.first) (count + 1 + part.last) words → rows ≤ 1048576 → All (λ n. n < rows) words → Marked words marks new
-    → MarksStep count rows place parts rest first next old new
-marks_next count rows place parts left rest part first now next old marks new words step is reads log read few all marked =
-    let at : MarksStep count rows place parts (part ∷ rest) first now old marks = subst (λ ps. MarksStep count rows place parts ps first now old marks) is step in
+    → WordsRead now.held place (count + 1 + part.first) (count + 1 + part.last) words → rows ≤ 1048576 → All (λ n. n < rows) words → new ≡ old ++ words
+    → EntriesStep count rows place parts rest first next new
+entries_next count rows place parts left rest part first now next old new words step is reads log read few all added =
+    let at : EntriesStep count rows place parts (part ∷ rest) first now old = subst (λ ps. EntriesStep count rows place parts ps first now old) is step in
     let rise = at.rising.1 in
     let are = words_are first.held place count rows part words few rise.2 (subst (λ h. WordsRead h place (count + 1 + part.first) (count + 1 + part.last) words) at.reads.held read) in
     record {
       reads = reads_after ⊥ first now next at.reads reads;
       whole = λ last over. at.whole last (next.log, log, over);
       partly = λ last over. at.partly last (inr (next.log, log, over));
-      below = below_marked rows words marks new all at.below marked;
+      below = subst (All (λ doc. doc < rows)) (sym added) (All-append (λ doc. doc < rows) old words at.below all);
       rising = (part.last, rise.3);
-      told = told_both first.held place count rows (λ keys. (doc : ℕ) → is_marked marks doc || has_doc (entries_in count keys (part ∷ rest)) doc ≡ is_marked old doc || has_doc (entries_in count keys parts) doc)
-          (λ keys. words ≡ entries_of count keys part)
-          (λ keys. (doc : ℕ) → is_marked new doc || has_doc (entries_in count keys rest) doc ≡ is_marked old doc || has_doc (entries_in count keys parts) doc)
-          (λ keys told own doc.
-          ap (λ t. t || has_doc (entries_in count keys rest) doc) (marked doc ∙ ap (λ ws. is_marked marks doc || has_doc ws doc) own)
-          ∙ or_assoc (is_marked marks doc) (has_doc (entries_of count keys part) doc) (has_doc (entries_in count keys rest) doc)
-          ∙ ap (λ t. is_marked marks doc || t) (sym (list_any-append (nat_eq doc) (entries_of count keys part) (entries_in count keys rest)))
-          ∙ told doc)
+      told = told_both first.held place count rows (λ keys. old ++ entries_in count keys (part ∷ rest) ≡ entries_in count keys parts) (λ keys. words ≡ entries_of count keys part)
+          (λ keys. new ++ entries_in count keys rest ≡ entries_in count keys parts)
+          (λ keys told own. ap (λ ws. ws ++ entries_in count keys rest) (added ∙ ap (λ ws. old ++ ws) own) ∙ append_assoc old (entries_of count keys part) (entries_in count keys rest) ∙ told)
           at.told are;
     }
 
-pub marks_partly : (count rows : ℕ) (place : Place) (parts left rest : List Ends) (part : Ends) (first now next : Seen) (old marks : List ℕ)
-    → MarksStep count rows place parts left first now old marks → left ≡ part ∷ rest
+pub entries_partly : (count rows : ℕ) (place : Place) (parts left rest : List Ends) (part : Ends) (first now next : Seen) (words : List ℕ)
+    → EntriesStep count rows place parts left first now words → left ≡ part ∷ rest
     → LogsUpTo place.file (place.offset + 4 * (count + 1 + part.first)) (place.offset + 4 * (count + 1 + part.last)) now.log next.log
     → LogsPartly place.file (map (entries_at place.offset count) parts) first.log next.log
-marks_partly count rows place parts left rest part first now next old marks step is logs =
-    let at : MarksStep count rows place parts (part ∷ rest) first now old marks = subst (λ ps. MarksStep count rows place parts ps first now old marks) is step in
+entries_partly count rows place parts left rest part first now next words step is logs =
+    let at : EntriesStep count rows place parts (part ∷ rest) first now words = subst (λ ps. EntriesStep count rows place parts ps first now words) is step in
     at.partly next.log (inl logs)
 
-pub marks_bad : (count rows : ℕ) (place : Place) (parts left rest : List Ends) (part : Ends) (first now : Seen) (old marks : List ℕ)
-    → MarksStep count rows place parts left first now old marks → left ≡ part ∷ rest → rows ≤ 1048576
+pub entries_bad : (count rows : ℕ) (place : Place) (parts left rest : List Ends) (part : Ends) (first now : Seen) (words : List ℕ)
+    → EntriesStep count rows place parts left first now words → left ≡ part ∷ rest → rows ≤ 1048576
     → WordsBad now.held place rows (count + 1 + part.first) (count + 1 + part.last) → Told first.held place count rows (λ keys. ⊥)
-marks_bad count rows place parts left rest part first now old marks step is few bad =
-    let at : MarksStep count rows place parts (part ∷ rest) first now old marks = subst (λ ps. MarksStep count rows place parts ps first now old marks) is step in
+entries_bad count rows place parts left rest part first now words step is few bad =
+    let at : EntriesStep count rows place parts (part ∷ rest) first now words = subst (λ ps. EntriesStep count rows place parts ps first now words) is step in
     words_bad first.held place count rows part few at.rising.1.2 (subst (λ h. WordsBad h place rows (count + 1 + part.first) (count + 1 + part.last)) at.reads.held bad)
 
-pub marks_end : (count rows : ℕ) (place : Place) (parts left : List Ends) (first now : Seen) (old marks : List ℕ) → MarksStep count rows place parts left first now old marks → left ≡ []
-    → Told first.held place count rows (λ keys. Marked (entries_in count keys parts) old marks) × LogsOver place.file (map (entries_at place.offset count) parts) first.log now.log
-marks_end count rows place parts left first now old marks step is =
-    let at : MarksStep count rows place parts [] first now old marks = subst (λ ps. MarksStep count rows place parts ps first now old marks) is step in (
-      told_map first.held place count rows (λ keys. (doc : ℕ) → is_marked marks doc || has_doc (entries_in count keys []) doc ≡ is_marked old doc || has_doc (entries_in count keys parts) doc)
-          (λ keys. Marked (entries_in count keys parts) old marks) (λ keys told doc. sym (or-false (is_marked marks doc)) ∙ told doc) at.told,
+pub entries_end : (count rows : ℕ) (place : Place) (parts left : List Ends) (first now : Seen) (words : List ℕ) → EntriesStep count rows place parts left first now words → left ≡ []
+    → Told first.held place count rows (λ keys. words ≡ entries_in count keys parts) × LogsOver place.file (map (entries_at place.offset count) parts) first.log now.log
+entries_end count rows place parts left first now words step is =
+    let at : EntriesStep count rows place parts [] first now words = subst (λ ps. EntriesStep count rows place parts ps first now words) is step in (
+      told_map first.held place count rows (λ keys. words ++ entries_in count keys [] ≡ entries_in count keys parts) (λ keys. words ≡ entries_in count keys parts) (λ keys told. sym (append-nil words) ∙ told) at.told,
       at.whole now.log refl,
     )
 
@@ -358,17 +351,11 @@ parts_known count rows place runs left rest run first now end parts step is =
     let at : PartsStep count rows place runs (run ∷ rest) first now end parts = subst (λ rs. PartsStep count rows place runs rs first now end parts) is step in
     (at.after.1.1, All-head (λ r. r.last < count) run rest at.within)
 
-pub marks_known : (count rows : ℕ) (place : Place) (parts left rest : List Ends) (part : Ends) (first now : Seen) (old marks : List ℕ)
-    → MarksStep count rows place parts left first now old marks → left ≡ part ∷ rest → (part.first ≤ part.last) × (part.last ≤ rows)
-marks_known count rows place parts left rest part first now old marks step is =
-    let at : MarksStep count rows place parts (part ∷ rest) first now old marks = subst (λ ps. MarksStep count rows place parts ps first now old marks) is step in
+pub entries_known : (count rows : ℕ) (place : Place) (parts left rest : List Ends) (part : Ends) (first now : Seen) (words : List ℕ)
+    → EntriesStep count rows place parts left first now words → left ≡ part ∷ rest → (part.first ≤ part.last) × (part.last ≤ rows)
+entries_known count rows place parts left rest part first now words step is =
+    let at : EntriesStep count rows place parts (part ∷ rest) first now words = subst (λ ps. EntriesStep count rows place parts ps first now words) is step in
     (at.rising.1.1, at.rising.1.2)
-
--- nothing of parts was read
-pub entries_none : (place : Place) (count from rows : ℕ) (parts : List Ends) (log : Option (List Entry)) → Rising from rows parts → LogsPartly place.file (map (entries_at place.offset count) parts) log log
-entries_none place count from rows [] log rising = refl
-entries_none place count from rows (part ∷ parts) log rising =
-    inl (logs-none place.file (place.offset + 4 * (count + 1 + part.first)) (place.offset + 4 * (count + 1 + part.last)) log log (omega (arith, rising.1)) refl)
 
 -- ---- reads one after the other
 

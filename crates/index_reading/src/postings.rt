@@ -1,16 +1,16 @@
 //! The documents of keys in postings: the offsets of the keys are read, and then their entries.
-ghost use Rattle.std.specs.Prelude.{◌≡◌, ◌≤◌, ◌<◌, ◌+◌, ◌*◌, ℕ, List, All, IfOk, OnErr, OnOk, IfSome, IsErrOf, length, map};
+ghost use Rattle.std.specs.Prelude.{◌≡◌, ◌≤◌, ◌<◌, ◌+◌, ◌*◌, ℕ, List, All, IfOk, OnErr, IfSome, IsErrOf, length, map};
 ghost use Rattle.outside.specs.Reads.{LogsOn, LogsUpTo};
 ghost use Rattle.outside.specs.Seen.{OnlyReads, seen};
 ghost use Rattle.bit_column.specs.Sections.{section};
 ghost use Rattle.doc_lists.specs.Docs.{Apart, has_doc};
 ghost use Rattle.doc_lists.specs.Sets.{AreThose};
-ghost use Rattle.index_reading.specs.Entries.{ArePartsOf, Marked, MarkedBelow, Rising, TellsPostings, entries_at, entries_in, entries_of, offsets_of};
+ghost use Rattle.index_reading.specs.Entries.{ArePartsOf, Rising, TellsPostings, entries_at, entries_in, entries_of, offsets_of};
 ghost use Rattle.index_reading.specs.Stretches.{LogsOver, LogsPartly};
 
 use crate::ListFault;
 use crate::ends::{Ends, read_ends};
-use crate::marks::{docs_listed, docs_marked, mark_all, no_marks};
+use crate::marks::docs_of_entries;
 use crate::word_reading::read_words;
 use doc_lists::{DocList, Run};
 use outside::{Place, Shelf};
@@ -93,15 +93,11 @@ pub fn docs_of_parts<S: Shelf>(
     if let [part] = parts {
         return docs_of_part(alloc, shelf, place, count, rows, *part);
     }
-    let mut marks = match no_marks(alloc, rows) {
-        Ok(marks) => marks,
-        Err(_) => return Err(ListFault::NoMemory),
-    };
-    match mark_entries(alloc, shelf, place, count, rows, parts, &mut marks) {
-        Ok(()) => {}
+    let entries = match read_entries(alloc, shelf, place, count, rows, parts) {
+        Ok(entries) => entries,
         Err(fault) => return Err(fault),
-    }
-    match docs_marked(alloc, &marks) {
+    };
+    match docs_of_entries(alloc, rows, entries) {
         Ok(docs) => Ok(docs),
         Err(_) => Err(ListFault::NoMemory),
     }
@@ -150,41 +146,38 @@ fn docs_of_part<S: Shelf>(
         Ok(entries) => entries,
         Err(fault) => return Err(fault),
     };
-    match docs_listed(alloc, rows, entries.as_slice()) {
+    match docs_of_entries(alloc, rows, entries.into_vec()) {
         Ok(docs) => Ok(docs),
         Err(_) => Err(ListFault::NoMemory),
     }
 }
 
-// Marks the documents that are the entries of parts. Each part is read in one read, and nothing
-// else.
-fn mark_entries<S: Shelf>(
+// The entries of parts, one part after the other. Each part is read in one read, and nothing else.
+fn read_entries<S: Shelf>(
     alloc: Global,
     shelf: &mut S,
     place: &Place,
     count: u32,
     rows: u32,
     parts: &[Ends],
-    marks: &mut [u64],
-) -> Result<(), ListFault>
+) -> Result<Vec<u32>, ListFault>
     requires rising { Rising 0 rows parts.now }
     requires few { count ≤ 1048576 }
     requires rows { rows ≤ 1048576 }
-    requires room { rows ≤ 64 * length marks.old }
-    requires below { MarkedBelow rows marks.old }
-    ensures marked { OnOk result (IfSome (S.held shelf.old) (λ files. (keys : List ℕ) →
-        TellsPostings count rows (section files place.now) keys →
-        Marked (entries_in count keys parts.now) marks.old marks.new)) }
-    ensures below { OnOk result (MarkedBelow rows marks.new) }
+    ensures entries { IfOk result (λ entries. IfSome (S.held shelf.old) (λ files.
+        (keys : List ℕ) → TellsPostings count rows (section files place.now) keys →
+        entries.items ≡ entries_in count keys parts.now)) }
+    ensures below { IfOk result (λ entries. All (λ doc. doc < rows) entries.items) }
     ensures only_reads { OnlyReads (IsErrOf result ListFault.ReadFault)
         (seen S.Shelf shelf.old) (seen S.Shelf shelf.new) }
-    ensures log { OnOk result (LogsOver place.now.file
+    ensures log { IfOk result (λ _. LogsOver place.now.file
         (map (entries_at place.now.offset count) parts.now) (S.log shelf.old) (S.log shelf.new)) }
     ensures log_of_fault { OnErr result (LogsPartly place.now.file
         (map (entries_at place.now.offset count) parts.now) (S.log shelf.old) (S.log shelf.new)) }
     ensures bad { IsErrOf result ListFault.BadList → IfSome (S.held shelf.old) (λ files.
         (keys : List ℕ) → TellsPostings count rows (section files place.now) keys → ⊥) }
 {
+    let mut entries = Vec::new(alloc);
     for part in parts {
         let first = count + 1 + part.first;
         let last = count + 1 + part.last;
@@ -192,7 +185,10 @@ fn mark_entries<S: Shelf>(
             Ok(words) => words,
             Err(fault) => return Err(fault),
         };
-        mark_all(words.as_slice(), marks);
+        match entries.extend_from_slice(words.as_slice()) {
+            Ok(()) => {}
+            Err(_) => return Err(ListFault::NoMemory),
+        }
     }
-    Ok(())
+    Ok(entries)
 }

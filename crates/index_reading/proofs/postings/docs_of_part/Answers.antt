@@ -9,12 +9,12 @@ pub returns-in-Err-clause-bad : goal.returns-in-Err-clause-bad
 returns-in-Err-clause-bad g c = λ bad.
     words_bad (g.S.Shelf.held c.args.shelf.now) c.args.place.now c.args.count c.args.rows c.args.part c.requires.rows c.requires.within (c.in-Err.ensures.bad (same_fault _ _ c.in-Err.fault BadList bad))
 
-pub returns-in-Ok-docs_listed-clause-docs : goal.returns-in-Ok-docs_listed-clause-docs
-returns-in-Ok-docs_listed-clause-docs g c =
-    part_listed (g.S.Shelf.held c.args.shelf.now) c.args.place.now c.args.count c.args.rows c.args.part c.in-Ok.entries c.as_slice.result.now c.in-Ok-docs_listed.docs c.requires.rows c.requires.within c.in-Ok.ensures.words c.as_slice.ensures c.in-Ok-docs_listed.ensures.those
+pub returns-in-Ok-docs_of_entries-clause-docs : goal.returns-in-Ok-docs_of_entries-clause-docs
+returns-in-Ok-docs_of_entries-clause-docs g c =
+    part_listed (g.S.Shelf.held c.args.shelf.now) c.args.place.now c.args.count c.args.rows c.args.part c.in-Ok.entries c.into_vec.result.items c.in-Ok-docs_of_entries.docs c.requires.rows c.requires.within c.in-Ok.ensures.words c.into_vec.ensures c.in-Ok-docs_of_entries.ensures.those
 
-pub returns-clause-log_of_fault : goal.returns-clause-log_of_fault
-returns-clause-log_of_fault g c =
+pub returns-in-Err-docs_of_entries-clause-log_of_fault : goal.returns-in-Err-docs_of_entries-clause-log_of_fault
+returns-in-Err-docs_of_entries-clause-log_of_fault g c =
     let from = c.args.place.now.offset + 4 * (c.args.count + 1 + c.args.part.first) in
     let to = c.args.place.now.offset + 4 * (c.args.count + 1 + c.args.part.last) in
     logs-up c.args.place.now.file from to to (g.S.Shelf.log c.args.shelf.now) (g.S.Shelf.log c.read_words.new.shelf) (g.S.Shelf.log c.read_words.new.shelf) (le_refl to) c.in-Ok.ensures.log refl

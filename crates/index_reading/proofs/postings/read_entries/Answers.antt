@@ -1,16 +1,16 @@
-use Rattle.std.proofs.Common.{◌≡◌, ◌<◌, ◌+◌, ◌*◌, [], ◌∷◌, All, drop, get_or, length, refl, subst, sym, arith}
+use Rattle.std.proofs.Common.{◌≡◌, ◌∙◌, ◌+◌, ◌*◌, ◌++◌, [], ◌∷◌, List, ℕ, ap, drop, get_or, le_refl, refl, arith}
 use Rattle.std.proofs.lemmas.List.{drop_all, drop_more}
 use Rattle.outside.specs.Seen.{seen}
-use Rattle.index_reading.specs.Entries.{Marked}
+use Rattle.outside.proofs.ReadLemmas.{logs-up}
+use Rattle.outside.proofs.SeenLemmas.{reads_after}
 use Rattle.index_reading.specs.declared.ends.Ends.{Ends}
-use Rattle.index_reading.specs.declared.fault.ListFault.TheVariants.{BadList, ReadFault}
-use Rattle.index_reading.proofs.FaultLemmas.{reads_answer, reads_failed, reads_well, same_fault}
-use Rattle.index_reading.proofs.PostingSteps.{marks_bad, marks_end, marks_known, marks_next, marks_partly, marks_start}
-use Rattle.index_reading.proofs.postings.mark_entries.Goals as goal
+use Rattle.index_reading.specs.declared.fault.ListFault.TheVariants.{BadList, NoMemory, ReadFault}
+use Rattle.index_reading.proofs.FaultLemmas.{reads_answer, reads_failed, reads_refused, reads_well, same_fault}
+use Rattle.index_reading.proofs.PostingSteps.{entries_bad, entries_end, entries_known, entries_next, entries_partly, entries_start}
+use Rattle.index_reading.proofs.postings.read_entries.Goals as goal
 
 pub loop-part-init : goal.loop-part-init
-loop-part-init g c =
-    marks_start c.args.count c.args.rows c.args.place.now c.args.parts.now (drop 0 c.args.parts.now) (seen g.S.Shelf c.args.shelf.now) c.args.marks.now refl c.requires.rising c.requires.below
+loop-part-init g c = entries_start c.args.count c.args.rows c.args.place.now c.args.parts.now (drop 0 c.args.parts.now) (seen g.S.Shelf c.args.shelf.now) c.new-entries.result.items refl c.new-entries.ensures.items c.requires.rising
 
 pub overflow_add-first : goal.overflow_add-first
 overflow_add-first g c =
@@ -20,7 +20,7 @@ overflow_add-first g c =
     let is : drop i parts ≡ part ∷ drop (i + 1) parts = drop_more parts i (record { first = 0; last = 0 }) c.loop-part-test.true in
     let first = seen g.S.Shelf c.args.shelf.now in
     let now = seen g.S.Shelf c.loop-part.shelf in
-    let known = marks_known c.args.count c.args.rows c.args.place.now parts (drop i parts) (drop (i + 1) parts) part first now c.args.marks.now c.loop-part.marks c.loop-part.invariant is in
+    let known = entries_known c.args.count c.args.rows c.args.place.now parts (drop i parts) (drop (i + 1) parts) part first now c.loop-part.entries.items c.loop-part.invariant is in
     omega (arith, known, c.requires.few, c.requires.rows)
 
 pub overflow_add-last : goal.overflow_add-last
@@ -31,7 +31,7 @@ overflow_add-last g c =
     let is : drop i parts ≡ part ∷ drop (i + 1) parts = drop_more parts i (record { first = 0; last = 0 }) c.loop-part-test.true in
     let first = seen g.S.Shelf c.args.shelf.now in
     let now = seen g.S.Shelf c.loop-part.shelf in
-    let known = marks_known c.args.count c.args.rows c.args.place.now parts (drop i parts) (drop (i + 1) parts) part first now c.args.marks.now c.loop-part.marks c.loop-part.invariant is in
+    let known = entries_known c.args.count c.args.rows c.args.place.now parts (drop i parts) (drop (i + 1) parts) part first now c.loop-part.entries.items c.loop-part.invariant is in
     omega (arith, known, c.requires.few, c.requires.rows)
 
 pub read_words-requires : goal.read_words-requires
@@ -42,7 +42,7 @@ read_words-requires g c =
     let is : drop i parts ≡ part ∷ drop (i + 1) parts = drop_more parts i (record { first = 0; last = 0 }) c.loop-part-test.true in
     let first = seen g.S.Shelf c.args.shelf.now in
     let now = seen g.S.Shelf c.loop-part.shelf in
-    let known = marks_known c.args.count c.args.rows c.args.place.now parts (drop i parts) (drop (i + 1) parts) part first now c.args.marks.now c.loop-part.marks c.loop-part.invariant is in
+    let known = entries_known c.args.count c.args.rows c.args.place.now parts (drop i parts) (drop (i + 1) parts) part first now c.loop-part.entries.items c.loop-part.invariant is in
     omega (arith, known)
 
 pub returns-in-Err-clause-only_reads : goal.returns-in-Err-clause-only_reads
@@ -61,7 +61,7 @@ returns-in-Err-clause-log_of_fault g c =
     let first = seen g.S.Shelf c.args.shelf.now in
     let now = seen g.S.Shelf c.loop-part.shelf in
     let next = seen g.S.Shelf c.read_words.new.shelf in
-    marks_partly c.args.count c.args.rows c.args.place.now parts (drop i parts) (drop (i + 1) parts) part first now next c.args.marks.now c.loop-part.marks c.loop-part.invariant is c.in-Err.ensures.log_of_fault
+    entries_partly c.args.count c.args.rows c.args.place.now parts (drop i parts) (drop (i + 1) parts) part first now next c.loop-part.entries.items c.loop-part.invariant is c.in-Err.ensures.log_of_fault
 
 pub returns-in-Err-clause-bad : goal.returns-in-Err-clause-bad
 returns-in-Err-clause-bad g c = λ bad.
@@ -71,12 +71,29 @@ returns-in-Err-clause-bad g c = λ bad.
     let is : drop i parts ≡ part ∷ drop (i + 1) parts = drop_more parts i (record { first = 0; last = 0 }) c.loop-part-test.true in
     let first = seen g.S.Shelf c.args.shelf.now in
     let now = seen g.S.Shelf c.loop-part.shelf in
-    marks_bad c.args.count c.args.rows c.args.place.now parts (drop i parts) (drop (i + 1) parts) part first now c.args.marks.now c.loop-part.marks c.loop-part.invariant is c.requires.rows
+    entries_bad c.args.count c.args.rows c.args.place.now parts (drop i parts) (drop (i + 1) parts) part first now c.loop-part.entries.items c.loop-part.invariant is c.requires.rows
     (c.in-Err.ensures.bad (same_fault _ _ c.in-Err.fault BadList bad))
 
-pub mark_all-requires : goal.mark_all-requires
-mark_all-requires g c =
-    subst (All (λ n. n < 64 * length c.loop-part.marks)) (sym c.as_slice.ensures) (λ k d lt. let own = c.in-Ok.ensures.below k d lt in omega (arith, own, c.requires.room))
+pub returns-in-Err-extend_from_slice-clause-only_reads : goal.returns-in-Err-extend_from_slice-clause-only_reads
+returns-in-Err-extend_from_slice-clause-only_reads g c =
+    let first = seen g.S.Shelf c.args.shelf.now in
+    let now = seen g.S.Shelf c.loop-part.shelf in
+    let next = seen g.S.Shelf c.read_words.new.shelf in
+    reads_refused _ NoMemory first next tt (reads_after ⊥ first now next c.loop-part.invariant.reads (reads_well _ c.in-Ok.words ReadFault now next c.in-Ok.ensures.only_reads))
+
+pub returns-in-Err-extend_from_slice-clause-log_of_fault : goal.returns-in-Err-extend_from_slice-clause-log_of_fault
+returns-in-Err-extend_from_slice-clause-log_of_fault g c =
+    let parts = c.args.parts.now in
+    let i = c.loop-part.part-index in
+    let part : Ends = get_or parts i (record { first = 0; last = 0 }) in
+    let is : drop i parts ≡ part ∷ drop (i + 1) parts = drop_more parts i (record { first = 0; last = 0 }) c.loop-part-test.true in
+    let first = seen g.S.Shelf c.args.shelf.now in
+    let now = seen g.S.Shelf c.loop-part.shelf in
+    let next = seen g.S.Shelf c.read_words.new.shelf in
+    let from = c.args.place.now.offset + 4 * (c.args.count + 1 + part.first) in
+    let to = c.args.place.now.offset + 4 * (c.args.count + 1 + part.last) in
+    entries_partly c.args.count c.args.rows c.args.place.now parts (drop i parts) (drop (i + 1) parts) part first now next c.loop-part.entries.items c.loop-part.invariant is
+    (logs-up c.args.place.now.file from to to now.log next.log next.log (le_refl _) c.in-Ok.ensures.log refl)
 
 pub loop-part-preserved : goal.loop-part-preserved
 loop-part-preserved g c =
@@ -87,18 +104,19 @@ loop-part-preserved g c =
     let first = seen g.S.Shelf c.args.shelf.now in
     let now = seen g.S.Shelf c.loop-part.shelf in
     let next = seen g.S.Shelf c.read_words.new.shelf in
-    marks_next c.args.count c.args.rows c.args.place.now parts (drop i parts) (drop (i + 1) parts) part first now next c.args.marks.now c.loop-part.marks c.mark_all.new.marks c.in-Ok.words c.loop-part.invariant is
+    let old = c.loop-part.entries.items in
+    entries_next c.args.count c.args.rows c.args.place.now parts (drop i parts) (drop (i + 1) parts) part first now next old c.extend_from_slice.new.self.items c.in-Ok.words c.loop-part.invariant is
     (reads_well _ c.in-Ok.words ReadFault now next c.in-Ok.ensures.only_reads) c.in-Ok.ensures.log c.in-Ok.ensures.words c.requires.rows c.in-Ok.ensures.below
-    (subst (λ ws. Marked ws c.loop-part.marks c.mark_all.new.marks) c.as_slice.ensures c.mark_all.ensures)
+    (c.in-Ok-extend_from_slice.ensures.items ∙ ap (λ (ws : List ℕ). old ++ ws) c.as_slice.ensures)
 
-pub returns-clause-marked : goal.returns-clause-marked
-returns-clause-marked g c =
+pub returns-clause-entries : goal.returns-clause-entries
+returns-clause-entries g c =
     let parts = c.args.parts.now in
     let i = c.loop-part.part-index in
     let none : drop i parts ≡ [] = drop_all i parts (omega (arith, c.loop-part-test.false)) in
     let first = seen g.S.Shelf c.args.shelf.now in
     let now = seen g.S.Shelf c.loop-part.shelf in
-    (marks_end c.args.count c.args.rows c.args.place.now parts (drop i parts) first now c.args.marks.now c.loop-part.marks c.loop-part.invariant none).0
+    (entries_end c.args.count c.args.rows c.args.place.now parts (drop i parts) first now c.loop-part.entries.items c.loop-part.invariant none).0
 
 pub returns-clause-log : goal.returns-clause-log
 returns-clause-log g c =
@@ -107,8 +125,7 @@ returns-clause-log g c =
     let none : drop i parts ≡ [] = drop_all i parts (omega (arith, c.loop-part-test.false)) in
     let first = seen g.S.Shelf c.args.shelf.now in
     let now = seen g.S.Shelf c.loop-part.shelf in
-    (marks_end c.args.count c.args.rows c.args.place.now parts (drop i parts) first now c.args.marks.now c.loop-part.marks c.loop-part.invariant none).1
+    (entries_end c.args.count c.args.rows c.args.place.now parts (drop i parts) first now c.loop-part.entries.items c.loop-part.invariant none).1
 
 pub returns-clause-only_reads : goal.returns-clause-only_reads
-returns-clause-only_reads g c =
-    reads_answer (Unit {0}) tt ReadFault (seen g.S.Shelf c.args.shelf.now) (seen g.S.Shelf c.loop-part.shelf) c.loop-part.invariant.reads
+returns-clause-only_reads g c = reads_answer _ c.loop-part.entries ReadFault (seen g.S.Shelf c.args.shelf.now) (seen g.S.Shelf c.loop-part.shelf) c.loop-part.invariant.reads
