@@ -1,12 +1,11 @@
 -- Rows in order, merged one by one.
-use Rattle.std.proofs.Common.{◌≡◌, ◌≢◌, ℕ, zero, suc, ◌+◌, ◌-◌, ◌<◌, ◌≤◌, Bool, true, false, List, []}
+use Rattle.std.proofs.Common.{◌≡◌, ◌≢◌, ℕ, zero, suc, ◌+◌, ◌-◌, ◌<◌, ◌≤◌, true, List, []}
 use Rattle.std.proofs.Common.{◌∷◌, ◌++◌, map, length, take, drop, get_or, set, None, All, refl, sym, ap}
-use Rattle.std.proofs.Common.{subst, ◌∙◌, arith, ℤ, pos, length-append}
+use Rattle.std.proofs.Common.{◌∙◌, arith, ℤ, pos, length-append}
 use Rattle.std.proofs.lemmas.Cmp.{nat_list_cmp_total}
 use Rattle.std.proofs.lemmas.List.{map-append, length-map, take-append-drop, get_or-map, get_or_at}
 use Rattle.std.proofs.lemmas.List.Sorted.{IsPermutation-map, length_permutation, All-permutation}
-use Rattle.std.proofs.Math.Seq.{take-suc, take-length}
-use Rattle.std.specs.declared.cmp.Ordering.TheVariants.{Equal}
+use Rattle.std.proofs.Math.Seq.{take-suc}
 use Rattle.std.specs.Ordering.{is_lt, is_gt}
 use Rattle.std.specs.FinMap.{is_sorted}
 use Rattle.std.specs.List.Sorted.{IsPermutation, IsSortedBy}
@@ -21,7 +20,7 @@ use Rattle.agg_laws.specs.Region.{numbers_from, numbers}
 use Rattle.agg_laws.proofs.MergedLemmas.{Merged-permutation, Merged_push, total-Merged}
 use Rattle.agg_laws.proofs.MergedLemmas.{is_sorted-Merged}
 use Rattle.agg_laws.proofs.TreeLemmas.{same_dims}
-use Rattle.agg_laws.proofs.WeightLemmas.{weights-append, weights-add}
+use Rattle.agg_laws.proofs.WeightLemmas.{weights-add}
 use Rattle.agg_laws.proofs.DocLemmas.{rows_join}
 use Rattle.agg_laws.proofs.FlatNodes.{as_true, merged_fewer}
 use Rattle.agg_laws.proofs.MergeSteps.{none_above, put_at_end}
@@ -216,14 +215,15 @@ module _ (ks : List AggKind) (dims : List (List ℕ)) (metrics : List (List ℤ)
     -- it has the ids of the one before
     pub merged_more : 0 < i → key_in (get_or words (i - 1) 0) ≡ key_in (get_or words i 0)
         → (ends : Ends old (ids_at dims (row_in (get_or words (i - 1) 0))))
-        → (ends.front ++ ((ids_at dims (row_in (get_or words (i - 1) 0)),
-        merged_rows ends.states (states_at ks metrics row)) ∷ [])
+        → (ends.front ++ ((
+          ids_at dims (row_in (get_or words (i - 1) 0)),
+          merged_rows ends.states (states_at ks metrics row),
+        ) ∷ [])
         ≡ add dims_order merged_rows (ids_at dims row) (states_at ks metrics row) old)
         × (ids_at dims (row_in (get_or words (i - 1) 0)) ≡ ids_at dims row)
     merged_more some same ends =
         let ids : ids_at dims (row_in (get_or words (i - 1) 0)) ≡ ids_at dims row =
-        order.alike (i - 1) i (omega (arith, lt)) lt same ∙ ap (ids_at dims) (sym row_is) in
-        (
+        order.alike i some lt same ∙ ap (ids_at dims) (sym row_is) in (
           added_last ends.front (ids_at dims (row_in (get_or words (i - 1) 0)))
               (states_at ks metrics row) ends.states
               (ap (is_sorted dims_order) (sym ends.is) ∙ up)
@@ -261,5 +261,5 @@ module _ (ks : List AggKind) (dims : List (List ℕ)) (metrics : List (List ℤ)
             let last = ends more in
             let own = last_is last.front (ids_at dims (row_in (get_or words (i - 1) 0)), last.states)
             l last.is is in
-            other more (order.apart (i - 1) i (omega (arith, lt)) lt
+            other more (order.apart i more lt
             (ap (λ (e : Doc). e.0) (sym own) ∙ tie ∙ ap (ids_at dims) row_is))

@@ -17,7 +17,11 @@ use outside::Seq;
 use std::alloc::Global;
 
 /// What some columns have in a row, in place of what a list has.
-pub(crate) fn read_row<T: Copy>(columns: &Seq<Seq<T>>, row: usize, out: &mut Vec<T>) -> Result<(), NoMemory>
+pub(crate) fn read_row<T: Copy>(
+    columns: &Seq<Seq<T>>,
+    row: usize,
+    out: &mut Vec<T>,
+) -> Result<(), NoMemory>
     requires { All (λ c. row < length c) columns.now }
     ensures items { OnOk result (map Some out.new.items ≡ map (λ c. slice_get c row) columns.now) }
     ensures length { OnOk result (length out.new.items ≡ length columns.now) }

@@ -1,9 +1,8 @@
-use Rattle.std.proofs.Common.{◌≡◌, ◌+◌, ◌-◌, ◌<◌, ◌≤◌, ◌%◌, ◌++◌, ◌∷◌, [], List, map, take, get_or, length, refl, sym, ap, subst, ◌∙◌, arith}
+use Rattle.std.proofs.Common.{◌≡◌, ◌+◌, ◌-◌, ◌<◌, ◌≤◌, ◌%◌, ◌++◌, ◌∷◌, [], List, map, take, get_or, length, refl, ap, subst, ◌∙◌, arith}
 use Rattle.std.proofs.Math.Seq.{take-length}
 use Rattle.std.proofs.lemmas.List.{length-map}
 use Rattle.agg_laws.specs.declared.aggregate_kind.AggKind.{AggKind}
 use Rattle.agg_laws.specs.Docs.{Docs}
-use Rattle.agg_laws.specs.Merged.{weights}
 use Rattle.agg_laws.specs.Rows.{merged_rows, row_weight}
 use Rattle.agg_laws.specs.Tree.{merged_docs}
 use Rattle.star_records.specs.Columns.{row_count}
@@ -84,8 +83,10 @@ loop-at-preserved c =
             last = λ _. record {
               front = ends.front;
               states = merged_rows ends.states (states_at ks ms row);
-              is = is ∙ (λ j. ends.front ++ (((more.1 ∙ ids_next) j,
-                  merged_rows ends.states (states_at ks ms row)) ∷ []));
+              is = is ∙ (λ j. ends.front ++ ((
+                (more.1 ∙ ids_next) j,
+                merged_rows ends.states (states_at ks ms row),
+              ) ∷ []));
             };
           }
       | else-repeats+in_ok-append_row w ↦

@@ -1,5 +1,5 @@
-use Rattle.std.proofs.Common.{◌≡◌, ◌+◌, ◌≤◌, ◌++◌, ◌∷◌, [], List, length, pos, sym, ap, subst, ◌∙◌, arith}
-use Rattle.agg_laws.specs.Docs.{Doc, Docs}
+use Rattle.std.proofs.Common.{◌≡◌, ◌++◌, ◌∷◌, [], length, pos, sym, ap, subst, ◌∙◌, arith}
+use Rattle.agg_laws.specs.Docs.{Docs}
 use Rattle.agg_laws.specs.Merged.{weights}
 use Rattle.agg_laws.specs.Numbers.{AreWhole}
 use Rattle.agg_laws.specs.Rows.{merged_rows, row_of, row_weight}
