@@ -2,6 +2,7 @@ pub mod FitTests
 pub mod Fits
 pub mod ColumnLemmas
 pub mod Stable
+pub mod TreeMerging
 pub mod Arranged
 pub mod Sizes
 pub mod Built

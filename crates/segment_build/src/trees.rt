@@ -7,7 +7,8 @@ ghost use Rattle.table_schema.specs.ValidTable.{IsValidTable};
 ghost use Rattle.dictionary.specs.Coding.{AreBelow};
 ghost use Rattle.agg_laws.specs.Merged.{weights};
 ghost use Rattle.agg_laws.specs.Numbers.{most_stored};
-ghost use Rattle.agg_laws.specs.Rows.{row_weight};
+ghost use Rattle.agg_laws.specs.Rows.{merged_rows, row_weight};
+ghost use Rattle.agg_laws.specs.Tree.{merged_docs};
 ghost use Rattle.star_builder.specs.declared.fault.TreeFault.TheVariants as fault;
 ghost use Rattle.star_file.specs.Bytes.{doc_bytes, nodes_section};
 ghost use Rattle.segment_file.specs.Columns.{ids_of};
@@ -23,9 +24,9 @@ use crate::order::coded_column;
 use crate::{BuildFault, RowOrder};
 use agg_laws::StarTable;
 use outside::{Bytes, NoMemory, Seq};
-use star_builder::{TreeFault, build_tree};
+use star_builder::{TreeFault, build_merged};
 use star_file::{StarTree, write_docs, write_nodes};
-use star_records::project;
+use star_records::project_merged;
 use std::alloc::Global;
 use table_schema::{Pair, Table, TreeSetting};
 use values::Columns;
@@ -112,15 +113,16 @@ fn grow_tree(
     ensures too_large { IsErrOf result fault.TooLarge →
         ¬ TreeFits (ordered table.now.settings.sorted (rows_of columns.now)) tree.now }
 {
-    let rows = rows_of_tree(alloc, table, columns, order, tree)?;
-    match build_tree(alloc, &tree.shape, rows) {
+    let docs = merged_of_tree(alloc, table, columns, order, tree)?;
+    match build_merged(alloc, &tree.shape, docs) {
         Ok(grown) => Ok(grown),
         Err(fault) => Err(fault),
     }
 }
 
-// The rows in their order as documents of a tree.
-fn rows_of_tree(
+// The rows in their order as documents of a tree, merged. The columns of their ids and numbers are
+// let go.
+fn merged_of_tree(
     alloc: Global,
     table: &Table,
     columns: &Columns,
@@ -131,16 +133,17 @@ fn rows_of_tree(
     requires tree { IsValidTree table.now.schema.fields tree.now }
     requires columns { AreColumns table.now.schema.fields columns.now }
     requires order { Orders table.now.settings.sorted (rows_of columns.now) order.now }
-    ensures dims { IfOk result (λ rows. rows.dims ≡ tree.now.shape.dims) }
-    ensures kinds { IfOk result (λ rows. rows.kinds ≡ tree.now.shape.kinds) }
-    ensures docs { IfOk result (λ rows. rows.docs
-        ≡ documents (ordered table.now.settings.sorted (rows_of columns.now)) tree.now) }
-    ensures light { IfOk result (λ rows. weights row_weight rows.docs ≤ most_stored) }
+    ensures dims { IfOk result (λ docs. docs.dims ≡ tree.now.shape.dims) }
+    ensures kinds { IfOk result (λ docs. docs.kinds ≡ tree.now.shape.kinds) }
+    ensures docs { IfOk result (λ docs. docs.docs ≡ merged_docs merged_rows
+        (documents (ordered table.now.settings.sorted (rows_of columns.now)) tree.now)) }
+    ensures few { IfOk result (λ docs. length docs.docs ≤ most_stored) }
+    ensures light { IfOk result (λ docs. weights row_weight docs.docs ≤ most_stored) }
 {
     let dims = split_ids(alloc, table, columns, order, tree.split.as_slice())?;
     let metrics = pair_numbers(alloc, columns, order, tree.pairs.as_slice())?;
-    let rows = project(alloc, &tree.shape, &dims, &metrics)?;
-    Ok(rows)
+    let docs = project_merged(alloc, &tree.shape, &dims, &metrics)?;
+    Ok(docs)
 }
 
 // The ids of the rows in these columns.

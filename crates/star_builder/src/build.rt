@@ -4,7 +4,7 @@ ghost use Rattle.std.specs.Prelude.{◌≡◌, ◌+◌, ◌*◌, ◌<◌, ◌≤
 ghost use Rattle.agg_laws.specs.Numbers.{most_stored};
 ghost use Rattle.agg_laws.specs.Rows.{merged_rows, row_weight};
 ghost use Rattle.agg_laws.specs.Merged.{weights};
-ghost use Rattle.agg_laws.specs.Tree.{star, root_of, tree_of, CoversTree, HaveNoStar};
+ghost use Rattle.agg_laws.specs.Tree.{star, merged_docs, root_of, tree_of, CoversTree, HaveNoStar};
 ghost use Rattle.agg_laws.specs.Shares.{ShareTree};
 ghost use Rattle.agg_laws.specs.Flat.{blank, flat, tree_bytes, FlatAt};
 ghost use Rattle.star_file.specs.Rules.{most_bytes, widths};
@@ -56,6 +56,47 @@ pub fn build_tree(alloc: Global, shape: &TreeShape, rows: StarTable) -> Result<S
         });
     }
     let docs = merge_equal(rows)?;
+    grow(alloc, shape, docs)
+}
+
+/// The same, where the documents are merged already.
+pub fn build_merged(
+    alloc: Global,
+    shape: &TreeShape,
+    docs: StarTable,
+) -> Result<StarTree, TreeFault>
+    requires some_dims { 1 ≤ shape.now.dims }
+    requires few_dims { shape.now.dims ≤ 16 }
+    requires few_kinds { length shape.now.kinds ≤ 16 }
+    requires dims { docs.dims ≡ shape.now.dims }
+    requires kinds { docs.kinds ≡ shape.now.kinds }
+    requires few { length docs.docs ≤ most_stored }
+    requires light { weights row_weight docs.docs ≤ most_stored }
+    requires no_star { HaveNoStar shape.now.dims docs.docs }
+    requires merged { merged_docs merged_rows docs.docs ≡ docs.docs }
+    ensures flat { IfOk result (λ tree. (tree.nodes, tree.docs.docs)
+        ≡ flat merged_rows (tree_of merged_rows shape.now shape.now.dims docs.docs)) }
+    ensures nested { IfOk result (λ tree. FlatAt merged_rows 0 0
+        (tree_of merged_rows shape.now shape.now.dims docs.docs)
+        (tree.nodes, tree.docs.docs)) }
+    ensures covers { OnOk result (CoversTree merged_rows docs.docs
+        (tree_of merged_rows shape.now shape.now.dims docs.docs)) }
+    ensures children { OnOk result (ShareTree docs.docs
+        (tree_of merged_rows shape.now shape.now.dims docs.docs)) }
+    ensures shape { IfOk result (λ tree. (tree.docs.dims ≡ shape.now.dims)
+        × (tree.docs.kinds ≡ shape.now.kinds)) }
+    ensures fits { OnOk result (tree_bytes merged_rows (4 * shape.now.dims + widths shape.now.kinds)
+        (tree_of merged_rows shape.now shape.now.dims docs.docs) ≤ most_bytes) }
+    ensures too_large { result ≡ Err TreeFault.TooLarge → most_bytes
+        < tree_bytes merged_rows (4 * shape.now.dims + widths shape.now.kinds)
+        (tree_of merged_rows shape.now shape.now.dims docs.docs) }
+{
+    if docs.len() == 0 {
+        return Ok(StarTree {
+            docs,
+            nodes: Nodes::new(alloc),
+        });
+    }
     grow(alloc, shape, docs)
 }
 

@@ -7,7 +7,7 @@ mod groups;
 mod growth;
 mod visit;
 
-pub use build::build_tree;
+pub use build::{build_merged, build_tree};
 pub use fault::TreeFault;
 
 /// A growth was refused.

@@ -1,1 +1,3 @@
+pub mod FoldSteps
 pub mod RowLemmas
+pub mod WordSteps

@@ -2,8 +2,10 @@
 #![tactic(auto)]
 
 mod compare;
+mod fold;
 mod merging;
 mod projection;
+mod words;
 
 pub use compare::compare_dims;
 pub use merging::merge_equal;

@@ -9,13 +9,19 @@ ghost use Rattle.agg_laws.specs.Tree.{merged_docs};
 ghost use Rattle.star_records.specs.Columns.{row_count, rows_of};
 
 use crate::NoMemory;
+use crate::fold::merge_in_order;
 use crate::merging::merge_equal;
+use crate::words::words_in_order;
 use agg_laws::{StarTable, TreeShape};
 use outside::Seq;
 use std::alloc::Global;
 
 /// What some columns have in a row, in place of what a list has.
-fn read_row<T: Copy>(columns: &Seq<Seq<T>>, row: usize, out: &mut Vec<T>) -> Result<(), NoMemory>
+pub(crate) fn read_row<T: Copy>(
+    columns: &Seq<Seq<T>>,
+    row: usize,
+    out: &mut Vec<T>,
+) -> Result<(), NoMemory>
     requires { All (λ c. row < length c) columns.now }
     ensures items { OnOk result (map Some out.new.items ≡ map (λ c. slice_get c row) columns.now) }
     ensures length { OnOk result (length out.new.items ≡ length columns.now) }
@@ -62,7 +68,8 @@ pub fn project(
     Ok(table)
 }
 
-/// The documents of the rows, sorted by their ids, those of equal ids merged.
+/// The documents of the rows, sorted by their ids, those of equal ids merged. Where the ids of a row
+/// fit in a word, the rows are sorted as words, and there is one document a combination at most.
 pub fn project_merged(
     alloc: Global,
     shape: &TreeShape,
@@ -80,6 +87,12 @@ pub fn project_merged(
     ensures kinds { IfOk result (λ table. table.kinds ≡ shape.now.kinds) }
     ensures docs { IfOk result (λ table. table.docs ≡ merged_docs merged_rows (projected
         shape.now.kinds (rows_of (row_count dims.now) dims.now metrics.now))) }
+    ensures count { IfOk result (λ table. length table.docs ≤ row_count dims.now) }
+    ensures light { IfOk result (λ table. weights row_weight table.docs ≤ row_count dims.now) }
 {
-    merge_equal(project(alloc, shape, dims, metrics)?)
+    let rows = dims.at(0).len();
+    match words_in_order(alloc, dims, rows)? {
+        None => merge_equal(project(alloc, shape, dims, metrics)?),
+        Some(words) => merge_in_order(alloc, shape, dims, metrics, words.as_slice()),
+    }
 }

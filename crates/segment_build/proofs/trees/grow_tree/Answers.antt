@@ -1,25 +1,43 @@
-use Rattle.std.proofs.Common.{◌∙◌, length, sym, ap, subst, arith}
-use Rattle.agg_laws.specs.Flat.{flat}
+use Rattle.std.proofs.Common.{◌≡◌, ◌∙◌, ◌<◌, ◌≤◌, sym, ap, subst, arith}
+use Rattle.std.specs.Prelude.{OnOk}
+use Rattle.agg_laws.specs.Flat.{flat, tree_bytes}
 use Rattle.agg_laws.specs.Rows.{merged_rows}
-use Rattle.agg_laws.specs.Tree.{HaveNoStar, tree_of}
-use Rattle.segment_file.specs.Trees.{written}
-use Rattle.segment_file.proofs.TreeRows.{count_rows, tree_no_star}
+use Rattle.agg_laws.specs.Tree.{HaveNoStar, merged_docs, tree_of}
+use Rattle.star_file.specs.Reading.{doc_width}
+use Rattle.star_file.specs.Rules.{most_bytes}
+use Rattle.segment_file.specs.Trees.{documents, written}
+use Rattle.segment_file.proofs.TreeRows.{tree_no_star}
 use Rattle.segment_build.proofs.Built.{in_rows, rows_limit}
+use Rattle.segment_build.proofs.TreeMerging.{merged_again, no_star_merged, same_tree}
 use Rattle.segment_build.proofs.trees.grow_tree.Goals as goal
 
-pub build_tree-requires-clause-few : goal.build_tree-requires-clause-few
-build_tree-requires-clause-few c =
-    let os = in_rows c.args.table.now c.args.columns.now in
-    omega (arith, ap length c.in_ok-rows.ensures.docs, count_rows os c.args.tree.now os, rows_limit c.args.table.now c.args.columns.now c.requires.columns)
-
-pub build_tree-requires-clause-no_star : goal.build_tree-requires-clause-no_star
-build_tree-requires-clause-no_star c =
+pub build_merged-requires-clause-no_star : goal.build_merged-requires-clause-no_star
+build_merged-requires-clause-no_star c =
     let table = c.args.table.now in
     let tree = c.args.tree.now in
-    subst (HaveNoStar tree.shape.dims) (sym c.in_ok-rows.ensures.docs) (tree_no_star table.schema.fields (in_rows table c.args.columns.now) tree c.requires.tree (rows_limit table c.args.columns.now c.requires.columns))
+    let os = in_rows table c.args.columns.now in
+    subst (HaveNoStar tree.shape.dims) (sym c.in_ok-docs.ensures.docs) (no_star_merged tree.shape.dims (documents os tree) (tree_no_star table.schema.fields os tree c.requires.tree (rows_limit table c.args.columns.now c.requires.columns)))
+
+pub build_merged-requires-clause-merged : goal.build_merged-requires-clause-merged
+build_merged-requires-clause-merged c = merged_again c.in_ok-docs.docs.docs (documents (in_rows c.args.table.now c.args.columns.now) c.args.tree.now) c.in_ok-docs.ensures.docs
 
 pub returns-in-Ok-clause-written : goal.returns-in-Ok-clause-written
 unfolding written
 returns-in-Ok-clause-written c =
-    let shape = c.args.tree.now.shape in
-    c.in-Ok.ensures.flat ∙ ap (λ docs. flat merged_rows (tree_of merged_rows shape shape.dims docs)) c.in_ok-rows.ensures.docs
+    let tree = c.args.tree.now in
+    c.in-Ok.ensures.flat ∙ ap (flat merged_rows) (same_tree tree.shape c.in_ok-docs.docs.docs (documents (in_rows c.args.table.now c.args.columns.now) tree) c.in_ok-docs.ensures.docs)
+
+pub returns-in-Ok-clause-fits : goal.returns-in-Ok-clause-fits
+returns-in-Ok-clause-fits c =
+    let tree = c.args.tree.now in
+    let os = in_rows c.args.table.now c.args.columns.now in
+    let same = same_tree tree.shape c.in_ok-docs.docs.docs (documents os tree) c.in_ok-docs.ensures.docs in
+    record { few = subst (λ t. tree_bytes merged_rows (doc_width tree.shape) t ≤ most_bytes) same c.in-Ok.ensures.fits }
+
+pub returns-in-Err-clause-too_large : goal.returns-in-Err-clause-too_large
+returns-in-Err-clause-too_large c is fits =
+    let tree = c.args.tree.now in
+    let os = in_rows c.args.table.now c.args.columns.now in
+    let same = same_tree tree.shape c.in_ok-docs.docs.docs (documents os tree) c.in_ok-docs.ensures.docs in
+    let over = subst (λ t. most_bytes < tree_bytes merged_rows (doc_width tree.shape) t) same (c.in-Err.ensures.too_large is) in
+    omega (arith, over, fits.few)

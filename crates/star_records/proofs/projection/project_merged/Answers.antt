@@ -1,0 +1,35 @@
+use Rattle.std.proofs.Common.{length, ap, ◌∙◌, arith}
+use Rattle.std.proofs.lemmas.Result.{IfOk-weaker}
+use Rattle.agg_laws.specs.Docs.{Docs}
+use Rattle.agg_laws.specs.Merged.{weights}
+use Rattle.agg_laws.specs.Rows.{merged_rows, row_weight}
+use Rattle.agg_laws.specs.laws.Rows.{row_weight_both}
+use Rattle.agg_laws.specs.Tree.{dims_order, merged_docs}
+use Rattle.agg_laws.proofs.WeightLemmas.{weights-Merged}
+use Rattle.star_records.specs.Columns.{row_count}
+use Rattle.star_records.proofs.FoldSteps.{fewer}
+use Rattle.star_records.proofs.projection.project_merged.Goals as goal
+
+pub returns-in_ok-project-in-None-clause-light : goal.returns-in_ok-project-in-None-clause-light
+returns-in_ok-project-in-None-clause-light c =
+    let rows = c.in_ok-project-in-None.field-0.docs in
+    let less = weights-Merged row_weight dims_order merged_rows row_weight_both rows in
+    IfOk-weaker c.merge_equal.result _ _ (λ (table : Docs) is.
+    let same = ap (weights row_weight) is in
+    omega (arith, same, less, c.in_ok-project-in-None.ensures.light)) c.merge_equal.ensures.docs
+
+pub returns-in_ok-project-in-None-clause-count : goal.returns-in_ok-project-in-None-clause-count
+returns-in_ok-project-in-None-clause-count c =
+    let few = fewer c.args.shape.now.kinds c.args.dims.now c.args.metrics.now
+    (row_count c.args.dims.now) in
+    IfOk-weaker c.merge_equal.result _ _ (λ (table : Docs) is.
+    let same = ap length (is ∙ ap (merged_docs merged_rows) c.in_ok-project-in-None.ensures.docs) in
+    omega (arith, same, few)) c.merge_equal.ensures.docs
+
+pub returns-in-Some-clause-count : goal.returns-in-Some-clause-count
+returns-in-Some-clause-count c =
+    let few = fewer c.args.shape.now.kinds c.args.dims.now c.args.metrics.now
+    (row_count c.args.dims.now) in
+    IfOk-weaker c.merge_in_order.result _ _ (λ (table : Docs) is.
+    let same = ap length is in
+    omega (arith, same, few)) c.merge_in_order.ensures.docs
