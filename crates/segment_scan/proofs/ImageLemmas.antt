@@ -1,17 +1,15 @@
 -- On the image of rows, what is read of a column are the values of the rows.
-use Rattle.std.proofs.Common.{◌≡◌, ◌∙◌, ◌<◌, ◌≤◌, ◌+◌, ◌-◌, ◌^◌, ◌||◌, ◌++◌, ◌∷◌, [], ℕ, zero, suc, pos, Bool, true, false, cond, Option, Some, None, All, List, length, map, get_or, drop, take, slice_get, refl, sym, ap, subst, eq-eqb, append_assoc, arith}
-use Rattle.std.specs.Prelude.{if◌then◌else◌, option_map}
+use Rattle.std.proofs.Common.{◌≡◌, ◌∙◌, ◌<◌, ◌≤◌, ◌+◌, ◌-◌, ◌^◌, ◌||◌, ◌∷◌, [], ℕ, zero, suc, pos, Bool, true, false, Option, Some, None, All, List, length, map, get_or, slice_get, refl, sym, ap, subst, eq-eqb, arith}
+use Rattle.std.specs.Prelude.{if◌then◌else◌}
 use Rattle.std.specs.Option.{IsSome}
-use Rattle.std.specs.List.{AllZip, concat, find, list_any, range_with_len}
+use Rattle.std.specs.List.{AllZip, list_any, range_with_len}
 use Rattle.std.specs.Ordering.{match_ordering}
 use Rattle.std.specs.declared.cmp.Ordering.TheVariants as order
-use Rattle.std.proofs.Math.Seq.{drop-append_seam, take-append_seam}
 use Rattle.std.proofs.lemmas.Bool.{eqb-true, false≢true}
-use Rattle.std.proofs.lemmas.List.{length-append, length-map, length-replicate, take_all}
+use Rattle.std.proofs.lemmas.List.{length-map, length-replicate, take_all}
 use Rattle.std.proofs.lemmas.List.Elements.{All-cons, All-head, All-map, All-nil, All-tail, All-weaker}
-use Rattle.std.proofs.lemmas.List.Folds.{list_any-append}
 use Rattle.std.proofs.lemmas.List.FromFn.{get_or-map-range_with_len}
-use Rattle.outside.specs.Files.{Files, bytes_of}
+use Rattle.outside.specs.Files.{Files}
 use Rattle.values.specs.declared.value.Value.{Value}
 use Rattle.values.specs.declared.value.Value.TheVariants.{Whole}
 use Rattle.values.specs.Columns.{Counts, row_of, rows_of}
@@ -33,13 +31,13 @@ use Rattle.table_schema.specs.Conditions.{cell}
 use Rattle.segment_file.specs.declared.part.Part.{Part}
 use Rattle.segment_file.specs.declared.part.Part.TheVariants as parts
 use Rattle.segment_file.specs.declared.section.Section.{Section}
-use Rattle.segment_file.specs.Front.{Front, extents_from, extents_of, front_bytes, front_size}
+use Rattle.segment_file.specs.Front.{Front, extents_of, front_bytes, front_size}
 use Rattle.segment_file.specs.Heads.{IsHeadOf, IsLoaded, Seen, bytes_in, place_in, placed}
 use Rattle.segment_file.specs.Image.{count_of, dictionary_of, file_of_rows, front_of, ids_of, image, place_of, section_of, sections_of_rows}
 use Rattle.segment_file.specs.Image as segment
 use Rattle.segment_file.specs.Ordered.{ordered, sorted_by, value_in}
 use Rattle.segment_file.specs.Ordered as order_of
-use Rattle.segment_file.specs.Parts.{columns_of, head_sections, is_same, raw_sections, sections_of, tail_sections, trees_of}
+use Rattle.segment_file.specs.Parts.{columns_of, is_same, sections_of}
 use Rattle.segment_file.specs.Rules.{KeepsAll}
 use Rattle.segment_file.proofs.Fronts.{front_bytes_size}
 use Rattle.segment_file.proofs.ImageKeeps.{image_keeps}
@@ -52,11 +50,11 @@ use Rattle.segment_scan.specs.Forward.{HasIds, forward_in}
 use Rattle.segment_scan.specs.Images.{AreNamedLoaded, ImagesRead, LoadedAreReadable, names_in}
 use Rattle.segment_scan.specs.Named.{query_names}
 use Rattle.segment_scan.specs.Scans.{column_read, columns_read, table_read, values_read}
-use Rattle.segment_scan.proofs.AgreementLemmas.{or_left, or_right}
+use Rattle.segment_scan.proofs.AgreementLemmas.{or_right}
 
 -- ---- where the forward section of a column is
 
-forward_only : (p : Part) (c : ℕ) → is_same p (parts.Forward c) ≡ true → p ≡ parts.Forward c
+pub forward_only : (p : Part) (c : ℕ) → is_same p (parts.Forward c) ≡ true → p ≡ parts.Forward c
 forward_only parts.Table c e = absurd (false≢true e)
 forward_only parts.Head c e = absurd (false≢true e)
 forward_only parts.Bounds c e = absurd (false≢true e)

@@ -20,3 +20,5 @@ pub mod SegmentLemmas
 pub mod LogLemmas
 pub mod FaultLemmas
 pub mod ByteLemmas
+pub mod ServedRows
+pub mod LeastLemmas

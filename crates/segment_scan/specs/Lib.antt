@@ -12,3 +12,4 @@ pub mod Bytes
 pub mod Documents
 pub mod Agreement
 pub mod Images
+pub mod LeastReads
