@@ -225,7 +225,8 @@ impl Run {
             return self.given.add_segments(alloc, number(count));
         }
         if let Some(text) = line.strip_prefix("span ") {
-            return self.given.spans.push(span(alloc, text)?);
+            self.given.spans.push(span(alloc, text)?)?;
+            return Ok(());
         }
         match file_line(alloc, line)? {
             Some(file) => self.given.add(alloc, file),
