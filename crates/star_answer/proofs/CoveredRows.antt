@@ -1,6 +1,6 @@
 -- The rows that the picks of a tree cover.
-use Rattle.std.proofs.Common.{◌≡◌, ◌∙◌, ℕ, zero, suc, ◌<◌, ◌≤◌, true, MatchBool, All, ℤ, List, []}
-use Rattle.std.proofs.Common.{◌∷◌, length, get_or, map, Some, count_by, refl, sym, ap, subst, arith}
+use Rattle.std.proofs.Common.{◌≡◌, ◌∙◌, ℕ, zero, suc, ◌<◌, ◌≤◌, MatchBool, All, ℤ, List, []}
+use Rattle.std.proofs.Common.{◌∷◌, length, get_or, count_by, refl, sym, ap, subst, arith}
 use Rattle.std.specs.Prelude.{slice_get}
 use Rattle.values.specs.declared.value.Value.{Value}
 use Rattle.agg_laws.specs.declared.aggregate_kind.AggKind.{AggKind}
@@ -11,10 +11,10 @@ use Rattle.agg_laws.specs.Picks.{holds_from}
 use Rattle.agg_laws.specs.Tree.{HaveNoStar, dim, star}
 use Rattle.table_schema.specs.declared.query.Agg.{Agg}
 use Rattle.table_schema.specs.declared.query.BoundQuery.{BoundQuery}
-use Rattle.table_schema.specs.Conditions.{all_hold, cell}
+use Rattle.table_schema.specs.Conditions.{all_hold}
 use Rattle.star_walk.specs.Covering.{AreCovered, HaveValues, counts, covers, stands_for}
 use Rattle.star_answer.specs.Covered.{HaveValuesOf, IsCoveredOnce, shown_picks}
-use Rattle.star_answer.specs.Served.{AreProjected, AsksFor, IsProjected, field_of}
+use Rattle.star_answer.specs.Served.{AreProjected, AsksFor, IsProjected}
 use Rattle.star_answer.proofs.HoldLemmas.{holds_same}
 use Rattle.star_answer.proofs.ServedSteps.{have_ids, no_star}
 

@@ -18,7 +18,7 @@ ghost use Rattle.star_answer.specs.OfRows.{AsksOfRows, ColumnsOfRows, NodesOfRow
 ghost use Rattle.star_answer.specs.OfRows.{RowsAreProjected};
 ghost use Rattle.star_answer.specs.Served.{IsServed};
 
-use agg_laws::{flat_law, picks_law};
+use agg_laws::picks_law;
 use segment_file::head_tells_trees_law;
 use star_walk::walk_law;
 
@@ -45,7 +45,6 @@ pub fn served_law()
         → ¬ IsBad tree task asked (length rows) (Some files) }
 {
     walk_law();
-    flat_law();
     picks_law();
 }
 
