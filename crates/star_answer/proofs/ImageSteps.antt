@@ -9,14 +9,9 @@ use Rattle.std.proofs.lemmas.List.{get_or-map, length-map}
 use Rattle.outside.specs.Files.{Files}
 use Rattle.values.specs.declared.value.Value.{Value}
 use Rattle.agg_laws.specs.declared.aggregate_kind.AggKind.TheVariants as kinds
-use Rattle.agg_laws.specs.declared.tree_shape.TreeShape.{TreeShape}
-use Rattle.agg_laws.specs.Docs.{Doc, HaveIds}
-use Rattle.agg_laws.specs.Flat.{flat, range}
+use Rattle.agg_laws.specs.Docs.{Doc}
+use Rattle.agg_laws.specs.Flat.{range}
 use Rattle.agg_laws.specs.NodeRules.{count_at}
-use Rattle.agg_laws.specs.Picks as asks
-use Rattle.agg_laws.specs.Picks.{picks}
-use Rattle.agg_laws.specs.Rows.{merged_rows}
-use Rattle.agg_laws.specs.Tree.{HaveNoStar, tree_of}
 use Rattle.table_schema.specs.declared.query.Agg.{Agg}
 use Rattle.table_schema.specs.declared.query.BoundQuery.{BoundQuery}
 use Rattle.table_schema.specs.declared.settings.TreeSetting.{TreeSetting}

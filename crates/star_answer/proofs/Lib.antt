@@ -24,3 +24,4 @@ pub mod RowIds
 pub mod DocSteps
 pub mod BoundSteps
 pub mod FewDocs
+mod CoveredRows

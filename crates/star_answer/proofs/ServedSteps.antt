@@ -19,8 +19,7 @@ use Rattle.agg_laws.specs.declared.states.AggState.{AggState}
 use Rattle.agg_laws.specs.declared.tree_shape.TreeShape.{TreeShape}
 use Rattle.agg_laws.specs.Docs.{Doc, HaveIds, projected}
 use Rattle.agg_laws.specs.Docs as docs
-use Rattle.agg_laws.specs.Flat.{Flat, node_at, range}
-use Rattle.agg_laws.specs.FlatNodes.{IsOfTree}
+use Rattle.agg_laws.specs.Flat.{Flat, range}
 use Rattle.agg_laws.specs.Groups.{groups_of, rows_that_hold}
 use Rattle.agg_laws.specs.Merged.{join_some, total}
 use Rattle.agg_laws.specs.Picks as asks
@@ -29,7 +28,6 @@ use Rattle.agg_laws.specs.laws.Rows as rows_law
 use Rattle.agg_laws.specs.Rows.{merged_rows, row_weight}
 use Rattle.agg_laws.specs.Tree.{HaveNoStar, dim, star}
 use Rattle.agg_laws.proofs.DocLemmas.{rows_join, total-projected}
-use Rattle.agg_laws.proofs.FlatTrees.{nodes_of_tree}
 use Rattle.agg_laws.proofs.MergedLemmas.{total-filter}
 use Rattle.star_file.specs.Reading.{HasDocuments, SpellDocs, doc_width, section}
 use Rattle.star_file.proofs.DocLaws.{only}
@@ -39,7 +37,7 @@ use Rattle.star_walk.specs.Images.{AreWithin, bare, passing, read_of, shown}
 use Rattle.star_walk.specs.Joins.{joined}
 use Rattle.star_walk.specs.Walking.{tree_picks}
 use Rattle.star_walk.proofs.JoinSteps.{joined_passing, joined_within}
-use Rattle.star_walk.proofs.WithinSteps.{InDocs, tree_in}
+use Rattle.star_walk.proofs.TreePicks.{within as walked}
 use Rattle.table_schema.specs.declared.query.Agg.{Agg}
 use Rattle.table_schema.specs.declared.query.BoundQuery.{BoundQuery}
 use Rattle.table_schema.specs.Columns.{is_member}
@@ -128,14 +126,14 @@ passed_of shape counts bytes all has t k j (p ∷ ps) (ds ∷ rest) within are =
 -- ---- rows and their documents
 
 module _ (split : List ℕ) (pairs : List Agg) (values : ℕ → List Value) (ks : List AggKind) where
-  have_ids : (rows : List (List Value)) (entries : List (List ℕ × List ℤ))
+  pub have_ids : (rows : List (List Value)) (entries : List (List ℕ × List ℤ))
       → AreProjected split pairs values rows entries → HaveIds (length split) (projected ks entries)
   have_ids [] [] h = tt
   have_ids [] (e ∷ es) h = absurd h
   have_ids (row ∷ rows) [] h = absurd h
   have_ids (row ∷ rows) (e ∷ es) h = (h.0.as_many, have_ids rows es h.1)
 
-  no_star : ((d : ℕ) → d < length split → length (values d) ≤ star) → (rows : List (List Value))
+  pub no_star : ((d : ℕ) → d < length split → length (values d) ≤ star) → (rows : List (List Value))
       (entries : List (List ℕ × List ℤ)) → AreProjected split pairs values rows entries
       → HaveNoStar (length split) (projected ks entries)
   no_star few [] [] h = tt
@@ -208,18 +206,6 @@ filter_both p q (x ∷ xs) = by (p x) (q x) refl (filter_both p q xs)
 
 -- ---- the groups of the answer
 
-of_tree : (shape : TreeShape) (k : ℕ) (rows : List Doc) (at : ℕ) (f : Flat (List AggState))
-    → IsOfTree merged_rows shape k rows at f → InDocs (length f.1) f.0 (node_at f.0 at)
-of_tree shape k rows at f h =
-    let e = h.is.children_are in
-    let i = h.is.kids_in in
-    record {
-      order = h.is.docs_are.order;
-      inside = h.is.docs_are.inside;
-      total_in = h.is.total_in;
-      kids_in = omega (arith, e, i);
-    }
-
 -- the documents of the rows have ids of their own in each dimension
 module _ (query : BoundQuery) (tree : TreePart) (task : Task) (asked : Asked) (files : Files)
     (rows : List (List Value)) (s : IsServed query tree (asked_of task) asked files rows) where
@@ -254,9 +240,8 @@ module _ (query : BoundQuery) (tree : TreePart) (task : Task) (asked : Asked) (f
 
   within : AreWithin (length (flat_of tree.shape.now s.entries).1) tree.shape.now.dims
       (tree_picks (asked_of task) tree.shape.now.dims (flat_of tree.shape.now s.entries).0)
-  within = tree_in t k (length f.1) f.0 (λ at lt. of_tree tree.shape.now k own at f
-      (nodes_of_tree merged_rows rows_join tree.shape.now k own
-      (own_ids query tree task asked files rows s) (own_no_star query tree task asked files rows s) at lt))
+  within = walked t tree.shape.now k own (own_ids query tree task asked files rows s)
+      (own_no_star query tree task asked files rows s)
 
   picks_are : picks_of tree task
       ≡ tree_picks (asked_of task) tree.shape.now.dims (flat_of tree.shape.now s.entries).0

@@ -7,3 +7,4 @@ pub mod Tasks
 pub mod OfRows
 pub mod Docs
 pub mod Segments
+pub mod Covered

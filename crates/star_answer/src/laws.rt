@@ -13,11 +13,12 @@ ghost use Rattle.star_answer.specs.declared.asked.Asked.{Asked};
 ghost use Rattle.star_answer.specs.declared.tree_part.TreePart.{TreePart};
 ghost use Rattle.star_answer.specs.Answers.{Answers, IsBad, IsOverfull, IsTree, asked_of};
 ghost use Rattle.star_answer.specs.Asked.{AreAsked};
+ghost use Rattle.star_answer.specs.Covered.{RowsAreCovered, RowsKeepValues};
 ghost use Rattle.star_answer.specs.OfRows.{AsksOfRows, ColumnsOfRows, NodesOfRows};
 ghost use Rattle.star_answer.specs.OfRows.{RowsAreProjected};
 ghost use Rattle.star_answer.specs.Served.{IsServed};
 
-use agg_laws::{flat_law, picks_law};
+use agg_laws::picks_law;
 use segment_file::head_tells_trees_law;
 use star_walk::walk_law;
 
@@ -44,8 +45,18 @@ pub fn served_law()
         → ¬ IsBad tree task asked (length rows) (Some files) }
 {
     walk_law();
-    flat_law();
     picks_law();
+}
+
+/// Where a tree is of a segment's rows and a query filters and groups by its dimensions alone, each
+/// row that satisfies the filter is covered by exactly one pick of the walk, and its ids pass the
+/// pick's remaining tests. A row that does not is covered by none, or by one whose remaining tests
+/// its ids fail. On a group column the picked documents have the row's own value.
+pub fn covered_law()
+    ensures rows { RowsAreCovered }
+    ensures values { RowsKeepValues }
+{
+    star_walk::covered_law();
 }
 
 /// A tree has of each row of its segment an id for each split dimension, among the distinct values

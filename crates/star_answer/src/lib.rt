@@ -24,7 +24,7 @@ pub use asked::{Asked, GroupColumn};
 pub use asking::{group_columns, pair_numbers};
 pub use doc_laws::{docs_bound_law, docs_few_law, docs_read_law};
 pub use fault::AnswerFault;
-pub use laws::{rows_law, served_law};
+pub use laws::{covered_law, rows_law, served_law};
 pub use segment::answer_segment;
 pub use segment_fault::SegmentFault;
 pub use tasks::tree_task;

@@ -1,10 +1,8 @@
-use Rattle.std.proofs.Common.{◌≡◌, List, [], ap}
-use Rattle.agg_laws.specs.declared.states.AggState.{AggState}
-use Rattle.agg_laws.specs.Flat.{flat}
 use Rattle.agg_laws.specs.Picks.{picks}
 use Rattle.agg_laws.specs.Rows.{merged_rows}
-use Rattle.agg_laws.specs.Tree.{Nodes, none, tree_of}
+use Rattle.agg_laws.specs.Tree.{tree_of}
 use Rattle.agg_laws.specs.Docs.{projected}
+use Rattle.star_walk.proofs.TreePicks.{same}
 use Rattle.star_answer.specs.Answers.{asked_of}
 use Rattle.star_answer.proofs.ServedSteps.{own_ids, own_no_star, served_adds, served_fine, served_over}
 use Rattle.star_answer.proofs.laws.served_law.Goals as goal
@@ -23,9 +21,6 @@ returns-clause-overfull c query tree task asked files rows old ok ask of_query s
     (projected tree.shape.now.kinds s.entries)
     (own_ids query tree task asked files rows s) (own_no_star query tree task asked files rows s)) old o
 
-no_root : (tree : Nodes (List AggState)) → tree ≡ none → (flat merged_rows tree).0 ≡ []
-no_root tree e = ap (λ tree. (flat merged_rows tree).0) e
-
 pub returns-clause-never_bad : goal.returns-clause-never_bad
 returns-clause-never_bad c query tree task asked files rows ok ask s =
     let t = asked_of task in
@@ -38,8 +33,7 @@ returns-clause-never_bad c query tree task asked files rows ok ask s =
     let ns = picks merged_rows t k nodes in
     served_fine query tree task asked files rows ok ask s
     (c.walk_law.ensures.groups t shape k own ids ordinary) ns
-    (c.walk_law.ensures.nested t k nodes (flat merged_rows nodes) (no_root nodes)
-    (c.flat_law.ensures.nested shape k own ids ordinary))
+    (same t shape k own ids ordinary)
     (c.walk_law.ensures.count t shape k own ids ordinary)
     (c.picks_law.ensures.parted t shape k own ordinary)
     (c.picks_law.ensures.documents t shape k own ids ordinary)
