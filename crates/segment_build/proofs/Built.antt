@@ -66,7 +66,7 @@ still_modest sorted rows at modest = record {
   short = subst (All IsShort) (sym (same_distinct at sorted rows)) modest.short;
 }
 
-rows_most : (fields : List Field) (t : ListedColumns) → AreColumns fields t → length (rows_of t) ≤ most_values
+pub rows_most : (fields : List Field) (t : ListedColumns) → AreColumns fields t → length (rows_of t) ≤ most_values
 rows_most fields t are =
     let few = are.rows.few in
     omega (arith, few)

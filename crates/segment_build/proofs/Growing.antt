@@ -26,14 +26,10 @@ use Rattle.star_records.specs.Columns as records
 use Rattle.segment_file.specs.Columns.{ids_of, place_of, values_in}
 use Rattle.segment_file.specs.Ordered.{value_in}
 use Rattle.segment_file.specs.Trees.{TreeFits, documents, id_in, number_for, number_of, tree_row}
-use Rattle.segment_build.specs.declared.order.RowOrder.{RowOrder}
-use Rattle.segment_build.specs.Arranging.{Orders, arranged}
 use Rattle.segment_build.specs.Fitting.{AreColumns}
 use Rattle.segment_build.specs.Growing.{IsKnown, numbers_for}
-use Rattle.segment_build.proofs.Arranged.{arranged_map}
-use Rattle.segment_build.proofs.Built.{in_rows}
 use Rattle.segment_build.proofs.ColumnLemmas.{column_values}
-use Rattle.segment_build.proofs.Stable.{ids_count, ordered_count}
+use Rattle.segment_build.proofs.Stable.{ids_count}
 
 -- ---- rows by columns
 
@@ -102,29 +98,24 @@ map_same : {X : Type 0} (x : ℤ) (xs : List X) → map (λ y. x) xs ≡ replica
 map_same x [] = refl
 map_same x (y ∷ ys) = ap (λ zs. x ∷ zs) (map_same x ys)
 
-column_numbers : (table : Table) (t : ListedColumns) (o : RowOrder) (column : Option ℕ) → AreColumns table.schema.fields t → Orders table.settings.sorted (rows_of t) o → IsKnown (length t.columns) column
-    → numbers_for t o column ≡ map (λ row. option_map_or (λ c. number_of (value_in c row)) column (pos 0)) (in_rows table t)
-column_numbers table t o None are orders known =
-    let count : t.count ≡ length (in_rows table t) = sym (length-rows t.count t.columns are.counts) ∙ sym (ordered_count table.settings.sorted (rows_of t)) in
-    ap (λ n. replicate n (pos 0)) count ∙ sym (map_same (pos 0) (in_rows table t))
-column_numbers table t o (Some c) are orders known =
+column_numbers : (fields : List Field) (t : ListedColumns) (column : Option ℕ) → AreColumns fields t → IsKnown (length t.columns) column
+    → numbers_for t column ≡ map (λ row. option_map_or (λ c. number_of (value_in c row)) column (pos 0)) (rows_of t)
+column_numbers fields t None are known =
+    let count : t.count ≡ length (rows_of t) = sym (length-rows t.count t.columns are.counts) in
+    ap (λ n. replicate n (pos 0)) count ∙ sym (map_same (pos 0) (rows_of t))
+column_numbers fields t (Some c) are known =
     let none : Listed = record { are_texts = false; values = [] } in
-    let f : List Value → ℤ = λ row. number_of (value_in c row) in
     let rows : List (List Value) = rows_of t in
     let values : values_in c rows ≡ (get_or t.columns c none).values = column_values t.count t.columns c none are.counts known in
-    sym (
-    ap (map f) orders.are
-    ∙ arranged_map f [] (pos 0) o rows orders.within
-    ∙ ap (arranged (pos 0) o) (sym (map-map number_of (value_in c) rows) ∙ ap (map number_of) values)
-    )
+    sym (sym (map-map number_of (value_in c) rows) ∙ ap (map number_of) values)
 
-pub pair_columns : (table : Table) (t : ListedColumns) (o : RowOrder) (pairs : List Agg) → AreColumns table.schema.fields t → Orders table.settings.sorted (rows_of t) o → All (λ p. IsKnown (length t.columns) p.column) pairs
-    → map (λ p. numbers_for t o p.column) pairs ≡ map (λ p. map (λ row. number_for row p) (in_rows table t)) pairs
-pair_columns table t o [] are orders known = refl
-pair_columns table t o (p ∷ pairs) are orders known =
+pub pair_columns : (fields : List Field) (t : ListedColumns) (pairs : List Agg) → AreColumns fields t → All (λ p. IsKnown (length t.columns) p.column) pairs
+    → map (λ p. numbers_for t p.column) pairs ≡ map (λ p. map (λ row. number_for row p) (rows_of t)) pairs
+pair_columns fields t [] are known = refl
+pair_columns fields t (p ∷ pairs) are known =
     let K : Agg → Type 0 = λ q. IsKnown (length t.columns) q.column in
-    let here = column_numbers table t o p.column are orders (All-head K p pairs known) in
-    let more = pair_columns table t o pairs are orders (All-tail K p pairs known) in
+    let here = column_numbers fields t p.column are (All-head K p pairs known) in
+    let more = pair_columns fields t pairs are (All-tail K p pairs known) in
     (λ i. here i ∷ more i)
 
 -- ---- the columns of pairs

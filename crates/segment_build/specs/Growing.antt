@@ -9,8 +9,6 @@ use Rattle.values.specs.declared.value.Value.{Value}
 use Rattle.values.specs.Columns.{Listed, ListedColumns}
 use Rattle.table_schema.specs.declared.settings.TreeSetting.{TreeSetting}
 use Rattle.table_schema.specs.declared.table.Table.{Table}
-use Rattle.segment_build.specs.declared.order.RowOrder.{RowOrder}
-use Rattle.segment_build.specs.Arranging.{arranged}
 use Rattle.segment_file.specs.Ordered.{ordered}
 use Rattle.segment_file.specs.Trees.{TreeFits, nested, nodes_of, number_of, star_of}
 
@@ -58,7 +56,7 @@ abbrev pub IsKnown : ℕ → Option ℕ → Type 0
 IsKnown columns None = Unit {0}
 IsKnown columns (Some column) = column < columns
 
--- the numbers of a pair's column in the order of the rows, and 0 for each row where they are counted
-abbrev pub numbers_for : ListedColumns → RowOrder → Option ℕ → List ℤ
-numbers_for t order None = replicate t.count (pos 0)
-numbers_for t order (Some column) = arranged (pos 0) order (numbers_in (get_or t.columns column (record { are_texts = false; values = [] })))
+-- the numbers of a pair's column, and 0 for each row where they are counted
+abbrev pub numbers_for : ListedColumns → Option ℕ → List ℤ
+numbers_for t None = replicate t.count (pos 0)
+numbers_for t (Some column) = numbers_in (get_or t.columns column (record { are_texts = false; values = [] }))

@@ -114,7 +114,7 @@ fn sections_in(
         ⊎ ((tree : ℕ) × (result ≡ Err (BuildFault.TooLarge tree)))) }
 {
     let made = column_sections(alloc, table, columns, order)?;
-    let trees = match grow_trees(alloc, table, columns, order) {
+    let trees = match grow_trees(alloc, table, columns) {
         Ok(trees) => trees,
         Err(fault) => return Err(fault),
     };

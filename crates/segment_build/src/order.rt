@@ -4,6 +4,7 @@ ghost use Rattle.values.specs.Columns.{rows_of};
 ghost use Rattle.table_schema.specs.ValidTable.{IsValidTable};
 ghost use Rattle.dictionary.specs.Coding.{AreBelow};
 ghost use Rattle.dictionary.specs.Dictionary.{distinct};
+ghost use Rattle.segment_file.specs.Columns.{ids_of};
 ghost use Rattle.segment_build.specs.Arranging.{IsCoded, Orders, OrdersBy, arranged, places_in};
 ghost use Rattle.segment_build.specs.Fitting.{AreColumns, FitsKind};
 ghost use Rattle.segment_build.specs.Sections.{ids_in};
@@ -94,18 +95,20 @@ pub fn coded_column(
     Ok(coded)
 }
 
-/// What a list has for each row, in the order of the rows.
-pub fn in_order<T: Copy>(alloc: Global, list: &[T], order: &RowOrder) -> Result<Vec<T>, NoMemory>
-    requires { AreBelow (length list.now) (places_in order.now) }
-    ensures { IfOk result (λ v. (d : T) → v.items ≡ arranged d order.now list.now) }
+/// The ids of that column's rows as they came.
+pub fn ids_as_given(
+    alloc: Global,
+    table: &Table,
+    columns: &Columns,
+    at: usize,
+) -> Result<Vec<u32>, NoMemory>
+    requires columns { AreColumns table.now.schema.fields columns.now }
+    requires at { at < length table.now.schema.fields }
+    ensures { IfOk result (λ ids. ids.items ≡ ids_of (rows_of columns.now) at) }
 {
-    match order {
-        RowOrder::AsGiven => Vec::from_slice(alloc, list),
-        RowOrder::ByPlaces(places) => {
-            let gathered = gathered(alloc, places.as_slice(), list)?;
-            Ok(gathered)
-        }
-    }
+    let fields = table.schema.fields.as_slice();
+    let coded = coded(alloc, fields[at].kind, columns.column(at), &RowOrder::AsGiven)?;
+    Ok(coded.1)
 }
 
 // What a list has at these places.

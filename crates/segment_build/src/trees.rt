@@ -4,7 +4,6 @@ ghost use Rattle.std.specs.List.{All};
 ghost use Rattle.values.specs.Columns.{rows_of};
 ghost use Rattle.table_schema.specs.ValidSettings.{IsValidTree};
 ghost use Rattle.table_schema.specs.ValidTable.{IsValidTable};
-ghost use Rattle.dictionary.specs.Coding.{AreBelow};
 ghost use Rattle.agg_laws.specs.Merged.{weights};
 ghost use Rattle.agg_laws.specs.Numbers.{most_stored};
 ghost use Rattle.agg_laws.specs.Rows.{merged_rows, row_weight};
@@ -14,14 +13,13 @@ ghost use Rattle.star_file.specs.Bytes.{doc_bytes, nodes_section};
 ghost use Rattle.segment_file.specs.Columns.{ids_of};
 ghost use Rattle.segment_file.specs.Ordered.{ordered};
 ghost use Rattle.segment_file.specs.Trees.{TreeFits, documents, written};
-ghost use Rattle.segment_build.specs.Arranging.{Orders, places_in};
 ghost use Rattle.segment_build.specs.Fitting.{AreColumns};
 ghost use Rattle.segment_build.specs.Growing.{IsKnown, IsTooLarge, TreesFit, nodes_grown, numbers_for, stars_grown};
 ghost use Rattle.segment_build.specs.declared.fault.BuildFault.TheVariants.{NoMemory, TooLarge};
 
 use crate::numbers::{numbers_of, zeros};
-use crate::order::coded_column;
-use crate::{BuildFault, RowOrder};
+use crate::order::ids_as_given;
+use crate::BuildFault;
 use agg_laws::StarTable;
 use outside::{Bytes, NoMemory, Seq};
 use star_builder::{TreeFault, build_merged};
@@ -44,11 +42,9 @@ pub fn grow_trees(
     alloc: Global,
     table: &Table,
     columns: &Columns,
-    order: &RowOrder,
 ) -> Result<Grown, BuildFault>
     requires valid { IsValidTable table.now }
     requires columns { AreColumns table.now.schema.fields columns.now }
-    requires order { Orders table.now.settings.sorted (rows_of columns.now) order.now }
     ensures nodes { IfOk result (λ grown. grown.nodes.items ≡ nodes_grown
         (ordered table.now.settings.sorted (rows_of columns.now)) table.now.settings.trees) }
     ensures stars { IfOk result (λ grown. grown.stars.items ≡ stars_grown
@@ -65,7 +61,7 @@ pub fn grow_trees(
         stars: Vec::with_capacity(alloc, trees.len())?,
     };
     'trees: for at in 0..trees.len() {
-        let tree = match grow_tree(alloc, table, columns, order, &trees[at]) {
+        let tree = match grow_tree(alloc, table, columns, &trees[at]) {
             Ok(tree) => tree,
             Err(TreeFault::TooLarge) => return Err(BuildFault::TooLarge(at as u8)),
             Err(TreeFault::NoMemory) => return Err(BuildFault::NoMemory),
@@ -98,13 +94,11 @@ fn grow_tree(
     alloc: Global,
     table: &Table,
     columns: &Columns,
-    order: &RowOrder,
     tree: &TreeSetting,
 ) -> Result<StarTree, TreeFault>
     requires valid { IsValidTable table.now }
     requires tree { IsValidTree table.now.schema.fields tree.now }
     requires columns { AreColumns table.now.schema.fields columns.now }
-    requires order { Orders table.now.settings.sorted (rows_of columns.now) order.now }
     ensures written { IfOk result (λ grown. (grown.nodes, grown.docs.docs)
         ≡ written (ordered table.now.settings.sorted (rows_of columns.now)) tree.now) }
     ensures kinds { IfOk result (λ grown. grown.docs.kinds ≡ tree.now.shape.kinds) }
@@ -113,35 +107,33 @@ fn grow_tree(
     ensures too_large { IsErrOf result fault.TooLarge →
         ¬ TreeFits (ordered table.now.settings.sorted (rows_of columns.now)) tree.now }
 {
-    let docs = merged_of_tree(alloc, table, columns, order, tree)?;
+    let docs = merged_of_tree(alloc, table, columns, tree)?;
     match build_merged(alloc, &tree.shape, docs) {
         Ok(grown) => Ok(grown),
         Err(fault) => Err(fault),
     }
 }
 
-// The rows in their order as documents of a tree, merged. The columns of their ids and numbers are
-// let go.
+// The rows as documents of a tree, merged: the order in which they came does not matter. The columns
+// of their ids and numbers are let go.
 fn merged_of_tree(
     alloc: Global,
     table: &Table,
     columns: &Columns,
-    order: &RowOrder,
     tree: &TreeSetting,
 ) -> Result<StarTable, NoMemory>
     requires valid { IsValidTable table.now }
     requires tree { IsValidTree table.now.schema.fields tree.now }
     requires columns { AreColumns table.now.schema.fields columns.now }
-    requires order { Orders table.now.settings.sorted (rows_of columns.now) order.now }
     ensures dims { IfOk result (λ docs. docs.dims ≡ tree.now.shape.dims) }
     ensures kinds { IfOk result (λ docs. docs.kinds ≡ tree.now.shape.kinds) }
     ensures docs { IfOk result (λ docs. docs.docs ≡ merged_docs merged_rows
-        (documents (ordered table.now.settings.sorted (rows_of columns.now)) tree.now)) }
+        (documents (rows_of columns.now) tree.now)) }
     ensures few { IfOk result (λ docs. length docs.docs ≤ most_stored) }
     ensures light { IfOk result (λ docs. weights row_weight docs.docs ≤ most_stored) }
 {
-    let dims = split_ids(alloc, table, columns, order, tree.split.as_slice())?;
-    let metrics = pair_numbers(alloc, columns, order, tree.pairs.as_slice())?;
+    let dims = split_ids(alloc, table, columns, tree.split.as_slice())?;
+    let metrics = pair_numbers(alloc, columns, tree.pairs.as_slice())?;
     let docs = project_merged(alloc, &tree.shape, &dims, &metrics)?;
     Ok(docs)
 }
@@ -151,18 +143,15 @@ fn split_ids(
     alloc: Global,
     table: &Table,
     columns: &Columns,
-    order: &RowOrder,
     split: &[u16],
 ) -> Result<Seq<Seq<u32>>, NoMemory>
     requires columns { AreColumns table.now.schema.fields columns.now }
-    requires order { Orders table.now.settings.sorted (rows_of columns.now) order.now }
     requires known { All (λ column. column < length table.now.schema.fields) split.now }
-    ensures { IfOk result (λ ids. ids
-        ≡ map (ids_of (ordered table.now.settings.sorted (rows_of columns.now))) split.now) }
+    ensures { IfOk result (λ ids. ids ≡ map (ids_of (rows_of columns.now)) split.now) }
 {
     let mut all = Vec::with_capacity(alloc, split.len())?;
     for column in split {
-        let (_, ids) = coded_column(alloc, table, columns, order, *column as usize)?;
+        let ids = ids_as_given(alloc, table, columns, *column as usize)?;
         all.push(Seq::from_vec(ids))?;
     }
     Ok(Seq::from_vec(all))
@@ -172,17 +161,15 @@ fn split_ids(
 fn pair_numbers(
     alloc: Global,
     columns: &Columns,
-    order: &RowOrder,
     pairs: &[Pair],
 ) -> Result<Seq<Seq<i64>>, NoMemory>
-    requires order { AreBelow columns.now.count (places_in order.now) }
-    requires known { All (λ pair. IsKnown (length columns.now.columns) pair.column) pairs.now }
+    requires { All (λ pair. IsKnown (length columns.now.columns) pair.column) pairs.now }
     ensures { IfOk result (λ numbers. numbers
-        ≡ map (λ pair. numbers_for columns.now order.now pair.column) pairs.now) }
+        ≡ map (λ pair. numbers_for columns.now pair.column) pairs.now) }
 {
     let mut all = Vec::with_capacity(alloc, pairs.len())?;
     for pair in pairs {
-        let numbers = pair_column(alloc, columns, order, pair.column)?;
+        let numbers = pair_column(alloc, columns, pair.column)?;
         all.push(Seq::from_vec(numbers))?;
     }
     Ok(Seq::from_vec(all))
@@ -192,16 +179,14 @@ fn pair_numbers(
 fn pair_column(
     alloc: Global,
     columns: &Columns,
-    order: &RowOrder,
     column: Option<u16>,
 ) -> Result<Vec<i64>, NoMemory>
-    requires order { AreBelow columns.now.count (places_in order.now) }
-    requires known { IsKnown (length columns.now.columns) column }
+    requires { IsKnown (length columns.now.columns) column }
     ensures { IfOk result (λ numbers. numbers.items
-        ≡ numbers_for columns.now order.now column) }
+        ≡ numbers_for columns.now column) }
 {
     match column {
-        Some(column) => numbers_of(alloc, columns.column(column as usize), order),
+        Some(column) => numbers_of(alloc, columns.column(column as usize)),
         None => zeros(alloc, columns.len()),
     }
 }

@@ -1,5 +1,6 @@
 use Rattle.std.proofs.Common.{◌≡◌, ◌∙◌, ◌<◌, ◌≤◌, sym, ap, subst, arith}
 use Rattle.std.specs.Prelude.{OnOk}
+use Rattle.values.specs.Columns.{rows_of}
 use Rattle.agg_laws.specs.Flat.{flat, tree_bytes}
 use Rattle.agg_laws.specs.Rows.{merged_rows}
 use Rattle.agg_laws.specs.Tree.{HaveNoStar, merged_docs, tree_of}
@@ -8,7 +9,7 @@ use Rattle.star_file.specs.Rules.{most_bytes}
 use Rattle.segment_file.specs.Trees.{documents, written}
 use Rattle.segment_file.proofs.TreeRows.{tree_no_star}
 use Rattle.segment_build.proofs.Built.{in_rows, rows_limit}
-use Rattle.segment_build.proofs.TreeMerging.{merged_again, no_star_merged, same_tree}
+use Rattle.segment_build.proofs.TreeMerging.{docs_are, merged_again, no_star_merged, same_tree}
 use Rattle.segment_build.proofs.trees.grow_tree.Goals as goal
 
 pub build_merged-requires-clause-no_star : goal.build_merged-requires-clause-no_star
@@ -16,28 +17,28 @@ build_merged-requires-clause-no_star c =
     let table = c.args.table.now in
     let tree = c.args.tree.now in
     let os = in_rows table c.args.columns.now in
-    subst (HaveNoStar tree.shape.dims) (sym c.in_ok-docs.ensures.docs) (no_star_merged tree.shape.dims (documents os tree) (tree_no_star table.schema.fields os tree c.requires.tree (rows_limit table c.args.columns.now c.requires.columns)))
+    subst (HaveNoStar tree.shape.dims) (sym (docs_are c.args.table.now.settings.sorted (rows_of c.args.columns.now) c.args.tree.now c.in_ok-docs.docs.docs c.in_ok-docs.ensures.docs)) (no_star_merged tree.shape.dims (documents os tree) (tree_no_star table.schema.fields os tree c.requires.tree (rows_limit table c.args.columns.now c.requires.columns)))
 
 pub build_merged-requires-clause-merged : goal.build_merged-requires-clause-merged
-build_merged-requires-clause-merged c = merged_again c.in_ok-docs.docs.docs (documents (in_rows c.args.table.now c.args.columns.now) c.args.tree.now) c.in_ok-docs.ensures.docs
+build_merged-requires-clause-merged c = merged_again c.in_ok-docs.docs.docs (documents (in_rows c.args.table.now c.args.columns.now) c.args.tree.now) (docs_are c.args.table.now.settings.sorted (rows_of c.args.columns.now) c.args.tree.now c.in_ok-docs.docs.docs c.in_ok-docs.ensures.docs)
 
 pub returns-in-Ok-clause-written : goal.returns-in-Ok-clause-written
 unfolding written
 returns-in-Ok-clause-written c =
     let tree = c.args.tree.now in
-    c.in-Ok.ensures.flat ∙ ap (flat merged_rows) (same_tree tree.shape c.in_ok-docs.docs.docs (documents (in_rows c.args.table.now c.args.columns.now) tree) c.in_ok-docs.ensures.docs)
+    c.in-Ok.ensures.flat ∙ ap (flat merged_rows) (same_tree tree.shape c.in_ok-docs.docs.docs (documents (in_rows c.args.table.now c.args.columns.now) tree) (docs_are c.args.table.now.settings.sorted (rows_of c.args.columns.now) c.args.tree.now c.in_ok-docs.docs.docs c.in_ok-docs.ensures.docs))
 
 pub returns-in-Ok-clause-fits : goal.returns-in-Ok-clause-fits
 returns-in-Ok-clause-fits c =
     let tree = c.args.tree.now in
     let os = in_rows c.args.table.now c.args.columns.now in
-    let same = same_tree tree.shape c.in_ok-docs.docs.docs (documents os tree) c.in_ok-docs.ensures.docs in
+    let same = same_tree tree.shape c.in_ok-docs.docs.docs (documents os tree) (docs_are c.args.table.now.settings.sorted (rows_of c.args.columns.now) c.args.tree.now c.in_ok-docs.docs.docs c.in_ok-docs.ensures.docs) in
     record { few = subst (λ t. tree_bytes merged_rows (doc_width tree.shape) t ≤ most_bytes) same c.in-Ok.ensures.fits }
 
 pub returns-in-Err-clause-too_large : goal.returns-in-Err-clause-too_large
 returns-in-Err-clause-too_large c is fits =
     let tree = c.args.tree.now in
     let os = in_rows c.args.table.now c.args.columns.now in
-    let same = same_tree tree.shape c.in_ok-docs.docs.docs (documents os tree) c.in_ok-docs.ensures.docs in
+    let same = same_tree tree.shape c.in_ok-docs.docs.docs (documents os tree) (docs_are c.args.table.now.settings.sorted (rows_of c.args.columns.now) c.args.tree.now c.in_ok-docs.docs.docs c.in_ok-docs.ensures.docs) in
     let over = subst (λ t. most_bytes < tree_bytes merged_rows (doc_width tree.shape) t) same (c.in-Err.ensures.too_large is) in
     omega (arith, over, fits.few)

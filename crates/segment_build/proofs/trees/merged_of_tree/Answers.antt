@@ -1,6 +1,4 @@
 use Rattle.std.proofs.Common.{◌≡◌, ◌∙◌, All, length, map, refl, sym, ap, subst, arith}
-use Rattle.values.proofs.RowLemmas.{length-rows}
-use Rattle.dictionary.specs.Coding.{AreBelow}
 use Rattle.star_records.specs.Columns as records
 use Rattle.star_records.specs.Columns.{row_count}
 use Rattle.agg_laws.specs.Docs.{projected}
@@ -9,19 +7,14 @@ use Rattle.agg_laws.specs.Tree.{merged_docs}
 use Rattle.table_schema.specs.declared.query.Agg.{Agg}
 use Rattle.segment_file.specs.Columns.{ids_of}
 use Rattle.segment_file.specs.Trees.{number_for}
-use Rattle.segment_build.specs.Arranging.{places_in}
 use Rattle.segment_build.specs.Growing.{IsKnown, numbers_for}
-use Rattle.segment_build.proofs.Built.{in_rows, rows_limit}
+use Rattle.values.specs.Columns.{rows_of}
+use Rattle.segment_build.proofs.Built.{rows_most}
 use Rattle.segment_build.proofs.Growing.{dims_count, dims_long, docs_made, metrics_long, pair_columns, pairs_known}
 use Rattle.segment_build.proofs.trees.merged_of_tree.Goals as goal
 
-pub pair_numbers-requires-clause-order : goal.pair_numbers-requires-clause-order
-pair_numbers-requires-clause-order c =
-    let t = c.args.columns.now in
-    subst (λ n. AreBelow n (places_in c.args.order.now)) (length-rows t.count t.columns c.requires.columns.counts) c.requires.order.within
-
-pub pair_numbers-requires-clause-known : goal.pair_numbers-requires-clause-known
-pair_numbers-requires-clause-known c =
+pub pair_numbers-requires : goal.pair_numbers-requires
+pair_numbers-requires c =
     let table = c.args.table.now in
     let n = length c.args.columns.now.columns in
     subst (All (λ (p : Agg). IsKnown n p.column)) (sym c.as_slice-2.ensures) (pairs_known table.schema.fields n c.args.tree.now.pairs c.requires.columns.width c.requires.tree.pairs_fit)
@@ -31,7 +24,7 @@ project_merged-requires-clause-ids_long c =
     let table = c.args.table.now in
     let t = c.args.columns.now in
     let tree = c.args.tree.now in
-    let os = in_rows table t in
+    let os = rows_of t in
     let dims_are : c.in_ok-dims.dims ≡ map (ids_of os) tree.split = c.in_ok-dims.ensures ∙ ap (map (ids_of os)) c.as_slice.ensures in
     dims_long os tree.split c.in_ok-dims.dims c.requires.tree.some_split dims_are
 
@@ -40,11 +33,11 @@ project_merged-requires-clause-values_long c =
     let table = c.args.table.now in
     let t = c.args.columns.now in
     let tree = c.args.tree.now in
-    let os = in_rows table t in
+    let os = rows_of t in
     let dims_are : c.in_ok-dims.dims ≡ map (ids_of os) tree.split = c.in_ok-dims.ensures ∙ ap (map (ids_of os)) c.as_slice.ensures in
     let known = pairs_known table.schema.fields (length t.columns) tree.pairs c.requires.columns.width c.requires.tree.pairs_fit in
     let metrics_are : c.in_ok-metrics.metrics ≡ map (λ p. map (λ row. number_for row p) os) tree.pairs =
-    c.in_ok-metrics.ensures ∙ ap (map (λ p. numbers_for t c.args.order.now p.column)) c.as_slice-2.ensures ∙ pair_columns table t c.args.order.now tree.pairs c.requires.columns c.requires.order known in
+    c.in_ok-metrics.ensures ∙ ap (map (λ p. numbers_for t p.column)) c.as_slice-2.ensures ∙ pair_columns table.schema.fields t tree.pairs c.requires.columns known in
     metrics_long os tree.pairs c.in_ok-metrics.metrics (row_count c.in_ok-dims.dims) (dims_count os tree.split c.in_ok-dims.dims c.requires.tree.some_split dims_are) metrics_are
 
 pub returns-clause-docs : goal.returns-clause-docs
@@ -52,11 +45,11 @@ returns-clause-docs c =
     let table = c.args.table.now in
     let t = c.args.columns.now in
     let tree = c.args.tree.now in
-    let os = in_rows table t in
+    let os = rows_of t in
     let dims_are : c.in_ok-dims.dims ≡ map (ids_of os) tree.split = c.in_ok-dims.ensures ∙ ap (map (ids_of os)) c.as_slice.ensures in
     let known = pairs_known table.schema.fields (length t.columns) tree.pairs c.requires.columns.width c.requires.tree.pairs_fit in
     let metrics_are : c.in_ok-metrics.metrics ≡ map (λ p. map (λ row. number_for row p) os) tree.pairs =
-    c.in_ok-metrics.ensures ∙ ap (map (λ p. numbers_for t c.args.order.now p.column)) c.as_slice-2.ensures ∙ pair_columns table t c.args.order.now tree.pairs c.requires.columns c.requires.order known in
+    c.in_ok-metrics.ensures ∙ ap (map (λ p. numbers_for t p.column)) c.as_slice-2.ensures ∙ pair_columns table.schema.fields t tree.pairs c.requires.columns known in
     let rows = projected tree.shape.kinds (records.rows_of (row_count c.in_ok-dims.dims) c.in_ok-dims.dims c.in_ok-metrics.metrics) in
     c.in_ok-docs.ensures.docs ∙ ap (merged_docs merged_rows) (docs_made os tree c.in_ok-dims.dims c.in_ok-metrics.metrics rows c.requires.tree.some_split dims_are metrics_are refl)
 
@@ -65,24 +58,24 @@ returns-clause-light c =
     let table = c.args.table.now in
     let t = c.args.columns.now in
     let tree = c.args.tree.now in
-    let os = in_rows table t in
+    let os = rows_of t in
     let dims_are : c.in_ok-dims.dims ≡ map (ids_of os) tree.split = c.in_ok-dims.ensures ∙ ap (map (ids_of os)) c.as_slice.ensures in
-    omega (arith, c.in_ok-docs.ensures.light, dims_count os tree.split c.in_ok-dims.dims c.requires.tree.some_split dims_are, rows_limit table t c.requires.columns)
+    omega (arith, c.in_ok-docs.ensures.light, dims_count os tree.split c.in_ok-dims.dims c.requires.tree.some_split dims_are, rows_most table.schema.fields t c.requires.columns)
 
 pub returns-clause-few : goal.returns-clause-few
 returns-clause-few c =
     let table = c.args.table.now in
     let t = c.args.columns.now in
     let tree = c.args.tree.now in
-    let os = in_rows table t in
+    let os = rows_of t in
     let dims_are : c.in_ok-dims.dims ≡ map (ids_of os) tree.split = c.in_ok-dims.ensures ∙ ap (map (ids_of os)) c.as_slice.ensures in
-    omega (arith, c.in_ok-docs.ensures.count, dims_count os tree.split c.in_ok-dims.dims c.requires.tree.some_split dims_are, rows_limit table t c.requires.columns)
+    omega (arith, c.in_ok-docs.ensures.count, dims_count os tree.split c.in_ok-dims.dims c.requires.tree.some_split dims_are, rows_most table.schema.fields t c.requires.columns)
 
 pub project_merged-requires-clause-few : goal.project_merged-requires-clause-few
 project_merged-requires-clause-few c =
     let table = c.args.table.now in
     let t = c.args.columns.now in
     let tree = c.args.tree.now in
-    let os = in_rows table t in
+    let os = rows_of t in
     let dims_are : c.in_ok-dims.dims ≡ map (ids_of os) tree.split = c.in_ok-dims.ensures ∙ ap (map (ids_of os)) c.as_slice.ensures in
-    omega (arith, dims_count os tree.split c.in_ok-dims.dims c.requires.tree.some_split dims_are, rows_limit table t c.requires.columns)
+    omega (arith, dims_count os tree.split c.in_ok-dims.dims c.requires.tree.some_split dims_are, rows_most table.schema.fields t c.requires.columns)
