@@ -1,6 +1,6 @@
 -- What is read of the head of an image's file gives no byte of what comes after it.
-use Rattle.std.proofs.Common.{◌≡◌, ◌≢◌, ◌∙◌, ◌+◌, ◌*◌, ◌-◌, ◌<◌, ◌≤◌, ◌++◌, [], ◌∷◌, ℕ, zero, suc, Bool, true, false, List, All, Option, Some, None, IfSome, inl, inr, length, map, sum, take, get_or, slice_get, refl, sym, ap, subst, arith}
-use Rattle.std.specs.List.{concat, list_all, range_with_len}
+use Rattle.std.proofs.Common.{◌≡◌, ◌∙◌, ◌+◌, ◌*◌, ◌<◌, ◌≤◌, ◌++◌, [], ◌∷◌, ℕ, zero, suc, Bool, true, List, All, Option, Some, None, IfSome, inl, inr, length, map, sum, take, get_or, slice_get, refl, sym, ap, subst, arith}
+use Rattle.std.specs.List.{list_all}
 use Rattle.std.specs.Option.{option_map_or}
 use Rattle.std.proofs.Math.ListN.{get_or-map}
 use Rattle.std.proofs.lemmas.Bool.{ltb-true}
@@ -8,10 +8,9 @@ use Rattle.std.proofs.lemmas.List.{get_or_append_left, get_or-append-add, length
 use Rattle.std.proofs.lemmas.List.FromFn.{get_or-map-range_with_len, length-range_with_len}
 use Rattle.std.proofs.lemmas.List.Sums.{sum_by-cons}
 use Rattle.outside.specs.Files.{Files, bytes_of}
-use Rattle.outside.specs.Reads.{Entry, LogsUpTo, read_in}
+use Rattle.outside.specs.Reads.{Entry, LogsUpTo}
 use Rattle.outside.proofs.ReadLemmas.{read_in-append}
 use Rattle.values.specs.declared.value.Value.{Value}
-use Rattle.dictionary.specs.Dictionary.{most_values}
 use Rattle.table_schema.specs.declared.query.BoundQuery.{BoundQuery}
 use Rattle.table_schema.specs.declared.settings.TreeSetting.{TreeSetting}
 use Rattle.table_schema.specs.declared.table.Table.{Table}
@@ -34,11 +33,11 @@ use Rattle.segment_file.proofs.RuleLaws.{fronts_one}
 use Rattle.segment_file.proofs.TreeChecks.{valid_at}
 use Rattle.segment_plan.specs.declared.plans.SegmentPlan.{SegmentPlan}
 use Rattle.segment_plan.specs.declared.plans.SegmentPlan.TheVariants.{Pruned, Empty, StarTree, Scan}
-use Rattle.segment_plan.specs.Planned.{factors_over, plan_over}
+use Rattle.segment_plan.specs.Planned.{plan_over}
 use Rattle.star_file.specs.Reading.{doc_width}
-use Rattle.star_answer.specs.Docs.{DocsAreBounded, docs_read, product}
+use Rattle.star_answer.specs.Docs.{docs_read}
 use Rattle.query_executor.specs.Logs.{EndsBy, IsHeadRead, LogsThat}
-use Rattle.query_executor.specs.Reads.{AreBytes, ReadsBy, ReadsNone, ReadsPlanned, ReadsScan, ReadsTree, bytes_read, forward_span, raw_span, star_span}
+use Rattle.query_executor.specs.Reads.{AreBytes, ReadsBy, ReadsPlanned, bytes_read, forward_span, raw_span, star_span}
 use Rattle.query_executor.specs.Segments.{HasImage}
 use Rattle.query_executor.proofs.HeadLemmas.{if_some, section_at}
 use Rattle.query_executor.proofs.LogLemmas.{entries_none, entries_then, fewer_summed, through_ends}

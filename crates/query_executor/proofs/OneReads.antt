@@ -1,5 +1,5 @@
 -- What is read of the file of a segment, where files are told or not.
-use Rattle.std.proofs.Common.{◌≡◌, ◌∙◌, ◌<◌, ◌++◌, ◌⊎◌, [], ℕ, Bool, true, false, List, All, Option, Some, None, IfSome, Result, Ok, Err, inl, inr, length, map, option_map, slice_get, refl, sym, ap, subst, arith}
+use Rattle.std.proofs.Common.{◌≡◌, ◌∙◌, ◌<◌, ◌++◌, ◌⊎◌, [], ℕ, Bool, true, false, List, All, Option, Some, None, IfSome, Result, Ok, Err, inl, inr, length, sym, subst, arith}
 use Rattle.std.proofs.lemmas.List.Elements.{All-append}
 use Rattle.std.specs.Prelude.{OnErr}
 use Rattle.outside.specs.Files.{Files}
@@ -8,7 +8,6 @@ use Rattle.values.specs.declared.value.Value.{Value}
 use Rattle.table_schema.specs.declared.query.BoundQuery.{BoundQuery}
 use Rattle.table_schema.specs.declared.table.Table.{Table}
 use Rattle.table_schema.specs.ValidTable.{IsValidTable}
-use Rattle.segment_file.specs.Front.{head_end}
 use Rattle.segment_file.specs.Heads.{AreIn, IsHeadOf, Seen}
 use Rattle.segment_file.specs.Image.{front_of}
 use Rattle.segment_file.specs.Names.{IsSegmentName, file_of}
@@ -27,7 +26,7 @@ use Rattle.query_executor.specs.Segments.{HasImage}
 use Rattle.query_executor.specs.Steps.{IsDoneIn, IsHeadIn, IsSpreadIn}
 use Rattle.query_executor.proofs.GrownLemmas.{grown_so, grown_that, grown_then}
 use Rattle.query_executor.proofs.HeadReads.{ends_at, head_raw, head_star, opened_entry, planned_after, sizes_each}
-use Rattle.query_executor.proofs.LogLemmas.{all_within, entries_as, entries_then, same_log}
+use Rattle.query_executor.proofs.LogLemmas.{all_within, entries_as, same_log}
 use Rattle.query_executor.proofs.ScanLogs.{at_place}
 use Rattle.query_executor.proofs.ScanReads.{image_scan, image_scan_partly}
 use Rattle.query_executor.proofs.SpanLemmas.{planned_less}

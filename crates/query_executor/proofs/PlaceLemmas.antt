@@ -1,5 +1,5 @@
 -- Where the sections of an image are: those of the head before the rows, and the documents of each star-tree after them.
-use Rattle.std.proofs.Common.{◌≡◌, ◌≢◌, ◌∙◌, ◌+◌, ◌-◌, ◌<◌, ◌≤◌, ◌==◌, ◌&&◌, ◌||◌, ◌++◌, [], ◌∷◌, ℕ, zero, suc, Bool, true, false, cond, List, Option, Some, None, IfSome, length, map, sum, take, get_or, slice_get, refl, sym, ap, subst, arith, append_assoc, eq-eqb}
+use Rattle.std.proofs.Common.{◌≡◌, ◌∙◌, ◌+◌, ◌-◌, ◌<◌, ◌≤◌, ◌==◌, ◌||◌, ◌++◌, [], ◌∷◌, ℕ, zero, suc, Bool, true, false, cond, List, Some, length, map, sum, take, get_or, refl, sym, ap, arith, append_assoc, eq-eqb}
 use Rattle.std.specs.Prelude.{option_map, option_to_list}
 use Rattle.std.specs.List.{find, list_any, range_with_len}
 use Rattle.std.proofs.lemmas.Bool.{eqb-true, false≢true}
@@ -14,7 +14,7 @@ use Rattle.segment_file.specs.declared.part.Part.TheVariants as parts
 use Rattle.segment_file.specs.Front.{Front, extents_from, extents_of, front_size}
 use Rattle.segment_file.specs.Heads.{place_in, placed}
 use Rattle.query_executor.specs.Reads.{span_of}
-use Rattle.segment_file.specs.Parts.{columns_of, head_sections, is_same, marked, raw_sections, sections_of, tail_sections, trees_of}
+use Rattle.segment_file.specs.Parts.{columns_of, head_sections, is_same, marked, raw_sections, sections_of, trees_of}
 
 -- the place of a part after others, of which none is the same
 place_after : (file : List ℕ) (t : ℕ) (offset : ℕ) (before after : List Part) (sizes : List ℕ) → list_any (λ p. is_same p (parts.Star t)) before ≡ false → length sizes ≡ length (before ++ parts.Star t ∷ after)

@@ -1,5 +1,5 @@
 -- Where the parts of a segment's file are, and how many bytes of them reads gave.
-use Rattle.std.proofs.Common.{◌≡◌, ◌≢◌, ◌∙◌, ◌+◌, ◌*◌, ◌-◌, ◌<◌, ◌≤◌, ◌++◌, ◌⊎◌, [], ◌∷◌, ℕ, Bool, true, false, List, All, Option, Some, None, IfSome, inl, inr, length, map, option_map, slice_get, refl, sym, ap, subst, arith}
+use Rattle.std.proofs.Common.{◌≡◌, ◌≢◌, ◌∙◌, ◌+◌, ◌*◌, ◌-◌, ◌≤◌, ◌++◌, ◌⊎◌, [], ◌∷◌, ℕ, Bool, true, false, List, All, Option, Some, None, IfSome, inl, inr, length, map, option_map, slice_get, refl, sym, ap, subst, arith}
 use Rattle.std.proofs.lemmas.List.Elements.{All-append, All-head, All-nil, All-tail}
 use Rattle.std.proofs.Math.Nat.{mul-sub}
 use Rattle.std.specs.List.{AllByRecursion}
@@ -25,7 +25,7 @@ use Rattle.star_answer.specs.Answers.{stretch_of}
 use Rattle.star_answer.specs.Docs.{DocsAreBounded, docs_read, product}
 use Rattle.star_answer.specs.Segments.{IsInside}
 use Rattle.query_executor.specs.Logs.{EndsBy}
-use Rattle.query_executor.specs.Reads.{AreBytes, ReadsBy, ReadsNone, ReadsPlanned, ReadsScan, ReadsTree, bytes_read, forward_span, raw_span, star_span}
+use Rattle.query_executor.specs.Reads.{AreBytes, ReadsBy, ReadsPlanned, ReadsScan, bytes_read, forward_span, raw_span, star_span}
 use Rattle.query_executor.proofs.GrownLemmas.{IsOfFile}
 use Rattle.query_executor.proofs.LogLemmas.{join_logs, of_file, same_log}
 

@@ -1,27 +1,24 @@
 -- What is read of a segment's file for an answer from a star-tree.
-use Rattle.std.proofs.Common.{◌≡◌, ◌∙◌, ◌+◌, ◌<◌, ◌≤◌, ℕ, true, List, [], ◌∷◌, Option, Some, None, IfSome, inl, inr, length, get_or, slice_get, refl, sym, ap, subst, arith}
+use Rattle.std.proofs.Common.{◌≡◌, ◌+◌, ◌<◌, ◌≤◌, ℕ, true, List, [], ◌∷◌, Option, Some, None, IfSome, inl, inr, length, get_or, slice_get, refl, sym, subst, arith}
 use Rattle.std.specs.List.{list_all}
 use Rattle.std.specs.Option.{option_map_or}
 use Rattle.std.proofs.lemmas.Bool.{ltb-true}
 use Rattle.std.proofs.lemmas.Option.{get_or_from_slice_get}
 use Rattle.outside.specs.Files.{Files}
 use Rattle.outside.specs.Reads.{Entry, LogsUpTo}
-use Rattle.outside.specs.declared.place.Place.{Place}
 use Rattle.index_reading.specs.Stretches.{LogsOver, LogsPartly, Stretch}
-use Rattle.table_schema.specs.declared.field.Field.{Field}
 use Rattle.table_schema.specs.declared.query.BoundQuery.{BoundQuery}
 use Rattle.table_schema.specs.declared.settings.TreeSetting.{TreeSetting}
 use Rattle.table_schema.specs.declared.table.Table.{Table}
 use Rattle.table_schema.specs.ValidSettings.{is_number_of}
 use Rattle.table_schema.specs.ValidTable.{IsValidTable}
-use Rattle.segment_file.specs.declared.part.Part.{Part}
 use Rattle.segment_file.specs.declared.part.Part.TheVariants.{Star}
 use Rattle.segment_file.specs.declared.section.Section.{Section}
 use Rattle.segment_file.specs.Heads.{AreIn, IsHeadOf, LogsCount, LogsCounts, LogsTree, Seen, place_in, split_of}
 use Rattle.segment_file.specs.Parts.{sections_of}
 use Rattle.segment_file.proofs.Composed.{made_count}
 use Rattle.segment_file.proofs.TreeChecks.{valid_at}
-use Rattle.star_answer.specs.Segments.{LogsAnswer, LogsAnswerPartly, LogsDocs, LogsSomeDocs}
+use Rattle.star_answer.specs.Segments.{LogsAnswer, LogsAnswerPartly, LogsDocs}
 use Rattle.query_executor.specs.Logs.{LogsIn}
 use Rattle.query_executor.proofs.HeadLemmas.{if_some, section_at}
 use Rattle.query_executor.proofs.LogLemmas.{logs_none, logs_then, logs_through}

@@ -1,5 +1,5 @@
 -- What is read of the file of an image by the plan of its rows.
-use Rattle.std.proofs.Common.{◌≡◌, ◌≢◌, ◌∙◌, ◌+◌, ◌*◌, ◌<◌, ◌≤◌, ◌++◌, ◌⊎◌, [], ℕ, Bool, true, false, nat_lt, List, All, Option, Some, None, IfSome, inl, inr, length, map, option_map, slice_get, refl, sym, ap, subst, arith, append-nil}
+use Rattle.std.proofs.Common.{◌≡◌, ◌≢◌, ◌∙◌, ◌+◌, ◌*◌, ◌<◌, ◌≤◌, ◌⊎◌, [], ℕ, Bool, true, false, nat_lt, List, All, Option, Some, None, IfSome, inl, inr, length, map, slice_get, refl, sym, ap, subst, arith, append-nil}
 use Rattle.std.specs.List.{AllByRecursion}
 use Rattle.std.proofs.lemmas.Bool.{ltb-false, ltb-true}
 use Rattle.outside.specs.Files.{Files}
@@ -7,16 +7,16 @@ use Rattle.outside.specs.Reads.{Entry, read_in}
 use Rattle.outside.specs.declared.place.Place.{Place}
 use Rattle.values.specs.declared.value.Value.{Value}
 use Rattle.dictionary.specs.Dictionary.{most_values}
-use Rattle.index_reading.specs.Stretches.{LogsOver, LogsPartly, Stretch}
+use Rattle.index_reading.specs.Stretches.{LogsOver, LogsPartly}
 use Rattle.table_schema.specs.declared.query.BoundQuery.{BoundQuery}
 use Rattle.table_schema.specs.declared.settings.TreeSetting.{TreeSetting}
 use Rattle.table_schema.specs.declared.table.Table.{Table}
 use Rattle.table_schema.specs.ValidTable.{IsValidTable}
 use Rattle.segment_file.specs.declared.part.Part.TheVariants as parts
 use Rattle.segment_file.specs.Front.{extents_of}
-use Rattle.segment_file.specs.Heads.{AreIn, IsHeadOf, LogsTree, Seen, place_in, placed}
+use Rattle.segment_file.specs.Heads.{IsHeadOf, LogsTree, Seen, place_in, placed}
 use Rattle.segment_file.specs.Image.{front_of}
-use Rattle.segment_file.specs.Names.{IsSegmentName, file_of}
+use Rattle.segment_file.specs.Names.{file_of}
 use Rattle.segment_file.specs.Ordered.{ordered}
 use Rattle.segment_file.specs.Parts.{head_sections, raw_sections, sections_of}
 use Rattle.segment_file.specs.Stored.{IsOfImage}
@@ -24,25 +24,21 @@ use Rattle.segment_file.specs.Trees.{nodes_of}
 use Rattle.segment_file.proofs.Composed.{made_count}
 use Rattle.segment_file.proofs.ImageRows.{ordered_count}
 use Rattle.segment_file.proofs.ImageTrees.{image_tree}
-use Rattle.segment_plan.specs.declared.plans.SegmentPlan.{SegmentPlan}
-use Rattle.segment_plan.specs.declared.plans.SegmentPlan.TheVariants.{Pruned, Empty, StarTree, Scan}
-use Rattle.segment_plan.specs.declared.plans.ScanPlan.{ScanPlan}
+use Rattle.segment_plan.specs.declared.plans.SegmentPlan.TheVariants.{StarTree}
 use Rattle.segment_plan.specs.Planned.{factors_over, plan_over}
 use Rattle.star_file.specs.Reading.{doc_width}
 use Rattle.star_walk.specs.declared.pick.Pick.{Pick}
 use Rattle.star_walk.specs.Images.{read_of}
-use Rattle.star_answer.specs.Answers.{stretch_of}
 use Rattle.star_answer.specs.Docs.{DocsAreBounded, docs_read, product}
-use Rattle.star_answer.specs.Segments.{IsInside, LogsAnswer, LogsAnswerPartly, LogsDocs, LogsSomeDocs, stretches_in}
-use Rattle.query_executor.specs.Logs.{DictionariesEnd, EndsBy, LogsHeadOf, LogsIn, LogsThat}
-use Rattle.query_executor.specs.Reads.{AreBytes, Grown, LogsOne, ReadsBy, ReadsPlanned, ReadsTree, bytes_read, raw_span, star_span}
+use Rattle.star_answer.specs.Segments.{IsInside, LogsAnswer, LogsAnswerPartly, LogsDocs, stretches_in}
+use Rattle.query_executor.specs.Logs.{EndsBy, LogsThat}
+use Rattle.query_executor.specs.Reads.{AreBytes, Grown, ReadsBy, ReadsPlanned, ReadsTree, bytes_read, raw_span, star_span}
 use Rattle.query_executor.specs.Segments.{HasImage}
-use Rattle.query_executor.specs.Steps.{IsDoneIn, IsHeadIn, IsSpreadIn}
 use Rattle.query_executor.proofs.GrownLemmas.{grown_so, grown_that, grown_then}
 use Rattle.query_executor.proofs.HeadReads.{ends_at, planned_after, sizes_each, tree_ends}
-use Rattle.query_executor.proofs.LogLemmas.{all_within, fewer_summed}
+use Rattle.query_executor.proofs.LogLemmas.{fewer_summed}
 use Rattle.query_executor.proofs.PlaceLemmas.{star_place}
-use Rattle.query_executor.proofs.SpanLemmas.{over_read, overlaps, partly_read, picks_apart, picks_within, planned_less, planned_nothing}
+use Rattle.query_executor.proofs.SpanLemmas.{over_read, overlaps, partly_read, picks_apart, picks_within, planned_nothing}
 
 -- ---- the documents of a tree
 

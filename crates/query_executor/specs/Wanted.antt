@@ -1,5 +1,5 @@
 -- Of which columns of a segment the values are wanted for a query.
-use Rattle.std.specs.Prelude.{◌≡◌, ℕ, ◌+◌, Bool, false, ◌==◌, ◌&&◌, ◌||◌, List, [], ◌∷◌, Option, None, Some, IfSome, slice_get, if◌then◌else◌}
+use Rattle.std.specs.Prelude.{ℕ, ◌+◌, Bool, false, ◌==◌, ◌&&◌, ◌||◌, List, [], ◌∷◌, Option, None, Some, IfSome, slice_get, if◌then◌else◌}
 use Rattle.agg_laws.specs.declared.tree_shape.TreeShape.{TreeShape}
 use Rattle.agg_laws.specs.Tree.{skips}
 use Rattle.table_schema.specs.declared.query.BoundQuery.{BoundQuery}

@@ -5,6 +5,7 @@
 mod executor;
 mod explain;
 mod fault;
+mod laws;
 mod loading;
 mod opening;
 mod pass;
@@ -17,4 +18,5 @@ mod wanted;
 pub use executor::reply_to_query;
 pub use explain::explain_query;
 pub use fault::ExecutorFault;
+pub use laws::docs_law;
 pub use stats::stats_query;

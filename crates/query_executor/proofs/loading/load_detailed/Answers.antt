@@ -1,4 +1,4 @@
-use Rattle.std.proofs.Common.{◌≡◌, ◌∙◌, false, get_or, ap, arith}
+use Rattle.std.proofs.Common.{◌∙◌, false, get_or, ap, arith}
 use Rattle.segment_plan.specs.Matched.{AreLoaded}
 use Rattle.query_executor.specs.Wanted.{AreFactorsLoaded}
 use Rattle.query_executor.proofs.NamedLemmas.{AreMarkedLoaded, factors_detailed, filtered_detailed}

@@ -1,4 +1,4 @@
-use Rattle.std.proofs.Common.{◌≡◌, ◌∙◌, ◌+◌, ◌*◌, ◌-◌, ◌<◌, [], ℕ, true, false, List, Option, Some, None, IfSome, Err, length, get_or, refl, sym, ap, subst, arith}
+use Rattle.std.proofs.Common.{◌≡◌, ◌∙◌, ◌+◌, ◌*◌, ◌-◌, ◌<◌, [], ℕ, true, false, List, IfSome, Err, length, get_or, refl, sym, ap, subst, arith}
 use Rattle.outside.specs.Seen.{Seen, seen}
 use Rattle.agg_laws.specs.Numbers.{most_values}
 use Rattle.segment_file.specs.Names.{file_of}
@@ -10,7 +10,7 @@ use Rattle.scan_engine.specs.Scanned.{HaveAtMost}
 use Rattle.scan_engine.proofs.AddLemmas.{at_most_more}
 use Rattle.sql_reply.proofs.GroupLemmas.{none_fit}
 use Rattle.query_executor.specs.Logs.{IsFileOf}
-use Rattle.query_executor.specs.Segments.{HasImage, HasNoImage}
+use Rattle.query_executor.specs.Segments.{HasNoImage}
 use Rattle.query_executor.specs.Stated.{stats_line}
 use Rattle.query_executor.specs.Steps.{AddsLine, AddsStored, HasGroups, HasLines, IsStoredOverfull, fault_at}
 use Rattle.query_executor.proofs.LineLemmas.{lines_more, no_lines}
@@ -19,13 +19,6 @@ use Rattle.query_executor.proofs.FaultLemmas.{bad_so, read_so, refused_so}
 use Rattle.query_executor.proofs.GroupLemmas.{no_groups, one_more, too_many}
 use Rattle.query_executor.proofs.NameLemmas.{among, is_named}
 use Rattle.query_executor.proofs.LogLemmas.{entries_as, entries_then, logs_as, logs_none, logs_then, reads_as, reads_none, reads_then}
-use Rattle.outside.specs.Files.{Files}
-use Rattle.values.specs.declared.value.Value.{Value}
-use Rattle.table_schema.specs.declared.query.BoundQuery.{BoundQuery}
-use Rattle.table_schema.specs.declared.table.Table.{Table}
-use Rattle.table_schema.specs.ValidTable.{IsValidTable}
-use Rattle.segment_file.specs.Ordered.{ordered}
-use Rattle.star_answer.specs.Docs.{DocsAreBounded}
 use Rattle.query_executor.specs.Reads.{LogsEach, ReadsPlanned}
 use Rattle.query_executor.proofs.GrownLemmas.{IsFileBefore, each_as, each_more, each_none, each_rest, more_before, none_before, this_before}
 use Rattle.query_executor.proofs.SpanLemmas.{planned_less, planned_of_file}
