@@ -2,7 +2,7 @@
 use Rattle.std.proofs.Common.{◌≡◌, ◌≤◌, ◌<◌, ℕ, zero, suc, ◌+◌, ◌-◌, ◌*◌, ◌/◌, ◌%◌, List, [], ◌∷◌, ◌++◌, All, length, take, drop, map, min, Option, Some, None, IfSome, IfOk, OnOk, Result, Ok, Err, refl, sym, ap, ◌∙◌, subst, arith, length-take, length-drop}
 use Rattle.std.proofs.lemmas.List.{drop-take, drop-drop, take-take}
 use Rattle.std.proofs.lemmas.List.FromFn.{length-map-range_with_len}
-use Rattle.std.proofs.lemmas.List.Elements.{All-nil}
+use Rattle.std.proofs.lemmas.List.Elements.{All-cons, All-head, All-nil}
 use Rattle.std.proofs.lemmas.Nat.{mul-le}
 use Rattle.std.proofs.lemmas.Bool.Decides.{nat_tests}
 use Rattle.std.specs.List.{range_with_len}
@@ -141,3 +141,33 @@ range-appended held place width count from to bytes old new wide some within par
 -- the ids of a range that were appended to no ids
 pub range-alone : (held : Option Files) (place : Place) (width count from to : ℕ) (old new : List ℕ) → (appends : AppendsRange held place width count from to old new) → old ≡ [] → new ≡ appends.ids
 range-alone held place width count from to old new appends none = appends.appended ∙ ap (λ (l : List ℕ). l ++ appends.ids) none
+
+-- ---- a range of one id
+
+-- the bits of one id
+one-span : (width from to : ℕ) → to ≡ from + 1 → to * width ≡ from * width + width
+one-span width from to h = let products : (from + 1) * width ≡ from * width + width = grind arith in ap (λ k. k * width) h ∙ products
+
+one-held : (width from to : ℕ) → to ≡ from + 1 → from * width % 8 + width ≤ 8 * ((to * width + 7) / 8 - from * width / 8)
+one-held width from to h = omega (arith, one-span width from to h)
+
+-- its bytes, at the front of some, have it
+pub one-read : (width from to : ℕ) (bytes : List ℕ) → to ≡ from + 1
+    → pieces width (from * width % 8) (to - from) (bits_of 8 (take ((to * width + 7) / 8 - from * width / 8) bytes)) ≡ field width (from * width % 8) (bits_of 8 bytes) ∷ []
+one-read width from to bytes h =
+    let bit = from * width % 8 in
+    let size = (to * width + 7) / 8 - from * width / 8 in
+    let one : to - from ≡ 1 = omega arith in
+    let start : bit ≡ bit - 0 * 8 = omega arith in
+    let first : bit + 0 * width ≡ bit = grind arith in
+    let alone : 1 * width ≡ width = grind arith in
+    ap (λ n. pieces width bit n (bits_of 8 (take size bytes))) one
+    ∙ ap (λ b. pieces width b 1 (bits_of 8 (take size bytes))) start
+    ∙ pieces-bytes width bit 0 size 1 bytes (omega arith) (omega (arith, alone, one-held width from to h))
+    ∙ ap (λ b. field width b (bits_of 8 bytes) ∷ []) first
+
+pub one-below : (P : ℕ → Type 0) (id : ℕ) (ids : List ℕ) → ids ≡ id ∷ [] → P id → All P ids
+one-below P id ids e h = subst (All P) (sym e) (All-cons P id [] h (All-nil P))
+
+pub one-alone : (P : ℕ → Type 0) (id : ℕ) (ids : List ℕ) → ids ≡ id ∷ [] → All P ids → P id
+one-alone P id ids e all = All-head P id [] (subst (All P) e all)

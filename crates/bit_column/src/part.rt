@@ -1,5 +1,5 @@
 //! A part of a file is read.
-ghost use Rattle.std.specs.Prelude.{◌≡◌, ◌≤◌, ◌<◌, ◌+◌, ◌-◌, ◌^◌, ◌↔◌, OnErr, OnOk, IsErrOf, length};
+ghost use Rattle.std.specs.Prelude.{◌≡◌, ◌≤◌, ◌<◌, ◌+◌, ◌-◌, ◌^◌, ◌↔◌, IfOk, OnErr, OnOk, IsErrOf, length, take};
 ghost use Rattle.outside.specs.Reads.{LogsOn, LogsUpTo};
 ghost use Rattle.outside.specs.Seen.{OnlyReads, seen};
 ghost use Rattle.bit_column.specs.Sections.{IsPart, EndsBefore};
@@ -10,6 +10,7 @@ use std::alloc::Global;
 
 /// Reads the bytes of a file between two places after an offset into `into`, which has place for
 /// just these. A file that is not there has no bytes.
+#[inline(always)]
 pub fn read_part<S: Shelf>(
     alloc: Global,
     shelf: &mut S,
@@ -43,6 +44,38 @@ pub fn read_part<S: Shelf>(
         return Err(ColumnFault::BadId);
     }
     Ok(())
+}
+
+/// The bytes of a file between two places after an offset, of which there are at most eight, before
+/// zeros.
+#[inline]
+pub fn read_few<S: Shelf>(
+    alloc: Global,
+    shelf: &mut S,
+    name: &str,
+    offset: u64,
+    from: u64,
+    to: u64,
+) -> Result<[u8; 8], ColumnFault>
+    requires order { from < to }
+    requires few { to ≤ from + 8 }
+    ensures part { IfOk result (λ bytes. IsPart (S.held shelf.old) name.now (offset + from)
+        (offset + to) (take (to - from) bytes)) }
+    ensures only_reads { OnlyReads (IsErrOf result ColumnFault.ReadFault)
+        (seen S.Shelf shelf.old) (seen S.Shelf shelf.new) }
+    ensures log { IfOk result (λ _.
+        LogsOn name.now (offset + from) (offset + to) (S.log shelf.old) (S.log shelf.new)) }
+    ensures log_of_fault { OnErr result
+        (LogsUpTo name.now (offset + from) (offset + to) (S.log shelf.old) (S.log shelf.new)) }
+    ensures short { IsErrOf result ColumnFault.BadId →
+        EndsBefore (S.held shelf.old) name.now (offset + to) }
+{
+    let mut bytes = [0u8; 8];
+    let size = (to - from) as usize;
+    match read_part(alloc, shelf, name, offset, from, to, &mut bytes[..size]) {
+        Ok(()) => Ok(bytes),
+        Err(fault) => Err(fault),
+    }
 }
 
 // What a shelf's fault is for a part of a file.

@@ -1,14 +1,14 @@
 //! A range of ids is read from a section of a file.
-ghost use Rattle.std.specs.Prelude.{◌≡◌, ◌≤◌, ◌<◌, ◌+◌, ◌-◌, All, Err, IfOk, IfSome, IsErrOf, OnErr, OnOk, length};
+ghost use Rattle.std.specs.Prelude.{◌≡◌, ◌≤◌, ◌<◌, ◌+◌, ◌-◌, ◌++◌, ◌∷◌, [], All, Err, IfOk, IfSome, IsErrOf, OnErr, OnOk, length};
 ghost use Rattle.outside.specs.Reads.{LogsOn, LogsUpTo};
 ghost use Rattle.outside.specs.Seen.{OnlyReads, seen};
 ghost use Rattle.bit_column.specs.Column.{ids_between};
 ghost use Rattle.bit_column.specs.Sections.{first_byte, end_byte, section, AppendsRange, Readable};
-ghost use Rattle.bit_column.specs.declared.fault.ColumnFault.TheVariants.{BadId};
+ghost use Rattle.bit_column.specs.declared.fault.ColumnFault.TheVariants.{BadId, ReadFault};
 
 use crate::ColumnFault;
-use crate::part::read_part;
-use crate::reading::append_ids;
+use crate::part::{read_few, read_part};
+use crate::reading::{append_ids, field_at};
 use outside::{Place, Seq, Shelf};
 use std::alloc::Global;
 
@@ -99,6 +99,9 @@ pub fn append_range<S: Shelf>(
     if from == to {
         return Ok(());
     }
+    if to - from == 1 {
+        return append_one(alloc, shelf, place, width, count, from, to, ids);
+    }
     let bit = from as u64 * width as u64;
     let end = (to as u64 * width as u64 + 7) / 8;
     if end > place.length {
@@ -117,5 +120,64 @@ pub fn append_range<S: Shelf>(
             ids,
         ),
         Err(fault) => Err(fault),
+    }
+}
+
+// Appends the id of a range of one. It takes no memory but for the id.
+#[inline]
+fn append_one<S: Shelf>(
+    alloc: Global,
+    shelf: &mut S,
+    place: &Place,
+    width: u32,
+    count: u32,
+    from: u32,
+    to: u32,
+    ids: &mut Vec<u32>,
+) -> Result<(), ColumnFault>
+    requires width { 1 ≤ width }
+    requires bound { width ≤ 32 }
+    requires one { to ≡ from + 1 }
+    ensures ids { OnOk result (AppendsRange (S.held shelf.old) place.now width count from to
+        ids.old.items ids.new.items) }
+    ensures only_reads { OnlyReads (IsErrOf result ColumnFault.ReadFault)
+        (seen S.Shelf shelf.old) (seen S.Shelf shelf.new) }
+    ensures log { OnOk result (LogsOn place.now.file
+        (place.now.offset + first_byte width from) (place.now.offset + end_byte width from to)
+        (S.log shelf.old) (S.log shelf.new)) }
+    ensures log_of_fault { OnErr result (LogsUpTo place.now.file
+        (place.now.offset + first_byte width from) (place.now.offset + end_byte width from to)
+        (S.log shelf.old) (S.log shelf.new)) }
+    ensures past { place.now.length < end_byte width from to →
+        S.log shelf.new ≡ S.log shelf.old }
+    ensures bad { result ≡ Err BadId → IfSome (S.held shelf.old) (λ files.
+        ¬ Readable width count from to (section files place.now)) }
+{
+    let bit = from as u64 * width as u64;
+    let end = (to as u64 * width as u64 + 7) / 8;
+    if end > place.length {
+        return Err(ColumnFault::BadId);
+    }
+    let name = place.file.as_str();
+    match read_few(alloc, shelf, name, place.offset, bit / 8, end) {
+        Ok(bytes) => push_id(field_at(&bytes, (bit % 8) as usize, width), count, ids),
+        Err(fault) => Err(fault),
+    }
+}
+
+// Appends an id, which is to be below the count.
+#[inline]
+fn push_id(id: u32, count: u32, ids: &mut Vec<u32>) -> Result<(), ColumnFault>
+    ensures ids { OnOk result (ids.new.items ≡ ids.old.items ++ id ∷ []) }
+    ensures below { OnOk result (id < count) }
+    ensures bad { result ≡ Err BadId → ¬ (id < count) }
+    ensures read { ¬ (result ≡ Err ReadFault) }
+{
+    if id >= count {
+        return Err(ColumnFault::BadId);
+    }
+    match ids.push(id) {
+        Ok(()) => Ok(()),
+        Err(_) => Err(ColumnFault::NoMemory),
     }
 }
