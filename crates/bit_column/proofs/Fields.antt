@@ -148,6 +148,17 @@ field-found bytes head bit width window result small held front is value =
     ∙ ap (λ xs. window / 2 ^ (8 * length xs - bit % 8 - width) % 2 ^ width) e
     ∙ field-in bytes bit width window small held there
 
+-- the number of four bytes is a field of 32 digits
+pub field-word : (bytes : List ℕ) (i word : ℕ) → word < 2 ^ 32 → 4 * i + 4 ≤ length bytes → bits 32 word ≡ bits_of 8 (take 4 (drop (4 * i) bytes)) → word ≡ field 32 (0 + i * 32) (bits_of 8 bytes)
+field-word bytes i word small held is =
+    let whole : word ≡ word / 2 ^ 0 % 2 ^ 32 = omega arith in
+    let at : i * 32 - 4 * i * 8 ≡ 0 = omega arith in
+    let start : i * 32 ≡ 0 + i * 32 = omega arith in
+    whole ∙ sym (field-window 32 0 0 word (bits_of 8 (take 4 (drop (4 * i) bytes))) (sym is))
+    ∙ ap (λ b. field 32 b (bits_of 8 (take 4 (drop (4 * i) bytes)))) (sym at)
+    ∙ field-bytes 32 (i * 32) (4 * i) 4 bytes (omega arith) (omega arith)
+    ∙ ap (λ b. field 32 b (bits_of 8 bytes)) start
+
 pub field-far : (i width number : ℕ) → i < number → number < 2 ^ 32 → width ≤ 32 → i * width ≤ 2 ^ 37
 field-far i width number within few small = omega (arith, mul-le i width (2 ^ 32) 32 (omega arith) small)
 

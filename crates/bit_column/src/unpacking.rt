@@ -5,7 +5,7 @@ ghost use Rattle.bit_column.specs.declared.fault.ColumnFault.TheVariants.{BadId}
 
 use crate::ColumnFault;
 use crate::bits::taken;
-use crate::window::Window;
+use crate::window::{Window, word_at};
 
 /// The ids from a bit on, as many as there is place for, each of which is to be below the count.
 pub fn unpack(
@@ -26,6 +26,9 @@ pub fn unpack(
         (¬ All (λ id. id < count) (pieces width bit (length ids.old) (bits_of 8 bytes.now))) }
     ensures only { IfErr result (λ fault. fault ≡ BadId) }
 {
+    if width == 32 && bit == 0 {
+        return unpack_words(bytes, count, ids);
+    }
     let mut window = Window::new().filled(bytes, bit as u32);
     window.have -= bit as u32;
     for i in 0..ids.len() {
@@ -36,6 +39,26 @@ pub fn unpack(
             return Err(ColumnFault::BadId);
         }
         ids[i] = id;
+    }
+    Ok(())
+}
+
+// The ids that are four bytes each, from the first byte on.
+fn unpack_words(bytes: &[u8], count: u32, ids: &mut [u32]) -> Result<(), ColumnFault>
+    requires { 4 * length ids.old ≤ length bytes.now }
+    ensures ids { OnOk result
+        (ids.new ≡ pieces 32 0 (length ids.old) (bits_of 8 bytes.now)) }
+    ensures below { OnOk result (All (λ id. id < count) ids.new) }
+    ensures bad { OnErr result
+        (¬ All (λ id. id < count) (pieces 32 0 (length ids.old) (bits_of 8 bytes.now))) }
+    ensures only { IfErr result (λ fault. fault ≡ BadId) }
+{
+    for i in 0..ids.len() {
+        let word = word_at(bytes, 4 * i);
+        if word >= count {
+            return Err(ColumnFault::BadId);
+        }
+        ids[i] = word;
     }
     Ok(())
 }

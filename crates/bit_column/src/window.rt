@@ -98,9 +98,9 @@ impl Window {
     }
 }
 
-// The number of four bytes.
+/// The number of four bytes.
 #[inline(always)]
-fn word_at(bytes: &[u8], at: usize) -> u32
+pub fn word_at(bytes: &[u8], at: usize) -> u32
     requires { at + 4 ≤ length bytes.now }
     ensures { bits 32 result ≡ bits_of 8 (take 4 (drop at bytes.now)) }
 {

@@ -2,11 +2,11 @@
 use Rattle.std.proofs.Common.{◌≡◌, ◌∙◌, ◌⊎◌, min, max, not, cond, le_refl, inl, inr, ℕ, zero, suc, ◌+◌, ◌-◌, ◌<◌, ◌≤◌, ◌^◌, Bool, true, false, ◌&&◌, ◌||◌, nat_eq, nat_le, nat_lt, ◌/◌, List, [], ◌∷◌, ◌++◌, length, drop, get_or, refl, sym, ap, subst, arith}
 use mir.Val.{bool_byte}
 use Rattle.std.specs.List.{All, range_with_len}
-use Rattle.std.proofs.lemmas.Bool.{cases_lt, leb-true, leb-false, le-leb, lt-leb, ltb-true, ltb-false, eqb-false, ne_eqb}
+use Rattle.std.proofs.lemmas.Bool.{cases_lt, leb-true, leb-false, le-leb, lt-leb, lt-ltb, ltb-true, ltb-false, eqb-false, ne_eqb}
 use Rattle.std.proofs.lemmas.List.Elements.{All-append, All-cons, All-nil}
 use Rattle.std.proofs.lemmas.List.Folds.{list_any-append, list_any_none}
 use Rattle.doc_lists.specs.Docs.{Apart, docs_of, docs_of_run, has_doc}
-use Rattle.doc_lists.specs.Sets.{Ahead, AreThose, IsSooner, Left, SameFrom, Swept, Up, ends_before, in_run, in_runs}
+use Rattle.doc_lists.specs.Sets.{Ahead, AreThose, IsAlone, IsSooner, Left, SameFrom, Swept, Up, ends_before, in_run, in_runs}
 use Rattle.doc_lists.specs.declared.run.Run.{Run}
 use Rattle.doc_lists.proofs.Runs.{apart_less, up_from_less, up_increasing}
 
@@ -459,6 +459,22 @@ join_test start doc a b docs ours theirs run walk sooner from to =
     ap (λ x. x || has_doc b doc) (left_has start doc a ours walk.first from)
     ∙ ap (λ y. in_runs ours doc || y) (left_has start doc b theirs walk.second from)
     ∙ sooner.those doc from (omega (arith, to)) ∙ sooner_begun (nat_le run.first doc) run.first start doc from refl
+
+-- a run that ends before the other list begins is the sooner one, and its list goes on after it
+pub alone_sooner : (start : ℕ) (ours theirs : List Run) → IsAlone ours theirs → Ahead start ours → Ahead start theirs → IsSooner start ours theirs (get_or ours 0 (record { first = 0; last = 0 }))
+alone_sooner start ours theirs alone ahead aside =
+    let known = first_known start ours (record { first = 0; last = 0 }) alone.some ahead in
+    is_sooner_ours start ours theirs (record { first = 0; last = 0 }) alone.some (inr (alone.any, omega (arith, alone.before, known.order))) ahead aside
+
+pub alone_next : (test : ℕ → Bool) (start end : ℕ) (a b docs added : List ℕ) (ours theirs : List Run) → Walk test start a b docs ours theirs → IsAlone ours theirs → end ≡ (get_or ours 0 (record { first = 0; last = 0 })).last + 1
+    → Swept test end added → Walk test end a b added (drop 1 ours) theirs
+alone_next test start end a b docs added ours theirs walk alone is swept =
+    let d : Run = record { first = 0; last = 0 } in
+    let known = first_known start ours d alone.some walk.first.ahead in
+    let other = first_known start theirs d alone.any walk.second.ahead in
+    let out = first_out true ours d end alone.some (ahead_apart start ours walk.first.ahead) (omega (arith, is)) (lt-ltb (get_or ours 0 d).last end (omega (arith, is))) in
+    walk_next test start end a b docs ours theirs (drop 1 ours) theirs added walk (omega (arith, is, known.onwards)) swept out.ahead out.same
+    (ahead_first start theirs d end alone.any walk.second.ahead (omega (arith, is, alone.before, other.order))) (λ doc from. refl)
 
 pub join_over : (start : ℕ) (a b docs : List ℕ) (ours theirs : List Run) → Walk (λ doc. has_doc a doc || has_doc b doc) start a b docs ours theirs → length ours ≡ 0 → length theirs ≡ 0 → (doc : ℕ) → start ≤ doc → has_doc a doc || has_doc b doc ≡ false
 join_over start a b docs ours theirs walk none also doc from =

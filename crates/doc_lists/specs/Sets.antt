@@ -37,6 +37,12 @@ pub record IsSooner (start : ℕ) (ours theirs : List Run) (run : Run) : Type 0 
   pub onwards : start ≤ run.last
   pub those : (doc : ℕ) → start ≤ doc → doc ≤ run.last → in_runs ours doc || in_runs theirs doc ≡ nat_le run.first doc
 
+-- the first of the one list's runs ends before the first of the other's begins
+pub record IsAlone (ours theirs : List Run) : Type 0 where
+  pub some : 0 < length ours
+  pub any : 0 < length theirs
+  pub before : (slice_index_or ours 0 (record { first = 0; last = 0 })).last < (slice_index_or theirs 0 (record { first = 0; last = 0 })).first
+
 -- runs with the documents of a list from one on
 pub record Left (from : ℕ) (docs : List ℕ) (runs : List Run) : Type 0 where
   pub ahead : Ahead from runs

@@ -1,7 +1,7 @@
 //! The documents that two lists have in common or apart.
-ghost use Rattle.std.specs.Prelude.{◌≡◌, ◌≤◌, ◌<◌, ◌+◌, ◌&&◌, ◌||◌, ◌^◌, ◌⊎◌, ℕ, Bool, not, nat_le, All, drop, get_or, length, IfOk, OnOk};
+ghost use Rattle.std.specs.Prelude.{◌≡◌, ◌≤◌, ◌<◌, ◌+◌, ◌&&◌, ◌||◌, ◌^◌, ◌⊎◌, ℕ, Bool, not, nat_le, true, All, drop, get_or, length, IfOk, OnOk};
 ghost use Rattle.doc_lists.specs.Docs.{Apart, has_doc};
-ghost use Rattle.doc_lists.specs.Sets.{Ahead, AreThose, IsSooner, SameFrom, Swept, ends_before, in_runs};
+ghost use Rattle.doc_lists.specs.Sets.{Ahead, AreThose, IsAlone, IsSooner, SameFrom, Swept, ends_before, in_runs};
 
 use crate::{DocList, NoMemory, Run};
 use std::alloc::Global;
@@ -47,12 +47,21 @@ pub fn join(alloc: Global, a: &DocList, b: &DocList) -> Result<DocList, NoMemory
     let mut theirs = b.runs();
     let mut start = 0;
     while !ours.is_empty() || !theirs.is_empty() {
-        let run = sooner(ours, theirs);
-        let end = run.last as u64 + 1;
-        push_from(&mut docs, start, start.max(run.first as u64), end)?;
-        ours = left_from(ours, end);
-        theirs = left_from(theirs, end);
-        start = end;
+        // Nearly always so, where the first list has many more runs.
+        if is_alone(ours, theirs) {
+            let run = ours[0];
+            let end = run.last as u64 + 1;
+            push_from(&mut docs, start, start.max(run.first as u64), end)?;
+            ours = following(ours, 1);
+            start = end;
+        } else {
+            let run = sooner(ours, theirs);
+            let end = run.last as u64 + 1;
+            push_from(&mut docs, start, start.max(run.first as u64), end)?;
+            ours = left_from(ours, end);
+            theirs = left_from(theirs, end);
+            start = end;
+        }
     }
     Ok(docs)
 }
@@ -77,6 +86,13 @@ pub fn without(alloc: Global, a: &DocList, b: &DocList) -> Result<DocList, NoMem
         start = end;
     }
     Ok(docs)
+}
+
+// Whether the first run of the one list ends before the other list's first run begins.
+fn is_alone(ours: &[Run], theirs: &[Run]) -> bool
+    ensures { result ≡ true → IsAlone ours.now theirs.now }
+{
+    !ours.is_empty() && !theirs.is_empty() && ours[0].last < theirs[0].first
 }
 
 // The run that begins sooner, of the first runs of two lists.

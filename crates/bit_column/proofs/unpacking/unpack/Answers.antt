@@ -1,4 +1,4 @@
-use Rattle.std.proofs.Common.{◌≡◌, ◌+◌, ◌-◌, ◌*◌, ◌∷◌, [], ◌++◌, ◌<◌, List, ℕ, take, ap, sym, ◌∙◌, arith, refl}
+use Rattle.std.proofs.Common.{All, OnErr, length, subst, ◌≡◌, ◌+◌, ◌-◌, ◌*◌, ◌∷◌, [], ◌++◌, ◌<◌, List, ℕ, take, ap, sym, ◌∙◌, arith, refl}
 use Rattle.std.proofs.lemmas.List.{take_more_set}
 use Rattle.std.proofs.lemmas.List.Elements.{All-push, All-same}
 use Rattle.bit_column.specs.Ahead.{taken_before}
@@ -19,6 +19,13 @@ loop-i-init c =
       ids = refl;
       below = λ k d lt. absurd (omega (arith, lt));
     }
+
+pub returns-then-bit-eq0-clause-bad : goal.returns-then-bit-eq0-clause-bad
+returns-then-bit-eq0-clause-bad c =
+    let digits : List ℕ = bits_of 8 c.args.bytes.now in
+    let number = length c.args.ids.now in
+    let family : ℕ → ℕ → Type 0 = λ width bit. OnErr c.unpack_words.result (¬ All (λ id. id < c.args.count) (pieces width bit number digits)) in
+    subst (λ width. family width c.args.bit) (sym c.if-width-eq32.true) (subst (family 32) (sym c.if-bit-eq0.true) c.unpack_words.ensures.bad)
 
 pub returns-then-id-count-clause-bad : goal.returns-then-id-count-clause-bad
 returns-then-id-count-clause-bad c = λ all.
