@@ -98,17 +98,26 @@ fn cell_at(text: &[u8], end: u8) -> Option<(i64, usize)>
     Some((signed(false, number), len))
 }
 
-// The number in the last cell of a line, and how much comes before the line feed.
+// The number in the last cell of a line that ends by a carriage return and a line feed, and how much
+// comes before the line feed.
+#[inline(never)]
+fn cell_before_return(text: &[u8]) -> Option<(i64, usize)>
+    ensures { IfSome result (λ found. IsLastCell text.now found.0 found.1) }
+{
+    let (number, len) = cell_at(text, b'\r')?;
+    after(from_place(text, len + 1), b'\n')?;
+    Some((number, len + 1))
+}
+
+// The same of any line.
 #[inline(always)]
 fn last_cell(text: &[u8]) -> Option<(i64, usize)>
     ensures { IfSome result (λ found. IsLastCell text.now found.0 found.1) }
 {
-    if let Some(found) = cell_at(text, b'\n') {
-        return Some(found);
+    match cell_at(text, b'\n') {
+        Some(found) => Some(found),
+        None => cell_before_return(text),
     }
-    let (number, len) = cell_at(text, b'\r')?;
-    after(from_place(text, len + 1), b'\n')?;
-    Some((number, len + 1))
 }
 
 // Whether a line has no character.
