@@ -1,17 +1,17 @@
 -- The first line of a text, as the machine of `csv` reads it, where it has no quotes.
-use Rattle.std.proofs.Common.{◌≡◌, ◌∙◌, ◌<◌, ◌+◌, ◌++◌, ◌==◌, ◌⊎◌, inl, inr, ℕ, suc, List, [], ◌∷◌, length, take, drop, Bool, true, false, Some, refl, sym, ap, arith}
+use Rattle.std.proofs.Common.{◌≡◌, ◌∙◌, ◌<◌, ◌+◌, ◌++◌, ◌==◌, ◌⊎◌, inl, inr, ℕ, suc, List, [], ◌∷◌, length, take, drop, Bool, true, false, Some, refl, sym, ap, arith, add-one, get_or, append_assoc, ap₂}
 use Rattle.std.proofs.Math.Seq.{drop-cons}
 use Rattle.std.proofs.lemmas.Bool.Decides.{nat_tests}
 use Rattle.std.proofs.lemmas.List.{length-take-le, take_more}
 use Rattle.std.specs.List.{list_all}
 use Rattle.csv.specs.Machine.{next_record}
-use Rattle.csv.specs.Reading.{default_config, records_from, strip_bom}
+use Rattle.csv.specs.Reading.{default_config, records_from, records_next, strip_bom}
 use Rattle.csv.specs.declared.parser.State.{State}
 use Rattle.csv.specs.declared.parser.State.TheVariants as st
 use Rattle.csv_ingest.specs.Lines.{AtLineEnd, IsHeaderEnd, is_bare}
 use Rattle.csv_ingest.specs.Reading.{TextReader, records_left}
 use Rattle.csv_ingest.proofs.LineLemmas.{and-left, and-right, parts}
-use Rattle.csv_ingest.proofs.LineRows.{one-record, passed}
+use Rattle.csv_ingest.proofs.LineRows.{after-return, passed}
 
 bare-byte : (b : ℕ) → is_bare b ≡ true → ((b == 34) ≡ false) × ((b == 13) ≡ false) × ((b == 10) ≡ false) × ((b == 0xEF) ≡ false)
 bare-byte b bare = (grind (arith, nat_tests), grind (arith, nat_tests), grind (arith, nat_tests), grind (arith, nat_tests))
@@ -19,6 +19,7 @@ bare-byte b bare = (grind (arith, nat_tests), grind (arith, nat_tests), grind (a
 -- the cells of a line's rest
 abbrev Ends : State → List (List ℕ) → List ℕ → List ℕ → Type 0
 Ends s fields field line = (cells : List (List ℕ)) × ((rest : List ℕ) → next_record default_config s fields field (line ++ 10 ∷ rest) ≡ Some (cells, st.StartRecord, rest))
+    × ((rest : List ℕ) → next_record default_config s fields field (line ++ 13 ∷ rest) ≡ Some (cells, st.AfterCr, rest))
 
 abbrev IsIn : State → Type 0
 IsIn s = (s ≡ st.InField) ⊎ (s ≡ st.StartField)
@@ -27,6 +28,11 @@ ends-now : (s : State) → IsIn s → (fields : List (List ℕ)) (field rest : L
 unfolding next_record
 ends-now s (inl e) fields field rest = rw e refl
 ends-now s (inr e) fields field rest = rw e refl
+
+ends-return : (s : State) → IsIn s → (fields : List (List ℕ)) (field rest : List ℕ) → next_record default_config s fields field (13 ∷ rest) ≡ Some (fields ++ field ∷ [], st.AfterCr, rest)
+unfolding next_record
+ends-return s (inl e) fields field rest = rw e refl
+ends-return s (inr e) fields field rest = rw e refl
 
 a-comma : (s : State) → IsIn s → (fields : List (List ℕ)) (field : List ℕ) (b : ℕ) (rest : List ℕ) → (b == 44) ≡ true → is_bare b ≡ true
     → next_record default_config s fields field (b ∷ rest) ≡ next_record default_config st.StartField (fields ++ field ∷ []) [] rest
@@ -42,11 +48,13 @@ a-byte s (inr e) fields field b rest comma bare = let (quote, cr, lf, mark) = ba
 
 next-byte : (is_comma : Bool) (s : State) → IsIn s → (fields : List (List ℕ)) (field : List ℕ) (b : ℕ) (line : List ℕ) → (b == 44) ≡ is_comma → is_bare b ≡ true
     → Ends st.StartField (fields ++ field ∷ []) [] line → Ends st.InField fields (field ++ b ∷ []) line → Ends s fields field (b ∷ line)
-next-byte true s inside fields field b line comma bare (cells, more) other = (cells, λ rest. a-comma s inside fields field b (line ++ 10 ∷ rest) comma bare ∙ more rest)
-next-byte false s inside fields field b line comma bare other (cells, more) = (cells, λ rest. a-byte s inside fields field b (line ++ 10 ∷ rest) comma bare ∙ more rest)
+next-byte true s inside fields field b line comma bare (cells, feed, return) other =
+    (cells, λ rest. a-comma s inside fields field b (line ++ 10 ∷ rest) comma bare ∙ feed rest, λ rest. a-comma s inside fields field b (line ++ 13 ∷ rest) comma bare ∙ return rest)
+next-byte false s inside fields field b line comma bare other (cells, feed, return) =
+    (cells, λ rest. a-byte s inside fields field b (line ++ 10 ∷ rest) comma bare ∙ feed rest, λ rest. a-byte s inside fields field b (line ++ 13 ∷ rest) comma bare ∙ return rest)
 
 rest-ends : (s : State) → IsIn s → (fields : List (List ℕ)) (field line : List ℕ) → list_all is_bare line ≡ true → Ends s fields field line
-rest-ends s inside fields field [] bare = (fields ++ field ∷ [], ends-now s inside fields field)
+rest-ends s inside fields field [] bare = (fields ++ field ∷ [], ends-now s inside fields field, ends-return s inside fields field)
 rest-ends s inside fields field (b ∷ line) bare =
     let more = and-right (is_bare b) (list_all is_bare line) bare in
     next-byte (b == 44) s inside fields field b line refl (and-left (is_bare b) (list_all is_bare line) bare)
@@ -60,8 +68,9 @@ first-byte b rest bare = let (quote, cr, lf, mark) = bare-byte b bare in rw (cr,
 line-cells : (line : List ℕ) → 0 < length line → list_all is_bare line ≡ true → Ends st.StartRecord [] [] line
 line-cells [] some bare = absurd (omega (arith, some))
 line-cells (b ∷ line) some bare =
-    let (cells, more) = rest-ends st.StartField (inr refl) [] [] (b ∷ line) bare in
-    (cells, λ rest. first-byte b (line ++ 10 ∷ rest) (and-left (is_bare b) (list_all is_bare line) bare) ∙ more rest)
+    let one = and-left (is_bare b) (list_all is_bare line) bare in
+    let (cells, feed, return) = rest-ends st.StartField (inr refl) [] [] (b ∷ line) bare in
+    (cells, λ rest. first-byte b (line ++ 10 ∷ rest) one ∙ feed rest, λ rest. first-byte b (line ++ 13 ∷ rest) one ∙ return rest)
 
 no-mark : (b : ℕ) (rest : List ℕ) → (b == 0xEF) ≡ false → strip_bom (b ∷ rest) ≡ b ∷ rest
 unfolding strip_bom
@@ -89,24 +98,61 @@ nothing : (s : State) (text : List ℕ) → records_from default_config 0 s text
 unfolding records_from
 nothing s text = refl
 
-pub first-line : (text : List ℕ) (end : ℕ) → IsHeaderEnd text end → FirstLine text end
-first-line text end h =
-    let line : List ℕ = take end text in
+one-state : (n : ℕ) (text : List ℕ) (cells : List (List ℕ)) (state : State) (rest : List ℕ) → next_record default_config st.StartRecord [] [] text ≡ Some (cells, state, rest)
+    → records_from default_config (n + 1) st.StartRecord text ≡ cells ∷ records_from default_config n state rest
+unfolding records_from
+one-state n text cells state rest e = rw add-one (ap (records_next (records_from default_config n)) e)
+
+module _ (text line rest : List ℕ) (end : ℕ) (some : 0 < length line) (bare : list_all is_bare line ≡ true) (left : drop end text ≡ 10 ∷ rest) where
+  by-feed : text ≡ line ++ 10 ∷ rest → take (end + 1) text ≡ line ++ 10 ∷ [] → FirstLine text end
+  by-feed all alone =
+      let (cells, feed, return) = line-cells line some bare in
+      record {
+        cells = cells;
+        unmarked = ap strip_bom alone ∙ starts-bare line (10 ∷ []) some bare ∙ sym alone;
+        at_end = (rest, left);
+        alone = ap (records_from default_config 1 st.StartRecord) alone ∙ one-state 0 (line ++ 10 ∷ []) cells st.StartRecord [] (feed []) ∙ ap (λ records. cells ∷ records) (nothing st.StartRecord []);
+        whole = λ n.
+            ap (records_from default_config (n + 1) st.StartRecord) all ∙ one-state n (line ++ 10 ∷ rest) cells st.StartRecord rest (feed rest)
+            ∙ ap (λ records. cells ∷ records) (sym (ap (records_from default_config n st.StartRecord) left ∙ passed n rest));
+      }
+
+  by-return : text ≡ line ++ 13 ∷ 10 ∷ rest → take (end + 1) text ≡ line ++ 13 ∷ 10 ∷ [] → FirstLine text end
+  by-return all alone =
+      let (cells, feed, return) = line-cells line some bare in
+      record {
+        cells = cells;
+        unmarked = ap strip_bom alone ∙ starts-bare line (13 ∷ 10 ∷ []) some bare ∙ sym alone;
+        at_end = (rest, left);
+        alone = ap (records_from default_config 1 st.StartRecord) alone ∙ one-state 0 (line ++ 13 ∷ 10 ∷ []) cells st.AfterCr (10 ∷ []) (return (10 ∷ [])) ∙ ap (λ records. cells ∷ records) (nothing st.AfterCr (10 ∷ []));
+        whole = λ n.
+            ap (records_from default_config (n + 1) st.StartRecord) all ∙ one-state n (line ++ 13 ∷ 10 ∷ rest) cells st.AfterCr (10 ∷ rest) (return (10 ∷ rest))
+            ∙ ap (λ records. cells ∷ records) (after-return n rest ∙ ap (records_from default_config n st.StartRecord) (sym left));
+      }
+
+first_by : (text : List ℕ) (end len : ℕ) → 0 < len → list_all is_bare (take len text) ≡ true → end < length text → get_or text end 0 ≡ 10 → (end ≡ len) ⊎ ((end ≡ len + 1) × (get_or text len 0 ≡ 13)) → FirstLine text end
+first_by text end len some bare within feed (inl here) =
+    let line : List ℕ = take len text in
     let rest : List ℕ = drop (suc end) text in
-    let size : 0 < length line = omega (arith, length-take-le end text (omega (arith, h.within)), h.some) in
-    let (cells, more) = line-cells line size h.bare in
-    let all : text ≡ line ++ 10 ∷ rest = parts text end 10 h.within h.line_feed in
-    let alone : take (end + 1) text ≡ line ++ 10 ∷ [] = take_more text end 0 h.within ∙ ap (λ b. line ++ b ∷ []) h.line_feed in
-    let left : drop end text ≡ 10 ∷ rest = drop-cons text end 0 h.within ∙ ap (λ b. b ∷ rest) h.line_feed in
-    record {
-      cells = cells;
-      unmarked = ap strip_bom alone ∙ starts-bare line (10 ∷ []) size h.bare ∙ sym alone;
-      at_end = (rest, left);
-      alone = ap (records_from default_config 1 st.StartRecord) alone ∙ one-record 0 (line ++ 10 ∷ []) cells [] (more []) ∙ ap (λ records. cells ∷ records) (nothing st.StartRecord []);
-      whole = λ n.
-          ap (records_from default_config (n + 1) st.StartRecord) all ∙ one-record n (line ++ 10 ∷ rest) cells rest (more rest)
-          ∙ ap (λ records. cells ∷ records) (sym (ap (records_from default_config n st.StartRecord) left ∙ passed n rest));
-    }
+    let size : 0 < length line = omega (arith, length-take-le len text (omega (arith, within, here)), some) in
+    let before : take end text ≡ line = ap (λ k. take k text) here in
+    by-feed text line rest end size bare (drop-cons text end 0 within ∙ ap (λ b. b ∷ rest) feed)
+    (parts text end 10 within feed ∙ ap (λ front. front ++ 10 ∷ rest) before)
+    (take_more text end 0 within ∙ ap₂ (λ front b. front ++ b ∷ []) before feed)
+first_by text end len some bare within feed (inr (next, return)) =
+    let line : List ℕ = take len text in
+    let rest : List ℕ = drop (suc end) text in
+    let lt : len < length text = omega (arith, within, next) in
+    let size : 0 < length line = omega (arith, length-take-le len text (omega (arith, lt)), some) in
+    let place : suc len ≡ end = omega (arith, next) in
+    let left : drop end text ≡ 10 ∷ rest = drop-cons text end 0 within ∙ ap (λ b. b ∷ rest) feed in
+    let before : take end text ≡ line ++ 13 ∷ [] = ap (λ k. take k text) next ∙ take_more text len 0 lt ∙ ap (λ b. line ++ b ∷ []) return in
+    by-return text line rest end size bare left
+    (parts text len 13 lt return ∙ ap (λ xs. line ++ 13 ∷ xs) (ap (λ k. drop k text) place ∙ left))
+    (take_more text end 0 within ∙ ap₂ (λ front b. front ++ b ∷ []) before feed ∙ append_assoc line (13 ∷ []) (10 ∷ []))
+
+pub first-line : (text : List ℕ) (end : ℕ) → IsHeaderEnd text end → FirstLine text end
+first-line text end h = first_by text end h.len h.some h.bare h.feed.within h.feed.line_feed h.feed.here
 
 same_first : (cells fields : List (List ℕ)) (more : List (List (List ℕ))) → cells ∷ [] ≡ fields ∷ more → cells ≡ fields
 same_first cells fields more e = cc

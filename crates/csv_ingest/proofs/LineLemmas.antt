@@ -1,5 +1,5 @@
 -- Cells of digits, as the machine of `csv` reads them.
-use Rattle.std.proofs.Common.{◌≡◌, ◌∙◌, ◌<◌, ◌≤◌, ◌+◌, ◌-◌, ◌*◌, ◌^◌, ◌++◌, ◌&&◌, ◌==◌, inl, inr, ℕ, zero, suc, pos, List, [], ◌∷◌, length, take, drop, get_or, nat_lt, Bool, true, false, Some, option_map, Ok, refl, sym, ap, arith, append_assoc, append-nil, length-append, add-one}
+use Rattle.std.proofs.Common.{◌≡◌, ◌∙◌, ◌<◌, ◌≤◌, ◌+◌, ◌-◌, ◌*◌, ◌^◌, ◌++◌, ◌&&◌, ◌==◌, inl, inr, ℕ, zero, suc, pos, List, [], ◌∷◌, length, take, drop, get_or, nat_lt, Bool, true, false, Some, option_map, Ok, refl, sym, ap, subst, arith, append_assoc, append-nil, length-append, add-one}
 use Rattle.std.proofs.Math.Nat.{pow-suc}
 use Rattle.std.proofs.Math.Seq.{drop-cons}
 use Rattle.std.proofs.lemmas.Bool.Decides.{nat_tests}
@@ -12,7 +12,7 @@ use Rattle.csv.specs.declared.parser.State.TheVariants as st
 use Rattle.values.proofs.Digits.{few}
 use Rattle.values.specs.Numbers.{is_digit, negative, place_value, ranged, spelled_number, unsigned_number, whole_of}
 use Rattle.values.specs.declared.kind.FieldKind.TheVariants.{Long}
-use Rattle.csv_ingest.specs.Lines.{IsCell, IsStart, SpellsAt}
+use Rattle.csv_ingest.specs.Lines.{EndsCell, IsCell, IsStart, SpellsAt}
 
 -- ---- the number
 
@@ -85,11 +85,21 @@ copy-all fields field (x ∷ xs) rest all =
     ∙ copy-all fields (field ++ x ∷ []) xs rest (and-right (is_digit x) (list_all is_digit xs) all)
     ∙ ap (λ f. next_record default_config st.InField fields f rest) (append_assoc field (x ∷ []) xs)
 
-start-one : (s : State) → IsStart s → (fields : List (List ℕ)) (b : ℕ) (rest : List ℕ) → (b == 44) ≡ false → (b == 13) ≡ false → (b == 10) ≡ false → (b == 34) ≡ false
+start-one : (text : List ℕ) (s : State) → IsStart text s → (fields : List (List ℕ)) (b : ℕ) (rest : List ℕ) → (b == 44) ≡ false → (b == 13) ≡ false → (b == 10) ≡ false → (b == 34) ≡ false
     → next_record default_config s fields [] (b ∷ rest) ≡ next_record default_config st.InField fields (b ∷ []) rest
 unfolding next_record
-start-one s (inl e) fields b rest comma cr lf quote = rw e (rw (comma, cr, lf, quote) refl)
-start-one s (inr e) fields b rest comma cr lf quote = rw e (rw (comma, cr, lf, quote) refl)
+start-one text s (inl (e, bare)) fields b rest comma cr lf quote = rw e (rw (comma, cr, lf, quote) refl)
+start-one text s (inr e) fields b rest comma cr lf quote = rw e (rw (comma, cr, lf, quote) refl)
+
+-- an empty cell
+no-byte : (s : State) (fields : List (List ℕ)) (end : ℕ) (rest : List ℕ) → EndsCell end → IsStart (end ∷ rest) s → next_record default_config s fields [] (end ∷ rest) ≡ next_record default_config st.InField fields [] (end ∷ rest)
+unfolding next_record
+no-byte s fields end rest (inl comma) (inl (e, bare)) = rw (e, comma) refl
+no-byte s fields end rest (inl comma) (inr e) = rw (e, comma) refl
+no-byte s fields end rest (inr (inl lf)) (inl (e, bare)) = absurd (grind (arith, nat_tests))
+no-byte s fields end rest (inr (inl lf)) (inr e) = rw (e, lf) refl
+no-byte s fields end rest (inr (inr cr)) (inl (e, bare)) = absurd (grind (arith, nat_tests))
+no-byte s fields end rest (inr (inr cr)) (inr e) = rw (e, cr) refl
 
 -- ---- a cell
 
@@ -122,10 +132,19 @@ whole-minus d ds n all value small =
 pub parts : (text : List ℕ) (k end : ℕ) → k < length text → get_or text k 0 ≡ end → text ≡ take k text ++ end ∷ drop (suc k) text
 parts text k end lt ends = sym (take-append-drop k text) ∙ ap (λ rest. take k text ++ rest) (drop-cons text k 0 lt ∙ ap (λ b. b ∷ drop (suc k) text) ends)
 
-pub plain-cell : (text : List ℕ) (end number len : ℕ) → SpellsAt text number len → 0 < len → get_or text len 0 ≡ end → IsCell text end (pos number) len
-plain-cell [] end number len s some ends = absurd (omega (arith, s.within))
-plain-cell (d ∷ t) end number zero s some ends = absurd (omega (arith, some))
-plain-cell (d ∷ t) end number (suc k) s some ends =
+pub plain-cell : (text : List ℕ) (end number len : ℕ) → EndsCell end → SpellsAt text number len → get_or text len 0 ≡ end → IsCell text end (pos number) len
+plain-cell [] end number len ending s ends = absurd (omega (arith, s.within))
+plain-cell (d ∷ t) end number zero ending s ends = record {
+  cell = [];
+  rest = t;
+  within = s.within;
+  left = ap (λ b. b ∷ t) ends;
+  spells = ap (λ n. Ok (pos n)) s.value;
+  reads = λ from is fields.
+      ap (next_record default_config from fields []) (ap (λ b. b ∷ t) ends)
+      ∙ no-byte from fields end t ending (subst (λ xs. IsStart xs from) (ap (λ b. b ∷ t) ends) is);
+}
+plain-cell (d ∷ t) end number (suc k) ending s ends =
     let lt : k < length t = omega (arith, s.within) in
     let (comma, cr, lf, quote, plus, minus) = digit-plain d (and-left (is_digit d) (list_all is_digit (take k t)) s.digits) in
     record {
@@ -135,7 +154,7 @@ plain-cell (d ∷ t) end number (suc k) s some ends =
       left = drop-cons t k 0 lt ∙ ap (λ b. b ∷ drop (suc k) t) ends;
       spells = whole-plus d (take k t) number s.digits s.value s.small;
       reads = λ from is fields.
-          start-one from is fields d t comma cr lf quote
+          start-one (d ∷ t) from is fields d t comma cr lf quote
           ∙ ap (next_record default_config st.InField fields (d ∷ [])) (parts t k end lt ends)
           ∙ copy-all fields (d ∷ []) (take k t) (end ∷ drop (suc k) t) (and-right (is_digit d) (list_all is_digit (take k t)) s.digits);
     }
@@ -150,7 +169,7 @@ minus-cell (d ∷ t) end number (suc k) s some ends = record {
   left = ap (λ n. drop n (45 ∷ d ∷ t)) (add-one (suc k)) ∙ drop-cons (d ∷ t) (suc k) 0 s.within ∙ ap (λ b. b ∷ drop (suc (suc k)) (d ∷ t)) ends;
   spells = whole-minus d (take k t) number s.digits s.value s.small;
   reads = λ from is fields.
-      start-one from is fields 45 (d ∷ t) refl refl refl refl
+      start-one (45 ∷ d ∷ t) from is fields 45 (d ∷ t) refl refl refl refl
       ∙ ap (next_record default_config st.InField fields (45 ∷ [])) (parts (d ∷ t) (suc k) end s.within ends)
       ∙ copy-all fields (45 ∷ []) (take (suc k) (d ∷ t)) (end ∷ drop (suc (suc k)) (d ∷ t)) s.digits;
 }

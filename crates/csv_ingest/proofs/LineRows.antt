@@ -10,8 +10,6 @@ use Rattle.csv.specs.declared.parser.State.{State}
 use Rattle.csv.specs.declared.parser.State.TheVariants as st
 use Rattle.values.proofs.RowLemmas.{length-push, rows-push, sorts-push}
 use Rattle.values.specs.Columns.{Counts, Listed, ListedColumns, pushed, row_pushed, rows_in_columns}
-use Rattle.values.specs.Numbers.{whole_of}
-use Rattle.values.specs.declared.kind.FieldKind.TheVariants.{Long}
 use Rattle.values.specs.declared.value.Value.{Value}
 use Rattle.values.specs.declared.value.Value.TheVariants.{Whole}
 use Rattle.values.specs.declared.whole.WholeFault.TheVariants.{NotANumber}
@@ -22,7 +20,7 @@ use Rattle.csv_ingest.specs.declared.layout.Layout.{Layout}
 use Rattle.csv_ingest.specs.Blocks.{RowsOrFault, after, rows_from}
 use Rattle.csv_ingest.specs.Columns.{OfSorts, is_text_kind}
 use Rattle.csv_ingest.specs.Layouts.{IsLayout, header_of}
-use Rattle.csv_ingest.specs.Lines.{AreLines, AtLineEnd, IsCell, IsLine, IsStart, IsStraight}
+use Rattle.csv_ingest.specs.Lines.{AreLines, AtLineEnd, IsCell, IsLastCell, IsLine, IsPlain, IsStart, IsStraight, StartsCell, cell_number}
 use Rattle.csv_ingest.specs.Names.{number_field}
 use Rattle.csv_ingest.specs.Rows.{all_or_first, cell_value, csv_limits, joined, place_of, placed, row_at, value_at}
 use Rattle.csv_ingest.proofs.CellLemmas.{long-found}
@@ -33,29 +31,25 @@ use Rattle.csv_ingest.proofs.InOrder.{after-none, after-one}
 pub record LineSoFar (line : List ℕ) (numbers : List ℤ) (at i : ℕ) : Type 0 where
   pub cells : List (List ℕ)
   pub within : at ≤ length line
-  pub spell : map (whole_of Long) cells ≡ map Ok (take i numbers)
+  pub spell : map cell_number cells ≡ map Ok (take i numbers)
   pub state : State
-  pub start : IsStart state
+  pub start : IsStart (drop at line) state
   pub reads : next_record default_config st.StartRecord [] [] line ≡ next_record default_config state cells [] (drop at line)
 
-pub no-cells : (line : List ℕ) (numbers : List ℤ) → LineSoFar line numbers 0 0
-no-cells line numbers = record { cells = []; within = omega arith; spell = refl; state = st.StartRecord; start = inl refl; reads = refl }
+pub no-cells : (line : List ℕ) (numbers : List ℤ) → StartsCell line → LineSoFar line numbers 0 0
+no-cells line numbers bare = record { cells = []; within = omega arith; spell = refl; state = st.StartRecord; start = inl (refl, bare); reads = refl }
 
 comma : (fields : List (List ℕ)) (cell rest : List ℕ) → next_record default_config st.InField fields cell (44 ∷ rest) ≡ next_record default_config st.StartField (fields ++ cell ∷ []) [] rest
 unfolding next_record
 comma fields cell rest = refl
 
-line-feed : (fields : List (List ℕ)) (cell rest : List ℕ) → next_record default_config st.InField fields cell (10 ∷ rest) ≡ Some (fields ++ cell ∷ [], st.StartRecord, rest)
-unfolding next_record
-line-feed fields cell rest = refl
-
 after-byte : (text : List ℕ) (n byte : ℕ) (rest : List ℕ) → drop n text ≡ byte ∷ rest → drop (n + 1) text ≡ rest
 after-byte text n byte rest e = sym (drop-drop 1 n text) ∙ ap (drop 1) e
 
-one-spell : (cells : List (List ℕ)) (cell : List ℕ) (numbers : List ℤ) (i : ℕ) (number : ℤ) → i < length numbers → map (whole_of Long) cells ≡ map Ok (take i numbers) → whole_of Long cell ≡ Ok number
-    → map (whole_of Long) (cells ++ cell ∷ []) ≡ map Ok (take (i + 1) (set numbers i number))
+one-spell : (cells : List (List ℕ)) (cell : List ℕ) (numbers : List ℤ) (i : ℕ) (number : ℤ) → i < length numbers → map cell_number cells ≡ map Ok (take i numbers) → cell_number cell ≡ Ok number
+    → map cell_number (cells ++ cell ∷ []) ≡ map Ok (take (i + 1) (set numbers i number))
 one-spell cells cell numbers i number lt so_far spells =
-    map-append (whole_of Long) cells (cell ∷ [])
+    map-append cell_number cells (cell ∷ [])
     ∙ ap₂ ◌++◌ so_far (ap (λ r. r ∷ []) spells)
     ∙ sym (map-append Ok (take i numbers) (number ∷ []))
     ∙ ap (map Ok) (sym (take_more_set numbers i number lt))
@@ -78,12 +72,11 @@ unfolding records_from next_record
 passed zero rest = refl
 passed (suc n) rest = refl
 
-pub one-record : (n : ℕ) (text : List ℕ) (cells : List (List ℕ)) (rest : List ℕ) → next_record default_config st.StartRecord [] [] text ≡ Some (cells, st.StartRecord, rest)
-    → records_from default_config (n + 1) st.StartRecord text ≡ cells ∷ records_from default_config n st.StartRecord rest
+next-of : (n : ℕ) (text : List ℕ) → records_from default_config (n + 1) st.StartRecord text ≡ records_next (records_from default_config n) (next_record default_config st.StartRecord [] [] text)
 unfolding records_from
-one-record n text cells rest e = rw add-one (ap (records_next (records_from default_config n)) e)
+next-of n text = rw add-one refl
 
-pub line-ends : (text line : List ℕ) (numbers : List ℤ) (at i len : ℕ) (number : ℤ) → text ≡ 10 ∷ line → i + 1 ≡ length numbers → LineSoFar line numbers at i → IsCell (drop at line) 10 number len
+pub line-ends : (text line : List ℕ) (numbers : List ℤ) (at i len : ℕ) (number : ℤ) → text ≡ 10 ∷ line → i + 1 ≡ length numbers → LineSoFar line numbers at i → IsLastCell (drop at line) number len
     → IsLine text (set numbers i number) (1 + at + len)
 line-ends text line numbers at i len number is all s c =
     let left : drop (at + len) line ≡ 10 ∷ c.rest = sym (drop-drop len at line) ∙ c.left in
@@ -98,8 +91,10 @@ line-ends text line numbers at i len number is all s c =
       reads = λ n.
           ap (records_from default_config (n + 1) st.StartRecord) is
           ∙ passed (n + 1) line
-          ∙ one-record n line (s.cells ++ c.cell ∷ []) c.rest (s.reads ∙ c.reads s.state s.start s.cells ∙ line-feed s.cells c.cell c.rest)
-          ∙ ap (λ records. (s.cells ++ c.cell ∷ []) ∷ records) (sym (passed n c.rest) ∙ ap (records_from default_config n st.StartRecord) (sym whole));
+          ∙ next-of n line
+          ∙ ap (records_next (records_from default_config n)) s.reads
+          ∙ c.reads s.state s.start s.cells n
+          ∙ ap (λ records. (s.cells ++ c.cell ∷ []) ∷ records) (ap (records_from default_config n st.StartRecord) (sym whole));
     }
 
 -- ---- a row of numbers
@@ -130,18 +125,23 @@ all-at f d e (x ∷ xs) [] same each = absurd (omega (arith, same))
 all-at f d e (x ∷ xs) (y ∷ ys) same each =
     ap₂ joined (each 0 (omega arith)) (all-at f d e xs ys (omega (arith, same)) (λ k lt. each (suc k) (omega (arith, lt))))
 
-spelled-at : (cells : List (List ℕ)) (numbers : List ℤ) (k : ℕ) → map (whole_of Long) cells ≡ map Ok numbers → k < length numbers → whole_of Long (get_or cells k []) ≡ Ok (get_or numbers k (pos 0))
+spelled-at : (cells : List (List ℕ)) (numbers : List ℤ) (k : ℕ) → map cell_number cells ≡ map Ok numbers → k < length numbers → cell_number (get_or cells k []) ≡ Ok (get_or numbers k (pos 0))
 spelled-at cells numbers k spell lt =
-    let count : length cells ≡ length numbers = sym (length-map cells (whole_of Long)) ∙ ap length spell ∙ length-map numbers Ok in
-    sym (get_or-map (whole_of Long) cells k [] (Err NotANumber) (omega (arith, count, lt)))
+    let count : length cells ≡ length numbers = sym (length-map cells cell_number) ∙ ap length spell ∙ length-map numbers Ok in
+    sym (get_or-map cell_number cells k [] (Err NotANumber) (omega (arith, count, lt)))
     ∙ ap (λ rs. get_or rs k (Err NotANumber)) spell
     ∙ get_or-map Ok numbers k (pos 0) (Err NotANumber) lt
 
-own-value : (row : ℕ) (cells : List (List ℕ)) (field : Field) (place : Option ℕ) (k : ℕ) (n : ℤ) → field.kind ≡ Long → place ≡ Some (k + 1) → whole_of Long (get_or cells k []) ≡ Ok n → value_at row cells field place ≡ Ok (Whole n)
-own-value row cells field place k n kind is spells =
+plain-value : (field : Field) (cell : List ℕ) (n : ℤ) → IsPlain field → cell_number cell ≡ Ok n → cell_value field cell ≡ Ok (Whole n)
+plain-value field [] n plain is =
+    let same : pos 0 ≡ n = cc in
+    ap Ok (plain.default ∙ ap Whole same)
+plain-value field (b ∷ bytes) n plain is = long-found (b ∷ bytes) (Some n) (sym (ap result_ok is)) field plain.kind
+
+own-value : (row : ℕ) (cells : List (List ℕ)) (field : Field) (place : Option ℕ) (k : ℕ) (n : ℤ) → IsPlain field → place ≡ Some (k + 1) → cell_number (get_or cells k []) ≡ Ok n → value_at row cells field place ≡ Ok (Whole n)
+own-value row cells field place k n plain is spells =
     let at : k + 1 - 1 ≡ k = omega arith in
-    let value : cell_value field (get_or cells k []) ≡ Ok (Whole n) = long-found (get_or cells k []) (Some n) (sym (ap result_ok spells)) field kind in
-    ap (value_at row cells field) is ∙ ap (λ i. placed row (k + 1) (cell_value field (get_or cells i []))) at ∙ ap (placed row (k + 1)) value
+    ap (value_at row cells field) is ∙ ap (λ i. placed row (k + 1) (cell_value field (get_or cells i []))) at ∙ ap (placed row (k + 1)) (plain-value field (get_or cells k []) n plain spells)
 
 -- some field
 a-field : Field
@@ -158,7 +158,7 @@ module _ (layout : Layout) (is : IsLayout layout) (straight : IsStraight layout)
   pub line-row : (text : List ℕ) (numbers : List ℤ) (len row : ℕ) (line : IsLine text numbers len) → length numbers ≡ length fields → row ≤ layout.most
       → row_at csv_limits fields (header_of layout) (row, line.cells) ≡ Ok (map Whole numbers)
   line-row text numbers len row line width few =
-      let count : length line.cells ≡ length numbers = sym (length-map line.cells (whole_of Long)) ∙ ap length line.spell ∙ length-map numbers Ok in
+      let count : length line.cells ≡ length numbers = sym (length-map line.cells cell_number) ∙ ap length line.spell ∙ length-map numbers Ok in
       let names : length (header_of layout) ≡ length layout.names.now = length-map layout.names.now (λ f. f.now) in
       let much : nat_lt (most_rows (length fields)) row ≡ false = let most = is.most in grind (arith, nat_tests) in
       let short : not (length line.cells == length (header_of layout)) ≡ false = let same : length line.cells ≡ length (header_of layout) = count ∙ width ∙ straight.width ∙ sym names in grind (arith, nat_tests) in
@@ -220,4 +220,45 @@ pub number-columns : (layout : Layout) → IsStraight layout → (columns : List
 number-columns layout straight columns sorts k d lt =
     let below : k < length layout.fields.now = omega (arith, lt, widths layout.fields.now columns sorts) in
     sym (get_or-map (λ c. c.are_texts) columns k d false lt) ∙ ap (λ xs. get_or xs k false) sorts ∙ get_or-map (λ f. is_text_kind f.kind) layout.fields.now k a-field false below
-    ∙ ap is_text_kind (straight.kinds k a-field below)
+    ∙ ap is_text_kind (straight.kinds k a-field below).kind
+
+-- ---- the last cell of a line
+
+line-feed : (fields : List (List ℕ)) (cell rest : List ℕ) → next_record default_config st.InField fields cell (10 ∷ rest) ≡ Some (fields ++ cell ∷ [], st.StartRecord, rest)
+unfolding next_record
+line-feed cells cell rest = refl
+
+carriage-return : (fields : List (List ℕ)) (cell rest : List ℕ) → next_record default_config st.InField fields cell (13 ∷ rest) ≡ Some (fields ++ cell ∷ [], st.AfterCr, rest)
+unfolding next_record
+carriage-return cells cell rest = refl
+
+pub after-return : (n : ℕ) (rest : List ℕ) → records_from default_config n st.AfterCr (10 ∷ rest) ≡ records_from default_config n st.StartRecord (10 ∷ rest)
+unfolding records_from next_record
+after-return zero rest = refl
+after-return (suc n) rest = refl
+
+pub last-at-feed : (text : List ℕ) (number : ℤ) (len : ℕ) → IsCell text 10 number len → IsLastCell text number len
+last-at-feed text number len c = record {
+  cell = c.cell;
+  rest = c.rest;
+  within = c.within;
+  left = c.left;
+  spells = c.spells;
+  reads = λ s is fields n.
+      ap (records_next (records_from default_config n)) (c.reads s is fields ∙ line-feed fields c.cell c.rest)
+      ∙ ap (λ records. (fields ++ c.cell ∷ []) ∷ records) (sym (passed n c.rest));
+}
+
+pub last-at-return : (text : List ℕ) (number : ℤ) (len : ℕ) (rest : List ℕ) → IsCell text 13 number len → drop (len + 1) text ≡ 10 ∷ rest → IsLastCell text number (len + 1)
+last-at-return text number len rest c feed =
+    let left : c.rest ≡ 10 ∷ rest = sym (after-byte text len 13 c.rest c.left) ∙ feed in
+    record {
+      cell = c.cell;
+      rest = rest;
+      within = omega (arith, c.within, length-drop (len + 1) text, ap length feed);
+      left = feed;
+      spells = c.spells;
+      reads = λ s is fields n.
+          ap (records_next (records_from default_config n)) (c.reads s is fields ∙ carriage-return fields c.cell c.rest)
+          ∙ ap (λ records. (fields ++ c.cell ∷ []) ∷ records) (ap (records_from default_config n st.AfterCr) left ∙ after-return n rest);
+    }

@@ -1,13 +1,15 @@
 -- Lines of whole numbers in a text, whose cells have no quotes.
-use Rattle.std.specs.Prelude.{◌≡◌, ◌<◌, ◌≤◌, ◌+◌, ◌^◌, ◌∷◌, ◌⊎◌, ℕ, ℤ, List, [], Bool, not, nat_lt, ◌==◌, ◌&&◌, Some, None, length, map, take, drop, Ok, true, get_or}
+use Rattle.std.specs.Prelude.{◌≡◌, ◌<◌, ◌≤◌, ◌+◌, ◌^◌, ◌∷◌, ◌⊎◌, ◌++◌, ℕ, ℤ, pos, List, [], Bool, false, not, nat_lt, ◌==◌, ◌&&◌, Some, None, Result, length, map, take, drop, Ok, true, get_or}
 use Rattle.std.specs.List.{list_all}
 use Rattle.csv.specs.Machine.{next_record}
-use Rattle.csv.specs.Reading.{default_config, records_from}
+use Rattle.csv.specs.Reading.{default_config, records_from, records_next}
 use Rattle.csv.specs.declared.parser.State.{State}
 use Rattle.csv.specs.declared.parser.State.TheVariants as st
 use Rattle.values.specs.Columns.{ListedColumns, rows_of}
 use Rattle.values.specs.Numbers.{is_digit, place_value, whole_of}
 use Rattle.values.specs.declared.kind.FieldKind.TheVariants.{Long}
+use Rattle.values.specs.declared.value.Value.TheVariants.{Whole}
+use Rattle.values.specs.declared.whole.WholeFault.{WholeFault}
 use Rattle.table_schema.specs.declared.field.Field.{Field}
 use Rattle.csv_ingest.specs.Blocks.{after, rows_from}
 use Rattle.csv_ingest.specs.declared.layout.Layout.{Layout}
@@ -19,18 +21,41 @@ pub record SpellsAt (text : List ℕ) (number len : ℕ) : Type 0 where
   pub value : place_value (take len text) ≡ number
   pub small : number < 10 ^ 18
 
--- a field starts in the state
-abbrev pub IsStart : State → Type 0
-IsStart s = (s ≡ st.StartRecord) ⊎ (s ≡ st.StartField)
+-- the number that a cell is, where an empty one is 0
+abbrev pub cell_number : List ℕ → Result ℤ WholeFault
+cell_number [] = Ok (pos 0)
+cell_number (b ∷ bytes) = whole_of Long (b ∷ bytes)
 
--- the cell of so many bytes at the start of a text spells a number, and this byte comes after it
+-- a comma, a line feed or a carriage return
+abbrev pub EndsCell : ℕ → Type 0
+EndsCell byte = (byte ≡ 44) ⊎ (byte ≡ 10) ⊎ (byte ≡ 13)
+
+-- the text does not start with the end of a line
+abbrev pub StartsCell : List ℕ → Type 0
+StartsCell text = ((get_or text 0 0 == 10) ≡ false) × ((get_or text 0 0 == 13) ≡ false)
+
+-- a field of this text starts in the state
+abbrev pub IsStart : List ℕ → State → Type 0
+IsStart text s = ((s ≡ st.StartRecord) × StartsCell text) ⊎ (s ≡ st.StartField)
+
+-- the cell of so many bytes at the start of a text is a number, and this byte comes after it
 pub record IsCell (text : List ℕ) (end : ℕ) (number : ℤ) (len : ℕ) : Type 0 where
   pub cell : List ℕ
   pub rest : List ℕ
   pub within : len < length text
   pub left : drop len text ≡ end ∷ rest
-  pub spells : whole_of Long cell ≡ Ok number
-  pub reads : (s : State) → IsStart s → (fields : List (List ℕ)) → next_record default_config s fields [] text ≡ next_record default_config st.InField fields cell (end ∷ rest)
+  pub spells : cell_number cell ≡ Ok number
+  pub reads : (s : State) → IsStart text s → (fields : List (List ℕ)) → next_record default_config s fields [] text ≡ next_record default_config st.InField fields cell (end ∷ rest)
+
+-- the same at the end of a line, with so many bytes before its line feed: a record ends, and the next is read from there
+pub record IsLastCell (text : List ℕ) (number : ℤ) (len : ℕ) : Type 0 where
+  pub cell : List ℕ
+  pub rest : List ℕ
+  pub within : len < length text
+  pub left : drop len text ≡ 10 ∷ rest
+  pub spells : cell_number cell ≡ Ok number
+  pub reads : (s : State) → IsStart text s → (fields : List (List ℕ)) → (n : ℕ)
+      → records_next (records_from default_config n) (next_record default_config s fields [] text) ≡ (fields ++ cell ∷ []) ∷ records_from default_config n st.StartRecord (10 ∷ rest)
 
 -- the text starts with the end of a line
 abbrev pub AtLineEnd : List ℕ → Type 0
@@ -40,24 +65,35 @@ AtLineEnd text = (rest : List ℕ) × (text ≡ 10 ∷ rest)
 abbrev pub is_bare : ℕ → Bool
 is_bare byte = nat_lt byte 128 && not (byte == 34) && not (byte == 13) && not (byte == 10)
 
--- the first line of a text has no quotes and ends at this place
-pub record IsHeaderEnd (text : List ℕ) (end : ℕ) : Type 0 where
-  pub some : 0 < end
+-- a line ends at this place, and its line feed is at that one
+pub record IsFeedAfter (text : List ℕ) (at end : ℕ) : Type 0 where
   pub within : end < length text
-  pub bare : list_all is_bare (take end text) ≡ true
   pub line_feed : get_or text end 0 ≡ 10
+  pub here : (end ≡ at) ⊎ ((end ≡ at + 1) × (get_or text at 0 ≡ 13))
+
+-- the first line of a text has some bytes and no quotes, and its line feed is at this place
+pub record IsHeaderEnd (text : List ℕ) (end : ℕ) : Type 0 where
+  pub len : ℕ
+  pub some : 0 < len
+  pub bare : list_all is_bare (take len text) ≡ true
+  pub feed : IsFeedAfter text len end
 
 -- the line after the line's end at the start of a text is of these numbers, and this much of the text is before its own end
 pub record IsLine (text : List ℕ) (numbers : List ℤ) (len : ℕ) : Type 0 where
   pub cells : List (List ℕ)
   pub within : len ≤ length text
-  pub spell : map (whole_of Long) cells ≡ map Ok numbers
+  pub spell : map cell_number cells ≡ map Ok numbers
   pub at_end : AtLineEnd (drop len text)
   pub reads : (n : ℕ) → records_from default_config (n + 1) st.StartRecord text ≡ cells ∷ records_from default_config n st.StartRecord (drop len text)
 
+-- a field of whole numbers, 0 where a cell is empty
+pub record IsPlain (field : Field) : Type 0 where
+  pub kind : field.kind ≡ Long
+  pub default : field.default ≡ Whole (pos 0)
+
 -- each field is of whole numbers, and in its own column
 pub record IsStraight (layout : Layout) : Type 0 where
-  pub kinds : (k : ℕ) (d : Field) → k < length layout.fields.now → (get_or layout.fields.now k d).kind ≡ Long
+  pub kinds : (k : ℕ) (d : Field) → k < length layout.fields.now → IsPlain (get_or layout.fields.now k d)
   pub places : (k : ℕ) → k < length layout.fields.now → get_or layout.places.items k None ≡ Some (k + 1)
   pub width : length layout.fields.now ≡ length layout.names.now
 

@@ -7,7 +7,7 @@ ghost use Rattle.values.specs.Columns.{rows_of as rows_of_columns};
 ghost use Rattle.csv_ingest.specs.Blocks.{IsFullBlock, IsLastBlock, RowsOrFault, after, rows_from};
 ghost use Rattle.csv_ingest.specs.Columns.{OfSorts};
 ghost use Rattle.csv_ingest.specs.Names.{number_name};
-ghost use Rattle.csv_ingest.specs.Lines.{AreLines, IsHeaderEnd, is_bare};
+ghost use Rattle.csv_ingest.specs.Lines.{AreLines, IsFeedAfter, IsHeaderEnd, is_bare};
 ghost use Rattle.csv_ingest.specs.NumberBlocks.{AreNumbers, Gives, GivesTable, IsByRecords, IsNumberBlocks, IsNumberHeader};
 ghost use Rattle.csv_ingest.specs.Reading.{Reads, records_left};
 ghost use Rattle.csv_ingest.specs.Rows.{csv_limits, header_of, plain_in, records_of};
@@ -161,16 +161,27 @@ fn is_bare(byte: u8) -> bool
     byte < 128 && byte != b'"' && byte != b'\r' && byte != b'\n'
 }
 
-// The end of the first line of a text, if it has no quotes.
+// Where the line feed is that is here, or after a carriage return that is here.
+fn line_feed_at(text: &[u8], at: usize) -> Option<usize>
+    requires { at < length text.now }
+    ensures { IfSome result (IsFeedAfter text.now at) }
+{
+    if text[at] == b'\n' {
+        return Some(at);
+    }
+    if text[at] == b'\r' && at + 1 < text.len() && text[at + 1] == b'\n' {
+        return Some(at + 1);
+    }
+    None
+}
+
+// The line feed at the end of the first line of a text, if that line has characters and no quotes.
 fn header_end(text: &[u8]) -> Option<usize>
     ensures { IfSome result (IsHeaderEnd text.now) }
 {
     'bytes: for i in 0..text.len() {
-        if text[i] == b'\n' && i > 0 {
-            return Some(i);
-        }
         if !is_bare(text[i]) {
-            return None;
+            return if i == 0 { None } else { line_feed_at(text, i) };
         }
     }
     None

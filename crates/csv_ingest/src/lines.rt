@@ -6,14 +6,14 @@ ghost use Rattle.values.specs.Numbers.{is_digit, negative};
 ghost use Rattle.values.specs.declared.value.Value.TheVariants as value;
 ghost use Rattle.csv_ingest.specs.Columns.{OfSorts};
 ghost use Rattle.csv_ingest.specs.Layouts.{IsLayout, header_of};
-ghost use Rattle.csv_ingest.specs.Lines.{AreLines, IsCell, IsLine, IsStraight, SpellsAt};
+ghost use Rattle.csv_ingest.specs.Lines.{AreLines, EndsCell, IsCell, IsLastCell, IsLine, IsPlain, IsStraight, SpellsAt, StartsCell};
 
 use crate::layout::Layout;
 use crate::records::from_place;
 use crate::rows::empty_columns;
 use std::alloc::{AllocError, Global};
 use table_schema::Field;
-use values::{Column, Columns, FieldKind};
+use values::{Column, Columns, FieldKind, Value};
 
 // So many digits spell a number within 64 bits, and one more still fits in them.
 const FEW_DIGITS: usize = 18;
@@ -81,17 +81,50 @@ fn digits_before(text: &[u8], end: u8) -> Option<(u64, usize)>
     Some((number, len))
 }
 
-// The number in a cell before this byte, and how long the cell is.
+// The number in a cell before this byte, and how long the cell is. An empty one is 0.
 #[inline(always)]
 fn cell_at(text: &[u8], end: u8) -> Option<(i64, usize)>
+    requires { EndsCell end }
     ensures { IfSome result (λ found. IsCell text.now end found.0 found.1) }
 {
     if let Some(digits) = after(text, b'-') {
         let (number, len) = digits_before(digits, end)?;
         return Some((signed(true, number), len + 1));
     }
-    let (number, len) = digits_before(text, end)?;
+    let (number, len) = digits_at(text)?;
+    if text[len] != end {
+        return None;
+    }
     Some((signed(false, number), len))
+}
+
+// The number in the last cell of a line that ends by a carriage return and a line feed, and how much
+// comes before the line feed.
+#[inline(never)]
+fn cell_before_return(text: &[u8]) -> Option<(i64, usize)>
+    ensures { IfSome result (λ found. IsLastCell text.now found.0 found.1) }
+{
+    let (number, len) = cell_at(text, b'\r')?;
+    after(from_place(text, len + 1), b'\n')?;
+    Some((number, len + 1))
+}
+
+// The same of any line.
+#[inline(always)]
+fn last_cell(text: &[u8]) -> Option<(i64, usize)>
+    ensures { IfSome result (λ found. IsLastCell text.now found.0 found.1) }
+{
+    match cell_at(text, b'\n') {
+        Some(found) => Some(found),
+        None => cell_before_return(text),
+    }
+}
+
+// Whether a line has no character.
+fn is_blank(line: &[u8]) -> bool
+    ensures { result ≡ false → StartsCell line.now }
+{
+    line.is_empty() || line[0] == b'\n' || line[0] == b'\r'
 }
 
 // Reads the line of so many whole numbers after the line's end at the start of a text, and tells how
@@ -101,7 +134,7 @@ fn read_line(text: &[u8], numbers: &mut [i64]) -> Option<usize>
     ensures line { IfSome result (λ len. IsLine text.now numbers.new len) }
 {
     let line = after(text, b'\n')?;
-    if numbers.is_empty() {
+    if numbers.is_empty() || is_blank(line) {
         return None;
     }
     let last = numbers.len() - 1;
@@ -111,7 +144,7 @@ fn read_line(text: &[u8], numbers: &mut [i64]) -> Option<usize>
         numbers[i] = number;
         at += len + 1;
     }
-    let (number, len) = cell_at(from_place(line, at), b'\n')?;
+    let (number, len) = last_cell(from_place(line, at))?;
     numbers[last] = number;
     Some(1 + at + len)
 }
@@ -130,12 +163,12 @@ fn push_numbers(columns: &mut Vec<Column>, numbers: &[i64]) -> Result<(), AllocE
     Ok(())
 }
 
-// Whether a field is of whole numbers and in the column of this place.
+// Whether a field is of whole numbers, 0 where a cell is empty, and in the column of this place.
 fn is_own(field: &Field, place: Option<usize>, column: usize) -> bool
-    ensures { result ≡ true → (field.now.kind ≡ FieldKind.Long) × (place ≡ Some column) }
+    ensures { result ≡ true → (IsPlain field.now) × (place ≡ Some column) }
 {
-    match (field.kind, place) {
-        (FieldKind::Long, Some(at)) => at == column,
+    match (field.kind, &field.default, place) {
+        (FieldKind::Long, Value::Whole(0), Some(at)) => at == column,
         _ => false,
     }
 }

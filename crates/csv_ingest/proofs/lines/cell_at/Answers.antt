@@ -15,6 +15,5 @@ returns-in-Some c =
 pub returns : goal.returns
 returns c =
     let same : to_z w64 (of_z w64 c.signed-2.result) ≡ pos c.in_ok-number-2.number = search rules in
-    let found = c.in_ok-number-2.ensures in
     subst (λ z. IsCell c.args.text.now c.args.end z c.in_ok-number-2.len) (sym same)
-    (plain-cell c.args.text.now c.args.end c.in_ok-number-2.number c.in_ok-number-2.len found.spells found.some found.ends)
+    (plain-cell c.args.text.now c.args.end c.in_ok-number-2.number c.in_ok-number-2.len c.requires c.in_ok-number-2.ensures c.if-text-len.false)

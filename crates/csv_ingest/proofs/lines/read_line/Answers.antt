@@ -1,12 +1,12 @@
 use Rattle.std.proofs.Common.{◌≡◌, ◌<◌, ◌+◌, ◌-◌, ◌∙◌, length, refl, sym, subst, arith, rules, to_z, of_z, w64, set}
 use Rattle.std.proofs.lemmas.Bool.Decides.{nat_tests}
 use Rattle.std.proofs.lemmas.List.{length-set}
-use Rattle.csv_ingest.specs.Lines.{IsCell, IsLine}
+use Rattle.csv_ingest.specs.Lines.{IsCell, IsLastCell, IsLine}
 use Rattle.csv_ingest.proofs.LineRows.{LineSoFar, cell-more, line-ends, no-cells}
 use Rattle.csv_ingest.proofs.lines.read_line.Goals as goal
 
 pub cells-init : goal.cells-init
-cells-init c = record { width = refl; line = no-cells c.in_ok-line.line.now c.args.numbers.now }
+cells-init c = record { width = refl; line = no-cells c.in_ok-line.line.now c.args.numbers.now (c.is_blank.ensures c.if-is_blank.false) }
 
 pub cells-preserved : goal.cells-preserved
 cells-preserved c =
@@ -29,4 +29,4 @@ returns-clause-line c =
     subst (λ z. IsLine c.args.text.now (set c.cells.numbers (length c.args.numbers.now - 1) z) (1 + c.cells.at + c.in_ok-number-2.len)) (sym same)
     (subst (λ k. IsLine c.args.text.now (set c.cells.numbers k c.in_ok-number-2.number) (1 + c.cells.at + c.in_ok-number-2.len)) place
     (line-ends c.args.text.now c.in_ok-line.line.now c.cells.numbers c.cells.at c.cells.i c.in_ok-number-2.len c.in_ok-number-2.number c.in_ok-line.ensures all soFar.line
-    (subst (λ xs. IsCell xs 10 c.in_ok-number-2.number c.in_ok-number-2.len) c.from_place-2.ensures c.in_ok-number-2.ensures)))
+    (subst (λ xs. IsLastCell xs c.in_ok-number-2.number c.in_ok-number-2.len) c.from_place-2.ensures c.in_ok-number-2.ensures)))
