@@ -17,7 +17,6 @@ use Rattle.agg_laws.specs.Docs.{Doc, projected}
 use Rattle.table_schema.specs.declared.field.Field.{Field}
 use Rattle.table_schema.specs.declared.query.Agg.{Agg}
 use Rattle.table_schema.specs.declared.settings.TreeSetting.{TreeSetting}
-use Rattle.table_schema.specs.declared.table.Table.{Table}
 use Rattle.table_schema.specs.Roles.{is_numeric}
 use Rattle.table_schema.specs.ValidSettings.{pair_fits}
 use Rattle.segment_file.proofs.ImageRows.{and_first, and_second}

@@ -107,7 +107,12 @@ pub fn ids_as_given(
     ensures { IfOk result (λ ids. ids.items ≡ ids_of (rows_of columns.now) at) }
 {
     let fields = table.schema.fields.as_slice();
-    let coded = coded(alloc, fields[at].kind, columns.column(at), &RowOrder::AsGiven)?;
+    let coded = coded(
+        alloc,
+        fields[at].kind,
+        columns.column(at),
+        &RowOrder::AsGiven,
+    )?;
     Ok(coded.1)
 }
 

@@ -17,9 +17,9 @@ ghost use Rattle.segment_build.specs.Fitting.{AreColumns};
 ghost use Rattle.segment_build.specs.Growing.{IsKnown, IsTooLarge, TreesFit, nodes_grown, numbers_for, stars_grown};
 ghost use Rattle.segment_build.specs.declared.fault.BuildFault.TheVariants.{NoMemory, TooLarge};
 
+use crate::BuildFault;
 use crate::numbers::{numbers_of, zeros};
 use crate::order::ids_as_given;
-use crate::BuildFault;
 use agg_laws::StarTable;
 use outside::{Bytes, NoMemory, Seq};
 use star_builder::{TreeFault, build_merged};
@@ -38,11 +38,7 @@ pub struct Grown {
 
 /// The sections of all star-trees of the columns' rows in their order, or the number of the first
 /// tree that takes more bytes than one may. What is made for a tree is let go before the next.
-pub fn grow_trees(
-    alloc: Global,
-    table: &Table,
-    columns: &Columns,
-) -> Result<Grown, BuildFault>
+pub fn grow_trees(alloc: Global, table: &Table, columns: &Columns) -> Result<Grown, BuildFault>
     requires valid { IsValidTable table.now }
     requires columns { AreColumns table.now.schema.fields columns.now }
     ensures nodes { IfOk result (λ grown. grown.nodes.items ≡ nodes_grown
@@ -158,11 +154,7 @@ fn split_ids(
 }
 
 // The numbers of the rows for these pairs.
-fn pair_numbers(
-    alloc: Global,
-    columns: &Columns,
-    pairs: &[Pair],
-) -> Result<Seq<Seq<i64>>, NoMemory>
+fn pair_numbers(alloc: Global, columns: &Columns, pairs: &[Pair]) -> Result<Seq<Seq<i64>>, NoMemory>
     requires { All (λ pair. IsKnown (length columns.now.columns) pair.column) pairs.now }
     ensures { IfOk result (λ numbers. numbers
         ≡ map (λ pair. numbers_for columns.now pair.column) pairs.now) }
@@ -176,11 +168,7 @@ fn pair_numbers(
 }
 
 // Those in the column of a pair, and 0 where rows are counted.
-fn pair_column(
-    alloc: Global,
-    columns: &Columns,
-    column: Option<u16>,
-) -> Result<Vec<i64>, NoMemory>
+fn pair_column(alloc: Global, columns: &Columns, column: Option<u16>) -> Result<Vec<i64>, NoMemory>
     requires { IsKnown (length columns.now.columns) column }
     ensures { IfOk result (λ numbers. numbers.items
         ≡ numbers_for columns.now column) }

@@ -1,5 +1,5 @@
-use Rattle.std.proofs.Common.{◌∙◌, ◌≡◌, map, replicate, sym, ap}
-use Rattle.std.specs.Prelude.{pos, IfOk}
+use Rattle.std.proofs.Common.{◌∙◌, map, replicate, sym, ap}
+use Rattle.std.specs.Prelude.{pos}
 use Rattle.std.proofs.lemmas.Result.{IfOk-weaker}
 use Rattle.segment_file.specs.Trees.{number_of}
 use Rattle.segment_build.proofs.Growing.{text_numbers, whole_numbers}

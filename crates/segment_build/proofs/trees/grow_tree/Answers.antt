@@ -1,9 +1,8 @@
-use Rattle.std.proofs.Common.{◌≡◌, ◌∙◌, ◌<◌, ◌≤◌, sym, ap, subst, arith}
-use Rattle.std.specs.Prelude.{OnOk}
+use Rattle.std.proofs.Common.{◌∙◌, ◌<◌, ◌≤◌, sym, ap, subst, arith}
 use Rattle.values.specs.Columns.{rows_of}
 use Rattle.agg_laws.specs.Flat.{flat, tree_bytes}
 use Rattle.agg_laws.specs.Rows.{merged_rows}
-use Rattle.agg_laws.specs.Tree.{HaveNoStar, merged_docs, tree_of}
+use Rattle.agg_laws.specs.Tree.{HaveNoStar}
 use Rattle.star_file.specs.Reading.{doc_width}
 use Rattle.star_file.specs.Rules.{most_bytes}
 use Rattle.segment_file.specs.Trees.{documents, written}

@@ -1,4 +1,4 @@
-use Rattle.std.proofs.Common.{◌<◌, ◌≤◌, List, length, ap, sym, subst, ◌∙◌, arith}
+use Rattle.std.proofs.Common.{◌≤◌, List, ap, sym, subst, ◌∙◌}
 use Rattle.std.specs.Prelude.{OnOk}
 use Rattle.std.specs.declared.result.Result.{Result}
 use Rattle.std.specs.declared.result.Result.TheVariants.{Ok, Err}
@@ -12,7 +12,6 @@ use Rattle.agg_laws.proofs.DocLemmas.{rows_join}
 use Rattle.agg_laws.proofs.TreeLemmas.{tree_covers}
 use Rattle.agg_laws.proofs.ShareLemmas.{tree_shares}
 use Rattle.agg_laws.proofs.FlatTrees.{tree_flat}
-use Rattle.agg_laws.proofs.FlatNodes.{merged_some, merged_fewer}
 use Rattle.star_builder.specs.Building.{Written, Proper, bytes_of}
 use Rattle.star_builder.proofs.Children.{merged_proper, have_ids}
 use Rattle.star_builder.proofs.build.build_merged.Goals as goal
