@@ -129,6 +129,7 @@ fn is_blank(line: &[u8]) -> bool
 
 // Reads the line of so many whole numbers after the line's end at the start of a text, and tells how
 // long both are.
+#[inline(never)]
 fn read_line(text: &[u8], numbers: &mut [i64]) -> Option<usize>
     ensures width { length numbers.new ≡ length numbers.old }
     ensures line { IfSome result (λ len. IsLine text.now numbers.new len) }
