@@ -1,9 +1,9 @@
 -- What is read of the segments of a store, by what its parts read.
-use Rattle.std.proofs.Common.{◌≡◌, ◌≢◌, ◌∙◌, ◌≤◌, ◌<◌, ◌+◌, ◌++◌, ◌⊎◌, ℕ, Bool, true, false, List, [], take, length, get_or, All, Option, Some, None, option_map, Result, Ok, Err, IfSome, inl, inr, refl, sym, ap, subst, arith, append-nil, length-take}
+use Rattle.std.proofs.Common.{◌≡◌, ◌≢◌, ◌∙◌, ◌<◌, ◌+◌, ◌++◌, ◌⊎◌, ℕ, Bool, true, false, List, [], take, length, get_or, All, Option, Some, None, Result, Ok, Err, IfSome, inl, inr, refl, sym, ap, subst, arith, append-nil, length-take}
 use Rattle.std.proofs.lemmas.Bool.{false≢true}
 use Rattle.std.proofs.lemmas.Cmp.{eq_by_cmp_equiv, nat_list_cmp_total}
 use Rattle.std.proofs.lemmas.List.{get_or-append-add, get_or-take, length-append}
-use Rattle.std.proofs.lemmas.List.Elements.{All-append, All-nil}
+use Rattle.std.proofs.lemmas.List.Elements.{All-nil}
 use Rattle.std.proofs.lemmas.Map.Keys.{IsDistinct-from_sorted, apart_from_distinct}
 use Rattle.std.specs.List.{AllZip, Contains}
 use Rattle.std.specs.Ordering.{eq_by_cmp}

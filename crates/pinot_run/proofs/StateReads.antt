@@ -1,5 +1,5 @@
 -- What is read of the segments of a state.
-use Rattle.std.proofs.Common.{◌≡◌, ◌≢◌, ◌∙◌, ◌≤◌, ◌<◌, ◌+◌, ◌||◌, ◌⊎◌, ℕ, zero, suc, Bool, true, false, List, [], ◌∷◌, length, get_or, All, Option, Some, None, Result, Ok, Err, IfSome, inl, inr, refl, sym, ap, subst, arith}
+use Rattle.std.proofs.Common.{◌≡◌, ◌≢◌, ◌∙◌, ◌≤◌, ◌<◌, ◌+◌, ◌||◌, ◌⊎◌, ℕ, zero, suc, Bool, true, false, List, [], ◌∷◌, length, get_or, All, Option, Some, None, Result, Ok, Err, inl, inr, refl, sym, ap, subst, arith}
 use Rattle.std.proofs.lemmas.Bool.{false≢true}
 use Rattle.std.proofs.lemmas.Cmp.{eq_by_cmp_equiv, nat_list_cmp_total}
 use Rattle.std.proofs.lemmas.List.{length-map, take_all}
@@ -22,7 +22,7 @@ use Rattle.segment_file.specs.Ordered.{ordered}
 use Rattle.segment_file.specs.Parts.{head_sections, raw_sections}
 use Rattle.sql_reply.specs.Asked.{asked}
 use Rattle.sql_reply.specs.declared.fault.SqlFault.{SqlFault}
-use Rattle.query_executor.specs.Logs.{EndsBy, IsFileOf, IsHeadRead, LogsWhere}
+use Rattle.query_executor.specs.Logs.{EndsBy, IsHeadRead, LogsWhere}
 use Rattle.query_executor.specs.Reads.{Grown, ReadsNone, ReadsPlanned, raw_span, star_span}
 use Rattle.query_executor.specs.Segments.{HasImage}
 use Rattle.query_executor.proofs.GrownLemmas.{grown_so, same_name}
@@ -39,16 +39,16 @@ use Rattle.table_store.proofs.KeyLemmas.{keys_stand}
 use Rattle.table_store.proofs.SegmentLemmas.{is_name, tied_name}
 use Rattle.table_store.proofs.StandsLemmas.{table_there}
 use Rattle.pinot_run.specs.Command.{Ask, Build, Command, Create, Listing, Scan}
-use Rattle.pinot_run.specs.Consulted.{Consulted, HasRead, IsFileAmong, ReadsAbout, ReadsAsked, ReadsEach, ReadsHeads, ReadsStored}
+use Rattle.pinot_run.specs.Consulted.{Consulted, IsFileAmong, ReadsAbout, ReadsAsked, ReadsEach, ReadsHeads, ReadsStored}
 use Rattle.pinot_run.specs.Laws.{IsLiveFile, ReadsFor, ReadsSegment, ReadsState, SegmentsRead, is_done}
 use Rattle.pinot_run.specs.Notes.{status_of}
 use Rattle.pinot_run.specs.Profile.{TableFile}
-use Rattle.pinot_run.specs.Promise.{IsAnswered, Promise}
+use Rattle.pinot_run.specs.Promise.{Promise}
 use Rattle.pinot_run.specs.Queried.{rows_in}
 use Rattle.pinot_run.specs.Ran.{IsAllowed}
 use Rattle.pinot_run.specs.Step.{Answer, Refuses, Replies, status_after}
 use Rattle.pinot_run.specs.Stored.{HasTableFile}
-use Rattle.pinot_run.specs.Touched.{LogsOpened, Touched}
+use Rattle.pinot_run.specs.Touched.{LogsOpened}
 use Rattle.pinot_run.specs.World.{Devices, World}
 use Rattle.pinot_run.specs.declared.about.About.{About}
 use Rattle.pinot_run.specs.declared.about.About.TheVariants.{Plans, Rows, RowsAndPlans}
