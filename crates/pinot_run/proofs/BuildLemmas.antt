@@ -284,6 +284,7 @@ ran_unplaced name csv named i a b (stop.Refused line) place =
     (λ inputs. refuses_so a.held b.held (λ files. BuildRefuses name csv inputs files line) place.reads.held
     (told_each a.held (λ files. PlaceRefuses name files line) (λ files. BuildRefuses name csv inputs files line) (λ files h. inl h) place.stops.1)) in
     record {
+      reads = tt;
       touched = record { inputs = (i, not_read csv i, refl); depot = looked_alone (file_of name ∷ []) a b place.reads place.log };
       counted = none name csv named i i a b b refl place.reads (λ e. cc) refl refl;
       ended = acted name csv named i i a b (Refuses line) told (
@@ -294,12 +295,14 @@ ran_unplaced name csv named i a b (stop.Refused line) place =
       );
     }
 ran_unplaced name csv named i a b (stop.Fault fault.Read) place = record {
+  reads = tt;
   touched = record { inputs = (i, not_read csv i, refl); depot = looked_alone (file_of name ∷ []) a b place.reads place.log };
   counted = place.reads.writes;
   ended = record { kept = place.reads.held; cause = (refl, inr (place.reads.rose refl)) };
 }
 ran_unplaced name csv named i a b (stop.Fault fault.Write) place = absurd place.stops
 ran_unplaced name csv named i a b (stop.Fault fault.Memory) place = record {
+  reads = tt;
   touched = record { inputs = (i, not_read csv i, refl); depot = looked_alone (file_of name ∷ []) a b place.reads place.log };
   counted = none name csv named i i a b b refl place.reads (λ e. cc) refl refl;
   ended = record { kept = place.reads.held; cause = tt };
@@ -322,6 +325,7 @@ module _ (name csv : List ℕ) (named : IsSegmentName name) (i j a b : Seen) (ta
       (λ inputs is. refuses_so a.held b.held (λ files. BuildRefuses name csv inputs files line) place.reads.held
       (told_each a.held (Place name csv table) (λ files. BuildRefuses name csv inputs files line) (λ files has. inr (record { table = table; place = has; rows_are = is })) place.found)) told in
       record {
+        reads = tt;
         touched = record { inputs = (j, reads, refl); depot = looked_alone (file_of name ∷ []) a b place.reads place.log };
         counted = none name csv named i j a b b (still (λ e. cc)) place.reads quiet refl refl;
         ended = acted name csv named i j a b (Refuses line) over (
@@ -332,12 +336,14 @@ module _ (name csv : List ℕ) (named : IsSegmentName name) (i j a b : Seen) (ta
         );
       }
   ran_rowless (stop.Fault fault.Read) still rose = record {
+    reads = tt;
     touched = record { inputs = (j, reads, refl); depot = looked_alone (file_of name ∷ []) a b place.reads place.log };
     counted = place.reads.writes;
     ended = record { kept = place.reads.held; cause = (refl, inl rose) };
   }
   ran_rowless (stop.Fault fault.Write) still by = absurd by
   ran_rowless (stop.Fault fault.Memory) still by = record {
+    reads = tt;
     touched = record { inputs = (j, reads, refl); depot = looked_alone (file_of name ∷ []) a b place.reads place.log };
     counted = none name csv named i j a b b (still (λ e. cc)) place.reads quiet refl refl;
     ended = record { kept = place.reads.held; cause = tt };
@@ -364,6 +370,7 @@ module _ (name csv : List ℕ) (named : IsSegmentName name) (i j a b : Seen) (ta
         let over = told_each i.held (Rows name csv table (Ok rows)) (λ inputs. IfSome a.held (λ files. Builds name csv inputs files (Replies text) d.held))
         (λ inputs is_rows. built_so trees text a.held d.held (leaves ∙ ap (with_file (file_of name) (image 1 table name rows)) place.reads.held) is place.found inputs is_rows) said in
         record {
+          reads = tt;
           touched = record { inputs = (j, reads, refl); depot = looked_written (file_of name ∷ []) a b d place.reads place.log writes };
           counted = none name csv named i j a d b fine place.reads quiet read (still (λ e. cc));
           ended = acted name csv named i j a d (Replies text) over (refl, tt);
@@ -376,6 +383,7 @@ module _ (name csv : List ℕ) (named : IsSegmentName name) (i j a b : Seen) (ta
         (λ inputs has_none. refuses_so a.held d.held (λ files. BuildRefuses name csv inputs files line) (kept ∙ place.reads.held)
         (told_each a.held (Place name csv table) (λ files. BuildRefuses name csv inputs files line) (λ files has. inr (record { table = table; place = has; rows_are = has_none })) place.found)) said in
         record {
+          reads = tt;
           touched = record { inputs = (j, reads, refl); depot = looked_written (file_of name ∷ []) a b d place.reads place.log writes };
           counted = none name csv named i j a d b fine place.reads quiet read (still (λ e. cc));
           ended = acted name csv named i j a d (Refuses line) over (
@@ -387,11 +395,13 @@ module _ (name csv : List ℕ) (named : IsSegmentName name) (i j a b : Seen) (ta
         }
     ran_published (Err (stop.Fault fault.Read)) still by = absurd by
     ran_published (Err (stop.Fault fault.Write)) still (kept, rose) = record {
+      reads = tt;
       touched = record { inputs = (j, reads, refl); depot = looked_written (file_of name ∷ []) a b d place.reads place.log writes };
       counted = (fine, read ∙ place.reads.still quiet);
       ended = record { kept = kept ∙ place.reads.held; cause = subst (λ n. Rose n d.write_faults) place.reads.writes rose };
     }
     ran_published (Err (stop.Fault fault.Memory)) still kept = record {
+      reads = tt;
       touched = record { inputs = (j, reads, refl); depot = looked_written (file_of name ∷ []) a b d place.reads place.log writes };
       counted = none name csv named i j a d b fine place.reads quiet read (still (λ e. cc));
       ended = record { kept = kept ∙ place.reads.held; cause = tt };

@@ -157,6 +157,7 @@ module _ (schema settings : List ℕ) (inputs inputs_new depot : Seen) (reads : 
   ran_stopped (stop.Refused line) lacks by still alone =
       let told = told_out inputs.held schema settings line by.1 in
       record {
+        reads = tt;
         touched = record { inputs = reads; depot = unwritten depot };
         counted = record { inputs = still (λ e. cc); depot_reads = refl; depot_writes = refl };
         ended = acted (Err line) (Refuses line) depot (record { there = false; known = lacks; answers = refl; leaves = refl }) told (
@@ -166,29 +167,31 @@ module _ (schema settings : List ℕ) (inputs inputs_new depot : Seen) (reads : 
           looked_line schema settings (record { inputs = inputs; depot = depot }) (record { inputs = inputs_new; depot = depot }) line by.0 (λ wrong path is. alone wrong path (ap stop.Refused is)),
         );
       }
-  ran_stopped (stop.Fault fault.Read) lacks by still alone = record { touched = record { inputs = reads; depot = unwritten depot }; counted = refl; ended = record { kept = refl; cause = (refl, inl by) } }
+  ran_stopped (stop.Fault fault.Read) lacks by still alone = record { reads = tt; touched = record { inputs = reads; depot = unwritten depot }; counted = refl; ended = record { kept = refl; cause = (refl, inl by) } }
   ran_stopped (stop.Fault fault.Write) lacks by still alone = absurd by
-  ran_stopped (stop.Fault fault.Memory) lacks by still alone = record { touched = record { inputs = reads; depot = unwritten depot }; counted = record { inputs = still (λ e. cc); depot_reads = refl; depot_writes = refl }; ended = record { kept = refl; cause = tt } }
+  ran_stopped (stop.Fault fault.Memory) lacks by still alone = record { reads = tt; touched = record { inputs = reads; depot = unwritten depot }; counted = record { inputs = still (λ e. cc); depot_reads = refl; depot_writes = refl }; ended = record { kept = refl; cause = tt } }
 
   -- the table was made, or not
   pub ran_made : (texts : state.Texts) (table : Table) (depot_new : Seen) (result : Result (List ℕ) Stop) → NewTable (Ok (texts, table)) → WritesThese NoFile (table_name ∷ []) depot depot_new
       → Lacks depot.held table_name → inputs_new.read_faults ≡ inputs.read_faults → (result ≢ Err (stop.Fault fault.Read) → depot_new.read_faults ≡ depot.read_faults) → (result ≢ Err (stop.Fault fault.Write) → depot_new.write_faults ≡ depot.write_faults)
       → Makes texts table depot depot_new result → Of schema settings inputs inputs_new depot depot_new result
   ran_made texts table depot_new (Ok text) told writes none fine no_read no_write (lacks, published, is) = record {
+    reads = tt;
     touched = record { inputs = reads; depot = writes };
     counted = record { inputs = fine; depot_reads = no_read (λ e. cc); depot_writes = no_write (λ e. cc) };
     ended = acted (Ok (texts, table)) (Replies text) depot_new (record { there = false; known = lacks; answers = ap Replies is; leaves = published }) told (refl, tt);
   }
   ran_made texts table depot_new (Err (stop.Refused line)) told writes none fine no_read no_write (is, has, kept) =
       let exists : Of schema settings inputs inputs_new depot depot_new (Err (stop.Refused note.TableExists)) = record {
+        reads = tt;
         touched = record { inputs = reads; depot = writes };
         counted = record { inputs = fine; depot_reads = no_read (λ e. cc); depot_writes = no_write (λ e. cc) };
         ended = acted (Ok (texts, table)) (Refuses note.TableExists) depot_new (record { there = true; known = has; answers = refl; leaves = kept }) told (refl, has, kept, both_told depot.held (inputs_new ≡ inputs) has none);
       } in
       subst (λ l. Of schema settings inputs inputs_new depot depot_new (Err (stop.Refused l))) (sym is) exists
-  ran_made texts table depot_new (Err (stop.Fault fault.Read)) told writes none fine no_read no_write (kept, rose) = record { touched = record { inputs = reads; depot = writes }; counted = no_write (λ e. cc); ended = record { kept = kept; cause = (refl, inr rose) } }
-  ran_made texts table depot_new (Err (stop.Fault fault.Write)) told writes none fine no_read no_write (kept, rose) = record { touched = record { inputs = reads; depot = writes }; counted = (fine, no_read (λ e. cc)); ended = record { kept = kept; cause = rose } }
-  ran_made texts table depot_new (Err (stop.Fault fault.Memory)) told writes none fine no_read no_write kept = record { touched = record { inputs = reads; depot = writes }; counted = record { inputs = fine; depot_reads = no_read (λ e. cc); depot_writes = no_write (λ e. cc) }; ended = record { kept = kept; cause = tt } }
+  ran_made texts table depot_new (Err (stop.Fault fault.Read)) told writes none fine no_read no_write (kept, rose) = record { reads = tt; touched = record { inputs = reads; depot = writes }; counted = no_write (λ e. cc); ended = record { kept = kept; cause = (refl, inr rose) } }
+  ran_made texts table depot_new (Err (stop.Fault fault.Write)) told writes none fine no_read no_write (kept, rose) = record { reads = tt; touched = record { inputs = reads; depot = writes }; counted = (fine, no_read (λ e. cc)); ended = record { kept = kept; cause = rose } }
+  ran_made texts table depot_new (Err (stop.Fault fault.Memory)) told writes none fine no_read no_write kept = record { reads = tt; touched = record { inputs = reads; depot = writes }; counted = record { inputs = fine; depot_reads = no_read (λ e. cc); depot_writes = no_write (λ e. cc) }; ended = record { kept = kept; cause = tt } }
 
 pub earlier : (a b c : ℕ) → a ≤ b → Rose b c → Rose a c
 earlier a b c le (inl lt) = inl (omega arith)
@@ -254,6 +257,7 @@ module _ (schema settings : List ℕ) (inputs inputs_new depot looked depot_new 
 
   pub ran_looked : (result : Result (List ℕ) Stop) → Of schema settings inputs inputs_new looked depot_new result → Of schema settings inputs inputs_new depot depot_new result
   ran_looked result ran = record {
+    reads = tt;
     touched = record {
       inputs = ran.touched.inputs;
       depot = record {
@@ -305,6 +309,7 @@ ran_exists schema settings inputs depot has =
     let over : IfSome inputs.held (λ files. Over (Some (Create schema settings)) files depot.held (Refuses note.TableExists) depot.held) =
     told_all inputs.held (λ files. Over (Some (Create schema settings)) files depot.held (Refuses note.TableExists) depot.held) (λ files. record { there = true; known = has; answers = refl; leaves = refl }) in
     record {
+      reads = tt;
       touched = record { inputs = no_files schema settings inputs; depot = unwritten depot };
       counted = record { inputs = refl; depot_reads = refl; depot_writes = refl };
       ended = record { step = steps_over (Some (Create schema settings)) inputs.held depot.held (Refuses note.TableExists) depot.held over; over = over; allowed = (refl, has, refl, told_all depot.held (λ _. inputs ≡ inputs) (λ files. refl)) };
@@ -313,6 +318,7 @@ ran_exists schema settings inputs depot has =
 -- a look failed
 pub ran_unread : (schema settings : List ℕ) (inputs depot looked : Seen) → OnlyLooks NoFile depot looked → Rose depot.read_faults looked.read_faults → Of schema settings inputs inputs depot looked (Err (stop.Fault fault.Read))
 ran_unread schema settings inputs depot looked looks rose = record {
+  reads = tt;
   touched = record { inputs = no_files schema settings inputs; depot = looked_at depot looked looks };
   counted = looks.writes;
   ended = record { kept = looks.held; cause = (refl, inr rose) };
@@ -320,6 +326,7 @@ ran_unread schema settings inputs depot looked looks rose = record {
 
 pub ran_no_memory : (schema settings : List ℕ) (inputs depot looked : Seen) → OnlyLooks NoFile depot looked → looked.read_faults ≡ depot.read_faults → Of schema settings inputs inputs depot looked (Err (stop.Fault fault.Memory))
 ran_no_memory schema settings inputs depot looked looks still = record {
+  reads = tt;
   touched = record { inputs = no_files schema settings inputs; depot = looked_at depot looked looks };
   counted = record { inputs = refl; depot_reads = still; depot_writes = looks.writes };
   ended = record { kept = looks.held; cause = tt };

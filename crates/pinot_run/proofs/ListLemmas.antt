@@ -6,11 +6,12 @@ use Rattle.outside.specs.Seen.{OnlyReads, Seen}
 use Rattle.table_schema.specs.declared.table.Table.{Table}
 use Rattle.table_store.specs.Segments.{AreFirstNames}
 use Rattle.pinot_run.specs.Command.{Listing}
+use Rattle.pinot_run.specs.Consulted.{ReadsHeads, ReadsStored}
 use Rattle.pinot_run.specs.Gives.{LooksFor}
-use Rattle.pinot_run.specs.Profile.{StoreFiles, store_refuses}
+use Rattle.pinot_run.specs.Profile.{StoreFiles, TableFile, store_refuses}
 use Rattle.pinot_run.specs.Ran.{Acted, Caused, IsAllowed, Lists, NoFaults, Over, Ran}
 use Rattle.pinot_run.specs.Step.{Answer, Refuses, Replies}
-use Rattle.pinot_run.specs.Stored.{HasRows, HasTableFile, IsListed, SegmentsRefuse, list_text}
+use Rattle.pinot_run.specs.Stored.{HasRows, HasTableFile, IsListed, SegmentsRefuse, TableRefuses, list_text}
 use Rattle.pinot_run.specs.Touched.{LogsOpened, OnlyLooks}
 use Rattle.pinot_run.specs.World.{Devices}
 use Rattle.pinot_run.specs.declared.fault.Fault.TheVariants as fault
@@ -19,7 +20,9 @@ use Rattle.pinot_run.specs.declared.note.Note.TheVariants as note
 use Rattle.pinot_run.specs.declared.stop.Stop.{Stop}
 use Rattle.pinot_run.specs.declared.stop.Stop.TheVariants as stop
 use Rattle.pinot_run.proofs.MachineLemmas.{steps_over}
-use Rattle.pinot_run.proofs.StoredLemmas.{told_all}
+use Rattle.pinot_run.proofs.ReadLemmas.{heads_read, stored_heads_after, stored_of, table_then}
+use Rattle.pinot_run.proofs.StoredLemmas.{same_found, told_all}
+use Rattle.query_executor.specs.Logs.{LogsHeadsOf}
 
 -- ---- what was found
 
@@ -36,6 +39,16 @@ listed_so (Some files) b c d table names counts text same next is has are rows =
       rows = subst (λ h. IfSome h (λ f. AllZip (HasRows table f) names counts)) (next ∙ same) rows;
       text_is = is;
     }
+
+-- the heads of the segments were read after looks for the table and for their names
+pub listed_heads : (a b c d : Seen) (table : Table) (names given : List (List ℕ)) → LooksFor HasTableFile TableRefuses TableFile a b (Ok table) → LooksFor AreFirstNames TableRefuses TableFile b c (Ok names) → given ≡ names → LogsHeadsOf table c.held given c.log d.log
+    → ReadsStored ReadsHeads a.held a.log d.log
+listed_heads a b c d table names given first second same heads =
+    let kept : c.held ≡ a.held = second.reads.held ∙ first.reads.held in
+    let there = same_found a.held b.held c.held table names first.reads.held second.reads.held first.found second.found in
+    let own : LogsHeadsOf table c.held names c.log d.log = subst (λ ns. LogsHeadsOf table c.held ns c.log d.log) same heads in
+    subst (λ held. ReadsStored ReadsHeads held a.log d.log) kept
+    (stored_heads_after c.held a.log c.log d.log (table_then a.log b.log c.log first.log second.log) (stored_of ReadsHeads c.held c.log d.log (heads_read table names c.held c.log d.log there own)))
 
 -- ---- the clause of `list`
 
@@ -77,25 +90,29 @@ module _ (inputs old new : Seen) where
       let over = told_all inputs.held (λ files. Over (Some Listing) files old.held answer new.held) (λ files. (lists, kept)) in
       record { step = steps_over (Some Listing) inputs.held old.held answer new.held over; over = over; allowed = allowed }
 
-  pub ran_list : (result : Result (List ℕ) Stop) → Listed result → Of result
-  ran_list (Ok text) l = record {
+  pub ran_list : (result : Result (List ℕ) Stop) → ReadsStored ReadsHeads old.held old.log new.log → Listed result → Of result
+  ran_list (Ok text) heads l = record {
     touched = record { inputs = refl; depot = looked l.reads l.log };
+    reads = heads;
     counted = none l.reads (λ e. e);
     ended = acted (Replies text) l.reads.held l.found (refl, tt);
   }
-  ran_list (Err (stop.Refused line)) l = record {
+  ran_list (Err (stop.Refused line)) heads l = record {
     touched = record { inputs = refl; depot = looked l.reads l.log };
+    reads = heads;
     counted = none l.reads (λ e. cc);
     ended = acted (Refuses line) l.reads.held l.stops.1 (l.stops.0, caused_line inputs.held old.held line l.stops.0 l.stops.1, l.reads.held, tt);
   }
-  ran_list (Err (stop.Fault fault.Read)) l = record {
+  ran_list (Err (stop.Fault fault.Read)) heads l = record {
     touched = record { inputs = refl; depot = looked l.reads l.log };
+    reads = heads;
     counted = l.reads.writes;
     ended = record { kept = l.reads.held; cause = (refl, inr (l.reads.rose refl)) };
   }
-  ran_list (Err (stop.Fault fault.Write)) l = absurd l.stops
-  ran_list (Err (stop.Fault fault.Memory)) l = record {
+  ran_list (Err (stop.Fault fault.Write)) heads l = absurd l.stops
+  ran_list (Err (stop.Fault fault.Memory)) heads l = record {
     touched = record { inputs = refl; depot = looked l.reads l.log };
+    reads = heads;
     counted = none l.reads (λ e. cc);
     ended = record { kept = l.reads.held; cause = tt };
   }

@@ -189,7 +189,7 @@ module _ (stored : Files) (texts : state.Texts) (segments : Segments) (stands : 
       let front : has.front ≡ front_of 1 table kept.segment.rows = fronts_one table name (bytes_of (Some stored) (file_of name)) (front_of 1 table kept.segment.rows) has.front kept.front_is has.front_is in
       has.rows_are ∙ ap (λ f. f.rows) front ∙ sym (ap count_in kept.got)
 
-  key_named : (key : List ℕ) (o : Option Segment) → map.get segments key ≡ o → is_some o ≡ true → has_segment stored key ≡ true
+  pub key_named : (key : List ℕ) (o : Option Segment) → map.get segments key ≡ o → is_some o ≡ true → has_segment stored key ≡ true
   key_named key None got e = absurd cc
   key_named key (Some segment) got e =
       let n = stands.valid.named key segment got in
@@ -319,7 +319,7 @@ module _ (stored : Files) (texts : state.Texts) (segments : Segments) (stands : 
   RowsOf name = rows_in (map.get segments name)
 
   -- the file of a segment is the image of rows that are its own
-  came : (name : List ℕ) → has_segment stored name ≡ true → (rows : List (List Value)) × HasImage table stored name rows × (ordered table.settings.sorted rows ≡ RowsOf name)
+  pub came : (name : List ℕ) → has_segment stored name ≡ true → (rows : List (List Value)) × HasImage table stored name rows × (ordered table.settings.sorted rows ≡ RowsOf name)
   came name there =
       let kept = segment_kept_so stored texts segments table name stands accepted there in
       let tables : stands.table ≡ table = one_table texts stands.table table stands.valid.accepted accepted in

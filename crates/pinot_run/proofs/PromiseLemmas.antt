@@ -102,6 +102,7 @@ module _ (command : Option Command) (old : World) (new : Devices) where
         notes = gave.noted;
         counted = fine_counted status.Done out notes ran.counted (λ other. gave.still refl) gave.later;
         touched = ran.touched;
+        reads = ran.reads;
       }
 
   text_cut : (text : List ℕ) (out notes : Heard) → Ran command old.devices new (Ok text) → GaveText text status.WriteFault old.out out old.notes notes → Promise command old status.WriteFault (after new out notes)
@@ -114,6 +115,7 @@ module _ (command : Option Command) (old : World) (new : Devices) where
         notes = gave.noted;
         counted = fine_counted status.WriteFault out notes ran.counted (λ other. absurd (other refl)) gave.later;
         touched = ran.touched;
+        reads = ran.reads;
       }
 
   pub text_promise : (text : List ℕ) (ended : Status) (out notes : Heard) → Ran command old.devices new (Ok text) → GaveText text ended old.out out old.notes notes → Promise command old ended (after new out notes)
@@ -148,6 +150,7 @@ module _ (command : Option Command) (old : World) (new : Devices) where
         notes = gave.noted;
         counted = fine_counted (status_of line) old.out notes ran.counted (λ other. refl) (le_refl _);
         touched = ran.touched;
+        reads = ran.reads;
       }
 
   line_cut : (line : Note) (notes : Heard) → Ran command old.devices new (Err (stop.Refused line)) → GaveNote line status.WriteFault old.notes notes → Promise command old status.WriteFault (after new old.out notes)
@@ -160,6 +163,7 @@ module _ (command : Option Command) (old : World) (new : Devices) where
         notes = gave.noted;
         counted = fine_counted status.WriteFault old.out notes ran.counted (λ other. refl) (le_refl _);
         touched = ran.touched;
+        reads = ran.reads;
       }
 
   line_memory : (line : Note) (notes : Heard) → Ran command old.devices new (Err (stop.Refused line)) → GaveNote line status.NoMemory old.notes notes → Promise command old status.NoMemory (after new old.out notes)
@@ -170,6 +174,7 @@ module _ (command : Option Command) (old : World) (new : Devices) where
     notes = gave.noted;
     counted = fine_counted status.NoMemory old.out notes ran.counted (λ other. refl) (le_refl _);
     touched = ran.touched;
+    reads = ran.reads;
   }
 
   pub line_promise : (line : Note) (ended : Status) (notes : Heard) → Ran command old.devices new (Err (stop.Refused line)) → GaveNote line ended old.notes notes → Promise command old ended (after new old.out notes)
@@ -189,6 +194,7 @@ module _ (command : Option Command) (old : World) (new : Devices) where
     notes = noted;
     counted = record { inputs = λ other. absurd (other refl); depot_reads = λ other. absurd (other refl); depot_writes = λ other. ran.counted; out = λ other. refl; out_later = le_refl _ };
     touched = ran.touched;
+    reads = ran.reads;
   }
   fault_promise fault.Write notes ran noted = record {
     step = λ fine. never fine;
@@ -197,6 +203,7 @@ module _ (command : Option Command) (old : World) (new : Devices) where
     notes = noted;
     counted = record { inputs = λ other. ran.counted.0; depot_reads = λ other. ran.counted.1; depot_writes = λ other. absurd (other refl); out = λ other. refl; out_later = le_refl _ };
     touched = ran.touched;
+    reads = ran.reads;
   }
   fault_promise fault.Memory notes ran noted = record {
     step = λ fine. never fine;
@@ -205,6 +212,7 @@ module _ (command : Option Command) (old : World) (new : Devices) where
     notes = noted;
     counted = fine_counted status.NoMemory old.out notes ran.counted (λ other. refl) (le_refl _);
     touched = ran.touched;
+    reads = ran.reads;
   }
 
 -- ---- notes

@@ -11,6 +11,7 @@ use Rattle.sql_reply.specs.Asked.{asked}
 use Rattle.sql_reply.specs.SqlReply.{IsOfText}
 use Rattle.sql_reply.specs.declared.fault.SqlFault.{SqlFault}
 use Rattle.sql_reply.specs.declared.fault.SqlFault.TheVariants as query
+use Rattle.star_answer.specs.Docs.{DocsAreBounded}
 use Rattle.query_executor.specs.Explained.{in_order, lines_or}
 use Rattle.query_executor.specs.Logs.{IsFileOf, IsHeadRead, LogsHeadsOf, LogsOf}
 use Rattle.std.specs.List.{Contains}
@@ -19,10 +20,11 @@ use Rattle.query_executor.specs.declared.fault.ExecutorFault.{ExecutorFault}
 use Rattle.query_executor.specs.declared.fault.ExecutorFault.TheVariants as executor
 use Rattle.table_store.specs.Segments.{AreFirstNames}
 use Rattle.pinot_run.specs.Command.{Ask}
+use Rattle.pinot_run.specs.Consulted.{HasRead, ReadsAbout, ReadsStored}
 use Rattle.pinot_run.specs.Gives.{AnswersQuery, IsQueryStop, IsSegmentStop, LooksFor, NamesOneOf, StopsQuery, StopsStore, sql_stop}
 use Rattle.pinot_run.specs.Notes.{sql_note}
 use Rattle.pinot_run.specs.Profile.{TableFile, StoreFiles, makes_groups, query_refuses, sql_refuses}
-use Rattle.pinot_run.specs.Queried.{HasNoReply, HasReply, IsFaultOf, IsQueried, QueryRefuses, ReadsAbout}
+use Rattle.pinot_run.specs.Queried.{HasNoReply, HasReply, IsFaultOf, IsQueried, QueryRefuses}
 use Rattle.pinot_run.specs.Ran.{Acted, Caused, Finds, IsAllowed, Over, Queries, Ran}
 use Rattle.pinot_run.specs.Step.{Answer, Refuses, Replies}
 use Rattle.pinot_run.specs.Stored.{HasTableFile, TableRefuses, part_text}
@@ -37,7 +39,7 @@ use Rattle.pinot_run.specs.declared.stop.Stop.{Stop}
 use Rattle.pinot_run.specs.declared.stop.Stop.TheVariants as stop
 use Rattle.pinot_run.proofs.ListLemmas.{looked, none}
 use Rattle.pinot_run.proofs.MachineLemmas.{steps_over}
-use Rattle.pinot_run.proofs.ReadLemmas.{about_after}
+use Rattle.pinot_run.proofs.ReadLemmas.{has_after, stored_after, stored_table}
 use Rattle.pinot_run.proofs.StoredLemmas.{first_have, logs_then, more_opened, reads_as, reads_then, told_all, told_both, told_each, weaker}
 
 -- ---- looks before the query
@@ -64,37 +66,42 @@ stops_query about sql held (stop.Fault fault.Write) h = h
 stops_query about sql held (stop.Fault fault.Memory) h = tt
 
 -- a look that stopped
-pub look_stopped : {A : Type 0} (F : Files → A → Type 0) (about : About) (sql : List ℕ) (a b : Seen) (why : Stop) → LooksFor F TableRefuses TableFile a b (Err why) → AnswersQuery about sql a b (Err why)
-look_stopped F about sql a b why l = record { reads = l.reads; log = more_opened a.log b.log l.log; found = tt; consulted = tt; stops = stops_query about sql a.held why l.stops }
+pub look_stopped : {A : Type 0} (F : Files → A → Type 0) → DocsAreBounded → (about : About) (sql : List ℕ) (a b : Seen) (why : Stop) → LooksFor F TableRefuses TableFile a b (Err why) → AnswersQuery about sql a b (Err why)
+look_stopped F law about sql a b why l = record {
+  reads = l.reads;
+  log = more_opened a.log b.log l.log;
+  found = tt;
+  consulted = tt;
+  at_most = stored_table law about sql a.held a.log b.log l.log;
+  stops = stops_query about sql a.held why l.stops;
+}
 
 -- what came after looks that did not stop
-pub query_after : (about : About) (sql : List ℕ) (a b c : Seen) (result : Result (List ℕ) Stop) → OnlyReads ⊥ a b → LogsOpened TableFile a.log b.log → AnswersQuery about sql b c result → AnswersQuery about sql a c result
-query_after about sql a b c (Ok text) m log l = record {
-  reads = reads_then a b c m l.reads;
-  log = logs_then a.log b.log c.log (more_opened a.log b.log log) l.log;
-  consulted = subst (λ held. IfSome held (λ files. ReadsAbout about files sql a.log c.log)) m.held
-      (told_each b.held (λ files. ReadsAbout about files sql b.log c.log) (λ files. ReadsAbout about files sql a.log c.log) (λ files r. about_after about files sql a.log b.log c.log log l.log r) l.consulted);
-  found = subst (λ held. IfSome held (λ files. IsQueried about files sql text)) m.held l.found;
-  stops = tt;
-}
-query_after about sql a b c (Err why) m log l = record {
-  reads = reads_then a b c m l.reads;
-  log = logs_then a.log b.log c.log (more_opened a.log b.log log) l.log;
-  consulted = tt;
-  found = tt;
-  stops = subst (λ held. StopsQuery about sql held why) m.held l.stops;
-}
+module _ (about : About) (sql : List ℕ) (a b c : Seen) (m : OnlyReads ⊥ a b) (log : LogsOpened TableFile a.log b.log) where
+  at_most_after : ReadsStored (ReadsAbout about sql false) b.held b.log c.log → ReadsStored (ReadsAbout about sql false) a.held a.log c.log
+  at_most_after r = subst (λ held. ReadsStored (ReadsAbout about sql false) held a.log c.log) m.held (stored_after about sql b.held a.log b.log c.log log r)
+
+  pub query_after : (result : Result (List ℕ) Stop) → AnswersQuery about sql b c result → AnswersQuery about sql a c result
+  query_after (Ok text) l = record {
+    reads = reads_then a b c m l.reads;
+    log = logs_then a.log b.log c.log (more_opened a.log b.log log) l.log;
+    consulted = subst (λ held. IfSome held (λ files. HasRead (ReadsAbout about sql true) files a.log c.log)) m.held (has_after about sql b.held a.log b.log c.log log l.consulted);
+    at_most = at_most_after l.at_most;
+    found = subst (λ held. IfSome held (λ files. IsQueried about files sql text)) m.held l.found;
+    stops = tt;
+  }
+  query_after (Err why) l = record {
+    reads = reads_then a b c m l.reads;
+    log = logs_then a.log b.log c.log (more_opened a.log b.log log) l.log;
+    consulted = tt;
+    at_most = at_most_after l.at_most;
+    found = tt;
+    stops = subst (λ held. StopsQuery about sql held why) m.held l.stops;
+  }
 
 pub query_handed : (about : About) (sql : List ℕ) (a b : Seen) (r : Result (List ℕ) Stop) (why : Stop) → IsErrAnd r (λ s. s ≡ why) → AnswersQuery about sql a b (Err why) → AnswersQuery about sql a b r
 query_handed about sql a b (Ok text) why is l = absurd is
 query_handed about sql a b (Err s) why is l = subst (λ w. AnswersQuery about sql a b (Err w)) (sym is) l
-
-pub same_found : (a b c : Option Files) (table : Table) (names : List (List ℕ)) → b ≡ a → c ≡ b → IfSome a (λ files. HasTableFile files table) → IfSome b (λ files. AreFirstNames files names)
-    → IfSome c (λ files. HasTableFile files table × AreFirstNames files names)
-same_found a b c table names same next has are =
-    subst (λ h. IfSome h (λ files. HasTableFile files table × AreFirstNames files names)) (sym next)
-    (told_both b (λ files. HasTableFile files table) (λ files. AreFirstNames files names) (λ files. HasTableFile files table × AreFirstNames files names)
-    (λ files x y. (x, y)) (subst (λ h. IfSome h (λ files. HasTableFile files table)) (sym same) has) are)
 
 -- ---- the query
 
@@ -118,13 +125,15 @@ one_of names (executor.Sql wrong) h = tt
 one_of names (executor.NotASegment at part) h = h at part refl
 one_of names executor.ReadFault h = tt
 
-module _ (about : About) (table : Table) (names : List (List ℕ)) (sql : List ℕ) (a b : Seen) (named : All IsSegmentName names) (there : IfSome a.held (λ files. HasTableFile files table × AreFirstNames files names)) (log : LogsOf names a.log b.log) where
+module _ (about : About) (table : Table) (names : List (List ℕ)) (sql : List ℕ) (a b : Seen) (named : All IsSegmentName names) (there : IfSome a.held (λ files. HasTableFile files table × AreFirstNames files names)) (log : LogsOf names a.log b.log) (most : ReadsStored (ReadsAbout about sql false) a.held a.log b.log) where
   abbrev Found : Files → Type 0
   Found files = HasTableFile files table × AreFirstNames files names
 
-  pub query_replied : {F : Type 0} (text : List ℕ) → OnlyReads F a b → ¬ F → IfSome a.held (λ files. HasReply about table files names sql (Ok text)) → IfSome a.held (λ files. ReadsAbout about files sql a.log b.log) → AnswersQuery about sql a b (Ok text)
+  pub query_replied : {F : Type 0} (text : List ℕ) → OnlyReads F a b → ¬ F → IfSome a.held (λ files. HasReply about table files names sql (Ok text)) → IfSome a.held (λ files. HasRead (ReadsAbout about sql true) files a.log b.log)
+      → AnswersQuery about sql a b (Ok text)
   query_replied text reads fine reply consulted = record {
     consulted = consulted;
+    at_most = most;
     reads = reads_as a b reads (λ e. absurd e) (λ f. fine f);
     log = names_opened names a.log b.log named log;
     found = told_both a.held Found (λ files. HasReply about table files names sql (Ok text)) (λ files. IsQueried about files sql text)
@@ -133,7 +142,7 @@ module _ (about : About) (table : Table) (names : List (List ℕ)) (sql : List �
   }
 
   stopped : {F : Type 0} (s : Stop) → OnlyReads F a b → (s ≡ stop.Fault fault.Read → F) → (F → s ≡ stop.Fault fault.Read) → StopsQuery about sql a.held s → AnswersQuery about sql a b (Err s)
-  stopped s reads from to by = record { reads = reads_as a b reads from to; log = names_opened names a.log b.log named log; found = tt; consulted = tt; stops = by }
+  stopped s reads from to by = record { reads = reads_as a b reads from to; log = names_opened names a.log b.log named log; found = tt; consulted = tt; at_most = most; stops = by }
 
   no_reply : (wrong : SqlFault) → IfSome a.held (λ files. IsFaultOf about table files names sql wrong) → IfSome a.held (λ files. HasNoReply about files sql (sql_note wrong))
   no_reply wrong is =
@@ -224,22 +233,26 @@ module _ (about : About) (sql : List ℕ) (inputs old new : Seen) where
   pub ran_query : (result : Result (List ℕ) Stop) → AnswersQuery about sql old new result → Of result
   ran_query (Ok text) l = record {
     touched = record { inputs = refl; depot = looked inputs old new l.reads l.log };
+    reads = l.at_most;
     counted = none inputs old new l.reads (λ e. e);
     ended = acted (Replies text) l.reads.held l.found (refl, l.consulted);
   }
   ran_query (Err (stop.Refused line)) l = record {
     touched = record { inputs = refl; depot = looked inputs old new l.reads l.log };
+    reads = l.at_most;
     counted = none inputs old new l.reads (λ e. cc);
     ended = acted (Refuses line) l.reads.held l.stops.1 (l.stops.0, caused_query inputs.held old.held about sql line l.stops.0 l.stops.1, l.reads.held, tt);
   }
   ran_query (Err (stop.Fault fault.Read)) l = record {
     touched = record { inputs = refl; depot = looked inputs old new l.reads l.log };
+    reads = l.at_most;
     counted = l.reads.writes;
     ended = record { kept = l.reads.held; cause = (refl, inr (l.reads.rose refl)) };
   }
   ran_query (Err (stop.Fault fault.Write)) l = absurd l.stops
   ran_query (Err (stop.Fault fault.Memory)) l = record {
     touched = record { inputs = refl; depot = looked inputs old new l.reads l.log };
+    reads = l.at_most;
     counted = none inputs old new l.reads (λ e. cc);
     ended = record { kept = l.reads.held; cause = tt };
   }

@@ -125,7 +125,7 @@ module _ (file sql : List ℕ) (inputs inputs_new depot : Seen) (reads : ReadsFr
       record { step = steps_over (Some (Scan file sql)) inputs.held depot.held answer depot.held over; over = over; allowed = allowed }
 
   ran : (result : Result (List ℕ) Stop) → Counts result Old New → Ended (Some (Scan file sql)) Old New result → Of result
-  ran result counted ended = record { touched = record { inputs = (inputs_new, reads, refl); depot = refl }; counted = counted; ended = ended }
+  ran result counted ended = record { reads = tt; touched = record { inputs = (inputs_new, reads, refl); depot = refl }; counted = counted; ended = ended }
 
   none : inputs_new.read_faults ≡ inputs.read_faults → NoFaults Old New
   none still = record { inputs = still; depot_reads = refl; depot_writes = refl }

@@ -270,6 +270,13 @@ first_have files names (all, are, first) =
     (All-take (λ n. has_segment files n ≡ true) 512 all
     (λ k d lt. sym (are.those (get_or all k d)) ∙ list_any_at (eq_by_cmp name_order (get_or all k d)) all k d lt (itself (get_or all k d))))
 
+pub same_found : (a b c : Option Files) (table : Table) (names : List (List ℕ)) → b ≡ a → c ≡ b → IfSome a (λ files. HasTableFile files table) → IfSome b (λ files. AreFirstNames files names)
+    → IfSome c (λ files. HasTableFile files table × AreFirstNames files names)
+same_found a b c table names same next has are =
+    subst (λ h. IfSome h (λ files. HasTableFile files table × AreFirstNames files names)) (sym next)
+    (told_both b (λ files. HasTableFile files table) (λ files. AreFirstNames files names) (λ files. HasTableFile files table × AreFirstNames files names)
+    (λ files x y. (x, y)) (subst (λ h. IfSome h (λ files. HasTableFile files table)) (sym same) has) are)
+
 pub all_there : (a b c : Option Files) (table : Table) (names : List (List ℕ)) → b ≡ a → c ≡ b → IfSome a (λ files. HasTableFile files table) → IfSome b (λ files. AreFirstNames files names)
     → IfSome c (λ files. HasTableFile files table × All (λ n. has_segment files n ≡ true) names)
 all_there None b c table names same next has are = subst (λ h. IfSome h (λ files. HasTableFile files table × All (λ n. has_segment files n ≡ true) names)) (sym (next ∙ same)) tt

@@ -10,9 +10,10 @@ use Rattle.csv_ingest.specs.declared.fault.CsvFault.{CsvFault}
 use Rattle.table_schema.specs.declared.table.Table.{Table}
 use Rattle.table_store.specs.State as state
 use Rattle.table_store.specs.TableFile.{table_file, table_name}
+use Rattle.pinot_run.specs.Consulted.{HasRead, ReadsAbout, ReadsStored}
 use Rattle.pinot_run.specs.Build.{HasPlace, PlaceRefuses, built_text, csv_rows}
 use Rattle.pinot_run.specs.Profile.{Opens, StoreFiles, TableFile, place_refuses, query_refuses, rows_refuse, store_refuses, texts_refuse, tree_limit}
-use Rattle.pinot_run.specs.Queried.{IsQueried, QueryRefuses, ReadsAbout}
+use Rattle.pinot_run.specs.Queried.{IsQueried, QueryRefuses}
 use Rattle.pinot_run.specs.Stored.{part_text}
 use Rattle.pinot_run.specs.Touched.{LogsOpened}
 use Rattle.segment_build.specs.Growing.{TreesFit, trees_fit}
@@ -154,7 +155,8 @@ pub record AnswersQuery (about : About) (sql : List ℕ) (old new : Seen) (resul
   pub reads : OnlyReads (IsErrAnd result (λ s. s ≡ stop.Fault fault.Read)) old new
   pub log : LogsOpened StoreFiles old.log new.log
   pub found : IfOk result (λ text. IfSome old.held (λ files. IsQueried about files sql text))
-  pub consulted : IfOk result (λ text. IfSome old.held (λ files. ReadsAbout about files sql old.log new.log))
+  pub consulted : IfOk result (λ text. IfSome old.held (λ files. HasRead (ReadsAbout about sql true) files old.log new.log))
+  pub at_most : ReadsStored (ReadsAbout about sql false) old.held old.log new.log
   pub stops : IfErr result (StopsQuery about sql old.held)
 
 -- ---- a segment is built

@@ -3,6 +3,7 @@ use Rattle.std.specs.Prelude.{◌≡◌, ◌≢◌, ◌⊎◌, ◌≤◌, ℕ, t
 use Rattle.outside.specs.Counts.{Rose}
 use Rattle.outside.specs.Sink.{appended, AppendsPrefix}
 use Rattle.pinot_run.specs.Command.{Command}
+use Rattle.pinot_run.specs.Consulted.{AtMostRead}
 use Rattle.pinot_run.specs.Notes.{fault_line, is_fault}
 use Rattle.pinot_run.specs.Profile.{may_read, profile}
 use Rattle.pinot_run.specs.Ran.{Acted, IsStepped, WhereStands}
@@ -89,3 +90,4 @@ pub record Promise (command : Option Command) (old : World) (ended : Status) (ne
   pub notes : Noted ended old.notes new.notes
   pub counted : Counted ended old new
   pub touched : Touched command old.devices new.devices
+  pub reads : AtMostRead command old.devices new.devices

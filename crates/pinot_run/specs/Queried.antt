@@ -1,11 +1,8 @@
 -- What a query's text is answered, by what it is asked for: over the segments of a state, and over any published files.
-use Rattle.std.specs.Prelude.{◌≡◌, ◌⊎◌, ◌++◌, ℕ, true, false, List, [], flat_map, length, map, Option, Some, None, option_map, Ok, Err}
+use Rattle.std.specs.Prelude.{◌≡◌, ◌⊎◌, ℕ, true, false, List, [], flat_map, map, Option, Some, None, Ok, Err}
 use Rattle.std.specs.FinMap as tree
-use Rattle.std.specs.List.{All, Contains}
 use Rattle.outside.specs.Files.{Files, Lacks}
-use Rattle.outside.specs.Reads.{Entry}
 use Rattle.values.specs.declared.value.Value.{Value}
-use Rattle.table_schema.specs.declared.query.BoundQuery.{BoundQuery}
 use Rattle.table_schema.specs.declared.table.Table.{Table}
 use Rattle.segment_file.specs.declared.part.Part.{Part}
 use Rattle.sql_reply.specs.Asked.{asked}
@@ -14,8 +11,6 @@ use Rattle.sql_reply.specs.declared.fault.SqlFault.{SqlFault}
 use Rattle.sql_reply.specs.declared.fault.SqlFault.TheVariants as fault
 use Rattle.query_executor.specs.Answers.{IsReply}
 use Rattle.query_executor.specs.Explained.{IsExplained, explained}
-use Rattle.query_executor.specs.Logs.{IsHeadRead}
-use Rattle.query_executor.specs.Reads.{LogsEach, ReadsPlanned}
 use Rattle.query_executor.specs.Segments.{HasNoImage}
 use Rattle.query_executor.specs.Stated.{IsStated, stated}
 use Rattle.table_store.specs.Segments.{AreFirstNames, has_segment}
@@ -95,29 +90,3 @@ abbrev pub QueryRefuses : About → List ℕ → Files → Note → Type 0
 QueryRefuses about sql files note.NoTable = Lacks (Some files) table_name
 QueryRefuses about sql files (note.NotASegment name part) = IsWrongTable files name part ⊎ IsWrongImage files name part
 QueryRefuses about sql files line = HasNoReply about files sql line
-
--- ---- what is read of the segments
-
--- of each of the first segments of a store whose files are images, what was read is what the plan of its rows says
-pub record HasReads (files : Files) (sql : List ℕ) (old new : Option (List Entry)) : Type 0 where
-  pub table : Table
-  pub table_is : HasTableFile files table
-  pub names : List (List ℕ)
-  pub names_are : AreFirstNames files names
-  pub each : (query : BoundQuery) → asked table false sql ≡ Ok query → LogsEach (ReadsPlanned query table true) table (Some files) names (length names) old new
-
--- the table's file was read, and of the first segments of a store no byte past their heads
-pub record HasHeadReads (files : Files) (old new : Option (List Entry)) : Type 0 where
-  pub table : Table
-  pub table_is : HasTableFile files table
-  pub names : List (List ℕ)
-  pub names_are : AreFirstNames files names
-  pub entries : List Entry
-  pub log : new ≡ option_map (λ before. before ++ entries) old
-  pub each : All (λ entry. (entry.file ≡ table_name) ⊎ ((name : List ℕ) × Contains names name × IsHeadRead table (Some files) name entry)) entries
-
--- what was read for a query that was answered, by what its text is asked for
-abbrev pub ReadsAbout : About → Files → List ℕ → Option (List Entry) → Option (List Entry) → Type 0
-ReadsAbout Rows files sql old new = HasReads files sql old new
-ReadsAbout Plans files sql old new = HasHeadReads files old new
-ReadsAbout RowsAndPlans files sql old new = HasReads files sql old new

@@ -9,9 +9,10 @@ use Rattle.table_store.specs.TableFile.{table_file, table_name, text_limit}
 use Rattle.segment_file.specs.Names.{file_of}
 use Rattle.pinot_run.specs.Build.{BuildRefuses, IsBuilt}
 use Rattle.pinot_run.specs.Command.{Build, Command, Create, Listing, Scan, Ask}
+use Rattle.pinot_run.specs.Consulted.{AtMostRead, Consulted}
 use Rattle.pinot_run.specs.Create.{Made, new_table}
 use Rattle.pinot_run.specs.Profile.{may_read, place_refuses, profile}
-use Rattle.pinot_run.specs.Queried.{IsQueried, IsWrongImage, QueryRefuses, ReadsAbout}
+use Rattle.pinot_run.specs.Queried.{IsQueried, IsWrongImage, QueryRefuses}
 use Rattle.pinot_run.specs.Step.{After, Answer, Refuses, Replies, create_answer, scan_answer, step_of}
 use Rattle.pinot_run.specs.Stored.{IsListed, IsWrongSegment, IsWrongTable, SegmentsRefuse}
 use Rattle.pinot_run.specs.Touched.{ReadsFront, Touched}
@@ -110,11 +111,6 @@ Looked (Some (Create schema settings)) (note.BadSchema wrong path) old new = Rea
 Looked (Some (Build name csv)) line old new = place_refuses line ≡ true → new.inputs ≡ old.inputs
 Looked command line old new = Unit {0}
 
--- what was read of the segments where a command has a reply, if the files of the store are told
-abbrev pub Consulted : Option Command → Devices → Devices → Type 0
-Consulted (Some (Ask about sql)) old new = IfSome old.depot.held (λ files. ReadsAbout about files sql old.depot.log new.depot.log)
-Consulted command old new = Unit {0}
-
 -- an answer that the command's row has; a reply reads what it may, and a refusal has its cause, and leaves the store
 abbrev pub IsAllowed : Option Command → Devices → Devices → Answer → Type 0
 IsAllowed command old new (Replies text) = ((profile command).replies ≡ true) × Consulted command old new
@@ -160,5 +156,6 @@ Counts result old new = NoFaults old new
 -- the one clause of a command's function
 pub record Ran (command : Option Command) (old new : Devices) (result : Result (List ℕ) Stop) : Type 0 where
   pub touched : Touched command old new
+  pub reads : AtMostRead command old new
   pub counted : Counts result old new
   pub ended : Ended command old new result

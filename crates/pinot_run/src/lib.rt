@@ -21,6 +21,6 @@ mod status;
 mod stop;
 mod store;
 
-pub use laws::promises_compose_law;
+pub use laws::{promises_compose_law, segments_read_law};
 pub use run::run_command;
 pub use status::Status;

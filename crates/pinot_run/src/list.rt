@@ -4,6 +4,7 @@ ghost use Rattle.std.specs.Fmt.{decimal};
 ghost use Rattle.std.specs.List.{All, AllZip};
 ghost use Rattle.outside.specs.Seen.{Seen, seen};
 ghost use Rattle.segment_file.specs.Names.{IsSegmentName};
+ghost use Rattle.query_executor.specs.Logs.{LogsHeadOf, LogsHeadsOf};
 ghost use Rattle.table_schema.specs.ValidTable.{IsValidTable};
 ghost use Rattle.table_store.specs.Segments.{has_segment};
 ghost use Rattle.pinot_run.specs.Command.{Listing};
@@ -48,6 +49,8 @@ fn count_all<D: Depot>(
         × All (λ name. has_segment files name ≡ true) names.now) }
     ensures looks { LooksFor (λ files counts. AllZip (HasRows table.now files) names.now counts)
         SegmentsRefuse StoreFiles (seen D.Shelf depot.old) (seen D.Shelf depot.new) result }
+    ensures heads { LogsHeadsOf table.now (D.held depot.old) names.now
+        (D.log depot.old) (D.log depot.new) }
     ensures each { IfOk result (λ counts. length counts ≡ length names.now) }
 {
     let mut counts = Vec::with_capacity(alloc, names.len())?;
@@ -77,8 +80,10 @@ fn count_rows<D: Depot>(
     requires name { IsSegmentName name.now }
     requires there { IfSome (D.held depot.old) (λ files. HasTableFile files table.now
         × (has_segment files name.now ≡ true)) }
-    ensures { LooksFor (λ files rows. HasRows table.now files name.now rows) SegmentsRefuse
+    ensures looks { LooksFor (λ files rows. HasRows table.now files name.now rows) SegmentsRefuse
         StoreFiles (seen D.Shelf depot.old) (seen D.Shelf depot.new) result }
+    ensures heads { LogsHeadOf table.now (D.held depot.old) name.now
+        (D.log depot.old) (D.log depot.new) }
 {
     let file = segment_file_name(alloc, name)?;
     match open_head(alloc, depot, file.as_str(), name, table) {

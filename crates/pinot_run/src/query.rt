@@ -20,6 +20,7 @@ use crate::store::{stored_names, stored_table};
 use outside::{Bytes, Depot, Name};
 use query_executor::{ExecutorFault, explain_query, reply_to_query, stats_query};
 use sql_reply::SqlFault;
+use star_answer::docs_bound_law;
 use std::alloc::Global;
 use table_schema::Table;
 
@@ -30,6 +31,7 @@ pub fn ask<D: Depot>(alloc: Global, about: About, sql: &str, depot: &mut D) -> R
         (record { inputs = inputs; depot = seen D.Shelf depot.old })
         (record { inputs = inputs; depot = seen D.Shelf depot.new }) result }
 {
+    docs_bound_law();
     let table = stored_table(alloc, depot)?;
     let names = stored_names(alloc, depot)?;
     reply_over(alloc, about, &table, names.as_slice(), sql, depot)

@@ -1,6 +1,7 @@
 //! The top call.
 ghost use Rattle.std.specs.Prelude.{◌≡◌, ◌⊎◌, ◌≤◌, false, map, string_bytes};
 ghost use Rattle.pinot_run.specs.Command.{command_of};
+ghost use Rattle.pinot_run.specs.Consulted.{AtMostRead};
 ghost use Rattle.pinot_run.specs.Notes.{is_fault};
 ghost use Rattle.pinot_run.specs.Promise.{Counted, IsQuiet, IsStep, Leaves, Noted, Promise};
 ghost use Rattle.pinot_run.specs.Ran.{Ran, WhereStands};
@@ -107,6 +108,12 @@ pub fn run_command<I: Shelf, D: Depot, O: Sink, N: Sink>(
 
     // What is read and changed on the devices is what the words name.
     ensures touched { Touched (command_of (map string_bytes words.now))
+        (devices I.Shelf D.Shelf inputs.old depot.old)
+        (devices I.Shelf D.Shelf inputs.new depot.new) }
+
+    // Of each segment no more is read than the plan of its rows says, whatever the status is; for a
+    // text that is no query over the table nothing, and for `explain` and `list` no byte past its head.
+    ensures reads { AtMostRead (command_of (map string_bytes words.now))
         (devices I.Shelf D.Shelf inputs.old depot.old)
         (devices I.Shelf D.Shelf inputs.new depot.new) }
 {

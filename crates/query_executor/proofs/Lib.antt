@@ -1,7 +1,7 @@
 mod FaultLemmas
-mod GroupLemmas
+pub mod GroupLemmas
 mod HeadLemmas
-mod LogLemmas
+pub mod LogLemmas
 mod NamedLemmas
 mod PlanLemmas
 pub mod ReplyLemmas
@@ -20,7 +20,7 @@ mod WithinLogs
 mod IndexReads
 mod ForwardReads
 mod ScanReads
-mod HeadReads
+pub mod HeadReads
 mod TreeReads
 mod OneReads
-mod Unread
+pub mod Unread

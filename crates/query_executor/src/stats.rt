@@ -44,10 +44,11 @@ pub fn stats_query<S: Shelf>(
     ensures refused { (fault : SqlFault) → result ≡ Err (Sql fault) → fault ≢ NoMemory →
         IfSome (S.held shelf.old) (λ files.
         IsStated table.now files names.now sql.now (Err fault)) }
-    // What is wrong with the query's text is known before anything is read.
     ensures of_text { (fault : SqlFault) → result ≡ Err (Sql fault) → IsOfText fault →
-        (seen S.Shelf shelf.new ≡ seen S.Shelf shelf.old)
-        × (asked table.now false sql.now ≡ Err fault) }
+        asked table.now false sql.now ≡ Err fault }
+    // Nothing is read for a text that is no query over the table.
+    ensures unread { (fault : SqlFault) → asked table.now false sql.now ≡ Err fault →
+        seen S.Shelf shelf.new ≡ seen S.Shelf shelf.old }
     ensures bad { (at : ℕ) (part : Part) → result ≡ Err (NotASegment at part) →
         (at < length names.now) × IfSome (S.held shelf.old) (λ files.
         HasNoImage table.now files (get_or names.now at [])) }

@@ -21,7 +21,7 @@ use Rattle.segment_file.specs.Heads.{KeepsRules}
 use Rattle.segment_file.proofs.ImageKeeps.{image_keeps}
 use Rattle.segment_file.specs.Names.{IsSegmentName, file_of, is_segment_name}
 use Rattle.table_store.specs.State.{Segment, Segments, HasTable, Texts}
-use Rattle.table_store.specs.Segments.{NamesStand, has_segment}
+use Rattle.table_store.specs.Segments.{AreNames, NamesStand, has_segment}
 use Rattle.table_store.specs.Accepted.{IsAccepted}
 use Rattle.table_store.specs.Stands.{IsSegment, Stands, segment_file}
 use Rattle.table_store.proofs.AcceptedLemmas.{accepted_valid, one_table}
@@ -108,14 +108,21 @@ named_there name (Some segment) file named =
     let n = named segment refl in
     (λ i. (n.some i && n.few i && n.each i) && true)
 
+-- the keys of a state are the names of the segments that have files
+pub keys_stand : (files : Files) (texts : Texts) (segments : Segments) → Stands files (HasTable texts segments) → AreNames files (tree.keys segments)
+keys_stand files texts segments stands = record {
+  ascend = keys_ascend (tree.entries segments) (tree.entries_sorted segments);
+  those = λ q.
+      sym
+      (ap (λ o. is_segment_name q && is_some o) (segment_there files texts segments stands q)
+      ∙ named_there q (tree.get segments q) (segment_file stands.table q) (stands.valid.named q)
+      ∙ tree.contains_key-keys segments q);
+}
+
 pub names_stand : NamesStand
 names_stand files texts segments names stands are =
-    same_names names (tree.keys segments) are.ascend (keys_ascend (tree.entries segments) (tree.entries_sorted segments))
-    (λ q.
-    are.those q
-    ∙ ap (λ o. is_segment_name q && is_some o) (segment_there files texts segments stands q)
-    ∙ named_there q (tree.get segments q) (segment_file stands.table q) (stands.valid.named q)
-    ∙ tree.contains_key-keys segments q)
+    let keys = keys_stand files texts segments stands in
+    same_names names (tree.keys segments) are.ascend keys.ascend (λ q. are.those q ∙ sym (keys.those q))
 
 -- ---- the file of a segment of a standing store keeps all rules of a head
 

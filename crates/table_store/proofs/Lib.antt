@@ -1,8 +1,8 @@
 pub mod NameLemmas
 pub mod AcceptedLemmas
-mod SegmentLemmas
+pub mod SegmentLemmas
 mod FilesLemmas
 mod OpenLemmas
 pub mod StandsLemmas
 pub mod KeyLemmas
-mod TableFileLemmas
+pub mod TableFileLemmas

@@ -4,7 +4,8 @@ use Rattle.outside.specs.Seen.{Seen, seen}
 use Rattle.table_store.specs.Segments.{AreFirstNames, has_segment}
 use Rattle.pinot_run.specs.Profile.{StoreFiles}
 use Rattle.pinot_run.specs.Stored.{HasRows, HasTableFile, IsListed, SegmentsRefuse, list_text}
-use Rattle.pinot_run.proofs.ListLemmas.{listed_so, ran_list}
+use Rattle.pinot_run.proofs.ListLemmas.{listed_heads, listed_so, ran_list}
+use Rattle.pinot_run.proofs.ReadLemmas.{stored_heads, table_then}
 use Rattle.pinot_run.proofs.StoredLemmas.{all_there, err_after, err_wider, handed, logs_then, more_opened, no_memory, reads_then}
 use Rattle.pinot_run.proofs.list.list.Goals as goal
 
@@ -13,7 +14,7 @@ returns-in_err-table g c = λ inputs.
     let a : Seen = seen g.D.Shelf c.args.depot.now in
     let b : Seen = seen g.D.Shelf c.stored_table.new.depot in
     let why = c.in_err-table.field-0.0 in
-    ran_list inputs a b c.from_residual.result
+    ran_list inputs a b c.from_residual.result (stored_heads a.held a.log b.log c.in_err-table.ensures.looks.log)
     (handed IsListed SegmentsRefuse StoreFiles a b c.from_residual.result why c.from_residual.ensures.1 (err_wider HasTableFile IsListed a b why c.in_err-table.ensures.looks))
 
 pub returns-in_err-names : goal.returns-in_err-names
@@ -23,7 +24,7 @@ returns-in_err-names g c = λ inputs.
     let d : Seen = seen g.D.Shelf c.stored_names.new.depot in
     let why = c.in_err-names.field-0.0 in
     let first = c.in_ok-table.ensures.looks in
-    ran_list inputs a d c.from_residual-in_err-names.result
+    ran_list inputs a d c.from_residual-in_err-names.result (stored_heads a.held a.log d.log (table_then a.log b.log d.log first.log c.in_err-names.ensures.looks.log))
     (handed IsListed SegmentsRefuse StoreFiles a d c.from_residual-in_err-names.result why c.from_residual-in_err-names.ensures.1
     (err_after AreFirstNames IsListed a b d why first.reads (more_opened a.log b.log first.log) (err_wider AreFirstNames AreFirstNames b d why c.in_err-names.ensures.looks)))
 
@@ -46,7 +47,7 @@ returns-in_err-counts g c = λ inputs.
     let why = c.in_err-counts.field-0.0 in
     let first = c.in_ok-table.ensures.looks in
     let second = c.in_ok-names.ensures.looks in
-    ran_list inputs a f c.from_residual-in_err-counts.result
+    ran_list inputs a f c.from_residual-in_err-counts.result (listed_heads a b d f c.in_ok-table.table c.in_ok-names.names c.as_slice.result.now first second c.as_slice.ensures c.in_err-counts.ensures.heads)
     (handed IsListed SegmentsRefuse StoreFiles a f c.from_residual-in_err-counts.result why c.from_residual-in_err-counts.ensures.1
     (err_after _ IsListed a d f why (reads_then a b d first.reads second.reads) (logs_then a.log b.log d.log (more_opened a.log b.log first.log) (more_opened b.log d.log second.log)) c.in_err-counts.ensures.looks))
 
@@ -59,7 +60,7 @@ returns-in_err-list_text g c = λ inputs.
     let first = c.in_ok-table.ensures.looks in
     let second = c.in_ok-names.ensures.looks in
     let third = c.in_ok-counts.ensures.looks in
-    ran_list inputs a f c.from_residual-in_err-list_text.result
+    ran_list inputs a f c.from_residual-in_err-list_text.result (listed_heads a b d f c.in_ok-table.table c.in_ok-names.names c.as_slice.result.now first second c.as_slice.ensures c.in_ok-counts.ensures.heads)
     (handed IsListed SegmentsRefuse StoreFiles a f c.from_residual-in_err-list_text.result _ c.from_residual-in_err-list_text.ensures.1
     (no_memory IsListed SegmentsRefuse StoreFiles a f (reads_then a d f (reads_then a b d first.reads second.reads) third.reads)
     (logs_then a.log d.log f.log (logs_then a.log b.log d.log (more_opened a.log b.log first.log) (more_opened b.log d.log second.log)) third.log)))
@@ -73,7 +74,7 @@ returns g c = λ inputs.
     let first = c.in_ok-table.ensures.looks in
     let second = c.in_ok-names.ensures.looks in
     let third = c.in_ok-counts.ensures.looks in
-    ran_list inputs a f _ (record {
+    ran_list inputs a f _ (listed_heads a b d f c.in_ok-table.table c.in_ok-names.names c.as_slice.result.now first second c.as_slice.ensures c.in_ok-counts.ensures.heads) (record {
       reads = reads_then a d f (reads_then a b d first.reads second.reads) third.reads;
       log = logs_then a.log d.log f.log (logs_then a.log b.log d.log (more_opened a.log b.log first.log) (more_opened b.log d.log second.log)) third.log;
       found = listed_so a.held b.held d.held f.held c.in_ok-table.table c.in_ok-names.names c.in_ok-counts.counts _ first.reads.held second.reads.held

@@ -33,7 +33,7 @@ returns-in-Err-clause-refused g c = λ fault is real.
 pub returns-in-Err-clause-of_text : goal.returns-in-Err-clause-of_text
 returns-in-Err-clause-of_text g c = λ fault is text.
     let same : c.in-Err.fault ≡ fault = cc in
-    (refl, c.in-Err.ensures.asked (λ e. text_real fault text (sym same ∙ e)) ∙ ap Err same)
+    c.in-Err.ensures.asked (λ e. text_real fault text (sym same ∙ e)) ∙ ap Err same
 
 pub returns-in-Ok-clause-reads : goal.returns-in-Ok-clause-reads
 returns-in-Ok-clause-reads g c =
