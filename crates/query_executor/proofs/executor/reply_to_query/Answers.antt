@@ -1,4 +1,4 @@
-use Rattle.std.proofs.Common.{true, false, length, ◌≡◌, ◌∙◌, ℕ, List, Ok, Err, IfSome, refl, sym, ap}
+use Rattle.std.proofs.Common.{true, false, length, ◌≡◌, ◌∙◌, ℕ, List, Ok, Err, IfSome, sym, ap}
 use Rattle.query_executor.specs.Answers.{IsBoundReply, IsReply}
 use Rattle.query_executor.proofs.ReplyLemmas.{fault_so, found_so, reply_so, text_real}
 use Rattle.query_executor.specs.Reads.{LogsEach, ReadsPlanned}

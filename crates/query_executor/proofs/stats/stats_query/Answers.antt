@@ -1,4 +1,4 @@
-use Rattle.std.proofs.Common.{true, false, length, ◌≡◌, ◌∙◌, ℕ, List, Ok, Err, IfSome, refl, sym, ap}
+use Rattle.std.proofs.Common.{true, false, length, ◌≡◌, ◌∙◌, ℕ, List, Ok, Err, IfSome, sym, ap}
 use Rattle.query_executor.specs.Stated.{IsStated}
 use Rattle.query_executor.specs.Steps.{IsBoundStated}
 use Rattle.query_executor.proofs.ReplyLemmas.{found_so, text_real}
