@@ -20,3 +20,4 @@ pub mod SegmentLemmas
 pub mod LogLemmas
 pub mod FaultLemmas
 pub mod ByteLemmas
+pub mod PartLemmas
