@@ -33,11 +33,11 @@ use Rattle.segment_plan.specs.declared.plans.IndexChoice.TheVariants as choices
 use Rattle.segment_file.specs.Heads.{IsHeadOf}
 use Rattle.segment_scan.specs.Documents.{LogsDocs, LogsDocsPartly}
 use Rattle.segment_scan.specs.Forward.{IsReadable, LogsColumns, LogsForward, LogsNamed, LogsPart, LogsPartly, LogsSome, width_in}
-use Rattle.segment_scan.specs.Images.{AreNamedLoaded, LogsScan, LogsScanPartly, choices_for, names_in, rest_for}
+use Rattle.segment_scan.specs.Images.{AreNamedLoaded, LogsPartsPartly, LogsScan, LogsScanPartly, choices_for, names_in, rest_for, sure_for}
 use Rattle.segment_scan.specs.Indexes.{IsIndexed, IsRanged, IsReady, LogsAt, LogsAtPartly, LogsIndex, LogsIndexPartly, LogsIndexed, LogsIndexedPartly, LogsRange, LogsRangePartly, OfEach, part_of}
 use Rattle.segment_scan.specs.Picked.{LogsIf, LogsIfPartly, LogsPicked, LogsPickedPartly, LogsRuns, LogsRunsPartly, ids_of_run}
 use Rattle.segment_scan.specs.Series.{Logs, LogsPartOf, LogsTo}
-use Rattle.segment_scan.specs.Served.{choice_at}
+use Rattle.segment_scan.specs.Served.{choice_at, sure_choices}
 use Rattle.segment_scan.proofs.ImageLemmas.{loaded_readable}
 use Rattle.segment_scan.proofs.IndexImage.{ready_for}
 use Rattle.segment_scan.proofs.LeftImage.{rest_loaded}
@@ -252,11 +252,25 @@ module _ (query : BoundQuery) (table : Table) (head : Seen) (file : List ℕ) (w
   left_readable : (column : ℕ) → get_or (names_in (rest_for query table head) table) column false ≡ true → IsReadable head column
   left_readable = readable (rest_for query table head) (rest_loaded query (choices_for query table head) head loaded)
 
+  sure_readable : (column : ℕ) → get_or (names_in (sure_for query table head) table) column false ≡ true → IsReadable head column
+  sure_readable = readable (sure_for query table head) (rest_loaded query (sure_choices (choices_for query table head)) head loaded)
+
+  parts_partly : (docs : List ℕ) (old new : Option (List Entry)) → LogsPartsPartly head (names_in (rest_for query table head) table) (names_in (sure_for query table head) table) docs old new → LogsIn file old new
+  parts_partly docs old new logs = by logs.some
+    where
+      by : LogsDocsPartly head (names_in (rest_for query table head) table) logs.check old new
+          ⊎ ((between : Option (List Entry)) × LogsDocs head (names_in (rest_for query table head) table) logs.check old between × LogsDocsPartly head (names_in (sure_for query table head) table) logs.sure between new) → LogsIn file old new
+      by (inl first) = docs_partly head file within (names_in (rest_for query table head) table) left_readable logs.check old new first
+      by (inr (between, first, second)) =
+          logs_then (λ other. other ≡ file) old between new (docs_in_file head file within (names_in (rest_for query table head) table) left_readable logs.check old between first)
+          (docs_partly head file within (names_in (sure_for query table head) table) sure_readable logs.sure between new second)
+
   pub scan_in_file : (count : ℕ) (old new : Option (List Entry)) → LogsScan query table held head count old new → LogsIn file old new
   scan_in_file count old new (inl (none, logs)) = logs_columns head file within (names_in query table) (readable query loaded) (length table.schema.fields) old new logs
   scan_in_file count old new (inr (docs, left, is, between, indexes, logs)) =
       logs_then (λ other. other ≡ file) old between new (indexes_in_file old between indexes)
-      (docs_in_file head file within (names_in (rest_for query table head) table) left_readable docs between new logs)
+      (logs_then (λ other. other ≡ file) between logs.between new (docs_in_file head file within (names_in (rest_for query table head) table) left_readable logs.check between logs.between logs.checked)
+      (docs_in_file head file within (names_in (sure_for query table head) table) sure_readable logs.sure logs.between new logs.surely))
 
   pub scan_partly : (old new : Option (List Entry)) → LogsScanPartly query table held head old new → LogsIn file old new
   scan_partly old new (inl (none, logs)) = logs_some head file within (names_in query table) (readable query loaded) old new logs
@@ -266,4 +280,4 @@ module _ (query : BoundQuery) (table : Table) (head : Seen) (file : List ℕ) (w
       (at_partly head file within held (choices_for query table head) query.conjuncts (ready_for query table head of_table loaded)) old new logs
   scan_partly old new (inr (inr (docs, left, between, indexes, logs))) =
       logs_then (λ other. other ≡ file) old between new (indexes_in_file old between indexes)
-      (docs_partly head file within (names_in (rest_for query table head) table) left_readable docs between new logs)
+      (parts_partly docs between new logs)

@@ -1,5 +1,5 @@
 -- How many bytes a scan reads of the forward indexes of an image, and that it reads none of the documents of its star-trees.
-use Rattle.std.proofs.Common.{◌≡◌, ◌∙◌, ◌*◌, ◌<◌, ◌≤◌, ◌++◌, [], ◌∷◌, ℕ, suc, Bool, true, false, List, Option, Some, inl, inr, length, map, get_or, option_map, refl, sym, ap, subst, arith}
+use Rattle.std.proofs.Common.{◌≡◌, ◌∙◌, ◌*◌, ◌+◌, ◌⊎◌, ◌<◌, ◌≤◌, ◌++◌, [], ◌∷◌, ℕ, suc, Bool, true, false, List, Option, Some, inl, inr, length, map, get_or, option_map, refl, sym, ap, subst, arith}
 use Rattle.std.specs.Prelude.{if◌then◌else◌}
 use Rattle.std.proofs.lemmas.Bool.{false≢true}
 use Rattle.std.proofs.lemmas.List.{length-map}
@@ -22,15 +22,18 @@ use Rattle.segment_plan.specs.declared.plans.IndexChoice.{IndexChoice}
 use Rattle.segment_plan.specs.declared.plans.IndexChoice.TheVariants as choices
 use Rattle.segment_plan.specs.declared.plans.ScanPlan.{ScanPlan}
 use Rattle.table_schema.specs.declared.query.Conjunct.TheVariants.{One, Many}
+use Rattle.std.proofs.lemmas.Nat.{mul-le}
 use Rattle.segment_scan.specs.Bytes.{GrowsBy}
+use Rattle.segment_scan.specs.Documents.{LogsDocs, LogsDocsPartly}
+use Rattle.segment_scan.proofs.ByteLemmas.{grows_both}
 use Rattle.segment_scan.specs.Forward.{IsReadable}
-use Rattle.segment_scan.specs.Images.{AreLeftFor, AreNamedLoaded, ImagesLeave, ImagesRead, IsOfImage, LogsScan, LogsScanPartly, choices_for, indexed_for, names_in, rest_for}
+use Rattle.segment_scan.specs.Images.{AreLeftFor, AreNamedLoaded, ImagesLeave, ImagesRead, IsOfImage, LogsPartsPartly, LogsScan, LogsScanPartly, choices_for, indexed_for, names_in, rest_for, sure_for}
 use Rattle.segment_scan.specs.Indexes.{LogsAt, LogsAtPartly}
 use Rattle.segment_scan.specs.Series.{LogsPartOf, LogsTo}
-use Rattle.segment_scan.specs.Served.{choice_at, indexed, is_indexed, is_served, rest_of, rows_left, unserved}
+use Rattle.segment_scan.specs.Served.{choice_at, indexed, is_indexed, is_served, rest_of, rows_left, sure_choices, unserved}
 use Rattle.segment_scan.proofs.ImageLemmas.{loaded_readable}
 use Rattle.segment_scan.proofs.IndexImage.{ready_for}
-use Rattle.segment_scan.proofs.LeftImage.{left_count, rest_loaded, whole_docs}
+use Rattle.segment_scan.proofs.LeftImage.{left_count, rest_loaded, sure_names, whole_docs}
 use Rattle.segment_scan.proofs.LeftLemmas.{one_chosen}
 use Rattle.segment_scan.proofs.SegmentLemmas.{mark_named}
 use Rattle.query_executor.specs.Logs.{EndsBy, LogsThat}
@@ -115,6 +118,23 @@ module _ (query : BoundQuery) (table : Table) (name : List ℕ) (head : Seen) (r
   left_readable : (column : ℕ) → get_or (names_in rest table) column false ≡ true → IsReadable head column
   left_readable = readable rest (rest_loaded query (choices_for query table head) head loaded)
 
+  sure_readable : (column : ℕ) → get_or (names_in (sure_for query table head) table) column false ≡ true → IsReadable head column
+  sure_readable = readable (sure_for query table head) (rest_loaded query (sure_choices (choices_for query table head)) head loaded)
+
+  -- no more columns are named for the documents that are sure
+  sure_fewer : marked_count (names_in (sure_for query table head) table) ≤ marked_count (names_in rest table)
+  sure_fewer = fewer (query_names (sure_for query table head)) (query_names rest) (λ column is. sure_names query (choices_for query table head) column is) (range_with_len 0 (length table.schema.fields))
+    where
+      fewer : (p q : ℕ → Bool) → ((k : ℕ) → p k ≡ true → q k ≡ true) → (ks : List ℕ) → marked_count (map p ks) ≤ marked_count (map q ks)
+      fewer p q less [] = omega arith
+      fewer p q less (k ∷ ks) = one (p k) (q k) (less k) (fewer p q less ks)
+        where
+          one : (a b : Bool) → (a ≡ true → b ≡ true) → marked_count (map p ks) ≤ marked_count (map q ks) → marked_count (a ∷ map p ks) ≤ marked_count (b ∷ map q ks)
+          one true true h le = omega (arith, le)
+          one true false h le = absurd (false≢true (h refl))
+          one false true h le = omega (arith, le)
+          one false false h le = le
+
   names_count : length (names_in query table) ≡ length table.schema.fields
   names_count = length-map (range_with_len 0 (length table.schema.fields)) (query_names query) ∙ length-range_with_len 0 (length table.schema.fields)
 
@@ -152,6 +172,16 @@ module _ (query : BoundQuery) (table : Table) (name : List ℕ) (head : Seen) (r
     docs_most : (docs : List ℕ) → AreLeftFor query table held head docs → 4 * length docs * marked_count (names_in rest table) ≡ most
     docs_most docs left = ap (λ k. 4 * k * marked_count (names_in rest table)) (few docs left)
 
+    -- what both parts of the documents that are left take
+    parts_most : (docs check sure : List ℕ) → AreLeftFor query table held head docs → length check + length sure ≡ length docs
+        → 4 * length check * marked_count (names_in rest table) + 4 * length sure * marked_count (names_in (sure_for query table head) table) ≤ most
+    parts_most docs check sure left sum =
+        let a : ℕ = marked_count (names_in rest table) in
+        let less = mul-le (4 * length sure) (marked_count (names_in (sure_for query table head) table)) (4 * length sure) a (omega arith) sure_fewer in
+        let all : 4 * (length check + length sure) * a ≡ 4 * length check * a + 4 * length sure * a = grind arith in
+        let same : 4 * (length check + length sure) * a ≡ most = ap (λ k. 4 * k * a) sum ∙ docs_most docs left in
+        omega (arith, less, all, same)
+
     by_most : (m : ℕ) (a b : Option (List Entry)) → m ≡ most → GrowsBy m a b → LogsMost most a b
     by_most m a b is grows = most_grown most a b (subst (λ k. GrowsBy k a b) is grows)
 
@@ -163,8 +193,37 @@ module _ (query : BoundQuery) (table : Table) (name : List ℕ) (head : Seen) (r
         )
     scan_bytes count a b (inr (docs, left, is, between, indexes, logs)) =
         let behind = indexes_behind a between indexes in (
-          most_then most a between b (none_behind a between behind) (by_most (4 * length docs * marked_count (names_in rest table)) between b (docs_most docs left) (docs_grow table name head rows sections tells of_table (names_in rest table) left_readable docs left.within between b logs)),
-          entries_then Early a between b (early_behind a between behind) (docs_before table name head rows sections tells of_table (names_in rest table) left_readable docs left.within between b logs),
+          most_then most a between b (none_behind a between behind)
+              (most_grown most between b
+              (grows_both (4 * length logs.check * marked_count (names_in rest table)) (4 * length logs.sure * marked_count (names_in (sure_for query table head) table)) most between logs.between b (parts_most docs logs.check logs.sure left logs.count)
+              (docs_grow table name head rows sections tells of_table (names_in rest table) left_readable logs.check logs.check_within between logs.between logs.checked)
+              (docs_grow table name head rows sections tells of_table (names_in (sure_for query table head) table) sure_readable logs.sure logs.sure_within logs.between b logs.surely))),
+          entries_then Early a between b (early_behind a between behind)
+              (entries_then Early between logs.between b
+              (docs_before table name head rows sections tells of_table (names_in rest table) left_readable logs.check logs.check_within between logs.between logs.checked)
+              (docs_before table name head rows sections tells of_table (names_in (sure_for query table head) table) sure_readable logs.sure logs.sure_within logs.between b logs.surely)),
+        )
+
+    -- what was read of both parts
+    parts_partly : (docs : List ℕ) → AreLeftFor query table held head docs → (a b : Option (List Entry)) → LogsPartsPartly head (names_in rest table) (names_in (sure_for query table head) table) docs a b → LogsMost most a b × LogsThat Early a b
+    parts_partly docs left a b logs = by logs.some
+      where
+        bound : 4 * length logs.check * marked_count (names_in rest table) + 4 * length logs.sure * marked_count (names_in (sure_for query table head) table) ≤ most
+        bound = parts_most docs logs.check logs.sure left logs.count
+
+        by : LogsDocsPartly head (names_in rest table) logs.check a b ⊎ ((between : Option (List Entry)) × LogsDocs head (names_in rest table) logs.check a between × LogsDocsPartly head (names_in (sure_for query table head) table) logs.sure between b) → LogsMost most a b × LogsThat Early a b
+        by (inl first) = (
+          most_less (4 * length logs.check * marked_count (names_in rest table)) most a b (omega (arith, bound))
+              (most_grown (4 * length logs.check * marked_count (names_in rest table)) a b (partly_grow table name head rows sections tells of_table (names_in rest table) left_readable logs.check logs.check_within a b first)),
+          partly_before table name head rows sections tells of_table (names_in rest table) left_readable logs.check logs.check_within a b first,
+        )
+        by (inr (between, first, second)) = (
+          most_grown most a b
+              (grows_both (4 * length logs.check * marked_count (names_in rest table)) (4 * length logs.sure * marked_count (names_in (sure_for query table head) table)) most a between b bound
+              (docs_grow table name head rows sections tells of_table (names_in rest table) left_readable logs.check logs.check_within a between first)
+              (partly_grow table name head rows sections tells of_table (names_in (sure_for query table head) table) sure_readable logs.sure logs.sure_within between b second)),
+          entries_then Early a between b (docs_before table name head rows sections tells of_table (names_in rest table) left_readable logs.check logs.check_within a between first)
+              (partly_before table name head rows sections tells of_table (names_in (sure_for query table head) table) sure_readable logs.sure logs.sure_within between b second),
         )
 
     pub partly_bytes : (a b : Option (List Entry)) → LogsScanPartly query table held head a b → LogsMost most a b × LogsThat Early a b
@@ -176,10 +235,9 @@ module _ (query : BoundQuery) (table : Table) (name : List ℕ) (head : Seen) (r
         let behind = indexes_partly a b logs in
         (most_less 0 most a b (omega arith) (none_behind a b behind), early_behind a b behind)
     partly_bytes a b (inr (inr (docs, left, between, indexes, logs))) =
-        let behind = indexes_behind a between indexes in (
-          most_then most a between b (none_behind a between behind) (by_most (4 * length docs * marked_count (names_in rest table)) between b (docs_most docs left) (partly_grow table name head rows sections tells of_table (names_in rest table) left_readable docs left.within between b logs)),
-          entries_then Early a between b (early_behind a between behind) (partly_before table name head rows sections tells of_table (names_in rest table) left_readable docs left.within between b logs),
-        )
+        let behind = indexes_behind a between indexes in
+        let own = parts_partly docs left between b logs in
+        (most_then most a between b (none_behind a between behind) own.0, entries_then Early a between b (early_behind a between behind) own.1)
 
     -- such reads are those of the scan
     reads_so : (plan : ScanPlan) (a b : Option (List Entry)) → plan.choices ≡ choices_for query table head → n ≡ docs_by query table rows (Scan plan) → LogsMost most a b × LogsThat Early a b → Grown (ReadsScan query table name rows plan) a b

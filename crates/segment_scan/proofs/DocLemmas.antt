@@ -104,3 +104,13 @@ rows_filtered {X} d p xs docs up below those =
     let none : 0 + length xs ≡ length xs = omega arith in
     rows_by_docs (λ k. get_or xs k d) p (length xs) 0 docs (increasing_up 0 docs up (λ j lt. omega arith), subst (λ n. All (λ k. k < n) docs) (sym none) below, λ k from lt. those k (omega (arith, lt)))
     ∙ ap (filter p) (sym (items_are d xs))
+
+-- ascending documents below a number are those of the numbers below it of which the test holds
+pub listed : (n : ℕ) (docs : List ℕ) (test : ℕ → Bool) → IsStrictlyIncreasing docs → All (λ k. k < n) docs → ((k : ℕ) → has_doc docs k ≡ test k) → docs ≡ filter test (range_with_len 0 n)
+listed n docs test up below those =
+    let none : 0 + n ≡ n = omega arith in
+    sym (plain docs) ∙ rows_by_docs (λ k. k) test n 0 docs (increasing_up 0 docs up (λ j lt. omega arith), subst (λ m. All (λ k. k < m) docs) (sym none) below, λ k from lt. those k) ∙ ap (filter test) (plain (range_with_len 0 n))
+  where
+    plain : (xs : List ℕ) → map (λ k. k) xs ≡ xs
+    plain [] = refl
+    plain (x ∷ xs) = ap (λ (l : List ℕ). x ∷ l) (plain xs)

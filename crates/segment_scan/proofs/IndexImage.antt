@@ -1,5 +1,5 @@
 -- On the image of rows, the indexes of conjuncts tell the ids of the rows.
-use Rattle.std.proofs.Common.{◌≡◌, ◌∙◌, ◌<◌, ◌+◌, ◌&&◌, ◌==◌, ◌∷◌, [], ℕ, zero, suc, pos, Bool, true, false, nat_lt, Option, Some, None, List, length, map, get_or, slice_get, refl, sym, ap, subst, eq-eqb, arith}
+use Rattle.std.proofs.Common.{◌≡◌, ◌∙◌, ◌<◌, ◌+◌, ◌&&◌, ◌==◌, ◌∷◌, [], ℕ, zero, suc, pos, Bool, true, false, nat_lt, All, Option, Some, None, List, length, map, get_or, slice_get, refl, sym, ap, subst, eq-eqb, arith}
 use Rattle.std.specs.Prelude.{if◌then◌else◌, option_to_list}
 use Rattle.std.specs.Option.{IsSome}
 use Rattle.std.specs.List.{list_any}
@@ -24,7 +24,7 @@ use Rattle.table_schema.specs.declared.query.Conjunct.{Conjunct}
 use Rattle.table_schema.specs.declared.query.Conjunct.TheVariants.{One, Many}
 use Rattle.table_schema.specs.declared.settings.Settings.{Settings}
 use Rattle.table_schema.specs.declared.table.Table.{Table}
-use Rattle.table_schema.specs.Conditions.{cell}
+use Rattle.table_schema.specs.Conditions.{cell, conjunct_holds}
 use Rattle.table_schema.specs.NeedIds.{is_set}
 use Rattle.segment_file.specs.declared.part.Part.{Part}
 use Rattle.segment_file.specs.declared.part.Part.TheVariants as parts
@@ -47,12 +47,13 @@ use Rattle.segment_plan.specs.declared.plans.IndexChoice.{IndexChoice}
 use Rattle.segment_plan.specs.declared.plans.IndexChoice.TheVariants.{Unindexed, Sorted, Inverted, Range}
 use Rattle.segment_scan.specs.Forward.{count_in}
 use Rattle.segment_scan.specs.Images.{AreNamedLoaded, ImagesLeave, choices_for}
-use Rattle.segment_scan.specs.Indexes.{IsIndexed, IsRanged, IsReady, OfEach, OfIndex, TellsBuckets, TellsIds, all_leave, is_doc_near, leaves, part_of}
+use Rattle.segment_scan.specs.Indexes.{IsIndexed, IsRanged, IsReady, OfEach, OfIndex, TellsBuckets, TellsIds, all_leave, is_doc_near, is_unsure, leaves, part_of}
 use Rattle.segment_scan.specs.Named.{conjunct_names}
 use Rattle.segment_scan.specs.Served.{Chosen, all_left, choice_at, indexed, is_indexed, is_near, is_row_left, is_value_near}
 use Rattle.segment_scan.proofs.AgreementLemmas.{conjuncts_in_names, or_left, or_right}
 use Rattle.segment_scan.proofs.ImageLemmas.{IsPlace, ids-below, ids-count, item_there, ordered_count, places}
 use Rattle.segment_scan.proofs.OrderLemmas.{sorted_ids}
+use Rattle.segment_scan.proofs.RangeLemmas.{sure_has}
 
 lt_true : (a b : ℕ) → a < b → nat_lt a b ≡ true
 lt_true a b lt = grind (arith, nat_tests)
@@ -311,6 +312,14 @@ module _ (table : Table) (rows : List (List Value)) (files : Files) (head : Seen
         ap (λ b. b && is_near (count_in head c) (matching test (values_in head c)) (get_or (ids_of rs c) at 0)) (inside c)
         ∙ (λ i. is_near (length (values_are c loaded i)) (matching test (values_are c loaded i)) (id_at_row rs c at row lt once i))
 
+    -- a document that a range index leaves for sure satisfies the conjunct
+    sure_leaf : (conjunct : Conjunct) → IsReady head Range conjunct → is_indexed Range conjunct ≡ true → leaves head (ids_of rs) at Range conjunct ≡ true → is_unsure head (ids_of rs) at Range conjunct ≡ false → conjunct_holds row conjunct ≡ true
+    sure_leaf (Many wide) ready has near unsure = absurd (false≢true has)
+    sure_leaf (One c test) ready has near unsure =
+        let count : count_in head c ≡ count_of rs c = ap length (values_are c ready.loaded) in
+        sym (leaf c test ready.loaded)
+        ∙ sure_has (count_in head c) (matching test (values_in head c)) (ids_of rs c) at (subst (λ n. All (λ id. id < n) (ids_of rs c)) (sym count) (ids-below rs c)) ready.consecutive near unsure
+
     one_leaves : (choice : IndexChoice) (conjunct : Conjunct) → ((column : ℕ) → conjunct_names column conjunct ≡ true → IsLoaded head column) → is_indexed choice conjunct ≡ true → leaves head (ids_of rs) at choice conjunct ≡ is_row_left rs row choice conjunct
     one_leaves Sorted (One c test) loaded has = leaf c test (loaded c (eq-eqb c c refl))
     one_leaves Inverted (One c test) loaded has = leaf c test (loaded c (eq-eqb c c refl))
@@ -350,6 +359,8 @@ images_leave law query table files rows head valid is loaded of =
       ids = ids_of os;
       tells = each_choice (λ kind column test. TellsIds files head kind column (ids_of os column)) (λ column test. TellsBuckets files head column (ids_of os column)) query table head loaded
           (index_tells table rows files head tells bytes) (range_tells table rows files head tells bytes);
+      sure = λ at doc conjunct there ranged has lt near unsure.
+          sure_leaf table rows files head tells bytes doc (omega (arith, lt, ordered_count table.settings.sorted rows)) conjunct (subst (λ ch. IsReady head ch conjunct) ranged (ready_for query table head is loaded at conjunct there)) has near unsure;
       left = λ at lt.
           each_leaves table rows files head tells bytes at (omega (arith, lt, ordered_count table.settings.sorted rows)) (choices_for query table head) query.conjuncts (λ column named. loaded column (conjuncts_in_names query column named));
     }

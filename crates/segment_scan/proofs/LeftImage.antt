@@ -1,10 +1,13 @@
 -- What a scan of the documents that indexes leave says of the image of rows.
-use Rattle.std.proofs.Common.{◌≡◌, ◌∙◌, ◌<◌, ◌≤◌, ◌&&◌, ◌∷◌, [], ℕ, zero, suc, Bool, true, false, inl, inr, All, List, Option, Some, None, IfSome, length, map, get_or, slice_get, refl, sym, ap, subst, arith}
-use Rattle.std.specs.Prelude.{if◌then◌else◌}
-use Rattle.std.specs.List.{filter, list_all}
+use Rattle.std.proofs.Common.{◌≡◌, ◌∙◌, ◌<◌, ◌≤◌, ◌+◌, ◌&&◌, ◌||◌, ◌++◌, ◌∷◌, [], ℕ, zero, suc, Bool, true, false, not, inl, inr, append_assoc, All, List, Option, Some, None, IfSome, length, map, get_or, slice_get, refl, sym, ap, subst, arith}
+use Rattle.std.specs.Prelude.{if◌then◌else◌, IsPermutation}
+use Rattle.std.specs.List.{filter, list_all, list_any}
+use Rattle.std.specs.List.Sorted.{IsStrictlyIncreasing}
 use Rattle.std.proofs.lemmas.Bool.{false≢true}
 use Rattle.std.proofs.lemmas.List.{length-map}
-use Rattle.std.proofs.lemmas.List.Elements.{All-head, All-tail}
+use Rattle.std.proofs.lemmas.List.Elements.{All-head, All-nil, All-tail}
+use Rattle.std.proofs.lemmas.List.Sorted.{IsPermutation-append_right}
+use Rattle.std.specs.FinMap as finite
 use Rattle.outside.specs.Files.{Files}
 use Rattle.outside.specs.Reads.{Entry}
 use Rattle.values.specs.declared.value.Value.{Value}
@@ -18,9 +21,15 @@ use Rattle.table_schema.specs.declared.query.Conjunct.TheVariants.{One, Many}
 use Rattle.table_schema.specs.declared.table.Table.{Table}
 use Rattle.table_schema.specs.ValidTable.{IsValidTable}
 use Rattle.table_schema.specs.Conditions.{all_hold, conjunct_holds}
+use Rattle.doc_lists.specs.Docs.{has_doc}
+use Rattle.group_table.proofs.GroupsLemmas.{same_permuted}
+use Rattle.group_table.specs.Groups.{Groups, groups_of}
 use Rattle.group_table.specs.Kept.{KeptGroups}
+use Rattle.group_table.specs.Shape.{shape_of}
 use Rattle.scan_engine.specs.Places.{rows_at}
 use Rattle.scan_engine.specs.Scanned.{AddsRows, IsOverfull, selected}
+use Rattle.scan_engine.proofs.AddLemmas.{adds_both, len_more}
+use Rattle.scan_engine.proofs.RunLemmas.{adds_as_more}
 use Rattle.segment_file.specs.declared.part.Part.{Part}
 use Rattle.segment_file.specs.declared.part.Part.TheVariants.{Forward}
 use Rattle.segment_file.specs.Heads.{IsHeadOf, Seen}
@@ -31,16 +40,19 @@ use Rattle.segment_plan.specs.declared.plans.IndexChoice.TheVariants.{Unindexed,
 use Rattle.segment_scan.specs.Agreement.{AgreeAll, AreSame}
 use Rattle.segment_scan.specs.Documents.{AddsDocs, selected_docs}
 use Rattle.segment_scan.specs.Forward.{HasIds}
-use Rattle.segment_scan.specs.Images.{AddsImage, AddsWhole, AreDocs, AreLeftFor, AreNamedLoaded, ImagesLeave, ImagesRead, IsBadForward, IsBadIn, IsBadWhole, IsImageOverfull, IsNoImage, IsOfImage, IsWholeOverfull, choices_for, indexed_for, names_in, rest_for}
-use Rattle.segment_scan.specs.Indexes.{IsBadAny, IsBadIndex, LogsAt, LogsIndex, LogsRange, OfIndex, TellsIndexed}
-use Rattle.segment_scan.specs.Named.{query_names}
+use Rattle.segment_scan.specs.Images.{AddsImage, AddsWhole, AreDocs, AreLeftFor, AreNamedLoaded, AreParts, HasUnsureFor, ImagesLeave, ImagesRead, IsBadForward, IsBadIn, IsBadWhole, IsImageOverfull, IsNoImage, IsOfImage, IsWholeOverfull, LogsPartsPartly, choices_for, indexed_for, names_in, rest_for, sure_for}
+use Rattle.segment_scan.specs.Indexes.{IsBadAny, IsBadIndex, LogsAt, LogsIndex, LogsRange, OfIndex, TellsIndexed, all_leave, is_unsure, leaves}
+use Rattle.segment_scan.specs.Named.{agg_names, conjunct_names, is_in, query_names}
 use Rattle.segment_scan.specs.Scans.{columns_read}
 use Rattle.segment_scan.specs.Series.{LogsTo}
-use Rattle.segment_scan.specs.Served.{Chosen, all_left, choice_at, indexed, is_indexed, is_row_left, is_served, rest_of, rows_left, unserved}
+use Rattle.segment_scan.specs.Served.{Chosen, all_left, choice_at, indexed, is_indexed, is_row_left, is_served, rest_of, rows_left, sure_choices, unserved}
 use Rattle.segment_scan.proofs.AgreementLemmas.{agreeing_same}
 use Rattle.segment_scan.proofs.DocLemmas.{filter_both, rows_filtered}
 use Rattle.segment_scan.proofs.IndexImage.{again, place_at}
-use Rattle.segment_scan.proofs.LeftLemmas.{one_chosen}
+use Rattle.segment_scan.proofs.ImageLemmas.{ordered_count}
+use Rattle.segment_scan.proofs.LeftLemmas.{all_has, one_chosen, part_all}
+use Rattle.segment_scan.proofs.PickLemmas.{docs_few}
+use Rattle.segment_scan.proofs.PartLemmas.{left_at, parts_count, parts_permuted, sure_all}
 use Rattle.segment_scan.proofs.RangeLemmas.{value_near}
 use Rattle.segment_scan.proofs.SegmentLemmas.{mark_named, marks_are}
 use Rattle.segment_scan.proofs.ServedLemmas.{unserved_names}
@@ -123,6 +135,59 @@ rest_loaded query choices head loaded column named = loaded column (unserved_nam
 
 -- ---- on the image of rows
 
+-- of some documents, by any choices
+module _ (law : ImagesRead) (query : BoundQuery) (table : Table) (head : Seen) (valid : IsValidTable table) (of_table : IsHeadOf table head) (loaded : AreNamedLoaded query head) (cs : List IndexChoice) (files : Files) (rows : List (List Value)) (of : IsOfImage table files rows head) where
+  abbrev some_rows : List (List Value)
+  some_rows = ordered table.settings.sorted rows
+
+  abbrev some_cols : List Listed
+  some_cols = columns_read files head 0 (names_in (rest_of query cs) table)
+
+  agree_at : (ds : List ℕ) → All (λ k. k < length some_rows) ds → AgreeAll (query_names (rest_of query cs)) (rows_at some_cols ds) (map (λ k. get_or some_rows k []) ds)
+  agree_at [] within = tt
+  agree_at (d ∷ ds) within =
+      let reads = law (rest_of query cs) table files rows head valid of_table (rest_loaded query cs head loaded) of in
+      let lt : d < length some_rows = All-head (λ k. k < length some_rows) d ds within in
+      (reads.each d (omega (arith, lt, ordered_count table.settings.sorted rows)), agree_at ds (All-tail (λ k. k < length some_rows) d ds within))
+
+  same_at : (ds : List ℕ) → All (λ k. k < length some_rows) ds → AreSame (rest_of query cs) (rows_at some_cols ds) (map (λ k. get_or some_rows k []) ds)
+  same_at ds within = agreeing_same (rest_of query cs) (rows_at some_cols ds) (map (λ k. get_or some_rows k []) ds) (agree_at ds within)
+
+  part_adds : (n : ℕ) (ds : List ℕ) → All (λ k. k < length some_rows) ds → (added : List (List Value)) (old new : KeptGroups) → added ≡ selected_docs query cs files head (names_in (rest_of query cs) table) ds → AddsRows query n added old new
+      → AddsRows query n (selected (rest_of query cs) (map (λ k. get_or some_rows k []) ds)) old new
+  part_adds n ds within added old new is by =
+      adds_rest query cs n (selected (rest_of query cs) (map (λ k. get_or some_rows k []) ds)) old new
+      ((same_at ds within).adds n old new (rest_adds query cs n (selected (rest_of query cs) (rows_at some_cols ds)) old new (subst (λ (l : List (List Value)). AddsRows query n l old new) is by)))
+
+  part_overfull : (ds : List ℕ) → All (λ k. k < length some_rows) ds → (old : KeptGroups) → IsOverfull query (selected_docs query cs files head (names_in (rest_of query cs) table) ds) old
+      → IsOverfull query (selected (rest_of query cs) (map (λ k. get_or some_rows k []) ds)) old
+  part_overfull ds within old over = (same_at ds within).overfull old over
+
+-- the groups of permuted rows
+permuted_adds : (query : BoundQuery) (n m : ℕ) (xs ys : List (List Value)) (old new : KeptGroups) → n ≡ m → IsPermutation xs ys → AddsRows query n ys old new → AddsRows query m xs old new
+permuted_adds query n m xs ys old new same permuted by = subst (λ k. AddsRows query k xs old new) same (record {
+  of_query = by.of_query;
+  most = by.most;
+  groups = λ done so. by.groups done so ∙ same_permuted (shape_of query) (done ++ xs) (done ++ ys) (IsPermutation-append_right done xs ys permuted);
+  fits = by.fits;
+})
+
+permuted_overfull : (query : BoundQuery) (xs ys : List (List Value)) (old : KeptGroups) → IsPermutation xs ys → IsOverfull query ys old → IsOverfull query xs old
+permuted_overfull query xs ys old permuted over = λ done so.
+    subst (λ (g : Groups). old.most < finite.len g) (same_permuted (shape_of query) (done ++ xs) (done ++ ys) (IsPermutation-append_right done xs ys permuted)) (over done so)
+
+-- too many groups already are too many with more rows
+overfull_more : (query : BoundQuery) (xs ys : List (List Value)) (old : KeptGroups) → IsOverfull query xs old → IsOverfull query (xs ++ ys) old
+overfull_more query xs ys old over = λ done so.
+    let more = len_more (shape_of query) (done ++ xs) ys in
+    let here = over done so in
+    subst (λ l. old.most < finite.len (groups_of (shape_of query) l)) (append_assoc done xs ys) (omega (arith, more, here))
+
+overfull_next : (query : BoundQuery) (n : ℕ) (xs ys : List (List Value)) (old mid : KeptGroups) → AddsRows query n xs old mid → IsOverfull query ys mid → IsOverfull query (xs ++ ys) old
+overfull_next query n xs ys old mid by over = λ done so.
+    subst (λ l. old.most < finite.len (groups_of (shape_of query) l)) (append_assoc done xs ys)
+    (subst (λ m. m < finite.len (groups_of (shape_of query) ((done ++ xs) ++ ys))) by.most (over (done ++ xs) (by.groups done so)))
+
 module _ (law : ImagesRead) (leave : ImagesLeave) (query : BoundQuery) (table : Table) (head : Seen) (valid : IsValidTable table) (of_table : IsHeadOf table head) (loaded : AreNamedLoaded query head) (docs : List ℕ) where
   abbrev choices : List IndexChoice
   choices = choices_for query table head
@@ -130,68 +195,157 @@ module _ (law : ImagesRead) (leave : ImagesLeave) (query : BoundQuery) (table : 
   abbrev rest : BoundQuery
   rest = rest_for query table head
 
+  abbrev others : BoundQuery
+  others = sure_for query table head
+
   module _ (files : Files) (rows : List (List Value)) (of : IsOfImage table files rows head) (left : AreLeftFor query table (Some files) head docs) where
     abbrev os : List (List Value)
     os = ordered table.settings.sorted rows
 
-    abbrev cols : List Listed
-    cols = columns_read files head 0 (names_in rest table)
+    abbrev at_doc : ℕ → List Value
+    at_doc k = get_or os k []
+
+    rows_long : head.rows ≡ length os
+    rows_long = (law rest table files rows head valid of_table (rest_loaded query choices head loaded) of).count ∙ sym (ordered_count table.settings.sorted rows)
 
     docs_within : All (λ k. k < length os) docs
-    docs_within =
-        let reads = law rest table files rows head valid of_table (rest_loaded query choices head loaded) of in
-        let lv = leave query table files rows head valid of_table loaded of in
-        subst (λ n. All (λ k. k < n) docs) (reads.count ∙ sym lv.size) left.within
+    docs_within = subst (λ n. All (λ k. k < n) docs) rows_long left.within
 
-    rows_are : map (λ k. get_or os k []) docs ≡ rows_left query choices os
+    rows_are : map at_doc docs ≡ rows_left query choices os
     rows_are =
         let lv = leave query table files rows head valid of_table loaded of in
         let those = left.told lv.ids lv.tells in
         rows_filtered [] (λ row. all_left os row (indexed choices query.conjuncts)) os docs those.ascend docs_within (λ k lt. those.those k ∙ lv.left k (omega (arith, lt, lv.size)))
 
-    agree_at : (ds : List ℕ) → All (λ k. k < length os) ds → AgreeAll (query_names rest) (rows_at cols ds) (map (λ k. get_or os k []) ds)
-    agree_at [] within = tt
-    agree_at (d ∷ ds) within =
-        let reads = law rest table files rows head valid of_table (rest_loaded query choices head loaded) of in
-        let lv = leave query table files rows head valid of_table loaded of in
-        let lt : d < length os = All-head (λ k. k < length os) d ds within in
-        (reads.each d (omega (arith, lt, lv.size)), agree_at ds (All-tail (λ k. k < length os) d ds within))
-
-    same : AreSame rest (rows_at cols docs) (map (λ k. get_or os k []) docs)
-    same = agreeing_same rest (rows_at cols docs) (map (λ k. get_or os k []) docs) (agree_at docs docs_within)
-
-    chosen : selected rest (map (λ k. get_or os k []) docs) ≡ selected query os
+    chosen : selected rest (map at_doc docs) ≡ selected query os
     chosen =
         ap (selected rest) rows_are
         ∙ filter_both [] (λ row. all_left os row (indexed choices query.conjuncts)) (λ row. all_hold row (unserved choices query.conjuncts)) (λ row. all_hold row query.conjuncts) os
-        (λ k lt. split_all (conjunct_holds (get_or os k [])) (is_row_left os (get_or os k [])) (row_exact os k lt) choices query.conjuncts)
+        (λ k lt. split_all (conjunct_holds (at_doc k)) (is_row_left os (at_doc k)) (row_exact os k lt) choices query.conjuncts)
 
     pub left_count : length docs ≡ length (rows_left query choices os)
-    left_count = sym (length-map docs (λ k. get_or os k [])) ∙ ap length rows_are
+    left_count = sym (length-map docs at_doc) ∙ ap length rows_are
 
-    pub left_adds : (added : List (List Value)) (old new : KeptGroups) → added ≡ selected_docs query choices files head (names_in rest table) docs → AddsRows query head.rows added old new
-        → (head.rows ≡ length rows) × AddsRows query (length rows) (selected query os) old new
-    left_adds added old new is by =
-        let reads = law rest table files rows head valid of_table (rest_loaded query choices head loaded) of in
-        let n : ℕ = length rows in
-        let here : AddsRows rest n (selected rest (rows_at cols docs)) old new =
-        rest_adds query choices n (selected rest (rows_at cols docs)) old new (subst (λ m. AddsRows query m (selected rest (rows_at cols docs)) old new) reads.count (subst (λ (l : List (List Value)). AddsRows query head.rows l old new) is by)) in
-        (reads.count, subst (λ (l : List (List Value)). AddsRows query n l old new) chosen (adds_rest query choices n (selected rest (map (λ k. get_or os k []) docs)) old new (same.adds n old new here)))
+    module _ (unsure check sure : List ℕ) (has : HasUnsureFor query table (Some files) head unsure) (parts : AreParts docs unsure check sure) where
+      check_within : All (λ k. k < length os) check
+      check_within = part_all (λ k. k < length os) docs check (has_doc unsure) parts.checks docs_within
 
-    pub left_overfull : (old : KeptGroups) → IsOverfull query (selected_docs query choices files head (names_in rest table) docs) old → IsOverfull query (selected query os) old
-    left_overfull old over = subst (λ (l : List (List Value)). IsOverfull query l old) chosen (same.overfull old over)
+      sure_within : All (λ k. k < length os) sure
+      sure_within = part_all (λ k. k < length os) docs sure (λ d. not (has_doc unsure d)) parts.sures docs_within
 
-  pub left_image : (held : Option Files) (named : List Bool) → named ≡ names_in rest table → AreLeftFor query table held head docs → (old new : KeptGroups) → AddsDocs query choices held head named docs old new → AddsImage query table held head old new
-  left_image None named is left old new by = record { added = by.rows; adds = by.adds; read = tt; told = tt }
-  left_image (Some files) named is left old new by =
-      let read : by.rows ≡ selected_docs query choices files head (names_in rest table) docs = by.told ∙ ap (λ (l : List Bool). selected_docs query choices files head l docs) is in
-      record { added = by.rows; adds = by.adds; read = inr (docs, left, read); told = λ rows of. left_adds files rows of left by.rows old new read by.adds }
+      -- a document that is sure satisfies the conjunct of each range index
+      surely : (d : ℕ) → has_doc sure d ≡ true → (at : ℕ) (x : Conjunct) → slice_get query.conjuncts at ≡ Some x → choice_at choices at ≡ Range → is_indexed Range x ≡ true → conjunct_holds (at_doc d) x ≡ true
+      surely d in_sure at x there ranged can =
+          let lv = leave query table files rows head valid of_table loaded of in
+          let both : has_doc docs d && not (has_doc unsure d) ≡ true = sym (parts.sures.those d) ∙ in_sure in
+          let in_docs : has_doc docs d ≡ true = first_true (has_doc docs d) (not (has_doc unsure d)) both in
+          let lt : d < length os = all_has (λ k. k < length os) docs d in_docs docs_within in
+          let all : all_leave head lv.ids d (indexed choices query.conjuncts) ≡ true = sym ((left.told lv.ids lv.tells).those d) ∙ in_docs in
+          let near : leaves head lv.ids d Range x ≡ true =
+          subst (λ ch. leaves head lv.ids d ch x ≡ true) ranged (left_at (leaves head lv.ids d) choices query.conjuncts at x there (ap (λ ch. is_indexed ch x) ranged ∙ can) all) in
+          let out : is_unsure head lv.ids d Range x ≡ false = not_unsure (is_unsure head lv.ids d Range x) (has_doc unsure d)
+          (λ is. has lv.ids lv.tells at x (there_lt query.conjuncts at x there) there d (ap (λ ch. is_unsure head lv.ids d ch x) ranged ∙ is)) (second_true (has_doc docs d) (not (has_doc unsure d)) both) in
+          lv.sure at d x there ranged can (omega (arith, lt, lv.size)) near out
+        where
+          first_true : (a b : Bool) → a && b ≡ true → a ≡ true
+          first_true true b e = refl
+          first_true false b e = absurd (false≢true e)
 
-  pub left_full : (held : Option Files) (named : List Bool) → named ≡ names_in rest table → AreLeftFor query table held head docs → (old : KeptGroups) → IfSome held (λ files. IsOverfull query (selected_docs query choices files head named docs) old) → IsImageOverfull query table held head old
-  left_full None named is left old over = tt
-  left_full (Some files) named is left old over =
-      let read : IsOverfull query (selected_docs query choices files head (names_in rest table) docs) old = subst (λ (l : List Bool). IsOverfull query (selected_docs query choices files head l docs) old) is over in
-      ((selected_docs query choices files head (names_in rest table) docs, inr (docs, left, refl), read), λ rows of. left_overfull files rows of left old read)
+          second_true : (a b : Bool) → a && b ≡ true → b ≡ true
+          second_true true b e = e
+          second_true false b e = absurd (false≢true e)
+
+          not_unsure : (a b : Bool) → (a ≡ true → b ≡ true) → not b ≡ true → a ≡ false
+          not_unsure false b h e = refl
+          not_unsure true true h e = absurd (false≢true e)
+          not_unsure true false h e = absurd (false≢true (h refl))
+
+          there_lt : (xs : List Conjunct) (k : ℕ) (x : Conjunct) → slice_get xs k ≡ Some x → k < length xs
+          there_lt [] k x there = absurd cc
+          there_lt (y ∷ ys) zero x there = omega arith
+          there_lt (y ∷ ys) (suc k) x there = omega (arith, there_lt ys k x there)
+
+      permuted : IsPermutation (selected query os) (selected rest (map at_doc check) ++ selected others (map at_doc sure))
+      permuted =
+          let lv = leave query table files rows head valid of_table loaded of in
+          let those = left.told lv.ids lv.tells in
+          subst (λ l. IsPermutation l (selected rest (map at_doc check) ++ selected others (map at_doc sure))) chosen
+          (parts_permuted docs unsure sure check (length os) (record { ascend = those.ascend; those = λ doc. refl }) docs_within parts.sures parts.checks sure_within check_within at_doc
+          (λ row. all_hold row (unserved choices query.conjuncts)) (λ row. all_hold row (unserved (sure_choices choices) query.conjuncts))
+          (λ d is. sure_all (conjunct_holds (at_doc d)) choices query.conjuncts (surely d is)))
+
+      count_parts : length check + length sure ≡ length docs
+      count_parts =
+          let lv = leave query table files rows head valid of_table loaded of in
+          let those = left.told lv.ids lv.tells in
+          parts_count docs unsure sure check (length os) (record { ascend = those.ascend; those = λ doc. refl }) docs_within parts.sures parts.checks sure_within check_within
+
+      pub left_adds : (one two : List (List Value)) (old mid new : KeptGroups) → one ≡ selected_docs query choices files head (names_in rest table) check → two ≡ selected_docs query (sure_choices choices) files head (names_in others table) sure
+          → length docs ≤ head.rows → AddsRows query (length check) one old mid → AddsRows query (length sure) two mid new → (head.rows ≡ length rows) × AddsRows query (length rows) (selected query os) old new
+      left_adds one two old mid new one_is two_is few first second =
+          let long : head.rows ≡ length rows = rows_long ∙ ordered_count table.settings.sorted rows in
+          let a = part_adds law query table head valid of_table loaded choices files rows of (length check) check check_within one old mid one_is first in
+          let b = part_adds law query table head valid of_table loaded (sure_choices choices) files rows of (length sure) sure sure_within two mid new two_is second in
+          let both = adds_both query (length check) (length sure) (selected rest (map at_doc check)) (selected others (map at_doc sure)) old mid new a b in (
+            long,
+            adds_as_more query (length check + length sure) (length rows) (selected query os) old new (omega (arith, long, few, count_parts))
+                (permuted_adds query (length check + length sure) (length check + length sure) (selected query os) (selected rest (map at_doc check) ++ selected others (map at_doc sure)) old new refl permuted both),
+          )
+
+      pub check_overfull : (old : KeptGroups) → IsOverfull query (selected_docs query choices files head (names_in rest table) check) old → IsOverfull query (selected query os) old
+      check_overfull old over =
+          permuted_overfull query (selected query os) (selected rest (map at_doc check) ++ selected others (map at_doc sure)) old permuted
+          (overfull_more query (selected rest (map at_doc check)) (selected others (map at_doc sure)) old (part_overfull law query table head valid of_table loaded choices files rows of check check_within old over))
+
+      pub sure_overfull : (one : List (List Value)) (old mid : KeptGroups) → one ≡ selected_docs query choices files head (names_in rest table) check → AddsRows query (length check) one old mid
+          → IsOverfull query (selected_docs query (sure_choices choices) files head (names_in others table) sure) mid → IsOverfull query (selected query os) old
+      sure_overfull one old mid one_is first over =
+          permuted_overfull query (selected query os) (selected rest (map at_doc check) ++ selected others (map at_doc sure)) old permuted
+          (overfull_next query (length check) (selected rest (map at_doc check)) (selected others (map at_doc sure)) old mid
+          (part_adds law query table head valid of_table loaded choices files rows of (length check) check check_within one old mid one_is first)
+          (part_overfull law query table head valid of_table loaded (sure_choices choices) files rows of sure sure_within mid over))
+
+  -- both parts were added
+  pub left_image : (held : Option Files) (unsure check sure : List ℕ) → AreLeftFor query table held head docs → HasUnsureFor query table held head unsure → AreParts docs unsure check sure → length docs ≤ head.rows → length check + length sure ≡ length docs
+      → (old mid new : KeptGroups) → AddsDocs query choices held head (names_in rest table) check old mid → AddsDocs query (sure_choices choices) held head (names_in others table) sure mid new → AddsImage query table held head old new
+  left_image None unsure check sure left has parts few count old mid new one two = record {
+    added = one.rows ++ two.rows;
+    adds = adds_as_more query (length check + length sure) head.rows (one.rows ++ two.rows) old new (omega (arith, few, count)) (adds_both query (length check) (length sure) one.rows two.rows old mid new one.adds two.adds);
+    read = tt;
+    told = tt;
+  }
+  left_image (Some files) unsure check sure left has parts few count old mid new one two = record {
+    added = one.rows ++ two.rows;
+    adds = adds_as_more query (length check + length sure) head.rows (one.rows ++ two.rows) old new (omega (arith, few, count)) (adds_both query (length check) (length sure) one.rows two.rows old mid new one.adds two.adds);
+    read = inr (record { docs = docs; unsure = unsure; check = check; sure = sure; left = left; has = has; parts = parts; rows_are = (λ i. one.told i ++ two.told i) });
+    told = λ rows of. left_adds files rows of left unsure check sure has parts one.rows two.rows old mid new one.told two.told few one.adds two.adds;
+  }
+
+  -- there are too many groups with the documents to be checked
+  pub check_full : (held : Option Files) (unsure check sure : List ℕ) → AreLeftFor query table held head docs → HasUnsureFor query table held head unsure → AreParts docs unsure check sure → (old : KeptGroups)
+      → IfSome held (λ files. IsOverfull query (selected_docs query choices files head (names_in rest table) check) old) → IsImageOverfull query table held head old
+  check_full None unsure check sure left has parts old over = tt
+  check_full (Some files) unsure check sure left has parts old over = (
+    (
+      selected_docs query choices files head (names_in rest table) check ++ selected_docs query (sure_choices choices) files head (names_in others table) sure,
+      inr (record { docs = docs; unsure = unsure; check = check; sure = sure; left = left; has = has; parts = parts; rows_are = refl }),
+      overfull_more query (selected_docs query choices files head (names_in rest table) check) (selected_docs query (sure_choices choices) files head (names_in others table) sure) old over,
+    ),
+    λ rows of. check_overfull files rows of left unsure check sure has parts old over,
+  )
+
+  -- or with those that are sure
+  pub sure_full : (held : Option Files) (unsure check sure : List ℕ) → AreLeftFor query table held head docs → HasUnsureFor query table held head unsure → AreParts docs unsure check sure → (old mid : KeptGroups)
+      → AddsDocs query choices held head (names_in rest table) check old mid → IfSome held (λ files. IsOverfull query (selected_docs query (sure_choices choices) files head (names_in others table) sure) mid) → IsImageOverfull query table held head old
+  sure_full None unsure check sure left has parts old mid one over = tt
+  sure_full (Some files) unsure check sure left has parts old mid one over = (
+    (
+      one.rows ++ selected_docs query (sure_choices choices) files head (names_in others table) sure,
+      inr (record { docs = docs; unsure = unsure; check = check; sure = sure; left = left; has = has; parts = parts; rows_are = ap (λ (l : List (List Value)). l ++ selected_docs query (sure_choices choices) files head (names_in others table) sure) one.told }),
+      overfull_next query (length check) one.rows (selected_docs query (sure_choices choices) files head (names_in others table) sure) old mid one.adds over,
+    ),
+    λ rows of. sure_overfull files rows of left unsure check sure has parts one.rows old mid one.told one.adds over,
+  )
 
   pub left_docs : (held : Option Files) → AreLeftFor query table held head docs → length docs ≤ head.rows → AreDocs query table held head (length docs)
   left_docs held left few = record { few = few; all = λ none. absurd (let some = left.some in omega (arith, some, ap length none)); told = go held left }
@@ -319,18 +473,72 @@ whole_bad query table held head part none bad =
     image None told = tt
     image (Some files) told = told.1
 
--- ---- by the choices that were passed
+-- ---- the marks of columns
 
-pub marks_left : (query : BoundQuery) (table : Table) (head : Seen) (choices : List IndexChoice) (named items : List Bool) (n : ℕ) → choices ≡ choices_for query table head → n ≡ length table.schema.fields → named ≡ items → length items ≡ n
-    → ((column : ℕ) → column < n → get_or items column false ≡ query_names (rest_of query choices) column) → named ≡ names_in (rest_for query table head) table
-marks_left query table head cs named items n planned fields same long each =
-    marks_are (rest_for query table head) table named n fields (ap length same ∙ long)
-    (λ column lt. ap (λ (l : List Bool). get_or l column false) same ∙ each column lt ∙ ap (λ (l : List IndexChoice). query_names (rest_of query l) column) planned)
+pub marks_left : (query : BoundQuery) (table : Table) (choices : List IndexChoice) (named items : List Bool) (n : ℕ) → n ≡ length table.schema.fields → named ≡ items → length items ≡ n
+    → ((column : ℕ) → column < n → get_or items column false ≡ query_names (rest_of query choices) column) → named ≡ names_in (rest_of query choices) table
+marks_left query table cs named items n fields same long each =
+    marks_are (rest_of query cs) table named n fields (ap length same ∙ long) (λ column lt. ap (λ (l : List Bool). get_or l column false) same ∙ each column lt)
 
-pub adds_left : (query : BoundQuery) (table : Table) (head : Seen) (held : Option Files) (choices : List IndexChoice) (named : List Bool) (docs : List ℕ) (old new : KeptGroups) → choices ≡ choices_for query table head
-    → AddsDocs query choices held head named docs old new → AddsDocs query (choices_for query table head) held head named docs old new
-adds_left query table head held cs named docs old new planned by = subst (λ (l : List IndexChoice). AddsDocs query l held head named docs old new) planned by
+-- ---- both parts of the documents that are left
 
-pub full_left : (query : BoundQuery) (table : Table) (head : Seen) (held : Option Files) (choices : List IndexChoice) (named : List Bool) (docs : List ℕ) (old : KeptGroups) → choices ≡ choices_for query table head
-    → IfSome held (λ files. IsOverfull query (selected_docs query choices files head named docs) old) → IfSome held (λ files. IsOverfull query (selected_docs query (choices_for query table head) files head named docs) old)
-full_left query table head held cs named docs old planned over = subst (λ (l : List IndexChoice). IfSome held (λ files. IsOverfull query (selected_docs query l files head named docs) old)) planned over
+-- parts of documents of so many rows
+pub record PartsFit (rows : ℕ) (docs check sure : List ℕ) : Type 0 where
+  pub count : length check + length sure ≡ length docs
+  pub few : length docs ≤ rows
+  pub check_within : All (λ doc. doc < rows) check
+  pub sure_within : All (λ doc. doc < rows) sure
+
+pub parts_fit : (docs unsure check sure : List ℕ) (rows : ℕ) → IsStrictlyIncreasing docs → All (λ doc. doc < rows) docs → AreParts docs unsure check sure → PartsFit rows docs check sure
+parts_fit docs unsure check sure rows up within parts =
+    let first = part_all (λ doc. doc < rows) docs check (has_doc unsure) parts.checks within in
+    let second = part_all (λ doc. doc < rows) docs sure (λ d. not (has_doc unsure d)) parts.sures within in
+    record {
+      count = parts_count docs unsure sure check rows (record { ascend = up; those = λ doc. refl }) within parts.sures parts.checks second first;
+      few = docs_few docs rows up within;
+      check_within = first;
+      sure_within = second;
+    }
+
+pub no_parts : (head : Seen) (named others : List Bool) (docs : List ℕ) (log : Option (List Entry)) → All (λ doc. doc < head.rows) docs → LogsPartsPartly head named others docs log log
+no_parts head named others docs log within = record { check = []; sure = docs; count = omega arith; check_within = All-nil (λ doc. doc < head.rows); sure_within = within; some = inl (inl refl) }
+
+any_sure : (p : Conjunct → Bool) (cs : List IndexChoice) (xs : List Conjunct) → list_any p (unserved (sure_choices cs) xs) ≡ true → list_any p (unserved cs xs) ≡ true
+any_sure p [] xs is = is
+any_sure p (c ∷ cs) [] is = is
+any_sure p (c ∷ cs) (x ∷ xs) is = one c x is (any_sure p cs xs)
+  where
+    either : (a b d : Bool) → a || b ≡ true → (b ≡ true → d ≡ true) → a || d ≡ true
+    either true b d is later = refl
+    either false b d is later = later is
+
+    kept : (b : Bool) (x : Conjunct) (ys zs : List Conjunct) → list_any p (if b then ys else x ∷ ys) ≡ true → (list_any p ys ≡ true → list_any p zs ≡ true) → list_any p (if b then zs else x ∷ zs) ≡ true
+    kept true x ys zs is later = later is
+    kept false x ys zs is later = either (p x) (list_any p ys) (list_any p zs) is later
+
+    second : (a b : Bool) → b ≡ true → a || b ≡ true
+    second true b is = refl
+    second false b is = is
+
+    one : (c : IndexChoice) (x : Conjunct) → list_any p (unserved (sure_choices (c ∷ cs)) (x ∷ xs)) ≡ true → (list_any p (unserved (sure_choices cs) xs) ≡ true → list_any p (unserved cs xs) ≡ true) → list_any p (unserved (c ∷ cs) (x ∷ xs)) ≡ true
+    one Unindexed x is later = kept (is_served Unindexed x) x (unserved (sure_choices cs) xs) (unserved cs xs) is later
+    one Sorted x is later = kept (is_served Sorted x) x (unserved (sure_choices cs) xs) (unserved cs xs) is later
+    one Inverted x is later = kept (is_served Inverted x) x (unserved (sure_choices cs) xs) (unserved cs xs) is later
+    one Range (One column test) is later = second (p (One column test)) (list_any p (unserved cs xs)) (later is)
+    one Range (Many wide) is later = kept false (Many wide) (unserved (sure_choices cs) xs) (unserved cs xs) is later
+
+-- a column that is named for the documents that are sure is named for those to be checked
+pub sure_names : (query : BoundQuery) (cs : List IndexChoice) (column : ℕ) → query_names (rest_of query (sure_choices cs)) column ≡ true → query_names (rest_of query cs) column ≡ true
+sure_names query cs column is = by (list_any (conjunct_names column) (unserved (sure_choices cs) query.conjuncts)) refl is
+  where
+    first : (a b c : Bool) → a ≡ true → ((a || b) || c) ≡ true
+    first true b c is = refl
+    first false b c is = absurd (false≢true is)
+
+    more : (a b c : Bool) → (b || c) ≡ true → ((a || b) || c) ≡ true
+    more true b c is = refl
+    more false b c is = is
+
+    by : (b : Bool) → list_any (conjunct_names column) (unserved (sure_choices cs) query.conjuncts) ≡ b → ((b || is_in query.groups column) || list_any (agg_names column) query.aggs) ≡ true → query_names (rest_of query cs) column ≡ true
+    by true own is = first (list_any (conjunct_names column) (unserved cs query.conjuncts)) (is_in query.groups column) (list_any (agg_names column) query.aggs) (any_sure (conjunct_names column) cs query.conjuncts own)
+    by false own is = more (list_any (conjunct_names column) (unserved cs query.conjuncts)) (is_in query.groups column) (list_any (agg_names column) query.aggs) is

@@ -90,6 +90,12 @@ in_both_all P a b c those all = All-from_get_or P c 0 (λ j lt.
     let doc : ℕ = get_or c j 0 in
     all_has P a doc (and_left (has_doc a doc) (has_doc b doc) (sym (those.those doc) ∙ has_own c j lt)) all)
 
+-- a part of documents
+pub part_all : (P : ℕ → Type 0) (docs part : List ℕ) (test : ℕ → Bool) → AreThose (λ doc. has_doc docs doc && test doc) part → All P docs → All P part
+part_all P docs part test those all = All-from_get_or P part 0 (λ j lt.
+    let doc : ℕ = get_or part j 0 in
+    all_has P docs doc (and_left (has_doc docs doc) (test doc) (sym (those.those doc) ∙ has_own part j lt)) all)
+
 module _ (held : Option Files) (head : Seen) (choices : List IndexChoice) (conjuncts : List Conjunct) where
   one_left : (told : Option Files) (i : ℕ) (x : Conjunct) (docs : List ℕ) → slice_get conjuncts i ≡ Some x
       → IfSome told (λ files. (ids : ℕ → List ℕ) → TellsIndexed files head ids (choice_at choices i) x → AreThose (λ doc. leaves head ids doc (choice_at choices i) x) docs)

@@ -22,3 +22,4 @@ pub mod FaultLemmas
 pub mod ByteLemmas
 pub mod ServedRows
 pub mod LeastLemmas
+pub mod PartLemmas

@@ -1,6 +1,6 @@
 -- The documents and the values in the buckets that overlap the ids of a test.
-use Rattle.std.proofs.Common.{◌≡◌, ◌∙◌, ◌<◌, ◌≤◌, ◌+◌, ◌-◌, ◌*◌, ◌&&◌, ◌||◌, ◌∷◌, [], ℕ, suc, pos, Bool, true, false, not, cond, min, nat_eq, nat_le, nat_lt, All, List, Option, Some, None, IfSome, length, map, get_or, refl, sym, ap, subst, inr, arith}
-use Rattle.std.proofs.lemmas.Bool.{eqb-true, false≢true, le-leb, leb-true, ltb-true}
+use Rattle.std.proofs.Common.{◌≡◌, ◌∙◌, ◌<◌, ◌≤◌, ◌+◌, ◌-◌, ◌*◌, ◌&&◌, ◌||◌, ◌==◌, ◌∷◌, [], ℕ, suc, pos, Bool, true, false, not, cond, min, nat_eq, nat_le, nat_lt, All, List, Option, Some, None, IfSome, length, map, get_or, refl, sym, ap, subst, inl, inr, eq-eqb, arith}
+use Rattle.std.proofs.lemmas.Bool.{cases_lt, eqb-true, false≢true, le-leb, leb-true, ltb-true}
 use Rattle.std.proofs.lemmas.List.Elements.{All-from_get_or}
 use Rattle.outside.specs.Files.{Files}
 use Rattle.outside.specs.Reads.{Entry}
@@ -16,12 +16,13 @@ use Rattle.bit_column.specs.Sections.{section}
 use Rattle.doc_lists.specs.Docs.{has_doc}
 use Rattle.doc_lists.specs.Sets.{AreThose, Up}
 use Rattle.index_reading.specs.Buckets.{LogsBuckets, LogsBucketsPartly, bucket_offsets, in_turn, is_sure, is_to_check, lies_within, overlaps}
-use Rattle.index_reading.specs.Documents.{TellsRanged}
+use Rattle.index_reading.specs.Documents.{TellsRanged, is_doc_of}
 use Rattle.index_reading.specs.Entries.{entries_at}
 use Rattle.index_reading.specs.Stretches.{LogsOver, LogsPartly, Stretch}
 use Rattle.segment_file.specs.Columns.{place_of}
 use Rattle.segment_file.specs.Heads.{Seen, bytes_in, place_in}
 use Rattle.segment_file.specs.declared.part.Part.TheVariants as parts
+use Rattle.segment_plan.specs.Choices.{are_consecutive, follow}
 use Rattle.segment_plan.specs.Matched.{values_in}
 use Rattle.segment_scan.specs.Forward.{count_in}
 use Rattle.segment_scan.specs.Indexes.{IsLeftNear, LogsRange, LogsRangePartly, TellsBuckets, is_doc_near}
@@ -113,6 +114,44 @@ lies_overlaps count low high id lt lies =
     let from : low ≤ 16 * bucket_of id = leb-true low (16 * bucket_of id) (left_true (nat_le low (16 * bucket_of id)) (nat_le top high) lies) in
     let to : top ≤ high = leb-true top high (right_true (nat_le low (16 * bucket_of id)) (nat_le top high) lies) in
     both_true (nat_le low top) (nat_le (16 * bucket_of id) high) (le-leb low top (omega (arith, from, among.0, among.1))) (le-leb (16 * bucket_of id) high (omega (arith, to, among.0, among.1)))
+
+-- ids that follow one another have each id between the first of them and the last
+follow_has : (x : ℕ) (xs : List ℕ) (id : ℕ) → follow x xs ≡ true → x ≤ id → id ≤ last_of (x ∷ xs) → has_id (x ∷ xs) id ≡ true
+follow_has x [] id f from to = let is : id ≡ x = omega (arith, from, to) in ap (λ b. b || false) (eq-eqb id x is)
+follow_has x (y ∷ ys) id f from to = go (nat_eq id x) refl (follow_has y ys id (right_true (y == x + 1) (follow y ys) f))
+  where
+    go : (b : Bool) → nat_eq id x ≡ b → (y ≤ id → id ≤ last_of (y ∷ ys) → has_id (y ∷ ys) id ≡ true) → has_id (x ∷ y ∷ ys) id ≡ true
+    go true is rest = ap (λ b. b || has_id (y ∷ ys) id) is
+    go false is rest =
+        let next : y ≡ x + 1 = eqb-true y (x + 1) (left_true (y == x + 1) (follow y ys) f) in
+        let other : (id ≡ x) → ⊥ = (λ e. false≢true (sym is ∙ eq-eqb id x e)) in
+        let later : x + 1 ≤ id = elim (cases_lt x id) [
+          | inl lt ↦ omega (arith, lt)
+          | inr ge ↦ absurd (other (omega (arith, ge, from)))
+        ] in
+        ap (λ b. b || has_id (y ∷ ys) id) is ∙ rest (omega (arith, next, later)) (subst (λ m. id ≤ m) (last_is x (y ∷ ys) (omega arith)) to)
+
+-- a document in a bucket that overlaps consecutive ids, and that is not to be checked, has one of them
+pub sure_has : (count : ℕ) (set ids : List ℕ) (doc : ℕ) → All (λ id. id < count) ids → are_consecutive set ≡ true → is_doc_near count set ids doc ≡ true → is_to_check count (first_of set) (last_of set) ids doc ≡ false → is_doc_of set ids doc ≡ true
+sure_has count [] ids doc all consecutive near unsure = absurd (false≢true consecutive)
+sure_has count (x ∷ xs) ids doc all consecutive near unsure =
+    let id : ℕ = get_or ids doc 0 in
+    let low : ℕ = first_of (x ∷ xs) in
+    let high : ℕ = last_of (x ∷ xs) in
+    let there : nat_lt doc (length ids) ≡ true = left_true (nat_lt doc (length ids)) (overlaps count low high (bucket_of id)) near in
+    let over : overlaps count low high (bucket_of id) ≡ true = right_true (nat_lt doc (length ids)) (overlaps count low high (bucket_of id)) near in
+    let lies : lies_within count low high (bucket_of id) ≡ true = by (nat_lt doc (length ids)) (overlaps count low high (bucket_of id)) (lies_within count low high (bucket_of id)) there over unsure in
+    let among = in_bucket count id (all doc 0 (ltb-true doc (length ids) there)) in
+    let top : ℕ = min (16 * bucket_of id + 15) (count - 1) in
+    let from : low ≤ 16 * bucket_of id = leb-true low (16 * bucket_of id) (left_true (nat_le low (16 * bucket_of id)) (nat_le top high) lies) in
+    let to : top ≤ high = leb-true top high (right_true (nat_le low (16 * bucket_of id)) (nat_le top high) lies) in
+    both_true (nat_lt doc (length ids)) (has_id (x ∷ xs) id) there (follow_has x xs id consecutive (omega (arith, from, among.0)) (omega (arith, to, among.1)))
+  where
+    by : (t o l : Bool) → t ≡ true → o ≡ true → (t && (o && not l)) ≡ false → l ≡ true
+    by true true true t o is = refl
+    by true true false t o is = absurd (false≢true (sym is))
+    by true false l t o is = absurd (false≢true o)
+    by false o l t e is = absurd (false≢true t)
 
 -- a value that satisfies the test is in a bucket that overlaps the ids of such values
 pub value_near : (values : List Value) (test : Test) (value : Value) → IsPlace values value (place_of values value) → holds value test ≡ true → is_value_near values test value ≡ true

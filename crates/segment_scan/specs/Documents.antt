@@ -21,11 +21,11 @@ use Rattle.segment_scan.specs.Served.{rest_of}
 abbrev pub selected_docs : BoundQuery → List IndexChoice → Files → Seen → List Bool → List ℕ → List (List Value)
 selected_docs query choices files head named docs = selected (rest_of query choices) (rows_at (columns_read files head 0 named) docs)
 
--- some rows were added, as many as the segment has at most; where files are told, those of the
+-- some rows were added, as many as the documents at most; where files are told, those of the
 -- documents that satisfy the conjuncts that are not served
 pub record AddsDocs (query : BoundQuery) (choices : List IndexChoice) (held : Option Files) (head : Seen) (named : List Bool) (docs : List ℕ) (old new : KeptGroups) : Type 0 where
   pub rows : List (List Value)
-  pub adds : AddsRows query head.rows rows old new
+  pub adds : AddsRows query (length docs) rows old new
   pub told : IfSome held (λ files. rows ≡ selected_docs query choices files head named docs)
 
 -- of the columns that are named the ids of the documents were read, by runs of documents that follow one another, one read a run:

@@ -1,11 +1,15 @@
 -- Segments whose file is the image of rows, and what a scan of them does to groups.
-use Rattle.std.specs.Prelude.{◌≡◌, ◌≤◌, ◌<◌, ◌⊎◌, ℕ, true, Bool, List, [], map, length, get_or, Option, Some, IfSome}
+use Rattle.std.specs.Prelude.{◌≡◌, ◌≤◌, ◌<◌, ◌+◌, ◌&&◌, ◌⊎◌, ◌++◌, ℕ, true, false, not, All, Bool, List, [], map, length, get_or, slice_get, Option, Some, IfSome}
 use Rattle.std.specs.List.{range_with_len}
 use Rattle.outside.specs.Files.{Files}
 use Rattle.outside.specs.Reads.{Entry}
 use Rattle.values.specs.declared.value.Value.{Value}
 use Rattle.values.specs.Columns.{row_of, rows_of}
+use Rattle.doc_lists.specs.Docs.{has_doc}
+use Rattle.doc_lists.specs.Sets.{AreThose}
+use Rattle.table_schema.specs.Conditions.{conjunct_holds}
 use Rattle.table_schema.specs.declared.query.BoundQuery.{BoundQuery}
+use Rattle.table_schema.specs.declared.query.Conjunct.{Conjunct}
 use Rattle.table_schema.specs.declared.table.Table.{Table}
 use Rattle.table_schema.specs.ValidTable.{IsValidTable}
 use Rattle.group_table.specs.Kept.{KeptGroups}
@@ -17,12 +21,13 @@ use Rattle.segment_file.specs.Ordered.{ordered}
 pub use Rattle.segment_file.specs.Stored.{IsOfImage, IsNoImage}
 use Rattle.segment_plan.specs.Choices.{choice_of}
 use Rattle.segment_plan.specs.declared.plans.IndexChoice.{IndexChoice}
+use Rattle.segment_plan.specs.declared.plans.IndexChoice.TheVariants.{Range}
 use Rattle.segment_scan.specs.Agreement.{Agree, AgreeAll}
 use Rattle.segment_scan.specs.Documents.{LogsDocs, LogsDocsPartly, selected_docs}
 use Rattle.segment_scan.specs.Forward.{HasIds, IsReadable, LogsColumns, LogsSome}
-use Rattle.segment_scan.specs.Indexes.{AreLeft, IsBadAny, LogsAt, LogsAtPartly, OfEach, TellsIndexed, all_leave}
+use Rattle.segment_scan.specs.Indexes.{AreLeft, HasUnsure, IsBadAny, LogsAt, LogsAtPartly, OfEach, TellsIndexed, all_leave, is_unsure, leaves}
 use Rattle.segment_scan.specs.Series.{LogsPartOf, LogsTo}
-use Rattle.segment_scan.specs.Served.{Chosen, all_left, indexed, rest_of, rows_left}
+use Rattle.segment_scan.specs.Served.{Chosen, all_left, choice_at, indexed, is_indexed, rest_of, rows_left, sure_choices}
 use Rattle.segment_scan.specs.Named.{query_names}
 use Rattle.segment_scan.specs.Scans.{columns_read, selected_read, table_read}
 
@@ -52,6 +57,19 @@ rest_for query table head = rest_of query (choices_for query table head)
 abbrev pub AreLeftFor : BoundQuery → Table → Option Files → Seen → List ℕ → Type 0
 AreLeftFor query table held head docs = AreLeft held head (choices_for query table head) query.conjuncts (indexed_for query table head) docs
 
+-- the query that is left for those of these rows that are sure
+abbrev pub sure_for : BoundQuery → Table → Seen → BoundQuery
+sure_for query table head = rest_of query (sure_choices (choices_for query table head))
+
+-- the documents that are not sure are among these, as far as the sections of the indexes tell ids
+abbrev pub HasUnsureFor : BoundQuery → Table → Option Files → Seen → List ℕ → Type 0
+HasUnsureFor query table held head unsure = HasUnsure held head (choices_for query table head) query.conjuncts (length query.conjuncts) unsure
+
+-- documents in two parts: those that are to be checked, and those that are sure
+pub record AreParts (docs unsure check sure : List ℕ) : Type 0 where
+  pub checks : AreThose (λ doc. has_doc docs doc && has_doc unsure doc) check
+  pub sures : AreThose (λ doc. has_doc docs doc && not (has_doc unsure doc)) sure
+
 -- ---- images
 
 -- on the image of rows, what is read of them agrees with them in the columns that the query names,
@@ -67,12 +85,14 @@ abbrev pub ImagesRead : Type 0
 ImagesRead =
     (query : BoundQuery) (table : Table) (files : Files) (rows : List (List Value)) (head : Seen) → IsValidTable table → IsHeadOf table head → AreNamedLoaded query head → IsOfImage table files rows head → ReadsImage query table files rows head
 
--- on the image of rows the indexes leave just the documents of the rows that they are to leave, and
--- their sections tell ids
+-- on the image of rows the indexes leave just the documents of the rows that they are to leave, their
+-- sections tell ids, and a document that a range index leaves for sure satisfies the conjunct
 pub record LeavesImage (query : BoundQuery) (table : Table) (files : Files) (rows : List (List Value)) (head : Seen) : Type 0 where
   pub size : length (ordered table.settings.sorted rows) ≡ length rows
   pub ids : ℕ → List ℕ
   pub tells : OfEach (TellsIndexed files head ids) (choices_for query table head) query.conjuncts
+  pub sure : (at doc : ℕ) (conjunct : Conjunct) → slice_get query.conjuncts at ≡ Some conjunct → choice_at (choices_for query table head) at ≡ Range → is_indexed Range conjunct ≡ true → doc < length rows
+      → leaves head ids doc Range conjunct ≡ true → is_unsure head ids doc Range conjunct ≡ false → conjunct_holds (get_or (ordered table.settings.sorted rows) doc []) conjunct ≡ true
   pub left : (at : ℕ) → at < length rows → all_leave head ids at (indexed_for query table head) ≡ all_left (ordered table.settings.sorted rows) (get_or (ordered table.settings.sorted rows) at []) (indexed_for query table head)
 
 -- so it is for every query and every image of rows
@@ -86,13 +106,24 @@ LoadedAreReadable = (table : Table) (head : Seen) (column : ℕ) → IsHeadOf ta
 
 -- ---- the rows that are added
 
+-- of the documents that the indexes leave, those to be checked that satisfy the conjuncts that are not
+-- served, and those that are sure that satisfy the others of these than the conjuncts of range indexes
+pub record AreOfParts (query : BoundQuery) (table : Table) (files : Files) (head : Seen) (rows : List (List Value)) : Type 0 where
+  pub docs : List ℕ
+  pub unsure : List ℕ
+  pub check : List ℕ
+  pub sure : List ℕ
+  pub left : AreLeftFor query table (Some files) head docs
+  pub has : HasUnsureFor query table (Some files) head unsure
+  pub parts : AreParts docs unsure check sure
+  pub rows_are : rows ≡ selected_docs query (choices_for query table head) files head (names_in (rest_for query table head) table) check
+      ++ selected_docs query (sure_choices (choices_for query table head)) files head (names_in (sure_for query table head) table) sure
+
 -- the rows of the segment that satisfy the filter, where no conjunct is indexed; else those of the
--- documents that the indexes leave which satisfy the conjuncts that are not served
+-- documents that the indexes leave, in two parts
 abbrev pub AreRead : BoundQuery → Table → Files → Seen → List (List Value) → Type 0
 AreRead query table files head rows =
-    ((indexed_for query table head ≡ []) × (rows ≡ selected_read query files head (names_in query table)))
-    ⊎ ((docs : List ℕ) × AreLeftFor query table (Some files) head docs
-    × (rows ≡ selected_docs query (choices_for query table head) files head (names_in (rest_for query table head) table) docs))
+    ((indexed_for query table head ≡ []) × (rows ≡ selected_read query files head (names_in query table))) ⊎ AreOfParts query table files head rows
 
 -- some rows were added, as many as the segment has at most: where files are told, those that are
 -- read of it; where its file is told to be the image of rows, those of them that satisfy the filter
@@ -135,14 +166,36 @@ IsBadIn query table held head part =
 abbrev pub LogsIndexes : BoundQuery → Table → Option Files → Seen → Option (List Entry) → Option (List Entry) → Type 0
 LogsIndexes query table held head old new = LogsTo (LogsAt held head (choices_for query table head) query.conjuncts) (length query.conjuncts) old new
 
+-- of documents of rows in two parts the ids were read: of those to be checked in the columns of some
+-- marks, and of those that are sure in the columns of others
+pub record LogsParts (head : Seen) (named others : List Bool) (docs : List ℕ) (old new : Option (List Entry)) : Type 0 where
+  pub check : List ℕ
+  pub sure : List ℕ
+  pub count : length check + length sure ≡ length docs
+  pub check_within : All (λ doc. doc < head.rows) check
+  pub sure_within : All (λ doc. doc < head.rows) sure
+  pub between : Option (List Entry)
+  pub checked : LogsDocs head named check old between
+  pub surely : LogsDocs head others sure between new
+
+-- none or some of them
+pub record LogsPartsPartly (head : Seen) (named others : List Bool) (docs : List ℕ) (old new : Option (List Entry)) : Type 0 where
+  pub check : List ℕ
+  pub sure : List ℕ
+  pub count : length check + length sure ≡ length docs
+  pub check_within : All (λ doc. doc < head.rows) check
+  pub sure_within : All (λ doc. doc < head.rows) sure
+  pub some : LogsDocsPartly head named check old new ⊎ ((between : Option (List Entry)) × LogsDocs head named check old between × LogsDocsPartly head others sure between new)
+
 -- where no conjunct is indexed, each column that the query names was read once, one after the other;
--- else the sections of the indexes were, and then, of each column that is named beside the served
--- conjuncts, the ids of the documents that the indexes leave
+-- else the sections of the indexes were, and then the ids of the documents that the indexes leave: of
+-- those to be checked in each column that is named beside the served conjuncts, and of those that are
+-- sure in each that is named beside the conjuncts of range indexes too
 abbrev pub LogsScan : BoundQuery → Table → Option Files → Seen → ℕ → Option (List Entry) → Option (List Entry) → Type 0
 LogsScan query table held head count old new =
     ((indexed_for query table head ≡ []) × LogsColumns head (names_in query table) (length table.schema.fields) old new)
     ⊎ ((docs : List ℕ) × AreLeftFor query table held head docs × (count ≡ length docs) × (between : Option (List Entry)) × LogsIndexes query table held head old between
-    × LogsDocs head (names_in (rest_for query table head) table) docs between new)
+    × LogsParts head (names_in (rest_for query table head) table) (names_in (sure_for query table head) table) docs between new)
 
 -- no more than that was read
 abbrev pub LogsScanPartly : BoundQuery → Table → Option Files → Seen → Option (List Entry) → Option (List Entry) → Type 0
@@ -150,7 +203,7 @@ LogsScanPartly query table held head old new =
     ((indexed_for query table head ≡ []) × LogsSome head (names_in query table) old new)
     ⊎ (LogsPartOf (LogsAt held head (choices_for query table head) query.conjuncts) (LogsAtPartly held head (choices_for query table head) query.conjuncts) (length query.conjuncts) old new
     ⊎ ((docs : List ℕ) × AreLeftFor query table held head docs × (between : Option (List Entry)) × LogsIndexes query table held head old between
-    × LogsDocsPartly head (names_in (rest_for query table head) table) docs between new))
+    × LogsPartsPartly head (names_in (rest_for query table head) table) (names_in (sure_for query table head) table) docs between new))
 
 -- ---- all rows of a segment
 

@@ -8,7 +8,7 @@ use Rattle.values.specs.declared.test.Test.{Test}
 use Rattle.dictionary.specs.Ids.{matching}
 use Rattle.doc_lists.specs.Docs.{has_doc}
 use Rattle.doc_lists.specs.Sets.{AreThose}
-use Rattle.index_reading.specs.Buckets.{LogsBuckets, LogsBucketsPartly}
+use Rattle.index_reading.specs.Buckets.{LogsBuckets, LogsBucketsPartly, is_to_check}
 use Rattle.index_reading.specs.Documents.{Tells, TellsRanged, is_doc_of}
 use Rattle.index_reading.specs.Logs.{LogsIds, LogsIdsPartly}
 use Rattle.index_reading.specs.declared.kind.ListKind.{ListKind}
@@ -93,6 +93,23 @@ pub record AreLeft (held : Option Files) (head : Seen) (choices : List IndexChoi
 abbrev pub Leaves : Option Files → Seen → List IndexChoice → List Conjunct → List Chosen → Option (List ℕ) → Type 0
 Leaves held head choices conjuncts list None = list ≡ []
 Leaves held head choices conjuncts list (Some docs) = AreLeft held head choices conjuncts list docs
+
+-- ---- the documents that are not sure
+
+-- whether the index of a conjunct says of a document, by the ids of the rows in its column, that its id is to be checked
+abbrev pub is_unsure : Seen → (ℕ → List ℕ) → ℕ → IndexChoice → Conjunct → Bool
+is_unsure head ids doc Range (One column test) = is_to_check (count_in head column) (first_of (matching test (values_in head column))) (last_of (matching test (values_in head column))) (ids column) doc
+is_unsure head ids doc choice conjunct = false
+
+-- to some documents those came that are not sure of a conjunct, as far as its index tells ids
+pub record AddsUnsure (held : Option Files) (head : Seen) (choice : IndexChoice) (conjunct : Conjunct) (old new : List ℕ) : Type 0 where
+  pub kept : (doc : ℕ) → has_doc old doc ≡ true → has_doc new doc ≡ true
+  pub told : IfSome held (λ files. (ids : ℕ → List ℕ) → TellsIndexed files head ids choice conjunct → (doc : ℕ) → is_unsure head ids doc choice conjunct ≡ true → has_doc new doc ≡ true)
+
+-- each document that is not sure of one of the first so many conjuncts is among these, as far as the sections tell ids
+abbrev pub HasUnsure : Option Files → Seen → List IndexChoice → List Conjunct → ℕ → List ℕ → Type 0
+HasUnsure held head choices conjuncts n unsure = IfSome held (λ files. (ids : ℕ → List ℕ) → OfEach (TellsIndexed files head ids) choices conjuncts
+    → (at : ℕ) (conjunct : Conjunct) → at < n → slice_get conjuncts at ≡ Some conjunct → (doc : ℕ) → is_unsure head ids doc (choice_at choices at) conjunct ≡ true → has_doc unsure doc ≡ true)
 
 -- ---- one conjunct
 

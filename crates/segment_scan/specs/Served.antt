@@ -1,5 +1,5 @@
 -- The conjuncts of a query whose rows are found by an index, those that are tested row by row, and the rows that are left.
-use Rattle.std.specs.Prelude.{ℕ, Bool, true, false, ◌-◌, List, [], ◌∷◌, length, get_or, if◌then◌else◌}
+use Rattle.std.specs.Prelude.{ℕ, Bool, true, false, ◌-◌, List, [], ◌∷◌, length, map, get_or, if◌then◌else◌}
 use Rattle.std.specs.List.{filter, list_all}
 use Rattle.values.specs.declared.test.Test.{Test}
 use Rattle.values.specs.declared.value.Value.{Value}
@@ -16,7 +16,7 @@ use Rattle.segment_file.specs.Ordered.{value_in}
 use Rattle.segment_plan.specs.declared.plans.IndexChoice.{IndexChoice}
 use Rattle.segment_plan.specs.declared.plans.IndexChoice.TheVariants.{Unindexed, Sorted, Inverted, Range}
 
--- a conjunct is served where an index tells just its rows; the rows that a range index leaves are still tested
+-- a conjunct is served where an index tells just its rows; of those that a range index leaves some are to be checked
 abbrev pub is_served : IndexChoice → Conjunct → Bool
 is_served Sorted (One column test) = true
 is_served Inverted (One column test) = true
@@ -28,6 +28,14 @@ is_indexed Sorted (One column test) = true
 is_indexed Inverted (One column test) = true
 is_indexed Range (One column test) = true
 is_indexed choice conjunct = false
+
+-- for documents that are not to be checked, a range index tells just the rows of its conjunct too
+abbrev pub sure_choice : IndexChoice → IndexChoice
+sure_choice Range = Sorted
+sure_choice choice = choice
+
+abbrev pub sure_choices : List IndexChoice → List IndexChoice
+sure_choices choices = map sure_choice choices
 
 -- the choice of the conjunct at a place; without one its rows are looked at
 abbrev pub choice_at : List IndexChoice → ℕ → IndexChoice

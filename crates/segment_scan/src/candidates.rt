@@ -6,7 +6,7 @@ ghost use Rattle.segment_file.specs.declared.part.Part.{Part};
 ghost use Rattle.segment_file.specs.declared.part.Part.TheVariants.{Range};
 ghost use Rattle.segment_scan.specs.Coded.{most_rows};
 ghost use Rattle.segment_scan.specs.Faults.{list_fault};
-ghost use Rattle.segment_scan.specs.Indexes.{AreEndsOf, AreInBoth, IsBadAny, IsBadIndex, IsFoundBy, IsFoundNear, IsIndexed, IsRanged, IsReady, Leaves, LeavesBy, LogsAt, LogsAtPartly, LogsIndex, LogsIndexPartly, LogsIndexed, LogsIndexedPartly, LogsRange, LogsRangePartly, OfEach, TellsBuckets, TellsIds, part_of};
+ghost use Rattle.segment_scan.specs.Indexes.{AddsUnsure, AreEndsOf, AreInBoth, HasUnsure, IsBadAny, IsBadIndex, IsFoundBy, IsFoundNear, IsIndexed, IsRanged, IsReady, Leaves, LeavesBy, LogsAt, LogsAtPartly, LogsIndex, LogsIndexPartly, LogsIndexed, LogsIndexedPartly, LogsRange, LogsRangePartly, OfEach, TellsBuckets, TellsIds, part_of};
 ghost use Rattle.segment_scan.specs.Series.{LogsPartOf, LogsTo};
 ghost use Rattle.segment_scan.specs.Served.{indexed};
 ghost use Rattle.segment_scan.specs.declared.fault.EngineFault.TheVariants.{NotASegment, ReadFault, TooManyGroups};
@@ -25,18 +25,22 @@ use values::{NoMemory, Test};
 
 /// The documents that the indexes of conjuncts leave, in ascending order; no list where no conjunct
 /// is indexed. Of the section of each index what it has of the matching ids, or of the buckets that
-/// overlap them, is read, one conjunct after the other, and nothing else.
+/// overlap them, is read, one conjunct after the other, and nothing else. Those that are not sure are
+/// added to others.
 pub fn documents<S: Shelf>(
     alloc: Global,
     shelf: &mut S,
     head: &Head,
     conjuncts: &[Conjunct],
     choices: &[IndexChoice],
+    unsure: &mut DocList,
 ) -> Result<Option<DocList>, EngineFault>
     requires rows { head.now.rows ≤ most_rows }
     requires ready { OfEach (IsReady head.now) choices.now conjuncts.now }
     ensures docs { IfOk result (Leaves (S.held shelf.old) head.now choices.now conjuncts.now
         (indexed choices.now conjuncts.now)) }
+    ensures unsure { IfOk result (λ _. HasUnsure (S.held shelf.old) head.now choices.now
+        conjuncts.now (length conjuncts.now) unsure.new) }
     ensures bad { (part : Part) → result ≡ Err (NotASegment part) →
         IsBadAny (S.held shelf.old) head.now part choices.now conjuncts.now }
     ensures full { ¬ IsErrOf result TooManyGroups }
@@ -52,7 +56,8 @@ pub fn documents<S: Shelf>(
 {
     let mut docs: Option<DocList> = None;
     for at in 0..conjuncts.len() {
-        let more = match docs_by(alloc, shelf, head, choice_at(choices, at), &conjuncts[at]) {
+        let choice = choice_at(choices, at);
+        let more = match docs_by(alloc, shelf, head, choice, &conjuncts[at], unsure) {
             Ok(more) => more,
             Err(fault) => return Err(fault),
         };
@@ -71,10 +76,13 @@ fn docs_by<S: Shelf>(
     head: &Head,
     choice: IndexChoice,
     conjunct: &Conjunct,
+    unsure: &mut DocList,
 ) -> Result<Option<DocList>, EngineFault>
     requires rows { head.now.rows ≤ most_rows }
     requires ready { IsReady head.now choice conjunct.now }
     ensures docs { IfOk result (LeavesBy (S.held shelf.old) head.now choice conjunct.now) }
+    ensures unsure { IfOk result (λ _. AddsUnsure (S.held shelf.old) head.now choice conjunct.now
+        unsure.old unsure.new) }
     ensures bad { (part : Part) → result ≡ Err (NotASegment part) →
         IsBadIndex (S.held shelf.old) head.now part choice conjunct.now }
     ensures full { ¬ IsErrOf result TooManyGroups }
@@ -93,7 +101,7 @@ fn docs_by<S: Shelf>(
             indexed(alloc, shelf, head, ListKind::Inverted, *column, test)
         }
         (IndexChoice::Range, Conjunct::One(column, test)) => {
-            ranged(alloc, shelf, head, *column, test)
+            ranged(alloc, shelf, head, *column, test, unsure)
         }
         (_, _) => Ok(None),
     }
@@ -152,10 +160,13 @@ fn ranged<S: Shelf>(
     head: &Head,
     column: u16,
     test: &Test,
+    unsure: &mut DocList,
 ) -> Result<Option<DocList>, EngineFault>
     requires rows { head.now.rows ≤ most_rows }
     requires ready { IsRanged head.now column test.now }
     ensures docs { IfOk result (IsFoundNear (S.held shelf.old) head.now column test.now) }
+    ensures unsure { IfOk result (λ _. AddsUnsure (S.held shelf.old) head.now IndexChoice.Range
+        (Conjunct.One column test.now) unsure.old unsure.new) }
     ensures bad { (part : Part) → result ≡ Err (NotASegment part) → (part ≡ Range column)
         × IfSome (S.held shelf.old) (λ files. (ids : List ℕ) →
         TellsBuckets files head.now column ids → ⊥) }
@@ -182,6 +193,10 @@ fn ranged<S: Shelf>(
     let (sure, check) = match docs_between(alloc, shelf, place, count, head.rows(), low, high) {
         Ok(docs) => docs,
         Err(fault) => return Err(of_list(fault, Part::Range(column))),
+    };
+    *unsure = match join(alloc, unsure, &check) {
+        Ok(more) => more,
+        Err(_) => return Err(EngineFault::NoMemory),
     };
     match join(alloc, &sure, &check) {
         Ok(docs) => Ok(Some(docs)),

@@ -44,7 +44,7 @@ pub fn scan_documents<S: Shelf>(
     requires readable { (column : ℕ) → get_or named.now column false ≡ true
         → IsReadable head.now column }
     requires table { IsTableOf query.now groups.old }
-    requires fits { HaveAtMost (most_values - head.now.rows) (groups_in groups.old) }
+    requires fits { HaveAtMost (most_values - length docs.now) (groups_in groups.old) }
     ensures count { IfOk result (λ _. length docs.now ≤ head.now.rows) }
     ensures ok { OnOk result (AddsDocs query.now choices.now (S.held shelf.old) head.now named.now
         docs.now groups.old groups.new) }

@@ -16,6 +16,7 @@ use crate::candidates::documents;
 use crate::laws::{image_law, index_law};
 use crate::left::scan_left;
 use crate::whole::scan_whole;
+use doc_lists::DocList;
 use group_table::GroupTable;
 use outside::Shelf;
 use segment_file::Head;
@@ -26,8 +27,10 @@ use table_schema::{BoundQuery, Table};
 /// Adds the rows of a segment that satisfy the filter of a query to its groups, and answers how
 /// many rows the indexes leave. Where no conjunct is indexed, the forward section of each column
 /// that the query names is read once, one column after the other, and nothing else. Else what the
-/// indexes have of the matching ids is read, or of the buckets that overlap them, and then of each
-/// column that is named beside the served conjuncts the ids of the documents that are left.
+/// indexes have of the matching ids is read, or of the buckets that overlap them, and then the ids of
+/// the documents that are left: of those to be checked in each column that is named beside the served
+/// conjuncts, and of those that are sure in each that is named beside the conjuncts of range indexes
+/// too.
 pub fn scan_segment<S: Shelf>(
     alloc: Global,
     shelf: &mut S,
@@ -60,12 +63,16 @@ pub fn scan_segment<S: Shelf>(
     image_law();
     index_law();
     let choices = plan.choices.as_slice();
-    let docs = match documents(alloc, shelf, head, query.conjuncts.as_slice(), choices) {
+    let conjuncts = query.conjuncts.as_slice();
+    let mut unsure = DocList::new(alloc);
+    let docs = match documents(alloc, shelf, head, conjuncts, choices, &mut unsure) {
         Ok(docs) => docs,
         Err(fault) => return Err(fault),
     };
     match docs {
         None => scan_whole(alloc, shelf, head, table, query, groups),
-        Some(docs) => scan_left(alloc, shelf, head, table, query, choices, &docs, groups),
+        Some(docs) => scan_left(
+            alloc, shelf, head, table, query, choices, &docs, &unsure, groups,
+        ),
     }
 }

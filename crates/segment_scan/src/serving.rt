@@ -1,10 +1,12 @@
 //! Whether an index tells the rows of a conjunct.
 
-ghost use Rattle.std.specs.Prelude.{◌≡◌};
+ghost use Rattle.std.specs.Prelude.{◌≡◌, IfOk};
 ghost use Rattle.segment_scan.specs.Served as spec;
 
 use segment_plan::IndexChoice;
+use std::alloc::Global;
 use table_schema::Conjunct;
+use values::NoMemory;
 
 /// The choice of the conjunct at a place.
 pub fn choice_at(choices: &[IndexChoice], at: usize) -> IndexChoice
@@ -23,5 +25,26 @@ pub fn is_served(choice: IndexChoice, conjunct: &Conjunct) -> bool
     match (choice, conjunct) {
         (IndexChoice::Sorted | IndexChoice::Inverted, Conjunct::One(_, _)) => true,
         (_, _) => false,
+    }
+}
+
+/// The choices for documents that are not to be checked.
+pub fn sure_choices(alloc: Global, choices: &[IndexChoice]) -> Result<Vec<IndexChoice>, NoMemory>
+    ensures { IfOk result (λ sure. sure.items ≡ spec.sure_choices choices.now) }
+{
+    let mut sure = Vec::with_capacity(alloc, choices.len())?;
+    for choice in choices {
+        sure.push(sure_choice(*choice))?;
+    }
+    Ok(sure)
+}
+
+// A range index tells just the rows of its conjunct, but for those to be checked.
+fn sure_choice(choice: IndexChoice) -> IndexChoice
+    ensures { result ≡ spec.sure_choice choice }
+{
+    match choice {
+        IndexChoice::Range => IndexChoice::Sorted,
+        _ => choice,
     }
 }

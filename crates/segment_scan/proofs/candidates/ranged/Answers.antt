@@ -29,8 +29,8 @@ returns-in-Err-docs_between-clause-log_of_fault g c =
     let high : c.in-Some.high ≡ last_of (matching c.args.test.now (values_in head column)) = c.in-Some.ensures.1 ∙ ap last_of ids in
     range_partly head column c.args.test.now c.in-Some-place.place.now c.count-count.result c.rows.result c.in-Some.low c.in-Some.high c.in-Some-place.ensures count c.rows.ensures low high held (g.S.Shelf.log c.args.shelf.now) (g.S.Shelf.log c.docs_between.new.shelf) c.in-Err-docs_between.ensures.log_of_fault
 
-pub returns-in-Ok-join-clause-docs : goal.returns-in-Ok-join-clause-docs
-returns-in-Ok-join-clause-docs g c =
+pub returns-in-Ok-join-2-clause-docs : goal.returns-in-Ok-join-2-clause-docs
+returns-in-Ok-join-2-clause-docs g c =
     let head : Seen = c.args.head.now in
     let column : ℕ = c.args.column in
     let held = g.S.Shelf.held c.args.shelf.now in
@@ -39,10 +39,10 @@ returns-in-Ok-join-clause-docs g c =
     let count : c.count-count.result ≡ count_in head column = c.count-count.ensures.count ∙ ap length values in
     let low : c.in-Some.low ≡ first_of (matching c.args.test.now (values_in head column)) = c.in-Some.ensures.0 ∙ ap first_of ids in
     let high : c.in-Some.high ≡ last_of (matching c.args.test.now (values_in head column)) = c.in-Some.ensures.1 ∙ ap last_of ids in
-    near_docs head column c.args.test.now c.in-Some-place.place.now c.count-count.result c.rows.result c.in-Some.low c.in-Some.high c.in-Some-place.ensures count c.rows.ensures low high held c.in-Ok-docs_between.docs.0 c.in-Ok-docs_between.docs.1 c.in-Ok-join.docs c.in-Ok-docs_between.ensures.sure c.in-Ok-docs_between.ensures.check c.in-Ok-docs_between.ensures.within c.in-Ok-join.ensures
+    near_docs head column c.args.test.now c.in-Some-place.place.now c.count-count.result c.rows.result c.in-Some.low c.in-Some.high c.in-Some-place.ensures count c.rows.ensures low high held c.in-Ok-docs_between.docs.0 c.in-Ok-docs_between.docs.1 c.in-Ok-join-2.docs c.in-Ok-docs_between.ensures.sure c.in-Ok-docs_between.ensures.check c.in-Ok-docs_between.ensures.within c.in-Ok-join-2.ensures
 
-pub returns-in-Ok-join-clause-log : goal.returns-in-Ok-join-clause-log
-returns-in-Ok-join-clause-log g c =
+pub returns-in-Ok-join-2-clause-log : goal.returns-in-Ok-join-2-clause-log
+returns-in-Ok-join-2-clause-log g c =
     let head : Seen = c.args.head.now in
     let column : ℕ = c.args.column in
     let held = g.S.Shelf.held c.args.shelf.now in
@@ -55,6 +55,20 @@ returns-in-Ok-join-clause-log g c =
 
 pub returns-clause-log_of_fault : goal.returns-clause-log_of_fault
 returns-clause-log_of_fault g c =
+    let head : Seen = c.args.head.now in
+    let column : ℕ = c.args.column in
+    let held = g.S.Shelf.held c.args.shelf.now in
+    let values : c.dictionary-dictionary.result.now.values ≡ values_in head column = sym (ap values_of c.dictionary-dictionary.ensures) in
+    let ids : c.in-Ok.ids ≡ matching c.args.test.now (values_in head column) = c.in-Ok.ensures.ids ∙ ap (matching c.args.test.now) values in
+    let count : c.count-count.result ≡ count_in head column = c.count-count.ensures.count ∙ ap length values in
+    let low : c.in-Some.low ≡ first_of (matching c.args.test.now (values_in head column)) = c.in-Some.ensures.0 ∙ ap first_of ids in
+    let high : c.in-Some.high ≡ last_of (matching c.args.test.now (values_in head column)) = c.in-Some.ensures.1 ∙ ap last_of ids in
+    let old = g.S.Shelf.log c.args.shelf.now in
+    let new = g.S.Shelf.log c.docs_between.new.shelf in
+    range_partly head column c.args.test.now c.in-Some-place.place.now c.count-count.result c.rows.result c.in-Some.low c.in-Some.high c.in-Some-place.ensures count c.rows.ensures low high held old new (buckets_partly held c.in-Some-place.place.now c.count-count.result c.rows.result c.in-Some.low c.in-Some.high old new c.in-Ok-docs_between.ensures.log)
+
+pub returns-in-Err-join-clause-log_of_fault : goal.returns-in-Err-join-clause-log_of_fault
+returns-in-Err-join-clause-log_of_fault g c =
     let head : Seen = c.args.head.now in
     let column : ℕ = c.args.column in
     let held = g.S.Shelf.held c.args.shelf.now in

@@ -52,8 +52,7 @@ add_segment-requires-clause-coded g c =
 
 pub add_segment-requires-clause-fits : goal.add_segment-requires-clause-fits
 add_segment-requires-clause-fits g c =
-    let few : length c.args.docs.now ≤ c.args.head.now.rows = docs_few c.args.docs.now c.args.head.now.rows c.runs-runs.ensures.ascends c.requires.within in
-    at_most_more (groups_in c.args.groups.now) (most_values - c.args.head.now.rows) (most_values - c.len-2.result) (omega (arith, few, c.len-2.ensures)) c.requires.fits
+    at_most_more (groups_in c.args.groups.now) (most_values - length c.args.docs.now) (most_values - c.len-2.result) (omega (arith, c.len-2.ensures)) c.requires.fits
 
 pub returns-in-Ok-add_segment-clause-count : goal.returns-in-Ok-add_segment-clause-count
 returns-in-Ok-add_segment-clause-count g c = docs_few c.args.docs.now c.args.head.now.rows c.runs-runs.ensures.ascends c.requires.within
@@ -80,7 +79,7 @@ returns-in-Ok-add_segment-clause-ok g c =
     let rows = selected (rest_of query choices) (rows_of (table_of segment)) in
     record {
       rows = rows;
-      adds = adds_as_more query c.len-2.result head.rows rows c.args.groups.now c.add_segment.new.table (omega (arith, few, c.len-2.ensures)) c.in-Ok-add_segment.ensures.ok;
+      adds = adds_as_more query c.len-2.result (length docs) rows c.args.groups.now c.add_segment.new.table (omega (arith, c.len-2.ensures)) c.in-Ok-add_segment.ensures.ok;
       told = docs-read held head named docs ids segment c.len-2.ensures (omega (arith, few, c.requires.few_rows)) c.requires.within long picked of query choices;
     }
 

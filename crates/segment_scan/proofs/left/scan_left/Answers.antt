@@ -1,112 +1,284 @@
-use Rattle.std.proofs.Common.{◌≡◌, ℕ, Bool, List, Option, Err, IsErrOf, inl, refl, length, ap, sym, subst}
+use Rattle.std.proofs.Common.{◌≡◌, ◌∙◌, ◌+◌, ◌-◌, ℕ, Bool, List, Option, Err, IsErrOf, IfSome, inl, inr, length, ap, sym, subst, arith}
 use Rattle.outside.specs.Files.{Files}
+use Rattle.agg_laws.specs.Numbers.{most_values}
+use Rattle.group_table.specs.Kept.{groups_in}
+use Rattle.scan_engine.specs.Scanned.{IsOverfull}
+use Rattle.scan_engine.proofs.AddLemmas.{at_most_more}
 use Rattle.segment_file.specs.Heads.{Seen}
-use Rattle.segment_scan.specs.Documents.{LogsDocs, LogsDocsPartly}
-use Rattle.segment_scan.specs.Images.{AreDocs, AreNamedLoaded, names_in, rest_for}
-use Rattle.segment_scan.specs.Served.{rest_of}
+use Rattle.segment_scan.specs.Documents.{AddsDocs, LogsDocs, LogsDocsPartly, selected_docs}
+use Rattle.segment_scan.specs.Images.{AreDocs, AreParts, IsBadForward, IsNoImage, LogsPartsPartly, choices_for, names_in, rest_for, sure_for}
+use Rattle.segment_scan.specs.Served.{rest_of, sure_choices}
 use Rattle.segment_scan.specs.declared.fault.EngineFault.{EngineFault}
 use Rattle.segment_scan.specs.declared.fault.EngineFault.TheVariants.{NotASegment, TooManyGroups}
-use Rattle.segment_scan.proofs.ImageLemmas.{loaded_readable}
-use Rattle.segment_scan.proofs.LeftImage.{adds_left, bad_left, full_left, left_docs, left_full, left_image, marks_left, rest_loaded}
+use Rattle.segment_scan.proofs.LeftImage.{PartsFit, check_full, left_docs, left_image, no_parts, parts_fit, sure_full, sure_names}
 use Rattle.segment_scan.proofs.LogLemmas.{err_is}
-use Rattle.segment_scan.proofs.SegmentLemmas.{mark_named, marks_few}
 use Rattle.segment_scan.proofs.left.scan_left.Goals as goal
 
 -- a fault is the same beside answers of another type
 same_err : (T U : Type 0) (fault cause : EngineFault) → IsErrOf {T = T} {E = EngineFault} (Err fault) cause → IsErrOf {T = U} {E = EngineFault} (Err fault) cause
 same_err T U fault cause is = let e : fault ≡ cause = cc in ap (λ (f : EngineFault). Err f) e
 
-pub returns-in_err-named-clause-log_of_fault : goal.returns-in_err-named-clause-log_of_fault
-returns-in_err-named-clause-log_of_fault g c =
+pub returns-in_err-check-clause-log_of_fault : goal.returns-in_err-check-clause-log_of_fault
+returns-in_err-check-clause-log_of_fault g c =
+    let query = c.args.query.now in
+    let table = c.args.table.now in
+    let head : Seen = c.args.head.now in
     let log = g.S.Shelf.log c.args.shelf.now in
-    let names = names_in (rest_for c.args.query.now c.args.table.now c.args.head.now) c.args.table.now in
-    err_is c.from_residual.result (LogsDocsPartly c.args.head.now names c.args.docs.now log log) (inl refl)
+    let named : List Bool = names_in (rest_for query table head) table in
+    let others : List Bool = names_in (sure_for query table head) table in
+    err_is c.from_residual.result (LogsPartsPartly head named others c.args.docs.now log log) (no_parts head named others c.args.docs.now log c.requires.left.within)
 
-pub scan_documents-requires-clause-few : goal.scan_documents-requires-clause-few
-scan_documents-requires-clause-few g c =
+pub returns-in_err-sure-clause-log_of_fault : goal.returns-in_err-sure-clause-log_of_fault
+returns-in_err-sure-clause-log_of_fault g c =
     let query = c.args.query.now in
     let table = c.args.table.now in
     let head : Seen = c.args.head.now in
-    let choices = c.args.choices.now in
-    let named : List Bool = c.as_slice-named.result.now in
-    let is : named ≡ names_in (rest_for query table head) table =
-    marks_left query table head choices named c.in_ok-named.named.items c.len.result c.requires.planned c.len.ensures c.as_slice-named.ensures.value c.in_ok-named.ensures.count c.in_ok-named.ensures.each in
-    marks_few (rest_for query table head) table named is c.requires.valid
+    let log = g.S.Shelf.log c.args.shelf.now in
+    let named : List Bool = names_in (rest_for query table head) table in
+    let others : List Bool = names_in (sure_for query table head) table in
+    err_is c.from_residual-in_err-sure.result (LogsPartsPartly head named others c.args.docs.now log log) (no_parts head named others c.args.docs.now log c.requires.left.within)
 
-pub scan_documents-requires-clause-readable : goal.scan_documents-requires-clause-readable
-scan_documents-requires-clause-readable g c = λ column marked.
+pub returns-in_err-served-clause-log_of_fault : goal.returns-in_err-served-clause-log_of_fault
+returns-in_err-served-clause-log_of_fault g c =
     let query = c.args.query.now in
     let table = c.args.table.now in
     let head : Seen = c.args.head.now in
-    let choices = c.args.choices.now in
-    let named : List Bool = c.as_slice-named.result.now in
-    let is : named ≡ names_in (rest_for query table head) table =
-    marks_left query table head choices named c.in_ok-named.named.items c.len.result c.requires.planned c.len.ensures c.as_slice-named.ensures.value c.in_ok-named.ensures.count c.in_ok-named.ensures.each in
-    let loaded = subst (λ cs. AreNamedLoaded (rest_of query cs) head) c.requires.planned (rest_loaded query choices head c.requires.loaded) in
-    loaded_readable table head column c.requires.of_table (loaded column (mark_named (rest_for query table head) table named is column marked))
+    let log = g.S.Shelf.log c.args.shelf.now in
+    let named : List Bool = names_in (rest_for query table head) table in
+    let others : List Bool = names_in (sure_for query table head) table in
+    err_is c.from_residual-in_err-served.result (LogsPartsPartly head named others c.args.docs.now log log) (no_parts head named others c.args.docs.now log c.requires.left.within)
 
-pub returns-in-Ok-clause-count : goal.returns-in-Ok-clause-count
-returns-in-Ok-clause-count g c =
-    let number : c.len-in-Ok.result ≡ length c.args.docs.now = c.len-in-Ok.ensures in
-    subst (AreDocs c.args.query.now c.args.table.now (g.S.Shelf.held c.args.shelf.now) c.args.head.now) (sym number)
-    (left_docs c.image_law.ensures c.index_law.ensures c.args.query.now c.args.table.now c.args.head.now c.requires.valid c.requires.of_table c.requires.loaded c.args.docs.now (g.S.Shelf.held c.args.shelf.now) c.requires.left c.in-Ok.ensures.count)
-
-pub returns-in-Ok-clause-ok : goal.returns-in-Ok-clause-ok
-returns-in-Ok-clause-ok g c =
+pub scan_part-requires-clause-within : goal.scan_part-requires-clause-within
+scan_part-requires-clause-within g c =
     let query = c.args.query.now in
     let table = c.args.table.now in
     let head : Seen = c.args.head.now in
-    let choices = c.args.choices.now in
-    let named : List Bool = c.as_slice-named.result.now in
-    let is : named ≡ names_in (rest_for query table head) table =
-    marks_left query table head choices named c.in_ok-named.named.items c.len.result c.requires.planned c.len.ensures c.as_slice-named.ensures.value c.in_ok-named.ensures.count c.in_ok-named.ensures.each in
     let held : Option Files = g.S.Shelf.held c.args.shelf.now in
-    left_image c.image_law.ensures c.index_law.ensures query table head c.requires.valid c.requires.of_table c.requires.loaded c.args.docs.now held named is c.requires.left c.args.groups.now c.scan_documents.new.groups
-    (adds_left query table head held choices named c.args.docs.now c.args.groups.now c.scan_documents.new.groups c.requires.planned c.in-Ok.ensures.ok)
+    let docs : List ℕ = c.args.docs.now in
+    let unsure : List ℕ = c.args.unsure.now in
+    let check : List ℕ = c.in_ok-check.check in
+    let sure : List ℕ = c.in_ok-sure.sure in
+    let parts : AreParts docs unsure check sure = record { checks = c.in_ok-check.ensures; sures = c.in_ok-sure.ensures } in
+    let f : PartsFit head.rows docs check sure = parts_fit docs unsure check sure head.rows c.requires.ascend c.requires.left.within parts in
+    f.check_within
 
-pub returns-in-Ok-clause-log : goal.returns-in-Ok-clause-log
-returns-in-Ok-clause-log g c =
+pub scan_part-requires-clause-fits : goal.scan_part-requires-clause-fits
+scan_part-requires-clause-fits g c =
     let query = c.args.query.now in
     let table = c.args.table.now in
     let head : Seen = c.args.head.now in
-    let choices = c.args.choices.now in
-    let named : List Bool = c.as_slice-named.result.now in
-    let is : named ≡ names_in (rest_for query table head) table =
-    marks_left query table head choices named c.in_ok-named.named.items c.len.result c.requires.planned c.len.ensures c.as_slice-named.ensures.value c.in_ok-named.ensures.count c.in_ok-named.ensures.each in
-    subst (λ (l : List Bool). LogsDocs head l c.args.docs.now (g.S.Shelf.log c.args.shelf.now) (g.S.Shelf.log c.scan_documents.new.shelf)) is c.in-Ok.ensures.log
+    let held : Option Files = g.S.Shelf.held c.args.shelf.now in
+    let docs : List ℕ = c.args.docs.now in
+    let unsure : List ℕ = c.args.unsure.now in
+    let check : List ℕ = c.in_ok-check.check in
+    let sure : List ℕ = c.in_ok-sure.sure in
+    let parts : AreParts docs unsure check sure = record { checks = c.in_ok-check.ensures; sures = c.in_ok-sure.ensures } in
+    let f : PartsFit head.rows docs check sure = parts_fit docs unsure check sure head.rows c.requires.ascend c.requires.left.within parts in
+    at_most_more (groups_in c.args.groups.now) (most_values - head.rows) (most_values - length check) (omega (arith, f.count, f.few)) c.requires.fits
+
+pub scan_part-requires-2-clause-within : goal.scan_part-requires-2-clause-within
+scan_part-requires-2-clause-within g c =
+    let query = c.args.query.now in
+    let table = c.args.table.now in
+    let head : Seen = c.args.head.now in
+    let held : Option Files = g.S.Shelf.held c.args.shelf.now in
+    let docs : List ℕ = c.args.docs.now in
+    let unsure : List ℕ = c.args.unsure.now in
+    let check : List ℕ = c.in_ok-check.check in
+    let sure : List ℕ = c.in_ok-sure.sure in
+    let parts : AreParts docs unsure check sure = record { checks = c.in_ok-check.ensures; sures = c.in_ok-sure.ensures } in
+    let f : PartsFit head.rows docs check sure = parts_fit docs unsure check sure head.rows c.requires.ascend c.requires.left.within parts in
+    f.sure_within
+
+pub scan_part-requires-2-clause-fits : goal.scan_part-requires-2-clause-fits
+scan_part-requires-2-clause-fits g c =
+    let query = c.args.query.now in
+    let table = c.args.table.now in
+    let head : Seen = c.args.head.now in
+    let held : Option Files = g.S.Shelf.held c.args.shelf.now in
+    let docs : List ℕ = c.args.docs.now in
+    let unsure : List ℕ = c.args.unsure.now in
+    let check : List ℕ = c.in_ok-check.check in
+    let sure : List ℕ = c.in_ok-sure.sure in
+    let parts : AreParts docs unsure check sure = record { checks = c.in_ok-check.ensures; sures = c.in_ok-sure.ensures } in
+    let f : PartsFit head.rows docs check sure = parts_fit docs unsure check sure head.rows c.requires.ascend c.requires.left.within parts in
+    at_most_more (groups_in c.scan_part.new.groups) (most_values - head.rows + length check) (most_values - length sure) (omega (arith, f.count, f.few, c.requires.of_table.few, c.requires.of_table.has.rows_are))
+    (c.in-Ok.ensures.ok.adds.fits (most_values - head.rows) c.requires.fits)
+
+pub returns-in-Err-clause-full : goal.returns-in-Err-clause-full
+returns-in-Err-clause-full g c = λ full.
+    let query = c.args.query.now in
+    let table = c.args.table.now in
+    let head : Seen = c.args.head.now in
+    let held : Option Files = g.S.Shelf.held c.args.shelf.now in
+    let docs : List ℕ = c.args.docs.now in
+    let unsure : List ℕ = c.args.unsure.now in
+    let check : List ℕ = c.in_ok-check.check in
+    let sure : List ℕ = c.in_ok-sure.sure in
+    let parts : AreParts docs unsure check sure = record { checks = c.in_ok-check.ensures; sures = c.in_ok-sure.ensures } in
+    let f : PartsFit head.rows docs check sure = parts_fit docs unsure check sure head.rows c.requires.ascend c.requires.left.within parts in
+    check_full c.image_law.ensures c.index_law.ensures query table head c.requires.valid c.requires.of_table c.requires.loaded docs held unsure check sure c.requires.left c.requires.unsure parts c.args.groups.now
+    (subst (λ cs. IfSome held (λ files. IsOverfull query (selected_docs query cs files head (names_in (rest_of query cs) table) check) c.args.groups.now)) c.requires.planned
+    (c.in-Err.ensures.full (same_err ℕ (Unit {0}) c.in-Err.fault TooManyGroups full)))
+
+pub returns-in-Err-clause-log_of_fault : goal.returns-in-Err-clause-log_of_fault
+returns-in-Err-clause-log_of_fault g c =
+    let query = c.args.query.now in
+    let table = c.args.table.now in
+    let head : Seen = c.args.head.now in
+    let held : Option Files = g.S.Shelf.held c.args.shelf.now in
+    let docs : List ℕ = c.args.docs.now in
+    let unsure : List ℕ = c.args.unsure.now in
+    let check : List ℕ = c.in_ok-check.check in
+    let sure : List ℕ = c.in_ok-sure.sure in
+    let parts : AreParts docs unsure check sure = record { checks = c.in_ok-check.ensures; sures = c.in_ok-sure.ensures } in
+    let f : PartsFit head.rows docs check sure = parts_fit docs unsure check sure head.rows c.requires.ascend c.requires.left.within parts in
+    record {
+      check = check;
+      sure = sure;
+      count = f.count;
+      check_within = f.check_within;
+      sure_within = f.sure_within;
+      some = inl (subst (λ cs. LogsDocsPartly head (names_in (rest_of query cs) table) check (g.S.Shelf.log c.args.shelf.now) (g.S.Shelf.log c.scan_part.new.shelf)) c.requires.planned c.in-Err.ensures.log_of_fault);
+    }
+
+pub overflow_cast-result : goal.overflow_cast-result
+overflow_cast-result g c =
+    let query = c.args.query.now in
+    let table = c.args.table.now in
+    let head : Seen = c.args.head.now in
+    let held : Option Files = g.S.Shelf.held c.args.shelf.now in
+    let docs : List ℕ = c.args.docs.now in
+    let unsure : List ℕ = c.args.unsure.now in
+    let check : List ℕ = c.in_ok-check.check in
+    let sure : List ℕ = c.in_ok-sure.sure in
+    let parts : AreParts docs unsure check sure = record { checks = c.in_ok-check.ensures; sures = c.in_ok-sure.ensures } in
+    let f : PartsFit head.rows docs check sure = parts_fit docs unsure check sure head.rows c.requires.ascend c.requires.left.within parts in
+    omega (arith, c.len.ensures, f.few, c.requires.of_table.few, c.requires.of_table.has.rows_are)
+
+pub returns-in-Ok-scan_part-clause-count : goal.returns-in-Ok-scan_part-clause-count
+returns-in-Ok-scan_part-clause-count g c =
+    let query = c.args.query.now in
+    let table = c.args.table.now in
+    let head : Seen = c.args.head.now in
+    let held : Option Files = g.S.Shelf.held c.args.shelf.now in
+    let docs : List ℕ = c.args.docs.now in
+    let unsure : List ℕ = c.args.unsure.now in
+    let check : List ℕ = c.in_ok-check.check in
+    let sure : List ℕ = c.in_ok-sure.sure in
+    let parts : AreParts docs unsure check sure = record { checks = c.in_ok-check.ensures; sures = c.in_ok-sure.ensures } in
+    let f : PartsFit head.rows docs check sure = parts_fit docs unsure check sure head.rows c.requires.ascend c.requires.left.within parts in
+    subst (AreDocs query table held head) (sym c.len.ensures) (left_docs c.image_law.ensures c.index_law.ensures query table head c.requires.valid c.requires.of_table c.requires.loaded docs held c.requires.left f.few)
+
+pub returns-in-Ok-scan_part-clause-ok : goal.returns-in-Ok-scan_part-clause-ok
+returns-in-Ok-scan_part-clause-ok g c =
+    let query = c.args.query.now in
+    let table = c.args.table.now in
+    let head : Seen = c.args.head.now in
+    let held : Option Files = g.S.Shelf.held c.args.shelf.now in
+    let docs : List ℕ = c.args.docs.now in
+    let unsure : List ℕ = c.args.unsure.now in
+    let check : List ℕ = c.in_ok-check.check in
+    let sure : List ℕ = c.in_ok-sure.sure in
+    let parts : AreParts docs unsure check sure = record { checks = c.in_ok-check.ensures; sures = c.in_ok-sure.ensures } in
+    let f : PartsFit head.rows docs check sure = parts_fit docs unsure check sure head.rows c.requires.ascend c.requires.left.within parts in
+    let served : c.as_slice-served.result.now ≡ sure_choices (choices_for query table head) = c.as_slice-served.ensures.value ∙ c.in_ok-served.ensures ∙ ap sure_choices c.requires.planned in
+    let same : g.S.Shelf.held c.scan_part.new.shelf ≡ held = c.in-Ok.ensures.only_reads.held in
+    let first : AddsDocs query (choices_for query table head) held head (names_in (rest_for query table head) table) check c.args.groups.now c.scan_part.new.groups =
+    subst (λ cs. AddsDocs query cs held head (names_in (rest_of query cs) table) check c.args.groups.now c.scan_part.new.groups) c.requires.planned c.in-Ok.ensures.ok in
+    left_image c.image_law.ensures c.index_law.ensures query table head c.requires.valid c.requires.of_table c.requires.loaded docs held unsure check sure c.requires.left c.requires.unsure parts f.few f.count c.args.groups.now c.scan_part.new.groups c.scan_part-2.new.groups first
+    (subst (λ cs. AddsDocs query cs held head (names_in (rest_of query cs) table) sure c.scan_part.new.groups c.scan_part-2.new.groups) served
+    (subst (λ h. AddsDocs query c.as_slice-served.result.now h head (names_in (rest_of query c.as_slice-served.result.now) table) sure c.scan_part.new.groups c.scan_part-2.new.groups) same c.in-Ok-scan_part.ensures.ok))
+
+pub returns-in-Ok-scan_part-clause-log : goal.returns-in-Ok-scan_part-clause-log
+returns-in-Ok-scan_part-clause-log g c =
+    let query = c.args.query.now in
+    let table = c.args.table.now in
+    let head : Seen = c.args.head.now in
+    let held : Option Files = g.S.Shelf.held c.args.shelf.now in
+    let docs : List ℕ = c.args.docs.now in
+    let unsure : List ℕ = c.args.unsure.now in
+    let check : List ℕ = c.in_ok-check.check in
+    let sure : List ℕ = c.in_ok-sure.sure in
+    let parts : AreParts docs unsure check sure = record { checks = c.in_ok-check.ensures; sures = c.in_ok-sure.ensures } in
+    let f : PartsFit head.rows docs check sure = parts_fit docs unsure check sure head.rows c.requires.ascend c.requires.left.within parts in
+    let served : c.as_slice-served.result.now ≡ sure_choices (choices_for query table head) = c.as_slice-served.ensures.value ∙ c.in_ok-served.ensures ∙ ap sure_choices c.requires.planned in
+    record {
+      check = check;
+      sure = sure;
+      count = f.count;
+      check_within = f.check_within;
+      sure_within = f.sure_within;
+      between = g.S.Shelf.log c.scan_part.new.shelf;
+      checked = subst (λ cs. LogsDocs head (names_in (rest_of query cs) table) check (g.S.Shelf.log c.args.shelf.now) (g.S.Shelf.log c.scan_part.new.shelf)) c.requires.planned c.in-Ok.ensures.log;
+      surely = subst (λ cs. LogsDocs head (names_in (rest_of query cs) table) sure (g.S.Shelf.log c.scan_part.new.shelf) (g.S.Shelf.log c.scan_part-2.new.shelf)) served c.in-Ok-scan_part.ensures.log;
+    }
 
 pub returns-clause-full : goal.returns-clause-full
 returns-clause-full g c = λ full.
     let query = c.args.query.now in
     let table = c.args.table.now in
     let head : Seen = c.args.head.now in
-    let choices = c.args.choices.now in
-    let named : List Bool = c.as_slice-named.result.now in
-    let is : named ≡ names_in (rest_for query table head) table =
-    marks_left query table head choices named c.in_ok-named.named.items c.len.result c.requires.planned c.len.ensures c.as_slice-named.ensures.value c.in_ok-named.ensures.count c.in_ok-named.ensures.each in
     let held : Option Files = g.S.Shelf.held c.args.shelf.now in
-    left_full c.image_law.ensures c.index_law.ensures query table head c.requires.valid c.requires.of_table c.requires.loaded c.args.docs.now held named is c.requires.left c.args.groups.now
-    (full_left query table head held choices named c.args.docs.now c.args.groups.now c.requires.planned (c.in-Err.ensures.full (same_err ℕ (Unit {0}) c.in-Err.fault TooManyGroups full)))
+    let docs : List ℕ = c.args.docs.now in
+    let unsure : List ℕ = c.args.unsure.now in
+    let check : List ℕ = c.in_ok-check.check in
+    let sure : List ℕ = c.in_ok-sure.sure in
+    let parts : AreParts docs unsure check sure = record { checks = c.in_ok-check.ensures; sures = c.in_ok-sure.ensures } in
+    let f : PartsFit head.rows docs check sure = parts_fit docs unsure check sure head.rows c.requires.ascend c.requires.left.within parts in
+    let served : c.as_slice-served.result.now ≡ sure_choices (choices_for query table head) = c.as_slice-served.ensures.value ∙ c.in_ok-served.ensures ∙ ap sure_choices c.requires.planned in
+    let same : g.S.Shelf.held c.scan_part.new.shelf ≡ held = c.in-Ok.ensures.only_reads.held in
+    let first : AddsDocs query (choices_for query table head) held head (names_in (rest_for query table head) table) check c.args.groups.now c.scan_part.new.groups =
+    subst (λ cs. AddsDocs query cs held head (names_in (rest_of query cs) table) check c.args.groups.now c.scan_part.new.groups) c.requires.planned c.in-Ok.ensures.ok in
+    sure_full c.image_law.ensures c.index_law.ensures query table head c.requires.valid c.requires.of_table c.requires.loaded docs held unsure check sure c.requires.left c.requires.unsure parts c.args.groups.now c.scan_part.new.groups first
+    (subst (λ cs. IfSome held (λ files. IsOverfull query (selected_docs query cs files head (names_in (rest_of query cs) table) sure) c.scan_part.new.groups)) served
+    (subst (λ h. IfSome h (λ files. IsOverfull query (selected_docs query c.as_slice-served.result.now files head (names_in (rest_of query c.as_slice-served.result.now) table) sure) c.scan_part.new.groups)) same
+    (c.in-Err-scan_part.ensures.full (same_err ℕ (Unit {0}) c.in-Err-scan_part.fault TooManyGroups full))))
 
 pub returns-clause-bad : goal.returns-clause-bad
 returns-clause-bad g c = λ part bad.
     let query = c.args.query.now in
     let table = c.args.table.now in
     let head : Seen = c.args.head.now in
-    let choices = c.args.choices.now in
-    let named : List Bool = c.as_slice-named.result.now in
-    let is : named ≡ names_in (rest_for query table head) table =
-    marks_left query table head choices named c.in_ok-named.named.items c.len.result c.requires.planned c.len.ensures c.as_slice-named.ensures.value c.in_ok-named.ensures.count c.in_ok-named.ensures.each in
-    let loaded = subst (λ cs. AreNamedLoaded (rest_of query cs) head) c.requires.planned (rest_loaded query choices head c.requires.loaded) in
-    bad_left c.image_law.ensures (rest_for query table head) table (g.S.Shelf.held c.args.shelf.now) head c.requires.valid c.requires.of_table loaded named is part (c.in-Err.ensures.bad part (same_err ℕ (Unit {0}) c.in-Err.fault (NotASegment part) bad))
+    let held : Option Files = g.S.Shelf.held c.args.shelf.now in
+    let docs : List ℕ = c.args.docs.now in
+    let unsure : List ℕ = c.args.unsure.now in
+    let check : List ℕ = c.in_ok-check.check in
+    let sure : List ℕ = c.in_ok-sure.sure in
+    let parts : AreParts docs unsure check sure = record { checks = c.in_ok-check.ensures; sures = c.in_ok-sure.ensures } in
+    let f : PartsFit head.rows docs check sure = parts_fit docs unsure check sure head.rows c.requires.ascend c.requires.left.within parts in
+    let served : c.as_slice-served.result.now ≡ sure_choices (choices_for query table head) = c.as_slice-served.ensures.value ∙ c.in_ok-served.ensures ∙ ap sure_choices c.requires.planned in
+    let same : g.S.Shelf.held c.scan_part.new.shelf ≡ held = c.in-Ok.ensures.only_reads.held in
+    let bad_now : IsBadForward (sure_for query table head) held head part × IsNoImage table held head =
+    subst (λ cs. IsBadForward (rest_of query cs) held head part × IsNoImage table held head) served
+    (subst (λ h. IsBadForward (rest_of query c.as_slice-served.result.now) h head part × IsNoImage table h head) same
+    (c.in-Err-scan_part.ensures.bad part (same_err ℕ (Unit {0}) c.in-Err-scan_part.fault (NotASegment part) bad))) in (
+      (bad_now.0.0, sure_names query (choices_for query table head) bad_now.0.0 bad_now.0.1, bad_now.0.2, bad_now.0.3),
+      bad_now.1,
+    )
 
 pub returns-clause-log_of_fault : goal.returns-clause-log_of_fault
 returns-clause-log_of_fault g c =
     let query = c.args.query.now in
     let table = c.args.table.now in
     let head : Seen = c.args.head.now in
-    let choices = c.args.choices.now in
-    let named : List Bool = c.as_slice-named.result.now in
-    let is : named ≡ names_in (rest_for query table head) table =
-    marks_left query table head choices named c.in_ok-named.named.items c.len.result c.requires.planned c.len.ensures c.as_slice-named.ensures.value c.in_ok-named.ensures.count c.in_ok-named.ensures.each in
-    subst (λ (l : List Bool). LogsDocsPartly head l c.args.docs.now (g.S.Shelf.log c.args.shelf.now) (g.S.Shelf.log c.scan_documents.new.shelf)) is c.in-Err.ensures.log_of_fault
+    let held : Option Files = g.S.Shelf.held c.args.shelf.now in
+    let docs : List ℕ = c.args.docs.now in
+    let unsure : List ℕ = c.args.unsure.now in
+    let check : List ℕ = c.in_ok-check.check in
+    let sure : List ℕ = c.in_ok-sure.sure in
+    let parts : AreParts docs unsure check sure = record { checks = c.in_ok-check.ensures; sures = c.in_ok-sure.ensures } in
+    let f : PartsFit head.rows docs check sure = parts_fit docs unsure check sure head.rows c.requires.ascend c.requires.left.within parts in
+    let served : c.as_slice-served.result.now ≡ sure_choices (choices_for query table head) = c.as_slice-served.ensures.value ∙ c.in_ok-served.ensures ∙ ap sure_choices c.requires.planned in
+    record {
+      check = check;
+      sure = sure;
+      count = f.count;
+      check_within = f.check_within;
+      sure_within = f.sure_within;
+      some = inr (
+        g.S.Shelf.log c.scan_part.new.shelf,
+        subst (λ cs. LogsDocs head (names_in (rest_of query cs) table) check (g.S.Shelf.log c.args.shelf.now) (g.S.Shelf.log c.scan_part.new.shelf)) c.requires.planned c.in-Ok.ensures.log,
+        subst (λ cs. LogsDocsPartly head (names_in (rest_of query cs) table) sure (g.S.Shelf.log c.scan_part.new.shelf) (g.S.Shelf.log c.scan_part-2.new.shelf)) served c.in-Err-scan_part.ensures.log_of_fault,
+      );
+    }

@@ -1,5 +1,7 @@
 use Rattle.std.proofs.Common.{◌≡◌, ◌∙◌, ℕ, List, [], Option, Err, None, IsErrOf, inl, length, ap, sym, subst, arith}
 use Rattle.std.proofs.lemmas.Result.{IfOk-weaker}
+use Rattle.std.specs.List.Sorted.{IsStrictlyIncreasing}
+use Rattle.doc_lists.proofs.Runs.{docs_increase}
 use Rattle.outside.specs.Files.{Files}
 use Rattle.outside.specs.Reads.{Entry}
 use Rattle.table_schema.specs.declared.query.Conjunct.{Conjunct}
@@ -38,8 +40,8 @@ documents-requires-clause-ready g c =
     let head : Seen = c.args.head.now in
     let held : Option Files = g.S.Shelf.held c.args.shelf.now in
     let choices : c.as_slice-choices.result.now ≡ choices_for query table head = c.as_slice-choices.ensures ∙ c.requires.planned in
-    let conjuncts : c.as_slice.result.now ≡ query.conjuncts = c.as_slice.ensures in
-    subst (λ cs. OfEach (IsReady head) cs c.as_slice.result.now) (sym choices) (subst (λ xs. OfEach (IsReady head) (choices_for query table head) xs) (sym conjuncts) (ready_for query table head c.requires.of_table c.requires.loaded))
+    let conjuncts : c.as_slice-conjuncts.result.now ≡ query.conjuncts = c.as_slice-conjuncts.ensures in
+    subst (λ cs. OfEach (IsReady head) cs c.as_slice-conjuncts.result.now) (sym choices) (subst (λ xs. OfEach (IsReady head) (choices_for query table head) xs) (sym conjuncts) (ready_for query table head c.requires.of_table c.requires.loaded))
 
 pub returns-in-Err-clause-bad : goal.returns-in-Err-clause-bad
 returns-in-Err-clause-bad g c = λ part bad.
@@ -48,7 +50,7 @@ returns-in-Err-clause-bad g c = λ part bad.
     let head : Seen = c.args.head.now in
     let held : Option Files = g.S.Shelf.held c.args.shelf.now in
     let choices : c.as_slice-choices.result.now ≡ choices_for query table head = c.as_slice-choices.ensures ∙ c.requires.planned in
-    let conjuncts : c.as_slice.result.now ≡ query.conjuncts = c.as_slice.ensures in
+    let conjuncts : c.as_slice-conjuncts.result.now ≡ query.conjuncts = c.as_slice-conjuncts.ensures in
     bad_index c.index_law.ensures query table head c.requires.valid c.requires.of_table c.requires.loaded held part
     (subst (λ cs. IsBadAny held head part cs query.conjuncts) choices (subst (λ xs. IsBadAny held head part c.as_slice-choices.result.now xs) conjuncts
     (c.in-Err.ensures.bad part (same_err ℕ (Option (List ℕ)) c.in-Err.fault (NotASegment part) bad))))
@@ -60,9 +62,9 @@ returns-in-None-clause-count g c =
     let head : Seen = c.args.head.now in
     let held : Option Files = g.S.Shelf.held c.args.shelf.now in
     let choices : c.as_slice-choices.result.now ≡ choices_for query table head = c.as_slice-choices.ensures ∙ c.requires.planned in
-    let conjuncts : c.as_slice.result.now ≡ query.conjuncts = c.as_slice.ensures in
+    let conjuncts : c.as_slice-conjuncts.result.now ≡ query.conjuncts = c.as_slice-conjuncts.ensures in
     let none : indexed_for query table head ≡ [] =
-    none_left held head c.as_slice-choices.result.now (choices_for query table head) c.as_slice.result.now query.conjuncts c.in-Ok.docs choices conjuncts c.in-None.is c.in-Ok.ensures.docs in
+    none_left held head c.as_slice-choices.result.now (choices_for query table head) c.as_slice-conjuncts.result.now query.conjuncts c.in-Ok.docs choices conjuncts c.in-None.is c.in-Ok.ensures.docs in
     let same : g.S.Shelf.held c.documents.new.shelf ≡ held = c.in-Ok.ensures.only_reads.held in
     IfOk-weaker c.scan_whole.result _ _ (λ n is. whole_docs c.image_law.ensures c.index_law.ensures query table held head c.requires.valid c.requires.of_table c.requires.loaded none n is) c.scan_whole.ensures.count
 
@@ -73,9 +75,9 @@ returns-in-None-clause-ok g c =
     let head : Seen = c.args.head.now in
     let held : Option Files = g.S.Shelf.held c.args.shelf.now in
     let choices : c.as_slice-choices.result.now ≡ choices_for query table head = c.as_slice-choices.ensures ∙ c.requires.planned in
-    let conjuncts : c.as_slice.result.now ≡ query.conjuncts = c.as_slice.ensures in
+    let conjuncts : c.as_slice-conjuncts.result.now ≡ query.conjuncts = c.as_slice-conjuncts.ensures in
     let none : indexed_for query table head ≡ [] =
-    none_left held head c.as_slice-choices.result.now (choices_for query table head) c.as_slice.result.now query.conjuncts c.in-Ok.docs choices conjuncts c.in-None.is c.in-Ok.ensures.docs in
+    none_left held head c.as_slice-choices.result.now (choices_for query table head) c.as_slice-conjuncts.result.now query.conjuncts c.in-Ok.docs choices conjuncts c.in-None.is c.in-Ok.ensures.docs in
     let same : g.S.Shelf.held c.documents.new.shelf ≡ held = c.in-Ok.ensures.only_reads.held in
     let old = c.args.groups.now in
     let new = c.scan_whole.new.groups in
@@ -89,9 +91,9 @@ returns-in-None-clause-full g c = λ full.
     let head : Seen = c.args.head.now in
     let held : Option Files = g.S.Shelf.held c.args.shelf.now in
     let choices : c.as_slice-choices.result.now ≡ choices_for query table head = c.as_slice-choices.ensures ∙ c.requires.planned in
-    let conjuncts : c.as_slice.result.now ≡ query.conjuncts = c.as_slice.ensures in
+    let conjuncts : c.as_slice-conjuncts.result.now ≡ query.conjuncts = c.as_slice-conjuncts.ensures in
     let none : indexed_for query table head ≡ [] =
-    none_left held head c.as_slice-choices.result.now (choices_for query table head) c.as_slice.result.now query.conjuncts c.in-Ok.docs choices conjuncts c.in-None.is c.in-Ok.ensures.docs in
+    none_left held head c.as_slice-choices.result.now (choices_for query table head) c.as_slice-conjuncts.result.now query.conjuncts c.in-Ok.docs choices conjuncts c.in-None.is c.in-Ok.ensures.docs in
     let same : g.S.Shelf.held c.documents.new.shelf ≡ held = c.in-Ok.ensures.only_reads.held in
     whole_full query table held head c.args.groups.now none (subst (λ h. IsWholeOverfull query table h head c.args.groups.now) same (c.scan_whole.ensures.full full))
 
@@ -102,9 +104,9 @@ returns-in-None-clause-bad g c = λ part bad.
     let head : Seen = c.args.head.now in
     let held : Option Files = g.S.Shelf.held c.args.shelf.now in
     let choices : c.as_slice-choices.result.now ≡ choices_for query table head = c.as_slice-choices.ensures ∙ c.requires.planned in
-    let conjuncts : c.as_slice.result.now ≡ query.conjuncts = c.as_slice.ensures in
+    let conjuncts : c.as_slice-conjuncts.result.now ≡ query.conjuncts = c.as_slice-conjuncts.ensures in
     let none : indexed_for query table head ≡ [] =
-    none_left held head c.as_slice-choices.result.now (choices_for query table head) c.as_slice.result.now query.conjuncts c.in-Ok.docs choices conjuncts c.in-None.is c.in-Ok.ensures.docs in
+    none_left held head c.as_slice-choices.result.now (choices_for query table head) c.as_slice-conjuncts.result.now query.conjuncts c.in-Ok.docs choices conjuncts c.in-None.is c.in-Ok.ensures.docs in
     let same : g.S.Shelf.held c.documents.new.shelf ≡ held = c.in-Ok.ensures.only_reads.held in
     whole_bad query table held head part none (subst (λ h. IsBadWhole query table h head part) same (c.scan_whole.ensures.bad part bad))
 
@@ -115,15 +117,15 @@ returns-in-None-clause-log g c =
     let head : Seen = c.args.head.now in
     let held : Option Files = g.S.Shelf.held c.args.shelf.now in
     let choices : c.as_slice-choices.result.now ≡ choices_for query table head = c.as_slice-choices.ensures ∙ c.requires.planned in
-    let conjuncts : c.as_slice.result.now ≡ query.conjuncts = c.as_slice.ensures in
+    let conjuncts : c.as_slice-conjuncts.result.now ≡ query.conjuncts = c.as_slice-conjuncts.ensures in
     let none : indexed_for query table head ≡ [] =
-    none_left held head c.as_slice-choices.result.now (choices_for query table head) c.as_slice.result.now query.conjuncts c.in-Ok.docs choices conjuncts c.in-None.is c.in-Ok.ensures.docs in
+    none_left held head c.as_slice-choices.result.now (choices_for query table head) c.as_slice-conjuncts.result.now query.conjuncts c.in-Ok.docs choices conjuncts c.in-None.is c.in-Ok.ensures.docs in
     let same : g.S.Shelf.held c.documents.new.shelf ≡ held = c.in-Ok.ensures.only_reads.held in
     let old = g.S.Shelf.log c.args.shelf.now in
     let mid = g.S.Shelf.log c.documents.new.shelf in
     let last = g.S.Shelf.log c.scan_whole.new.shelf in
     let unread : mid ≡ old =
-    nothing_read held head c.as_slice-choices.result.now (choices_for query table head) c.as_slice.result.now query.conjuncts old mid choices conjuncts none c.in-Ok.ensures.log in
+    nothing_read held head c.as_slice-choices.result.now (choices_for query table head) c.as_slice-conjuncts.result.now query.conjuncts old mid choices conjuncts none c.in-Ok.ensures.log in
     IfOk-weaker c.scan_whole.result _ _ (λ n logs. inl (none, subst (λ o. LogsColumns head (names_in query table) (length table.schema.fields) o last) unread logs)) c.scan_whole.ensures.log
 
 pub returns-in-None-clause-log_of_fault : goal.returns-in-None-clause-log_of_fault
@@ -133,14 +135,17 @@ returns-in-None-clause-log_of_fault g c =
     let head : Seen = c.args.head.now in
     let held : Option Files = g.S.Shelf.held c.args.shelf.now in
     let choices : c.as_slice-choices.result.now ≡ choices_for query table head = c.as_slice-choices.ensures ∙ c.requires.planned in
-    let conjuncts : c.as_slice.result.now ≡ query.conjuncts = c.as_slice.ensures in
+    let conjuncts : c.as_slice-conjuncts.result.now ≡ query.conjuncts = c.as_slice-conjuncts.ensures in
     let none : indexed_for query table head ≡ [] =
-    none_left held head c.as_slice-choices.result.now (choices_for query table head) c.as_slice.result.now query.conjuncts c.in-Ok.docs choices conjuncts c.in-None.is c.in-Ok.ensures.docs in
+    none_left held head c.as_slice-choices.result.now (choices_for query table head) c.as_slice-conjuncts.result.now query.conjuncts c.in-Ok.docs choices conjuncts c.in-None.is c.in-Ok.ensures.docs in
     let same : g.S.Shelf.held c.documents.new.shelf ≡ held = c.in-Ok.ensures.only_reads.held in
     let old = g.S.Shelf.log c.args.shelf.now in
     let mid = g.S.Shelf.log c.documents.new.shelf in
     let last = g.S.Shelf.log c.scan_whole.new.shelf in
     let unread : mid ≡ old =
-    nothing_read held head c.as_slice-choices.result.now (choices_for query table head) c.as_slice.result.now query.conjuncts old mid choices conjuncts none c.in-Ok.ensures.log in
+    nothing_read held head c.as_slice-choices.result.now (choices_for query table head) c.as_slice-conjuncts.result.now query.conjuncts old mid choices conjuncts none c.in-Ok.ensures.log in
     err_so c.scan_whole.result (LogsSome head (names_in query table) mid last) (LogsScanPartly query table held head old last)
     (λ logs. inl (none, subst (λ o. LogsSome head (names_in query table) o last) unread logs)) c.scan_whole.ensures.log_of_fault
+
+pub scan_left-requires-clause-ascend : goal.scan_left-requires-clause-ascend
+scan_left-requires-clause-ascend g c = subst IsStrictlyIncreasing c.docs.view_is (docs_increase c.docs.inside.runs.items c.docs.invariant.apart)

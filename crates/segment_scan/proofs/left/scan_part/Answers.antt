@@ -1,0 +1,94 @@
+use Rattle.std.proofs.Common.{◌≡◌, Bool, List, inl, refl, subst}
+use Rattle.std.specs.Prelude.{OnOk, OnErr, IfOk, IfSome}
+use Rattle.segment_file.specs.Heads.{Seen}
+use Rattle.scan_engine.specs.Scanned.{IsOverfull}
+use Rattle.segment_scan.specs.Documents.{AddsDocs, LogsDocs, LogsDocsPartly, selected_docs}
+use Rattle.segment_scan.specs.Images.{names_in}
+use Rattle.segment_scan.specs.Served.{rest_of}
+use Rattle.segment_scan.proofs.ImageLemmas.{loaded_readable}
+use Rattle.segment_scan.proofs.LeftImage.{bad_left, marks_left, rest_loaded}
+use Rattle.segment_scan.proofs.LogLemmas.{err_is}
+use Rattle.segment_scan.proofs.SegmentLemmas.{mark_named, marks_few}
+use Rattle.segment_scan.proofs.left.scan_part.Goals as goal
+
+pub returns-in_err-named-clause-log_of_fault : goal.returns-in_err-named-clause-log_of_fault
+returns-in_err-named-clause-log_of_fault g c =
+    let log = g.S.Shelf.log c.args.shelf.now in
+    let names = names_in (rest_of c.args.query.now c.args.choices.now) c.args.table.now in
+    err_is c.from_residual.result (LogsDocsPartly c.args.head.now names c.args.docs.now log log) (inl refl)
+
+pub scan_documents-requires-clause-few : goal.scan_documents-requires-clause-few
+scan_documents-requires-clause-few g c =
+    let query = c.args.query.now in
+    let table = c.args.table.now in
+    let choices = c.args.choices.now in
+    let named : List Bool = c.as_slice-named.result.now in
+    let is : named ≡ names_in (rest_of query choices) table =
+    marks_left query table choices named c.in_ok-named.named.items c.len.result c.len.ensures c.as_slice-named.ensures.value c.in_ok-named.ensures.count c.in_ok-named.ensures.each in
+    marks_few (rest_of query choices) table named is c.requires.valid
+
+pub scan_documents-requires-clause-readable : goal.scan_documents-requires-clause-readable
+scan_documents-requires-clause-readable g c = λ column marked.
+    let query = c.args.query.now in
+    let table = c.args.table.now in
+    let head : Seen = c.args.head.now in
+    let choices = c.args.choices.now in
+    let named : List Bool = c.as_slice-named.result.now in
+    let is : named ≡ names_in (rest_of query choices) table =
+    marks_left query table choices named c.in_ok-named.named.items c.len.result c.len.ensures c.as_slice-named.ensures.value c.in_ok-named.ensures.count c.in_ok-named.ensures.each in
+    loaded_readable table head column c.requires.of_table (rest_loaded query choices head c.requires.loaded column (mark_named (rest_of query choices) table named is column marked))
+
+pub returns-clause-ok : goal.returns-clause-ok
+returns-clause-ok g c =
+    let query = c.args.query.now in
+    let table = c.args.table.now in
+    let head : Seen = c.args.head.now in
+    let choices = c.args.choices.now in
+    let named : List Bool = c.as_slice-named.result.now in
+    let is : named ≡ names_in (rest_of query choices) table =
+    marks_left query table choices named c.in_ok-named.named.items c.len.result c.len.ensures c.as_slice-named.ensures.value c.in_ok-named.ensures.count c.in_ok-named.ensures.each in
+    subst (λ (l : List Bool). OnOk c.scan_documents.result (AddsDocs query choices (g.S.Shelf.held c.args.shelf.now) head l c.args.docs.now c.args.groups.now c.scan_documents.new.groups)) is c.scan_documents.ensures.ok
+
+pub returns-clause-full : goal.returns-clause-full
+returns-clause-full g c = λ full.
+    let query = c.args.query.now in
+    let table = c.args.table.now in
+    let head : Seen = c.args.head.now in
+    let choices = c.args.choices.now in
+    let named : List Bool = c.as_slice-named.result.now in
+    let is : named ≡ names_in (rest_of query choices) table =
+    marks_left query table choices named c.in_ok-named.named.items c.len.result c.len.ensures c.as_slice-named.ensures.value c.in_ok-named.ensures.count c.in_ok-named.ensures.each in
+    subst (λ (l : List Bool). IfSome (g.S.Shelf.held c.args.shelf.now) (λ files. IsOverfull query (selected_docs query choices files head l c.args.docs.now) c.args.groups.now)) is (c.scan_documents.ensures.full full)
+
+pub returns-clause-bad : goal.returns-clause-bad
+returns-clause-bad g c = λ part bad.
+    let query = c.args.query.now in
+    let table = c.args.table.now in
+    let head : Seen = c.args.head.now in
+    let choices = c.args.choices.now in
+    let named : List Bool = c.as_slice-named.result.now in
+    let is : named ≡ names_in (rest_of query choices) table =
+    marks_left query table choices named c.in_ok-named.named.items c.len.result c.len.ensures c.as_slice-named.ensures.value c.in_ok-named.ensures.count c.in_ok-named.ensures.each in
+    bad_left c.image_law.ensures (rest_of query choices) table (g.S.Shelf.held c.args.shelf.now) head c.requires.valid c.requires.of_table (rest_loaded query choices head c.requires.loaded) named is part (c.scan_documents.ensures.bad part bad)
+
+pub returns-clause-log : goal.returns-clause-log
+returns-clause-log g c =
+    let query = c.args.query.now in
+    let table = c.args.table.now in
+    let head : Seen = c.args.head.now in
+    let choices = c.args.choices.now in
+    let named : List Bool = c.as_slice-named.result.now in
+    let is : named ≡ names_in (rest_of query choices) table =
+    marks_left query table choices named c.in_ok-named.named.items c.len.result c.len.ensures c.as_slice-named.ensures.value c.in_ok-named.ensures.count c.in_ok-named.ensures.each in
+    subst (λ (l : List Bool). IfOk c.scan_documents.result (λ _. LogsDocs head l c.args.docs.now (g.S.Shelf.log c.args.shelf.now) (g.S.Shelf.log c.scan_documents.new.shelf))) is c.scan_documents.ensures.log
+
+pub returns-clause-log_of_fault : goal.returns-clause-log_of_fault
+returns-clause-log_of_fault g c =
+    let query = c.args.query.now in
+    let table = c.args.table.now in
+    let head : Seen = c.args.head.now in
+    let choices = c.args.choices.now in
+    let named : List Bool = c.as_slice-named.result.now in
+    let is : named ≡ names_in (rest_of query choices) table =
+    marks_left query table choices named c.in_ok-named.named.items c.len.result c.len.ensures c.as_slice-named.ensures.value c.in_ok-named.ensures.count c.in_ok-named.ensures.each in
+    subst (λ (l : List Bool). OnErr c.scan_documents.result (LogsDocsPartly head l c.args.docs.now (g.S.Shelf.log c.args.shelf.now) (g.S.Shelf.log c.scan_documents.new.shelf))) is c.scan_documents.ensures.log_of_fault
