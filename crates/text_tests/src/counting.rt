@@ -73,12 +73,12 @@ impl CountingDepot {
         }
         taken
     }
+}
 
-    // Counts a read of every span.
-    fn count(&mut self, file: &str, offset: u64, count: u64) {
-        for span in &mut self.spans {
-            span.count(file, offset, count);
-        }
+// Counts a read of every span.
+fn count_all(spans: &mut [Span], file: &str, offset: u64, count: u64) {
+    for span in spans {
+        span.count(file, offset, count);
     }
 }
 
@@ -111,7 +111,7 @@ impl Shelf for CountingDepot {
         into: &mut [u8],
     ) -> Result<usize, ShelfFault> {
         let n = self.depot.read_at(alloc, name, offset, into)?;
-        self.count(name, offset, n as u64);
+        count_all(&mut self.spans, name, offset, n as u64);
         Ok(n)
     }
 }
