@@ -2,6 +2,7 @@
 use Rattle.std.proofs.Common.{◌≡◌, ◌∙◌, ◌⊎◌, min, max, not, cond, le_refl, inl, inr, ℕ, zero, suc, ◌+◌, ◌-◌, ◌<◌, ◌≤◌, ◌^◌, Bool, true, false, ◌&&◌, ◌||◌, nat_eq, nat_le, nat_lt, ◌/◌, List, [], ◌∷◌, ◌++◌, length, drop, get_or, refl, sym, ap, subst, arith}
 use mir.Val.{bool_byte}
 use Rattle.std.specs.List.{All, range_with_len}
+use Rattle.std.specs.List.Sorted.{IsStrictlyIncreasing}
 use Rattle.std.proofs.lemmas.Bool.{cases_lt, leb-true, leb-false, le-leb, lt-leb, lt-ltb, ltb-true, ltb-false, eqb-false, ne_eqb}
 use Rattle.std.proofs.lemmas.List.Elements.{All-append, All-cons, All-nil}
 use Rattle.std.proofs.lemmas.List.Folds.{list_any-append, list_any_none}
@@ -502,6 +503,25 @@ without_test start first doc stretch end kept a b docs ours theirs skipped d tak
           let there : has_doc b doc ≡ taken = left_has start doc b theirs walk.second from ∙ sym (same doc after) ∙ all doc after (omega (arith, ends, to)) ∙ sym taking in
           ap (λ x. x && not (has_doc b doc)) (begun ∙ le-leb (get_or ours 0 d).first doc (omega (arith, after, begins))) ∙ ap not there ∙ kept_by taken kept end first doc is after to
     ]
+
+and_true : (b : Bool) → b && true ≡ b
+and_true true = refl
+and_true false = refl
+
+-- up to the end of a run that ends before the other list begins, a document is in the first list alone where that run has begun
+pub without_alone : (start doc : ℕ) (a b docs : List ℕ) (ours theirs : List Run) → Walk (λ doc. has_doc a doc && not (has_doc b doc)) start a b docs ours theirs → IsAlone ours theirs
+    → start ≤ doc → doc < (get_or ours 0 (record { first = 0; last = 0 })).last + 1 → has_doc a doc && not (has_doc b doc) ≡ nat_le (max start (get_or ours 0 (record { first = 0; last = 0 })).first) doc
+without_alone start doc a b docs ours theirs walk alone from to =
+    let d : Run = record { first = 0; last = 0 } in
+    let first = (get_or ours 0 d).first in
+    ap (λ x. x && not (has_doc b doc)) (left_begun start doc a ours d alone.some walk.first from (omega (arith, to)))
+    ∙ ap (λ y. nat_le first doc && not y) (none_in start doc b theirs d alone.any walk.second from (omega (arith, to, alone.before)))
+    ∙ and_true (nat_le first doc) ∙ sooner_begun (nat_le first doc) first start doc from refl
+
+-- where the second list has no documents, all of the first are in it alone
+pub without_none : (a b : List ℕ) → length b ≡ 0 → IsStrictlyIncreasing a → AreThose (λ doc. has_doc a doc && not (has_doc b doc)) a
+without_none a [] none ascend = record { ascend = ascend; those = λ doc. sym (and_true (has_doc a doc)) }
+without_none a (doc ∷ docs) none ascend = absurd (omega (arith, none))
 
 pub without_over : (start : ℕ) (a b docs : List ℕ) (ours theirs : List Run) → Walk (λ doc. has_doc a doc && not (has_doc b doc)) start a b docs ours theirs → length ours ≡ 0 → (doc : ℕ) → start ≤ doc → has_doc a doc && not (has_doc b doc) ≡ false
 without_over start a b docs ours theirs walk none doc from = ap (λ x. x && not (has_doc b doc)) (left_has start doc a ours walk.first from ∙ no_runs ours doc none)

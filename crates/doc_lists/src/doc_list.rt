@@ -50,6 +50,17 @@ impl DocList {
         Ok(docs)
     }
 
+    // The same documents in a list of their own.
+    pub fn copied(&self, alloc: Global) -> Result<DocList, NoMemory>
+        ensures { IfOk result (λ docs. docs ≡ self.now) }
+    {
+        let runs = Vec::from_slice(alloc, self.runs.as_slice())?;
+        Ok(DocList {
+            runs,
+            count: self.count,
+        })
+    }
+
     pub fn len(&self) -> usize
         ensures { result ≡ length self.now }
     {

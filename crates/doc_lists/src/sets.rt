@@ -70,20 +70,33 @@ pub fn join(alloc: Global, a: &DocList, b: &DocList) -> Result<DocList, NoMemory
 pub fn without(alloc: Global, a: &DocList, b: &DocList) -> Result<DocList, NoMemory>
     ensures { IfOk result (AreThose (λ doc. has_doc a.now doc && not (has_doc b.now doc))) }
 {
-    let mut docs = DocList::new(alloc);
     let mut ours = a.runs();
+    if b.is_empty() {
+        let all = a.copied(alloc)?;
+        return Ok(all);
+    }
+    let mut docs = DocList::new(alloc);
     let mut theirs = b.runs();
     let mut start = 0u64;
     while !ours.is_empty() {
-        let run = ours[0];
-        let first = start.max(run.first as u64);
-        theirs = left_from(theirs, first);
-        let end = end_of_stretch(theirs, first).min(run.last as u64 + 1);
-        let kept = if reaches(theirs, first) { end } else { first };
-        push_from(&mut docs, start, kept, end)?;
-        ours = left_from(ours, end);
-        theirs = left_from(theirs, end);
-        start = end;
+        // Nearly always so, where the first list has many more runs.
+        if is_alone(ours, theirs) {
+            let run = ours[0];
+            let end = run.last as u64 + 1;
+            push_from(&mut docs, start, start.max(run.first as u64), end)?;
+            ours = following(ours, 1);
+            start = end;
+        } else {
+            let run = ours[0];
+            let first = start.max(run.first as u64);
+            theirs = left_from(theirs, first);
+            let end = end_of_stretch(theirs, first).min(run.last as u64 + 1);
+            let kept = if reaches(theirs, first) { end } else { first };
+            push_from(&mut docs, start, kept, end)?;
+            ours = left_from(ours, end);
+            theirs = left_from(theirs, end);
+            start = end;
+        }
     }
     Ok(docs)
 }

@@ -31,7 +31,7 @@ impl<R: Files + AllocGlobal + Clone + Drop> FolderDepot<R> {
         }
     }
 
-    // Reads bytes of a file that is not kept open.
+    // Reads bytes of a file that were not read ahead.
     #[cold]
     #[inline(never)]
     fn read_other(
@@ -96,6 +96,7 @@ impl<R: Files + AllocGlobal + Clone + Drop> Shelf for FolderDepot<R> {
         count_read(&mut self.read_faults, answer)
     }
 
+    #[inline(always)]
     fn read_at(
         &mut self,
         alloc: Global,
@@ -103,11 +104,10 @@ impl<R: Files + AllocGlobal + Clone + Drop> Shelf for FolderDepot<R> {
         offset: u64,
         into: &mut [u8],
     ) -> Result<usize, ShelfFault> {
-        if self.parts.files.is_kept(name) {
-            let answer = self.parts.files.read_kept(offset, into);
-            return count_read(&mut self.read_faults, answer);
+        match self.parts.files.copy_ahead(name, offset, into) {
+            Some(n) => Ok(n),
+            None => self.read_other(alloc, name, offset, into),
         }
-        self.read_other(alloc, name, offset, into)
     }
 }
 

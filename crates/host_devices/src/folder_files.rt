@@ -1,5 +1,5 @@
 //! The files of a real folder.
-ghost use Rattle.std.specs.Prelude.{◌≡◌, ◌≢◌, ◌≤◌, ◌<◌, ◌+◌, true, IfOk, IsErrOf, IsSome, MatchOption, length, string_bytes, vec_len};
+ghost use Rattle.std.specs.Prelude.{◌≡◌, ◌≢◌, ◌≤◌, ◌<◌, ◌+◌, true, IfOk, IfSome, IsErrOf, IsSome, MatchOption, length, string_bytes, vec_len};
 ghost use Rattle.outside.specs.Counts.{Rose};
 ghost use Rattle.outside.specs.declared.shelf.ShelfFault.TheVariants.{Missing, Failed};
 
@@ -51,18 +51,28 @@ impl<F: Read + Seek + Drop> FileReader<F> {
     }
 
     // Reads from an offset on.
-    #[inline]
     fn read_at(&mut self, offset: u64, into: &mut [u8]) -> io::Result<usize>
         ensures { IfOk result (λ n. n ≤ length into.old) }
     {
-        if self.is_ahead(offset) {
-            return Ok(self.copy(offset, into));
+        match self.copy_ahead(offset, into) {
+            Some(n) => Ok(n),
+            None => self.read_on(offset, into),
         }
-        self.read_on(offset, into)
+    }
+
+    // Copies bytes from an offset on, if they were read ahead.
+    #[inline(always)]
+    fn copy_ahead(&self, offset: u64, into: &mut [u8]) -> Option<usize>
+        ensures { IfSome result (λ n. n ≤ length into.old) }
+    {
+        if !self.is_ahead(offset) {
+            return None;
+        }
+        Some(self.copy(offset, into))
     }
 
     // Whether the byte at an offset was read ahead.
-    #[inline]
+    #[inline(always)]
     fn is_ahead(&self, offset: u64) -> bool
         ensures before { result ≡ true → offset < self.now.next }
         ensures held { result ≡ true → self.now.next ≤ offset + self.now.held }
@@ -71,17 +81,14 @@ impl<F: Read + Seek + Drop> FileReader<F> {
     }
 
     // Copies bytes from an offset on that were read ahead, as many as there are and fit.
-    #[inline]
+    #[inline(always)]
     fn copy(&self, offset: u64, into: &mut [u8]) -> usize
         requires before { offset < self.now.next }
         requires held { self.now.next ≤ offset + self.now.held }
         ensures { result ≤ length into.old }
     {
         let from = self.held - (self.next - offset) as usize;
-        let bytes = &self.ahead[from..self.held];
-        let n = bytes.len().min(into.len());
-        into[..n].copy_from_slice(&bytes[..n]);
-        n
+        copy_front(&self.ahead[from..self.held], into)
     }
 
     // Reads bytes that were not read ahead. No file is longer than a signed 64-bit number says.
@@ -109,6 +116,22 @@ impl<F: Read + Seek + Drop> FileReader<F> {
         }
         Ok(self.copy(offset, into))
     }
+}
+
+// Copies the first bytes to the front of others, as many as there are and fit. One or two, as an id
+// takes, are moved without a call: the first and the last.
+#[inline(always)]
+fn copy_front(bytes: &[u8], into: &mut [u8]) -> usize
+    ensures { result ≤ length into.old }
+{
+    let n = bytes.len().min(into.len());
+    if n == 1 || n == 2 {
+        into[0] = bytes[0];
+        into[n - 1] = bytes[n - 1];
+    } else {
+        into[..n].copy_from_slice(&bytes[..n]);
+    }
+    n
 }
 
 impl<R: Files + AllocGlobal + Clone + Drop> FolderFiles<R> {
@@ -156,9 +179,23 @@ impl<R: Files + AllocGlobal + Clone + Drop> FolderFiles<R> {
         self.read_kept(offset, into)
     }
 
-    /// Reads bytes of the file that is kept open from an offset on.
-    #[inline]
-    pub fn read_kept(&mut self, offset: u64, into: &mut [u8]) -> Result<usize, ShelfFault>
+    /// Copies bytes from an offset on, if the file that is kept open has this name and they were read
+    /// ahead.
+    #[inline(always)]
+    pub fn copy_ahead(&self, name: &str, offset: u64, into: &mut [u8]) -> Option<usize>
+        ensures { IfSome result (λ n. n ≤ length into.old) }
+    {
+        if !self.is_kept(name) {
+            return None;
+        }
+        match &self.kept {
+            Some(open) => open.file.copy_ahead(offset, into),
+            None => None,
+        }
+    }
+
+    // Reads bytes of the file that is kept open from an offset on.
+    fn read_kept(&mut self, offset: u64, into: &mut [u8]) -> Result<usize, ShelfFault>
         requires { IsSome self.old.kept }
         ensures read { IfOk result (λ n. n ≤ length into.old) }
         ensures there { ¬ IsErrOf result Missing }
@@ -181,9 +218,9 @@ impl<R: Files + AllocGlobal + Clone + Drop> FolderFiles<R> {
         self.kept = None;
     }
 
-    /// Whether the file that is kept open has this name.
-    #[inline(never)]
-    pub fn is_kept(&self, name: &str) -> bool
+    // Whether the file that is kept open has this name.
+    #[inline(always)]
+    fn is_kept(&self, name: &str) -> bool
         ensures { result ≡ true →
             MatchOption self.now.kept ⊥ (λ kept. string_bytes kept.name ≡ name.now) }
     {
