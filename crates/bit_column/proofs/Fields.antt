@@ -1,5 +1,5 @@
 -- Numbers read out of bytes.
-use Rattle.std.proofs.Common.{◌≡◌, ◌≤◌, ◌<◌, All, ℕ, suc, ◌+◌, ◌-◌, ◌*◌, ◌/◌, ◌%◌, ◌^◌, List, [], ◌∷◌, ◌++◌, length, take, drop, get_or, sym, ap, ◌∙◌, subst, arith, append_assoc, append-nil, bit_or, length-take, length-drop}
+use Rattle.std.proofs.Common.{◌≡◌, ◌≤◌, ◌<◌, All, ℕ, suc, zero, refl, ◌+◌, ◌-◌, ◌*◌, ◌/◌, ◌%◌, ◌^◌, List, [], ◌∷◌, ◌++◌, length, take, drop, get_or, sym, ap, ◌∙◌, subst, arith, append_assoc, append-nil, bit_or, length-take, length-drop}
 use Rattle.std.proofs.lemmas.List.{take_more, drop_more, drop_all, drop-drop, drop-take, take-take, take_rest}
 use Rattle.std.proofs.lemmas.List.FromFn.{map-range_with_len_more, length-map-range_with_len, get_or-map-range_with_len}
 use Rattle.std.proofs.lemmas.List.Elements.{All-get_or}
@@ -171,3 +171,33 @@ pieces-below width first count i limit digits within all =
     let f : ℕ → ℕ = λ piece. field width (first + piece * width) digits in
     let long : length (pieces width first count digits) ≡ count = length-map-range_with_len f 0 count in
     subst (λ n. n < limit) (get_or-map-range_with_len f 0 count i i 0 within (omega arith)) (All-get_or (λ id. id < limit) (pieces width first count digits) i 0 (omega arith) all)
+
+-- ---- a field in the first bytes
+
+front-field : (width bit count : ℕ) (bytes : List ℕ) → bit + width ≤ 8 * count → field width bit (bits_of 8 (take count bytes)) ≡ field width bit (bits_of 8 bytes)
+front-field width bit count bytes held =
+    let start : bit ≡ bit - 0 * 8 = omega arith in
+    ap (λ b. field width b (bits_of 8 (take count bytes))) start ∙ field-bytes width bit 0 count bytes (omega arith) (omega arith)
+
+same-front : (width bit count : ℕ) (some bytes : List ℕ) → bit + width ≤ 8 * count → take count some ≡ take count bytes → field width bit (bits_of 8 some) ≡ field width bit (bits_of 8 bytes)
+same-front width bit count some bytes held same =
+    sym (front-field width bit count some held) ∙ ap (λ part. field width bit (bits_of 8 part)) same ∙ front-field width bit count bytes held
+
+first-end : (width bit last : ℕ) (bytes : List ℕ) → 2 ≤ length bytes → bit + width ≤ 8 * 1 → field width bit (bits_of 8 (get_or bytes 0 0 ∷ last ∷ [])) ≡ field width bit (bits_of 8 bytes)
+first-end width bit last [] long held = absurd (omega (arith, long))
+first-end width bit last (a ∷ bytes) long held = same-front width bit 1 (a ∷ last ∷ []) (a ∷ bytes) held refl
+
+both-ends : (width bit : ℕ) (bytes : List ℕ) → 2 ≤ length bytes → bit + width ≤ 8 * 2 → field width bit (bits_of 8 (get_or bytes 0 0 ∷ get_or bytes 1 0 ∷ [])) ≡ field width bit (bits_of 8 bytes)
+both-ends width bit [] long held = absurd (omega (arith, long))
+both-ends width bit (a ∷ []) long held = absurd (omega (arith, long))
+both-ends width bit (a ∷ b ∷ bytes) long held = same-front width bit 2 (a ∷ b ∷ []) (a ∷ b ∷ bytes) held refl
+
+-- a field in the first byte or in two is found by the first and the last of them
+pub ends_found : (width bit size : ℕ) (bytes : List ℕ) → 1 ≤ width → size ≤ 2 → 2 ≤ length bytes → bit + width ≤ 8 * size
+    → field width bit (bits_of 8 (get_or bytes 0 0 ∷ get_or bytes (size - 1) 0 ∷ [])) ≡ field width bit (bits_of 8 bytes)
+ends_found width bit zero bytes wide few long held = absurd (omega (arith, wide, held))
+ends_found width bit (suc zero) bytes wide few long held = first-end width bit (get_or bytes (suc zero - 1) 0) bytes long held
+ends_found width bit (suc (suc zero)) bytes wide few long held =
+    let last : suc (suc zero) - 1 ≡ 1 = omega arith in
+    ap (λ i. field width bit (bits_of 8 (get_or bytes 0 0 ∷ get_or bytes i 0 ∷ []))) last ∙ both-ends width bit bytes long held
+ends_found width bit (suc (suc (suc n))) bytes wide few long held = absurd (omega (arith, few))

@@ -48,7 +48,7 @@ pub fn read_part<S: Shelf>(
 
 /// The bytes of a file between two places after an offset, of which there are at most eight, before
 /// zeros.
-#[inline]
+#[inline(always)]
 pub fn read_few<S: Shelf>(
     alloc: Global,
     shelf: &mut S,

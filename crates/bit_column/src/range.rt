@@ -8,7 +8,7 @@ ghost use Rattle.bit_column.specs.declared.fault.ColumnFault.TheVariants.{BadId,
 
 use crate::ColumnFault;
 use crate::part::{read_few, read_part};
-use crate::reading::{append_ids, field_at};
+use crate::reading::{append_ids, id_of};
 use outside::{Place, Seq, Shelf};
 use std::alloc::Global;
 
@@ -66,6 +66,7 @@ pub fn read_range<S: Shelf>(
 
 /// Appends the ids of a section between two indexes, the second left out, in so many bits each. It
 /// reads their bytes and no others, each once, into a buffer that is used again.
+#[inline(always)]
 pub fn append_range<S: Shelf>(
     alloc: Global,
     shelf: &mut S,
@@ -96,35 +97,14 @@ pub fn append_range<S: Shelf>(
     ensures bad { result ≡ Err BadId → IfSome (S.held shelf.old) (λ files.
         ¬ Readable width count from to (section files place.now)) }
 {
-    if from == to {
-        return Ok(());
-    }
     if to - from == 1 {
         return append_one(alloc, shelf, place, width, count, from, to, ids);
     }
-    let bit = from as u64 * width as u64;
-    let end = (to as u64 * width as u64 + 7) / 8;
-    if end > place.length {
-        return Err(ColumnFault::BadId);
-    }
-    let first = bit / 8;
-    buffer.resize((end - first) as usize, 0)?;
-    let name = place.file.as_str();
-    match read_part(alloc, shelf, name, place.offset, first, end, &mut *buffer) {
-        Ok(()) => append_ids(
-            buffer.as_slice(),
-            (bit % 8) as usize,
-            width,
-            count,
-            (to - from) as usize,
-            ids,
-        ),
-        Err(fault) => Err(fault),
-    }
+    append_some(alloc, shelf, place, width, count, from, to, buffer, ids)
 }
 
 // Appends the id of a range of one. It takes no memory but for the id.
-#[inline]
+#[inline(always)]
 fn append_one<S: Shelf>(
     alloc: Global,
     shelf: &mut S,
@@ -160,13 +140,16 @@ fn append_one<S: Shelf>(
     }
     let name = place.file.as_str();
     match read_few(alloc, shelf, name, place.offset, bit / 8, end) {
-        Ok(bytes) => push_id(field_at(&bytes, (bit % 8) as usize, width), count, ids),
+        Ok(bytes) => {
+            let size = (end - bit / 8) as usize;
+            push_id(id_of(&bytes, size, (bit % 8) as usize, width), count, ids)
+        }
         Err(fault) => Err(fault),
     }
 }
 
 // Appends an id, which is to be below the count.
-#[inline]
+#[inline(always)]
 fn push_id(id: u32, count: u32, ids: &mut Vec<u32>) -> Result<(), ColumnFault>
     ensures ids { OnOk result (ids.new.items ≡ ids.old.items ++ id ∷ []) }
     ensures below { OnOk result (id < count) }
@@ -179,5 +162,61 @@ fn push_id(id: u32, count: u32, ids: &mut Vec<u32>) -> Result<(), ColumnFault>
     match ids.push(id) {
         Ok(()) => Ok(()),
         Err(_) => Err(ColumnFault::NoMemory),
+    }
+}
+
+// Appends the ids of a range that is mostly not of one: it takes the room of its bytes.
+#[inline(never)]
+fn append_some<S: Shelf>(
+    alloc: Global,
+    shelf: &mut S,
+    place: &Place,
+    width: u32,
+    count: u32,
+    from: u32,
+    to: u32,
+    buffer: &mut Vec<u8>,
+    ids: &mut Vec<u32>,
+) -> Result<(), ColumnFault>
+    requires width { 1 ≤ width }
+    requires bound { width ≤ 32 }
+    requires order { from ≤ to }
+    ensures ids { OnOk result (AppendsRange (S.held shelf.old) place.now width count from to
+        ids.old.items ids.new.items) }
+    ensures only_reads { OnlyReads (IsErrOf result ColumnFault.ReadFault)
+        (seen S.Shelf shelf.old) (seen S.Shelf shelf.new) }
+    ensures log { OnOk result (LogsOn place.now.file
+        (place.now.offset + first_byte width from) (place.now.offset + end_byte width from to)
+        (S.log shelf.old) (S.log shelf.new)) }
+    ensures log_of_fault { OnErr result (LogsUpTo place.now.file
+        (place.now.offset + first_byte width from) (place.now.offset + end_byte width from to)
+        (S.log shelf.old) (S.log shelf.new)) }
+    // A range past the end of its section is refused before anything is read.
+    ensures past { place.now.length < end_byte width from to → from < to →
+        S.log shelf.new ≡ S.log shelf.old }
+    ensures bad { result ≡ Err BadId → IfSome (S.held shelf.old) (λ files.
+        ¬ Readable width count from to (section files place.now)) }
+{
+    if from == to {
+        return Ok(());
+    }
+    let bit = from as u64 * width as u64;
+    let end = (to as u64 * width as u64 + 7) / 8;
+    if end > place.length {
+        return Err(ColumnFault::BadId);
+    }
+    let first = bit / 8;
+    buffer.resize((end - first) as usize, 0)?;
+    let name = place.file.as_str();
+    match read_part(alloc, shelf, name, place.offset, first, end, &mut *buffer) {
+        Ok(()) => append_ids(
+            buffer.as_slice(),
+            (bit % 8) as usize,
+            width,
+            count,
+            (to - from) as usize,
+            ids,
+        ),
+        Err(fault) => Err(fault),
     }
 }

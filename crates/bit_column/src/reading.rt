@@ -19,7 +19,8 @@ pub fn at(bytes: &[u8], width: u32, index: u32) -> u32
 }
 
 // The number of so many bits from one of them on.
-pub fn field_at(bytes: &[u8], bit: usize, width: u32) -> u32
+#[inline]
+fn field_at(bytes: &[u8], bit: usize, width: u32) -> u32
     requires width { 1 ≤ width }
     requires bound { width ≤ 32 }
     requires held { bit + width ≤ 8 * length bytes.now }
@@ -28,6 +29,25 @@ pub fn field_at(bytes: &[u8], bit: usize, width: u32) -> u32
     let head = front(&bytes[bit / 8..]);
     let following = 8 * head.len() - bit % 8 - width as usize;
     taken(window(head), following as u32, width)
+}
+
+/// The id from a bit of the first byte on, which so many of the bytes have. Of two bytes or of one,
+/// as most ids have, the first and the last are taken apart: eight that were just written byte by
+/// byte are not read at once without a wait.
+#[inline(always)]
+#[tactic(auto, using(crate::proofs::Fields::ends_found))]
+pub fn id_of(bytes: &[u8; 8], size: usize, bit: usize, width: u32) -> u32
+    requires width { 1 ≤ width }
+    requires bound { width ≤ 32 }
+    requires size { size ≤ 8 }
+    requires held { bit + width ≤ 8 * size }
+    ensures { result ≡ field width bit (bits_of 8 bytes.now) }
+{
+    if size <= 2 {
+        let ends = [bytes[0], bytes[size - 1]];
+        return field_at(&ends, bit, width);
+    }
+    field_at(bytes, bit, width)
 }
 
 // At most eight bytes.

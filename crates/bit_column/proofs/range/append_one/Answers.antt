@@ -25,11 +25,11 @@ returns-in-Ok-clause-ids g c =
     let to = c.args.to in
     let few = c.in-Ok.bytes in
     let bytes = take ((to * width + 7) / 8 - from * width / 8) few in
-    let id = c.field_at.result in
+    let id = c.id_of.result in
     let ids = pieces width (from * width % 8) (to - from) (bits_of 8 bytes) in
     let old = c.args.ids.now.items in
     let new = c.push_id.new.ids.items in
-    let is : ids ≡ id ∷ [] = one-read width from to few c.requires.one ∙ ap (λ n. n ∷ []) (sym c.field_at.ensures) in
+    let is : ids ≡ id ∷ [] = one-read width from to few c.requires.one ∙ ap (λ n. n ∷ []) (sym c.id_of.ensures) in
     let part = part-read held c.as_str-name.result.now place.file (place.offset + from * width / 8) (place.offset + (to * width + 7) / 8) bytes bytes c.as_str-name.ensures refl c.in-Ok.ensures.part in
     on-both c.push_id.result (new ≡ old ++ id ∷ []) (id < c.args.count) (AppendsRange held place width c.args.count from to old new)
     (λ grown below. range-appended held place width c.args.count from to bytes old new c.requires.width (omega arith) (omega arith) part (grown ∙ ap (λ l. old ++ l) (sym is)) (one-below (λ n. n < c.args.count) id ids is below))
@@ -44,9 +44,9 @@ returns-in-Ok-clause-bad g c =
     let to = c.args.to in
     let few = c.in-Ok.bytes in
     let bytes = take ((to * width + 7) / 8 - from * width / 8) few in
-    let id = c.field_at.result in
+    let id = c.id_of.result in
     let ids = pieces width (from * width % 8) (to - from) (bits_of 8 bytes) in
-    let is : ids ≡ id ∷ [] = one-read width from to few c.requires.one ∙ ap (λ n. n ∷ []) (sym c.field_at.ensures) in
+    let is : ids ≡ id ∷ [] = one-read width from to few c.requires.one ∙ ap (λ n. n ∷ []) (sym c.id_of.ensures) in
     let part = part-read held c.as_str-name.result.now place.file (place.offset + from * width / 8) (place.offset + (to * width + 7) / 8) bytes bytes c.as_str-name.ensures refl c.in-Ok.ensures.part in
     λ bad. range-bad held place width c.args.count from to bytes c.requires.width (omega arith) (omega arith) part (λ all. c.push_id.ensures.bad bad (one-alone (λ n. n < c.args.count) id ids is all))
 

@@ -6,7 +6,7 @@ use Rattle.bit_column.specs.Bits.{bits_of, pieces}
 use Rattle.bit_column.specs.Sections.{first_byte, end_byte, AppendsRange}
 use Rattle.outside.proofs.ReadLemmas.{logs-none, logs-up, on-err}
 use Rattle.bit_column.proofs.Ranges.{range-order, end-of, range-held, range-appended, range-bad, part-read, none-read, on-both}
-use Rattle.bit_column.proofs.range.append_range.Goals as goal
+use Rattle.bit_column.proofs.range.append_some.Goals as goal
 
 pub returns-then-from-to-clause-ids : goal.returns-then-from-to-clause-ids
 returns-then-from-to-clause-ids g c = record {
