@@ -3,6 +3,7 @@ pub mod BitLemmas
 pub mod Fields
 pub mod Pushed
 pub mod Ranges
+pub mod ReadSteps
 pub mod Spelling
 pub mod Widths
 pub mod Windows

@@ -1,6 +1,7 @@
 //! A part of a file is read.
 ghost use Rattle.std.specs.Prelude.{◌≡◌, ◌≤◌, ◌<◌, ◌+◌, ◌-◌, ◌^◌, ◌↔◌, IfOk, OnErr, OnOk, IsErrOf, length, take};
-ghost use Rattle.outside.specs.Reads.{LogsOn, LogsUpTo};
+ghost use Rattle.outside.specs.Files.{Lacks};
+ghost use Rattle.outside.specs.Reads.{Fills, LogsOn, LogsUpTo};
 ghost use Rattle.outside.specs.Seen.{OnlyReads, seen};
 ghost use Rattle.bit_column.specs.Sections.{IsPart, EndsBefore};
 
@@ -72,8 +73,113 @@ pub fn read_few<S: Shelf>(
 {
     let mut bytes = [0u8; 8];
     let size = (to - from) as usize;
-    match read_part(alloc, shelf, name, offset, from, to, &mut bytes[..size]) {
+    match read_short(alloc, shelf, name, offset, from, to, &mut bytes[..size]) {
         Ok(()) => Ok(bytes),
+        Err(fault) => Err(fault),
+    }
+}
+
+// Reads the bytes of a file between two places after an offset into `into`, which has place for just
+// these. Nearly always one read gives them all, and what goes on after fewer is out of the way.
+#[inline(always)]
+fn read_short<S: Shelf>(
+    alloc: Global,
+    shelf: &mut S,
+    name: &str,
+    offset: u64,
+    from: u64,
+    to: u64,
+    into: &mut [u8],
+) -> Result<(), ColumnFault>
+    requires order { from < to }
+    requires size { length into.old ≡ to - from }
+    ensures part { OnOk result
+        (IsPart (S.held shelf.old) name.now (offset + from) (offset + to) into.new) }
+    ensures only_reads { OnlyReads (IsErrOf result ColumnFault.ReadFault)
+        (seen S.Shelf shelf.old) (seen S.Shelf shelf.new) }
+    ensures log { OnOk result (
+        LogsOn name.now (offset + from) (offset + to) (S.log shelf.old) (S.log shelf.new)) }
+    ensures log_of_fault { OnErr result
+        (LogsUpTo name.now (offset + from) (offset + to) (S.log shelf.old) (S.log shelf.new)) }
+    ensures short { IsErrOf result ColumnFault.BadId →
+        EndsBefore (S.held shelf.old) name.now (offset + to) }
+{
+    if to > u64::MAX - offset {
+        return Err(past_all(alloc, shelf, name));
+    }
+    let n = match read_once(alloc, shelf, name, offset + from, into) {
+        Ok(n) => n,
+        Err(fault) => return Err(of_shelf(fault)),
+    };
+    if n == into.len() {
+        return Ok(());
+    }
+    if n == 0 {
+        return Err(ColumnFault::BadId);
+    }
+    match read_rest(
+        alloc,
+        shelf,
+        name,
+        offset,
+        from + n as u64,
+        to,
+        &mut into[n..],
+    ) {
+        Ok(()) => Ok(()),
+        Err(fault) => Err(fault),
+    }
+}
+
+// Reads bytes of a file after some that were read.
+#[cold]
+#[inline(never)]
+fn read_rest<S: Shelf>(
+    alloc: Global,
+    shelf: &mut S,
+    name: &str,
+    offset: u64,
+    from: u64,
+    to: u64,
+    into: &mut [u8],
+) -> Result<(), ColumnFault>
+    requires order { from < to }
+    requires size { length into.old ≡ to - from }
+    ensures part { OnOk result
+        (IsPart (S.held shelf.old) name.now (offset + from) (offset + to) into.new) }
+    ensures only_reads { OnlyReads (IsErrOf result ColumnFault.ReadFault)
+        (seen S.Shelf shelf.old) (seen S.Shelf shelf.new) }
+    ensures log { OnOk result (
+        LogsOn name.now (offset + from) (offset + to) (S.log shelf.old) (S.log shelf.new)) }
+    ensures log_of_fault { OnErr result
+        (LogsUpTo name.now (offset + from) (offset + to) (S.log shelf.old) (S.log shelf.new)) }
+    ensures short { IsErrOf result ColumnFault.BadId →
+        EndsBefore (S.held shelf.old) name.now (offset + to) }
+{
+    read_part(alloc, shelf, name, offset, from, to, into)
+}
+
+// Reads bytes of a file from an offset on once, and says how many they are.
+#[inline(always)]
+fn read_once<S: Shelf>(
+    alloc: Global,
+    shelf: &mut S,
+    name: &str,
+    offset: u64,
+    into: &mut [u8],
+) -> Result<usize, ShelfFault>
+    ensures front { IfOk result (λ n. Fills (S.held shelf.old) name.now offset n into.new) }
+    ensures bound { IfOk result (λ n. n ≤ length into.old) }
+    ensures only_reads { OnlyReads (IsErrOf result ShelfFault.Failed)
+        (seen S.Shelf shelf.old) (seen S.Shelf shelf.new) }
+    ensures some { IfOk result (λ n. 0 < n →
+        LogsOn name.now offset (offset + n) (S.log shelf.old) (S.log shelf.new)) }
+    ensures log { LogsUpTo name.now offset (offset + length into.old)
+        (S.log shelf.old) (S.log shelf.new) }
+    ensures missing { IsErrOf result ShelfFault.Missing → Lacks (S.held shelf.old) name.now }
+{
+    match shelf.read_at(alloc, name, offset, into) {
+        Ok(n) => Ok(n),
         Err(fault) => Err(fault),
     }
 }
