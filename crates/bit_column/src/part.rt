@@ -47,8 +47,8 @@ pub fn read_part<S: Shelf>(
     Ok(())
 }
 
-/// The bytes of a file between two places after an offset, of which there are at most eight, before
-/// zeros.
+/// Reads the bytes of a file between two places after an offset, of which there are at most eight, to
+/// the front of `bytes`.
 #[inline(always)]
 pub fn read_few<S: Shelf>(
     alloc: Global,
@@ -57,24 +57,24 @@ pub fn read_few<S: Shelf>(
     offset: u64,
     from: u64,
     to: u64,
-) -> Result<[u8; 8], ColumnFault>
+    bytes: &mut [u8; 8],
+) -> Result<(), ColumnFault>
     requires order { from < to }
     requires few { to ≤ from + 8 }
-    ensures part { IfOk result (λ bytes. IsPart (S.held shelf.old) name.now (offset + from)
-        (offset + to) (take (to - from) bytes)) }
+    ensures part { OnOk result (IsPart (S.held shelf.old) name.now (offset + from)
+        (offset + to) (take (to - from) bytes.new)) }
     ensures only_reads { OnlyReads (IsErrOf result ColumnFault.ReadFault)
         (seen S.Shelf shelf.old) (seen S.Shelf shelf.new) }
-    ensures log { IfOk result (λ _.
+    ensures log { OnOk result (
         LogsOn name.now (offset + from) (offset + to) (S.log shelf.old) (S.log shelf.new)) }
     ensures log_of_fault { OnErr result
         (LogsUpTo name.now (offset + from) (offset + to) (S.log shelf.old) (S.log shelf.new)) }
     ensures short { IsErrOf result ColumnFault.BadId →
         EndsBefore (S.held shelf.old) name.now (offset + to) }
 {
-    let mut bytes = [0u8; 8];
     let size = (to - from) as usize;
     match read_short(alloc, shelf, name, offset, from, to, &mut bytes[..size]) {
-        Ok(()) => Ok(bytes),
+        Ok(()) => Ok(()),
         Err(fault) => Err(fault),
     }
 }

@@ -139,8 +139,9 @@ fn append_one<S: Shelf>(
         return Err(ColumnFault::BadId);
     }
     let name = place.file.as_str();
-    match read_few(alloc, shelf, name, place.offset, bit / 8, end) {
-        Ok(bytes) => {
+    let mut bytes = [0u8; 8];
+    match read_few(alloc, shelf, name, place.offset, bit / 8, end, &mut bytes) {
+        Ok(()) => {
             let size = (end - bit / 8) as usize;
             push_id(id_of(&bytes, size, (bit % 8) as usize, width), count, ids)
         }
