@@ -1,3 +1,4 @@
+pub mod BlockSteps
 pub mod FoldSteps
 pub mod RowLemmas
 pub mod WordSteps

@@ -1,6 +1,7 @@
 //! The rows of a segment as documents of a star-tree: one document a row, and documents merged.
 #![tactic(auto)]
 
+mod blocks;
 mod compare;
 mod fold;
 mod merging;

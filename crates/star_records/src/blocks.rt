@@ -1,0 +1,98 @@
+//! What columns have in the rows of some words, gathered column by column.
+
+ghost use Rattle.std.specs.Prelude.{◌≡◌, ◌≢◌, ◌-◌, ◌<◌, ◌≤◌, length, map, take, drop, get_or, All};
+ghost use Rattle.std.specs.Prelude.{slice_index, true, false, IfOk};
+ghost use Rattle.star_records.specs.Folding.{picked, AreHeads};
+ghost use Rattle.star_records.specs.Words.{key_in, row_in};
+
+use crate::NoMemory;
+use crate::words::MOST_ROWS;
+use outside::Seq;
+use std::alloc::Global;
+
+/// The words that have not the key of the one before them, and for each word how many of these came
+/// before it.
+#[derive(Drop)]
+pub(crate) struct Heads {
+    pub words: Vec<u64>,
+    pub slots: Vec<usize>,
+}
+
+/// What columns have in the rows of some words.
+pub(crate) fn columns_at<T: Copy>(
+    alloc: Global,
+    columns: &Seq<Seq<T>>,
+    words: &[u64],
+) -> Result<Seq<Seq<T>>, NoMemory>
+    requires { All (λ column. All (λ word. row_in word < length column) words.now) columns.now }
+    ensures { IfOk result (λ block. (d : T) → block ≡ picked d words.now columns.now) }
+{
+    let mut block = Vec::with_capacity(alloc, columns.len())?;
+    for i in 0..columns.len() {
+        let items = column_at(alloc, columns.at(i).as_slice(), words)?;
+        block.push(Seq::from_vec(items))?;
+    }
+    Ok(Seq::from_vec(block))
+}
+
+/// Those words of a range that have not the key of the one before them.
+pub(crate) fn heads_of(
+    alloc: Global,
+    words: &[u64],
+    from: usize,
+    to: usize,
+) -> Result<Heads, NoMemory>
+    requires range { from ≤ to }
+    requires within { to ≤ length words.now }
+    ensures { IfOk result
+        (λ heads. AreHeads words.now from to heads.words.items heads.slots.items) }
+{
+    let mut heads = Vec::new(alloc);
+    let mut slots = Vec::with_capacity(alloc, to - from)?;
+    for at in from..to {
+        slots.push(heads.as_slice().len())?;
+        if !repeats(words, at) {
+            heads.push(words[at])?;
+        }
+    }
+    Ok(Heads {
+        words: heads,
+        slots,
+    })
+}
+
+/// Whether a word has the key of the one before it.
+pub(crate) fn repeats(words: &[u64], at: usize) -> bool
+    requires { at < length words.now }
+    ensures same { result ≡ true → (0 < at)
+        × (key_in (slice_index words.now (at - 1)) ≡ key_in (slice_index words.now at)) }
+    ensures other { result ≡ false → 0 < at
+        → key_in (slice_index words.now (at - 1)) ≢ key_in (slice_index words.now at) }
+{
+    if at == 0 {
+        return false;
+    }
+    words[at - 1] / MOST_ROWS == words[at] / MOST_ROWS
+}
+
+/// A range of words.
+pub(crate) fn part(words: &[u64], from: usize, to: usize) -> &[u64]
+    requires range { from ≤ to }
+    requires within { to ≤ length words.now }
+    ensures { result.now ≡ take (to - from) (drop from words.now) }
+{
+    &words[from..to]
+}
+
+// What a column has in the rows of some words.
+fn column_at<T: Copy>(alloc: Global, column: &[T], words: &[u64]) -> Result<Vec<T>, NoMemory>
+    requires { All (λ word. row_in word < length column.now) words.now }
+    ensures { IfOk result
+        (λ v. (d : T) → v.items ≡ map (λ word. get_or column.now (row_in word) d) words.now) }
+{
+    let mut items = Vec::with_capacity(alloc, words.len())?;
+    for word in words {
+        items.push(column[(*word % MOST_ROWS) as usize])?;
+    }
+    Ok(items)
+}
