@@ -6,6 +6,7 @@ mod compare;
 mod fold;
 mod merging;
 mod projection;
+mod sorting;
 mod words;
 
 pub use compare::compare_dims;
