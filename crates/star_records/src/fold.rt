@@ -18,8 +18,8 @@ use agg_laws::{StarTable, TreeShape};
 use outside::Seq;
 use std::alloc::Global;
 
-// So many rows are gathered at once.
-const BLOCK: usize = 1024;
+// So many rows are gathered at once. Of fewer, each would be on a page of its own in its column.
+const BLOCK: usize = 65536;
 
 /// The documents of the rows of some words, merged. A row that has the ids of the one before it is
 /// merged at once. The rows are gathered a block at a time, column by column.
