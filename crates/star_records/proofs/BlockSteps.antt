@@ -1,7 +1,7 @@
 -- Rows of a block, gathered column by column.
 use Rattle.std.proofs.Common.{◌≡◌, ◌≢◌, ℕ, zero, suc, ◌+◌, ◌-◌, ◌<◌, ◌≤◌, List, [], ◌∷◌, ◌++◌, map, length}
 use Rattle.std.proofs.Common.{take, drop, get_or, All, refl, sym, ap, subst, ◌∙◌, ◌⊎◌, inl, inr, arith}
-use Rattle.std.proofs.Common.{length-append}
+use Rattle.std.proofs.Common.{length-append, replicate, ℤ, pos, Bool, true, false}
 use Rattle.std.proofs.lemmas.Bool.{cases_lt}
 use Rattle.std.proofs.lemmas.List.{length-map, get_or-map, get_or_at, get_or-take, get_or-drop}
 use Rattle.std.proofs.lemmas.List.{get_or_append_left, length-take-le, length-drop, take_more, map-append}
@@ -10,7 +10,7 @@ use Rattle.std.proofs.lemmas.List.Elements.{All-append, All-cons, All-nil}
 use Rattle.std.specs.List.Sorted.{IsPermutation}
 use Rattle.agg_laws.specs.Region.{numbers}
 use Rattle.star_records.specs.Columns.{row_at}
-use Rattle.star_records.specs.Folding.{picked, AreHeads}
+use Rattle.star_records.specs.Folding.{picked, AllZero, AreHeads}
 use Rattle.star_records.specs.Words.{key_in, row_in}
 use Rattle.star_records.proofs.FoldSteps.{row_below}
 use Rattle.star_records.proofs.WordSteps.{other_default}
@@ -223,3 +223,33 @@ module _ {X : Type 0} (d : X) (words : List ℕ) (from to : ℕ) (le : from ≤ 
     pub head_long : All (λ (c : List X). place < length c) block
     head_long = subst (All (λ (c : List X). place < length c)) (sym is)
         (long_picked d place heads columns (omega (arith, placed.0, place_is)))
+
+-- what a column of zeros has
+pub zeros_picked : (column : List ℤ) (words : List ℕ) (d : ℤ) → AllZero column
+    → All (λ word. row_in word < length column) words
+    → replicate (length words) (pos 0) ≡ map (λ word. get_or column (row_in word) d) words
+zeros_picked column [] d none below = refl
+zeros_picked column (w ∷ ws) d none below =
+    let lt : row_in w < length column = below 0 0 (omega arith) in
+    let one : pos 0 ≡ get_or column (row_in w) d =
+    sym (none (row_in w) lt) ∙ get_or_default column (row_in w) (pos 0) d lt in
+    λ i. one i ∷ zeros_picked column ws d none (λ k e l. below (suc k) e (omega (arith, l))) i
+
+-- one more mark
+pub zero_more : (marks marks' : List Bool) (columns : List (List ℤ)) (i : ℕ) (mark : Bool)
+    (column : List ℤ) → i < length columns → column ≡ get_or columns i [] → length marks ≡ i
+    → ((k : ℕ) → k < i → get_or marks k false ≡ true → AllZero (get_or columns k []))
+    → (mark ≡ true → AllZero column) → marks' ≡ marks ++ (mark ∷ [])
+    → (k : ℕ) → k < i + 1 → get_or marks' k false ≡ true → AllZero (get_or columns k [])
+zero_more marks marks' columns i mark column lt is long h own more k l e =
+    decide (cases_lt k i)
+  where
+    decide : k < i ⊎ (i ≤ k) → AllZero (get_or columns k [])
+    decide (inl a) = h k a (sym (get_or_append_left marks (mark ∷ []) false k (omega (arith, a, long)))
+        ∙ ap (λ (xs : List Bool). get_or xs k false) (sym more) ∙ e)
+    decide (inr a) =
+        let n : k ≡ i = omega (arith, a, l) in
+        let marked : mark ≡ true = sym (get_or_at marks mark [] false i long)
+        ∙ ap (λ j. get_or (marks ++ (mark ∷ [])) j false) (sym n)
+        ∙ ap (λ (xs : List Bool). get_or xs k false) (sym more) ∙ e in
+        subst AllZero (is ∙ ap (λ j. get_or columns j []) (sym n)) (own marked)

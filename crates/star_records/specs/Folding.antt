@@ -1,6 +1,6 @@
 -- Rows in the order of their ids, merged one by one, a block of them at a time.
 use Rattle.std.specs.Prelude.{◌≡◌, ◌≢◌, ℕ, ℤ, ◌+◌, ◌-◌, ◌<◌, ◌≤◌, List, [], ◌∷◌, ◌++◌, map, take}
-use Rattle.std.specs.Prelude.{length, get_or, All}
+use Rattle.std.specs.Prelude.{length, get_or, pos, Bool, true, false, All}
 use Rattle.agg_laws.specs.declared.aggregate_kind.AggKind.{AggKind}
 use Rattle.agg_laws.specs.declared.states.AggState.{AggState}
 use Rattle.agg_laws.specs.Docs.{Doc, Docs}
@@ -41,3 +41,12 @@ pub record AreHeads (words : List ℕ) (from to : ℕ) (heads slots : List ℕ) 
       → (0 < from + k → key_in (get_or words (from + k - 1) 0) ≢ key_in (get_or words (from + k) 0))
       → (get_or slots k 0 < length heads)
       × (get_or heads (get_or slots k 0) 0 ≡ get_or words (from + k) 0)
+
+-- numbers are zeros alone
+abbrev pub AllZero : List ℤ → Type 0
+AllZero numbers = (i : ℕ) → i < length numbers → get_or numbers i (pos 0) ≡ pos 0
+
+-- so many columns are known, and those that are marked have zeros alone
+pub record AreZero (marks : List Bool) (columns : List (List ℤ)) : Type 0 where
+  pub long : length marks ≡ length columns
+  pub zero : (i : ℕ) → i < length columns → get_or marks i false ≡ true → AllZero (get_or columns i [])

@@ -8,11 +8,11 @@ ghost use Rattle.agg_laws.specs.Merged.{weights};
 ghost use Rattle.agg_laws.specs.Docs.{projected, Doc};
 ghost use Rattle.agg_laws.specs.Tree.{merged_docs};
 ghost use Rattle.star_records.specs.Columns.{row_count, rows_of};
-ghost use Rattle.star_records.specs.Folding.{HasMerged};
+ghost use Rattle.star_records.specs.Folding.{AreZero, HasMerged};
 ghost use Rattle.star_records.specs.Words.{ids_at, key_in, states_at, InOrder};
 
 use crate::NoMemory;
-use crate::blocks::{columns_at, heads_of, part, repeats};
+use crate::blocks::{columns_at, heads_of, numbers_at, part, repeats, zero_columns};
 use crate::projection::read_row;
 use agg_laws::{StarTable, TreeShape};
 use outside::Seq;
@@ -44,10 +44,20 @@ pub(crate) fn merge_in_order(
     ensures light { IfOk result (λ table. weights row_weight table.docs ≤ row_count dims.now) }
 {
     let mut table = StarTable::new(alloc, shape)?;
+    let zeros = zero_columns(alloc, metrics)?;
     let mut from = 0;
     while from < words.len() {
         let to = block_end(from, words.len());
-        merge_block(alloc, &mut table, dims, metrics, words, from, to)?;
+        merge_block(
+            alloc,
+            &mut table,
+            dims,
+            metrics,
+            zeros.as_slice(),
+            words,
+            from,
+            to,
+        )?;
         from = to;
     }
     Ok(table)
@@ -71,6 +81,7 @@ fn merge_block(
     table: &mut StarTable,
     dims: &Seq<Seq<u32>>,
     metrics: &Seq<Seq<i64>>,
+    zeros: &[bool],
     words: &[u64],
     from: usize,
     to: usize,
@@ -79,6 +90,7 @@ fn merge_block(
     requires metrics { length metrics.now ≡ length table.old.kinds }
     requires ids_long { All (λ c. length c ≡ row_count dims.now) dims.now }
     requires values_long { All (λ c. length c ≡ row_count dims.now) metrics.now }
+    requires zeros { AreZero zeros.now metrics.now }
     requires few { row_count dims.now ≤ most_stored }
     requires order { InOrder (row_count dims.now) dims.now words.now }
     requires range { from ≤ to }
@@ -88,7 +100,7 @@ fn merge_block(
         (HasMerged table.old.kinds dims.now metrics.now words.now to table.new) }
     ensures dims { OnOk result (table.new.dims ≡ table.old.dims) }
 {
-    let numbers = columns_at(alloc, metrics, part(words, from, to))?;
+    let numbers = numbers_at(alloc, metrics, zeros, part(words, from, to))?;
     let heads = heads_of(alloc, words, from, to)?;
     let ids = columns_at(alloc, dims, heads.words.as_slice())?;
     let slots = heads.slots.as_slice();

@@ -10,8 +10,8 @@ use Rattle.star_records.proofs.fold.merge_block.Goals as goal
 use Rattle.star_records.proofs.fold.merge_block.Goals.{then-repeats+in_ok-merge_row}
 use Rattle.star_records.proofs.fold.merge_block.Goals.{else-repeats+in_ok-append_row}
 
-pub columns_at-requires : goal.columns_at-requires
-columns_at-requires c =
+pub numbers_at-requires-clause-below : goal.numbers_at-requires-clause-below
+numbers_at-requires-clause-below c =
     let n = row_count c.args.dims.now in
     let words = c.args.words.now in
     blocks.in_columns n c.part.result.now c.args.metrics.now c.requires.values_long
@@ -19,8 +19,8 @@ columns_at-requires c =
     (blocks.part_below words c.args.from c.args.to c.requires.range c.requires.within n
     (blocks.all_below n words c.requires.order.all)))
 
-pub columns_at-requires-2 : goal.columns_at-requires-2
-columns_at-requires-2 c =
+pub columns_at-requires : goal.columns_at-requires
+columns_at-requires c =
     let n = row_count c.args.dims.now in
     let words = c.args.words.now in
     blocks.in_columns n c.as_slice.result.now c.args.dims.now c.requires.ids_long

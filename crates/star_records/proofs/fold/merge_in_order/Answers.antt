@@ -1,11 +1,11 @@
-use Rattle.std.proofs.Common.{◌≡◌, ◌∙◌, List, map, take, length, sym, ap, subst, arith}
+use Rattle.std.proofs.Common.{◌≡◌, Bool, ◌∙◌, List, map, take, length, sym, ap, subst, arith}
 use Rattle.std.proofs.Math.Seq.{take-length}
 use Rattle.std.proofs.lemmas.List.{length-map}
 use Rattle.agg_laws.specs.declared.aggregate_kind.AggKind.{AggKind}
 use Rattle.agg_laws.specs.Rows.{merged_rows}
 use Rattle.agg_laws.specs.Tree.{merged_docs}
 use Rattle.star_records.specs.Columns.{row_count}
-use Rattle.star_records.specs.Folding.{HasMerged}
+use Rattle.star_records.specs.Folding.{AreZero, HasMerged}
 use Rattle.star_records.specs.Words.{row_in}
 use Rattle.star_records.proofs.FoldSteps as steps
 use Rattle.star_records.proofs.fold.merge_in_order.Goals as goal
@@ -15,6 +15,11 @@ merge_block-requires-clause-begun c =
     let merged = c.loop-from.invariant.merged in
     subst (λ (ks : List AggKind). HasMerged ks c.args.dims.now c.args.metrics.now c.args.words.now
     c.loop-from.from c.loop-from.table) (sym merged.kinds) merged
+
+pub merge_block-requires-clause-zeros : goal.merge_block-requires-clause-zeros
+merge_block-requires-clause-zeros c =
+    subst (λ (l : List Bool). AreZero l c.args.metrics.now) (sym c.as_slice.ensures.value)
+    c.in_ok-zeros.ensures
 
 pub loop-from-preserved : goal.loop-from-preserved
 loop-from-preserved c =
