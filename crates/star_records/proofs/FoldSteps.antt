@@ -27,15 +27,10 @@ use Rattle.agg_laws.proofs.MergeSteps.{none_above, put_at_end}
 use Rattle.agg_laws.proofs.PlaceMerge.{put_at}
 use Rattle.agg_laws.proofs.StarSteps.{length_numbers}
 use Rattle.star_records.specs.Columns.{row_at, rows_of}
+use Rattle.star_records.specs.Folding.{Ends}
 use Rattle.star_records.specs.Words.{ids_at, row_in, key_in, states_at, InOrder}
 use Rattle.star_records.proofs.RowLemmas.{projected_more}
 use Rattle.star_records.proofs.WordSteps.{more_numbers}
-
--- the last document has these ids
-pub record Ends (docs : List Doc) (ids : List ℕ) : Type 0 where
-  pub front : List Doc
-  pub states : List AggState
-  pub is : docs ≡ front ++ ((ids, states) ∷ [])
 
 -- some documents have a last one
 pub parts : (docs : List Doc) → 0 < length docs

@@ -1,3 +1,5 @@
+pub mod BlockSteps
 pub mod FoldSteps
 pub mod RowLemmas
+pub mod SortSteps
 pub mod WordSteps

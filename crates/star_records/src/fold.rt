@@ -1,23 +1,132 @@
 //! Rows that are in the order of their ids, merged one by one.
 
 ghost use Rattle.std.specs.Prelude.{◌≡◌, ◌≢◌, ◌+◌, ◌-◌, ◌≤◌, ◌<◌, ◌++◌, ◌∷◌, [], List, length};
-ghost use Rattle.std.specs.Prelude.{slice_index, true, false, All, IfOk, OnOk};
+ghost use Rattle.std.specs.Prelude.{slice_index, slice_index_or, true, false, All, IfOk, OnOk};
 ghost use Rattle.agg_laws.specs.Numbers.{most_stored, AreWhole};
 ghost use Rattle.agg_laws.specs.Rows.{merged_rows, row_weight};
 ghost use Rattle.agg_laws.specs.Merged.{weights};
 ghost use Rattle.agg_laws.specs.Docs.{projected, Doc};
 ghost use Rattle.agg_laws.specs.Tree.{merged_docs};
 ghost use Rattle.star_records.specs.Columns.{row_count, rows_of};
+ghost use Rattle.star_records.specs.Folding.{AreZero, HasMerged};
 ghost use Rattle.star_records.specs.Words.{ids_at, key_in, states_at, InOrder};
 
 use crate::NoMemory;
+use crate::blocks::{columns_at, heads_of, numbers_at, part, repeats, zero_columns};
 use crate::projection::read_row;
 use agg_laws::{StarTable, TreeShape};
 use outside::Seq;
 use std::alloc::Global;
 
-/// Each item of a list of 64-bit numbers is one. It is known of an item that is read, so they are
-/// read; it costs nothing.
+// So many rows are gathered at once. Of fewer, each would be on a page of its own in its column.
+const BLOCK: usize = 65536;
+
+/// The documents of the rows of some words, merged. A row that has the ids of the one before it is
+/// merged at once. The rows are gathered a block at a time, column by column.
+pub(crate) fn merge_in_order(
+    alloc: Global,
+    shape: &TreeShape,
+    dims: &Seq<Seq<u32>>,
+    metrics: &Seq<Seq<i64>>,
+    words: &[u64],
+) -> Result<StarTable, NoMemory>
+    requires kinds { length shape.now.kinds ≤ 16 }
+    requires dims { length dims.now ≡ shape.now.dims }
+    requires metrics { length metrics.now ≡ length shape.now.kinds }
+    requires ids_long { All (λ c. length c ≡ row_count dims.now) dims.now }
+    requires values_long { All (λ c. length c ≡ row_count dims.now) metrics.now }
+    requires few { row_count dims.now ≤ most_stored }
+    requires order { InOrder (row_count dims.now) dims.now words.now }
+    ensures dims { IfOk result (λ table. table.dims ≡ shape.now.dims) }
+    ensures kinds { IfOk result (λ table. table.kinds ≡ shape.now.kinds) }
+    ensures docs { IfOk result (λ table. table.docs ≡ merged_docs merged_rows (projected
+        shape.now.kinds (rows_of (row_count dims.now) dims.now metrics.now))) }
+    ensures light { IfOk result (λ table. weights row_weight table.docs ≤ row_count dims.now) }
+{
+    let mut table = StarTable::new(alloc, shape)?;
+    let zeros = zero_columns(alloc, metrics)?;
+    let mut from = 0;
+    while from < words.len() {
+        let to = block_end(from, words.len());
+        merge_block(
+            alloc,
+            &mut table,
+            dims,
+            metrics,
+            zeros.as_slice(),
+            words,
+            from,
+            to,
+        )?;
+        from = to;
+    }
+    Ok(table)
+}
+
+// Where a block ends that begins here.
+fn block_end(from: usize, end: usize) -> usize
+    requires { from < end }
+    ensures more { from < result }
+    ensures within { result ≤ end }
+{
+    if end - from <= BLOCK {
+        return end;
+    }
+    from + BLOCK
+}
+
+// Merges the rows of a block of words.
+fn merge_block(
+    alloc: Global,
+    table: &mut StarTable,
+    dims: &Seq<Seq<u32>>,
+    metrics: &Seq<Seq<i64>>,
+    zeros: &[bool],
+    words: &[u64],
+    from: usize,
+    to: usize,
+) -> Result<(), NoMemory>
+    requires dims { length dims.now ≡ table.old.dims }
+    requires metrics { length metrics.now ≡ length table.old.kinds }
+    requires ids_long { All (λ c. length c ≡ row_count dims.now) dims.now }
+    requires values_long { All (λ c. length c ≡ row_count dims.now) metrics.now }
+    requires zeros { AreZero zeros.now metrics.now }
+    requires few { row_count dims.now ≤ most_stored }
+    requires order { InOrder (row_count dims.now) dims.now words.now }
+    requires range { from ≤ to }
+    requires within { to ≤ length words.now }
+    requires begun { HasMerged table.old.kinds dims.now metrics.now words.now from table.old }
+    ensures merged { OnOk result
+        (HasMerged table.old.kinds dims.now metrics.now words.now to table.new) }
+    ensures dims { OnOk result (table.new.dims ≡ table.old.dims) }
+{
+    let numbers = numbers_at(alloc, metrics, zeros, part(words, from, to))?;
+    let heads = heads_of(alloc, words, from, to)?;
+    let ids = columns_at(alloc, dims, heads.words.as_slice())?;
+    let slots = heads.slots.as_slice();
+    let mut id_row = Vec::with_capacity(alloc, dims.len())?;
+    let mut values = Vec::with_capacity(alloc, metrics.len())?;
+    for at in from..to {
+        if repeats(words, at) {
+            merge_row(table, &numbers, at - from, &mut values)?;
+        } else {
+            let place = slots[at - from];
+            append_row(
+                table,
+                &ids,
+                place,
+                &numbers,
+                at - from,
+                &mut id_row,
+                &mut values,
+            )?;
+        }
+    }
+    Ok(())
+}
+
+// Each item of a list of 64-bit numbers is one. It is known of an item that is read, so they are
+// read; it costs nothing.
 #[inline(always)]
 fn are_whole(values: &[i64])
     ensures { AreWhole values.now }
@@ -27,7 +136,7 @@ fn are_whole(values: &[i64])
     }
 }
 
-/// Merges a row into the last document.
+// Merges a row of numbers into the last document.
 fn merge_row(
     table: &mut StarTable,
     metrics: &Seq<Seq<i64>>,
@@ -51,10 +160,11 @@ fn merge_row(
     Ok(())
 }
 
-/// Adds a row as a document of its own.
+// Adds a document of its own: the ids in one place and the numbers in another.
 fn append_row(
     table: &mut StarTable,
     dims: &Seq<Seq<u32>>,
+    place: usize,
     metrics: &Seq<Seq<i64>>,
     row: usize,
     ids: &mut Vec<u32>,
@@ -62,67 +172,17 @@ fn append_row(
 ) -> Result<(), NoMemory>
     requires dims { length dims.now ≡ table.old.dims }
     requires metrics { length metrics.now ≡ length table.old.kinds }
-    requires ids_long { All (λ c. row < length c) dims.now }
+    requires ids_long { All (λ c. place < length c) dims.now }
     requires values_long { All (λ c. row < length c) metrics.now }
     ensures appended { OnOk result (table.new.docs ≡ table.old.docs
-        ++ (ids_at dims.now row, states_at table.old.kinds metrics.now row) ∷ []) }
+        ++ (ids_at dims.now place, states_at table.old.kinds metrics.now row) ∷ []) }
     ensures weighs { OnOk result (row_weight (states_at table.old.kinds metrics.now row) ≤ 1) }
     ensures dims { OnOk result (table.new.dims ≡ table.old.dims) }
     ensures kinds { OnOk result (table.new.kinds ≡ table.old.kinds) }
 {
-    read_row(dims, row, ids)?;
+    read_row(dims, place, ids)?;
     read_row(metrics, row, values)?;
     table.reserve(1)?;
     table.append_values(ids.as_slice(), values.as_slice());
     Ok(())
-}
-
-/// Whether a word has the key of the one before it.
-fn repeats(words: &[u64], at: usize) -> bool
-    requires { at < length words.now }
-    ensures same { result ≡ true → (0 < at)
-        × (key_in (slice_index words.now (at - 1)) ≡ key_in (slice_index words.now at)) }
-    ensures other { result ≡ false → 0 < at
-        → key_in (slice_index words.now (at - 1)) ≢ key_in (slice_index words.now at) }
-{
-    if at == 0 {
-        return false;
-    }
-    words[at - 1] / 1048576 == words[at] / 1048576
-}
-
-/// The documents of the rows of some words, merged. A row that has the ids of the one before it is
-/// merged at once.
-pub(crate) fn merge_in_order(
-    alloc: Global,
-    shape: &TreeShape,
-    dims: &Seq<Seq<u32>>,
-    metrics: &Seq<Seq<i64>>,
-    words: &[u64],
-) -> Result<StarTable, NoMemory>
-    requires kinds { length shape.now.kinds ≤ 16 }
-    requires dims { length dims.now ≡ shape.now.dims }
-    requires metrics { length metrics.now ≡ length shape.now.kinds }
-    requires ids_long { All (λ c. length c ≡ row_count dims.now) dims.now }
-    requires values_long { All (λ c. length c ≡ row_count dims.now) metrics.now }
-    requires few { row_count dims.now ≤ most_stored }
-    requires order { InOrder (row_count dims.now) dims.now words.now }
-    ensures dims { IfOk result (λ table. table.dims ≡ shape.now.dims) }
-    ensures kinds { IfOk result (λ table. table.kinds ≡ shape.now.kinds) }
-    ensures docs { IfOk result (λ table. table.docs ≡ merged_docs merged_rows (projected
-        shape.now.kinds (rows_of (row_count dims.now) dims.now metrics.now))) }
-    ensures light { IfOk result (λ table. weights row_weight table.docs ≤ row_count dims.now) }
-{
-    let mut table = StarTable::new(alloc, shape)?;
-    let mut ids = Vec::with_capacity(alloc, dims.len())?;
-    let mut values = Vec::with_capacity(alloc, metrics.len())?;
-    for at in 0..words.len() {
-        let row = (words[at] % 1048576) as usize;
-        if repeats(words, at) {
-            merge_row(&mut table, metrics, row, &mut values)?;
-        } else {
-            append_row(&mut table, dims, metrics, row, &mut ids, &mut values)?;
-        }
-    }
-    Ok(table)
 }

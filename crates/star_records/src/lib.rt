@@ -1,10 +1,12 @@
 //! The rows of a segment as documents of a star-tree: one document a row, and documents merged.
 #![tactic(auto)]
 
+mod blocks;
 mod compare;
 mod fold;
 mod merging;
 mod projection;
+mod sorting;
 mod words;
 
 pub use compare::compare_dims;

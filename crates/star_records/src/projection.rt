@@ -16,24 +16,6 @@ use agg_laws::{StarTable, TreeShape};
 use outside::Seq;
 use std::alloc::Global;
 
-/// What some columns have in a row, in place of what a list has.
-pub(crate) fn read_row<T: Copy>(
-    columns: &Seq<Seq<T>>,
-    row: usize,
-    out: &mut Vec<T>,
-) -> Result<(), NoMemory>
-    requires { All (λ c. row < length c) columns.now }
-    ensures items { OnOk result (map Some out.new.items ≡ map (λ c. slice_get c row) columns.now) }
-    ensures length { OnOk result (length out.new.items ≡ length columns.now) }
-{
-    out.clear();
-    for i in 0..columns.len() {
-        let column = columns.at(i).as_slice();
-        out.push(column[row])?;
-    }
-    Ok(())
-}
-
 /// One document a row: the row's ids, and the states of its values, pair by pair.
 pub fn project(
     alloc: Global,
@@ -95,4 +77,22 @@ pub fn project_merged(
         None => merge_equal(project(alloc, shape, dims, metrics)?),
         Some(words) => merge_in_order(alloc, shape, dims, metrics, words.as_slice()),
     }
+}
+
+/// What some columns have in a row, in place of what a list has.
+pub(crate) fn read_row<T: Copy>(
+    columns: &Seq<Seq<T>>,
+    row: usize,
+    out: &mut Vec<T>,
+) -> Result<(), NoMemory>
+    requires { All (λ c. row < length c) columns.now }
+    ensures items { OnOk result (map Some out.new.items ≡ map (λ c. slice_get c row) columns.now) }
+    ensures length { OnOk result (length out.new.items ≡ length columns.now) }
+{
+    out.clear();
+    for i in 0..columns.len() {
+        let column = columns.at(i).as_slice();
+        out.push(column[row])?;
+    }
+    Ok(())
 }

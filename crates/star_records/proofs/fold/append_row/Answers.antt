@@ -9,10 +9,11 @@ use Rattle.star_records.proofs.fold.append_row.Goals as goal
 pub returns-clause-appended : goal.returns-clause-appended
 returns-clause-appended c =
     let row = c.args.row in
+    let place = c.args.place in
     let room = c.in_ok-reserve.ensures.ok in
     let is = c.append_values.ensures.appended in
-    let ids : c.as_slice.result.now ≡ row_at 0 row c.args.dims.now = c.as_slice.ensures.value
-    ∙ rows.is_row 0 row c.args.dims.now c.read_row.new.out.items
+    let ids : c.as_slice.result.now ≡ row_at 0 place c.args.dims.now = c.as_slice.ensures.value
+    ∙ rows.is_row 0 place c.args.dims.now c.read_row.new.out.items
     c.in_ok-read_row.ensures.items c.requires.ids_long in
     let values : c.as_slice-2.result.now ≡ row_at (pos 0) row c.args.metrics.now =
     c.as_slice-2.ensures.value

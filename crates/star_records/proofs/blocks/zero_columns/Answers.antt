@@ -1,0 +1,27 @@
+use Rattle.std.proofs.Common.{◌≡◌, ◌∙◌, ◌+◌, ◌<◌, ◌∷◌, [], length, ap, arith, length-append}
+use Rattle.agg_laws.proofs.RegionLemmas.{any_default}
+use Rattle.star_records.proofs.BlockSteps as steps
+use Rattle.star_records.proofs.blocks.zero_columns.Goals as goal
+
+pub loop-i-preserved : goal.loop-i-preserved
+loop-i-preserved c =
+    let columns = c.args.columns.now in
+    let i = c.loop-i.i in
+    let inv = c.loop-i.invariant in
+    let lt : i < length columns = omega (arith, c.loop-i-test.true, c.len-i-end.ensures) in
+    let at = c.as_slice.ensures ∙ c.at.ensures ∙ any_default columns i c.at.result.now [] lt in
+    record {
+      long = ap length c.in_ok-push.ensures.items
+          ∙ length-append c.loop-i.zeros.items (c.is_zero.result ∷ []) ∙ ap (λ n. n + 1) inv.long;
+      zero = steps.zero_more c.loop-i.zeros.items c.push.new.self.items columns i c.is_zero.result
+          c.as_slice.result.now lt at inv.long inv.zero c.is_zero.ensures c.in_ok-push.ensures.items;
+    }
+
+pub returns : goal.returns
+returns c =
+    let end : c.loop-i.i ≡ length c.args.columns.now =
+    omega (arith, c.loop-i-test.false, c.len-i-end.ensures, c.loop-i.auto.i-end) in
+    record {
+      long = c.loop-i.invariant.long ∙ end;
+      zero = λ k lt e. c.loop-i.invariant.zero k (omega (arith, lt, end)) e;
+    }

@@ -1,0 +1,159 @@
+//! What columns have in the rows of some words, gathered column by column.
+
+ghost use Rattle.std.specs.Prelude.{◌≡◌, ◌≢◌, ◌-◌, ◌<◌, ◌≤◌, ℤ, length, map, take, drop, get_or, All};
+ghost use Rattle.std.specs.Prelude.{slice_index, true, false, IfOk};
+ghost use Rattle.star_records.specs.Folding.{picked, AllZero, AreHeads, AreZero};
+ghost use Rattle.star_records.specs.Words.{key_in, row_in};
+
+use crate::NoMemory;
+use crate::words::MOST_ROWS;
+use outside::Seq;
+use std::alloc::Global;
+
+/// The words that have not the key of the one before them, and for each word how many of these came
+/// before it.
+#[derive(Drop)]
+pub(crate) struct Heads {
+    pub words: Vec<u64>,
+    pub slots: Vec<usize>,
+}
+
+/// What columns have in the rows of some words.
+pub(crate) fn columns_at<T: Copy>(
+    alloc: Global,
+    columns: &Seq<Seq<T>>,
+    words: &[u64],
+) -> Result<Seq<Seq<T>>, NoMemory>
+    requires { All (λ column. All (λ word. row_in word < length column) words.now) columns.now }
+    ensures { IfOk result (λ block. (d : T) → block ≡ picked d words.now columns.now) }
+{
+    let mut block = Vec::with_capacity(alloc, columns.len())?;
+    for i in 0..columns.len() {
+        let items = column_at(alloc, columns.at(i).as_slice(), words)?;
+        block.push(Seq::from_vec(items))?;
+    }
+    Ok(Seq::from_vec(block))
+}
+
+/// The same for columns of numbers, where it is known of some that they have zeros alone.
+pub(crate) fn numbers_at(
+    alloc: Global,
+    columns: &Seq<Seq<i64>>,
+    zeros: &[bool],
+    words: &[u64],
+) -> Result<Seq<Seq<i64>>, NoMemory>
+    requires below { All (λ column. All (λ word. row_in word < length column) words.now) columns.now }
+    requires known { AreZero zeros.now columns.now }
+    ensures { IfOk result (λ block. (d : ℤ) → block ≡ picked d words.now columns.now) }
+{
+    let mut block = Vec::with_capacity(alloc, columns.len())?;
+    for i in 0..columns.len() {
+        let items = number_column(alloc, columns.at(i).as_slice(), zeros[i], words)?;
+        block.push(Seq::from_vec(items))?;
+    }
+    Ok(Seq::from_vec(block))
+}
+
+/// Of each column whether it has zeros alone.
+pub(crate) fn zero_columns(alloc: Global, columns: &Seq<Seq<i64>>) -> Result<Vec<bool>, NoMemory>
+    ensures { IfOk result (λ zeros. AreZero zeros.items columns.now) }
+{
+    let mut zeros = Vec::with_capacity(alloc, columns.len())?;
+    for i in 0..columns.len() {
+        zeros.push(is_zero(columns.at(i).as_slice()))?;
+    }
+    Ok(zeros)
+}
+
+/// Those words of a range that have not the key of the one before them.
+pub(crate) fn heads_of(
+    alloc: Global,
+    words: &[u64],
+    from: usize,
+    to: usize,
+) -> Result<Heads, NoMemory>
+    requires range { from ≤ to }
+    requires within { to ≤ length words.now }
+    ensures { IfOk result
+        (λ heads. AreHeads words.now from to heads.words.items heads.slots.items) }
+{
+    let mut heads = Vec::new(alloc);
+    let mut slots = Vec::with_capacity(alloc, to - from)?;
+    for at in from..to {
+        slots.push(heads.as_slice().len())?;
+        if !repeats(words, at) {
+            heads.push(words[at])?;
+        }
+    }
+    Ok(Heads {
+        words: heads,
+        slots,
+    })
+}
+
+/// Whether a word has the key of the one before it.
+pub(crate) fn repeats(words: &[u64], at: usize) -> bool
+    requires { at < length words.now }
+    ensures same { result ≡ true → (0 < at)
+        × (key_in (slice_index words.now (at - 1)) ≡ key_in (slice_index words.now at)) }
+    ensures other { result ≡ false → 0 < at
+        → key_in (slice_index words.now (at - 1)) ≢ key_in (slice_index words.now at) }
+{
+    if at == 0 {
+        return false;
+    }
+    words[at - 1] / MOST_ROWS == words[at] / MOST_ROWS
+}
+
+/// A range of words.
+pub(crate) fn part(words: &[u64], from: usize, to: usize) -> &[u64]
+    requires range { from ≤ to }
+    requires within { to ≤ length words.now }
+    ensures { result.now ≡ take (to - from) (drop from words.now) }
+{
+    &words[from..to]
+}
+
+// What a column has in the rows of some words.
+fn column_at<T: Copy>(alloc: Global, column: &[T], words: &[u64]) -> Result<Vec<T>, NoMemory>
+    requires { All (λ word. row_in word < length column.now) words.now }
+    ensures { IfOk result
+        (λ v. (d : T) → v.items ≡ map (λ word. get_or column.now (row_in word) d) words.now) }
+{
+    let mut items = Vec::with_capacity(alloc, words.len())?;
+    for word in words {
+        items.push(column[(*word % MOST_ROWS) as usize])?;
+    }
+    Ok(items)
+}
+
+// The same of numbers, where it may be known that all are zeros.
+fn number_column(
+    alloc: Global,
+    column: &[i64],
+    is_zero: bool,
+    words: &[u64],
+) -> Result<Vec<i64>, NoMemory>
+    requires below { All (λ word. row_in word < length column.now) words.now }
+    requires zero { is_zero ≡ true → AllZero column.now }
+    ensures { IfOk result
+        (λ v. (d : ℤ) → v.items ≡ map (λ word. get_or column.now (row_in word) d) words.now) }
+{
+    if is_zero {
+        let zeros = vec![in alloc; 0i64; words.len()]?;
+        return Ok(zeros);
+    }
+    column_at(alloc, column, words)
+}
+
+// Whether there are zeros alone.
+fn is_zero(numbers: &[i64]) -> bool
+    ensures { result ≡ true → AllZero numbers.now }
+{
+    for i in 0..numbers.len() {
+        if numbers[i] != 0 {
+            return false;
+        }
+    }
+    true
+}
