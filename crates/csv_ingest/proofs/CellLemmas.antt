@@ -1,5 +1,5 @@
 -- The number in a field.
-use Rattle.std.proofs.Common.{◌≡◌, ◌∙◌, ◌<◌, ℕ, zero, suc, ℤ, pos, List, [], ◌∷◌, get_or, Bool, true, false, Result, Ok, Err, Option, Some, None, option_map, ◌==◌, IfSome, if◌then◌else◌, refl, sym, ap, subst, arith}
+use Rattle.std.proofs.Common.{◌≡◌, ◌∙◌, ◌<◌, ℕ, zero, suc, ℤ, pos, List, [], ◌∷◌, get_or, Bool, true, false, Result, Ok, Err, Option, Some, None, option_map, ◌==◌, nat_le, length, IfSome, if◌then◌else◌, refl, sym, ap, subst, arith}
 use Rattle.std.specs.List.{list_all}
 use Rattle.std.specs.Str.{IsAscii, is_utf8}
 use Rattle.std.specs.Prelude.{IsUtf8}
@@ -10,9 +10,14 @@ use Rattle.std.proofs.lemmas.Str.{IsUtf8-from_ascii, IsUtf8-from_is_utf8, is_utf
 use Rattle.std.proofs.lemmas.Str.Ascii.{IsAscii-from_all}
 use Rattle.values.specs.Numbers.{is_digit, negative, place_value, ranged, spelled_number, unsigned_number, whole_of}
 use Rattle.values.specs.declared.kind.FieldKind.{FieldKind}
+use Rattle.values.specs.declared.kind.FieldKind.TheVariants as named
 use Rattle.values.specs.declared.kind.FieldKind.TheVariants.{Long}
 use Rattle.values.specs.declared.whole.WholeFault.{WholeFault}
-use Rattle.values.specs.declared.value.Value.TheVariants.{Whole}
+use Rattle.values.specs.declared.whole.WholeFault.TheVariants.{NotANumber, OutOfRange}
+use Rattle.values.specs.declared.read.ValueFault.{ValueFault}
+use Rattle.values.specs.declared.read.ValueFault.TheVariants.{TooLong}
+use Rattle.values.specs.declared.value.Value.{Value}
+use Rattle.values.specs.declared.value.Value.TheVariants.{Whole, Text}
 use Rattle.values.specs.Reading.{number_value, value_of}
 use Rattle.csv_ingest.specs.declared.fault.CsvKind.TheVariants.{NotUtf8}
 use Rattle.table_schema.specs.declared.field.Field.{Field}
@@ -98,3 +103,32 @@ not-utf8 bytes never = not_utf8_by bytes (is_utf8 bytes) refl never
 
 pub yes-utf8 : (bytes : List ℕ) → IsUtf8 bytes → is_utf8 bytes ≡ true
 yes-utf8 bytes is = is_utf8-from_IsUtf8 bytes is
+
+-- no text is a number where its reading gives none
+kinded_none : (b : Bool) (r : Result Value ValueFault) (n : ℤ) → (kinded r ≡ Ok (Whole n) → ⊥) → (if b then kinded r else Err NotUtf8) ≡ Ok (Whole n) → ⊥
+kinded_none true r n never e = never e
+kinded_none false r n never e = absurd cc
+
+fault_none : (fault : WholeFault) (n : ℤ) → kinded (number_value (Err fault)) ≡ Ok (Whole n) → ⊥
+fault_none NotANumber n e = absurd cc
+fault_none OutOfRange n e = absurd cc
+
+number_none : (kind : FieldKind) (text : List ℕ) (found : Option ℤ) (o : Result ℤ WholeFault) → value_of kind text ≡ number_value (whole_of kind text) → whole_of kind text ≡ o → found ≡ result_ok o
+    → found ≡ None → (n : ℤ) → value_in kind text ≡ Ok (Whole n) → ⊥
+number_none kind text found (Ok m) is e got none n there = absurd cc
+number_none kind text found (Err fault) is e got none n there =
+    kinded_none (is_utf8 text) (value_of kind text) n (subst (λ r. kinded r ≡ Ok (Whole n) → ⊥) (sym (is ∙ ap number_value e)) (fault_none fault n)) there
+
+pub number-missing : (kind named : FieldKind) (text : List ℕ) (found : Option ℤ) → kind ≡ named → value_of named text ≡ number_value (whole_of named text) → found ≡ result_ok (whole_of named text)
+    → found ≡ None → (n : ℤ) → value_in kind text ≡ Ok (Whole n) → ⊥
+number-missing kind named text found same is got =
+    subst (λ k. found ≡ None → (n : ℤ) → value_in k text ≡ Ok (Whole n) → ⊥) (sym same) (number_none named text found (whole_of named text) is refl got)
+
+text_none : (b : Bool) (text : List ℕ) (n : ℤ) → kinded (if b then Ok (Text text) else Err TooLong) ≡ Ok (Whole n) → ⊥
+text_none true text n e = absurd cc
+text_none false text n e = absurd cc
+
+-- no value of a field of texts is a number
+pub text-missing : (kind : FieldKind) (text : List ℕ) → kind ≡ named.Text → (n : ℤ) → value_in kind text ≡ Ok (Whole n) → ⊥
+text-missing kind text is =
+    subst (λ k. (n : ℤ) → value_in k text ≡ Ok (Whole n) → ⊥) (sym is) (λ n. kinded_none (is_utf8 text) (value_of named.Text text) n (text_none (nat_le (length text) 512) text n))

@@ -1,5 +1,5 @@
 //! The values in the cells of a record.
-ghost use Rattle.std.specs.Prelude.{◌≡◌, ◌≢◌, ◌≤◌, ◌<◌, ◌^◌, true, false, length, IfOk, IfErr, IfSome, MatchOption, Ok, Err};
+ghost use Rattle.std.specs.Prelude.{◌≡◌, ◌≢◌, ◌≤◌, ◌<◌, ◌^◌, true, false, length, ℤ, IfOk, IfErr, IfSome, MatchOption, None, Ok, Err};
 ghost use Rattle.std.specs.Str.{is_utf8};
 ghost use Rattle.csv.specs.Records.{fields_of};
 ghost use Rattle.csv_ingest.specs.Rows.{cell_value, placed, value_at, value_in};
@@ -50,7 +50,9 @@ fn read_text(
 /// The number that some bytes spell, where the field takes numbers: such bytes are UTF-8.
 #[inline(always)]
 pub fn number_in(kind: FieldKind, bytes: &[u8]) -> Option<i64>
-    ensures { IfSome result (λ number. value_in kind bytes.now ≡ Ok (Value.Whole number)) }
+    ensures found { IfSome result (λ number. value_in kind bytes.now ≡ Ok (Value.Whole number)) }
+    ensures none { result ≡ None
+        → (number : ℤ) → value_in kind bytes.now ≢ Ok (Value.Whole number) }
 {
     match kind {
         FieldKind::Text => None,
