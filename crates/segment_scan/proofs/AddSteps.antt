@@ -1,18 +1,16 @@
 -- Rows that pass, added block by block.
-use Rattle.std.proofs.Common.{◌≡◌, ◌∙◌, ◌<◌, ◌≤◌, ◌+◌, ◌-◌, ◌*◌, ◌/◌, ◌++◌, ◌∷◌, [], ℕ, zero, suc, Bool, List, cond, length, map, take, refl, ap, sym, subst, arith, append-nil}
-use Rattle.std.proofs.lemmas.List.{length-map, map-append}
-use Rattle.std.specs.List.{All}
+use Rattle.std.proofs.Common.{◌≡◌, ◌∙◌, ◌<◌, ◌≤◌, ◌+◌, ◌-◌, ◌*◌, ◌/◌, ◌++◌, ◌∷◌, [], ℕ, zero, suc, Bool, List, cond, length, take, refl, ap, sym, subst, arith}
+use Rattle.std.proofs.lemmas.List.{map-append}
 use Rattle.std.proofs.lemmas.List.Elements.{All-nil}
 use Rattle.values.specs.declared.value.Value.{Value}
 use Rattle.values.specs.Columns.{Listed, ListedColumns, row_of, rows_of}
 use Rattle.values.proofs.RowLemmas.{row-at}
-use Rattle.agg_laws.specs.Numbers.{most_values}
 use Rattle.dictionary.specs.Coding.{AreBelow}
 use Rattle.table_schema.specs.Conditions.{all_hold}
 use Rattle.table_schema.specs.declared.query.BoundQuery.{BoundQuery}
-use Rattle.group_table.specs.Kept.{IsTableOf, KeptGroups, groups_in}
+use Rattle.group_table.specs.Kept.{IsTableOf, KeptGroups}
 use Rattle.scan_engine.specs.Places.{rows_at}
-use Rattle.scan_engine.specs.Scanned.{AddsRows, HaveAtMost, IsOverfull, marked, selected}
+use Rattle.scan_engine.specs.Scanned.{AddsRows, IsOverfull, marked, selected}
 use Rattle.scan_engine.proofs.AddLemmas.{adds_both, adds_nothing, overfull_later, selected_more}
 use Rattle.scan_engine.proofs.FoldLemmas.{count_marked, rows_marked}
 use Rattle.scan_engine.proofs.RunLemmas.{adds_as_more}

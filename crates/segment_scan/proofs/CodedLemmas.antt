@@ -13,7 +13,6 @@ use Rattle.values.specs.Tests.{holds}
 use Rattle.values.specs.Columns.{Counts, row_of}
 use Rattle.dictionary.specs.Coding.{AreBelow, values_at}
 use Rattle.dictionary.specs.Ids.{has_id, satisfies}
-use Rattle.scan_engine.specs.Selection.{Keeps, Marks}
 use Rattle.table_schema.specs.Conditions.{cell}
 use Rattle.segment_scan.specs.declared.coded.Coded.{Coded}
 use Rattle.segment_scan.specs.declared.coded.SegmentColumns.{SegmentColumns}
@@ -101,16 +100,6 @@ widens-set n holds old new b lt is k =
 
 pub widens-all : (n : ℕ) (holds : ℕ → Bool) (old new : List Bool) → length old ≤ n → WidensBelow n holds old new → Widens holds old new
 widens-all n holds old new le k = λ at lt. k.below at (omega (arith, lt, le))
-
--- ---- marks of inner conditions, one after another
-
-and-next : (m a b rest : Bool) → m ≡ (a && b) → (a && (b && rest)) ≡ (m && rest)
-and-next m true b rest is = ap (λ x. x && rest) (sym is)
-and-next m false b rest is = ap (λ x. x && rest) (sym is)
-
-or-next : (m a b rest : Bool) → m ≡ (a || b) → (a || (b || rest)) ≡ (m || rest)
-or-next m true b rest is = ap (λ x. x || rest) (sym is)
-or-next m false b rest is = ap (λ x. x || rest) (sym is)
 
 -- ---- a test by ids
 

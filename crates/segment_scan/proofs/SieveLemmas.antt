@@ -1,5 +1,5 @@
 -- Conditions on rows by their ids, and the places that pass them.
-use Rattle.std.proofs.Common.{◌≡◌, ◌∙◌, ◌<◌, ◌≤◌, ◌+◌, ◌++◌, ◌∷◌, [], ◌&&◌, ◌||◌, ℕ, zero, suc, Bool, true, false, cond, List, length, map, take, drop, get_or, refl, ap, sym, subst, arith, append_assoc, append-nil}
+use Rattle.std.proofs.Common.{◌≡◌, ◌∙◌, ◌<◌, ◌≤◌, ◌+◌, ◌++◌, ◌∷◌, [], ◌&&◌, ◌||◌, ℕ, zero, suc, Bool, true, false, cond, List, length, map, drop, get_or, refl, ap, sym, arith, append_assoc, append-nil}
 use Rattle.std.specs.List.{list_all}
 use Rattle.values.specs.Tests.{all_true, any_true}
 use Rattle.segment_scan.specs.Sieves.{passing}

@@ -1,5 +1,5 @@
 -- Conditions on the rows of a segment by their ids, and the places of the rows that they let through.
-use Rattle.std.specs.Prelude.{ℕ, zero, suc, ◌+◌, ◌≡◌, ◌<◌, Bool, true, false, List, [], ◌∷◌, ◌++◌, cond, length, get_or, nat_eq}
+use Rattle.std.specs.Prelude.{ℕ, zero, suc, ◌+◌, ◌≡◌, Bool, true, List, [], ◌∷◌, ◌++◌, cond, length, get_or, nat_eq}
 use Rattle.std.specs.List.{list_all}
 use Rattle.values.specs.Tests.{all_true, any_true}
 use Rattle.dictionary.specs.Ids.{has_id}

@@ -1,4 +1,4 @@
-use Rattle.std.proofs.Common.{◌≡◌, ◌∙◌, ◌≤◌, ◌+◌, ◌-◌, ℕ, Bool, List, Err, length, ap, sym, subst, arith}
+use Rattle.std.proofs.Common.{◌≡◌, ◌∙◌, ◌≤◌, ◌+◌, ◌-◌, ℕ, Bool, List, length, sym, subst, arith}
 use Rattle.agg_laws.specs.Numbers.{most_values}
 use Rattle.dictionary.specs.Coding.{AreBelow}
 use Rattle.group_table.specs.Kept.{groups_in}

@@ -1,10 +1,10 @@
-use Rattle.std.proofs.Common.{◌≡◌, ◌∙◌, ◌≤◌, ◌<◌, ◌+◌, ◌-◌, ◌*◌, ◌/◌, [], ℕ, Bool, List, Err, length, ap, sym, subst, arith}
+use Rattle.std.proofs.Common.{◌≡◌, ◌∙◌, ◌≤◌, ◌+◌, ◌-◌, ℕ, Bool, List, length, ap, sym, subst, arith}
 use Rattle.std.proofs.lemmas.Result.{IfOk-weaker}
 use Rattle.agg_laws.specs.Numbers.{most_values}
 use Rattle.dictionary.specs.Coding.{AreBelow}
 use Rattle.group_table.specs.Kept.{groups_in}
 use Rattle.scan_engine.specs.Places.{rows_at}
-use Rattle.scan_engine.specs.Scanned.{HaveAtMost, IsOverfull}
+use Rattle.scan_engine.specs.Scanned.{IsOverfull}
 use Rattle.scan_engine.proofs.AddLemmas.{adds_nothing, at_most_more}
 use Rattle.scan_engine.proofs.RunLemmas.{same_fault}
 use Rattle.segment_scan.specs.Coded.{table_of}

@@ -1,4 +1,4 @@
-use Rattle.std.proofs.Common.{◌≡◌, ◌∙◌, ◌<◌, ◌≤◌, ◌+◌, ◌&&◌, ◌||◌, ℕ, Bool, List, true, false, length, map, drop, get_or, nat_eq, ap, sym, subst, arith}
+use Rattle.std.proofs.Common.{◌∙◌, ◌<◌, ◌+◌, ◌&&◌, ◌||◌, ℕ, Bool, List, length, map, ap, sym, arith}
 use Rattle.values.specs.Tests.{all_true, any_true}
 use Rattle.dictionary.specs.Ids.{has_id}
 use Rattle.segment_scan.specs.declared.sieve.Sieve.{Sieve}

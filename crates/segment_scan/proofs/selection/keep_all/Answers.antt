@@ -1,4 +1,4 @@
-use Rattle.std.proofs.Common.{◌≡◌, ◌∙◌, ◌+◌, ◌<◌, ◌&&◌, ℕ, Bool, List, true, false, get_or, length, ap, sym, subst, take, arith}
+use Rattle.std.proofs.Common.{◌+◌, ℕ, List, false, get_or, subst, take, arith}
 use Rattle.std.proofs.lemmas.List.{take_all}
 use Rattle.scan_engine.specs.Selection.{Keeps}
 use Rattle.scan_engine.proofs.SelectionLemmas.{all-more, and_true, keeps-both}

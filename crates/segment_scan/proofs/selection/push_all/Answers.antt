@@ -1,4 +1,4 @@
-use Rattle.std.proofs.Common.{◌≡◌, ◌∙◌, ◌+◌, ◌++◌, ◌∷◌, [], ℕ, List, true, ap, sym, arith, append_assoc}
+use Rattle.std.proofs.Common.{◌∙◌, ◌+◌, ◌++◌, ◌∷◌, [], ℕ, List, true, ap, sym, append_assoc}
 use Rattle.segment_scan.specs.Sieves.{passing}
 use Rattle.segment_scan.proofs.SieveLemmas.{passing-more}
 use Rattle.segment_scan.proofs.selection.push_all.Goals as goal

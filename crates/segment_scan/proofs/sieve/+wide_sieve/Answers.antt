@@ -1,4 +1,4 @@
-use Rattle.std.proofs.Common.{◌≡◌, ◌∙◌, ◌<◌, ◌≤◌, ◌++◌, ◌∷◌, [], ◌&&◌, ◌||◌, ℕ, Bool, List, true, length, map, drop, ◌+◌, ap, sym, subst, arith}
+use Rattle.std.proofs.Common.{◌≡◌, ◌∙◌, ◌&&◌, ◌||◌, ℕ, Bool, List, map, drop, ◌+◌, ap, sym, subst, arith}
 use Rattle.values.specs.Columns.{row_of}
 use Rattle.values.specs.Tests.{all_true, any_true}
 use Rattle.table_schema.specs.Conditions.{wide_holds, wide_step}

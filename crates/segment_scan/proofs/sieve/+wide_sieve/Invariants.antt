@@ -1,5 +1,4 @@
 use Rattle.std.proofs.Common.{◌≡◌, ◌<◌, ◌&&◌, ◌||◌, ℕ, true, drop, map}
-use Rattle.std.specs.List.{list_all}
 use Rattle.values.specs.Columns.{row_of}
 use Rattle.values.specs.Tests.{all_true, any_true}
 use Rattle.table_schema.specs.Conditions.{wide_holds}
