@@ -13,7 +13,6 @@ use Rattle.values.specs.Tests.{holds}
 use Rattle.values.specs.Columns.{Counts, row_of}
 use Rattle.dictionary.specs.Coding.{AreBelow, values_at}
 use Rattle.dictionary.specs.Ids.{has_id, satisfies}
-use Rattle.scan_engine.specs.Selection.{Keeps, Marks}
 use Rattle.table_schema.specs.Conditions.{cell}
 use Rattle.segment_scan.specs.declared.coded.Coded.{Coded}
 use Rattle.segment_scan.specs.declared.coded.SegmentColumns.{SegmentColumns}
@@ -102,16 +101,6 @@ widens-set n holds old new b lt is k =
 pub widens-all : (n : ℕ) (holds : ℕ → Bool) (old new : List Bool) → length old ≤ n → WidensBelow n holds old new → Widens holds old new
 widens-all n holds old new le k = λ at lt. k.below at (omega (arith, lt, le))
 
--- ---- marks of inner conditions, one after another
-
-and-next : (m a b rest : Bool) → m ≡ (a && b) → (a && (b && rest)) ≡ (m && rest)
-and-next m true b rest is = ap (λ x. x && rest) (sym is)
-and-next m false b rest is = ap (λ x. x && rest) (sym is)
-
-or-next : (m a b rest : Bool) → m ≡ (a || b) → (a || (b || rest)) ≡ (m || rest)
-or-next m true b rest is = ap (λ x. x || rest) (sym is)
-or-next m false b rest is = ap (λ x. x || rest) (sym is)
-
 -- ---- a test by ids
 
 -- the value of an id that there is
@@ -121,28 +110,15 @@ got (v ∷ vs) zero test lt = refl
 got (v ∷ vs) (suc id) test lt = got vs id test (omega (arith, lt))
 
 -- an id is in the set of a test just where the value of the row satisfies the test
-pub tested : (segment : SegmentColumns) (field : ℕ) (column : Coded) (test : Test) (ids : List ℕ) (old new : List Bool) → length old ≡ segment.count → IsOfField segment field column
+pub tested-at : (segment : SegmentColumns) (field : ℕ) (column : Coded) (test : Test) (ids : List ℕ) (at : ℕ) → at < segment.count → IsOfField segment field column
     → ((id : ℕ) → has_id ids id ≡ satisfies test (slice_get column.dictionary.now.values id))
-    → Keeps (λ at. has_id ids (get_or column.ids.now at 0)) old new → Keeps (λ at. holds (cell (row_of (table_of segment).columns at) field) test) old new
-tested segment field column test ids old new count of each keeps at lt =
-    let within : at < segment.count = omega (arith, lt, count) in
+    → has_id ids (get_or column.ids.now at 0) ≡ holds (cell (row_of (table_of segment).columns at) field) test
+tested-at segment field column test ids at lt of each =
     let id = get_or column.ids.now at 0 in
-    let below : id < length column.dictionary.now.values = of.below at 0 (omega (arith, within, of.count)) in
-    keeps at lt ∙ ap (λ b. get_or old at false && b) (each id ∙ got column.dictionary.now.values id test below ∙ ap (λ v. holds v test) (sym (of.each at within)))
-
--- a test of the number 0
-pub tested-none : (segment : SegmentColumns) (field : ℕ) (test : Test) (b : Bool) (old new : List Bool) → IsUnread segment field → b ≡ holds (Whole (pos 0)) test
-    → Keeps (λ at. b) old new → Keeps (λ at. holds (cell (row_of (table_of segment).columns at) field) test) old new
-tested-none segment field test b old new none is keeps at lt =
-    keeps at lt ∙ ap (λ b. get_or old at false && b) (is ∙ ap (λ v. holds v test) (sym (none at)))
+    let below : id < length column.dictionary.now.values = of.below at 0 (omega (arith, lt, of.count)) in
+    each id ∙ got column.dictionary.now.values id test below ∙ ap (λ v. holds v test) (sym (of.each at lt))
 
 -- one place more, where it is marked
 pub below_marked : (count : ℕ) (places : List ℕ) (at : ℕ) (mark : Bool) → at < count → AreBelow count places → AreBelow count (places ++ cond mark (at ∷ []) [])
 below_marked count places at true lt all = All-push (λ p. p < count) places at all lt
 below_marked count places at false lt all = subst (AreBelow count) (sym (append-nil places)) all
-
--- marks of a condition are kept with those there are
-pub marked : (segment : SegmentColumns) (holds_of : List Value → Bool) (old new others marks : List Bool) → length old ≡ segment.count → others ≡ marks → Marks holds_of (table_of segment) marks
-    → Keeps (λ at. get_or others at false) old new → Keeps (λ at. holds_of (row_of (table_of segment).columns at)) old new
-marked segment holds_of old new others marks count is m keeps at lt =
-    keeps at lt ∙ ap (λ b. get_or old at false && b) (ap (λ (l : List Bool). get_or l at false) is ∙ m.each at (omega (arith, lt, count)))

@@ -1,4 +1,6 @@
 pub mod CodedLemmas
+pub mod SieveLemmas
+pub mod AddSteps
 pub mod ServedLemmas
 pub mod DocLemmas
 pub mod PickSteps

@@ -14,7 +14,6 @@ mod left;
 mod merging;
 mod named;
 mod picking;
-mod places;
 mod ranking;
 mod reading;
 mod scan;
@@ -22,6 +21,7 @@ mod scan_laws;
 mod segment;
 mod selection;
 mod serving;
+mod sieve;
 mod slots;
 mod whole;
 

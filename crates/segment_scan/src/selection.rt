@@ -1,128 +1,143 @@
-//! Which rows of a segment satisfy conjuncts: each condition is tested once for each distinct value
-//! of its column, and looked up by id.
+//! The places of the rows of a block that conditions let through.
 
-ghost use Rattle.std.specs.Prelude.{◌≡◌, ◌&&◌, ◌||◌, IfOk, OnOk, get_or, false, length, nat_eq, pos};
-ghost use Rattle.values.specs.Columns.{row_of};
-ghost use Rattle.values.specs.Tests.{holds};
+ghost use Rattle.std.specs.Prelude.{◌≡◌, ◌&&◌, ◌||◌, ◌+◌, ◌<◌, ◌≤◌, ◌++◌, ◌∷◌, [], ℕ, IfOk, OnOk, cond, get_or, false, true, length, nat_eq};
 ghost use Rattle.dictionary.specs.Ids.{has_id};
-ghost use Rattle.table_schema.specs.Conditions as spec;
-ghost use Rattle.scan_engine.specs.Selection.{Keeps, Marks};
-ghost use Rattle.segment_scan.specs.Coded.{AreCoded, Widens, table_of};
-ghost use Rattle.segment_scan.specs.Served.{is_served, unserved};
+ghost use Rattle.scan_engine.specs.Selection.{Keeps};
+ghost use Rattle.segment_scan.specs.Coded.{Widens, most_rows};
+ghost use Rattle.segment_scan.specs.Sieves.{AllCover, all_let, covers, lets, passing};
 
-use crate::coded::SegmentColumns;
-use crate::serving::{choice_at, is_served};
+use crate::sieve::Sieve;
 use dictionary::IdSet;
-use segment_plan::IndexChoice;
 use std::alloc::Global;
-use table_schema::{Conjunct, Wide};
-use values::{NoMemory, Test, Value, holds_value};
+use values::NoMemory;
 
-/// A mark for each row of a segment, whether it satisfies those of the conjuncts that are not
-/// served.
-pub fn mark_rows(
+/// Some rows of a segment, one after the other.
+#[derive(Clone, Copy)]
+pub struct Block {
+    pub from: usize,
+    pub length: usize,
+}
+
+/// Adds the places of those rows of a block that all conditions let through.
+pub fn push_block(
     alloc: Global,
-    segment: &SegmentColumns<'_>,
-    conjuncts: &[Conjunct],
-    choices: &[IndexChoice],
-) -> Result<Vec<bool>, NoMemory>
-    requires { AreCoded segment.now }
-    ensures { IfOk result (λ marks. Marks
-        (λ row. spec.all_hold row (unserved choices.now conjuncts.now))
-        (table_of segment.now) marks.items) }
+    sieves: &[Sieve<'_>],
+    count: usize,
+    block: Block,
+    places: &mut Vec<u32>,
+) -> Result<(), NoMemory>
+    requires covers { AllCover count sieves.now }
+    requires within { block.from + block.length ≤ count }
+    requires few { count ≤ most_rows }
+    ensures { OnOk result (places.new.items ≡ places.old.items
+        ++ passing (λ at. all_let at sieves.now) block.from block.length) }
 {
-    let mut marks = vec![in alloc; true; segment.count]?;
-    keep_all(alloc, &mut marks, segment, conjuncts, choices)?;
+    if sieves.is_empty() {
+        return push_all(block, places);
+    }
+    let marks = mark_block(alloc, sieves, count, block)?;
+    push_marked(block, &marks, places)
+}
+
+// A mark for each row of a block, whether all conditions let it through.
+fn mark_block(
+    alloc: Global,
+    sieves: &[Sieve<'_>],
+    count: usize,
+    block: Block,
+) -> Result<Vec<bool>, NoMemory>
+    requires covers { AllCover count sieves.now }
+    requires within { block.from + block.length ≤ count }
+    ensures count { IfOk result (λ marks. length marks.items ≡ block.length) }
+    ensures each { IfOk result (λ marks. (at : ℕ) → at < block.length
+        → get_or marks.items at false ≡ all_let (block.from + at) sieves.now) }
+{
+    let mut marks = vec![in alloc; true; block.length]?;
+    keep_all(alloc, &mut marks, count, block.from, sieves)?;
     Ok(marks)
 }
 
-// Leaves the marks of the rows that satisfy those of the conjuncts that are not served.
+// Leaves the marks of those rows from one on that all conditions let through.
 fn keep_all(
     alloc: Global,
     marks: &mut [bool],
-    segment: &SegmentColumns<'_>,
-    conjuncts: &[Conjunct],
-    choices: &[IndexChoice],
+    count: usize,
+    from: usize,
+    sieves: &[Sieve<'_>],
 ) -> Result<(), NoMemory>
-    requires coded { AreCoded segment.now }
-    requires count { length marks.old ≡ segment.now.count }
-    ensures { OnOk result (Keeps (λ at. spec.all_hold (row_of (table_of segment.now).columns at)
-        (unserved choices.now conjuncts.now)) marks.old marks.new) }
+    requires covers { AllCover count sieves.now }
+    requires within { from + length marks.old ≤ count }
+    ensures { OnOk result (Keeps (λ at. all_let (from + at) sieves.now) marks.old marks.new) }
 {
-    for at in 0..conjuncts.len() {
-        keep_unserved(
-            alloc,
-            marks,
-            segment,
-            &conjuncts[at],
-            choice_at(choices, at),
-        )?;
+    for at in 0..sieves.len() {
+        keep(alloc, marks, count, from, &sieves[at])?;
     }
     Ok(())
 }
 
-// Leaves all marks where the conjunct is served, else those of the rows that satisfy it.
-fn keep_unserved(
-    alloc: Global,
-    marks: &mut [bool],
-    segment: &SegmentColumns<'_>,
-    conjunct: &Conjunct,
-    choice: IndexChoice,
-) -> Result<(), NoMemory>
-    requires coded { AreCoded segment.now }
-    requires count { length marks.old ≡ segment.now.count }
-    ensures { OnOk result (Keeps (λ at. is_served choice conjunct.now ||
-        spec.conjunct_holds (row_of (table_of segment.now).columns at) conjunct.now)
-        marks.old marks.new) }
+// Adds the places of the rows of a block.
+fn push_all(block: Block, places: &mut Vec<u32>) -> Result<(), NoMemory>
+    requires { block.from + block.length ≤ most_rows }
+    ensures { OnOk result (places.new.items
+        ≡ places.old.items ++ passing (λ at. true) block.from block.length) }
 {
-    if is_served(choice, conjunct) {
-        return Ok(());
+    places.reserve(block.length)?;
+    for at in 0..block.length {
+        places.push((block.from + at) as u32)?;
     }
-    keep_conjunct(alloc, marks, segment, conjunct)
+    Ok(())
 }
 
-fn keep_conjunct(
-    alloc: Global,
-    marks: &mut [bool],
-    segment: &SegmentColumns<'_>,
-    conjunct: &Conjunct,
-) -> Result<(), NoMemory>
-    requires coded { AreCoded segment.now }
-    requires count { length marks.old ≡ segment.now.count }
-    ensures { OnOk result (Keeps (λ at. spec.conjunct_holds
-        (row_of (table_of segment.now).columns at) conjunct.now) marks.old marks.new) }
+// Adds the places of the rows of a block that are marked.
+fn push_marked(block: Block, marks: &[bool], places: &mut Vec<u32>) -> Result<(), NoMemory>
+    requires count { length marks.now ≡ block.length }
+    requires few { block.from + block.length ≤ most_rows }
+    ensures { (holds : ℕ → _) → ((at : ℕ) → at < block.length
+        → get_or marks.now at false ≡ holds (block.from + at))
+        → OnOk result (places.new.items ≡ places.old.items ++ passing holds block.from block.length) }
 {
-    match conjunct {
-        Conjunct::One(field, test) => keep_tested(alloc, marks, segment, *field, test),
-        Conjunct::Many(wide) => keep_wide(alloc, marks, segment, wide),
+    places.reserve(block.length)?;
+    for at in 0..block.length {
+        push_if(places, (block.from + at) as u32, marks[at])?;
     }
+    Ok(())
 }
 
-// Leaves the marks of the rows whose value in a field satisfies a test.
-fn keep_tested(
+// Adds a place where it is marked.
+#[inline(always)]
+fn push_if(places: &mut Vec<u32>, at: u32, mark: bool) -> Result<(), NoMemory>
+    ensures { OnOk result (places.new.items ≡ places.old.items ++ cond mark (at ∷ []) []) }
+{
+    if mark {
+        places.push(at)?;
+    }
+    Ok(())
+}
+
+// Leaves the marks of those rows from one on that a condition lets through.
+fn keep(
     alloc: Global,
     marks: &mut [bool],
-    segment: &SegmentColumns<'_>,
-    field: u16,
-    test: &Test,
+    count: usize,
+    from: usize,
+    sieve: &Sieve<'_>,
 ) -> Result<(), NoMemory>
-    requires coded { AreCoded segment.now }
-    requires count { length marks.old ≡ segment.now.count }
-    ensures { OnOk result (Keeps (λ at. holds
-        (spec.cell (row_of (table_of segment.now).columns at) field) test.now)
-        marks.old marks.new) }
+    requires covers { covers count sieve.now ≡ true }
+    requires within { from + length marks.old ≤ count }
+    ensures { OnOk result (Keeps (λ at. lets (from + at) sieve.now) marks.old marks.new) }
 {
-    match segment.column(field) {
-        Some(column) => {
-            let matching = column.dictionary.ids_matching(alloc, test)?;
-            keep_ids(marks, column.ids, &matching);
-            Ok(())
+    match sieve {
+        Sieve::Ids(ids, matching) => {
+            let own = ids_between(ids, from, marks.len());
+            keep_ids(marks, own, matching);
         }
-        None => {
-            keep_if(marks, holds_value(test, &Value::Whole(0)));
-            Ok(())
+        Sieve::Fixed(holds) => keep_if(marks, *holds),
+        Sieve::All(_) | Sieve::Any(_) => {
+            let own = marks_of(alloc, count, from, marks.len(), sieve)?;
+            keep_marked(marks, &own);
         }
     }
+    Ok(())
 }
 
 // Whether a mark stays.
@@ -173,23 +188,6 @@ fn keep_if(marks: &mut [bool], holds: bool)
     }
 }
 
-// Leaves the marks of the rows that satisfy a condition over several columns.
-fn keep_wide(
-    alloc: Global,
-    marks: &mut [bool],
-    segment: &SegmentColumns<'_>,
-    wide: &Wide,
-) -> Result<(), NoMemory>
-    requires coded { AreCoded segment.now }
-    requires count { length marks.old ≡ segment.now.count }
-    ensures { OnOk result (Keeps (λ at. spec.wide_holds
-        (row_of (table_of segment.now).columns at) wide.now) marks.old marks.new) }
-{
-    let own = wide_marks(alloc, segment, wide)?;
-    keep_marked(marks, &own);
-    Ok(())
-}
-
 // Leaves the marks that others have too.
 fn keep_marked(marks: &mut [bool], others: &[bool])
     requires { length marks.old ≡ length others.now }
@@ -218,37 +216,74 @@ fn add_marked(marks: &mut [bool], others: &[bool])
     }
 }
 
-// A mark for each row, whether it satisfies a condition over several columns.
-fn wide_marks(
+// A mark for each of some rows from one on, whether a condition lets it through.
+fn marks_of(
     alloc: Global,
-    segment: &SegmentColumns<'_>,
-    wide: &Wide,
+    count: usize,
+    from: usize,
+    many: usize,
+    sieve: &Sieve<'_>,
 ) -> Result<Vec<bool>, NoMemory>
-    requires { AreCoded segment.now }
-    ensures { IfOk result (λ marks.
-        Marks (λ row. spec.wide_holds row wide.now) (table_of segment.now) marks.items) }
+    requires covers { covers count sieve.now ≡ true }
+    requires within { from + many ≤ count }
+    ensures count { IfOk result (λ marks. length marks.items ≡ many) }
+    ensures each { IfOk result (λ marks. (at : ℕ) → at < many
+        → get_or marks.items at false ≡ lets (from + at) sieve.now) }
 {
-    match wide {
-        Wide::Leaf(field, test) => {
-            let mut marks = vec![in alloc; true; segment.count]?;
-            keep_tested(alloc, &mut marks, segment, *field, test)?;
+    match sieve {
+        Sieve::Ids(ids, matching) => {
+            let marks = marks_of_ids(alloc, ids_between(ids, from, many), matching)?;
             Ok(marks)
         }
-        Wide::All(inner) => {
-            let mut marks = vec![in alloc; true; segment.count]?;
+        Sieve::Fixed(holds) => {
+            let marks = same_marks(alloc, *holds, many)?;
+            Ok(marks)
+        }
+        Sieve::All(inner) => {
+            let mut marks = same_marks(alloc, true, many)?;
             for member in inner.as_slice() {
-                let own = wide_marks(alloc, segment, member)?;
+                let own = marks_of(alloc, count, from, many, member)?;
                 keep_marked(&mut marks, &own);
             }
             Ok(marks)
         }
-        Wide::Any(inner) => {
-            let mut marks = vec![in alloc; false; segment.count]?;
+        Sieve::Any(inner) => {
+            let mut marks = same_marks(alloc, false, many)?;
             for member in inner.as_slice() {
-                let own = wide_marks(alloc, segment, member)?;
+                let own = marks_of(alloc, count, from, many, member)?;
                 add_marked(&mut marks, &own);
             }
             Ok(marks)
         }
     }
+}
+
+// So many ids from one on.
+fn ids_between(ids: &[u32], from: usize, many: usize) -> &[u32]
+    requires { from + many ≤ length ids.now }
+    ensures count { length result.now ≡ many }
+    ensures each { (at : ℕ) → at < many → get_or result.now at 0 ≡ get_or ids.now (from + at) 0 }
+{
+    &ids[from..from + many]
+}
+
+// So many marks that are all the same.
+fn same_marks(alloc: Global, holds: bool, many: usize) -> Result<Vec<bool>, NoMemory>
+    ensures count { IfOk result (λ marks. length marks.items ≡ many) }
+    ensures each { IfOk result (λ marks. (at : ℕ) → at < many
+        → get_or marks.items at false ≡ holds) }
+{
+    let marks = vec![in alloc; holds; many]?;
+    Ok(marks)
+}
+
+// A mark for each row, whether its id is in a set.
+fn marks_of_ids(alloc: Global, ids: &[u32], matching: &IdSet) -> Result<Vec<bool>, NoMemory>
+    ensures count { IfOk result (λ marks. length marks.items ≡ length ids.now) }
+    ensures each { IfOk result (λ marks. (at : ℕ) → at < length ids.now
+        → get_or marks.items at false ≡ has_id matching.now (get_or ids.now at 0)) }
+{
+    let mut marks = vec![in alloc; true; ids.len()]?;
+    keep_ids(&mut marks, ids, matching);
+    Ok(marks)
 }

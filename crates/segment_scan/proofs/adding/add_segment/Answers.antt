@@ -1,43 +1,46 @@
-use Rattle.std.proofs.Common.{◌≡◌, ◌∙◌, ◌≤◌, ◌-◌, [], ℕ, List, ap, sym, subst, arith, length}
-use Rattle.std.proofs.lemmas.Bool.Decides.{nat_tests}
+use Rattle.std.proofs.Common.{◌≡◌, ◌∙◌, ◌<◌, ℕ, Bool, List, ap, subst, arith, length}
+use Rattle.std.proofs.lemmas.List.{take_all}
 use Rattle.std.proofs.lemmas.Result.{IfOk-weaker}
-use Rattle.agg_laws.specs.Numbers.{most_values}
 use Rattle.values.specs.declared.value.Value.{Value}
-use Rattle.values.specs.Columns.{ListedColumns, rows_of}
-use Rattle.group_table.specs.Kept.{groups_in}
+use Rattle.values.specs.Columns.{ListedColumns, row_of, rows_of}
+use Rattle.values.proofs.RowLemmas.{length-rows}
+use Rattle.table_schema.specs.Conditions.{all_hold}
 use Rattle.table_schema.specs.declared.query.BoundQuery.{BoundQuery}
+use Rattle.table_schema.specs.declared.query.Conjunct.{Conjunct}
 use Rattle.scan_engine.specs.Places.{rows_at}
-use Rattle.scan_engine.specs.Scanned.{AddsRows, selected}
-use Rattle.scan_engine.proofs.AddLemmas.{adds_nothing, at_most_more}
-use Rattle.scan_engine.proofs.RunLemmas.{adds_as_more}
+use Rattle.scan_engine.specs.Scanned.{AddsRows, IsOverfull, selected}
+use Rattle.segment_scan.specs.declared.sieve.Sieve.{Sieve}
 use Rattle.segment_scan.specs.Coded.{table_of}
-use Rattle.segment_scan.specs.Served.{rest_of}
-use Rattle.segment_scan.proofs.MergeSteps.{none-left}
+use Rattle.segment_scan.specs.Served.{rest_of, unserved}
+use Rattle.segment_scan.specs.Sieves.{all_let, passing}
+use Rattle.segment_scan.proofs.CodedLemmas.{counts}
+use Rattle.segment_scan.proofs.AddSteps.{passing-rows}
 use Rattle.segment_scan.proofs.adding.add_segment.Goals as goal
-
-pub returns-then-is_empty-clause-ok : goal.returns-then-is_empty-clause-ok
-returns-then-is_empty-clause-ok c =
-    let q : BoundQuery = c.args.query.now in
-    let rest : BoundQuery = rest_of q c.args.choices.now in
-    let b : ListedColumns = table_of c.args.segment.now in
-    let places : List ℕ = c.as_slice-places.result.now in
-    let zero : length places ≡ 0 = grind (arith, nat_tests) in
-    let none : rows_at b.columns [] ≡ selected rest (rows_of b) = ap (rows_at b.columns) (sym (none-left places zero) ∙ c.as_slice-places.ensures.value) ∙ c.in_ok-places.ensures.rows in
-    subst (λ (l : List (List Value)). AddsRows q b.count l c.args.table.now c.args.table.now) none (adds_nothing q b.count c.args.table.now c.requires.table)
-
-pub add_places-requires-clause-fits : goal.add_places-requires-clause-fits
-add_places-requires-clause-fits c =
-    let count : ℕ = c.args.segment.now.count in
-    let few : length c.as_slice-places.result.now ≤ count = subst (λ (l : List ℕ). length l ≤ count) (sym c.as_slice-places.ensures.value) c.in_ok-places.ensures.count in
-    at_most_more (groups_in c.args.table.now) (most_values - count) (most_values - length c.as_slice-places.result.now) (omega (arith, few)) c.requires.fits
 
 pub returns-clause-ok : goal.returns-clause-ok
 returns-clause-ok c =
     let q : BoundQuery = c.args.query.now in
     let rest : BoundQuery = rest_of q c.args.choices.now in
     let b : ListedColumns = table_of c.args.segment.now in
-    let places : List ℕ = c.as_slice-places.result.now in
-    let few : length places ≤ b.count = subst (λ (l : List ℕ). length l ≤ b.count) (sym c.as_slice-places.ensures.value) c.in_ok-places.ensures.count in
-    let rows : rows_at b.columns places ≡ selected rest (rows_of b) = ap (rows_at b.columns) c.as_slice-places.ensures.value ∙ c.in_ok-places.ensures.rows in
-    IfOk-weaker c.add_places.result _ _ (λ u a. subst (λ (l : List (List Value)). AddsRows q b.count l c.args.table.now c.add_places.new.table) rows
-    (adds_as_more q (length places) b.count (rows_at b.columns places) c.args.table.now c.add_places.new.table few a)) c.add_places.ensures.ok
+    let holds : ℕ → Bool = λ at. all_let at c.as_slice-2.result.now in
+    let same : (at : ℕ) → at < b.count → holds at ≡ all_hold (row_of b.columns at) rest.conjuncts = λ at lt.
+    ap (λ (l : List Sieve). all_let at l) c.as_slice-2.ensures.value ∙ c.in_ok-sieves.ensures.lets at lt
+    ∙ ap (λ (l : List Conjunct). all_hold (row_of b.columns at) (unserved c.args.choices.now l)) c.as_slice.ensures in
+    let many : length (rows_of b) ≡ b.count = length-rows b.count b.columns (counts c.args.segment.now c.requires.coded) in
+    let rows : rows_at b.columns (passing holds 0 b.count) ≡ selected rest (rows_of b) =
+    passing-rows c.args.segment.now rest holds c.requires.coded same b.count (omega arith) ∙ ap (selected rest) (take_all b.count (rows_of b) (omega (arith, many))) in
+    IfOk-weaker c.add_blocks.result _ _ (λ u a. subst (λ (l : List (List Value)). AddsRows q b.count l c.args.table.now c.add_blocks.new.table) rows a) c.add_blocks.ensures.ok
+
+pub returns-clause-full : goal.returns-clause-full
+returns-clause-full c = λ bad.
+    let q : BoundQuery = c.args.query.now in
+    let rest : BoundQuery = rest_of q c.args.choices.now in
+    let b : ListedColumns = table_of c.args.segment.now in
+    let holds : ℕ → Bool = λ at. all_let at c.as_slice-2.result.now in
+    let same : (at : ℕ) → at < b.count → holds at ≡ all_hold (row_of b.columns at) rest.conjuncts = λ at lt.
+    ap (λ (l : List Sieve). all_let at l) c.as_slice-2.ensures.value ∙ c.in_ok-sieves.ensures.lets at lt
+    ∙ ap (λ (l : List Conjunct). all_hold (row_of b.columns at) (unserved c.args.choices.now l)) c.as_slice.ensures in
+    let many : length (rows_of b) ≡ b.count = length-rows b.count b.columns (counts c.args.segment.now c.requires.coded) in
+    let rows : rows_at b.columns (passing holds 0 b.count) ≡ selected rest (rows_of b) =
+    passing-rows c.args.segment.now rest holds c.requires.coded same b.count (omega arith) ∙ ap (selected rest) (take_all b.count (rows_of b) (omega (arith, many))) in
+    subst (λ (l : List (List Value)). IsOverfull q l c.args.table.now) rows (c.add_blocks.ensures.full bad)
