@@ -100,8 +100,7 @@ fn expect_order(all: &mut Expectations) -> Result<(), TestFault> {
     Ok(())
 }
 
-pub fn states_of_values(alloc: Global) -> Result<Expectations, TestFault> {
-    let mut all = Expectations::new();
+fn expect_sums(all: &mut Expectations) {
     let mut count = Count::unit();
     Count::add(&mut count, 4);
     Count::merge(&mut count, &2);
@@ -110,6 +109,9 @@ pub fn states_of_values(alloc: Global) -> Result<Expectations, TestFault> {
     Sum::add(&mut sum, 4);
     Sum::merge(&mut sum, &-2);
     all.expect(sum == 2, "a sum");
+}
+
+fn expect_extremes(all: &mut Expectations) {
     let mut least = Least::unit();
     Least::add(&mut least, 4);
     Least::merge(&mut least, &Some(-7));
@@ -119,6 +121,12 @@ pub fn states_of_values(alloc: Global) -> Result<Expectations, TestFault> {
     Greatest::add(&mut greatest, 4);
     Greatest::merge(&mut greatest, &Some(5));
     all.expect(greatest == Some(5), "a greatest number");
+}
+
+pub fn states_of_values(alloc: Global) -> Result<Expectations, TestFault> {
+    let mut all = Expectations::new();
+    expect_sums(&mut all);
+    expect_extremes(&mut all);
     let mut average = Average::unit();
     Average::add(&mut average, 4);
     Average::merge(&mut average, &AverageState { sum: -2, count: 2 });

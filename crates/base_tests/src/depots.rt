@@ -43,12 +43,18 @@ pub fn expect_removal<D: Depot>(
     Ok(())
 }
 
-pub fn depot_in_memory(alloc: Global) -> Result<Expectations, TestFault> {
-    let mut all = Expectations::new();
-    let mut depot = MemoryDepot::new(alloc, files(alloc, &[("a", "1")])?, calls(alloc, &[1])?)?;
+// What a depot does whose call 1 fails.
+fn expect_failing<D: Depot>(alloc: Global, depot: &mut D, all: &mut Expectations) {
     all.expect(depot.begin(alloc, "p") == Ok(()), "a part is begun");
     let failed = depot.append(alloc, "p", b"x");
     all.expect(failed == Err(DepotFault::Failed), "call 1 fails");
+}
+
+pub fn depot_in_memory(alloc: Global) -> Result<Expectations, TestFault> {
+    let mut all = Expectations::new();
+    let held = files(alloc, &[("a", "1")])?;
+    let mut depot = MemoryDepot::new(alloc, held, calls(alloc, &[1])?)?;
+    expect_failing(alloc, &mut depot, &mut all);
     expect_depot(alloc, &mut depot, &mut all)?;
     expect_removal(alloc, &mut depot, &mut all)?;
     Ok(all)

@@ -5,6 +5,7 @@ use crate::expect::{Expectations, TestFault};
 use crate::shelves::{lists, reads, refuses};
 use host_devices::{FolderDepot, FolderShelf};
 use outside::{Depot, DepotFault, ReadAllFault, Shelf, ShelfFault};
+use std::alloc::Global;
 use std::{fs, process};
 
 // A new folder with the file `a`, the file `z.part` and a folder `sub` that has the file `c`.
@@ -23,12 +24,11 @@ fn new_folder(rt: &HostRuntime, test: &str) -> Result<String, TestFault> {
     Ok(folder)
 }
 
-fn expect_names(
-    rt: &HostRuntime,
-    shelf: &mut FolderShelf<HostRuntime>,
+fn expect_names<S: Shelf>(
+    alloc: Global,
+    shelf: &mut S,
     all: &mut Expectations,
 ) -> Result<(), TestFault> {
-    let alloc = rt.alloc();
     all.expect(lists(alloc, shelf, "a z.part ")?, "files are listed");
     for path in ["a", "sub/c", "./sub/../a"] {
         all.expect(reads(alloc, shelf, path, 5, b"12345"), "a path is read");
@@ -44,32 +44,37 @@ fn expect_names(
     Ok(())
 }
 
-pub fn shelf_over_a_folder(rt: &HostRuntime) -> Result<Expectations, TestFault> {
-    let alloc = rt.alloc();
-    let mut all = Expectations::new();
-    let folder = new_folder(rt, "shelf")?;
-    let mut shelf = FolderShelf::new(rt.clone()?, folder.clone()?);
-    expect_names(rt, &mut shelf, &mut all)?;
+// Reads of the file `a`, also by the path of its folder.
+fn expect_reads<S: Shelf>(
+    alloc: Global,
+    shelf: &mut S,
+    folder: &str,
+    all: &mut Expectations,
+) -> Result<(), TestFault> {
     let absolute = format!(in alloc; "{folder}/a")?;
-    let is_read = reads(alloc, &mut shelf, absolute.as_str(), 5, b"12345");
+    let is_read = reads(alloc, shelf, absolute.as_str(), 5, b"12345");
     all.expect(is_read, "an absolute path");
     let mut into = [0u8; 2];
     let read = shelf.read_at(alloc, "a", 3, &mut into);
     all.expect(read == Ok(2) && into == [b'4', b'5'], "a read within");
     let read = shelf.read_at(alloc, "a", u64::MAX, &mut into);
     all.expect(read == Ok(0), "a read past the end");
-    let is_long = refuses(alloc, &mut shelf, "a", 4, ReadAllFault::TooLong);
+    let is_long = refuses(alloc, shelf, "a", 4, ReadAllFault::TooLong);
     all.expect(is_long, "a file over the limit");
+    Ok(())
+}
+
+pub fn shelf_over_a_folder(rt: &HostRuntime) -> Result<Expectations, TestFault> {
+    let mut all = Expectations::new();
+    let folder = new_folder(rt, "shelf")?;
+    let mut shelf = FolderShelf::new(rt.clone()?, folder.clone()?);
+    expect_names(rt.alloc(), &mut shelf, &mut all)?;
+    expect_reads(rt.alloc(), &mut shelf, folder.as_str(), &mut all)?;
     fs::remove_dir_all(rt, folder.as_str())?;
     Ok(all)
 }
 
-fn expect_bad_names(
-    rt: &HostRuntime,
-    depot: &mut FolderDepot<HostRuntime>,
-    all: &mut Expectations,
-) -> Result<(), TestFault> {
-    let alloc = rt.alloc();
+fn expect_bad_names<D: Depot>(alloc: Global, depot: &mut D, all: &mut Expectations) {
     for name in ["", ".", "..", "../x", "sub/c", "z.part", "a\0"] {
         let length = depot.length(alloc, name);
         all.expect(length == Err(ShelfFault::Missing), "no published name");
@@ -82,6 +87,16 @@ fn expect_bad_names(
         let begun = depot.begin(alloc, part);
         all.expect(begun == Err(DepotFault::Failed), "no name of a part");
     }
+    let length = depot.length(alloc, "sub");
+    all.expect(length == Err(ShelfFault::Failed), "a folder is no file");
+}
+
+fn expect_part(rt: &HostRuntime, folder: &str, all: &mut Expectations) -> Result<(), TestFault> {
+    let part = fs::read(rt, format!(in rt.alloc(); "{folder}/q.part")?.as_str())?;
+    all.expect(
+        part.as_slice() == b"never begun".as_slice(),
+        "a part is a file",
+    );
     Ok(())
 }
 
@@ -93,14 +108,8 @@ pub fn depot_over_a_folder(rt: &HostRuntime) -> Result<Expectations, TestFault> 
     all.expect(depot.begin(alloc, "p") == Ok(()), "a part is begun");
     expect_depot(alloc, &mut depot, &mut all)?;
     expect_removal(alloc, &mut depot, &mut all)?;
-    expect_bad_names(rt, &mut depot, &mut all)?;
-    let length = depot.length(alloc, "sub");
-    all.expect(length == Err(ShelfFault::Failed), "a folder is no file");
-    let part = fs::read(rt, format!(in alloc; "{folder}/q.part")?.as_str())?;
-    all.expect(
-        part.as_slice() == b"never begun".as_slice(),
-        "a part is a file",
-    );
+    expect_bad_names(alloc, &mut depot, &mut all);
+    expect_part(rt, folder.as_str(), &mut all)?;
     fs::remove_dir_all(rt, folder.as_str())?;
     Ok(all)
 }

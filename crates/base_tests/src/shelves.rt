@@ -62,13 +62,14 @@ pub fn refuses<S: Shelf>(
     read_all(alloc, shelf, name, limit).err() == Some(fault)
 }
 
-pub fn lists_and_names(alloc: Global) -> Result<Expectations, TestFault> {
-    let mut all = Expectations::new();
-    let ab = name(alloc, "ab")?;
-    all.expect(ab == name(alloc, "ab")?, "equal names");
-    all.expect(ab < name(alloc, "b")?, "a lesser name");
-    let is_greater = matches!(ab.cmp(&Name::new(alloc)), Ordering::Greater);
-    all.expect(is_greater, "a greater name");
+// What is expected of the name `ab` beside the same name, the name `b` and an empty one.
+fn expect_order(ab: &Name, same: &Name, b: &Name, empty: &Name, all: &mut Expectations) {
+    all.expect(ab == same, "equal names");
+    all.expect(ab < b, "a lesser name");
+    all.expect(matches!(ab.cmp(empty), Ordering::Greater), "a greater name");
+}
+
+fn expect_name(ab: &Name, all: &mut Expectations) {
     all.expect(
         ab.len() == 2 && ab.as_str() == "ab" && !ab.is_empty(),
         "a name",
@@ -77,32 +78,54 @@ pub fn lists_and_names(alloc: Global) -> Result<Expectations, TestFault> {
     if ab.len() > 1 {
         all.expect(ab.at(1) == b'b', "a byte of a name");
     }
-    let list = bytes(alloc, b"xy")?;
-    all.expect(list != bytes(alloc, b"x")?, "unequal lists");
-    all.expect(list > bytes(alloc, b"x")?, "a greater list");
-    all.expect(
-        list.len() == 2 && list.as_slice() == b"xy".as_slice(),
-        "a list",
-    );
-    if list.len() > 1 {
-        all.expect(*list.at(1) == b'y', "an item of a list");
+}
+
+// What is expected of the list of `x` and `y` beside that of `x`.
+fn expect_list(xy: &Bytes, x: &Bytes, all: &mut Expectations) {
+    all.expect(xy != x, "unequal lists");
+    all.expect(xy > x, "a greater list");
+    all.expect(xy.len() == 2 && xy.as_slice() == b"xy".as_slice(), "a list");
+    if xy.len() > 1 {
+        all.expect(*xy.at(1) == b'y', "an item of a list");
     }
+}
+
+fn expect_names(alloc: Global, all: &mut Expectations) -> Result<(), TestFault> {
+    let ab = name(alloc, "ab")?;
+    let same = name(alloc, "ab")?;
+    let b = name(alloc, "b")?;
+    expect_order(&ab, &same, &b, &Name::new(alloc), all);
+    expect_name(&ab, all);
+    Ok(())
+}
+
+pub fn lists_and_names(alloc: Global) -> Result<Expectations, TestFault> {
+    let mut all = Expectations::new();
+    expect_names(alloc, &mut all)?;
+    let xy = bytes(alloc, b"xy")?;
+    let x = bytes(alloc, b"x")?;
+    expect_list(&xy, &x, &mut all);
     Ok(all)
 }
 
-pub fn shelf_in_memory(alloc: Global) -> Result<Expectations, TestFault> {
-    let mut all = Expectations::new();
-    let held = files(alloc, &[("b", "old"), ("a", "12345"), ("b", "new")])?;
-    let mut shelf = MemoryShelf::new(alloc, held, calls(alloc, &[5, 7])?)?;
-    all.expect(lists(alloc, &mut shelf, "a b ")?, "names once, ascending");
-    all.expect(
-        reads(alloc, &mut shelf, "b", 3, b"new"),
-        "the last file of a name",
-    );
-    let is_missing = refuses(alloc, &mut shelf, "c", 9, ReadAllFault::Missing);
+// What a shelf does that has the files `a` and `b`.
+fn expect_files<S: Shelf>(
+    alloc: Global,
+    shelf: &mut S,
+    all: &mut Expectations,
+) -> Result<(), TestFault> {
+    all.expect(lists(alloc, shelf, "a b ")?, "names once, ascending");
+    let is_last = reads(alloc, shelf, "b", 3, b"new");
+    all.expect(is_last, "the last file of a name");
+    let is_missing = refuses(alloc, shelf, "c", 9, ReadAllFault::Missing);
     all.expect(is_missing, "no file");
-    let is_long = refuses(alloc, &mut shelf, "a", 4, ReadAllFault::TooLong);
+    let is_long = refuses(alloc, shelf, "a", 4, ReadAllFault::TooLong);
     all.expect(is_long, "a file over the limit");
+    Ok(())
+}
+
+// What it does after that, where its calls 5 and 7 fail.
+fn expect_calls<S: Shelf>(alloc: Global, shelf: &mut S, all: &mut Expectations) {
     let length = shelf.length(alloc, "a");
     all.expect(length == Err(ShelfFault::Failed), "call 5 fails");
     let mut into = [0u8; 4];
@@ -111,6 +134,14 @@ pub fn shelf_in_memory(alloc: Global) -> Result<Expectations, TestFault> {
     all.expect(into == [b'4', b'5', 0, 0], "its bytes");
     let failed = matches!(shelf.names(alloc), Err(ShelfFault::Failed));
     all.expect(failed, "call 7 fails");
+}
+
+pub fn shelf_in_memory(alloc: Global) -> Result<Expectations, TestFault> {
+    let mut all = Expectations::new();
+    let held = files(alloc, &[("b", "old"), ("a", "12345"), ("b", "new")])?;
+    let mut shelf = MemoryShelf::new(alloc, held, calls(alloc, &[5, 7])?)?;
+    expect_files(alloc, &mut shelf, &mut all)?;
+    expect_calls(alloc, &mut shelf, &mut all);
     Ok(all)
 }
 

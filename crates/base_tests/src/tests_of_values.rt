@@ -76,20 +76,62 @@ fn pair(alloc: Global, over: i64, under: i64) -> Result<Seq<Test>, AllocError> {
     Ok(tests)
 }
 
+// IN: whether it is negated, the values that satisfy it, whether it may hold.
+const ONE_OF: &[(bool, &str, bool)] = &[(false, "26", false), (true, "1345789", true)];
+
+// Both bounds of a pair of tests, the values that satisfy both, whether they may hold.
+const ALL: &[(i64, i64, &str, bool)] = &[(1, 3, "2", false), (2, 5, "34", true)];
+
+// The same of either.
+const ANY: &[(i64, i64, &str, bool)] = &[(7, 4, "12389", true), (7, 3, "1289", false)];
+
+fn expect_one_of(
+    alloc: Global,
+    row: &(bool, &str, bool),
+    all: &mut Expectations,
+) -> Result<(), TestFault> {
+    let (negated, held, may) = *row;
+    let test = Test::OneOf(members(alloc)?, negated);
+    expect_test(all, &test, held, may)
+}
+
+fn expect_all(
+    alloc: Global,
+    row: &(i64, i64, &str, bool),
+    all: &mut Expectations,
+) -> Result<(), TestFault> {
+    let (over, under, held, may) = *row;
+    let test = Test::All(pair(alloc, over, under)?);
+    expect_test(all, &test, held, may)
+}
+
+fn expect_any(
+    alloc: Global,
+    row: &(i64, i64, &str, bool),
+    all: &mut Expectations,
+) -> Result<(), TestFault> {
+    let (over, under, held, may) = *row;
+    let test = Test::Any(pair(alloc, over, under)?);
+    expect_test(all, &test, held, may)
+}
+
+// No tests at all.
+fn expect_empty(alloc: Global, all: &mut Expectations) -> Result<(), TestFault> {
+    expect_test(all, &Test::All(Seq::new(alloc)), "123456789", true)?;
+    expect_test(all, &Test::Any(Seq::new(alloc)), "", false)
+}
+
 pub fn lists_of_tests(alloc: Global) -> Result<Expectations, TestFault> {
     let mut all = Expectations::new();
-    expect_test(&mut all, &Test::OneOf(members(alloc)?, false), "26", false)?;
-    expect_test(
-        &mut all,
-        &Test::OneOf(members(alloc)?, true),
-        "1345789",
-        true,
-    )?;
-    expect_test(&mut all, &Test::All(pair(alloc, 1, 3)?), "2", false)?;
-    expect_test(&mut all, &Test::All(pair(alloc, 2, 5)?), "34", true)?;
-    expect_test(&mut all, &Test::Any(pair(alloc, 7, 4)?), "12389", true)?;
-    expect_test(&mut all, &Test::Any(pair(alloc, 7, 3)?), "1289", false)?;
-    expect_test(&mut all, &Test::All(Seq::new(alloc)), "123456789", true)?;
-    expect_test(&mut all, &Test::Any(Seq::new(alloc)), "", false)?;
+    for row in ONE_OF {
+        expect_one_of(alloc, row, &mut all)?;
+    }
+    for row in ALL {
+        expect_all(alloc, row, &mut all)?;
+    }
+    for row in ANY {
+        expect_any(alloc, row, &mut all)?;
+    }
+    expect_empty(alloc, &mut all)?;
     Ok(all)
 }

@@ -26,23 +26,32 @@ fn reads_as_text(alloc: Global, text: &str) -> bool {
     }
 }
 
-fn expect_names(alloc: Global, all: &mut Expectations) -> Result<(), TestFault> {
-    let mut name = Name::new(alloc);
-    all.expect(name.is_empty(), "an empty name");
-    name.push_str("na")?;
-    let copy = name.copy()?;
-    name.push_str("me")?;
+// What is expected of `name` beside its copy of when it was `na`, and the same made of a string.
+fn expect_name(name: &Name, copy: &Name, same: &Name, all: &mut Expectations) {
     all.expect(copy.as_str() == "na", "a copy is not changed");
     all.expect(
         name.as_slice() == b"name".as_slice() && name.len() == 4,
         "a name",
     );
     all.expect(copy < name, "a proper prefix is less");
-    let same = Name::from_string(alloc, String::from_str(alloc, "na")?)?;
     all.expect(same == copy, "names by their bytes");
     if name.len() > 2 {
         all.expect(name.at(2) == b'm', "a byte of a name");
     }
+}
+
+fn na(alloc: Global) -> Result<Name, AllocError> {
+    Name::from_string(alloc, String::from_str(alloc, "na")?)
+}
+
+fn expect_names(alloc: Global, all: &mut Expectations) -> Result<(), TestFault> {
+    let mut name = Name::new(alloc);
+    all.expect(name.is_empty(), "an empty name");
+    name.push_str("na")?;
+    let copy = name.copy()?;
+    name.push_str("me")?;
+    let same = na(alloc)?;
+    expect_name(&name, &copy, &same, all);
     Ok(())
 }
 
@@ -122,15 +131,28 @@ fn row(alloc: Global, values: &[Value]) -> Result<Row, AllocError> {
     Ok(row)
 }
 
-pub fn order_of_rows(alloc: Global) -> Result<Expectations, TestFault> {
-    let mut all = Expectations::new();
-    let long = row(alloc, ascending(alloc)?.as_slice())?;
-    let short = row(alloc, &[Value::Whole(i64::MIN)])?;
-    all.expect(copy_row(alloc, &long)? == long, "a copy is equal");
+// What is expected of a row beside a proper prefix of it and its copy.
+fn expect_row(long: &Row, short: &Row, copy: &Row, all: &mut Expectations) {
+    all.expect(copy == long, "a copy is equal");
     if long.len() > 2 {
         all.expect(*long.at(2) == Value::Whole(10), "a value of a row");
     }
     all.expect(short != long && short < long, "a proper prefix is less");
+}
+
+fn long_row(alloc: Global) -> Result<Row, AllocError> {
+    row(alloc, ascending(alloc)?.as_slice())
+}
+
+fn short_row(alloc: Global) -> Result<Row, AllocError> {
+    row(alloc, &[Value::Whole(i64::MIN)])
+}
+
+pub fn order_of_rows(alloc: Global) -> Result<Expectations, TestFault> {
+    let mut all = Expectations::new();
+    let long = long_row(alloc)?;
+    let short = short_row(alloc)?;
+    expect_row(&long, &short, &copy_row(alloc, &long)?, &mut all);
     let is_found = is_found_by_order(alloc, &long)?;
     all.expect(is_found, "a key that is found by order");
     let is_found = is_found_by_hash(alloc, &long)?;
