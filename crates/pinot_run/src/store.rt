@@ -7,6 +7,7 @@ ghost use Rattle.table_schema.specs.ValidTable.{IsValidTable};
 ghost use Rattle.table_store.specs.Segments.{AreFirstNames};
 ghost use Rattle.table_store.specs.TableFile.{table_name};
 ghost use Rattle.pinot_run.specs.Gives.{FindsPlace, IsLookFault, IsStopOf, IsTakenStop, LooksFor};
+ghost use Rattle.pinot_run.specs.Places.{IsPlaceFault, IsPlaceStop};
 ghost use Rattle.pinot_run.specs.Profile.{TableFile};
 ghost use Rattle.pinot_run.specs.Stored.{HasTableFile, TableRefuses};
 
@@ -51,20 +52,28 @@ pub fn table_with_place<D: Depot>(alloc: Global, name: &str, depot: &mut D) -> R
     let table = stored_table(alloc, depot)?;
     match find_room(alloc, depot, name) {
         Ok(()) => Ok(table),
-        Err(StoreFault::NameTaken) => Err(name_taken(alloc, name)),
-        Err(StoreFault::TooManySegments) => Err(Stop::Refused(Note::TooLarge(
+        Err(fault) => Err(no_place(alloc, name, fault)),
+    }
+}
+
+// What a fault of a look for a place is for a command.
+fn no_place(alloc: Global, name: &str, fault: StoreFault) -> Stop
+    requires { IsPlaceFault fault }
+    ensures { IsPlaceStop name.now fault result }
+{
+    match fault {
+        StoreFault::NameTaken => name_taken(alloc, name),
+        StoreFault::TooManySegments => Stop::Refused(Note::TooLarge(
             Counted::Segments,
             MOST_SEGMENTS as u64,
-        ))),
-        Err(StoreFault::ReadFault) => Err(Stop::Fault(Fault::Read)),
-        Err(StoreFault::NoMemory) => Err(Stop::Fault(Fault::Memory)),
-        Err(
-            StoreFault::TableExists
-            | StoreFault::NoTable
-            | StoreFault::TooLarge
-            | StoreFault::NotASegment(_)
-            | StoreFault::WriteFault,
-        ) => unreachable!(),
+        )),
+        StoreFault::ReadFault => Stop::Fault(Fault::Read),
+        StoreFault::NoMemory => Stop::Fault(Fault::Memory),
+        StoreFault::TableExists
+        | StoreFault::NoTable
+        | StoreFault::TooLarge
+        | StoreFault::NotASegment(_)
+        | StoreFault::WriteFault => unreachable!(),
     }
 }
 
