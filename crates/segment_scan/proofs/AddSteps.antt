@@ -16,9 +16,9 @@ use Rattle.scan_engine.proofs.FoldLemmas.{count_marked, rows_marked}
 use Rattle.scan_engine.proofs.RunLemmas.{adds_as_more}
 use Rattle.segment_scan.specs.declared.coded.SegmentColumns.{SegmentColumns}
 use Rattle.segment_scan.specs.Coded.{AreCoded, table_of}
-use Rattle.segment_scan.specs.Sieves.{passing}
+use Rattle.segment_scan.specs.RowFilters.{passing}
 use Rattle.segment_scan.proofs.CodedLemmas.{below_marked, counts}
-use Rattle.segment_scan.proofs.SieveLemmas.{passing-both}
+use Rattle.segment_scan.proofs.RowFilterLemmas.{passing-both}
 
 pub passing-few : (holds : ℕ → Bool) (from n : ℕ) → length (passing holds from n) ≤ n
 passing-few holds from zero = omega arith

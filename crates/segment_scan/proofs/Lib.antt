@@ -1,5 +1,5 @@
 pub mod CodedLemmas
-pub mod SieveLemmas
+pub mod RowFilterLemmas
 pub mod AddSteps
 pub mod ServedLemmas
 pub mod DocLemmas

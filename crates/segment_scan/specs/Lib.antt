@@ -1,6 +1,6 @@
 pub mod Coded
 pub mod Slots
-pub mod Sieves
+pub mod RowFilters
 pub mod Faults
 pub mod Forward
 pub mod Scans

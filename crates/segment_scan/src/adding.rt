@@ -8,14 +8,14 @@ ghost use Rattle.group_table.specs.Kept.{IsTableOf, groups_in};
 ghost use Rattle.scan_engine.specs.Scanned.{AddsRows, HaveAtMost, IsOverfull, selected};
 ghost use Rattle.segment_scan.specs.Coded.{AreCoded, table_of};
 ghost use Rattle.segment_scan.specs.Served.{rest_of};
-ghost use Rattle.segment_scan.specs.Sieves.{AllCover, all_let, passing};
+ghost use Rattle.segment_scan.specs.RowFilters.{AllCover, all_let, passing};
 ghost use Rattle.dictionary.specs.Coding.{AreBelow};
 ghost use Rattle.scan_engine.specs.Places.{rows_at};
 
 use crate::coded::SegmentColumns;
 use crate::merging::add_places;
+use crate::row_filter::{RowFilter, row_filters_of};
 use crate::selection::{Block, push_block};
-use crate::sieve::{Sieve, sieves_of};
 use group_table::{GroupTable, TableFault};
 use segment_plan::IndexChoice;
 use std::alloc::Global;
@@ -45,8 +45,8 @@ pub fn add_segment(
     ensures full { result ≡ Err TooManyGroups → IsOverfull query.now
         (selected (rest_of query.now choices.now) (rows_of (table_of segment.now))) table.old }
 {
-    let sieves = sieves_of(alloc, segment, query.conjuncts.as_slice(), choices)?;
-    add_blocks(alloc, query, segment, sieves.as_slice(), table)
+    let row_filters = row_filters_of(alloc, segment, query.conjuncts.as_slice(), choices)?;
+    add_blocks(alloc, query, segment, row_filters.as_slice(), table)
 }
 
 // Adds the rows of a segment that conditions let through.
@@ -54,19 +54,19 @@ fn add_blocks(
     alloc: Global,
     query: &BoundQuery,
     segment: &SegmentColumns<'_>,
-    sieves: &[Sieve<'_>],
+    row_filters: &[RowFilter<'_>],
     table: &mut GroupTable,
 ) -> Result<(), TableFault>
     requires coded { AreCoded segment.now }
-    requires covers { AllCover segment.now.count sieves.now }
+    requires covers { AllCover segment.now.count row_filters.now }
     requires table { IsTableOf query.now table.old }
     requires fits { HaveAtMost (most_values - segment.now.count) (groups_in table.old) }
     ensures ok { OnOk result (AddsRows query.now segment.now.count
         (rows_at (table_of segment.now).columns
-        (passing (λ at. all_let at sieves.now) 0 segment.now.count)) table.old table.new) }
+        (passing (λ at. all_let at row_filters.now) 0 segment.now.count)) table.old table.new) }
     ensures full { result ≡ Err TooManyGroups → IsOverfull query.now
         (rows_at (table_of segment.now).columns
-        (passing (λ at. all_let at sieves.now) 0 segment.now.count)) table.old }
+        (passing (λ at. all_let at row_filters.now) 0 segment.now.count)) table.old }
 {
     let room = MOST_PLACES.min(segment.count) + BLOCK;
     let mut places = Vec::with_capacity(alloc, room)?;
@@ -78,7 +78,7 @@ fn add_blocks(
             alloc,
             query,
             segment,
-            sieves,
+            row_filters,
             block,
             done,
             &mut places,
@@ -115,33 +115,33 @@ fn add_block(
     alloc: Global,
     query: &BoundQuery,
     segment: &SegmentColumns<'_>,
-    sieves: &[Sieve<'_>],
+    row_filters: &[RowFilter<'_>],
     block: Block,
     done: usize,
     places: &mut Vec<u32>,
     table: &mut GroupTable,
 ) -> Result<usize, TableFault>
     requires coded { AreCoded segment.now }
-    requires covers { AllCover segment.now.count sieves.now }
+    requires covers { AllCover segment.now.count row_filters.now }
     requires within { block.from + block.length ≤ segment.now.count }
     requires table { IsTableOf query.now table.old }
     requires fits { HaveAtMost (most_values - segment.now.count + done) (groups_in table.old) }
     requires done { done ≤ block.from }
     requires places { places.old.items
-        ≡ passing (λ at. all_let at sieves.now) done (block.from - done) }
+        ≡ passing (λ at. all_let at row_filters.now) done (block.from - done) }
     ensures next { IfOk result (λ next. next ≤ block.from + block.length) }
     ensures from { IfOk result (λ next. done ≤ next) }
     ensures places { IfOk result (λ next. places.new.items
-        ≡ passing (λ at. all_let at sieves.now) next (block.from + block.length - next)) }
+        ≡ passing (λ at. all_let at row_filters.now) next (block.from + block.length - next)) }
     ensures ok { IfOk result (λ next. AddsRows query.now (next - done)
         (rows_at (table_of segment.now).columns
-        (passing (λ at. all_let at sieves.now) done (next - done))) table.old table.new) }
+        (passing (λ at. all_let at row_filters.now) done (next - done))) table.old table.new) }
     ensures full { result ≡ Err TooManyGroups → IsOverfull query.now
         (rows_at (table_of segment.now).columns
-        (passing (λ at. all_let at sieves.now) done (block.from + block.length - done)))
+        (passing (λ at. all_let at row_filters.now) done (block.from + block.length - done)))
         table.old }
 {
-    push_block(alloc, sieves, segment.count, block, places)?;
+    push_block(alloc, row_filters, segment.count, block, places)?;
     if places.len() < MOST_PLACES {
         return Ok(done);
     }

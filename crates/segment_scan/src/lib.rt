@@ -16,12 +16,12 @@ mod named;
 mod picking;
 mod ranking;
 mod reading;
+mod row_filter;
 mod scan;
 mod scan_laws;
 mod segment;
 mod selection;
 mod serving;
-mod sieve;
 mod slots;
 mod whole;
 

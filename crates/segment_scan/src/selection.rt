@@ -4,9 +4,9 @@ ghost use Rattle.std.specs.Prelude.{◌≡◌, ◌&&◌, ◌||◌, ◌+◌, ◌<
 ghost use Rattle.dictionary.specs.Ids.{has_id};
 ghost use Rattle.scan_engine.specs.Selection.{Keeps};
 ghost use Rattle.segment_scan.specs.Coded.{Widens, most_rows};
-ghost use Rattle.segment_scan.specs.Sieves.{AllCover, all_let, covers, lets, passing};
+ghost use Rattle.segment_scan.specs.RowFilters.{AllCover, all_let, covers, lets, passing};
 
-use crate::sieve::Sieve;
+use crate::row_filter::RowFilter;
 use dictionary::IdSet;
 use std::alloc::Global;
 use values::NoMemory;
@@ -21,39 +21,39 @@ pub struct Block {
 /// Adds the places of those rows of a block that all conditions let through.
 pub fn push_block(
     alloc: Global,
-    sieves: &[Sieve<'_>],
+    row_filters: &[RowFilter<'_>],
     count: usize,
     block: Block,
     places: &mut Vec<u32>,
 ) -> Result<(), NoMemory>
-    requires covers { AllCover count sieves.now }
+    requires covers { AllCover count row_filters.now }
     requires within { block.from + block.length ≤ count }
     requires few { count ≤ most_rows }
     ensures { OnOk result (places.new.items ≡ places.old.items
-        ++ passing (λ at. all_let at sieves.now) block.from block.length) }
+        ++ passing (λ at. all_let at row_filters.now) block.from block.length) }
 {
-    if sieves.is_empty() {
+    if row_filters.is_empty() {
         return push_all(block, places);
     }
-    let marks = mark_block(alloc, sieves, count, block)?;
+    let marks = mark_block(alloc, row_filters, count, block)?;
     push_marked(block, &marks, places)
 }
 
 // A mark for each row of a block, whether all conditions let it through.
 fn mark_block(
     alloc: Global,
-    sieves: &[Sieve<'_>],
+    row_filters: &[RowFilter<'_>],
     count: usize,
     block: Block,
 ) -> Result<Vec<bool>, NoMemory>
-    requires covers { AllCover count sieves.now }
+    requires covers { AllCover count row_filters.now }
     requires within { block.from + block.length ≤ count }
     ensures count { IfOk result (λ marks. length marks.items ≡ block.length) }
     ensures each { IfOk result (λ marks. (at : ℕ) → at < block.length
-        → get_or marks.items at false ≡ all_let (block.from + at) sieves.now) }
+        → get_or marks.items at false ≡ all_let (block.from + at) row_filters.now) }
 {
     let mut marks = vec![in alloc; true; block.length]?;
-    keep_all(alloc, &mut marks, count, block.from, sieves)?;
+    keep_all(alloc, &mut marks, count, block.from, row_filters)?;
     Ok(marks)
 }
 
@@ -63,14 +63,14 @@ fn keep_all(
     marks: &mut [bool],
     count: usize,
     from: usize,
-    sieves: &[Sieve<'_>],
+    row_filters: &[RowFilter<'_>],
 ) -> Result<(), NoMemory>
-    requires covers { AllCover count sieves.now }
+    requires covers { AllCover count row_filters.now }
     requires within { from + length marks.old ≤ count }
-    ensures { OnOk result (Keeps (λ at. all_let (from + at) sieves.now) marks.old marks.new) }
+    ensures { OnOk result (Keeps (λ at. all_let (from + at) row_filters.now) marks.old marks.new) }
 {
-    for at in 0..sieves.len() {
-        keep(alloc, marks, count, from, &sieves[at])?;
+    for at in 0..row_filters.len() {
+        keep(alloc, marks, count, from, &row_filters[at])?;
     }
     Ok(())
 }
@@ -120,20 +120,20 @@ fn keep(
     marks: &mut [bool],
     count: usize,
     from: usize,
-    sieve: &Sieve<'_>,
+    row_filter: &RowFilter<'_>,
 ) -> Result<(), NoMemory>
-    requires covers { covers count sieve.now ≡ true }
+    requires covers { covers count row_filter.now ≡ true }
     requires within { from + length marks.old ≤ count }
-    ensures { OnOk result (Keeps (λ at. lets (from + at) sieve.now) marks.old marks.new) }
+    ensures { OnOk result (Keeps (λ at. lets (from + at) row_filter.now) marks.old marks.new) }
 {
-    match sieve {
-        Sieve::Ids(ids, matching) => {
+    match row_filter {
+        RowFilter::Ids(ids, matching) => {
             let own = ids_between(ids, from, marks.len());
             keep_ids(marks, own, matching);
         }
-        Sieve::Fixed(holds) => keep_if(marks, *holds),
-        Sieve::All(_) | Sieve::Any(_) => {
-            let own = marks_of(alloc, count, from, marks.len(), sieve)?;
+        RowFilter::Fixed(holds) => keep_if(marks, *holds),
+        RowFilter::All(_) | RowFilter::Any(_) => {
+            let own = marks_of(alloc, count, from, marks.len(), row_filter)?;
             keep_marked(marks, &own);
         }
     }
@@ -222,24 +222,24 @@ fn marks_of(
     count: usize,
     from: usize,
     many: usize,
-    sieve: &Sieve<'_>,
+    row_filter: &RowFilter<'_>,
 ) -> Result<Vec<bool>, NoMemory>
-    requires covers { covers count sieve.now ≡ true }
+    requires covers { covers count row_filter.now ≡ true }
     requires within { from + many ≤ count }
     ensures count { IfOk result (λ marks. length marks.items ≡ many) }
     ensures each { IfOk result (λ marks. (at : ℕ) → at < many
-        → get_or marks.items at false ≡ lets (from + at) sieve.now) }
+        → get_or marks.items at false ≡ lets (from + at) row_filter.now) }
 {
-    match sieve {
-        Sieve::Ids(ids, matching) => {
+    match row_filter {
+        RowFilter::Ids(ids, matching) => {
             let marks = marks_of_ids(alloc, ids_between(ids, from, many), matching)?;
             Ok(marks)
         }
-        Sieve::Fixed(holds) => {
+        RowFilter::Fixed(holds) => {
             let marks = same_marks(alloc, *holds, many)?;
             Ok(marks)
         }
-        Sieve::All(inner) => {
+        RowFilter::All(inner) => {
             let mut marks = same_marks(alloc, true, many)?;
             for member in inner.as_slice() {
                 let own = marks_of(alloc, count, from, many, member)?;
@@ -247,7 +247,7 @@ fn marks_of(
             }
             Ok(marks)
         }
-        Sieve::Any(inner) => {
+        RowFilter::Any(inner) => {
             let mut marks = same_marks(alloc, false, many)?;
             for member in inner.as_slice() {
                 let own = marks_of(alloc, count, from, many, member)?;

@@ -8,7 +8,7 @@ use Rattle.scan_engine.specs.Scanned.{IsOverfull}
 use Rattle.scan_engine.proofs.AddLemmas.{adds_nothing, at_most_more}
 use Rattle.scan_engine.proofs.RunLemmas.{same_fault}
 use Rattle.segment_scan.specs.Coded.{table_of}
-use Rattle.segment_scan.specs.Sieves.{all_let, passing}
+use Rattle.segment_scan.specs.RowFilters.{all_let, passing}
 use Rattle.segment_scan.proofs.AddSteps.{add-next, add-overfull, blocks-enough, passing-below, passing-few, some-added}
 use Rattle.segment_scan.proofs.adding.add_blocks.Goals as goal
 
@@ -25,7 +25,7 @@ pub returns-in-Err-clause-full : goal.returns-in-Err-clause-full
 returns-in-Err-clause-full c = λ bad.
     let to : ℕ = c.loop.from + c.block_from-block.result.length in
     let done : ℕ = c.loop.done in
-    let holds : ℕ → Bool = λ at. all_let at c.args.sieves.now in
+    let holds : ℕ → Bool = λ at. all_let at c.args.row_filters.now in
     let from : c.block_from-block.result.from ≡ c.loop.from = c.block_from-block.ensures.from in
     let over = c.add_block.ensures.full (c.in-Err.is ∙ same_fault _ _ bad) in
     add-overfull c.args.query.now (table_of c.args.segment.now).columns holds done to c.args.segment.now.count c.args.table.now c.loop.table
@@ -35,7 +35,7 @@ returns-in-Err-clause-full c = λ bad.
 pub loop-preserved : goal.loop-preserved
 loop-preserved c =
     let length : ℕ = c.block_from-block.result.length in
-    let holds : ℕ → Bool = λ at. all_let at c.args.sieves.now in
+    let holds : ℕ → Bool = λ at. all_let at c.args.row_filters.now in
     let from : c.block_from-block.result.from ≡ c.loop.from = c.block_from-block.ensures.from in
     record {
       within = c.block_from-block.ensures.within;
@@ -48,20 +48,20 @@ loop-preserved c =
 pub add_some-requires-clause-few : goal.add_some-requires-clause-few
 add_some-requires-clause-few c =
     let n : ℕ = c.loop.from - c.loop.done in
-    let few : length c.as_slice.result.now ≤ n = subst (λ (l : List ℕ). length l ≤ n) (sym (c.as_slice.ensures.value ∙ c.loop.invariant.places)) (passing-few (λ at. all_let at c.args.sieves.now) c.loop.done n) in
+    let few : length c.as_slice.result.now ≤ n = subst (λ (l : List ℕ). length l ≤ n) (sym (c.as_slice.ensures.value ∙ c.loop.invariant.places)) (passing-few (λ at. all_let at c.args.row_filters.now) c.loop.done n) in
     omega (arith, few, c.loop.invariant.within)
 
 pub add_some-requires-clause-rows : goal.add_some-requires-clause-rows
 add_some-requires-clause-rows c =
     let n : ℕ = c.loop.from - c.loop.done in
     subst (AreBelow c.args.segment.now.count) (sym (c.as_slice.ensures.value ∙ c.loop.invariant.places))
-    (passing-below (λ at. all_let at c.args.sieves.now) c.loop.done n c.args.segment.now.count (omega (arith, c.loop.invariant.within, c.loop.invariant.done)))
+    (passing-below (λ at. all_let at c.args.row_filters.now) c.loop.done n c.args.segment.now.count (omega (arith, c.loop.invariant.within, c.loop.invariant.done)))
 
 pub add_some-requires-clause-fits : goal.add_some-requires-clause-fits
 add_some-requires-clause-fits c =
     let n : ℕ = c.loop.from - c.loop.done in
     let count : ℕ = c.args.segment.now.count in
-    let few : length c.as_slice.result.now ≤ n = subst (λ (l : List ℕ). length l ≤ n) (sym (c.as_slice.ensures.value ∙ c.loop.invariant.places)) (passing-few (λ at. all_let at c.args.sieves.now) c.loop.done n) in
+    let few : length c.as_slice.result.now ≤ n = subst (λ (l : List ℕ). length l ≤ n) (sym (c.as_slice.ensures.value ∙ c.loop.invariant.places)) (passing-few (λ at. all_let at c.args.row_filters.now) c.loop.done n) in
     at_most_more (groups_in c.loop.table) ((most_values - count) + c.loop.done) (most_values - length c.as_slice.result.now) (omega (arith, few, c.loop.invariant.within, c.loop.invariant.done, c.requires.coded.few))
     (c.loop.invariant.adds.fits (most_values - count) c.requires.fits)
 
@@ -71,7 +71,7 @@ add_block-requires-clause-fits c = c.loop.invariant.adds.fits (most_values - c.a
 pub returns-clause-ok : goal.returns-clause-ok
 returns-clause-ok c =
     let count : ℕ = c.args.segment.now.count in
-    let holds : ℕ → Bool = λ at. all_let at c.args.sieves.now in
+    let holds : ℕ → Bool = λ at. all_let at c.args.row_filters.now in
     let end : c.loop.from ≡ count = omega (arith, c.loop.invariant.within, c.loop.invariant.left, c.loop-test.false) in
     let is : c.as_slice.result.now ≡ passing holds c.loop.done (count - c.loop.done) = c.as_slice.ensures.value ∙ c.loop.invariant.places ∙ ap (λ n. passing holds c.loop.done (n - c.loop.done)) end in
     IfOk-weaker c.add_some.result _ _ (λ u a.
@@ -81,7 +81,7 @@ returns-clause-ok c =
 pub returns-clause-full : goal.returns-clause-full
 returns-clause-full c = λ bad.
     let count : ℕ = c.args.segment.now.count in
-    let holds : ℕ → Bool = λ at. all_let at c.args.sieves.now in
+    let holds : ℕ → Bool = λ at. all_let at c.args.row_filters.now in
     let end : c.loop.from ≡ count = omega (arith, c.loop.invariant.within, c.loop.invariant.left, c.loop-test.false) in
     let is : c.as_slice.result.now ≡ passing holds c.loop.done (count - c.loop.done) = c.as_slice.ensures.value ∙ c.loop.invariant.places ∙ ap (λ n. passing holds c.loop.done (n - c.loop.done)) end in
     add-overfull c.args.query.now (table_of c.args.segment.now).columns holds c.loop.done count count c.args.table.now c.loop.table

@@ -2,7 +2,7 @@ use Rattle.std.proofs.Common.{◌≡◌, ◌≤◌, ◌+◌, ◌-◌, ◌*◌, �
 use Rattle.scan_engine.specs.Places.{rows_at}
 use Rattle.scan_engine.specs.Scanned.{AddsRows}
 use Rattle.segment_scan.specs.Coded.{table_of}
-use Rattle.segment_scan.specs.Sieves.{all_let, passing}
+use Rattle.segment_scan.specs.RowFilters.{all_let, passing}
 use Rattle.segment_scan.proofs.adding.add_blocks.Given as goal
 
 abbrev pub invariant-loop : goal.invariant-loop
@@ -10,6 +10,6 @@ invariant-loop l = record {
   within : l.from ≤ l.segment.count;
   left : l.segment.count - l.from ≤ (l.segment.count / 4096 + 1 - l.counter) * 4096;
   done : l.done ≤ l.from;
-  places : l.places.items ≡ passing (λ at. all_let at l.sieves) l.done (l.from - l.done);
-  adds : AddsRows l.query l.done (rows_at (table_of l.segment).columns (passing (λ at. all_let at l.sieves) 0 l.done)) l.fn.table l.table;
+  places : l.places.items ≡ passing (λ at. all_let at l.row_filters) l.done (l.from - l.done);
+  adds : AddsRows l.query l.done (rows_at (table_of l.segment).columns (passing (λ at. all_let at l.row_filters) 0 l.done)) l.fn.table l.table;
 }

@@ -9,10 +9,10 @@ use Rattle.table_schema.specs.declared.query.BoundQuery.{BoundQuery}
 use Rattle.table_schema.specs.declared.query.Conjunct.{Conjunct}
 use Rattle.scan_engine.specs.Places.{rows_at}
 use Rattle.scan_engine.specs.Scanned.{AddsRows, IsOverfull, selected}
-use Rattle.segment_scan.specs.declared.sieve.Sieve.{Sieve}
+use Rattle.segment_scan.specs.declared.row_filter.RowFilter.{RowFilter}
 use Rattle.segment_scan.specs.Coded.{table_of}
 use Rattle.segment_scan.specs.Served.{rest_of, unserved}
-use Rattle.segment_scan.specs.Sieves.{all_let, passing}
+use Rattle.segment_scan.specs.RowFilters.{all_let, passing}
 use Rattle.segment_scan.proofs.CodedLemmas.{counts}
 use Rattle.segment_scan.proofs.AddSteps.{passing-rows}
 use Rattle.segment_scan.proofs.adding.add_segment.Goals as goal
@@ -24,7 +24,7 @@ returns-clause-ok c =
     let b : ListedColumns = table_of c.args.segment.now in
     let holds : ℕ → Bool = λ at. all_let at c.as_slice-2.result.now in
     let same : (at : ℕ) → at < b.count → holds at ≡ all_hold (row_of b.columns at) rest.conjuncts = λ at lt.
-    ap (λ (l : List Sieve). all_let at l) c.as_slice-2.ensures.value ∙ c.in_ok-sieves.ensures.lets at lt
+    ap (λ (l : List RowFilter). all_let at l) c.as_slice-2.ensures.value ∙ c.in_ok-row_filters.ensures.lets at lt
     ∙ ap (λ (l : List Conjunct). all_hold (row_of b.columns at) (unserved c.args.choices.now l)) c.as_slice.ensures in
     let many : length (rows_of b) ≡ b.count = length-rows b.count b.columns (counts c.args.segment.now c.requires.coded) in
     let rows : rows_at b.columns (passing holds 0 b.count) ≡ selected rest (rows_of b) =
@@ -38,7 +38,7 @@ returns-clause-full c = λ bad.
     let b : ListedColumns = table_of c.args.segment.now in
     let holds : ℕ → Bool = λ at. all_let at c.as_slice-2.result.now in
     let same : (at : ℕ) → at < b.count → holds at ≡ all_hold (row_of b.columns at) rest.conjuncts = λ at lt.
-    ap (λ (l : List Sieve). all_let at l) c.as_slice-2.ensures.value ∙ c.in_ok-sieves.ensures.lets at lt
+    ap (λ (l : List RowFilter). all_let at l) c.as_slice-2.ensures.value ∙ c.in_ok-row_filters.ensures.lets at lt
     ∙ ap (λ (l : List Conjunct). all_hold (row_of b.columns at) (unserved c.args.choices.now l)) c.as_slice.ensures in
     let many : length (rows_of b) ≡ b.count = length-rows b.count b.columns (counts c.args.segment.now c.requires.coded) in
     let rows : rows_at b.columns (passing holds 0 b.count) ≡ selected rest (rows_of b) =

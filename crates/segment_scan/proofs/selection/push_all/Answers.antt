@@ -1,6 +1,6 @@
 use Rattle.std.proofs.Common.{◌∙◌, ◌+◌, ◌++◌, ◌∷◌, [], ℕ, List, true, ap, sym, append_assoc}
-use Rattle.segment_scan.specs.Sieves.{passing}
-use Rattle.segment_scan.proofs.SieveLemmas.{passing-more}
+use Rattle.segment_scan.specs.RowFilters.{passing}
+use Rattle.segment_scan.proofs.RowFilterLemmas.{passing-more}
 use Rattle.segment_scan.proofs.selection.push_all.Goals as goal
 
 pub loop-at-preserved : goal.loop-at-preserved

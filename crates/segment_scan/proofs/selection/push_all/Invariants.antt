@@ -1,5 +1,5 @@
 use Rattle.std.proofs.Common.{◌≡◌, ◌++◌, true}
-use Rattle.segment_scan.specs.Sieves.{passing}
+use Rattle.segment_scan.specs.RowFilters.{passing}
 use Rattle.segment_scan.proofs.selection.push_all.Given as goal
 
 abbrev pub invariant-loop-at : goal.invariant-loop-at

@@ -5,17 +5,17 @@ use Rattle.values.specs.Columns.{row_of}
 use Rattle.table_schema.specs.Conditions.{all_hold, conjunct_holds}
 use Rattle.table_schema.specs.declared.query.Conjunct.{Conjunct}
 use Rattle.segment_plan.specs.declared.plans.IndexChoice.{IndexChoice}
-use Rattle.segment_scan.specs.declared.sieve.Sieve.{Sieve}
+use Rattle.segment_scan.specs.declared.row_filter.RowFilter.{RowFilter}
 use Rattle.segment_scan.specs.Coded.{table_of}
 use Rattle.segment_scan.specs.Served.{is_served, unserved}
-use Rattle.segment_scan.specs.Sieves.{all_let, covers}
+use Rattle.segment_scan.specs.RowFilters.{all_let, covers}
 use Rattle.segment_scan.proofs.ServedLemmas.{none_unserved, unserved_more}
-use Rattle.segment_scan.proofs.sieve.sieves_of.Goals as goal
+use Rattle.segment_scan.proofs.row_filter.row_filters_of.Goals as goal
 
 pub loop-at-init : goal.loop-at-init
 loop-at-init c = record {
-  lets = λ row lt. ap (λ (l : List Sieve). all_let row l) c.new-sieves.ensures.items ∙ ap (λ (l : List Conjunct). all_hold (row_of (table_of c.args.segment.now).columns row) l) (sym (none_unserved c.args.choices.now));
-  covers = ap (λ (l : List Sieve). list_all (covers c.args.segment.now.count) l) c.new-sieves.ensures.items;
+  lets = λ row lt. ap (λ (l : List RowFilter). all_let row l) c.new-row_filters.ensures.items ∙ ap (λ (l : List Conjunct). all_hold (row_of (table_of c.args.segment.now).columns row) l) (sym (none_unserved c.args.choices.now));
+  covers = ap (λ (l : List RowFilter). list_all (covers c.args.segment.now.count) l) c.new-row_filters.ensures.items;
 }
 
 pub loop-at-preserved : goal.loop-at-preserved
