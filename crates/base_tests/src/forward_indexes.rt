@@ -3,9 +3,9 @@
 ghost use Rattle.std.specs.Prelude.{◌≤◌, ◌<◌, ◌^◌, All, IsTrue};
 
 use crate::expect::{Expectations, TestFault};
-use crate::shelves::{bytes, calls, name};
+use crate::shelves::{name, named_file, shelf_of};
 use bit_column::{ColumnFault, at, read_range, width_for, write};
-use outside::{Bytes, MemoryShelf, Name, NoMemory, Place, Seq};
+use outside::{MemoryShelf, NoMemory, Place};
 use std::alloc::Global;
 
 // Widths, ids and the bytes that they are, worked by hand.
@@ -41,9 +41,7 @@ const READS: &[Read] = &[
 ];
 
 fn shelf(alloc: Global, failing: &[u64]) -> Result<MemoryShelf, NoMemory> {
-    let mut files: Seq<(Name, Bytes)> = Seq::new(alloc);
-    files.push((name(alloc, "f")?, bytes(alloc, FILE)?))?;
-    MemoryShelf::new(alloc, files, calls(alloc, failing)?)
+    shelf_of(alloc, named_file(alloc, "f", FILE)?, failing)
 }
 
 fn place(alloc: Global, file: &str, offset: u64, length: u64) -> Result<Place, NoMemory> {

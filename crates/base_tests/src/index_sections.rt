@@ -3,11 +3,11 @@
 ghost use Rattle.std.specs.Prelude.{◌≡◌, ◌<◌, [], ◌∷◌, IfOk};
 
 use crate::expect::{Expectations, TestFault};
-use crate::shelves::{calls, name};
+use crate::shelves::{name, shelf_of};
 use dictionary::IdSet;
 use doc_lists::DocList;
 use index_reading::{ListFault, ListKind, docs_between, docs_of_ids};
-use outside::{Bytes, MemoryShelf, Name, NoMemory, Place, Seq};
+use outside::{MemoryShelf, NoMemory, Place, Seq};
 use std::alloc::Global;
 
 // How many ids the column of the range index has, and how many rows.
@@ -60,9 +60,7 @@ fn shelf(alloc: Global, words: &[u32], failing: &[u64]) -> Result<MemoryShelf, N
     for word in words {
         bytes.extend_from_slice(&word.to_be_bytes())?;
     }
-    let mut files: Seq<(Name, Bytes)> = Seq::new(alloc);
-    files.push((name(alloc, "f")?, Seq::from_vec(bytes)))?;
-    MemoryShelf::new(alloc, files, calls(alloc, failing)?)
+    shelf_of(alloc, (name(alloc, "f")?, Seq::from_vec(bytes)), failing)
 }
 
 // The section that is a file of so many numbers.

@@ -20,9 +20,27 @@ pub fn bytes(alloc: Global, text: &[u8]) -> Result<Bytes, AllocError> {
 pub fn files(alloc: Global, named: &[(&str, &str)]) -> Result<Seq<(Name, Bytes)>, AllocError> {
     let mut files = Seq::new(alloc);
     for (file, text) in named {
-        files.push((name(alloc, file)?, bytes(alloc, text.as_bytes())?))?;
+        files.push(named_file(alloc, file, text.as_bytes())?)?;
     }
     Ok(files)
+}
+
+/// A file of that name with these bytes.
+pub fn named_file(alloc: Global, file: &str, text: &[u8]) -> Result<(Name, Bytes), AllocError> {
+    let name = name(alloc, file)?;
+    let bytes = bytes(alloc, text)?;
+    Ok((name, bytes))
+}
+
+/// A shelf with one file, some of whose calls fail.
+pub fn shelf_of(
+    alloc: Global,
+    file: (Name, Bytes),
+    failing: &[u64],
+) -> Result<MemoryShelf, AllocError> {
+    let mut files = Seq::new(alloc);
+    files.push(file)?;
+    MemoryShelf::new(alloc, files, calls(alloc, failing)?)
 }
 
 /// The numbers of calls that fail.

@@ -74,6 +74,27 @@ fn is_doc(table: &StarTable, at: u32, ids: [u32; 3], sum: i128, count: u64) -> b
         && table.state(at, 1) == AggState::Count(count)
 }
 
+// What is expected of the documents that were starred and merged.
+fn expect_docs(table: &StarTable, all: &mut Expectations)
+    requires dims { table.now.dims ≡ 3 }
+    requires kinds { table.now.kinds ≡ kind.Sum ∷ kind.Count ∷ [] }
+{
+    all.expect(table.len() == 7, "seven documents");
+    all.expect(
+        is_doc(table, 3, [2, STAR, 0], 1000, 2),
+        "English in any browser",
+    );
+    all.expect(
+        is_doc(table, 4, [2, STAR, 1], 200, 1),
+        "Spanish in any browser",
+    );
+    all.expect(is_doc(table, 5, [2, STAR, STAR], 1200, 3), "all rows");
+    all.expect(
+        is_doc(table, 6, [2, 1, STAR], 600, 2),
+        "Firefox in any language",
+    );
+}
+
 /// Documents are starred, merged and aggregated in their table.
 pub fn tables_of_documents(alloc: Global) -> Result<Expectations, TestFault> {
     let mut all = Expectations::new();
@@ -83,20 +104,7 @@ pub fn tables_of_documents(alloc: Global) -> Result<Expectations, TestFault> {
     all.expect(starred == 2, "two locales");
     table.append_total(0, 3, 1);
     table.append_total(1, 3, 2);
-    all.expect(table.len() == 7, "seven documents");
-    all.expect(
-        is_doc(&table, 3, [2, STAR, 0], 1000, 2),
-        "English in any browser",
-    );
-    all.expect(
-        is_doc(&table, 4, [2, STAR, 1], 200, 1),
-        "Spanish in any browser",
-    );
-    all.expect(is_doc(&table, 5, [2, STAR, STAR], 1200, 3), "all rows");
-    all.expect(
-        is_doc(&table, 6, [2, 1, STAR], 600, 2),
-        "Firefox in any language",
-    );
+    expect_docs(&table, &mut all);
     Ok(all)
 }
 
