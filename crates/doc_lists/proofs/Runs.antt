@@ -32,7 +32,7 @@ up_range from a (suc n) rest le up =
     let same : a + suc n ≡ a + 1 + n = omega arith in
     (le, up_range (a + 1) (a + 1) n rest (omega arith) (subst (λ m. Up m rest) same up))
 
-up_runs : (from : ℕ) (runs : List Run) → Apart from runs → Up from (docs_of runs)
+pub up_runs : (from : ℕ) (runs : List Run) → Apart from runs → Up from (docs_of runs)
 up_runs from [] apart = tt
 up_runs from (run ∷ runs) apart =
     let end : run.first + (run.last + 1 - run.first) ≤ run.last + 2 = omega (arith, apart.1) in
@@ -51,11 +51,11 @@ next_is next (run ∷ more ∷ runs) d some =
     let up : length (run ∷ more ∷ runs) - 1 ≡ suc (length (more ∷ runs) - 1) = omega arith in
     next_is (run.last + 1) (more ∷ runs) d (omega arith) ∙ ap (λ n. (get_or (run ∷ more ∷ runs) n d).last + 1) (sym up)
 
-next_pushed : (next : ℕ) (runs : List Run) (run : Run) → next_from next (runs ++ run ∷ []) ≡ run.last + 1
+pub next_pushed : (next : ℕ) (runs : List Run) (run : Run) → next_from next (runs ++ run ∷ []) ≡ run.last + 1
 next_pushed next [] run = refl
 next_pushed next (first ∷ runs) run = next_pushed (first.last + 1) runs run
 
-last_below : (run : Run) (rest : List ℕ) (limit : ℕ) → run.first ≤ run.last → All (λ x. x < limit) (docs_of_run run ++ rest) → run.last < limit
+pub last_below : (run : Run) (rest : List ℕ) (limit : ℕ) → run.first ≤ run.last → All (λ x. x < limit) (docs_of_run run ++ rest) → run.last < limit
 last_below run rest limit order all =
     let n = run.last + 1 - run.first in
     let k = run.last - run.first in
@@ -85,7 +85,7 @@ apart_pushed_far : (from next : ℕ) (runs : List Run) (run : Run) → from ≤ 
 apart_pushed_far from next [] run le apart far order small = (omega (arith, le, far), order, small, tt)
 apart_pushed_far from next (first ∷ runs) run le apart far order small = (apart.0, apart.1, apart.2, apart_pushed_far (first.last + 2) (first.last + 1) runs run (omega arith) apart.3 far order small)
 
-docs_pushed : (runs : List Run) (run : Run) → docs_of (runs ++ run ∷ []) ≡ docs_of runs ++ docs_of_run run
+pub docs_pushed : (runs : List Run) (run : Run) → docs_of (runs ++ run ∷ []) ≡ docs_of runs ++ docs_of_run run
 docs_pushed [] run = append-nil (docs_of_run run)
 docs_pushed (first ∷ runs) run = ap (λ docs. docs_of_run first ++ docs) (docs_pushed runs run) ∙ sym (append_assoc (docs_of_run first) (docs_of runs) (docs_of_run run))
 

@@ -3,21 +3,21 @@ use Rattle.std.proofs.Common.{◌≡◌, ◌∙◌, ◌⊎◌, min, max, not, co
 use mir.Val.{bool_byte}
 use Rattle.std.specs.List.{All, range_with_len}
 use Rattle.std.specs.List.Sorted.{IsStrictlyIncreasing}
-use Rattle.std.proofs.lemmas.Bool.{cases_lt, leb-true, leb-false, le-leb, lt-leb, lt-ltb, ltb-true, ltb-false, eqb-false, ne_eqb}
+use Rattle.std.proofs.lemmas.Bool.{cases_lt, leb-true, leb-false, le-leb, lt-leb, ltb-true, ltb-false, eqb-false, ne_eqb}
 use Rattle.std.proofs.lemmas.List.Elements.{All-append, All-cons, All-nil}
 use Rattle.std.proofs.lemmas.List.Folds.{list_any-append, list_any_none}
 use Rattle.doc_lists.specs.Docs.{Apart, docs_of, docs_of_run, has_doc}
-use Rattle.doc_lists.specs.Sets.{Ahead, AreThose, IsAlone, IsSooner, Left, SameFrom, Swept, Up, ends_before, in_run, in_runs}
+use Rattle.doc_lists.specs.Sets.{Ahead, AreThose, IsSooner, Left, SameFrom, Swept, Up, ends_before, in_run, in_runs}
 use Rattle.doc_lists.specs.declared.run.Run.{Run}
 use Rattle.doc_lists.proofs.Runs.{apart_less, up_from_less, up_increasing}
 
 -- ---- the documents of runs
 
-or_true : (b : Bool) → b || true ≡ true
+pub or_true : (b : Bool) → b || true ≡ true
 or_true true = refl
 or_true false = refl
 
-or_false : (b : Bool) → b || false ≡ b
+pub or_false : (b : Bool) → b || false ≡ b
 or_false true = refl
 or_false false = refl
 
@@ -63,7 +63,7 @@ has_runs (run ∷ runs) doc =
 
 -- ---- the first of runs apart
 
-run_before : (run : Run) (doc : ℕ) → run.last < doc → in_run doc run ≡ false
+pub run_before : (run : Run) (doc : ℕ) → run.last < doc → in_run doc run ≡ false
 run_before run doc lt = ap (λ b. nat_le run.first doc && b) (lt-leb doc run.last lt) ∙ and_false (nat_le run.first doc)
 
 run_after : (run : Run) (doc : ℕ) → doc < run.first → in_run doc run ≡ false
@@ -72,7 +72,7 @@ run_after run doc lt = ap (λ b. b && nat_le doc run.last) (lt-leb run.first doc
 run_has : (run : Run) (doc : ℕ) → run.first ≤ doc → doc ≤ run.last → in_run doc run ≡ true
 run_has run doc from to = ap (λ b. b && nat_le doc run.last) (le-leb run.first doc from) ∙ le-leb doc run.last to
 
-apart_none : (from : ℕ) (runs : List Run) (doc : ℕ) → Apart from runs → doc < from → in_runs runs doc ≡ false
+pub apart_none : (from : ℕ) (runs : List Run) (doc : ℕ) → Apart from runs → doc < from → in_runs runs doc ≡ false
 apart_none from [] doc apart lt = refl
 apart_none from (run ∷ runs) doc apart lt =
     ap (λ b. b || in_runs runs doc) (run_after run doc (omega (arith, lt, apart.0)))
@@ -81,7 +81,7 @@ apart_none from (run ∷ runs) doc apart lt =
 in_first : (run : Run) (runs : List Run) (doc : ℕ) → run.first ≤ doc → doc ≤ run.last → in_runs (run ∷ runs) doc ≡ true
 in_first run runs doc from to = ap (λ b. b || in_runs runs doc) (run_has run doc from to)
 
-before_first : (run : Run) (runs : List Run) (doc : ℕ) → Apart 0 (run ∷ runs) → doc < run.first → in_runs (run ∷ runs) doc ≡ false
+pub before_first : (run : Run) (runs : List Run) (doc : ℕ) → Apart 0 (run ∷ runs) → doc < run.first → in_runs (run ∷ runs) doc ≡ false
 before_first run runs doc apart lt =
     ap (λ b. b || in_runs runs doc) (run_after run doc lt)
     ∙ apart_none (run.last + 2) runs doc apart.3 (omega (arith, lt, apart.1))
@@ -183,16 +183,16 @@ step_halved old runs doc step steps two = record { apart = steps.apart; same = s
 same_run : (doc : ℕ) (docs : List ℕ) → All (λ x. x < doc) docs → has_doc docs doc ≡ false
 same_run doc docs below = list_any_none (nat_eq doc) docs (λ k d lt. ne_eqb doc (get_or docs k d) (λ e. let less = below k d lt in omega (arith, e, less)))
 
-none_from : (docs : List ℕ) (to doc : ℕ) → All (λ x. x < to) docs → to ≤ doc → has_doc docs doc ≡ false
+pub none_from : (docs : List ℕ) (to doc : ℕ) → All (λ x. x < to) docs → to ≤ doc → has_doc docs doc ≡ false
 none_from docs to doc below from = same_run doc docs (λ k d lt. let less = below k d lt in omega (arith, from, less))
 
-up_add : (from to : ℕ) (xs ys : List ℕ) → from ≤ to → Up from xs → All (λ x. x < to) xs → Up to ys → Up from (xs ++ ys)
+pub up_add : (from to : ℕ) (xs ys : List ℕ) → from ≤ to → Up from xs → All (λ x. x < to) xs → Up to ys → Up from (xs ++ ys)
 up_add from to [] ys le up below more = up_from_less to from ys le more
 up_add from to (x ∷ xs) ys le up below more =
     let own = below 0 x (omega arith) in
     (up.0, up_add (x + 1) to xs ys (omega (arith, own)) up.1 (λ k d lt. below (suc k) d (omega (arith, lt))) more)
 
-range_all : (a n to : ℕ) → a + n ≤ to → All (λ x. x < to) (range_with_len a n)
+pub range_all : (a n to : ℕ) → a + n ≤ to → All (λ x. x < to) (range_with_len a n)
 range_all a zero to le = All-nil (λ x. x < to)
 range_all a (suc n) to le = All-cons (λ x. x < to) a (range_with_len (a + 1) n) (omega (arith, le)) (range_all (a + 1) n to (omega (arith, le)))
 
@@ -231,7 +231,7 @@ swept_no test start end old order swept none = record {
 
 -- ---- the whole sweep
 
-all_ahead : (runs : List Run) → Apart 0 runs → Ahead 0 runs
+pub all_ahead : (runs : List Run) → Apart 0 runs → Ahead 0 runs
 all_ahead [] apart = tt
 all_ahead (run ∷ runs) apart = (omega arith, apart)
 
@@ -245,7 +245,7 @@ pub ahead_apart : (doc : ℕ) (runs : List Run) → Ahead doc runs → Apart 0 r
 ahead_apart doc [] ahead = tt
 ahead_apart doc (run ∷ runs) ahead = ahead.1
 
-ahead_first : (start : ℕ) (runs : List Run) (d : Run) (doc : ℕ) → 0 < length runs → Ahead start runs → doc ≤ (get_or runs 0 d).last → Ahead doc runs
+pub ahead_first : (start : ℕ) (runs : List Run) (d : Run) (doc : ℕ) → 0 < length runs → Ahead start runs → doc ≤ (get_or runs 0 d).last → Ahead doc runs
 ahead_first start [] d doc some ahead le = tt
 ahead_first start (run ∷ runs) d doc some ahead le = (le, ahead.1)
 
@@ -260,7 +260,7 @@ pub left_has : (start doc : ℕ) (docs : List ℕ) (runs : List Run) → Left st
 left_has start doc docs runs left from = sym (left.same doc from)
 
 -- up to the end of the first run, a document is in the runs where that has begun
-first_has : (runs : List Run) (d : Run) (doc : ℕ) → 0 < length runs → Apart 0 runs → doc ≤ (get_or runs 0 d).last → in_runs runs doc ≡ nat_le (get_or runs 0 d).first doc
+pub first_has : (runs : List Run) (d : Run) (doc : ℕ) → 0 < length runs → Apart 0 runs → doc ≤ (get_or runs 0 d).last → in_runs runs doc ≡ nat_le (get_or runs 0 d).first doc
 first_has [] d doc some apart le = absurd (omega (arith, some))
 first_has (run ∷ runs) d doc some apart le = sym (reaches_is (run ∷ runs) d doc (omega arith) (le, apart))
 
@@ -390,7 +390,7 @@ meet_test start doc end a b docs ours theirs d walk some any is from to =
     ∙ ap (λ y. nat_le (get_or ours 0 d).first doc && y) (left_begun start doc b theirs d any walk.second from (omega (arith, is, to)))
     ∙ begun_by (nat_le (get_or ours 0 d).first doc) (nat_le (get_or theirs 0 d).first doc) (get_or ours 0 d).first (get_or theirs 0 d).first start doc from refl refl
 
-no_runs : (runs : List Run) (doc : ℕ) → length runs ≡ 0 → in_runs runs doc ≡ false
+pub no_runs : (runs : List Run) (doc : ℕ) → length runs ≡ 0 → in_runs runs doc ≡ false
 no_runs [] doc none = refl
 no_runs (run ∷ runs) doc none = absurd (omega (arith, none))
 
@@ -449,7 +449,7 @@ is_sooner_theirs start ours theirs d some later ahead aside =
       those = λ doc from to. or_swap (in_runs ours doc) (in_runs theirs doc) ∙ sooner_one start theirs ours d some later aside ahead doc from to;
     }
 
-sooner_begun : (t : Bool) (first start doc : ℕ) → start ≤ doc → nat_le first doc ≡ t → t ≡ nat_le (max start first) doc
+pub sooner_begun : (t : Bool) (first start doc : ℕ) → start ≤ doc → nat_le first doc ≡ t → t ≡ nat_le (max start first) doc
 sooner_begun true first start doc from is = let low = leb-true first doc is in sym (le-leb (max start first) doc (omega (arith, from, low)))
 sooner_begun false first start doc from is = let less = leb-false first doc is in sym (lt-leb (max start first) doc (omega (arith, less)))
 
@@ -460,22 +460,6 @@ join_test start doc a b docs ours theirs run walk sooner from to =
     ap (λ x. x || has_doc b doc) (left_has start doc a ours walk.first from)
     ∙ ap (λ y. in_runs ours doc || y) (left_has start doc b theirs walk.second from)
     ∙ sooner.those doc from (omega (arith, to)) ∙ sooner_begun (nat_le run.first doc) run.first start doc from refl
-
--- a run that ends before the other list begins is the sooner one, and its list goes on after it
-pub alone_sooner : (start : ℕ) (ours theirs : List Run) → IsAlone ours theirs → Ahead start ours → Ahead start theirs → IsSooner start ours theirs (get_or ours 0 (record { first = 0; last = 0 }))
-alone_sooner start ours theirs alone ahead aside =
-    let known = first_known start ours (record { first = 0; last = 0 }) alone.some ahead in
-    is_sooner_ours start ours theirs (record { first = 0; last = 0 }) alone.some (inr (alone.any, omega (arith, alone.before, known.order))) ahead aside
-
-pub alone_next : (test : ℕ → Bool) (start end : ℕ) (a b docs added : List ℕ) (ours theirs : List Run) → Walk test start a b docs ours theirs → IsAlone ours theirs → end ≡ (get_or ours 0 (record { first = 0; last = 0 })).last + 1
-    → Swept test end added → Walk test end a b added (drop 1 ours) theirs
-alone_next test start end a b docs added ours theirs walk alone is swept =
-    let d : Run = record { first = 0; last = 0 } in
-    let known = first_known start ours d alone.some walk.first.ahead in
-    let other = first_known start theirs d alone.any walk.second.ahead in
-    let out = first_out true ours d end alone.some (ahead_apart start ours walk.first.ahead) (omega (arith, is)) (lt-ltb (get_or ours 0 d).last end (omega (arith, is))) in
-    walk_next test start end a b docs ours theirs (drop 1 ours) theirs added walk (omega (arith, is, known.onwards)) swept out.ahead out.same
-    (ahead_first start theirs d end alone.any walk.second.ahead (omega (arith, is, alone.before, other.order))) (λ doc from. refl)
 
 pub join_over : (start : ℕ) (a b docs : List ℕ) (ours theirs : List Run) → Walk (λ doc. has_doc a doc || has_doc b doc) start a b docs ours theirs → length ours ≡ 0 → length theirs ≡ 0 → (doc : ℕ) → start ≤ doc → has_doc a doc || has_doc b doc ≡ false
 join_over start a b docs ours theirs walk none also doc from =
@@ -504,19 +488,9 @@ without_test start first doc stretch end kept a b docs ours theirs skipped d tak
           ap (λ x. x && not (has_doc b doc)) (begun ∙ le-leb (get_or ours 0 d).first doc (omega (arith, after, begins))) ∙ ap not there ∙ kept_by taken kept end first doc is after to
     ]
 
-and_true : (b : Bool) → b && true ≡ b
+pub and_true : (b : Bool) → b && true ≡ b
 and_true true = refl
 and_true false = refl
-
--- up to the end of a run that ends before the other list begins, a document is in the first list alone where that run has begun
-pub without_alone : (start doc : ℕ) (a b docs : List ℕ) (ours theirs : List Run) → Walk (λ doc. has_doc a doc && not (has_doc b doc)) start a b docs ours theirs → IsAlone ours theirs
-    → start ≤ doc → doc < (get_or ours 0 (record { first = 0; last = 0 })).last + 1 → has_doc a doc && not (has_doc b doc) ≡ nat_le (max start (get_or ours 0 (record { first = 0; last = 0 })).first) doc
-without_alone start doc a b docs ours theirs walk alone from to =
-    let d : Run = record { first = 0; last = 0 } in
-    let first = (get_or ours 0 d).first in
-    ap (λ x. x && not (has_doc b doc)) (left_begun start doc a ours d alone.some walk.first from (omega (arith, to)))
-    ∙ ap (λ y. nat_le first doc && not y) (none_in start doc b theirs d alone.any walk.second from (omega (arith, to, alone.before)))
-    ∙ and_true (nat_le first doc) ∙ sooner_begun (nat_le first doc) first start doc from refl
 
 -- where the second list has no documents, all of the first are in it alone
 pub without_none : (a b : List ℕ) → length b ≡ 0 → IsStrictlyIncreasing a → AreThose (λ doc. has_doc a doc && not (has_doc b doc)) a

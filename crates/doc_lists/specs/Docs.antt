@@ -1,6 +1,6 @@
 -- Ascending lists of documents, kept as runs of documents that follow one another.
 use Rattle.std.specs.Prelude.{◌≡◌, ◌≤◌, ◌<◌, ◌^◌, ℕ, Bool, ◌+◌, ◌-◌, nat_eq, List, [], ◌∷◌, ◌++◌, length}
-use Rattle.std.specs.List.{flat_map, list_any, range_with_len}
+use Rattle.std.specs.List.{All, flat_map, list_any, range_with_len}
 use Rattle.doc_lists.specs.declared.run.Run.{Run}
 
 -- whether a document is in a list
@@ -19,6 +19,12 @@ docs_of runs = flat_map docs_of_run runs
 abbrev pub Apart : ℕ → List Run → Type 0
 Apart from [] = Unit {0}
 Apart from (run ∷ runs) = (from ≤ run.first) × (run.first ≤ run.last) × (run.last < 2 ^ 32) × Apart (run.last + 2) runs
+
+-- runs that begin after the documents of a list, with one missing between them
+pub record AreAfter (docs : List ℕ) (runs : List Run) : Type 0 where
+  pub end : ℕ
+  pub below : All (λ doc. doc < end) docs
+  pub apart : Apart (end + 1) runs
 
 -- the document after the last one of runs, or the one that is given where there is none
 abbrev pub next_from : ℕ → List Run → ℕ

@@ -3,7 +3,7 @@ use Rattle.std.specs.Prelude.{◌≡◌, ◌≤◌, ◌<◌, ℕ, Bool, ◌&&◌
 use Rattle.std.specs.List.{All, list_any, slice_index_or}
 use Rattle.std.specs.List.Sorted.{IsStrictlyIncreasing}
 use Rattle.doc_lists.specs.declared.run.Run.{Run}
-use Rattle.doc_lists.specs.Docs.{Apart, has_doc}
+use Rattle.doc_lists.specs.Docs.{Apart, has_doc, next_from}
 
 -- the documents of which the test holds, ascending
 pub record AreThose (test : ℕ → Bool) (docs : List ℕ) : Type 0 where
@@ -37,11 +37,10 @@ pub record IsSooner (start : ℕ) (ours theirs : List Run) (run : Run) : Type 0 
   pub onwards : start ≤ run.last
   pub those : (doc : ℕ) → start ≤ doc → doc ≤ run.last → in_runs ours doc || in_runs theirs doc ≡ nat_le run.first doc
 
--- the first of the one list's runs ends before the first of the other's begins
-pub record IsAlone (ours theirs : List Run) : Type 0 where
-  pub some : 0 < length ours
-  pub any : 0 < length theirs
-  pub before : (slice_index_or ours 0 (record { first = 0; last = 0 })).last < (slice_index_or theirs 0 (record { first = 0; last = 0 })).first
+-- the first document of runs, or one past all where there is none
+abbrev pub first_in : List Run → ℕ
+first_in [] = 2 ^ 32
+first_in (run ∷ runs) = run.first
 
 -- runs with the documents of a list from one on
 pub record Left (from : ℕ) (docs : List ℕ) (runs : List Run) : Type 0 where
@@ -58,3 +57,8 @@ pub record Swept (test : ℕ → Bool) (to : ℕ) (docs : List ℕ) : Type 0 whe
   pub ascend : Up 0 docs
   pub below : All (λ doc. doc < to) docs
   pub those : (doc : ℕ) → doc < to → has_doc docs doc ≡ test doc
+
+-- a list that was swept up to a document is swept up to the end of runs, where the test holds just of their documents
+abbrev pub SweepsRuns : ℕ → List Run → List ℕ → List ℕ → Type 0
+SweepsRuns start runs old new =
+    (test : ℕ → Bool) → Swept test start old → ((doc : ℕ) → start ≤ doc → doc < next_from 0 runs → test doc ≡ in_runs runs doc) → Swept test (next_from 0 runs) new

@@ -2,7 +2,7 @@
 ghost use Rattle.std.specs.Prelude.{◌≡◌, ◌==◌, ◌≤◌, ◌<◌, ◌+◌, ◌-◌, [], ◌∷◌, ◌++◌, All, length, slice_index, OnOk, OnErr, IfOk};
 ghost use Rattle.std.specs.List.{range_with_len};
 ghost use Rattle.std.specs.List.Sorted.{IsStrictlyIncreasing};
-ghost use Rattle.doc_lists.specs.Docs.{Added, Apart, docs_of, docs_of_run, next_from};
+ghost use Rattle.doc_lists.specs.Docs.{Added, Apart, AreAfter, docs_of, docs_of_run, next_from};
 
 use crate::Run;
 use std::alloc::{AllocError, Global};
@@ -38,6 +38,14 @@ impl DocList {
             runs: Vec::new(alloc),
             count: 0,
         }
+    }
+
+    // An empty list with room for so many runs.
+    pub fn with_room(alloc: Global, runs: usize) -> Result<DocList, NoMemory>
+        ensures { IfOk result (λ docs. docs ≡ []) }
+    {
+        let runs = Vec::with_capacity(alloc, runs)?;
+        Ok(DocList { runs, count: 0 })
     }
 
     /// The documents from one up to another, which is left out.
@@ -132,6 +140,30 @@ impl DocList {
         self.count = count;
         Ok(())
     }
+
+    // Adds the documents of runs, of which a document is missing after the last that is there.
+    pub fn push_runs(&mut self, runs: &[Run]) -> Result<(), NoMemory>
+        requires { AreAfter self.old runs.now }
+        ensures ok { OnOk result (self.new ≡ self.old ++ docs_of runs.now) }
+        ensures err { OnErr result (self.new ≡ self.old) }
+    {
+        let count = self.count + count_of(runs);
+        self.runs.extend_from_slice(runs)?;
+        self.count = count;
+        Ok(())
+    }
+}
+
+// How many documents runs have.
+fn count_of(runs: &[Run]) -> usize
+    requires { Apart 0 runs.now }
+    ensures { result ≡ length (docs_of runs.now) }
+{
+    let mut count = 0;
+    for run in runs {
+        count += run.count();
+    }
+    count
 }
 
 // The document of runs at an index.
@@ -173,7 +205,7 @@ fn append(runs: &mut Vec<Run>, run: Run) -> Result<(), NoMemory>
 }
 
 // The document after the last one, and 0 where there is none.
-fn next_after(runs: &[Run]) -> u64
+pub fn next_after(runs: &[Run]) -> u64
     ensures { result ≡ next_from 0 runs.now }
 {
     match runs.last() {

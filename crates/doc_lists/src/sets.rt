@@ -1,8 +1,9 @@
 //! The documents that two lists have in common or apart.
-ghost use Rattle.std.specs.Prelude.{◌≡◌, ◌≤◌, ◌<◌, ◌+◌, ◌&&◌, ◌||◌, ◌^◌, ◌⊎◌, ℕ, Bool, not, nat_le, true, All, drop, get_or, length, IfOk, OnOk};
-ghost use Rattle.doc_lists.specs.Docs.{Apart, has_doc};
-ghost use Rattle.doc_lists.specs.Sets.{Ahead, AreThose, IsAlone, IsSooner, SameFrom, Swept, ends_before, in_runs};
+ghost use Rattle.std.specs.Prelude.{◌≡◌, ◌≤◌, ◌<◌, ◌+◌, ◌&&◌, ◌||◌, ◌^◌, ◌⊎◌, ℕ, Bool, not, nat_le, All, drop, take, get_or, length, IfOk, OnOk};
+ghost use Rattle.doc_lists.specs.Docs.{Apart, has_doc, next_from};
+ghost use Rattle.doc_lists.specs.Sets.{Ahead, AreThose, IsSooner, SameFrom, Swept, SweepsRuns, ends_before, first_in, in_runs};
 
+use crate::doc_list::next_after;
 use crate::{DocList, NoMemory, Run};
 use std::alloc::Global;
 
@@ -42,17 +43,17 @@ pub fn meet(alloc: Global, a: &DocList, b: &DocList) -> Result<DocList, NoMemory
 pub fn join(alloc: Global, a: &DocList, b: &DocList) -> Result<DocList, NoMemory>
     ensures { IfOk result (AreThose (λ doc. has_doc a.now doc || has_doc b.now doc)) }
 {
-    let mut docs = DocList::new(alloc);
     let mut ours = a.runs();
     let mut theirs = b.runs();
+    let mut docs = DocList::with_room(alloc, ours.len())?;
     let mut start = 0;
     while !ours.is_empty() || !theirs.is_empty() {
-        // Nearly always so, where the first list has many more runs.
-        if is_alone(ours, theirs) {
-            let run = ours[0];
-            let end = run.last as u64 + 1;
-            push_from(&mut docs, start, start.max(run.first as u64), end)?;
-            ours = following(ours, 1);
+        let count = count_before(ours, first_of(theirs));
+        if count > 0 {
+            // Nearly all runs, where the first list has many more.
+            let alone = preceding(ours, count);
+            let end = push_runs_from(&mut docs, start, alone)?;
+            ours = following(ours, count);
             start = end;
         } else {
             let run = sooner(ours, theirs);
@@ -75,16 +76,16 @@ pub fn without(alloc: Global, a: &DocList, b: &DocList) -> Result<DocList, NoMem
         let all = a.copied(alloc)?;
         return Ok(all);
     }
-    let mut docs = DocList::new(alloc);
+    let mut docs = DocList::with_room(alloc, ours.len())?;
     let mut theirs = b.runs();
     let mut start = 0u64;
     while !ours.is_empty() {
-        // Nearly always so, where the first list has many more runs.
-        if is_alone(ours, theirs) {
-            let run = ours[0];
-            let end = run.last as u64 + 1;
-            push_from(&mut docs, start, start.max(run.first as u64), end)?;
-            ours = following(ours, 1);
+        let count = count_before(ours, first_of(theirs));
+        if count > 0 {
+            // Nearly all runs, where the first list has many more.
+            let alone = preceding(ours, count);
+            let end = push_runs_from(&mut docs, start, alone)?;
+            ours = following(ours, count);
             start = end;
         } else {
             let run = ours[0];
@@ -101,11 +102,26 @@ pub fn without(alloc: Global, a: &DocList, b: &DocList) -> Result<DocList, NoMem
     Ok(docs)
 }
 
-// Whether the first run of the one list ends before the other list's first run begins.
-fn is_alone(ours: &[Run], theirs: &[Run]) -> bool
-    ensures { result ≡ true → IsAlone ours.now theirs.now }
+// How many runs come first that end before a document.
+fn count_before(runs: &[Run], doc: u64) -> usize
+    ensures within { result ≤ length runs.now }
+    ensures before { next_from 0 (take result runs.now) ≤ doc }
 {
-    !ours.is_empty() && !theirs.is_empty() && ours[0].last < theirs[0].first
+    let mut count = 0;
+    while count < runs.len() && (runs[count].last as u64) < doc {
+        count += 1;
+    }
+    count
+}
+
+// The first document of runs, or one past all where there is none.
+fn first_of(runs: &[Run]) -> u64
+    ensures { result ≡ first_in runs.now }
+{
+    match runs {
+        [] => 1 << 32,
+        [run, ..] => run.first as u64,
+    }
 }
 
 // The run that begins sooner, of the first runs of two lists.
@@ -182,6 +198,14 @@ fn following(runs: &[Run], count: usize) -> &[Run]
     &runs[count..]
 }
 
+// The first so many runs.
+fn preceding(runs: &[Run], count: usize) -> &[Run]
+    requires { count ≤ length runs.now }
+    ensures { result.now ≡ take count runs.now }
+{
+    &runs[..count]
+}
+
 // Whether there are so many runs and the last of them ends before a document.
 fn ends_before(runs: &[Run], count: usize, doc: u64) -> bool
     requires { 1 ≤ count }
@@ -207,7 +231,8 @@ fn push_from(docs: &mut DocList, start: u64, first: u64, end: u64) -> Result<(),
     requires onwards { start ≤ end }
     requires within { end ≤ 2 ^ 32 }
     requires above { All (λ doc. doc < start) docs.old }
-    ensures { OnOk result ((test : ℕ → Bool) → Swept test start docs.old →
+    ensures below { OnOk result (All (λ doc. doc < end) docs.new) }
+    ensures swept { OnOk result ((test : ℕ → Bool) → Swept test start docs.old →
         ((doc : ℕ) → start ≤ doc → doc < end → test doc ≡ nat_le first doc) →
         Swept test end docs.new) }
 {
@@ -219,4 +244,20 @@ fn push_from(docs: &mut DocList, start: u64, first: u64, end: u64) -> Result<(),
         last: (end - 1) as u32,
     };
     docs.push_run(run)
+}
+
+// Adds the documents of runs from one of them on, and says up to where they are.
+fn push_runs_from(docs: &mut DocList, start: u64, runs: &[Run]) -> Result<u64, NoMemory>
+    requires some { 0 < length runs.now }
+    requires ahead { Ahead start runs.now }
+    requires above { All (λ doc. doc < start) docs.old }
+    ensures end { IfOk result (λ end. end ≡ next_from 0 runs.now) }
+    ensures swept { OnOk result (SweepsRuns start runs.now docs.old docs.new) }
+{
+    let first = runs[0];
+    let end = first.last as u64 + 1;
+    push_from(docs, start, start.max(first.first as u64), end)?;
+    let rest = following(runs, 1);
+    docs.push_runs(rest)?;
+    Ok(next_after(runs))
 }

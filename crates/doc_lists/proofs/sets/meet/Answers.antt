@@ -51,7 +51,7 @@ loop-ours-preserved c =
     let other = first_known start theirs d any walk.second.ahead in
     let order : start ≤ end = omega (arith, c.min.ensures, one.onwards, other.onwards) in
     walk_next test start end a b docs ours theirs c.without_first-ours.result.now c.without_first-theirs.result.now c.push_from.new.docs walk order
-    (c.in_ok-push_from.ensures test walk.swept (λ doc from to.
+    (c.in_ok-push_from.ensures.swept test walk.swept (λ doc from to.
     meet_test start doc end a b docs ours theirs d walk some any (ap (λ n. n + 1) c.min.ensures) from to ∙ ap (λ n. nat_le n doc) (sym (c.max-first.ensures ∙ ap (max start) c.max.ensures))))
     c.without_first-ours.ensures.ahead c.without_first-ours.ensures.same c.without_first-theirs.ensures.ahead c.without_first-theirs.ensures.same
 
