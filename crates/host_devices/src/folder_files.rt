@@ -1,5 +1,6 @@
 //! The files of a real folder.
-ghost use Rattle.std.specs.Prelude.{◌≡◌, ◌≢◌, ◌≤◌, ◌<◌, ◌+◌, true, IfOk, IfSome, IsErrOf, IsSome, MatchOption, length, string_bytes, vec_len};
+ghost use Rattle.std.specs.Prelude.{◌≡◌, ◌≢◌, ◌≤◌, ◌<◌, ◌+◌, true, IfOk, IfSome, IsErrOf, IsSome, MatchOption, drop, length, string_bytes, take, vec_len};
+ghost use Rattle.std.specs.Int.{to_le_bytes, w64};
 ghost use Rattle.outside.specs.Counts.{Rose};
 ghost use Rattle.outside.specs.declared.shelf.ShelfFault.TheVariants.{Missing, Failed};
 
@@ -134,6 +135,40 @@ fn copy_front(bytes: &[u8], into: &mut [u8]) -> usize
     n
 }
 
+// Whether the bytes of two names are the same. Each read asks for it: of eight bytes to sixteen, as
+// the names of segments' files mostly have, the first eight and the last eight are compared at once.
+#[inline(always)]
+fn are_same(a: &[u8], b: &[u8]) -> bool
+    ensures { result ≡ true → a.now ≡ b.now }
+{
+    let size = a.len();
+    if size != b.len() {
+        return false;
+    }
+    if size < 8 || size > 16 {
+        return a == b;
+    }
+    eight_at(a, 0) == eight_at(b, 0) && eight_at(a, size - 8) == eight_at(b, size - 8)
+}
+
+// The number of eight bytes.
+#[inline(always)]
+fn eight_at(bytes: &[u8], at: usize) -> u64
+    requires { at + 8 ≤ length bytes.now }
+    ensures { to_le_bytes w64 result ≡ take 8 (drop at bytes.now) }
+{
+    u64::from_le_bytes([
+        bytes[at],
+        bytes[at + 1],
+        bytes[at + 2],
+        bytes[at + 3],
+        bytes[at + 4],
+        bytes[at + 5],
+        bytes[at + 6],
+        bytes[at + 7],
+    ])
+}
+
 impl<R: Files + AllocGlobal + Clone + Drop> FolderFiles<R> {
     pub fn new(rt: R, folder: String) -> Self {
         FolderFiles {
@@ -225,7 +260,7 @@ impl<R: Files + AllocGlobal + Clone + Drop> FolderFiles<R> {
             MatchOption self.now.kept ⊥ (λ kept. string_bytes kept.name ≡ name.now) }
     {
         match &self.kept {
-            Some(kept) => kept.name.as_str() == name,
+            Some(kept) => are_same(kept.name.as_str().as_bytes(), name.as_bytes()),
             None => false,
         }
     }
