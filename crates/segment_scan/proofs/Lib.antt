@@ -4,6 +4,7 @@ pub mod AddSteps
 pub mod ServedLemmas
 pub mod DocLemmas
 pub mod PickSteps
+pub mod BlockSteps
 pub mod PickLemmas
 pub mod SeriesLemmas
 pub mod OrderLemmas

@@ -24,8 +24,11 @@ use table_schema::BoundQuery;
 /// Rows are looked at in blocks of so many.
 const BLOCK: usize = 4096;
 
-/// Rows are added to the groups once there are so many places: a group is merged once for these rows.
-const MOST_PLACES: usize = 262_144;
+/// Rows are added to the groups once there are so many places, or so many for each group that there is by
+/// then: a group is merged once for these rows, and a place takes little beside a group.
+const FEW_PLACES: usize = 32_768;
+
+const PLACES_A_GROUP: usize = 8;
 
 /// Adds the rows of a segment that satisfy those of a query's conjuncts that are not served to its
 /// groups.
@@ -68,8 +71,7 @@ fn add_blocks(
         (rows_at (table_of segment.now).columns
         (passing (λ at. all_let at row_filters.now) 0 segment.now.count)) table.old }
 {
-    let room = MOST_PLACES.min(segment.count) + BLOCK;
-    let mut places = Vec::with_capacity(alloc, room)?;
+    let mut places = Vec::with_capacity(alloc, FEW_PLACES.min(segment.count) + BLOCK)?;
     let mut from = 0;
     let mut done = 0;
     for _ in 0..segment.count / BLOCK + 1 {
@@ -142,7 +144,8 @@ fn add_block(
         table.old }
 {
     push_block(alloc, row_filters, segment.count, block, places)?;
-    if places.len() < MOST_PLACES {
+    let most = FEW_PLACES.max(table.groups() as usize * PLACES_A_GROUP);
+    if places.len() < most {
         return Ok(done);
     }
     match add_some(alloc, query, segment, places.as_slice(), table) {

@@ -31,7 +31,7 @@ pub use columns::read_columns;
 pub use fault::EngineFault;
 pub use laws::{agreement_law, image_law, index_law, readable_law};
 pub use named::named_columns;
-pub use reading::{read_column, read_ids};
+pub use reading::read_column;
 pub use scan::scan_columns;
 pub use scan_laws::{least_read_law, served_law};
 pub use segment::scan_segment;

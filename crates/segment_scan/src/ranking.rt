@@ -11,8 +11,10 @@ use std::alloc::Global;
 use std::collections::HashMap;
 use values::NoMemory;
 
-/// Up to so many keys a table leads from each to its slot.
+/// Up to so many keys, and so many a row, a table leads from each to its slot.
 const MOST_IN_TABLE: usize = 1_048_576;
+
+const KEYS_A_ROW: usize = 4;
 
 /// Parts the slots of rows by their ids in one column more, and gives the first row of each.
 pub fn refine(
@@ -33,7 +35,7 @@ pub fn refine(
     ensures { IfOk result (λ firsts. AreRanked (packed slots.old width ids.now places.now)
         (length slots.old) slots.new firsts.items) }
 {
-    if count * width <= MOST_IN_TABLE {
+    if count * width <= MOST_IN_TABLE && count * width / KEYS_A_ROW <= slots.len() {
         return refine_by_table(alloc, slots, count, places, ids, width);
     }
     refine_by_map(alloc, slots, count, places, ids, width)

@@ -1,6 +1,6 @@
 //! The ids of a column, read from a segment's file.
 
-ghost use Rattle.std.specs.Prelude.{◌≡◌, ◌<◌, ◌+◌, All, IfErr, IfOk, IfSome, IsErrOf, OnErr, length};
+ghost use Rattle.std.specs.Prelude.{◌≡◌, ◌≤◌, ◌<◌, ◌+◌, All, IfErr, IfOk, IfSome, IsErrOf, OnErr, length, min};
 ghost use Rattle.outside.specs.Reads.{LogsOn, LogsUpTo};
 ghost use Rattle.outside.specs.Seen.{OnlyReads, seen};
 ghost use Rattle.bit_column.specs.Column.{ids_between, width_of};
@@ -11,14 +11,18 @@ ghost use Rattle.segment_scan.specs.Forward.{AreIdsOf, HasIds, IsReadable, LogsF
 ghost use Rattle.segment_scan.specs.declared.fault.EngineFault.TheVariants.{NotASegment, ReadFault};
 
 use crate::EngineFault;
-use bit_column::{ColumnFault, read_range, width_for};
+use bit_column::{ColumnFault, append_range, width_for};
 use outside::{Place, Seq, Shelf};
 use segment_file::{Head, Part};
 use std::alloc::Global;
 
-/// The ids of the rows in a column of so many values: its forward section is read, each byte once,
-/// and nothing else.
-pub fn read_ids<S: Shelf>(
+/// Ids are read in blocks of so many, which are whole bytes in any width: beside the ids of a column
+/// there are the bytes of one block.
+const BLOCK: u32 = 32_768;
+
+// The ids of the rows in a column of so many values: its forward section is read, each byte once,
+// and nothing else.
+fn read_ids<S: Shelf>(
     alloc: Global,
     shelf: &mut S,
     place: &Place,
@@ -46,10 +50,40 @@ pub fn read_ids<S: Shelf>(
         (place.now.offset + end_byte (width_of count) 0 rows)
         (S.log shelf.old) (S.log shelf.new)) }
 {
-    match read_range(alloc, shelf, place, width_for(count), count, 0, rows) {
-        Ok(ids) => Ok(ids),
-        Err(fault) => Err(of_column(fault, column)),
+    let width = width_for(count);
+    let mut buffer = Vec::new(alloc);
+    let mut ids = Vec::with_capacity(alloc, rows as usize)?;
+    for at in 0..rows / BLOCK + 1 {
+        let from = at * BLOCK;
+        let to = block_end(from, rows);
+        match append_range(
+            alloc,
+            shelf,
+            place,
+            width,
+            count,
+            from,
+            to,
+            &mut buffer,
+            &mut ids,
+        ) {
+            Ok(()) => {}
+            Err(fault) => return Err(of_column(fault, column)),
+        }
     }
+    Ok(Seq::from_vec(ids))
+}
+
+// The end of the block of ids that begins with one of so many.
+fn block_end(from: u32, rows: u32) -> u32
+    requires { from ≤ rows }
+    ensures { result ≡ min (from + 32768) rows }
+{
+    let left = rows - from;
+    if left < BLOCK {
+        return rows;
+    }
+    from + BLOCK
 }
 
 /// What the fault of a column is for a scan.

@@ -11,12 +11,12 @@ use Rattle.segment_scan.specs.RowFilters.{all_let, passing}
 use Rattle.segment_scan.proofs.AddSteps.{none-added, passing-below, passing-few, some-added, stitched}
 use Rattle.segment_scan.proofs.adding.add_block.Goals as goal
 
-pub returns-then-len-lt-MOST_PLACES-clause-places : goal.returns-then-len-lt-MOST_PLACES-clause-places
-returns-then-len-lt-MOST_PLACES-clause-places c =
+pub returns-then-len-most-clause-places : goal.returns-then-len-most-clause-places
+returns-then-len-most-clause-places c =
     stitched (λ at. all_let at c.args.row_filters.now) c.args.done c.args.block.from c.args.block.length c.args.places.now.items c.push_block.new.places.items c.requires.done c.requires.places c.in_ok-push_block.ensures
 
-pub returns-then-len-lt-MOST_PLACES-clause-ok : goal.returns-then-len-lt-MOST_PLACES-clause-ok
-returns-then-len-lt-MOST_PLACES-clause-ok c = none-added c.args.query.now (table_of c.args.segment.now).columns (λ at. all_let at c.args.row_filters.now) c.args.done c.args.table.now c.requires.table
+pub returns-then-len-most-clause-ok : goal.returns-then-len-most-clause-ok
+returns-then-len-most-clause-ok c = none-added c.args.query.now (table_of c.args.segment.now).columns (λ at. all_let at c.args.row_filters.now) c.args.done c.args.table.now c.requires.table
 
 pub add_some-requires-clause-few : goal.add_some-requires-clause-few
 add_some-requires-clause-few c =

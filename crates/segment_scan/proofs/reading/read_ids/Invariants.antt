@@ -1,0 +1,7 @@
+use Rattle.std.proofs.Common.{ℕ, ◌*◌, min}
+use Rattle.outside.specs.Seen.{seen}
+use Rattle.segment_scan.proofs.BlockSteps.{BlockStep}
+use Rattle.segment_scan.proofs.reading.read_ids.Given as goal
+
+abbrev pub invariant-loop-at : goal.invariant-loop-at
+invariant-loop-at g l = BlockStep l.place l.width l.count (min (l.at * 32768) l.rows) (seen g.S.Shelf l.fn.shelf) (seen g.S.Shelf l.shelf) l.ids.items
