@@ -40,7 +40,7 @@ impl DocList {
         }
     }
 
-    // An empty list with room for so many runs.
+    /// An empty list with room for so many runs.
     pub fn with_room(alloc: Global, runs: usize) -> Result<DocList, NoMemory>
         ensures { IfOk result (λ docs. docs ≡ []) }
     {
