@@ -141,7 +141,7 @@ impl DocList {
         Ok(())
     }
 
-    // Adds the documents of runs, of which a document is missing after the last that is there.
+    /// Adds the documents of runs, of which a document is missing after the last that is there.
     pub fn push_runs(&mut self, runs: &[Run]) -> Result<(), NoMemory>
         requires { AreAfter self.old runs.now }
         ensures ok { OnOk result (self.new ≡ self.old ++ docs_of runs.now) }
