@@ -97,11 +97,26 @@ fn bound(
 /// What comes of a query whose FROM has to name the table.
 pub fn bound_query(alloc: Global, texts: &TableTexts, text: &str) -> Result<String, AllocError> {
     match bound(alloc, texts, text, false) {
-        Ok(query) => {
-            let mut out = String::new(alloc);
-            show_query(&mut out, &query)?;
-            Ok(out)
-        }
+        Ok(query) => query_text(alloc, &query),
+        Err(unbound) => show_unbound(alloc, &unbound),
+    }
+}
+
+fn query_text(alloc: Global, query: &BoundQuery) -> Result<String, AllocError> {
+    let mut out = String::new(alloc);
+    show_query(&mut out, query)?;
+    Ok(out)
+}
+
+fn conjuncts_text(alloc: Global, query: &BoundQuery) -> Result<String, AllocError> {
+    let mut out = String::new(alloc);
+    show_conjuncts(&mut out, query)?;
+    Ok(out)
+}
+
+fn conjuncts(alloc: Global, texts: &TableTexts, query: &str) -> Result<String, AllocError> {
+    match bound(alloc, texts, query, true) {
+        Ok(query) => conjuncts_text(alloc, &query),
         Err(unbound) => show_unbound(alloc, &unbound),
     }
 }
@@ -109,14 +124,7 @@ pub fn bound_query(alloc: Global, texts: &TableTexts, text: &str) -> Result<Stri
 /// The conjuncts of a condition, in a query whose FROM names another table.
 pub fn conjuncts_of(alloc: Global, texts: &TableTexts, text: &str) -> Result<String, AllocError> {
     let query = format!(in alloc; "SELECT COUNT(*) FROM any WHERE {text}")?;
-    match bound(alloc, texts, query.as_str(), true) {
-        Ok(query) => {
-            let mut out = String::new(alloc);
-            show_conjuncts(&mut out, &query)?;
-            Ok(out)
-        }
-        Err(unbound) => show_unbound(alloc, &unbound),
-    }
+    conjuncts(alloc, texts, query.as_str())
 }
 
 fn show_value(out: &mut String, value: &Value) -> Result<(), AllocError> {

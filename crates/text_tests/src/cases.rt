@@ -43,13 +43,18 @@ pub fn compared(
     Ok(Some(format!(in alloc; "{found} for {line}")?))
 }
 
+// What comes of a text on one line.
+fn outcome(alloc: Global, subject: Subject, text: &str) -> Result<String, AllocError> {
+    let bytes = unescaped(alloc, text)?;
+    subject.outcome(alloc, bytes.as_slice())
+}
+
 // What is wrong with a case, if something is.
 fn wrong_case(alloc: Global, subject: Subject, line: &str) -> Result<Option<String>, AllocError> {
     let Some((expected, text)) = line.split_once('|') else {
         return Ok(Some(format!(in alloc; "no bar: {line}")?));
     };
-    let text = unescaped(alloc, text)?;
-    let found = subject.outcome(alloc, text.as_slice())?;
+    let found = outcome(alloc, subject, text)?;
     compared(alloc, found.as_str(), expected, line)
 }
 

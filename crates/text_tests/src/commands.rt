@@ -9,9 +9,9 @@
 
 use crate::cases::{Report, compared};
 use crate::counting::Span;
-use crate::devices::{Devices, Failing, Files, run_over_long_files};
+use crate::devices::{Devices, Files, inputs_of, number, run_over_long_files};
 use crate::escapes::unescaped;
-use outside::{Name, Seq};
+use outside::{Bytes, MemoryShelf, Name, Seq};
 use std::alloc::{AllocError, Global};
 
 // A named file, as a line gives it.
@@ -20,6 +20,11 @@ struct FileLine<'a> {
     is_stored: bool,
     name: &'a str,
     bytes: Vec<u8>,
+}
+
+fn push_line(alloc: Global, text: &mut Vec<u8>, number: u64) -> Result<(), AllocError> {
+    let line = format!(in alloc; "{number}\n")?;
+    text.extend_from_slice(line.as_bytes())
 }
 
 fn ones(alloc: Global, count: u32) -> Result<Vec<u8>, AllocError> {
@@ -33,14 +38,14 @@ fn ones(alloc: Global, count: u32) -> Result<Vec<u8>, AllocError> {
 fn numbers(alloc: Global, count: u32) -> Result<Vec<u8>, AllocError> {
     let mut text = Vec::from_slice(alloc, b"k\n")?;
     for at in 0..count {
-        let line = format!(in alloc; "{}\n", u64::from(at) + 1)?;
-        text.extend_from_slice(line.as_bytes())?;
+        push_line(alloc, &mut text, u64::from(at) + 1)?;
     }
     Ok(text)
 }
 
-fn number(text: &str) -> u32 {
-    text.parse::<u32>().unwrap_or(0)
+// A text up to where it is first parted, and what is after that.
+fn parted(text: &str, at: char) -> (&str, &str) {
+    text.split_once(at).unwrap_or((text, ""))
 }
 
 // The file that a line gives, if it gives one.
@@ -65,33 +70,17 @@ fn file_line<'a>(alloc: Global, line: &'a str) -> Result<Option<FileLine<'a>>, A
     }))
 }
 
-// The numbers of the calls of a device that fail.
-fn failing_calls(alloc: Global, calls: &str, device: &str) -> Result<Vec<u64>, AllocError> {
-    let mut numbers = Vec::new(alloc);
-    for call in calls.split(' ') {
-        if let Some((name, at)) = call.split_once(':') {
-            if name == device {
-                numbers.push(u64::from(number(at)))?;
-            }
-        }
+// Adds blanks until a word has so many bytes.
+fn pad(word: &mut String, size: u32) -> Result<(), AllocError> {
+    for _ in word.len()..size as usize {
+        word.push(' ')?;
     }
-    Ok(numbers)
-}
-
-fn failing(alloc: Global, calls: &str) -> Result<Failing, AllocError> {
-    Ok(Failing {
-        inputs: failing_calls(alloc, calls, "inputs")?,
-        depot: failing_calls(alloc, calls, "depot")?,
-        out: failing_calls(alloc, calls, "out")?,
-        notes: failing_calls(alloc, calls, "notes")?,
-    })
+    Ok(())
 }
 
 fn padded(alloc: Global, text: &str, size: u32) -> Result<String, AllocError> {
     let mut word = String::from_str(alloc, text)?;
-    for _ in word.len()..size as usize {
-        word.push(' ')?;
-    }
+    pad(&mut word, size)?;
     Ok(word)
 }
 
@@ -125,24 +114,37 @@ struct Given {
 
 // The bytes of a file that a line gives: a label, the file's name, and from where up to where.
 fn span(alloc: Global, text: &str) -> Result<Span, AllocError> {
-    let (label, rest) = text.split_once(' ').unwrap_or((text, ""));
-    let (file, rest) = rest.split_once(' ').unwrap_or((rest, ""));
-    let (from, to) = rest.split_once(' ').unwrap_or((rest, ""));
-    let label = String::from_str(alloc, label)?;
-    let file = String::from_str(alloc, file)?;
-    Ok(Span::new(label, file, u64::from(number(from)), u64::from(number(to))))
+    let (label, rest) = parted(text, ' ');
+    let (file, rest) = parted(rest, ' ');
+    let (from, to) = parted(rest, ' ');
+    let ends = (u64::from(number(from)), u64::from(number(to)));
+    Span::new(alloc, label, file, ends)
+}
+
+// A copy of a file.
+fn copy(alloc: Global, file: &(String, Vec<u8>)) -> Result<(Name, Bytes), AllocError> {
+    let name = Name::from_string(String::from_str(alloc, file.0.as_str())?);
+    let bytes = Seq::from_vec(file.1.as_slice().to_vec(alloc)?);
+    Ok((name, bytes))
 }
 
 fn copies(alloc: Global, files: &[(String, Vec<u8>)]) -> Result<Files, AllocError> {
     let mut all = Seq::new(alloc);
-    for (name, bytes) in files {
-        let name = Name::from_string(String::from_str(alloc, name.as_str())?);
-        all.push((name, Seq::from_vec(bytes.as_slice().to_vec(alloc)?)))?;
+    for file in files {
+        all.push(copy(alloc, file)?)?;
     }
     Ok(all)
 }
 
 impl Given {
+    fn new(alloc: Global) -> Given {
+        Given {
+            files: Vec::new(alloc),
+            stored: Vec::new(alloc),
+            spans: Vec::new(alloc),
+        }
+    }
+
     fn add(&mut self, alloc: Global, line: FileLine) -> Result<(), AllocError> {
         let name = String::from_str(alloc, line.name)?;
         let files = if line.is_stored {
@@ -163,34 +165,67 @@ impl Given {
         Ok(())
     }
 
-    fn devices(&self, alloc: Global, calls: &str) -> Result<Devices, AllocError> {
+    // The input files, of which these calls fail.
+    fn inputs(&self, alloc: Global, calls: &str) -> Result<MemoryShelf, AllocError> {
         let files = copies(alloc, self.files.as_slice())?;
+        inputs_of(alloc, files, calls)
+    }
+
+    fn devices(&self, alloc: Global, calls: &str) -> Result<Devices, AllocError> {
+        let inputs = self.inputs(alloc, calls)?;
         let stored = copies(alloc, self.stored.as_slice())?;
-        let failing = failing(alloc, calls)?;
-        Devices::new(alloc, files, stored, self.spans.as_slice(), failing)
+        Devices::new(alloc, inputs, stored, self.spans.as_slice(), calls)
     }
 }
 
-// What comes of the words.
-fn found(
-    alloc: Global,
-    devices: &mut Devices,
-    calls: &str,
-    words: &str,
-) -> Result<String, AllocError> {
-    match words {
-        "open?" => return devices.open(alloc),
-        "file?" => return devices.table_file(alloc),
-        _ => {}
+// A case of a command, as a line gives it.
+#[derive(Clone, Copy)]
+struct Case<'a> {
+    line: &'a str,
+    expected: &'a str,
+    calls: &'a str,
+    words: &'a str,
+}
+
+impl<'a> Case<'a> {
+    fn of_line(line: &'a str) -> Case<'a> {
+        let (expected, rest) = parted(line, '|');
+        let (calls, words) = parted(rest, '|');
+        Case {
+            line,
+            expected,
+            calls,
+            words,
+        }
     }
-    if let Some(labels) = words.strip_prefix("reads ") {
-        return devices.reads(alloc, labels);
+
+    // What comes of a command of these words.
+    fn run(self, alloc: Global, devices: &mut Devices) -> Result<String, AllocError> {
+        let words = words_of(alloc, self.words)?;
+        if self.calls == "long" {
+            run_over_long_files(alloc, &words)
+        } else {
+            devices.run(alloc, &words)
+        }
     }
-    let words = words_of(alloc, words)?;
-    if calls == "long" {
-        run_over_long_files(alloc, &words)
-    } else {
-        devices.run(alloc, &words)
+
+    // What comes of the words.
+    fn found(self, alloc: Global, devices: &mut Devices) -> Result<String, AllocError> {
+        match self.words {
+            "open?" => return devices.open(alloc),
+            "file?" => return devices.table_file(alloc),
+            _ => {}
+        }
+        match self.words.strip_prefix("reads ") {
+            Some(labels) => devices.reads(alloc, labels),
+            None => self.run(alloc, devices),
+        }
+    }
+
+    // What is wrong with what comes of the words, if something is.
+    fn wrong(self, alloc: Global, devices: &mut Devices) -> Result<Option<String>, AllocError> {
+        let found = self.found(alloc, devices)?;
+        compared(alloc, found.as_str(), self.expected, self.line)
     }
 }
 
@@ -204,16 +239,27 @@ struct Run {
 
 impl Run {
     fn new(alloc: Global) -> Result<Run, AllocError> {
-        let given = Given {
-            files: Vec::new(alloc),
-            stored: Vec::new(alloc),
-            spans: Vec::new(alloc),
-        };
+        let given = Given::new(alloc);
+        let devices = given.devices(alloc, "")?;
         Ok(Run {
-            devices: given.devices(alloc, "")?,
             given,
+            devices,
             report: Report::new(alloc),
         })
+    }
+
+    // Adds a span whose reads are counted.
+    fn add_span(&mut self, alloc: Global, text: &str) -> Result<(), AllocError> {
+        let span = span(alloc, text)?;
+        self.given.spans.push(span)?;
+        Ok(())
+    }
+
+    fn lines(&mut self, alloc: Global, file: &str) -> Result<(), AllocError> {
+        for line in file.lines() {
+            self.line(alloc, line)?;
+        }
+        Ok(())
     }
 
     // The next line: a comment, a file or a case.
@@ -225,8 +271,7 @@ impl Run {
             return self.given.add_segments(alloc, number(count));
         }
         if let Some(text) = line.strip_prefix("span ") {
-            self.given.spans.push(span(alloc, text)?)?;
-            return Ok(());
+            return self.add_span(alloc, text);
         }
         match file_line(alloc, line)? {
             Some(file) => self.given.add(alloc, file),
@@ -234,24 +279,27 @@ impl Run {
         }
     }
 
+    // The devices as they are before the commands to come.
+    fn renew(&mut self, alloc: Global, calls: &str) -> Result<(), AllocError> {
+        let devices = self.given.devices(alloc, calls)?;
+        self.devices = devices;
+        Ok(())
+    }
+
     fn case(&mut self, alloc: Global, line: &str) -> Result<(), AllocError> {
-        let (expected, rest) = line.split_once('|').unwrap_or((line, ""));
-        let (calls, words) = rest.split_once('|').unwrap_or((rest, ""));
-        if calls != "then" {
-            self.devices = self.given.devices(alloc, calls)?;
+        let case = Case::of_line(line);
+        if case.calls != "then" {
+            self.renew(alloc, case.calls)?;
         }
-        let found = found(alloc, &mut self.devices, calls, words)?;
-        self.report
-            .add(compared(alloc, found.as_str(), expected, line)?)
+        let wrong = case.wrong(alloc, &mut self.devices)?;
+        self.report.add(wrong)
     }
 }
 
 /// Runs the cases of a file, in their order.
 pub fn run_commands(alloc: Global, file: &str) -> Result<Report, AllocError> {
     let mut run = Run::new(alloc)?;
-    for line in file.lines() {
-        run.line(alloc, line)?;
-    }
+    run.lines(alloc, file)?;
     let Run { report, .. } = run;
     Ok(report)
 }

@@ -14,21 +14,37 @@ pub struct Span {
 }
 
 impl Span {
-    pub fn new(label: String, file: String, from: u64, to: u64) -> Self {
-        Span {
+    pub fn new(
+        alloc: Global,
+        label: &str,
+        file: &str,
+        (from, to): (u64, u64),
+    ) -> Result<Self, AllocError> {
+        let label = String::from_str(alloc, label)?;
+        let file = String::from_str(alloc, file)?;
+        Ok(Span {
             label,
             file,
             from,
             to,
             read: 0,
-        }
+        })
     }
 
     // A span of the same bytes, of which nothing was read.
     fn fresh(&self, alloc: Global) -> Result<Span, AllocError> {
-        let label = String::from_str(alloc, self.label.as_str())?;
-        let file = String::from_str(alloc, self.file.as_str())?;
-        Ok(Span::new(label, file, self.from, self.to))
+        let ends = (self.from, self.to);
+        Span::new(alloc, self.label.as_str(), self.file.as_str(), ends)
+    }
+
+    // How many of its bytes were read since this was last asked, where it has that label.
+    fn taken(&mut self, label: &str) -> u64 {
+        if self.label.as_str() != label {
+            return 0;
+        }
+        let read = self.read;
+        self.read = 0;
+        read
     }
 
     // Counts those of so many bytes of a file from an offset on that are in the span.
@@ -66,10 +82,7 @@ impl CountingDepot {
     pub fn taken(&mut self, label: &str) -> u64 {
         let mut taken: u64 = 0;
         for span in &mut self.spans {
-            if span.label.as_str() == label {
-                taken = taken.saturating_add(span.read);
-                span.read = 0;
-            }
+            taken = taken.saturating_add(span.taken(label));
         }
         taken
     }

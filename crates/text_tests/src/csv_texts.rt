@@ -32,13 +32,17 @@ fn show_value(out: &mut String, value: &Value) -> Result<(), AllocError> {
     }
 }
 
+fn show_row(out: &mut String, row: &[Value]) -> Result<(), AllocError> {
+    for value in row {
+        show_value(out, value)?;
+    }
+    out.push('\n')
+}
+
 fn show_rows(alloc: Global, rows: &Rows) -> Result<String, AllocError> {
     let mut out = String::new(alloc);
     for row in rows.as_slice() {
-        for value in row.as_slice() {
-            show_value(&mut out, value)?;
-        }
-        out.push('\n')?;
+        show_row(&mut out, row.as_slice())?;
     }
     Ok(out)
 }
@@ -63,21 +67,44 @@ pub fn rows_of_numbers(alloc: Global, text: &[u8]) -> Result<String, AllocError>
     }
 }
 
+// The value of an empty cell.
+fn default(alloc: Global, number: Option<i64>) -> Result<Value, AllocError> {
+    match number {
+        Some(number) => Ok(Value::Whole(number)),
+        None => Ok(Value::Text(Name::from_text(alloc, "null")?)),
+    }
+}
+
+fn field(alloc: Global, (name, kind, number): FieldOf) -> Result<Field, AllocError> {
+    let default = default(alloc, number)?;
+    let name = Name::from_text(alloc, name)?;
+    Ok(Field {
+        name,
+        kind,
+        role: Role::Dimension,
+        default,
+    })
+}
+
 fn schema(alloc: Global, fields: &[FieldOf]) -> Result<Schema, AllocError> {
     let mut list = Seq::new(alloc);
-    for (name, kind, number) in fields {
-        let default = match number {
-            Some(number) => Value::Whole(*number),
-            None => Value::Text(Name::from_text(alloc, "null")?),
-        };
-        list.push(Field {
-            name: Name::from_text(alloc, name)?,
-            kind: *kind,
-            role: Role::Dimension,
-            default,
-        })?;
+    for given in fields {
+        list.push(field(alloc, *given)?)?;
     }
     Ok(Schema { fields: list })
+}
+
+fn rows_over(alloc: Global, schema: &Schema, text: &[u8]) -> Result<String, AllocError> {
+    if text.len() > MOST_BYTES {
+        return String::from_str(alloc, "too long");
+    }
+    if !defaults_fit(schema) {
+        return String::from_str(alloc, "a default of another kind");
+    }
+    match read_rows(alloc, schema, text) {
+        Ok(rows) => show_rows(alloc, &rows),
+        Err(fault) => show_fault(alloc, fault),
+    }
 }
 
 /// The rows of a text over fields.
@@ -86,15 +113,6 @@ pub fn rows_of_fields(
     fields: &[FieldOf],
     text: &[u8],
 ) -> Result<String, AllocError> {
-    if text.len() > MOST_BYTES {
-        return String::from_str(alloc, "too long");
-    }
     let schema = schema(alloc, fields)?;
-    if !defaults_fit(&schema) {
-        return String::from_str(alloc, "a default of another kind");
-    }
-    match read_rows(alloc, &schema, text) {
-        Ok(rows) => show_rows(alloc, &rows),
-        Err(fault) => show_fault(alloc, fault),
-    }
+    rows_over(alloc, &schema, text)
 }

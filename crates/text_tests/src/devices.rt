@@ -5,19 +5,11 @@ use crate::long_files::LongFiles;
 use outside::{Bytes, Depot, MemoryDepot, MemoryShelf, MemorySink, Name, Seq, Shelf, read_all};
 use pinot_run::run_command;
 use std::alloc::{AllocError, Global};
+use std::fmt::Write;
 use table_store::{StoreFault, open_table};
 
 /// Files by name.
 pub type Files = Seq<(Name, Bytes)>;
-
-/// The calls that fail on each device, by their numbers from 0.
-#[derive(Drop)]
-pub struct Failing {
-    pub inputs: Vec<u64>,
-    pub depot: Vec<u64>,
-    pub out: Vec<u64>,
-    pub notes: Vec<u64>,
-}
 
 /// The stream of replies and that of notes.
 #[derive(Drop)]
@@ -38,19 +30,61 @@ pub struct Devices {
 const ROOM: usize = 4096;
 
 // What a stream was given after its first bytes.
-fn added(alloc: Global, bytes: &[u8], start: usize) -> Result<String, AllocError> {
+fn added(bytes: &[u8], start: usize) -> &str {
     let more = bytes.get(start..).unwrap_or(b"");
     match str::from_utf8(more) {
-        Ok(text) => String::from_str(alloc, text),
-        Err(_) => String::from_str(alloc, "not UTF-8"),
+        Ok(text) => text,
+        Err(_) => "not UTF-8",
     }
 }
 
-fn make_streams(alloc: Global, out: Vec<u64>, notes: Vec<u64>) -> Result<Streams, AllocError> {
-    Ok(Streams {
-        out: MemorySink::with_room(alloc, ROOM, Seq::from_vec(out))?,
-        notes: MemorySink::with_room(alloc, ROOM, Seq::from_vec(notes))?,
-    })
+/// The number that a text spells, or none.
+pub fn number(text: &str) -> u32 {
+    text.parse::<u32>().unwrap_or(0)
+}
+
+// The numbers from 0 of the calls of a device that fail.
+fn failing(alloc: Global, calls: &str, device: &str) -> Result<Seq<u64>, AllocError> {
+    let mut numbers = Seq::new(alloc);
+    for call in calls.split(' ') {
+        if let Some((name, at)) = call.split_once(':') {
+            if name == device {
+                numbers.push(u64::from(number(at)))?;
+            }
+        }
+    }
+    Ok(numbers)
+}
+
+fn stream(alloc: Global, calls: &str, device: &str) -> Result<MemorySink, AllocError> {
+    MemorySink::with_room(alloc, ROOM, failing(alloc, calls, device)?)
+}
+
+impl Streams {
+    // Streams of which these calls fail.
+    fn new(alloc: Global, calls: &str) -> Result<Streams, AllocError> {
+        let out = stream(alloc, calls, "out")?;
+        let notes = stream(alloc, calls, "notes")?;
+        Ok(Streams { out, notes })
+    }
+
+    // How many bytes the streams were given.
+    fn lengths(&self) -> (usize, usize) {
+        (self.out.bytes().len(), self.notes.bytes().len())
+    }
+
+    // A status, and what the streams were given after that many bytes.
+    fn shown(
+        &self,
+        alloc: Global,
+        status: u8,
+        starts: (usize, usize),
+    ) -> Result<String, AllocError> {
+        let out = added(self.out.bytes(), starts.0);
+        let notes = added(self.notes.bytes(), starts.1);
+        let mark = if notes.is_empty() { "" } else { "! " };
+        format!(in alloc; "{status} {out}{mark}{notes}")
+    }
 }
 
 fn run_over<I: Shelf, D: Depot>(
@@ -60,7 +94,7 @@ fn run_over<I: Shelf, D: Depot>(
     depot: &mut D,
     streams: &mut Streams,
 ) -> Result<String, AllocError> {
-    let (out, notes) = (streams.out.bytes().len(), streams.notes.bytes().len());
+    let starts = streams.lengths();
     let status = run_command(
         alloc,
         words,
@@ -69,32 +103,48 @@ fn run_over<I: Shelf, D: Depot>(
         &mut streams.out,
         &mut streams.notes,
     );
-    let out = added(alloc, streams.out.bytes(), out)?;
-    let notes = added(alloc, streams.notes.bytes(), notes)?;
-    let mark = if notes.is_empty() { "" } else { "! " };
-    format!(in alloc; "{} {out}{mark}{notes}", status.code())
+    streams.shown(alloc, status.code(), starts)
 }
 
 /// The same where each input file is too long for every command.
 pub fn run_over_long_files(alloc: Global, words: &Vec<String>) -> Result<String, AllocError> {
     let mut depot = MemoryDepot::new(alloc, Seq::new(alloc), Seq::new(alloc))?;
-    let mut streams = make_streams(alloc, Vec::new(alloc), Vec::new(alloc))?;
+    let mut streams = Streams::new(alloc, "")?;
     run_over(alloc, words, &mut LongFiles, &mut depot, &mut streams)
 }
 
+// A store of these files, of which these calls fail and the reads of these spans are counted.
+fn store(
+    alloc: Global,
+    stored: Files,
+    spans: &[Span],
+    calls: &str,
+) -> Result<CountingDepot, AllocError> {
+    let depot = MemoryDepot::new(alloc, stored, failing(alloc, calls, "depot")?)?;
+    CountingDepot::new(alloc, depot, spans)
+}
+
+/// Input files, of which these calls fail.
+pub fn inputs_of(alloc: Global, files: Files, calls: &str) -> Result<MemoryShelf, AllocError> {
+    MemoryShelf::new(alloc, files, failing(alloc, calls, "inputs")?)
+}
+
 impl Devices {
+    /// Devices with these input files and published files. The calls that fail are `DEVICE:NUMBER`, from 0 on, with
+    /// blanks between them.
     pub fn new(
         alloc: Global,
-        files: Files,
+        inputs: MemoryShelf,
         stored: Files,
         spans: &[Span],
-        failing: Failing,
+        calls: &str,
     ) -> Result<Devices, AllocError> {
-        let depot = MemoryDepot::new(alloc, stored, Seq::from_vec(failing.depot))?;
+        let depot = store(alloc, stored, spans, calls)?;
+        let streams = Streams::new(alloc, calls)?;
         Ok(Devices {
-            inputs: MemoryShelf::new(alloc, files, Seq::from_vec(failing.inputs))?,
-            depot: CountingDepot::new(alloc, depot, spans)?,
-            streams: make_streams(alloc, failing.out, failing.notes)?,
+            inputs,
+            depot,
+            streams,
         })
     }
 
@@ -109,8 +159,7 @@ impl Devices {
         let mut text = String::new(alloc);
         for label in labels.split(' ') {
             let gap = if text.is_empty() { "" } else { " " };
-            let more = format!(in alloc; "{gap}{label} {}", self.depot.taken(label))?;
-            text.push_str(more.as_str())?;
+            write!(text, "{gap}{label} {}", self.depot.taken(label))?;
         }
         Ok(text)
     }
@@ -118,7 +167,7 @@ impl Devices {
     /// The bytes of the table's file.
     pub fn table_file(&mut self, alloc: Global) -> Result<String, AllocError> {
         match read_all(alloc, &mut self.depot, "table", 4096) {
-            Ok(file) => added(alloc, file.as_slice(), 0),
+            Ok(file) => String::from_str(alloc, added(file.as_slice(), 0)),
             Err(fault) => format!(in alloc; "{fault:?}"),
         }
     }

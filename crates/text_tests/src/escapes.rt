@@ -55,16 +55,21 @@ pub fn unescaped(alloc: Global, text: &str) -> Result<Vec<u8>, AllocError> {
     Ok(bytes)
 }
 
+// Adds a character, or what is written for it.
+fn push_shown(line: &mut String, c: char) -> Result<(), AllocError> {
+    match c {
+        '\n' => line.push_str("\\n"),
+        '\r' => line.push_str("\\r"),
+        _ if c < ' ' => write!(line, "\\x{:02x}", c as u32),
+        _ => line.push(c),
+    }
+}
+
 /// A text with its line ends spelled, and each other byte below a blank as `\xHH`.
 pub fn on_one_line(alloc: Global, text: &str) -> Result<String, AllocError> {
     let mut line = String::new(alloc);
     for c in text.chars() {
-        match c {
-            '\n' => line.push_str("\\n")?,
-            '\r' => line.push_str("\\r")?,
-            _ if c < ' ' => write!(line, "\\x{:02x}", c as u32)?,
-            _ => line.push(c)?,
-        }
+        push_shown(&mut line, c)?;
     }
     Ok(line)
 }

@@ -1,21 +1,23 @@
 //! What comes of the text of a query: `Reason@byte`, or the syntax tree.
 
 use crate::trees::show_query;
-use query_parser::{QueryFault, parse};
+use query_parser::{Query, QueryFault, parse};
 use std::alloc::{AllocError, Global};
 
 const MOST_BYTES: usize = 65536;
+
+fn tree_text(alloc: Global, query: &Query) -> Result<String, AllocError> {
+    let mut out = String::new(alloc);
+    show_query(&mut out, query)?;
+    Ok(out)
+}
 
 pub fn outcome(alloc: Global, text: &str) -> Result<String, AllocError> {
     if text.len() > MOST_BYTES {
         return String::from_str(alloc, "too long");
     }
     match parse(alloc, text) {
-        Ok(query) => {
-            let mut out = String::new(alloc);
-            show_query(&mut out, &query)?;
-            Ok(out)
-        }
+        Ok(query) => tree_text(alloc, &query),
         Err(QueryFault::At(reason, place)) => format!(in alloc; "{reason:?}@{place}"),
         Err(QueryFault::NoMemory) => Err(AllocError),
     }

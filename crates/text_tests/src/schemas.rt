@@ -40,13 +40,17 @@ fn show_field(out: &mut String, field: &Field) -> Result<(), AllocError> {
     }
 }
 
+fn show_next(out: &mut String, field: &Field) -> Result<(), AllocError> {
+    if !out.is_empty() {
+        out.push_str(", ")?;
+    }
+    show_field(out, field)
+}
+
 fn show_schema(alloc: Global, schema: &Schema) -> Result<String, AllocError> {
     let mut out = String::new(alloc);
     for field in schema.fields.as_slice() {
-        if !out.is_empty() {
-            out.push_str(", ")?;
-        }
-        show_field(&mut out, field)?;
+        show_next(&mut out, field)?;
     }
     Ok(out)
 }

@@ -17,16 +17,21 @@ fn show_fields(out: &mut String, word: &str, fields: &[bool]) -> Result<(), Allo
     Ok(())
 }
 
-fn show_settings(alloc: Global, settings: &Settings) -> Result<String, AllocError> {
-    let mut out = String::from_str(alloc, settings.table.as_str())?;
+fn show_settings(out: &mut String, settings: &Settings) -> Result<(), AllocError> {
+    out.push_str(settings.table.as_str())?;
     match settings.sorted {
         Some(field) => write!(out, " sorted {field}")?,
         None => out.push_str(" sorted -")?,
     }
-    show_fields(&mut out, "inverted", settings.inverted.as_slice())?;
-    show_fields(&mut out, "ranged", settings.ranged.as_slice())?;
-    show_fields(&mut out, "raw", settings.raw.as_slice())?;
-    write!(out, " trees {}", settings.trees.len())?;
+    show_fields(out, "inverted", settings.inverted.as_slice())?;
+    show_fields(out, "ranged", settings.ranged.as_slice())?;
+    show_fields(out, "raw", settings.raw.as_slice())?;
+    write!(out, " trees {}", settings.trees.len())
+}
+
+fn settings_text(alloc: Global, settings: &Settings) -> Result<String, AllocError> {
+    let mut out = String::new(alloc);
+    show_settings(&mut out, settings)?;
     Ok(out)
 }
 
@@ -36,7 +41,7 @@ pub fn settings_outcome(alloc: Global, text: &[u8]) -> Result<String, AllocError
         Err(fault) => return show_fault(alloc, &fault),
     };
     match read_settings(alloc, &schema, text) {
-        Ok(settings) => show_settings(alloc, &settings),
+        Ok(settings) => settings_text(alloc, &settings),
         Err(fault) => show_fault(alloc, &fault),
     }
 }
