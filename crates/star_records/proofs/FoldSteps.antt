@@ -91,7 +91,7 @@ module _ (ks : List AggKind) (dims : List (List ℕ)) (metrics : List (List ℤ)
   abbrev pub docs_of : List ℕ → List Doc
   docs_of is = map row_doc is
 
-  made : (n : ℕ) → projected ks (rows_of n dims metrics) ≡ docs_of (numbers_from 0 n)
+  pub made : (n : ℕ) → projected ks (rows_of n dims metrics) ≡ docs_of (numbers_from 0 n)
   made zero = refl
   made (suc n) =
       let z : n ≡ 0 + n = omega arith in

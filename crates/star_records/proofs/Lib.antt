@@ -1,5 +1,7 @@
 pub mod BlockSteps
 pub mod FoldSteps
 pub mod RowLemmas
+pub mod SlotDocs
+pub mod SlotSteps
 pub mod SortSteps
 pub mod WordSteps

@@ -6,6 +6,8 @@ mod compare;
 mod fold;
 mod merging;
 mod projection;
+mod slot_docs;
+mod slots;
 mod sorting;
 mod words;
 

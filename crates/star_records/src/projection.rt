@@ -11,6 +11,8 @@ ghost use Rattle.star_records.specs.Columns.{row_count, rows_of};
 use crate::NoMemory;
 use crate::fold::merge_in_order;
 use crate::merging::merge_equal;
+use crate::slot_docs::merge_slots;
+use crate::slots::slots_of;
 use crate::words::words_in_order;
 use agg_laws::{StarTable, TreeShape};
 use outside::Seq;
@@ -50,8 +52,10 @@ pub fn project(
     Ok(table)
 }
 
-/// The documents of the rows, sorted by their ids, those of equal ids merged. Where the ids of a row
-/// fit in a word, the rows are sorted as words, and there is one document a combination at most.
+/// The documents of the rows, sorted by their ids, those of equal ids merged. Where no more
+/// combinations of ids are possible than there are rows, each has a slot, and the rows are merged in
+/// the order in which they come. Else, where the ids of a row fit in a word, the rows are sorted as
+/// words. There is one document a combination at most.
 pub fn project_merged(
     alloc: Global,
     shape: &TreeShape,
@@ -73,6 +77,9 @@ pub fn project_merged(
     ensures light { IfOk result (λ table. weights row_weight table.docs ≤ row_count dims.now) }
 {
     let rows = dims.at(0).len();
+    if let Some(slots) = slots_of(alloc, dims, rows)? {
+        return merge_slots(alloc, shape, dims, metrics, &slots);
+    }
     match words_in_order(alloc, dims, rows)? {
         None => merge_equal(project(alloc, shape, dims, metrics)?),
         Some(words) => merge_in_order(alloc, shape, dims, metrics, words.as_slice()),

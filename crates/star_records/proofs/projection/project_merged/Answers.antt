@@ -30,6 +30,14 @@ pub returns-in-Some-clause-count : goal.returns-in-Some-clause-count
 returns-in-Some-clause-count c =
     let few = fewer c.args.shape.now.kinds c.args.dims.now c.args.metrics.now
     (row_count c.args.dims.now) in
+    IfOk-weaker c.merge_slots.result _ _ (λ (table : Docs) is.
+    let same = ap length is in
+    omega (arith, same, few)) c.merge_slots.ensures.docs
+
+pub returns-in-Some-2-clause-count : goal.returns-in-Some-2-clause-count
+returns-in-Some-2-clause-count c =
+    let few = fewer c.args.shape.now.kinds c.args.dims.now c.args.metrics.now
+    (row_count c.args.dims.now) in
     IfOk-weaker c.merge_in_order.result _ _ (λ (table : Docs) is.
     let same = ap length is in
     omega (arith, same, few)) c.merge_in_order.ensures.docs

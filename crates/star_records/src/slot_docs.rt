@@ -1,0 +1,144 @@
+//! The documents of rows in slots, merged column by column.
+
+ghost use Rattle.std.specs.Prelude.{◌≡◌, ◌<◌, ◌≤◌, length, replicate, All};
+ghost use Rattle.std.specs.Prelude.{IfOk, OnOk};
+ghost use Rattle.agg_laws.specs.Columns.{row_at};
+ghost use Rattle.agg_laws.specs.Docs.{projected};
+ghost use Rattle.agg_laws.specs.Merged.{weights};
+ghost use Rattle.agg_laws.specs.Numbers.{most_stored, AreWhole};
+ghost use Rattle.agg_laws.specs.Rows.{merged_rows, row_weight};
+ghost use Rattle.agg_laws.specs.States.{unit_of};
+ghost use Rattle.agg_laws.specs.Tree.{merged_docs};
+ghost use Rattle.star_records.specs.Columns.{row_count, rows_of};
+ghost use Rattle.star_records.specs.Slots.{AllHold, AreSlots, HoldsSlots};
+
+use crate::NoMemory;
+use crate::projection::read_row;
+use crate::slots::Slots;
+use agg_laws::{AggKind, AggState, StarTable, StateColumn, TreeShape};
+use outside::Seq;
+use std::alloc::Global;
+
+/// The documents of the rows, merged: one for each slot. The numbers are added pair by pair, in the
+/// order of the rows.
+pub(crate) fn merge_slots(
+    alloc: Global,
+    shape: &TreeShape,
+    dims: &Seq<Seq<u32>>,
+    metrics: &Seq<Seq<i64>>,
+    slots: &Slots,
+) -> Result<StarTable, NoMemory>
+    requires kinds { length shape.now.kinds ≤ 16 }
+    requires dims { length dims.now ≡ shape.now.dims }
+    requires metrics { length metrics.now ≡ length shape.now.kinds }
+    requires ids_long { All (λ c. length c ≡ row_count dims.now) dims.now }
+    requires values_long { All (λ c. length c ≡ row_count dims.now) metrics.now }
+    requires few { row_count dims.now ≤ most_stored }
+    requires slots { AreSlots (row_count dims.now) dims.now slots.now.slots.items slots.now.rows.items }
+    ensures dims { IfOk result (λ table. table.dims ≡ shape.now.dims) }
+    ensures kinds { IfOk result (λ table. table.kinds ≡ shape.now.kinds) }
+    ensures docs { IfOk result (λ table. table.docs ≡ merged_docs merged_rows (projected
+        shape.now.kinds (rows_of (row_count dims.now) dims.now metrics.now))) }
+    ensures light { IfOk result (λ table. weights row_weight table.docs ≤ row_count dims.now) }
+{
+    let kinds = shape.kinds.as_slice();
+    let rows = slots.rows.as_slice();
+    let columns = fold_columns(alloc, kinds, metrics, slots.slots.as_slice(), rows.len())?;
+    let mut table = StarTable::new(alloc, shape)?;
+    let mut ids = Vec::with_capacity(alloc, dims.len())?;
+    let mut states = Vec::with_capacity(alloc, kinds.len())?;
+    table.reserve(rows.len() as u32)?;
+    for slot in 0..rows.len() {
+        read_row(dims, rows[slot] as usize, &mut ids)?;
+        read_states(columns.as_slice(), slot, &mut states)?;
+        table.reserve(1)?;
+        table.append_parts(ids.as_slice(), states.as_slice());
+    }
+    Ok(table)
+}
+
+// For each pair its states, slot by slot.
+fn fold_columns(
+    alloc: Global,
+    kinds: &[AggKind],
+    metrics: &Seq<Seq<i64>>,
+    slots: &[u32],
+    count: usize,
+) -> Result<Vec<StateColumn>, NoMemory>
+    requires metrics { length metrics.now ≡ length kinds.now }
+    requires long { All (λ c. length c ≡ length slots.now) metrics.now }
+    requires few { length slots.now ≤ most_stored }
+    requires below { All (λ slot. slot < count) slots.now }
+    ensures { IfOk result (λ columns. AllHold count slots.now kinds.now metrics.now columns.items) }
+{
+    let mut columns = Vec::with_capacity(alloc, kinds.len())?;
+    for at in 0..kinds.len() {
+        let numbers = metrics.at(at).as_slice();
+        columns.push(fold_column(alloc, kinds[at], numbers, slots, count)?)?;
+    }
+    Ok(columns)
+}
+
+// The states of one pair.
+fn fold_column(
+    alloc: Global,
+    kind: AggKind,
+    numbers: &[i64],
+    slots: &[u32],
+    count: usize,
+) -> Result<StateColumn, NoMemory>
+    requires long { length numbers.now ≡ length slots.now }
+    requires few { length slots.now ≤ most_stored }
+    requires below { All (λ slot. slot < count) slots.now }
+    ensures states { IfOk result (HoldsSlots kind count slots.now numbers.now) }
+    ensures whole { IfOk result (λ _. AreWhole numbers.now) }
+{
+    let mut column = units(alloc, kind, count)?;
+    add_numbers(&mut column, slots, numbers);
+    Ok(column)
+}
+
+// So many states of no value.
+fn units(alloc: Global, kind: AggKind, count: usize) -> Result<StateColumn, NoMemory>
+    ensures kind { IfOk result (λ column. column.kind ≡ kind) }
+    ensures states { IfOk result (λ column. column.states ≡ replicate count (unit_of kind)) }
+{
+    let mut column = StateColumn::new(alloc, kind);
+    column.reserve(count)?;
+    for _ in 0..count {
+        column.push_unit();
+    }
+    Ok(column)
+}
+
+// Adds the number of each row to the state in the row's slot.
+fn add_numbers(column: &mut StateColumn, slots: &[u32], numbers: &[i64])
+    requires long { length numbers.now ≡ length slots.now }
+    requires few { length slots.now ≤ most_stored }
+    requires below { All (λ slot. slot < length column.old.states) slots.now }
+    requires empty { column.old.states
+        ≡ replicate (length column.old.states) (unit_of column.old.kind) }
+    ensures states { HoldsSlots column.old.kind (length column.old.states) slots.now numbers.now
+        column.new }
+    ensures whole { AreWhole numbers.now }
+{
+    for row in 0..slots.len() {
+        column.add_at(slots[row] as usize, numbers[row]);
+    }
+}
+
+// What the columns have in a slot, in place of what a list has.
+fn read_states(
+    columns: &[StateColumn],
+    slot: usize,
+    out: &mut Vec<AggState>,
+) -> Result<(), NoMemory>
+    requires { All (λ c. slot < length c.states) columns.now }
+    ensures { OnOk result (out.new.items ≡ row_at columns.now slot) }
+{
+    out.clear();
+    for column in columns {
+        out.push(column.at(slot))?;
+    }
+    Ok(())
+}
