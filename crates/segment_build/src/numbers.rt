@@ -1,20 +1,21 @@
 //! The numbers of a column.
-ghost use Rattle.std.specs.Prelude.{◌≡◌, pos, replicate, IfOk};
+ghost use Rattle.std.specs.Prelude.{◌≡◌, length, pos, replicate, IfOk};
 ghost use Rattle.segment_build.specs.Growing.{numbers_in};
 
 use outside::NoMemory;
 use std::alloc::Global;
 use values::Column;
 
-/// The numbers of a column; a text counts as 0.
-pub fn numbers_of(alloc: Global, column: &Column) -> Result<Vec<i64>, NoMemory>
-    ensures { IfOk result (λ numbers. numbers.items ≡ numbers_in column.now) }
+/// The numbers of a column, where they are; those of texts are the zeros.
+pub fn numbers_of<'a>(column: &'a Column, zeros: &'a [i64]) -> &'a [i64]
+    requires { zeros.now ≡ replicate (length column.now.values) (pos 0) }
+    ensures { result.now ≡ numbers_in column.now }
 {
-    if let Some(texts) = column.as_texts() {
-        return zeros(alloc, texts.len());
+    if let Some(_texts) = column.as_texts() {
+        return zeros;
     }
     match column.as_numbers() {
-        Some(numbers) => Vec::from_slice(alloc, numbers),
+        Some(numbers) => numbers,
         None => unreachable!(),
     }
 }

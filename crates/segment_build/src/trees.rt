@@ -1,5 +1,5 @@
 //! The star-trees of a segment are built, one after the other.
-ghost use Rattle.std.specs.Prelude.{◌≡◌, ◌<◌, ◌≤◌, ◌⊎◌, ◌^◌, ◌++◌, ◌∷◌, [], ℕ, length, map, Err, IfErr, IfOk, IsErrOf, OnErr, OnOk};
+ghost use Rattle.std.specs.Prelude.{◌≡◌, ◌<◌, ◌≤◌, ◌⊎◌, ◌^◌, ◌++◌, ◌∷◌, [], ℕ, length, map, pos, replicate, Err, IfErr, IfOk, IsErrOf, OnErr, OnOk};
 ghost use Rattle.std.specs.List.{All};
 ghost use Rattle.values.specs.Columns.{rows_of};
 ghost use Rattle.table_schema.specs.ValidSettings.{IsValidTree};
@@ -24,7 +24,7 @@ use agg_laws::StarTable;
 use outside::{Bytes, NoMemory, Seq};
 use star_builder::{TreeFault, build_merged};
 use star_file::{StarTree, write_docs, write_nodes};
-use star_records::project_merged;
+use star_records::{NumberColumns, project_merged};
 use std::alloc::Global;
 use table_schema::{Pair, Table, TreeSetting};
 use values::Columns;
@@ -110,8 +110,8 @@ fn grow_tree(
     }
 }
 
-// The rows as documents of a tree, merged: the order in which they came does not matter. The columns
-// of their ids and numbers are let go.
+// The rows as documents of a tree, merged: the order in which they came does not matter. The numbers
+// are read where they are; of those that are counted, one column of zeros serves all pairs.
 fn merged_of_tree(
     alloc: Global,
     table: &Table,
@@ -129,7 +129,8 @@ fn merged_of_tree(
     ensures light { IfOk result (λ docs. weights row_weight docs.docs ≤ most_stored) }
 {
     let dims = split_ids(alloc, table, columns, tree.split.as_slice())?;
-    let metrics = pair_numbers(alloc, columns, tree.pairs.as_slice())?;
+    let zeros = zeros(alloc, columns.len())?;
+    let metrics = pair_numbers(alloc, columns, tree.pairs.as_slice(), zeros.as_slice())?;
     let docs = project_merged(alloc, &tree.shape, &dims, &metrics)?;
     Ok(docs)
 }
@@ -154,27 +155,32 @@ fn split_ids(
 }
 
 // The numbers of the rows for these pairs.
-fn pair_numbers(alloc: Global, columns: &Columns, pairs: &[Pair]) -> Result<Seq<Seq<i64>>, NoMemory>
-    requires { All (λ pair. IsKnown (length columns.now.columns) pair.column) pairs.now }
+fn pair_numbers<'a>(
+    alloc: Global,
+    columns: &'a Columns,
+    pairs: &[Pair],
+    zeros: &'a [i64],
+) -> Result<NumberColumns<'a>, NoMemory>
+    requires known { All (λ pair. IsKnown (length columns.now.columns) pair.column) pairs.now }
+    requires zeros { zeros.now ≡ replicate columns.now.count (pos 0) }
     ensures { IfOk result (λ numbers. numbers
         ≡ map (λ pair. numbers_for columns.now pair.column) pairs.now) }
 {
-    let mut all = Vec::with_capacity(alloc, pairs.len())?;
+    let mut all = NumberColumns::new(alloc);
     for pair in pairs {
-        let numbers = pair_column(alloc, columns, pair.column)?;
-        all.push(Seq::from_vec(numbers))?;
+        all.push(pair_column(columns, pair.column, zeros))?;
     }
-    Ok(Seq::from_vec(all))
+    Ok(all)
 }
 
-// Those in the column of a pair, and 0 where rows are counted.
-fn pair_column(alloc: Global, columns: &Columns, column: Option<u16>) -> Result<Vec<i64>, NoMemory>
-    requires { IsKnown (length columns.now.columns) column }
-    ensures { IfOk result (λ numbers. numbers.items
-        ≡ numbers_for columns.now column) }
+// Those in the column of a pair, and the zeros where rows are counted.
+fn pair_column<'a>(columns: &'a Columns, column: Option<u16>, zeros: &'a [i64]) -> &'a [i64]
+    requires known { IsKnown (length columns.now.columns) column }
+    requires zeros { zeros.now ≡ replicate columns.now.count (pos 0) }
+    ensures { result.now ≡ numbers_for columns.now column }
 {
     match column {
-        Some(column) => numbers_of(alloc, columns.column(column as usize)),
-        None => zeros(alloc, columns.len()),
+        Some(column) => numbers_of(columns.column(column as usize), zeros),
+        None => zeros,
     }
 }

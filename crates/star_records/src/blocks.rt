@@ -6,6 +6,7 @@ ghost use Rattle.star_records.specs.Folding.{picked, AllZero, AreHeads, AreZero}
 ghost use Rattle.star_records.specs.Words.{key_in, row_in};
 
 use crate::NoMemory;
+use crate::numbers::NumberColumns;
 use crate::words::MOST_ROWS;
 use outside::Seq;
 use std::alloc::Global;
@@ -38,7 +39,7 @@ pub(crate) fn columns_at<T: Copy>(
 /// The same for columns of numbers, where it is known of some that they have zeros alone.
 pub(crate) fn numbers_at(
     alloc: Global,
-    columns: &Seq<Seq<i64>>,
+    columns: &NumberColumns,
     zeros: &[bool],
     words: &[u64],
 ) -> Result<Seq<Seq<i64>>, NoMemory>
@@ -48,19 +49,19 @@ pub(crate) fn numbers_at(
 {
     let mut block = Vec::with_capacity(alloc, columns.len())?;
     for i in 0..columns.len() {
-        let items = number_column(alloc, columns.at(i).as_slice(), zeros[i], words)?;
+        let items = number_column(alloc, columns.at(i), zeros[i], words)?;
         block.push(Seq::from_vec(items))?;
     }
     Ok(Seq::from_vec(block))
 }
 
 /// Of each column whether it has zeros alone.
-pub(crate) fn zero_columns(alloc: Global, columns: &Seq<Seq<i64>>) -> Result<Vec<bool>, NoMemory>
+pub(crate) fn zero_columns(alloc: Global, columns: &NumberColumns) -> Result<Vec<bool>, NoMemory>
     ensures { IfOk result (λ zeros. AreZero zeros.items columns.now) }
 {
     let mut zeros = Vec::with_capacity(alloc, columns.len())?;
     for i in 0..columns.len() {
-        zeros.push(is_zero(columns.at(i).as_slice()))?;
+        zeros.push(is_zero(columns.at(i)))?;
     }
     Ok(zeros)
 }

@@ -13,6 +13,7 @@ ghost use Rattle.star_records.specs.Words.{ids_at, key_in, states_at, InOrder};
 
 use crate::NoMemory;
 use crate::blocks::{columns_at, heads_of, numbers_at, part, repeats, zero_columns};
+use crate::numbers::NumberColumns;
 use crate::projection::read_row;
 use agg_laws::{StarTable, TreeShape};
 use outside::Seq;
@@ -27,7 +28,7 @@ pub(crate) fn merge_in_order(
     alloc: Global,
     shape: &TreeShape,
     dims: &Seq<Seq<u32>>,
-    metrics: &Seq<Seq<i64>>,
+    metrics: &NumberColumns,
     words: &[u64],
 ) -> Result<StarTable, NoMemory>
     requires kinds { length shape.now.kinds ≤ 16 }
@@ -80,7 +81,7 @@ fn merge_block(
     alloc: Global,
     table: &mut StarTable,
     dims: &Seq<Seq<u32>>,
-    metrics: &Seq<Seq<i64>>,
+    metrics: &NumberColumns,
     zeros: &[bool],
     words: &[u64],
     from: usize,

@@ -5,6 +5,7 @@ mod blocks;
 mod compare;
 mod fold;
 mod merging;
+mod numbers;
 mod projection;
 mod slot_docs;
 mod slots;
@@ -13,6 +14,7 @@ mod words;
 
 pub use compare::compare_dims;
 pub use merging::merge_equal;
+pub use numbers::NumberColumns;
 pub use projection::{project, project_merged};
 
 /// A growth was refused.

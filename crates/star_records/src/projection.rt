@@ -11,6 +11,7 @@ ghost use Rattle.star_records.specs.Columns.{row_count, rows_of};
 use crate::NoMemory;
 use crate::fold::merge_in_order;
 use crate::merging::merge_equal;
+use crate::numbers::NumberColumns;
 use crate::slot_docs::merge_slots;
 use crate::slots::slots_of;
 use crate::words::words_in_order;
@@ -23,7 +24,7 @@ pub fn project(
     alloc: Global,
     shape: &TreeShape,
     dims: &Seq<Seq<u32>>,
-    metrics: &Seq<Seq<i64>>,
+    metrics: &NumberColumns,
 ) -> Result<StarTable, NoMemory>
     requires kinds { length shape.now.kinds ≤ 16 }
     requires some { 1 ≤ shape.now.dims }
@@ -45,7 +46,7 @@ pub fn project(
     table.reserve(u32::try_from(rows).unwrap_or(u32::MAX))?;
     for row in 0..rows {
         read_row(dims, row, &mut ids)?;
-        read_row(metrics, row, &mut values)?;
+        metrics.read_row(row, &mut values)?;
         table.reserve(1)?;
         table.append_values(ids.as_slice(), values.as_slice());
     }
@@ -60,7 +61,7 @@ pub fn project_merged(
     alloc: Global,
     shape: &TreeShape,
     dims: &Seq<Seq<u32>>,
-    metrics: &Seq<Seq<i64>>,
+    metrics: &NumberColumns,
 ) -> Result<StarTable, NoMemory>
     requires kinds { length shape.now.kinds ≤ 16 }
     requires some { 1 ≤ shape.now.dims }

@@ -13,6 +13,7 @@ ghost use Rattle.star_records.specs.Columns.{row_count, rows_of};
 ghost use Rattle.star_records.specs.Slots.{AllHold, AreSlots, HoldsSlots};
 
 use crate::NoMemory;
+use crate::numbers::NumberColumns;
 use crate::projection::read_row;
 use crate::slots::Slots;
 use agg_laws::{AggKind, AggState, StarTable, StateColumn, TreeShape};
@@ -25,7 +26,7 @@ pub(crate) fn merge_slots(
     alloc: Global,
     shape: &TreeShape,
     dims: &Seq<Seq<u32>>,
-    metrics: &Seq<Seq<i64>>,
+    metrics: &NumberColumns,
     slots: &Slots,
 ) -> Result<StarTable, NoMemory>
     requires kinds { length shape.now.kinds ≤ 16 }
@@ -61,7 +62,7 @@ pub(crate) fn merge_slots(
 fn fold_columns(
     alloc: Global,
     kinds: &[AggKind],
-    metrics: &Seq<Seq<i64>>,
+    metrics: &NumberColumns,
     slots: &[u32],
     count: usize,
 ) -> Result<Vec<StateColumn>, NoMemory>
@@ -73,7 +74,7 @@ fn fold_columns(
 {
     let mut columns = Vec::with_capacity(alloc, kinds.len())?;
     for at in 0..kinds.len() {
-        let numbers = metrics.at(at).as_slice();
+        let numbers = metrics.at(at);
         columns.push(fold_column(alloc, kinds[at], numbers, slots, count)?)?;
     }
     Ok(columns)

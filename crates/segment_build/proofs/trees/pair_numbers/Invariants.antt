@@ -3,4 +3,4 @@ use Rattle.segment_build.specs.Growing.{numbers_for}
 use Rattle.segment_build.proofs.trees.pair_numbers.Given as goal
 
 abbrev pub invariant-loop-pair : goal.invariant-loop-pair
-invariant-loop-pair l = l.all.items ≡ map (λ pair. numbers_for l.columns pair.column) (take l.pair-index l.pairs)
+invariant-loop-pair l = l.all ≡ map (λ pair. numbers_for l.columns pair.column) (take l.pair-index l.pairs)

@@ -10,7 +10,7 @@ number_column-requires-clause-zero c marked =
     let columns = c.args.columns.now in
     let i = c.loop-i.i in
     let lt : i < length columns = omega (arith, c.loop-i-test.true, c.len-i-end.ensures) in
-    let at = c.as_slice.ensures ∙ c.at.ensures ∙ any_default columns i c.at.result.now [] lt in
+    let at = c.at.ensures ∙ any_default columns i c.at.result.now [] lt in
     subst AllZero (sym at) (c.requires.known.zero i lt marked)
 
 pub loop-i-preserved : goal.loop-i-preserved
@@ -19,8 +19,8 @@ loop-i-preserved c = λ d.
     let words = c.args.words.now in
     let i = c.loop-i.i in
     let lt : i < length columns = omega (arith, c.loop-i-test.true, c.len-i-end.ensures) in
-    let column = c.as_slice.result.now in
-    let at = c.as_slice.ensures ∙ c.at.ensures ∙ any_default columns i c.at.result.now [] lt in
+    let column = c.at.result.now in
+    let at = c.at.ensures ∙ any_default columns i c.at.result.now [] lt in
     let more = c.in_ok-push.ensures.items
     ∙ ap (λ (l : List ℤ). c.loop-i.block.items ++ (l ∷ [])) c.from_vec.ensures in
     steps.columns_more d words columns i column c.in_ok-items.items.items c.loop-i.block.items

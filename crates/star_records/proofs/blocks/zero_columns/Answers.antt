@@ -9,12 +9,12 @@ loop-i-preserved c =
     let i = c.loop-i.i in
     let inv = c.loop-i.invariant in
     let lt : i < length columns = omega (arith, c.loop-i-test.true, c.len-i-end.ensures) in
-    let at = c.as_slice.ensures ∙ c.at.ensures ∙ any_default columns i c.at.result.now [] lt in
+    let at = c.at.ensures ∙ any_default columns i c.at.result.now [] lt in
     record {
       long = ap length c.in_ok-push.ensures.items
           ∙ length-append c.loop-i.zeros.items (c.is_zero.result ∷ []) ∙ ap (λ n. n + 1) inv.long;
       zero = steps.zero_more c.loop-i.zeros.items c.push.new.self.items columns i c.is_zero.result
-          c.as_slice.result.now lt at inv.long inv.zero c.is_zero.ensures c.in_ok-push.ensures.items;
+          c.at.result.now lt at inv.long inv.zero c.is_zero.ensures c.in_ok-push.ensures.items;
     }
 
 pub returns : goal.returns

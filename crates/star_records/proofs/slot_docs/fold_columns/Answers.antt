@@ -1,6 +1,5 @@
 use Rattle.std.proofs.Common.{◌≡◌, ◌∙◌, ◌++◌, ◌∷◌, ◌<◌, [], ℕ, ℤ, List, length, get_or, take, ap, sym, arith}
 use Rattle.std.proofs.lemmas.List.{take_more}
-use Rattle.agg_laws.proofs.RegionLemmas.{any_default}
 use Rattle.star_records.proofs.SlotDocs as steps
 use Rattle.star_records.proofs.slot_docs.fold_columns.Goals as goal
 
@@ -9,10 +8,9 @@ loop-at-preserved c =
     let kinds = c.args.kinds.now in
     let metrics : List (List ℤ) = c.args.metrics.now in
     let at : ℕ = c.loop-at.at in
-    let numbers : List ℤ = c.as_slice-numbers.result.now in
+    let numbers : List ℤ = c.at-numbers.result.now in
     let lt : at < length metrics = omega (arith, c.requires.metrics, c.loop-at-test.true) in
-    let is : numbers ≡ get_or metrics at numbers = c.as_slice-numbers.ensures ∙ c.at.ensures
-    ∙ any_default metrics at c.at.result.now numbers lt in
+    let is : numbers ≡ get_or metrics at numbers = c.at-numbers.ensures in
     steps.hold-step c.args.count c.args.slots.now kinds metrics at c.loop-at.columns.items
     c.push.new.self.items _ numbers c.in_ok-fold_column.field-0
     (take_more kinds at _ c.loop-at-test.true)
