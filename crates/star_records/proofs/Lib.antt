@@ -1,5 +1,6 @@
 pub mod BlockSteps
 pub mod FoldSteps
+pub mod Gathering
 pub mod RowLemmas
 pub mod SlotDocs
 pub mod SlotSteps

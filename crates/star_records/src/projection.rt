@@ -56,34 +56,39 @@ pub fn project(
 /// The documents of the rows, sorted by their ids, those of equal ids merged. Where no more
 /// combinations of ids are possible than there are rows, each has a slot, and the rows are merged in
 /// the order in which they come. Else, where the ids of a row fit in a word, the rows are sorted as
-/// words. There is one document a combination at most.
+/// words. There is one document a combination at most. The ids are let go as soon as they are not
+/// needed.
 pub fn project_merged(
     alloc: Global,
     shape: &TreeShape,
-    dims: &Seq<Seq<u32>>,
+    dims: Seq<Seq<u32>>,
     metrics: &NumberColumns,
 ) -> Result<StarTable, NoMemory>
     requires kinds { length shape.now.kinds ≤ 16 }
     requires some { 1 ≤ shape.now.dims }
-    requires dims { length dims.now ≡ shape.now.dims }
+    requires dims { length dims ≡ shape.now.dims }
     requires metrics { length metrics.now ≡ length shape.now.kinds }
-    requires ids_long { All (λ c. length c ≡ row_count dims.now) dims.now }
-    requires values_long { All (λ c. length c ≡ row_count dims.now) metrics.now }
-    requires few { row_count dims.now ≤ most_stored }
+    requires ids_long { All (λ c. length c ≡ row_count dims) dims }
+    requires values_long { All (λ c. length c ≡ row_count dims) metrics.now }
+    requires few { row_count dims ≤ most_stored }
     ensures dims { IfOk result (λ table. table.dims ≡ shape.now.dims) }
     ensures kinds { IfOk result (λ table. table.kinds ≡ shape.now.kinds) }
     ensures docs { IfOk result (λ table. table.docs ≡ merged_docs merged_rows (projected
-        shape.now.kinds (rows_of (row_count dims.now) dims.now metrics.now))) }
-    ensures count { IfOk result (λ table. length table.docs ≤ row_count dims.now) }
-    ensures light { IfOk result (λ table. weights row_weight table.docs ≤ row_count dims.now) }
+        shape.now.kinds (rows_of (row_count dims) dims metrics.now))) }
+    ensures count { IfOk result (λ table. length table.docs ≤ row_count dims) }
+    ensures light { IfOk result (λ table. weights row_weight table.docs ≤ row_count dims) }
 {
     let rows = dims.at(0).len();
-    if let Some(slots) = slots_of(alloc, dims, rows)? {
-        return merge_slots(alloc, shape, dims, metrics, &slots);
+    if let Some(slots) = slots_of(alloc, &dims, rows)? {
+        return merge_slots(alloc, shape, dims, metrics, slots);
     }
-    match words_in_order(alloc, dims, rows)? {
-        None => merge_equal(project(alloc, shape, dims, metrics)?),
-        Some(words) => merge_in_order(alloc, shape, dims, metrics, words.as_slice()),
+    match words_in_order(alloc, &dims, rows)? {
+        None => {
+            let documents = project(alloc, shape, &dims, metrics)?;
+            drop(dims);
+            merge_equal(documents)
+        }
+        Some(words) => merge_in_order(alloc, shape, &dims, metrics, words.as_slice()),
     }
 }
 

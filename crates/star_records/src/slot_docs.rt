@@ -1,6 +1,6 @@
 //! The documents of rows in slots, merged column by column.
 
-ghost use Rattle.std.specs.Prelude.{◌≡◌, ◌<◌, ◌≤◌, length, replicate, All};
+ghost use Rattle.std.specs.Prelude.{◌≡◌, ◌<◌, ◌≤◌, get_or, length, map, replicate, All};
 ghost use Rattle.std.specs.Prelude.{IfOk, OnOk};
 ghost use Rattle.agg_laws.specs.Columns.{row_at};
 ghost use Rattle.agg_laws.specs.Docs.{projected};
@@ -10,7 +10,7 @@ ghost use Rattle.agg_laws.specs.Rows.{merged_rows, row_weight};
 ghost use Rattle.agg_laws.specs.States.{unit_of};
 ghost use Rattle.agg_laws.specs.Tree.{merged_docs};
 ghost use Rattle.star_records.specs.Columns.{row_count, rows_of};
-ghost use Rattle.star_records.specs.Slots.{AllHold, AreSlots, HoldsSlots};
+ghost use Rattle.star_records.specs.Slots.{gathered, AllHold, AreSlots, HoldsSlots};
 
 use crate::NoMemory;
 use crate::numbers::NumberColumns;
@@ -21,41 +21,71 @@ use outside::Seq;
 use std::alloc::Global;
 
 /// The documents of the rows, merged: one for each slot. The numbers are added pair by pair, in the
-/// order of the rows.
+/// order of the rows, once the ids of all rows but the slots' own are let go.
 pub(crate) fn merge_slots(
     alloc: Global,
     shape: &TreeShape,
-    dims: &Seq<Seq<u32>>,
+    dims: Seq<Seq<u32>>,
     metrics: &NumberColumns,
-    slots: &Slots,
+    slots: Slots,
 ) -> Result<StarTable, NoMemory>
     requires kinds { length shape.now.kinds ≤ 16 }
-    requires dims { length dims.now ≡ shape.now.dims }
+    requires dims { length dims ≡ shape.now.dims }
     requires metrics { length metrics.now ≡ length shape.now.kinds }
-    requires ids_long { All (λ c. length c ≡ row_count dims.now) dims.now }
-    requires values_long { All (λ c. length c ≡ row_count dims.now) metrics.now }
-    requires few { row_count dims.now ≤ most_stored }
-    requires slots { AreSlots (row_count dims.now) dims.now slots.now.slots.items slots.now.rows.items }
+    requires ids_long { All (λ c. length c ≡ row_count dims) dims }
+    requires values_long { All (λ c. length c ≡ row_count dims) metrics.now }
+    requires few { row_count dims ≤ most_stored }
+    requires slots { AreSlots (row_count dims) dims slots.slots.items slots.rows.items }
     ensures dims { IfOk result (λ table. table.dims ≡ shape.now.dims) }
     ensures kinds { IfOk result (λ table. table.kinds ≡ shape.now.kinds) }
     ensures docs { IfOk result (λ table. table.docs ≡ merged_docs merged_rows (projected
-        shape.now.kinds (rows_of (row_count dims.now) dims.now metrics.now))) }
-    ensures light { IfOk result (λ table. weights row_weight table.docs ≤ row_count dims.now) }
+        shape.now.kinds (rows_of (row_count dims) dims metrics.now))) }
+    ensures light { IfOk result (λ table. weights row_weight table.docs ≤ row_count dims) }
 {
     let kinds = shape.kinds.as_slice();
-    let rows = slots.rows.as_slice();
-    let columns = fold_columns(alloc, kinds, metrics, slots.slots.as_slice(), rows.len())?;
+    let Slots { slots, rows } = slots;
+    let count = rows.len();
+    let slot_ids = ids_of(alloc, &dims, rows.as_slice())?;
+    drop(dims);
+    let columns = fold_columns(alloc, kinds, metrics, slots.as_slice(), count)?;
+    drop(slots);
     let mut table = StarTable::new(alloc, shape)?;
-    let mut ids = Vec::with_capacity(alloc, dims.len())?;
+    let mut ids = Vec::with_capacity(alloc, slot_ids.len())?;
     let mut states = Vec::with_capacity(alloc, kinds.len())?;
-    table.reserve(rows.len() as u32)?;
-    for slot in 0..rows.len() {
-        read_row(dims, rows[slot] as usize, &mut ids)?;
+    table.reserve(count as u32)?;
+    for slot in 0..count {
+        read_row(&slot_ids, slot, &mut ids)?;
         read_states(columns.as_slice(), slot, &mut states)?;
         table.reserve(1)?;
         table.append_parts(ids.as_slice(), states.as_slice());
     }
     Ok(table)
+}
+
+// The ids of some rows, column by column.
+fn ids_of(alloc: Global, dims: &Seq<Seq<u32>>, rows: &[u32]) -> Result<Seq<Seq<u32>>, NoMemory>
+    requires { All (λ c. All (λ row. row < length c) rows.now) dims.now }
+    ensures { IfOk result (λ ids. ids ≡ gathered rows.now dims.now) }
+{
+    let mut all = Vec::with_capacity(alloc, dims.len())?;
+    for at in 0..dims.len() {
+        let ids = column_ids(alloc, dims.at(at).as_slice(), rows)?;
+        all.push(Seq::from_vec(ids))?;
+    }
+    Ok(Seq::from_vec(all))
+}
+
+// Those of one column.
+fn column_ids(alloc: Global, column: &[u32], rows: &[u32]) -> Result<Vec<u32>, NoMemory>
+    requires { All (λ row. row < length column.now) rows.now }
+    ensures { IfOk result
+        (λ ids. ids.items ≡ map (λ row. get_or column.now row 0) rows.now) }
+{
+    let mut ids = Vec::with_capacity(alloc, rows.len())?;
+    for i in 0..rows.len() {
+        ids.push(column[rows[i] as usize])?;
+    }
+    Ok(ids)
 }
 
 // For each pair its states, slot by slot.

@@ -9,42 +9,61 @@ use Rattle.agg_laws.specs.Region.{numbers_from}
 use Rattle.agg_laws.specs.Rows.{kinds_of, merged_rows, row_of, RowStored}
 use Rattle.agg_laws.specs.Tree.{merged_docs}
 use Rattle.star_records.specs.Columns.{row_at, row_count, rows_of}
-use Rattle.star_records.specs.Slots.{in_slot, slot_doc, values_of, AreSlots}
+use Rattle.star_records.specs.Slots.{gathered, in_slot, slot_doc, values_of, AreSlots}
+use Rattle.star_records.proofs.Gathering as gathering
 use Rattle.star_records.proofs.RowLemmas as rows
 use Rattle.star_records.proofs.SlotDocs as steps
 use Rattle.star_records.proofs.WordSteps.{more_numbers}
 use Rattle.star_records.proofs.slot_docs.merge_slots.Goals as goal
 
+pub ids_of-requires : goal.ids_of-requires
+ids_of-requires c =
+    let dims : List (List ℕ) = c.args.dims in
+    subst (λ (known : List ℕ). All (λ (l : List ℕ). All (λ row. row < length l) known) dims)
+    (sym c.as_slice.ensures.value)
+    (gathering.in_each (row_count dims) c.args.slots.rows.items dims c.requires.ids_long
+    c.requires.slots.rows_in)
+
+pub read_row-requires : goal.read_row-requires
+read_row-requires c =
+    let dims : List (List ℕ) = c.args.dims in
+    let known : List ℕ = c.args.slots.rows.items in
+    let slot : ℕ = c.loop-slot.slot in
+    let lt : slot < length known = omega (arith, c.loop-slot-test.true, c.len-count.ensures) in
+    subst (All (λ (l : List ℕ). slot < length l))
+    (sym (c.in_ok-slot_ids.ensures ∙ ap (λ (l : List ℕ). gathered l dims) c.as_slice.ensures.value))
+    (gathering.long_gathered slot known dims lt)
+
 pub read_states-requires : goal.read_states-requires
 read_states-requires c =
-    let R : List ℕ = c.as_slice-rows.result.now in
-    let S : List ℕ = c.as_slice.result.now in
+    let N : ℕ = c.len-count.result in
+    let S : List ℕ = c.as_slice-2.result.now in
     let K : List AggKind = c.as_slice-kinds.result.now in
     let metrics : List (List ℤ) = c.args.metrics.now in
     let slot : ℕ = c.loop-slot.slot in
     let columns : List Column = c.in_ok-columns.columns.items in
     let long : All (λ (m : List ℤ). length m ≡ length S) metrics =
     λ k d l. c.requires.values_long k d l
-    ∙ sym (ap length c.as_slice.ensures.value ∙ c.requires.slots.long) in
+    ∙ sym (ap length c.as_slice-2.ensures.value ∙ c.requires.slots.long) in
     subst (All (λ (d : Column). slot < length d.states)) (sym c.as_slice-in-loop-slot.ensures.value)
-    (steps.long-columns (length R) S K metrics columns slot c.in_ok-columns.ensures
+    (steps.long-columns N S K metrics columns slot c.in_ok-columns.ensures
     c.loop-slot-test.true)
 
 pub append_parts-requires-clause-kinds : goal.append_parts-requires-clause-kinds
 append_parts-requires-clause-kinds c =
-    let R : List ℕ = c.as_slice-rows.result.now in
-    let S : List ℕ = c.as_slice.result.now in
+    let N : ℕ = c.len-count.result in
+    let S : List ℕ = c.as_slice-2.result.now in
     let K : List AggKind = c.as_slice-kinds.result.now in
     let metrics : List (List ℤ) = c.args.metrics.now in
     let slot : ℕ = c.loop-slot.slot in
     let columns : List Column = c.in_ok-columns.columns.items in
     let long : All (λ (m : List ℤ). length m ≡ length S) metrics =
     λ k d l. c.requires.values_long k d l
-    ∙ sym (ap length c.as_slice.ensures.value ∙ c.requires.slots.long) in
+    ∙ sym (ap length c.as_slice-2.ensures.value ∙ c.requires.slots.long) in
     let states : c.as_slice-in-loop-slot-3.result.now ≡ columns_row columns slot =
     c.as_slice-in-loop-slot-3.ensures.value ∙ c.in_ok-read_states.ensures
     ∙ ap (λ (cs : List Column). columns_row cs slot) c.as_slice-in-loop-slot.ensures.value in
-    ap kinds_of (states ∙ steps.slot-row (length R) S K metrics columns slot c.in_ok-columns.ensures long
+    ap kinds_of (states ∙ steps.slot-row N S K metrics columns slot c.in_ok-columns.ensures long
     c.loop-slot-test.true)
     ∙ steps.row-kinds K (in_slot slot S (values_of (length S) metrics))
     ∙ c.as_slice-kinds.ensures ∙ sym c.loop-slot.invariant.kinds
@@ -52,65 +71,67 @@ append_parts-requires-clause-kinds c =
 
 pub append_parts-requires-clause-stored : goal.append_parts-requires-clause-stored
 append_parts-requires-clause-stored c =
-    let R : List ℕ = c.as_slice-rows.result.now in
-    let S : List ℕ = c.as_slice.result.now in
+    let N : ℕ = c.len-count.result in
+    let S : List ℕ = c.as_slice-2.result.now in
     let K : List AggKind = c.as_slice-kinds.result.now in
     let metrics : List (List ℤ) = c.args.metrics.now in
     let slot : ℕ = c.loop-slot.slot in
     let columns : List Column = c.in_ok-columns.columns.items in
     let long : All (λ (m : List ℤ). length m ≡ length S) metrics =
     λ k d l. c.requires.values_long k d l
-    ∙ sym (ap length c.as_slice.ensures.value ∙ c.requires.slots.long) in
+    ∙ sym (ap length c.as_slice-2.ensures.value ∙ c.requires.slots.long) in
     let states : c.as_slice-in-loop-slot-3.result.now ≡ columns_row columns slot =
     c.as_slice-in-loop-slot-3.ensures.value ∙ c.in_ok-read_states.ensures
     ∙ ap (λ (cs : List Column). columns_row cs slot) c.as_slice-in-loop-slot.ensures.value in
-    let known : List ℕ = c.args.slots.now.rows.items in
-    let lt : slot < length known = omega (arith, c.loop-slot-test.true, ap length c.as_slice-rows.ensures.value) in
+    let known : List ℕ = c.args.slots.rows.items in
+    let lt : slot < length known = omega (arith, c.loop-slot-test.true, c.len-count.ensures) in
     let at : ℕ = get_or known slot 0 in
     let in' = c.requires.slots.rows_in slot 0 lt in
     subst RowStored (sym states)
-    (steps.slot-stored (length R) S K metrics columns slot at c.in_ok-columns.ensures long
+    (steps.slot-stored N S K metrics columns slot at c.in_ok-columns.ensures long
     c.loop-slot-test.true
-    (omega (arith, ap length c.as_slice.ensures.value, c.requires.slots.long, c.requires.few))
-    (omega (arith, in', ap length c.as_slice.ensures.value, c.requires.slots.long))
-    (ap (λ (l : List ℕ). get_or l at 0) c.as_slice.ensures.value ∙ c.requires.slots.own slot lt))
+    (omega (arith, ap length c.as_slice-2.ensures.value, c.requires.slots.long, c.requires.few))
+    (omega (arith, in', ap length c.as_slice-2.ensures.value, c.requires.slots.long))
+    (ap (λ (l : List ℕ). get_or l at 0) c.as_slice-2.ensures.value ∙ c.requires.slots.own slot lt))
 
 pub loop-slot-preserved : goal.loop-slot-preserved
 loop-slot-preserved c =
-    let R : List ℕ = c.as_slice-rows.result.now in
-    let S : List ℕ = c.as_slice.result.now in
+    let N : ℕ = c.len-count.result in
+    let S : List ℕ = c.as_slice-2.result.now in
     let K : List AggKind = c.as_slice-kinds.result.now in
     let metrics : List (List ℤ) = c.args.metrics.now in
     let slot : ℕ = c.loop-slot.slot in
     let columns : List Column = c.in_ok-columns.columns.items in
     let long : All (λ (m : List ℤ). length m ≡ length S) metrics =
     λ k d l. c.requires.values_long k d l
-    ∙ sym (ap length c.as_slice.ensures.value ∙ c.requires.slots.long) in
+    ∙ sym (ap length c.as_slice-2.ensures.value ∙ c.requires.slots.long) in
     let states : c.as_slice-in-loop-slot-3.result.now ≡ columns_row columns slot =
     c.as_slice-in-loop-slot-3.ensures.value ∙ c.in_ok-read_states.ensures
     ∙ ap (λ (cs : List Column). columns_row cs slot) c.as_slice-in-loop-slot.ensures.value in
-    let dims : List (List ℕ) = c.args.dims.now in
-    let all : List ℕ = c.args.slots.now.slots.items in
-    let known : List ℕ = c.args.slots.now.rows.items in
+    let dims : List (List ℕ) = c.args.dims in
+    let all : List ℕ = c.args.slots.slots.items in
+    let known : List ℕ = c.args.slots.rows.items in
     let kinds : List AggKind = c.args.shape.now.kinds in
     let inv = c.loop-slot.invariant in
     let room = c.in_ok-reserve-2.ensures.ok in
     let is = c.append_parts.ensures in
     let f : ℕ → Doc = slot_doc kinds dims metrics all known in
-    let lt : slot < length known = omega (arith, c.loop-slot-test.true, ap length c.as_slice-rows.ensures.value) in
-    let at : get_or R slot 0 ≡ get_or known slot 0 = ap (λ (l : List ℕ). get_or l slot 0) c.as_slice-rows.ensures.value in
-    let in' = c.requires.slots.rows_in slot 0 lt in
+    let lt : slot < length known = omega (arith, c.loop-slot-test.true, c.len-count.ensures) in
+    let gathered_is : c.in_ok-slot_ids.slot_ids ≡ gathered known dims = c.in_ok-slot_ids.ensures
+    ∙ ap (λ (l : List ℕ). gathered l dims) c.as_slice.ensures.value in
     let ids : c.as_slice-in-loop-slot-2.result.now ≡ row_at 0 (get_or known slot 0) dims =
     c.as_slice-in-loop-slot-2.ensures.value
-    ∙ rows.is_row 0 (get_or R slot 0) dims c.read_row.new.out.items c.in_ok-read_row.ensures.items
-    (rows.in_all (row_count dims) (get_or R slot 0) dims (omega (arith, in', at)) c.requires.ids_long)
-    ∙ ap (λ r. row_at 0 r dims) at in
+    ∙ rows.is_row 0 slot c.in_ok-slot_ids.slot_ids c.read_row.new.out.items
+    c.in_ok-read_row.ensures.items
+    (subst (All (λ (l : List ℕ). slot < length l)) (sym gathered_is)
+    (gathering.long_gathered slot known dims lt))
+    ∙ ap (row_at 0 slot) gathered_is ∙ gathering.row_gathered slot known dims lt in
     let own : c.as_slice-in-loop-slot-3.result.now
     ≡ row_of kinds (in_slot slot all (values_of (length all) metrics)) =
-    states ∙ steps.slot-row (length R) S K metrics columns slot c.in_ok-columns.ensures long
+    states ∙ steps.slot-row N S K metrics columns slot c.in_ok-columns.ensures long
     c.loop-slot-test.true
-    ∙ (λ i. row_of (c.as_slice-kinds.ensures i) (in_slot slot (c.as_slice.ensures.value i)
-    (values_of (length (c.as_slice.ensures.value i)) metrics))) in
+    ∙ (λ i. row_of (c.as_slice-kinds.ensures i) (in_slot slot (c.as_slice-2.ensures.value i)
+    (values_of (length (c.as_slice-2.ensures.value i)) metrics))) in
     record {
       dims = ap (λ (d : Docs). d.dims) is ∙ ap (λ (d : Docs). d.dims) room ∙ inv.dims;
       kinds = ap (λ (d : Docs). d.kinds) is ∙ ap (λ (d : Docs). d.kinds) room ∙ inv.kinds;
@@ -136,27 +157,27 @@ merged kinds dims metrics n end all known docs are e is =
 
 pub returns-clause-docs : goal.returns-clause-docs
 returns-clause-docs c =
-    let known : List ℕ = c.args.slots.now.rows.items in
+    let known : List ℕ = c.args.slots.rows.items in
     let end : c.loop-slot.slot ≡ length known =
     omega (
       arith,
       c.loop-slot-test.false,
       c.loop-slot.auto.slot-end,
-      ap length c.as_slice-rows.ensures.value,
+      c.len-count.ensures,
     ) in
-    merged c.args.shape.now.kinds c.args.dims.now c.args.metrics.now (row_count c.args.dims.now)
-    c.loop-slot.slot c.args.slots.now.slots.items known c.loop-slot.table.docs c.requires.slots end
+    merged c.args.shape.now.kinds c.args.dims c.args.metrics.now (row_count c.args.dims)
+    c.loop-slot.slot c.args.slots.slots.items known c.loop-slot.table.docs c.requires.slots end
     c.loop-slot.invariant.docs
 
 pub returns-clause-light : goal.returns-clause-light
 returns-clause-light c =
-    let R : List ℕ = c.as_slice-rows.result.now in
-    let S : List ℕ = c.as_slice.result.now in
+    let N : ℕ = c.len-count.result in
+    let S : List ℕ = c.as_slice-2.result.now in
     let K : List AggKind = c.as_slice-kinds.result.now in
     let metrics : List (List ℤ) = c.args.metrics.now in
-    let dims : List (List ℕ) = c.args.dims.now in
-    let known : List ℕ = c.args.slots.now.rows.items in
-    let many : length S ≡ row_count dims = ap length c.as_slice.ensures.value ∙ c.requires.slots.long in
+    let dims : List (List ℕ) = c.args.dims in
+    let known : List ℕ = c.args.slots.rows.items in
+    let many : length S ≡ row_count dims = ap length c.as_slice-2.ensures.value ∙ c.requires.slots.long in
     let long : All (λ (m : List ℤ). length m ≡ length S) metrics =
     λ k d l. c.requires.values_long k d l ∙ sym many in
     let end : c.loop-slot.slot ≡ length known =
@@ -164,13 +185,13 @@ returns-clause-light c =
       arith,
       c.loop-slot-test.false,
       c.loop-slot.auto.slot-end,
-      ap length c.as_slice-rows.ensures.value,
+      c.len-count.ensures,
     ) in
     let docs = merged c.args.shape.now.kinds dims metrics (row_count dims) c.loop-slot.slot
-    c.args.slots.now.slots.items known c.loop-slot.table.docs c.requires.slots end
+    c.args.slots.slots.items known c.loop-slot.table.docs c.requires.slots end
     c.loop-slot.invariant.docs
     ∙ (λ i. merged_docs merged_rows (projected (sym c.as_slice-kinds.ensures i)
     (rows_of (sym many i) dims metrics))) in
-    let light = steps.merged-light (length R) S K metrics c.in_ok-columns.columns.items dims
+    let light = steps.merged-light N S K metrics c.in_ok-columns.columns.items dims
     c.loop-slot.table.docs c.in_ok-columns.ensures long docs in
     omega (arith, light, many)

@@ -7,6 +7,6 @@ abbrev pub invariant-loop-slot : goal.invariant-loop-slot
 invariant-loop-slot l = record {
   dims : l.table.dims ≡ l.shape.dims;
   kinds : l.table.kinds ≡ l.shape.kinds;
-  docs : l.table.docs ≡ map (slot_doc l.shape.kinds l.dims l.metrics l.slots.slots.items
-      l.slots.rows.items) (numbers_from 0 l.slot);
+  docs : l.table.docs ≡ map (slot_doc l.shape.kinds l.fn.dims l.metrics l.fn.slots.slots.items
+      l.fn.slots.rows.items) (numbers_from 0 l.slot);
 }
