@@ -110,8 +110,9 @@ fn grow_tree(
     }
 }
 
-// The rows as documents of a tree, merged: the order in which they came does not matter. The numbers
-// are read where they are; of those that are counted, one column of zeros serves all pairs.
+// The rows as documents of a tree, merged: the order in which they came does not matter. The ids are
+// let go. The numbers are read where they are; of pairs that count rows, all have one column of
+// zeros.
 fn merged_of_tree(
     alloc: Global,
     table: &Table,
@@ -131,7 +132,7 @@ fn merged_of_tree(
     let dims = split_ids(alloc, table, columns, tree.split.as_slice())?;
     let zeros = zeros(alloc, columns.len())?;
     let metrics = pair_numbers(alloc, columns, tree.pairs.as_slice(), zeros.as_slice())?;
-    let docs = project_merged(alloc, &tree.shape, &dims, &metrics)?;
+    let docs = project_merged(alloc, &tree.shape, dims, &metrics)?;
     Ok(docs)
 }
 
