@@ -81,30 +81,34 @@ fn merge_slots(
         → IsOverfull query.now (rows_at (table_of segment.now).columns places.now) table.old }
 {
     let columns = query.groups.as_slice();
+    let mut values = Vec::with_capacity(alloc, columns.len())?;
     for slot in 0..groups.firsts.len() {
         let place = places[groups.firsts[slot] as usize];
-        let key = key_at(alloc, segment, columns, place as usize)?;
+        let key = key_at(alloc, segment, columns, place as usize, values)?;
         let row = states_at(alloc, states, slot, groups.firsts.len())?;
         if let Err(fault) = table.merge_row(alloc, &key, &row) {
             return Err(fault);
         }
+        values = key.into_vec();
     }
     Ok(())
 }
 
-// The key of a row.
+// The key of a row, in place of the values of another.
 fn key_at(
     alloc: Global,
     segment: &SegmentColumns<'_>,
     columns: &[u16],
     at: usize,
+    values: Vec<Value>,
 ) -> Result<Row, NoMemory>
     requires coded { AreCoded segment.now }
     requires at { at < segment.now.count }
     ensures { IfOk result (λ key. key
         ≡ key_of columns.now (row_of (table_of segment.now).columns at)) }
 {
-    let mut key = Vec::with_capacity(alloc, columns.len())?;
+    let mut key = values;
+    key.clear();
     for column in columns {
         key.push(value_at(alloc, segment, *column, at)?)?;
     }

@@ -4,4 +4,4 @@ use Rattle.segment_scan.proofs.BlockSteps.{BlockStep}
 use Rattle.segment_scan.proofs.reading.read_ids.Given as goal
 
 abbrev pub invariant-loop-at : goal.invariant-loop-at
-invariant-loop-at g l = BlockStep l.place l.width l.count (min (l.at * 32768) l.rows) (seen g.S.Shelf l.fn.shelf) (seen g.S.Shelf l.shelf) l.ids.items
+invariant-loop-at g l = BlockStep l.place l.width l.count (min (l.at * 8192) l.rows) (seen g.S.Shelf l.fn.shelf) (seen g.S.Shelf l.shelf) l.ids.items
