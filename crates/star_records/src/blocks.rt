@@ -1,12 +1,13 @@
 //! What columns have in the rows of some words, gathered column by column.
 
 ghost use Rattle.std.specs.Prelude.{◌≡◌, ◌≢◌, ◌-◌, ◌<◌, ◌≤◌, ℤ, length, map, take, drop, get_or, All};
-ghost use Rattle.std.specs.Prelude.{slice_index, true, false, IfOk};
+ghost use Rattle.std.specs.Prelude.{pos, replicate, slice_index, true, false, IfOk};
 ghost use Rattle.star_records.specs.Folding.{picked, AllZero, AreHeads, AreZero};
+ghost use Rattle.star_records.specs.Numbers.{numbers_of};
 ghost use Rattle.star_records.specs.Words.{key_in, row_in};
 
 use crate::NoMemory;
-use crate::numbers::NumberColumns;
+use crate::numbers::{NumberColumns, PairNumbers};
 use crate::words::MOST_ROWS;
 use outside::Seq;
 use std::alloc::Global;
@@ -61,7 +62,7 @@ pub(crate) fn zero_columns(alloc: Global, columns: &NumberColumns) -> Result<Vec
 {
     let mut zeros = Vec::with_capacity(alloc, columns.len())?;
     for i in 0..columns.len() {
-        zeros.push(is_zero(columns.at(i)))?;
+        zeros.push(are_zeros(columns.at(i)))?;
     }
     Ok(zeros)
 }
@@ -131,20 +132,40 @@ fn column_at<T: Copy>(alloc: Global, column: &[T], words: &[u64]) -> Result<Vec<
 // The same of numbers, where it may be known that all are zeros.
 fn number_column(
     alloc: Global,
-    column: &[i64],
+    column: PairNumbers,
     is_zero: bool,
     words: &[u64],
 ) -> Result<Vec<i64>, NoMemory>
-    requires below { All (λ word. row_in word < length column.now) words.now }
-    requires zero { is_zero ≡ true → AllZero column.now }
-    ensures { IfOk result
-        (λ v. (d : ℤ) → v.items ≡ map (λ word. get_or column.now (row_in word) d) words.now) }
+    requires below { All (λ word. row_in word < length (numbers_of column)) words.now }
+    requires zero { is_zero ≡ true → AllZero (numbers_of column) }
+    ensures { IfOk result (λ v. (d : ℤ) → v.items
+        ≡ map (λ word. get_or (numbers_of column.entry) (row_in word) d) words.now) }
 {
     if is_zero {
-        let zeros = vec![in alloc; 0i64; words.len()]?;
-        return Ok(zeros);
+        return zeros(alloc, words.len());
     }
-    column_at(alloc, column, words)
+    match column {
+        PairNumbers::Stored(numbers) => column_at(alloc, numbers, words),
+        PairNumbers::Zeros(_) => zeros(alloc, words.len()),
+    }
+}
+
+// So many zeros.
+fn zeros(alloc: Global, count: usize) -> Result<Vec<i64>, NoMemory>
+    ensures { IfOk result (λ v. v.items ≡ replicate count (pos 0)) }
+{
+    let zeros = vec![in alloc; 0i64; count]?;
+    Ok(zeros)
+}
+
+// Whether the numbers of a pair are zeros alone.
+fn are_zeros(column: PairNumbers) -> bool
+    ensures { result ≡ true → AllZero (numbers_of column.entry) }
+{
+    match column {
+        PairNumbers::Stored(numbers) => is_zero(numbers),
+        PairNumbers::Zeros(_) => true,
+    }
 }
 
 // Whether there are zeros alone.
