@@ -16,7 +16,7 @@ use std::alloc::Global;
 /// before it.
 #[derive(Drop)]
 pub(crate) struct Heads {
-    pub words: Vec<u64>,
+    pub words: Vec<u32>,
     pub slots: Vec<usize>,
 }
 
@@ -24,7 +24,7 @@ pub(crate) struct Heads {
 pub(crate) fn columns_at<T: Copy>(
     alloc: Global,
     columns: &Seq<Seq<T>>,
-    words: &[u64],
+    words: &[u32],
 ) -> Result<Seq<Seq<T>>, NoMemory>
     requires { All (λ column. All (λ word. row_in word < length column) words.now) columns.now }
     ensures { IfOk result (λ block. (d : T) → block ≡ picked d words.now columns.now) }
@@ -42,7 +42,7 @@ pub(crate) fn numbers_at(
     alloc: Global,
     columns: &NumberColumns,
     zeros: &[bool],
-    words: &[u64],
+    words: &[u32],
 ) -> Result<Seq<Seq<i64>>, NoMemory>
     requires below { All (λ column. All (λ word. row_in word < length column) words.now) columns.now }
     requires known { AreZero zeros.now columns.now }
@@ -70,7 +70,7 @@ pub(crate) fn zero_columns(alloc: Global, columns: &NumberColumns) -> Result<Vec
 /// Those words of a range that have not the key of the one before them.
 pub(crate) fn heads_of(
     alloc: Global,
-    words: &[u64],
+    words: &[u32],
     from: usize,
     to: usize,
 ) -> Result<Heads, NoMemory>
@@ -94,7 +94,7 @@ pub(crate) fn heads_of(
 }
 
 /// Whether a word has the key of the one before it.
-pub(crate) fn repeats(words: &[u64], at: usize) -> bool
+pub(crate) fn repeats(words: &[u32], at: usize) -> bool
     requires { at < length words.now }
     ensures same { result ≡ true → (0 < at)
         × (key_in (slice_index words.now (at - 1)) ≡ key_in (slice_index words.now at)) }
@@ -108,7 +108,7 @@ pub(crate) fn repeats(words: &[u64], at: usize) -> bool
 }
 
 /// A range of words.
-pub(crate) fn part(words: &[u64], from: usize, to: usize) -> &[u64]
+pub(crate) fn part(words: &[u32], from: usize, to: usize) -> &[u32]
     requires range { from ≤ to }
     requires within { to ≤ length words.now }
     ensures { result.now ≡ take (to - from) (drop from words.now) }
@@ -117,7 +117,7 @@ pub(crate) fn part(words: &[u64], from: usize, to: usize) -> &[u64]
 }
 
 // What a column has in the rows of some words.
-fn column_at<T: Copy>(alloc: Global, column: &[T], words: &[u64]) -> Result<Vec<T>, NoMemory>
+fn column_at<T: Copy>(alloc: Global, column: &[T], words: &[u32]) -> Result<Vec<T>, NoMemory>
     requires { All (λ word. row_in word < length column.now) words.now }
     ensures { IfOk result
         (λ v. (d : T) → v.items ≡ map (λ word. get_or column.now (row_in word) d) words.now) }
@@ -134,7 +134,7 @@ fn number_column(
     alloc: Global,
     column: PairNumbers,
     is_zero: bool,
-    words: &[u64],
+    words: &[u32],
 ) -> Result<Vec<i64>, NoMemory>
     requires below { All (λ word. row_in word < length (numbers_of column)) words.now }
     requires zero { is_zero ≡ true → AllZero (numbers_of column) }
