@@ -1,5 +1,5 @@
 //! The star-trees of a segment are built, one after the other.
-ghost use Rattle.std.specs.Prelude.{◌≡◌, ◌<◌, ◌≤◌, ◌⊎◌, ◌^◌, ◌++◌, ◌∷◌, [], ℕ, length, map, pos, replicate, Err, IfErr, IfOk, IsErrOf, OnErr, OnOk};
+ghost use Rattle.std.specs.Prelude.{◌≡◌, ◌<◌, ◌≤◌, ◌⊎◌, ◌^◌, ◌++◌, ◌∷◌, [], ℕ, length, map, Err, IfErr, IfOk, IsErrOf, OnErr, OnOk};
 ghost use Rattle.std.specs.List.{All};
 ghost use Rattle.values.specs.Columns.{rows_of};
 ghost use Rattle.table_schema.specs.ValidSettings.{IsValidTree};
@@ -10,6 +10,7 @@ ghost use Rattle.agg_laws.specs.Rows.{merged_rows, row_weight};
 ghost use Rattle.agg_laws.specs.Tree.{merged_docs};
 ghost use Rattle.star_builder.specs.declared.fault.TreeFault.TheVariants as fault;
 ghost use Rattle.star_file.specs.Bytes.{doc_bytes, nodes_section};
+ghost use Rattle.star_records.specs.Numbers.{numbers_of};
 ghost use Rattle.segment_file.specs.Columns.{ids_of};
 ghost use Rattle.segment_file.specs.Ordered.{ordered};
 ghost use Rattle.segment_file.specs.Trees.{TreeFits, documents, written};
@@ -18,13 +19,13 @@ ghost use Rattle.segment_build.specs.Growing.{IsKnown, IsTooLarge, TreesFit, nod
 ghost use Rattle.segment_build.specs.declared.fault.BuildFault.TheVariants.{NoMemory, TooLarge};
 
 use crate::BuildFault;
-use crate::numbers::{numbers_of, zeros};
+use crate::numbers::column_numbers;
 use crate::order::ids_as_given;
-use agg_laws::StarTable;
+use agg_laws::{StarTable, TreeShape};
 use outside::{Bytes, NoMemory, Seq};
 use star_builder::{TreeFault, build_merged};
-use star_file::{StarTree, write_docs, write_nodes};
-use star_records::{NumberColumns, project_merged};
+use star_file::{StarTree, width_of, write_docs, write_nodes};
+use star_records::{NumberColumns, PairNumbers, project_merged};
 use std::alloc::Global;
 use table_schema::{Pair, Table, TreeSetting};
 use values::Columns;
@@ -62,13 +63,19 @@ pub fn grow_trees(alloc: Global, table: &Table, columns: &Columns) -> Result<Gro
             Err(TreeFault::TooLarge) => return Err(BuildFault::TooLarge(at as u8)),
             Err(TreeFault::NoMemory) => return Err(BuildFault::NoMemory),
         };
-        push_tree(alloc, &tree, &mut grown)?;
+        push_tree(alloc, &trees[at].shape, &tree, &mut grown)?;
     }
     Ok(grown)
 }
 
-// Adds the sections of a tree.
-fn push_tree(alloc: Global, tree: &StarTree, grown: &mut Grown) -> Result<(), NoMemory>
+// Adds the sections of a tree of this shape.
+fn push_tree(
+    alloc: Global,
+    shape: &TreeShape,
+    tree: &StarTree,
+    grown: &mut Grown,
+) -> Result<(), NoMemory>
+    requires shape { length shape.now.kinds ≤ 16 }
     requires few { length tree.now.docs.docs < 2 ^ 32 }
     requires kinds { length tree.now.docs.kinds ≤ 16 }
     ensures nodes { OnOk result (grown.new.nodes.items ≡ grown.old.nodes.items
@@ -78,7 +85,8 @@ fn push_tree(alloc: Global, tree: &StarTree, grown: &mut Grown) -> Result<(), No
 {
     let mut nodes = Vec::new(alloc);
     write_nodes(tree, &mut nodes)?;
-    let mut stars = Vec::new(alloc);
+    let room = tree.docs.len().saturating_mul(width_of(shape));
+    let mut stars = Vec::with_capacity(alloc, room)?;
     write_docs(tree, &mut stars)?;
     grown.nodes.push(Seq::from_vec(nodes))?;
     grown.stars.push(Seq::from_vec(stars))?;
@@ -111,8 +119,7 @@ fn grow_tree(
 }
 
 // The rows as documents of a tree, merged: the order in which they came does not matter. The ids are
-// let go. The numbers are read where they are; of pairs that count rows, all have one column of
-// zeros.
+// let go. The numbers are read where they are; those of pairs that count rows are zeros.
 fn merged_of_tree(
     alloc: Global,
     table: &Table,
@@ -130,8 +137,7 @@ fn merged_of_tree(
     ensures light { IfOk result (λ docs. weights row_weight docs.docs ≤ most_stored) }
 {
     let dims = split_ids(alloc, table, columns, tree.split.as_slice())?;
-    let zeros = zeros(alloc, columns.len())?;
-    let metrics = pair_numbers(alloc, columns, tree.pairs.as_slice(), zeros.as_slice())?;
+    let metrics = pair_numbers(alloc, columns, tree.pairs.as_slice())?;
     let docs = project_merged(alloc, &tree.shape, dims, &metrics)?;
     Ok(docs)
 }
@@ -160,28 +166,25 @@ fn pair_numbers<'a>(
     alloc: Global,
     columns: &'a Columns,
     pairs: &[Pair],
-    zeros: &'a [i64],
 ) -> Result<NumberColumns<'a>, NoMemory>
     requires known { All (λ pair. IsKnown (length columns.now.columns) pair.column) pairs.now }
-    requires zeros { zeros.now ≡ replicate columns.now.count (pos 0) }
     ensures { IfOk result (λ numbers. numbers
         ≡ map (λ pair. numbers_for columns.now pair.column) pairs.now) }
 {
     let mut all = NumberColumns::new(alloc);
     for pair in pairs {
-        all.push(pair_column(columns, pair.column, zeros))?;
+        all.push(numbers_of_pair(columns, pair.column))?;
     }
     Ok(all)
 }
 
-// Those in the column of a pair, and the zeros where rows are counted.
-fn pair_column<'a>(columns: &'a Columns, column: Option<u16>, zeros: &'a [i64]) -> &'a [i64]
-    requires known { IsKnown (length columns.now.columns) column }
-    requires zeros { zeros.now ≡ replicate columns.now.count (pos 0) }
-    ensures { result.now ≡ numbers_for columns.now column }
+// Those in the column of a pair, and zeros where rows are counted.
+fn numbers_of_pair<'a>(columns: &'a Columns, column: Option<u16>) -> PairNumbers<'a>
+    requires { IsKnown (length columns.now.columns) column }
+    ensures { numbers_of result ≡ numbers_for columns.now column }
 {
     match column {
-        Some(column) => numbers_of(columns.column(column as usize), zeros),
-        None => zeros,
+        Some(column) => column_numbers(columns.column(column as usize)),
+        None => PairNumbers::Zeros(columns.len()),
     }
 }

@@ -5,13 +5,16 @@ use Rattle.std.proofs.Common.{length-append, replicate, ℤ, pos, Bool, true, fa
 use Rattle.std.proofs.lemmas.Bool.{cases_lt}
 use Rattle.std.proofs.lemmas.List.{length-map, get_or-map, get_or_at, get_or-take, get_or-drop}
 use Rattle.std.proofs.lemmas.List.{get_or_append_left, length-take-le, length-drop, take_more, map-append}
-use Rattle.std.proofs.lemmas.List.{get_or_default}
+use Rattle.std.proofs.lemmas.List.{get_or_default, get_or-replicate, length-replicate}
 use Rattle.std.proofs.lemmas.List.Elements.{All-append, All-cons, All-nil}
 use Rattle.std.specs.List.Sorted.{IsPermutation}
 use Rattle.agg_laws.specs.Region.{numbers}
 use Rattle.star_records.specs.Columns.{row_at}
 use Rattle.star_records.specs.Folding.{picked, AllZero, AreHeads}
+use Rattle.star_records.specs.Numbers.{numbers_of}
 use Rattle.star_records.specs.Words.{key_in, row_in}
+use Rattle.star_records.specs.declared.numbers.PairNumbers.{PairNumbers}
+use Rattle.star_records.specs.declared.numbers.PairNumbers.TheVariants as pair
 use Rattle.star_records.proofs.FoldSteps.{row_below}
 use Rattle.star_records.proofs.WordSteps.{other_default}
 
@@ -234,6 +237,15 @@ zeros_picked column (w ∷ ws) d none below =
     let one : pos 0 ≡ get_or column (row_in w) d =
     sym (none (row_in w) lt) ∙ get_or_default column (row_in w) (pos 0) d lt in
     λ i. one i ∷ zeros_picked column ws d none (λ k e l. below (suc k) e (omega (arith, l))) i
+
+-- a pair of zeros has zeros alone
+pub zeros_alone : (numbers : PairNumbers) (rows : ℕ) → numbers ≡ pair.Zeros rows
+    → AllZero (numbers_of numbers)
+zeros_alone numbers rows is =
+    let long = length-replicate rows (pos 0) in
+    let alone : AllZero (replicate rows (pos 0)) =
+    λ i lt. get_or-replicate rows i (pos 0) (pos 0) (omega (arith, lt, long)) in
+    subst (λ p. AllZero (numbers_of p)) (sym is) alone
 
 -- one more mark
 pub zero_more : (marks marks' : List Bool) (columns : List (List ℤ)) (i : ℕ) (mark : Bool)

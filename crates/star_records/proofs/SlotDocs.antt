@@ -2,13 +2,13 @@
 use Rattle.std.proofs.Common.{◌≡◌, ℕ, zero, suc, ◌+◌, ◌<◌, ◌≤◌, ◌==◌, nat_lt, ◌&&◌, T, Bool, true}
 use Rattle.std.proofs.Common.{false, cond, List, [], ◌∷◌, ◌++◌, map, length, take, get_or, set, replicate}
 use Rattle.std.proofs.Common.{All, Option, Some, None, refl, sym, ap, subst, ◌∙◌, inl, inr, arith, ℤ, pos}
-use Rattle.std.proofs.Common.{length-append, append-nil, if◌then◌else◌}
+use Rattle.std.proofs.Common.{length-append, append-nil, if◌then◌else◌, rules}
 use Rattle.std.proofs.lemmas.List.Elements.{All-cons, All-nil}
 use Rattle.std.proofs.lemmas.Bool.{cases_eq, cond-true, cond-false, eq-eqb, ne_eqb}
 use Rattle.std.proofs.lemmas.Bool.Decides.{nat_tests}
 use Rattle.std.proofs.lemmas.Cmp.{nat_list_cmp_total}
 use Rattle.std.proofs.lemmas.List.{get_or-set_other, get_or-set_same, length-map, length-replicate}
-use Rattle.std.proofs.lemmas.List.{get_or-replicate, length-set}
+use Rattle.std.proofs.lemmas.List.{get_or-replicate, length-set, replicate-append-replicate}
 use Rattle.std.specs.declared.cmp.Ordering.TheVariants.{Less}
 use Rattle.std.specs.Ordering.{eq_by_cmp, is_lt}
 use Rattle.std.specs.FinMap.{is_sorted}
@@ -24,6 +24,7 @@ use Rattle.agg_laws.specs.Numbers.{AreWhole, IsWhole, NumberFits, NumberStored}
 use Rattle.agg_laws.specs.Region.{numbers_from}
 use Rattle.agg_laws.specs.Rows.{head_of, tail_of, kinds_of, merged_rows, row_of, row_weight, RowFits, RowStored}
 use Rattle.agg_laws.specs.States.{kind_of, state_of, unit_of, merged, Fits, IsStored}
+use Rattle.agg_laws.specs.laws.NumberBytes.{whole_64}
 use Rattle.agg_laws.specs.laws.Rows as rows
 use Rattle.agg_laws.specs.laws.States as states
 use Rattle.agg_laws.specs.Tree.{dims_order, merged_docs}
@@ -175,6 +176,16 @@ holds-none kind count column kind_is is = record {
 pub whole-push : (xs : List ℤ) (x : ℤ) → AreWhole xs → IsWhole x → AreWhole (xs ++ x ∷ [])
 whole-push [] x h k = (k, tt)
 whole-push (y ∷ ys) x h k = (h.0, whole-push ys x h.1 k)
+
+pub whole-zero : IsWhole (pos 0)
+whole-zero = whole_64 (pos 0) (search rules)
+
+pub whole-zeros : (n : ℕ) → AreWhole (replicate n (pos 0))
+whole-zeros zero = tt
+whole-zeros (suc n) = (whole-zero, whole-zeros n)
+
+pub one-zero : (n : ℕ) → replicate n (pos 0) ++ pos 0 ∷ [] ≡ replicate (n + 1) (pos 0)
+one-zero n = replicate-append-replicate n 1 (pos 0)
 
 pub fresh-count : (count : ℕ) (kind : AggKind) (column : Column)
     → column.states ≡ replicate count (unit_of kind) → length column.states ≡ count

@@ -1,12 +1,13 @@
 //! What columns have in the rows of some words, gathered column by column.
 
 ghost use Rattle.std.specs.Prelude.{◌≡◌, ◌≢◌, ◌-◌, ◌<◌, ◌≤◌, ℤ, length, map, take, drop, get_or, All};
-ghost use Rattle.std.specs.Prelude.{slice_index, true, false, IfOk};
+ghost use Rattle.std.specs.Prelude.{pos, replicate, slice_index, true, false, IfOk};
 ghost use Rattle.star_records.specs.Folding.{picked, AllZero, AreHeads, AreZero};
+ghost use Rattle.star_records.specs.Numbers.{numbers_of};
 ghost use Rattle.star_records.specs.Words.{key_in, row_in};
 
 use crate::NoMemory;
-use crate::numbers::NumberColumns;
+use crate::numbers::{NumberColumns, PairNumbers};
 use crate::words::MOST_ROWS;
 use outside::Seq;
 use std::alloc::Global;
@@ -15,7 +16,7 @@ use std::alloc::Global;
 /// before it.
 #[derive(Drop)]
 pub(crate) struct Heads {
-    pub words: Vec<u64>,
+    pub words: Vec<u32>,
     pub slots: Vec<usize>,
 }
 
@@ -23,7 +24,7 @@ pub(crate) struct Heads {
 pub(crate) fn columns_at<T: Copy>(
     alloc: Global,
     columns: &Seq<Seq<T>>,
-    words: &[u64],
+    words: &[u32],
 ) -> Result<Seq<Seq<T>>, NoMemory>
     requires { All (λ column. All (λ word. row_in word < length column) words.now) columns.now }
     ensures { IfOk result (λ block. (d : T) → block ≡ picked d words.now columns.now) }
@@ -41,7 +42,7 @@ pub(crate) fn numbers_at(
     alloc: Global,
     columns: &NumberColumns,
     zeros: &[bool],
-    words: &[u64],
+    words: &[u32],
 ) -> Result<Seq<Seq<i64>>, NoMemory>
     requires below { All (λ column. All (λ word. row_in word < length column) words.now) columns.now }
     requires known { AreZero zeros.now columns.now }
@@ -61,7 +62,7 @@ pub(crate) fn zero_columns(alloc: Global, columns: &NumberColumns) -> Result<Vec
 {
     let mut zeros = Vec::with_capacity(alloc, columns.len())?;
     for i in 0..columns.len() {
-        zeros.push(is_zero(columns.at(i)))?;
+        zeros.push(are_zeros(columns.at(i)))?;
     }
     Ok(zeros)
 }
@@ -69,7 +70,7 @@ pub(crate) fn zero_columns(alloc: Global, columns: &NumberColumns) -> Result<Vec
 /// Those words of a range that have not the key of the one before them.
 pub(crate) fn heads_of(
     alloc: Global,
-    words: &[u64],
+    words: &[u32],
     from: usize,
     to: usize,
 ) -> Result<Heads, NoMemory>
@@ -93,7 +94,7 @@ pub(crate) fn heads_of(
 }
 
 /// Whether a word has the key of the one before it.
-pub(crate) fn repeats(words: &[u64], at: usize) -> bool
+pub(crate) fn repeats(words: &[u32], at: usize) -> bool
     requires { at < length words.now }
     ensures same { result ≡ true → (0 < at)
         × (key_in (slice_index words.now (at - 1)) ≡ key_in (slice_index words.now at)) }
@@ -107,7 +108,7 @@ pub(crate) fn repeats(words: &[u64], at: usize) -> bool
 }
 
 /// A range of words.
-pub(crate) fn part(words: &[u64], from: usize, to: usize) -> &[u64]
+pub(crate) fn part(words: &[u32], from: usize, to: usize) -> &[u32]
     requires range { from ≤ to }
     requires within { to ≤ length words.now }
     ensures { result.now ≡ take (to - from) (drop from words.now) }
@@ -116,7 +117,7 @@ pub(crate) fn part(words: &[u64], from: usize, to: usize) -> &[u64]
 }
 
 // What a column has in the rows of some words.
-fn column_at<T: Copy>(alloc: Global, column: &[T], words: &[u64]) -> Result<Vec<T>, NoMemory>
+fn column_at<T: Copy>(alloc: Global, column: &[T], words: &[u32]) -> Result<Vec<T>, NoMemory>
     requires { All (λ word. row_in word < length column.now) words.now }
     ensures { IfOk result
         (λ v. (d : T) → v.items ≡ map (λ word. get_or column.now (row_in word) d) words.now) }
@@ -131,20 +132,40 @@ fn column_at<T: Copy>(alloc: Global, column: &[T], words: &[u64]) -> Result<Vec<
 // The same of numbers, where it may be known that all are zeros.
 fn number_column(
     alloc: Global,
-    column: &[i64],
+    column: PairNumbers,
     is_zero: bool,
-    words: &[u64],
+    words: &[u32],
 ) -> Result<Vec<i64>, NoMemory>
-    requires below { All (λ word. row_in word < length column.now) words.now }
-    requires zero { is_zero ≡ true → AllZero column.now }
-    ensures { IfOk result
-        (λ v. (d : ℤ) → v.items ≡ map (λ word. get_or column.now (row_in word) d) words.now) }
+    requires below { All (λ word. row_in word < length (numbers_of column)) words.now }
+    requires zero { is_zero ≡ true → AllZero (numbers_of column) }
+    ensures { IfOk result (λ v. (d : ℤ) → v.items
+        ≡ map (λ word. get_or (numbers_of column.entry) (row_in word) d) words.now) }
 {
     if is_zero {
-        let zeros = vec![in alloc; 0i64; words.len()]?;
-        return Ok(zeros);
+        return zeros(alloc, words.len());
     }
-    column_at(alloc, column, words)
+    match column {
+        PairNumbers::Stored(numbers) => column_at(alloc, numbers, words),
+        PairNumbers::Zeros(_) => zeros(alloc, words.len()),
+    }
+}
+
+// So many zeros.
+fn zeros(alloc: Global, count: usize) -> Result<Vec<i64>, NoMemory>
+    ensures { IfOk result (λ v. v.items ≡ replicate count (pos 0)) }
+{
+    let zeros = vec![in alloc; 0i64; count]?;
+    Ok(zeros)
+}
+
+// Whether the numbers of a pair are zeros alone.
+fn are_zeros(column: PairNumbers) -> bool
+    ensures { result ≡ true → AllZero (numbers_of column.entry) }
+{
+    match column {
+        PairNumbers::Stored(numbers) => is_zero(numbers),
+        PairNumbers::Zeros(_) => true,
+    }
 }
 
 // Whether there are zeros alone.

@@ -29,7 +29,7 @@ pub(crate) fn merge_in_order(
     shape: &TreeShape,
     dims: &Seq<Seq<u32>>,
     metrics: &NumberColumns,
-    words: &[u64],
+    words: &[u32],
 ) -> Result<StarTable, NoMemory>
     requires kinds { length shape.now.kinds ≤ 16 }
     requires dims { length dims.now ≡ shape.now.dims }
@@ -83,7 +83,7 @@ fn merge_block(
     dims: &Seq<Seq<u32>>,
     metrics: &NumberColumns,
     zeros: &[bool],
-    words: &[u64],
+    words: &[u32],
     from: usize,
     to: usize,
 ) -> Result<(), NoMemory>

@@ -14,7 +14,7 @@ mod words;
 
 pub use compare::compare_dims;
 pub use merging::merge_equal;
-pub use numbers::NumberColumns;
+pub use numbers::{NumberColumns, PairNumbers};
 pub use projection::{project, project_merged};
 
 /// A growth was refused.

@@ -1,25 +1,48 @@
-//! The numbers of pairs, borrowed column by column.
+//! The numbers of pairs, column by column.
 
 ghost use Rattle.std.specs.Prelude.{◌≡◌, ◌<◌, ◌++◌, ◌∷◌, [], length, map, slice_index_or};
 ghost use Rattle.std.specs.Prelude.{slice_get, All, IfOk, OnOk, Some};
+ghost use Rattle.star_records.specs.Numbers.{numbers_of};
 
 use crate::NoMemory;
 use std::alloc::Global;
 use std::marker::Model;
 
-/// A column of numbers for each pair, which contracts see as a list of numbers. The numbers stay
-/// where they are: several pairs may have the same column.
+/// The numbers of a pair, one for each row: those of a column, which stay where they are, or zeros,
+/// which take no memory.
+#[derive(Clone, Copy)]
+pub enum PairNumbers<'a> {
+    Stored(&'a [i64]),
+    Zeros(usize),
+}
+
+impl<'a> PairNumbers<'a> {
+    // The number of a row.
+    pub(crate) fn at(self, row: usize) -> i64
+        requires { row < length (numbers_of self) }
+        ensures { slice_get (numbers_of self.entry) row ≡ Some result }
+    {
+        match self {
+            PairNumbers::Stored(numbers) => numbers[row],
+            PairNumbers::Zeros(_) => 0,
+        }
+    }
+}
+
+/// The numbers of each pair, which contracts see as lists of numbers. Several pairs may have the
+/// same column.
 #[derive(Drop)]
 pub struct NumberColumns<'a> {
-    columns: Vec<&'a [i64]>,
+    columns: Vec<PairNumbers<'a>>,
 }
 
 impl<'a> Model for NumberColumns<'a> {
     ghost use Rattle.std.specs.Prelude.{List, ℤ, map};
+    ghost use Rattle.star_records.specs.Numbers.{numbers_of};
 
     ghost Value = { List (List ℤ) };
 
-    ghost view = { λ t. map (λ column. column.now) t.columns.items };
+    ghost view = { λ t. map numbers_of t.columns.items };
 }
 
 impl<'a> NumberColumns<'a> {
@@ -32,11 +55,11 @@ impl<'a> NumberColumns<'a> {
         }
     }
 
-    /// Adds the column of one more pair.
-    pub fn push(&mut self, column: &'a [i64]) -> Result<(), NoMemory>
-        ensures { OnOk result (self.new ≡ self.old ++ column.now ∷ []) }
+    /// Adds the numbers of one more pair.
+    pub fn push(&mut self, numbers: PairNumbers<'a>) -> Result<(), NoMemory>
+        ensures { OnOk result (self.new ≡ self.old ++ numbers_of numbers.entry ∷ []) }
     {
-        self.columns.push(column)?;
+        self.columns.push(numbers)?;
         Ok(())
     }
 
@@ -48,9 +71,9 @@ impl<'a> NumberColumns<'a> {
     }
 
     /// The numbers of a pair.
-    pub fn at(&self, pair: usize) -> &'a [i64]
+    pub fn at(&self, pair: usize) -> PairNumbers<'a>
         requires { pair < length self.now }
-        ensures { result.now ≡ slice_index_or self.now pair result.now }
+        ensures { numbers_of result ≡ slice_index_or self.now pair (numbers_of result) }
     {
         self.columns[pair]
     }
@@ -64,7 +87,7 @@ impl<'a> NumberColumns<'a> {
         out.clear();
         for pair in 0..self.len() {
             let column = self.at(pair);
-            out.push(column[row])?;
+            out.push(column.at(row))?;
         }
         Ok(())
     }

@@ -1,6 +1,6 @@
 //! The documents of rows in slots, merged column by column.
 
-ghost use Rattle.std.specs.Prelude.{◌≡◌, ◌<◌, ◌≤◌, get_or, length, map, replicate, All};
+ghost use Rattle.std.specs.Prelude.{◌≡◌, ◌<◌, ◌≤◌, get_or, length, map, pos, replicate, All};
 ghost use Rattle.std.specs.Prelude.{IfOk, OnOk};
 ghost use Rattle.agg_laws.specs.Columns.{row_at};
 ghost use Rattle.agg_laws.specs.Docs.{projected};
@@ -10,10 +10,11 @@ ghost use Rattle.agg_laws.specs.Rows.{merged_rows, row_weight};
 ghost use Rattle.agg_laws.specs.States.{unit_of};
 ghost use Rattle.agg_laws.specs.Tree.{merged_docs};
 ghost use Rattle.star_records.specs.Columns.{row_count, rows_of};
+ghost use Rattle.star_records.specs.Numbers.{numbers_of};
 ghost use Rattle.star_records.specs.Slots.{gathered, AllHold, AreSlots, HoldsSlots};
 
 use crate::NoMemory;
-use crate::numbers::NumberColumns;
+use crate::numbers::{NumberColumns, PairNumbers};
 use crate::projection::read_row;
 use crate::slots::Slots;
 use agg_laws::{AggKind, AggState, StarTable, StateColumn, TreeShape};
@@ -114,18 +115,18 @@ fn fold_columns(
 fn fold_column(
     alloc: Global,
     kind: AggKind,
-    numbers: &[i64],
+    numbers: PairNumbers,
     slots: &[u32],
     count: usize,
 ) -> Result<StateColumn, NoMemory>
-    requires long { length numbers.now ≡ length slots.now }
+    requires long { length (numbers_of numbers) ≡ length slots.now }
     requires few { length slots.now ≤ most_stored }
     requires below { All (λ slot. slot < count) slots.now }
-    ensures states { IfOk result (HoldsSlots kind count slots.now numbers.now) }
-    ensures whole { IfOk result (λ _. AreWhole numbers.now) }
+    ensures states { IfOk result (HoldsSlots kind count slots.now (numbers_of numbers.entry)) }
+    ensures whole { IfOk result (λ _. AreWhole (numbers_of numbers.entry)) }
 {
     let mut column = units(alloc, kind, count)?;
-    add_numbers(&mut column, slots, numbers);
+    add_pair(&mut column, slots, numbers);
     Ok(column)
 }
 
@@ -143,6 +144,23 @@ fn units(alloc: Global, kind: AggKind, count: usize) -> Result<StateColumn, NoMe
 }
 
 // Adds the number of each row to the state in the row's slot.
+fn add_pair(column: &mut StateColumn, slots: &[u32], numbers: PairNumbers)
+    requires long { length (numbers_of numbers) ≡ length slots.now }
+    requires few { length slots.now ≤ most_stored }
+    requires below { All (λ slot. slot < length column.old.states) slots.now }
+    requires empty { column.old.states
+        ≡ replicate (length column.old.states) (unit_of column.old.kind) }
+    ensures states { HoldsSlots column.old.kind (length column.old.states) slots.now
+        (numbers_of numbers.entry) column.new }
+    ensures whole { AreWhole (numbers_of numbers.entry) }
+{
+    match numbers {
+        PairNumbers::Stored(numbers) => add_numbers(column, slots, numbers),
+        PairNumbers::Zeros(_) => add_zeros(column, slots),
+    }
+}
+
+// The same, where the numbers are stored.
 fn add_numbers(column: &mut StateColumn, slots: &[u32], numbers: &[i64])
     requires long { length numbers.now ≡ length slots.now }
     requires few { length slots.now ≤ most_stored }
@@ -155,6 +173,21 @@ fn add_numbers(column: &mut StateColumn, slots: &[u32], numbers: &[i64])
 {
     for row in 0..slots.len() {
         column.add_at(slots[row] as usize, numbers[row]);
+    }
+}
+
+// The same, where they are zeros.
+fn add_zeros(column: &mut StateColumn, slots: &[u32])
+    requires few { length slots.now ≤ most_stored }
+    requires below { All (λ slot. slot < length column.old.states) slots.now }
+    requires empty { column.old.states
+        ≡ replicate (length column.old.states) (unit_of column.old.kind) }
+    ensures states { HoldsSlots column.old.kind (length column.old.states) slots.now
+        (replicate (length slots.now) (pos 0)) column.new }
+    ensures whole { AreWhole (replicate (length slots.now) (pos 0)) }
+{
+    for row in 0..slots.len() {
+        column.add_at(slots[row] as usize, 0);
     }
 }
 

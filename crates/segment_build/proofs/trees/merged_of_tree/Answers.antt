@@ -13,11 +13,13 @@ use Rattle.segment_build.proofs.Built.{rows_most}
 use Rattle.segment_build.proofs.Growing.{dims_count, dims_long, docs_made, metrics_long, pair_columns, pairs_known}
 use Rattle.segment_build.proofs.trees.merged_of_tree.Goals as goal
 
-pub pair_numbers-requires-clause-known : goal.pair_numbers-requires-clause-known
-pair_numbers-requires-clause-known c =
+pub pair_numbers-requires : goal.pair_numbers-requires
+pair_numbers-requires c =
     let table = c.args.table.now in
     let n = length c.args.columns.now.columns in
-    subst (All (λ (p : Agg). IsKnown n p.column)) (sym c.as_slice-2.ensures) (pairs_known table.schema.fields n c.args.tree.now.pairs c.requires.columns.width c.requires.tree.pairs_fit)
+    record {
+      known = subst (All (λ (p : Agg). IsKnown n p.column)) (sym c.as_slice-2.ensures) (pairs_known table.schema.fields n c.args.tree.now.pairs c.requires.columns.width c.requires.tree.pairs_fit);
+    }
 
 pub project_merged-requires-clause-ids_long : goal.project_merged-requires-clause-ids_long
 project_merged-requires-clause-ids_long c =

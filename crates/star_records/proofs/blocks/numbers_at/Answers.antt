@@ -2,6 +2,7 @@ use Rattle.std.proofs.Common.{◌∙◌, ◌++◌, ◌∷◌, ◌<◌, ◌≤◌
 use Rattle.std.proofs.lemmas.List.{take_all}
 use Rattle.agg_laws.proofs.RegionLemmas.{any_default}
 use Rattle.star_records.specs.Folding.{picked, AllZero}
+use Rattle.star_records.specs.Numbers.{numbers_of}
 use Rattle.star_records.proofs.BlockSteps as steps
 use Rattle.star_records.proofs.blocks.numbers_at.Goals as goal
 
@@ -10,7 +11,7 @@ number_column-requires-clause-zero c marked =
     let columns = c.args.columns.now in
     let i = c.loop-i.i in
     let lt : i < length columns = omega (arith, c.loop-i-test.true, c.len-i-end.ensures) in
-    let at = c.at.ensures ∙ any_default columns i c.at.result.now [] lt in
+    let at = c.at.ensures ∙ any_default columns i (numbers_of c.at.result) [] lt in
     subst AllZero (sym at) (c.requires.known.zero i lt marked)
 
 pub loop-i-preserved : goal.loop-i-preserved
@@ -19,8 +20,8 @@ loop-i-preserved c = λ d.
     let words = c.args.words.now in
     let i = c.loop-i.i in
     let lt : i < length columns = omega (arith, c.loop-i-test.true, c.len-i-end.ensures) in
-    let column = c.at.result.now in
-    let at = c.at.ensures ∙ any_default columns i c.at.result.now [] lt in
+    let column = numbers_of c.at.result in
+    let at = c.at.ensures ∙ any_default columns i (numbers_of c.at.result) [] lt in
     let more = c.in_ok-push.ensures.items
     ∙ ap (λ (l : List ℤ). c.loop-i.block.items ++ (l ∷ [])) c.from_vec.ensures in
     steps.columns_more d words columns i column c.in_ok-items.items.items c.loop-i.block.items

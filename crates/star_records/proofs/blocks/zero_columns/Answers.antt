@@ -1,5 +1,6 @@
 use Rattle.std.proofs.Common.{◌≡◌, ◌∙◌, ◌+◌, ◌<◌, ◌∷◌, [], length, ap, arith, length-append}
 use Rattle.agg_laws.proofs.RegionLemmas.{any_default}
+use Rattle.star_records.specs.Numbers.{numbers_of}
 use Rattle.star_records.proofs.BlockSteps as steps
 use Rattle.star_records.proofs.blocks.zero_columns.Goals as goal
 
@@ -9,12 +10,12 @@ loop-i-preserved c =
     let i = c.loop-i.i in
     let inv = c.loop-i.invariant in
     let lt : i < length columns = omega (arith, c.loop-i-test.true, c.len-i-end.ensures) in
-    let at = c.at.ensures ∙ any_default columns i c.at.result.now [] lt in
+    let at = c.at.ensures ∙ any_default columns i (numbers_of c.at.result) [] lt in
     record {
       long = ap length c.in_ok-push.ensures.items
-          ∙ length-append c.loop-i.zeros.items (c.is_zero.result ∷ []) ∙ ap (λ n. n + 1) inv.long;
-      zero = steps.zero_more c.loop-i.zeros.items c.push.new.self.items columns i c.is_zero.result
-          c.at.result.now lt at inv.long inv.zero c.is_zero.ensures c.in_ok-push.ensures.items;
+          ∙ length-append c.loop-i.zeros.items (c.are_zeros.result ∷ []) ∙ ap (λ n. n + 1) inv.long;
+      zero = steps.zero_more c.loop-i.zeros.items c.push.new.self.items columns i c.are_zeros.result
+          (numbers_of c.at.result) lt at inv.long inv.zero c.are_zeros.ensures c.in_ok-push.ensures.items;
     }
 
 pub returns : goal.returns
