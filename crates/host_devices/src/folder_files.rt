@@ -1,9 +1,11 @@
 //! The files of a real folder.
-ghost use Rattle.std.specs.Prelude.{◌≡◌, ◌≢◌, ◌≤◌, ◌<◌, ◌+◌, ◌^◌, true, IfOk, IfSome, IsErrOf, IsSome, MatchOption, drop, length, string_bytes, take, vec_len};
-ghost use Rattle.std.specs.Int.{to_le_bytes, w64};
+ghost use Rattle.std.specs.Prelude.{◌≡◌, ◌≢◌, ◌≤◌, ◌<◌, ◌+◌, ◌^◌, true, IfOk, IfSome, IsErrOf, IsSome, MatchOption, None, Some, length, string_bytes, vec_len};
+ghost use Rattle.std.specs.Option.{ForSome};
 ghost use Rattle.outside.specs.Counts.{Rose};
 ghost use Rattle.outside.specs.declared.shelf.ShelfFault.TheVariants.{Missing, Failed};
+ghost use Rattle.host_devices.specs.Names.{AreEnds};
 
+use crate::name_ends::NameEnds;
 use outside::{Name, ShelfFault};
 use std::alloc::{AllocError, Global};
 use std::fs::{Metadata, OpenFile};
@@ -49,6 +51,10 @@ pub struct FolderFiles<R: Files + AllocGlobal + Clone + Drop> {
     pub rt: R,
     pub folder: String,
     kept: Option<NamedFile<FileReader<R::File>>>,
+    ends: NameEnds,
+    ghost kept_ends: { ends.size ≤ 16 → ForSome kept
+        (λ kept. AreEnds (string_bytes kept.name) ends.size ends.first ends.last) },
+    ghost ends_of_some: { ends.size ≤ 16 → kept ≢ None },
 }
 
 impl<F: Read + Seek + Drop> FileReader<F> {
@@ -199,46 +205,13 @@ fn copy_front(bytes: &[u8], into: &mut [u8])
     }
 }
 
-// Whether the bytes of two names are the same. Each read asks for it: of eight bytes to sixteen, as
-// the names of segments' files mostly have, the first eight and the last eight are compared at once.
-#[inline(always)]
-fn are_same(a: &[u8], b: &[u8]) -> bool
-    ensures { result ≡ true → a.now ≡ b.now }
-{
-    let size = a.len();
-    if size != b.len() {
-        return false;
-    }
-    if size < 8 || size > 16 {
-        return a == b;
-    }
-    eight_at(a, 0) == eight_at(b, 0) && eight_at(a, size - 8) == eight_at(b, size - 8)
-}
-
-// The number of eight bytes.
-#[inline(always)]
-fn eight_at(bytes: &[u8], at: usize) -> u64
-    requires { at + 8 ≤ length bytes.now }
-    ensures { to_le_bytes w64 result ≡ take 8 (drop at bytes.now) }
-{
-    u64::from_le_bytes([
-        bytes[at],
-        bytes[at + 1],
-        bytes[at + 2],
-        bytes[at + 3],
-        bytes[at + 4],
-        bytes[at + 5],
-        bytes[at + 6],
-        bytes[at + 7],
-    ])
-}
-
 impl<R: Files + AllocGlobal + Clone + Drop> FolderFiles<R> {
     pub fn new(rt: R, folder: String) -> Self {
         FolderFiles {
             rt,
             folder,
             kept: None,
+            ends: NameEnds::none(),
         }
     }
 
@@ -256,7 +229,7 @@ impl<R: Files + AllocGlobal + Clone + Drop> FolderFiles<R> {
     pub fn length(&mut self, alloc: Global, name: &str) -> Result<u64, ShelfFault> {
         self.forget();
         let (open, length) = self.open(alloc, name)?;
-        self.kept = Some(open);
+        self.keep(open);
         Ok(length)
     }
 
@@ -273,7 +246,7 @@ impl<R: Files + AllocGlobal + Clone + Drop> FolderFiles<R> {
         if !self.is_kept(name) {
             self.forget();
             let (open, _) = self.open(alloc, name)?;
-            self.kept = Some(open);
+            self.keep(open);
         }
         self.read_kept(offset, into)
     }
@@ -289,7 +262,7 @@ impl<R: Files + AllocGlobal + Clone + Drop> FolderFiles<R> {
         }
         match &self.kept {
             Some(open) => open.file.copy_ahead(offset, into),
-            None => None,
+            None => unreachable!(),
         }
     }
 
@@ -313,8 +286,21 @@ impl<R: Files + AllocGlobal + Clone + Drop> FolderFiles<R> {
     }
 
     /// Closes the file that is kept open, since another may now stand under its name.
-    pub fn forget(&mut self) {
+    pub fn forget(&mut self)
+        ensures { self.new.kept ≡ None }
+    {
+        self.ends = NameEnds::none();
         self.kept = None;
+    }
+
+    // Keeps a file open.
+    fn keep(&mut self, file: NamedFile<FileReader<R::File>>)
+        ensures { self.new.kept ≡ Some file }
+    {
+        let ends = NameEnds::of(file.name.as_str().as_bytes());
+        self.ends = NameEnds::none();
+        self.kept = Some(file);
+        self.ends = ends;
     }
 
     // Whether the file that is kept open has this name.
@@ -323,8 +309,12 @@ impl<R: Files + AllocGlobal + Clone + Drop> FolderFiles<R> {
         ensures { result ≡ true →
             MatchOption self.now.kept ⊥ (λ kept. string_bytes kept.name ≡ name.now) }
     {
+        let name = name.as_bytes();
+        if self.ends.fit(name) {
+            return true;
+        }
         match &self.kept {
-            Some(kept) => are_same(kept.name.as_str().as_bytes(), name.as_bytes()),
+            Some(kept) => kept.name.as_str().as_bytes() == name,
             None => false,
         }
     }
