@@ -1,5 +1,8 @@
 -- The bytes of a name, eight at a time.
-use Rattle.std.proofs.Common.{◌≡◌, ◌∙◌, ◌≤◌, ◌+◌, ◌-◌, ℕ, List, ◌++◌, length, take, drop, sym, ap, arith, length-drop}
+use Rattle.std.proofs.Common.{◌≡◌, ◌≢◌, ◌∙◌, ◌≤◌, ◌+◌, ◌-◌, ℕ, List, Option, None, Some, ◌++◌, length, take, drop, sym, ap, arith, length-drop, refl}
+use Rattle.std.specs.Prelude.{MatchOption}
+use Rattle.std.specs.Option.{ForSome}
+use Rattle.host_devices.specs.Names.{AreEnds}
 use Rattle.std.proofs.lemmas.List.{drop-drop, take_all, take-append-drop}
 
 -- what comes after so many, in two steps
@@ -17,3 +20,18 @@ ends_same a b long most few first last =
     let parts : at + more ≡ 8 = omega (arith, most, few) in
     let rest : drop 8 a ≡ drop 8 b = drop_twice at more 8 a parts ∙ ap (drop more) ends ∙ sym (drop_twice at more 8 b parts) in
     sym (take-append-drop 8 a) ∙ ap (λ (xs : List ℕ). xs ++ drop 8 a) first ∙ ap (λ (xs : List ℕ). take 8 b ++ xs) rest ∙ take-append-drop 8 b
+
+-- names with the same ends are the same
+pub same_ends : (a b : List ℕ) (size first last : ℕ) → 8 ≤ size → size ≤ 16 → AreEnds a size first last → AreEnds b size first last → a ≡ b
+same_ends a b size first last long few ours theirs =
+    let back_a : take 8 (drop (length a - 8) a) ≡ take 8 (drop (size - 8) a) = ap (λ n. take 8 (drop (n - 8) a)) ours.long in
+    let back_b : take 8 (drop (size - 8) b) ≡ take 8 (drop (length b - 8) b) = ap (λ n. take 8 (drop (n - 8) b)) (sym theirs.long) in
+    let back_c : take 8 (drop (length b - 8) b) ≡ take 8 (drop (length a - 8) b) = ap (λ n. take 8 (drop (n - 8) b)) (theirs.long ∙ sym ours.long) in
+    ends_same a b (ours.long ∙ sym theirs.long) (omega (arith, ours.long, long)) (omega (arith, ours.long, few)) (sym ours.front ∙ theirs.front)
+    (back_a ∙ sym ours.back ∙ theirs.back ∙ back_b ∙ back_c)
+
+-- what is kept has a name that fits the ends of it
+pub kept_named : {X : Type 0} (kept : Option X) (name_of : X → List ℕ) (name : List ℕ) (size first last : ℕ) → kept ≢ None → ForSome kept (λ k. AreEnds (name_of k) size first last)
+    → ((bytes : List ℕ) → AreEnds bytes size first last → bytes ≡ name) → MatchOption kept ⊥ (λ k. name_of k ≡ name)
+kept_named None name_of name size first last some known fits = absurd (some refl)
+kept_named (Some k) name_of name size first last some known fits = fits (name_of k) (known k refl)

@@ -1,9 +1,11 @@
 //! The files of a real folder.
-ghost use Rattle.std.specs.Prelude.{◌≡◌, ◌≢◌, ◌≤◌, ◌<◌, ◌+◌, true, IfOk, IfSome, IsErrOf, IsSome, MatchOption, drop, length, string_bytes, take, vec_len};
-ghost use Rattle.std.specs.Int.{to_le_bytes, w64};
+ghost use Rattle.std.specs.Prelude.{◌≡◌, ◌≢◌, ◌≤◌, ◌<◌, ◌+◌, ◌^◌, true, IfOk, IfSome, IsErrOf, IsSome, MatchOption, None, Some, length, string_bytes, vec_len};
+ghost use Rattle.std.specs.Option.{ForSome};
 ghost use Rattle.outside.specs.Counts.{Rose};
 ghost use Rattle.outside.specs.declared.shelf.ShelfFault.TheVariants.{Missing, Failed};
+ghost use Rattle.host_devices.specs.Names.{AreEnds};
 
+use crate::name_ends::NameEnds;
 use outside::{Name, ShelfFault};
 use std::alloc::{AllocError, Global};
 use std::fs::{Metadata, OpenFile};
@@ -11,9 +13,17 @@ use std::io::{ErrorKind, Read, Seek, SeekFrom};
 use std::rt::Files;
 use std::{fs, io};
 
-/// How many bytes of a file are read at once where fewer are asked for: those that are asked for
-/// next are mostly among them.
-const READ_AHEAD: usize = 32_768;
+/// How many bytes of a file are read at once where reads go on from the last that were read: those
+/// that are asked for next are mostly among them.
+const READ_AHEAD: usize = 65_536;
+
+/// How many are read at once from another place, if fewer are asked for: mostly little more is asked
+/// for there.
+const FIRST_READ: usize = 16_384;
+
+/// Reads go on where they leave out fewer bytes than so many: to read these too costs less than to
+/// seek.
+const GAP: u64 = 4096;
 
 /// A file that is open under its name.
 #[derive(Drop)]
@@ -22,15 +32,17 @@ pub struct NamedFile<F: Drop> {
     pub file: F,
 }
 
-/// A file that is read, and the last bytes that were read ahead: those before the offset that the file
-/// is read from next.
+/// A file that is read, and the last bytes that were read ahead, from an offset on. The file is read
+/// from the next offset on.
 #[derive(Drop)]
 pub struct FileReader<F: Read + Drop> {
     file: F,
     next: u64,
+    start: u64,
     ahead: Vec<u8>,
     held: usize,
     ghost in_bounds: { held ≤ vec_len ahead },
+    ghost long: { vec_len ahead ≡ 65536 },
 }
 
 /// The files of a folder. The one that was read last is kept open.
@@ -39,6 +51,10 @@ pub struct FolderFiles<R: Files + AllocGlobal + Clone + Drop> {
     pub rt: R,
     pub folder: String,
     kept: Option<NamedFile<FileReader<R::File>>>,
+    ends: NameEnds,
+    ghost kept_ends: { ends.size ≤ 16 → ForSome kept
+        (λ kept. AreEnds (string_bytes kept.name) ends.size ends.first ends.last) },
+    ghost ends_of_some: { ends.size ≤ 16 → kept ≢ None },
 }
 
 impl<F: Read + Seek + Drop> FileReader<F> {
@@ -46,6 +62,7 @@ impl<F: Read + Seek + Drop> FileReader<F> {
         Ok(FileReader {
             file,
             next: 0,
+            start: 0,
             ahead: vec![in alloc; 0u8; READ_AHEAD]?,
             held: 0,
         })
@@ -61,35 +78,35 @@ impl<F: Read + Seek + Drop> FileReader<F> {
         }
     }
 
-    // Copies bytes from an offset on, if they were read ahead.
+    // Copies bytes from an offset on, as many as fit, if all of them were read ahead.
     #[inline(always)]
     fn copy_ahead(&self, offset: u64, into: &mut [u8]) -> Option<usize>
         ensures { IfSome result (λ n. n ≤ length into.old) }
     {
-        if !self.is_ahead(offset) {
+        let size = into.len();
+        if offset < self.start {
             return None;
         }
-        Some(self.copy(offset, into))
-    }
-
-    // Whether the byte at an offset was read ahead.
-    #[inline(always)]
-    fn is_ahead(&self, offset: u64) -> bool
-        ensures before { result ≡ true → offset < self.now.next }
-        ensures held { result ≡ true → self.now.next ≤ offset + self.now.held }
-    {
-        offset < self.next && self.next - offset <= self.held as u64
+        let at = offset - self.start;
+        let held = self.held as u64;
+        if held < at || held - at < size as u64 {
+            return None;
+        }
+        copy_front(&self.ahead[at as usize..self.held], into);
+        Some(size)
     }
 
     // Copies bytes from an offset on that were read ahead, as many as there are and fit.
-    #[inline(always)]
-    fn copy(&self, offset: u64, into: &mut [u8]) -> usize
-        requires before { offset < self.now.next }
-        requires held { self.now.next ≤ offset + self.now.held }
+    fn copy_some(&self, offset: u64, into: &mut [u8]) -> usize
         ensures { result ≤ length into.old }
     {
-        let from = self.held - (self.next - offset) as usize;
-        copy_front(&self.ahead[from..self.held], into)
+        if offset < self.start || self.held as u64 <= offset - self.start {
+            return 0;
+        }
+        let bytes = &self.ahead[(offset - self.start) as usize..self.held];
+        let n = bytes.len().min(into.len());
+        copy_front(bytes, &mut into[..n]);
+        n
     }
 
     // Reads bytes that were not read ahead. No file is longer than a signed 64-bit number says.
@@ -100,73 +117,92 @@ impl<F: Read + Seek + Drop> FileReader<F> {
         if offset > i64::MAX as u64 {
             return Ok(0);
         }
+        if into.len() >= FIRST_READ {
+            return self.read_past(offset, into);
+        }
+        self.read_ahead(offset)?;
+        Ok(self.copy_some(offset, into))
+    }
+
+    // Reads from an offset on, with nothing read ahead.
+    fn read_past(&mut self, offset: u64, into: &mut [u8]) -> io::Result<usize>
+        requires { offset < 2 ^ 63 }
+        ensures { IfOk result (λ n. n ≤ length into.old) }
+    {
         self.held = 0;
+        self.seek(offset)?;
+        let n = self.file.read(into)?;
+        self.next = offset + n as u64;
+        Ok(n)
+    }
+
+    // Reads bytes ahead so that those from an offset on are among them, if there are any.
+    fn read_ahead(&mut self, offset: u64) -> io::Result<()>
+        requires { offset < 2 ^ 63 }
+    {
+        if self.next <= offset && offset - self.next < GAP {
+            let size = if self.held > 0 {
+                READ_AHEAD
+            } else {
+                FIRST_READ
+            };
+            self.fill(self.next, size)?;
+            if offset < self.next {
+                return Ok(());
+            }
+        }
+        self.seek(offset)?;
+        self.fill(offset, FIRST_READ)
+    }
+
+    // Reads at most so many bytes ahead from an offset on, which the file is read from next.
+    fn fill(&mut self, offset: u64, size: usize) -> io::Result<()>
+        requires within { offset < 2 ^ 63 }
+        requires room { size ≤ 65536 }
+    {
+        self.held = 0;
+        let n = read_front(&mut self.file, &mut self.ahead, size)?;
+        self.start = offset;
+        self.next = offset + n as u64;
+        self.held = n;
+        Ok(())
+    }
+
+    // Has the file read from an offset on next.
+    fn seek(&mut self, offset: u64) -> io::Result<()> {
         if offset != self.next {
             self.file.seek(SeekFrom::Start(offset))?;
         }
-        if into.len() >= READ_AHEAD {
-            let n = self.file.read(into)?;
-            self.next = offset + n as u64;
-            return Ok(n);
-        }
-        let n = self.file.read(&mut self.ahead)?;
-        self.next = offset + n as u64;
-        self.held = n;
-        if n == 0 {
-            return Ok(0);
-        }
-        Ok(self.copy(offset, into))
+        Ok(())
     }
 }
 
-// Copies the first bytes to the front of others, as many as there are and fit. One or two, as an id
-// takes, are moved without a call: the first and the last.
-#[inline(always)]
-fn copy_front(bytes: &[u8], into: &mut [u8]) -> usize
-    ensures { result ≤ length into.old }
+// Reads at most so many bytes to the front of others.
+fn read_front<F: Read>(file: &mut F, into: &mut [u8], size: usize) -> io::Result<usize>
+    requires { size ≤ length into.old }
+    ensures { IfOk result (λ n. n ≤ length into.old) }
 {
-    let n = bytes.len().min(into.len());
+    file.read(&mut into[..size])
+}
+
+// Copies the first bytes to others, as many as these are. Those that an id takes are moved without a
+// call: of one or two the first and the last, of three or four the first two and the last two.
+#[inline(always)]
+fn copy_front(bytes: &[u8], into: &mut [u8])
+    requires { length into.old ≤ length bytes.now }
+{
+    let n = into.len();
     if n == 1 || n == 2 {
         into[0] = bytes[0];
         into[n - 1] = bytes[n - 1];
+    } else if n == 3 || n == 4 {
+        into[0] = bytes[0];
+        into[1] = bytes[1];
+        into[n - 2] = bytes[n - 2];
+        into[n - 1] = bytes[n - 1];
     } else {
-        into[..n].copy_from_slice(&bytes[..n]);
+        into.copy_from_slice(&bytes[..n]);
     }
-    n
-}
-
-// Whether the bytes of two names are the same. Each read asks for it: of eight bytes to sixteen, as
-// the names of segments' files mostly have, the first eight and the last eight are compared at once.
-#[inline(always)]
-fn are_same(a: &[u8], b: &[u8]) -> bool
-    ensures { result ≡ true → a.now ≡ b.now }
-{
-    let size = a.len();
-    if size != b.len() {
-        return false;
-    }
-    if size < 8 || size > 16 {
-        return a == b;
-    }
-    eight_at(a, 0) == eight_at(b, 0) && eight_at(a, size - 8) == eight_at(b, size - 8)
-}
-
-// The number of eight bytes.
-#[inline(always)]
-fn eight_at(bytes: &[u8], at: usize) -> u64
-    requires { at + 8 ≤ length bytes.now }
-    ensures { to_le_bytes w64 result ≡ take 8 (drop at bytes.now) }
-{
-    u64::from_le_bytes([
-        bytes[at],
-        bytes[at + 1],
-        bytes[at + 2],
-        bytes[at + 3],
-        bytes[at + 4],
-        bytes[at + 5],
-        bytes[at + 6],
-        bytes[at + 7],
-    ])
 }
 
 impl<R: Files + AllocGlobal + Clone + Drop> FolderFiles<R> {
@@ -175,6 +211,7 @@ impl<R: Files + AllocGlobal + Clone + Drop> FolderFiles<R> {
             rt,
             folder,
             kept: None,
+            ends: NameEnds::none(),
         }
     }
 
@@ -192,7 +229,7 @@ impl<R: Files + AllocGlobal + Clone + Drop> FolderFiles<R> {
     pub fn length(&mut self, alloc: Global, name: &str) -> Result<u64, ShelfFault> {
         self.forget();
         let (open, length) = self.open(alloc, name)?;
-        self.kept = Some(open);
+        self.keep(open);
         Ok(length)
     }
 
@@ -209,7 +246,7 @@ impl<R: Files + AllocGlobal + Clone + Drop> FolderFiles<R> {
         if !self.is_kept(name) {
             self.forget();
             let (open, _) = self.open(alloc, name)?;
-            self.kept = Some(open);
+            self.keep(open);
         }
         self.read_kept(offset, into)
     }
@@ -225,7 +262,7 @@ impl<R: Files + AllocGlobal + Clone + Drop> FolderFiles<R> {
         }
         match &self.kept {
             Some(open) => open.file.copy_ahead(offset, into),
-            None => None,
+            None => unreachable!(),
         }
     }
 
@@ -249,8 +286,21 @@ impl<R: Files + AllocGlobal + Clone + Drop> FolderFiles<R> {
     }
 
     /// Closes the file that is kept open, since another may now stand under its name.
-    pub fn forget(&mut self) {
+    pub fn forget(&mut self)
+        ensures { self.new.kept ≡ None }
+    {
+        self.ends = NameEnds::none();
         self.kept = None;
+    }
+
+    // Keeps a file open.
+    fn keep(&mut self, file: NamedFile<FileReader<R::File>>)
+        ensures { self.new.kept ≡ Some file }
+    {
+        let ends = NameEnds::of(file.name.as_str().as_bytes());
+        self.ends = NameEnds::none();
+        self.kept = Some(file);
+        self.ends = ends;
     }
 
     // Whether the file that is kept open has this name.
@@ -259,8 +309,12 @@ impl<R: Files + AllocGlobal + Clone + Drop> FolderFiles<R> {
         ensures { result ≡ true →
             MatchOption self.now.kept ⊥ (λ kept. string_bytes kept.name ≡ name.now) }
     {
+        let name = name.as_bytes();
+        if self.ends.fit(name) {
+            return true;
+        }
         match &self.kept {
-            Some(kept) => are_same(kept.name.as_str().as_bytes(), name.as_bytes()),
+            Some(kept) => kept.name.as_str().as_bytes() == name,
             None => false,
         }
     }

@@ -107,14 +107,9 @@ impl<R: Files + AllocGlobal + Clone + Drop> FolderParts<R> {
         let from = self.part_path(alloc, part)?;
         let to = path_of(alloc, self.files.folder.as_str(), name)?;
         let open = self.take_part(alloc, part)?;
-        let folder = self.files.folder.as_str();
-        match replace(
-            &self.files.rt,
-            &open.file,
-            folder,
-            from.as_str(),
-            to.as_str(),
-        ) {
+        let files = &self.files;
+        let folder = files.folder.as_str();
+        match replace(&files.rt, &open.file, folder, from.as_str(), to.as_str()) {
             Ok(()) => Ok(()),
             Err(e) => Err(write_fault(&e)),
         }
@@ -127,9 +122,10 @@ impl<R: Files + AllocGlobal + Clone + Drop> FolderParts<R> {
             return Err(DepotFault::Missing);
         }
         let path = path_of(alloc, self.files.folder.as_str(), name)?;
-        match erase(&self.files.rt, self.files.folder.as_str(), path.as_str()) {
+        let files = &self.files;
+        match erase(&files.rt, files.folder.as_str(), path.as_str()) {
             Ok(()) => Ok(()),
-            Err(e) if names_nothing(&e) && self.files.is_there() => Err(DepotFault::Missing),
+            Err(e) if names_nothing(&e) && files.is_there() => Err(DepotFault::Missing),
             Err(e) => Err(write_fault(&e)),
         }
     }
