@@ -37,7 +37,8 @@ use Rattle.segment_scan.specs.Images.{AreNamedLoaded, LogsPartsPartly, LogsScan,
 use Rattle.segment_scan.specs.Indexes.{IsIndexed, IsRanged, IsReady, LogsAt, LogsAtPartly, LogsIndex, LogsIndexPartly, LogsIndexed, LogsIndexedPartly, LogsRange, LogsRangePartly, OfEach, part_of}
 use Rattle.segment_scan.specs.Picked.{LogsIf, LogsIfPartly, LogsPicked, LogsPickedPartly, LogsRuns, LogsRunsPartly, ids_of_run}
 use Rattle.segment_scan.specs.Series.{Logs, LogsPartOf, LogsTo}
-use Rattle.segment_scan.specs.Served.{choice_at, sure_choices}
+use Rattle.coded_scan.specs.Served.{choice_at}
+use Rattle.segment_scan.specs.Served.{sure_choices}
 use Rattle.segment_scan.proofs.ImageLemmas.{loaded_readable}
 use Rattle.segment_scan.proofs.IndexImage.{ready_for}
 use Rattle.segment_scan.proofs.LeftImage.{rest_loaded}

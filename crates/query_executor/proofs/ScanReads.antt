@@ -30,7 +30,8 @@ use Rattle.segment_scan.specs.Forward.{IsReadable}
 use Rattle.segment_scan.specs.Images.{AreLeftFor, AreNamedLoaded, ImagesLeave, ImagesRead, IsOfImage, LogsPartsPartly, LogsScan, LogsScanPartly, choices_for, indexed_for, names_in, rest_for, sure_for}
 use Rattle.segment_scan.specs.Indexes.{LogsAt, LogsAtPartly}
 use Rattle.segment_scan.specs.Series.{LogsPartOf, LogsTo}
-use Rattle.segment_scan.specs.Served.{choice_at, indexed, is_indexed, is_served, rest_of, rows_left, sure_choices, unserved}
+use Rattle.coded_scan.specs.Served.{choice_at, is_served, rest_of, unserved}
+use Rattle.segment_scan.specs.Served.{indexed, is_indexed, rows_left, sure_choices}
 use Rattle.segment_scan.proofs.ImageLemmas.{loaded_readable}
 use Rattle.segment_scan.proofs.IndexImage.{ready_for}
 use Rattle.segment_scan.proofs.LeftImage.{left_count, rest_loaded, sure_names, whole_docs}

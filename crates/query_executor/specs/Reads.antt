@@ -17,7 +17,7 @@ use Rattle.segment_plan.specs.declared.plans.SegmentPlan.{SegmentPlan}
 use Rattle.segment_plan.specs.declared.plans.SegmentPlan.TheVariants.{Pruned, Empty, StarTree, Scan}
 use Rattle.segment_plan.specs.Planned.{factors_over, plan_over}
 use Rattle.segment_scan.specs.Images.{names_in}
-use Rattle.segment_scan.specs.Served.{rest_of}
+use Rattle.coded_scan.specs.Served.{rest_of}
 use Rattle.star_file.specs.Reading.{doc_width}
 use Rattle.star_answer.specs.Docs.{docs_read, product}
 use Rattle.query_executor.specs.Segments.{HasImage}

@@ -49,7 +49,8 @@ use Rattle.segment_scan.specs.Forward.{count_in}
 use Rattle.segment_scan.specs.Images.{AreNamedLoaded, ImagesLeave, choices_for}
 use Rattle.segment_scan.specs.Indexes.{IsIndexed, IsRanged, IsReady, OfEach, OfIndex, TellsBuckets, TellsIds, all_leave, is_doc_near, is_unsure, leaves, part_of}
 use Rattle.segment_scan.specs.Named.{conjunct_names}
-use Rattle.segment_scan.specs.Served.{Chosen, all_left, choice_at, indexed, is_indexed, is_near, is_row_left, is_value_near}
+use Rattle.coded_scan.specs.Served.{choice_at}
+use Rattle.segment_scan.specs.Served.{Chosen, all_left, indexed, is_indexed, is_near, is_row_left, is_value_near}
 use Rattle.segment_scan.proofs.AgreementLemmas.{conjuncts_in_names, or_left, or_right}
 use Rattle.segment_scan.proofs.ImageLemmas.{IsPlace, ids-below, ids-count, item_there, ordered_count, places}
 use Rattle.segment_scan.proofs.OrderLemmas.{sorted_ids}

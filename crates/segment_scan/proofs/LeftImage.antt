@@ -45,7 +45,8 @@ use Rattle.segment_scan.specs.Indexes.{IsBadAny, IsBadIndex, LogsAt, LogsIndex, 
 use Rattle.segment_scan.specs.Named.{agg_names, conjunct_names, is_in, query_names}
 use Rattle.segment_scan.specs.Scans.{columns_read}
 use Rattle.segment_scan.specs.Series.{LogsTo}
-use Rattle.segment_scan.specs.Served.{Chosen, all_left, choice_at, indexed, is_indexed, is_row_left, is_served, rest_of, rows_left, sure_choices, unserved}
+use Rattle.coded_scan.specs.Served.{choice_at, is_served, rest_of, unserved}
+use Rattle.segment_scan.specs.Served.{Chosen, all_left, indexed, is_indexed, is_row_left, rows_left, sure_choices}
 use Rattle.segment_scan.proofs.AgreementLemmas.{agreeing_same}
 use Rattle.segment_scan.proofs.DocLemmas.{filter_both, rows_filtered}
 use Rattle.segment_scan.proofs.IndexImage.{again, place_at}

@@ -18,7 +18,8 @@ use Rattle.segment_file.specs.Heads.{Seen}
 use Rattle.segment_plan.specs.declared.plans.IndexChoice.{IndexChoice}
 use Rattle.segment_plan.specs.declared.plans.IndexChoice.TheVariants.{Unindexed, Sorted, Inverted, Range}
 use Rattle.segment_scan.specs.Indexes.{AreInBoth, AreLeft, Leaves, LeavesBy, LogsAt, LogsAtPartly, LogsIndexed, LogsIndexedPartly, OfEach, TellsIndexed, all_leave, leaves}
-use Rattle.segment_scan.specs.Served.{Chosen, choice_at, indexed, is_indexed}
+use Rattle.coded_scan.specs.Served.{choice_at}
+use Rattle.segment_scan.specs.Served.{Chosen, indexed, is_indexed}
 use Rattle.segment_scan.proofs.DocLemmas.{has_own}
 
 and_true : (x : Bool) → (x && true) ≡ x

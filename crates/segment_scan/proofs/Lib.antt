@@ -1,6 +1,3 @@
-pub mod CodedLemmas
-pub mod RowFilterLemmas
-pub mod AddSteps
 pub mod ServedLemmas
 pub mod DocLemmas
 pub mod PickSteps
@@ -9,10 +6,6 @@ pub mod PickLemmas
 pub mod SeriesLemmas
 pub mod OrderLemmas
 pub mod LeftLemmas
-pub mod RankSteps
-pub mod SlotLemmas
-pub mod FoldSteps
-pub mod MergeSteps
 pub mod ScanLemmas
 pub mod AgreementLemmas
 pub mod ImageLemmas

@@ -15,7 +15,8 @@ use Rattle.segment_file.specs.Heads.{Seen}
 use Rattle.segment_plan.specs.declared.plans.IndexChoice.{IndexChoice}
 use Rattle.segment_plan.specs.declared.plans.IndexChoice.TheVariants.{Unindexed, Sorted, Inverted, Range}
 use Rattle.segment_scan.specs.Indexes.{AddsUnsure, HasUnsure, is_unsure}
-use Rattle.segment_scan.specs.Served.{choice_at, indexed, is_indexed, is_served, sure_choices, unserved}
+use Rattle.coded_scan.specs.Served.{choice_at, is_served, unserved}
+use Rattle.segment_scan.specs.Served.{indexed, is_indexed, sure_choices}
 use Rattle.segment_scan.proofs.DocLemmas.{filter_both, listed}
 use Rattle.segment_scan.proofs.LeftLemmas.{one_chosen}
 

@@ -15,7 +15,7 @@ use Rattle.segment_scan.specs.Bytes.{GrowsBy, most_bytes}
 use Rattle.segment_scan.specs.Picked.{LogsPicked, LogsPickedPartly}
 use Rattle.segment_scan.specs.Scans.{columns_read}
 use Rattle.segment_scan.specs.Series.{LogsPartOf, LogsTo}
-use Rattle.segment_scan.specs.Served.{rest_of}
+use Rattle.coded_scan.specs.Served.{rest_of}
 
 -- those of the rows of documents that satisfy the conjuncts that are not served
 abbrev pub selected_docs : BoundQuery → List IndexChoice → Files → Seen → List Bool → List ℕ → List (List Value)

@@ -27,7 +27,8 @@ use Rattle.segment_scan.specs.Documents.{LogsDocs, LogsDocsPartly, selected_docs
 use Rattle.segment_scan.specs.Forward.{HasIds, IsReadable, LogsColumns, LogsSome}
 use Rattle.segment_scan.specs.Indexes.{AreLeft, HasUnsure, IsBadAny, LogsAt, LogsAtPartly, OfEach, TellsIndexed, all_leave, is_unsure, leaves}
 use Rattle.segment_scan.specs.Series.{LogsPartOf, LogsTo}
-use Rattle.segment_scan.specs.Served.{Chosen, all_left, choice_at, indexed, is_indexed, rest_of, rows_left, sure_choices}
+use Rattle.coded_scan.specs.Served.{choice_at, rest_of}
+use Rattle.segment_scan.specs.Served.{Chosen, all_left, indexed, is_indexed, rows_left, sure_choices}
 use Rattle.segment_scan.specs.Named.{query_names}
 use Rattle.segment_scan.specs.Scans.{columns_read, selected_read, table_read}
 

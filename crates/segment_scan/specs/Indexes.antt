@@ -23,7 +23,8 @@ use Rattle.segment_plan.specs.Matched.{values_in}
 use Rattle.segment_plan.specs.declared.plans.IndexChoice.{IndexChoice}
 use Rattle.segment_plan.specs.declared.plans.IndexChoice.TheVariants.{Sorted, Inverted, Range}
 use Rattle.segment_scan.specs.Forward.{count_in}
-use Rattle.segment_scan.specs.Served.{Chosen, choice_at, first_of, is_indexed, is_near, last_of}
+use Rattle.coded_scan.specs.Served.{choice_at}
+use Rattle.segment_scan.specs.Served.{Chosen, first_of, is_indexed, is_near, last_of}
 
 -- the section of a column of a kind
 abbrev pub part_of : ListKind → ℕ → Part

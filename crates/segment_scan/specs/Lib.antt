@@ -1,6 +1,3 @@
-pub mod Coded
-pub mod Slots
-pub mod RowFilters
 pub mod Faults
 pub mod Forward
 pub mod Scans

@@ -1,4 +1,4 @@
--- The conjuncts of a query whose rows are found by an index, those that are tested row by row, and the rows that are left.
+-- The conjuncts of a query whose rows are found by an index, and the rows that are left.
 use Rattle.std.specs.Prelude.{ℕ, Bool, true, false, ◌-◌, List, [], ◌∷◌, length, map, get_or, if◌then◌else◌}
 use Rattle.std.specs.List.{filter, list_all}
 use Rattle.values.specs.declared.test.Test.{Test}
@@ -14,13 +14,7 @@ use Rattle.table_schema.specs.Conditions.{conjunct_holds}
 use Rattle.segment_file.specs.Columns.{place_of, values_in}
 use Rattle.segment_file.specs.Ordered.{value_in}
 use Rattle.segment_plan.specs.declared.plans.IndexChoice.{IndexChoice}
-use Rattle.segment_plan.specs.declared.plans.IndexChoice.TheVariants.{Unindexed, Sorted, Inverted, Range}
-
--- a conjunct is served where an index tells just its rows; of those that a range index leaves some are to be checked
-abbrev pub is_served : IndexChoice → Conjunct → Bool
-is_served Sorted (One column test) = true
-is_served Inverted (One column test) = true
-is_served choice conjunct = false
+use Rattle.segment_plan.specs.declared.plans.IndexChoice.TheVariants.{Sorted, Inverted, Range}
 
 -- a conjunct is indexed where it is served or has a range index
 abbrev pub is_indexed : IndexChoice → Conjunct → Bool
@@ -37,16 +31,6 @@ sure_choice choice = choice
 abbrev pub sure_choices : List IndexChoice → List IndexChoice
 sure_choices choices = map sure_choice choices
 
--- the choice of the conjunct at a place; without one its rows are looked at
-abbrev pub choice_at : List IndexChoice → ℕ → IndexChoice
-choice_at choices at = get_or choices at Unindexed
-
--- the conjuncts that are not served
-abbrev pub unserved : List IndexChoice → List Conjunct → List Conjunct
-unserved [] conjuncts = conjuncts
-unserved (choice ∷ choices) [] = []
-unserved (choice ∷ choices) (conjunct ∷ conjuncts) = if is_served choice conjunct then unserved choices conjuncts else conjunct ∷ unserved choices conjuncts
-
 -- a conjunct with its choice
 pub record Chosen : Type 0 where
   pub choice : IndexChoice
@@ -57,10 +41,6 @@ abbrev pub indexed : List IndexChoice → List Conjunct → List Chosen
 indexed [] conjuncts = []
 indexed (choice ∷ choices) [] = []
 indexed (first ∷ choices) (other ∷ conjuncts) = if is_indexed first other then record { choice = first; conjunct = other } ∷ indexed choices conjuncts else indexed choices conjuncts
-
--- the query that is left for the rows that the indexes leave
-abbrev pub rest_of : BoundQuery → List IndexChoice → BoundQuery
-rest_of query choices = record query { conjuncts = unserved choices query.conjuncts }
 
 -- ---- the rows that are left
 

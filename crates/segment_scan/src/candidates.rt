@@ -4,7 +4,7 @@ ghost use Rattle.std.specs.Prelude.{◌≡◌, ◌≤◌, ℕ, List, Err, IfOk, 
 ghost use Rattle.outside.specs.Seen.{OnlyReads, seen};
 ghost use Rattle.segment_file.specs.declared.part.Part.{Part};
 ghost use Rattle.segment_file.specs.declared.part.Part.TheVariants.{Range};
-ghost use Rattle.segment_scan.specs.Coded.{most_rows};
+ghost use Rattle.coded_scan.specs.Coded.{most_rows};
 ghost use Rattle.segment_scan.specs.Faults.{list_fault};
 ghost use Rattle.segment_scan.specs.Indexes.{AddsUnsure, AreEndsOf, AreInBoth, HasUnsure, IsBadAny, IsBadIndex, IsFoundBy, IsFoundNear, IsIndexed, IsRanged, IsReady, Leaves, LeavesBy, LogsAt, LogsAtPartly, LogsIndex, LogsIndexPartly, LogsIndexed, LogsIndexedPartly, LogsRange, LogsRangePartly, OfEach, TellsBuckets, TellsIds, part_of};
 ghost use Rattle.segment_scan.specs.Series.{LogsPartOf, LogsTo};
@@ -12,7 +12,7 @@ ghost use Rattle.segment_scan.specs.Served.{indexed};
 ghost use Rattle.segment_scan.specs.declared.fault.EngineFault.TheVariants.{NotASegment, ReadFault, TooManyGroups};
 
 use crate::EngineFault;
-use crate::serving::choice_at;
+use coded_scan::choice_at;
 use dictionary::IdSet;
 use doc_lists::{DocList, join};
 use index_reading::{ListFault, ListKind, docs_between, docs_of_ids};

@@ -7,7 +7,8 @@ ghost use Rattle.segment_scan.specs.declared.fault.EngineFault.TheVariants.{NoMe
 
 use crate::EngineFault;
 use crate::reading::read_column;
-use outside::{Seq, Shelf};
+use coded_scan::Ids;
+use outside::Shelf;
 use segment_file::Head;
 use std::alloc::Global;
 
@@ -18,7 +19,7 @@ pub fn read_columns<S: Shelf>(
     shelf: &mut S,
     head: &Head,
     named: &[bool],
-) -> Result<Vec<Option<Seq<u32>>>, EngineFault>
+) -> Result<Vec<Option<Ids>>, EngineFault>
     requires few { length named.now ≤ 65535 }
     requires readable { (column : ℕ) → get_or named.now column false ≡ true
         → IsReadable head.now column }
@@ -46,7 +47,7 @@ pub fn read_columns<S: Shelf>(
 }
 
 /// Adds the ids of a column.
-pub fn keep(all: &mut Vec<Option<Seq<u32>>>, ids: Option<Seq<u32>>) -> Result<(), EngineFault>
+pub fn keep(all: &mut Vec<Option<Ids>>, ids: Option<Ids>) -> Result<(), EngineFault>
     ensures ok { OnOk result (all.new.items ≡ all.old.items ++ ids ∷ []) }
     ensures err { IfErr result (λ fault. fault ≡ NoMemory) }
 {
@@ -63,7 +64,7 @@ fn read_named<S: Shelf>(
     head: &Head,
     column: u16,
     is_named: bool,
-) -> Result<Option<Seq<u32>>, EngineFault>
+) -> Result<Option<Ids>, EngineFault>
     requires { is_named ≡ true → IsReadable head.now column }
     ensures ids { IfOk result (IsRead (S.held shelf.old) head.now column is_named) }
     ensures fault { IfErr result (IsFaultAt (S.held shelf.old) head.now column is_named) }

@@ -11,7 +11,7 @@ ghost use Rattle.segment_file.specs.Heads.{IsHeadOf};
 ghost use Rattle.segment_file.specs.declared.part.Part.{Part};
 ghost use Rattle.segment_scan.specs.Documents.{AddsDocs, LogsDocs, LogsDocsPartly, selected_docs};
 ghost use Rattle.segment_scan.specs.Images.{AddsImage, AreDocs, AreLeftFor, AreNamedLoaded, HasUnsureFor, IsBadForward, IsImageOverfull, IsNoImage, LogsParts, LogsPartsPartly, choices_for, names_in, rest_for, sure_for};
-ghost use Rattle.segment_scan.specs.Served.{rest_of};
+ghost use Rattle.coded_scan.specs.Served.{rest_of};
 ghost use Rattle.segment_scan.specs.declared.fault.EngineFault.TheVariants.{NotASegment, ReadFault, TooManyGroups};
 
 use crate::EngineFault;

@@ -3,9 +3,9 @@
 ghost use Rattle.std.specs.Prelude.{◌≡◌, ◌<◌, ◌≤◌, ◌&&◌, ℕ, IfOk, false, get_or, length, not};
 ghost use Rattle.std.specs.List.{list_any};
 ghost use Rattle.segment_scan.specs.Named as spec;
-ghost use Rattle.segment_scan.specs.Served.{is_served, rest_of, unserved};
+ghost use Rattle.coded_scan.specs.Served.{is_served, rest_of, unserved};
 
-use crate::serving::{choice_at, is_served};
+use coded_scan::{choice_at, is_served};
 use segment_plan::IndexChoice;
 use std::alloc::Global;
 use table_schema::{Agg, BoundQuery, Conjunct, Wide};

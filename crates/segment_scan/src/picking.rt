@@ -5,7 +5,7 @@ ghost use Rattle.outside.specs.Seen.{OnlyReads, seen};
 ghost use Rattle.doc_lists.specs.Docs.{Apart, docs_of};
 ghost use Rattle.segment_file.specs.declared.part.Part.TheVariants.{Forward};
 ghost use Rattle.segment_scan.specs.Bytes.{GrowsBy, column_bytes, most_bytes};
-ghost use Rattle.segment_scan.specs.Coded.{most_rows};
+ghost use Rattle.coded_scan.specs.Coded.{most_rows};
 ghost use Rattle.segment_scan.specs.Faults.{IsFaultOf};
 ghost use Rattle.segment_scan.specs.Forward.{HasIds, IsFaultAt, IsFaultIn, IsReadable};
 ghost use Rattle.segment_scan.specs.Picked.{AreIdsAt, IsPicked, LogsIf, LogsIfPartly, LogsPicked, LogsPickedPartly, LogsRuns, LogsRunsPartly};
@@ -16,8 +16,9 @@ use crate::EngineFault;
 use crate::columns::keep;
 use crate::reading::of_column;
 use bit_column::{append_range, width_for};
+use coded_scan::Ids;
 use doc_lists::Run;
-use outside::{Seq, Shelf};
+use outside::Shelf;
 use segment_file::{Head, Part};
 use std::alloc::Global;
 
@@ -31,7 +32,7 @@ pub fn pick_columns<S: Shelf>(
     named: &[bool],
     runs: &[Run],
     count: usize,
-) -> Result<Vec<Option<Seq<u32>>>, EngineFault>
+) -> Result<Vec<Option<Ids>>, EngineFault>
     requires few { length named.now ≤ 65535 }
     requires readable { (column : ℕ) → get_or named.now column false ≡ true
         → IsReadable head.now column }
@@ -81,7 +82,7 @@ fn pick_named<S: Shelf>(
     is_named: bool,
     runs: &[Run],
     count: usize,
-) -> Result<Option<Seq<u32>>, EngineFault>
+) -> Result<Option<Ids>, EngineFault>
     requires readable { is_named ≡ true → IsReadable head.now column }
     requires few_rows { head.now.rows ≤ most_rows }
     requires apart { Apart 0 runs.now }
@@ -116,7 +117,7 @@ pub fn pick_column<S: Shelf>(
     column: u16,
     runs: &[Run],
     count: usize,
-) -> Result<Seq<u32>, EngineFault>
+) -> Result<Ids, EngineFault>
     requires readable { IsReadable head.now column }
     requires few_rows { head.now.rows ≤ most_rows }
     requires apart { Apart 0 runs.now }
@@ -157,5 +158,5 @@ pub fn pick_column<S: Shelf>(
             Err(fault) => return Err(of_column(fault, column)),
         }
     }
-    Ok(Seq::from_vec(ids))
+    Ok(Ids::from_vec(ids))
 }

@@ -12,12 +12,13 @@ ghost use Rattle.segment_scan.specs.declared.fault.EngineFault.TheVariants.{NotA
 
 use crate::EngineFault;
 use bit_column::{ColumnFault, append_range, width_for};
-use outside::{Place, Seq, Shelf};
+use coded_scan::{IdRoom, Ids};
+use outside::{Place, Shelf};
 use segment_file::{Head, Part};
 use std::alloc::Global;
 
 /// Ids are read in blocks of so many, which are whole bytes in any width: beside the ids of a column
-/// there are the bytes of one block.
+/// there are the bytes of one block, and its ids in four bytes each.
 const BLOCK: u32 = 8192;
 
 // The ids of the rows in a column of so many values: its forward section is read, each byte once,
@@ -29,7 +30,7 @@ fn read_ids<S: Shelf>(
     count: u32,
     rows: u32,
     column: u16,
-) -> Result<Seq<u32>, EngineFault>
+) -> Result<Ids, EngineFault>
     ensures ids { IfOk result (λ ids. IfSome (S.held shelf.old) (λ files.
         Readable (width_of count) count 0 rows (section files place.now)
         × (ids ≡ ids_between (width_of count) 0 rows (section files place.now)))) }
@@ -52,10 +53,12 @@ fn read_ids<S: Shelf>(
 {
     let width = width_for(count);
     let mut buffer = Vec::new(alloc);
-    let mut ids = Vec::with_capacity(alloc, rows as usize)?;
+    let mut block = Vec::new(alloc);
+    let mut room = IdRoom::for_values(alloc, count, rows as usize)?;
     for at in 0..rows / BLOCK + 1 {
         let from = at * BLOCK;
         let to = block_end(from, rows);
+        block.clear();
         match append_range(
             alloc,
             shelf,
@@ -65,13 +68,14 @@ fn read_ids<S: Shelf>(
             from,
             to,
             &mut buffer,
-            &mut ids,
+            &mut block,
         ) {
             Ok(()) => {}
             Err(fault) => return Err(of_column(fault, column)),
         }
+        room.append(&block)?;
     }
-    Ok(Seq::from_vec(ids))
+    Ok(room.into_ids())
 }
 
 // The end of the block of ids that begins with one of so many.
@@ -104,7 +108,7 @@ pub fn read_column<S: Shelf>(
     shelf: &mut S,
     head: &Head,
     column: u16,
-) -> Result<Seq<u32>, EngineFault>
+) -> Result<Ids, EngineFault>
     requires { IsReadable head.now column }
     ensures ids { IfOk result (AreIdsOf (S.held shelf.old) head.now column) }
     ensures bad { IsErrOf result (NotASegment (Forward column)) →

@@ -8,17 +8,16 @@ ghost use Rattle.scan_engine.specs.Scanned.{HaveAtMost, IsOverfull};
 ghost use Rattle.segment_file.specs.Heads.{IsLoaded};
 ghost use Rattle.segment_file.specs.declared.part.Part.{Part};
 ghost use Rattle.segment_file.specs.declared.part.Part.TheVariants.{Forward};
-ghost use Rattle.segment_scan.specs.Coded.{most_rows};
+ghost use Rattle.coded_scan.specs.Coded.{most_rows};
 ghost use Rattle.segment_scan.specs.Forward.{HasIds, IsReadable, LogsColumns, LogsSome};
 ghost use Rattle.segment_scan.specs.Scans.{AddsSegment, IsCodedOf, selected_read};
 ghost use Rattle.segment_scan.specs.declared.fault.EngineFault.TheVariants.{NotASegment, ReadFault, TooManyGroups};
 
 use crate::EngineFault;
-use crate::adding::add_segment;
-use crate::coded::{Coded, SegmentColumns};
 use crate::columns::read_columns;
+use coded_scan::{Coded, Ids, SegmentColumns, add_segment};
 use group_table::{GroupTable, TableFault};
-use outside::{Seq, Shelf};
+use outside::Shelf;
 use segment_file::Head;
 use std::alloc::Global;
 use table_schema::BoundQuery;
@@ -77,7 +76,7 @@ pub fn scan_columns<S: Shelf>(
 pub fn coded_columns<'a>(
     alloc: Global,
     head: &'a Head,
-    ids: &'a [Option<Seq<u32>>],
+    ids: &'a [Option<Ids>],
 ) -> Result<Vec<Option<Coded<'a>>>, NoMemory>
     requires few { length ids.now ≤ 65535 }
     requires loaded { (column : ℕ) → (list : List ℕ) → column < length ids.now
@@ -95,14 +94,14 @@ pub fn coded_columns<'a>(
 }
 
 // The ids of a column beside its dictionary.
-fn coded_column<'a>(head: &'a Head, column: u16, ids: &'a Option<Seq<u32>>) -> Option<Coded<'a>>
+fn coded_column<'a>(head: &'a Head, column: u16, ids: &'a Option<Ids>) -> Option<Coded<'a>>
     requires { (list : List ℕ) → ids.now ≡ Some list → IsLoaded head.now column }
     ensures { IsCodedOf head.now column ids.now result }
 {
     match ids {
         Some(ids) => Some(Coded {
             dictionary: head.dictionary(column),
-            ids: ids.as_slice(),
+            ids,
         }),
         None => None,
     }

@@ -1,32 +1,11 @@
-//! Whether an index tells the rows of a conjunct.
+//! Of which conjuncts the documents are sure.
 
 ghost use Rattle.std.specs.Prelude.{◌≡◌, IfOk};
 ghost use Rattle.segment_scan.specs.Served as spec;
 
 use segment_plan::IndexChoice;
 use std::alloc::Global;
-use table_schema::Conjunct;
 use values::NoMemory;
-
-/// The choice of the conjunct at a place.
-pub fn choice_at(choices: &[IndexChoice], at: usize) -> IndexChoice
-    ensures { result ≡ spec.choice_at choices.now at }
-{
-    match choices.get(at) {
-        Some(choice) => *choice,
-        None => IndexChoice::Unindexed,
-    }
-}
-
-/// An index tells just the rows of the conjunct.
-pub fn is_served(choice: IndexChoice, conjunct: &Conjunct) -> bool
-    ensures { result ≡ spec.is_served choice conjunct.now }
-{
-    match (choice, conjunct) {
-        (IndexChoice::Sorted | IndexChoice::Inverted, Conjunct::One(_, _)) => true,
-        (_, _) => false,
-    }
-}
 
 /// The choices for documents that are not to be checked.
 pub fn sure_choices(alloc: Global, choices: &[IndexChoice]) -> Result<Vec<IndexChoice>, NoMemory>

@@ -7,7 +7,8 @@ use Rattle.segment_file.specs.Heads.{Seen}
 use Rattle.segment_plan.specs.declared.plans.IndexChoice.{IndexChoice}
 use Rattle.segment_scan.specs.Indexes.{AddsUnsure, IsBadIndex, IsReady, Leaves, LeavesBy, LogsAt, LogsAtPartly, LogsIndexed, LogsIndexedPartly}
 use Rattle.segment_scan.specs.Series.{LogsTo}
-use Rattle.segment_scan.specs.Served.{choice_at, indexed}
+use Rattle.coded_scan.specs.Served.{choice_at}
+use Rattle.segment_scan.specs.Served.{indexed}
 use Rattle.segment_scan.specs.declared.fault.EngineFault.{EngineFault}
 use Rattle.segment_scan.specs.declared.fault.EngineFault.TheVariants.{ReadFault}
 use Rattle.segment_scan.proofs.FaultLemmas.{reads_next}

@@ -8,13 +8,13 @@ use Rattle.scan_engine.specs.Scanned.{selected}
 use Rattle.scan_engine.proofs.AddLemmas.{at_most_more}
 use Rattle.scan_engine.proofs.RunLemmas.{adds_as_more}
 use Rattle.segment_file.specs.Heads.{Seen}
-use Rattle.segment_scan.specs.declared.coded.Coded.{Coded}
-use Rattle.segment_scan.specs.declared.coded.SegmentColumns.{SegmentColumns}
-use Rattle.segment_scan.specs.Coded.{table_of}
+use Rattle.coded_scan.specs.declared.coded.Coded.{Coded}
+use Rattle.coded_scan.specs.declared.coded.SegmentColumns.{SegmentColumns}
+use Rattle.coded_scan.specs.Coded.{table_of}
 use Rattle.segment_scan.specs.Documents.{LogsDocsPartly}
 use Rattle.segment_scan.specs.Picked.{IsPicked, LogsPicked, LogsPickedPartly}
 use Rattle.segment_scan.specs.Scans.{IsCodedOf}
-use Rattle.segment_scan.specs.Served.{rest_of}
+use Rattle.coded_scan.specs.Served.{rest_of}
 use Rattle.segment_scan.proofs.LogLemmas.{err_is}
 use Rattle.segment_scan.proofs.PickLemmas.{docs-coded, docs-overfull, docs-read, docs_few, picked-of}
 use Rattle.segment_scan.proofs.SeriesLemmas.{series_all}

@@ -7,7 +7,8 @@ use Rattle.scan_engine.proofs.AddLemmas.{at_most_more}
 use Rattle.segment_file.specs.Heads.{Seen}
 use Rattle.segment_scan.specs.Documents.{AddsDocs, LogsDocs, LogsDocsPartly, selected_docs}
 use Rattle.segment_scan.specs.Images.{AreDocs, AreParts, IsBadForward, IsNoImage, LogsPartsPartly, choices_for, names_in, rest_for, sure_for}
-use Rattle.segment_scan.specs.Served.{rest_of, sure_choices}
+use Rattle.coded_scan.specs.Served.{rest_of}
+use Rattle.segment_scan.specs.Served.{sure_choices}
 use Rattle.segment_scan.specs.declared.fault.EngineFault.{EngineFault}
 use Rattle.segment_scan.specs.declared.fault.EngineFault.TheVariants.{NotASegment, TooManyGroups}
 use Rattle.segment_scan.proofs.LeftImage.{PartsFit, check_full, left_docs, left_image, no_parts, parts_fit, sure_full, sure_names}

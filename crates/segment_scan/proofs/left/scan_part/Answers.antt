@@ -4,7 +4,7 @@ use Rattle.segment_file.specs.Heads.{Seen}
 use Rattle.scan_engine.specs.Scanned.{IsOverfull}
 use Rattle.segment_scan.specs.Documents.{AddsDocs, LogsDocs, LogsDocsPartly, selected_docs}
 use Rattle.segment_scan.specs.Images.{names_in}
-use Rattle.segment_scan.specs.Served.{rest_of}
+use Rattle.coded_scan.specs.Served.{rest_of}
 use Rattle.segment_scan.proofs.ImageLemmas.{loaded_readable}
 use Rattle.segment_scan.proofs.LeftImage.{bad_left, marks_left, rest_loaded}
 use Rattle.segment_scan.proofs.LogLemmas.{err_is}

@@ -3,8 +3,8 @@ use Rattle.std.proofs.lemmas.List.{drop_all}
 use Rattle.std.specs.List.{list_any}
 use Rattle.table_schema.specs.declared.query.Conjunct.{Conjunct}
 use Rattle.segment_scan.specs.Named.{conjunct_names}
-use Rattle.segment_scan.specs.Served.{unserved}
-use Rattle.segment_scan.proofs.ServedLemmas.{none_unserved}
+use Rattle.coded_scan.specs.Served.{unserved}
+use Rattle.coded_scan.proofs.ServedLemmas.{none_unserved}
 use Rattle.segment_scan.proofs.named.conjuncts_name.Goals as goal
 
 pub returns : goal.returns

@@ -1,7 +1,7 @@
 use Rattle.std.proofs.Common.{◌≡◌, drop}
 use Rattle.std.specs.List.{list_any}
 use Rattle.segment_scan.specs.Named.{conjunct_names}
-use Rattle.segment_scan.specs.Served.{unserved}
+use Rattle.coded_scan.specs.Served.{unserved}
 use Rattle.segment_scan.proofs.named.conjuncts_name.Given as goal
 
 abbrev pub invariant-loop-at : goal.invariant-loop-at

@@ -1,6 +1,6 @@
 use Rattle.std.proofs.Common.{◌≡◌, ◌<◌, ℕ, false, get_or, length}
 use Rattle.segment_scan.specs.Named.{query_names}
-use Rattle.segment_scan.specs.Served.{rest_of}
+use Rattle.coded_scan.specs.Served.{rest_of}
 use Rattle.segment_scan.proofs.named.named_columns.Given as goal
 
 abbrev pub invariant-loop-column : goal.invariant-loop-column

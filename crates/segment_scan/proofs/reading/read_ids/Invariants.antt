@@ -1,7 +1,11 @@
-use Rattle.std.proofs.Common.{ℕ, ◌*◌, min}
+use Rattle.std.proofs.Common.{ℕ, ◌*◌, ◌<◌, min}
 use Rattle.outside.specs.Seen.{seen}
+use Rattle.coded_scan.specs.Ids.{HasRoom, ids_in}
 use Rattle.segment_scan.proofs.BlockSteps.{BlockStep}
 use Rattle.segment_scan.proofs.reading.read_ids.Given as goal
 
 abbrev pub invariant-loop-at : goal.invariant-loop-at
-invariant-loop-at g l = BlockStep l.place l.width l.count (min (l.at * 8192) l.rows) (seen g.S.Shelf l.fn.shelf) (seen g.S.Shelf l.shelf) l.ids.items
+invariant-loop-at g l = record {
+  step : BlockStep l.place l.width l.count (min (l.at * 8192) l.rows) (seen g.S.Shelf l.fn.shelf) (seen g.S.Shelf l.shelf) (ids_in l.room);
+  has : (id : ℕ) → id < l.count → HasRoom l.room id;
+}

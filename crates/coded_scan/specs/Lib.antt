@@ -1,0 +1,5 @@
+pub mod Ids
+pub mod Coded
+pub mod Slots
+pub mod RowFilters
+pub mod Served

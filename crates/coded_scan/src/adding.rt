@@ -1,0 +1,181 @@
+//! The rows of a segment, added to the groups of a query.
+
+ghost use Rattle.std.specs.Prelude.{◌≡◌, ◌-◌, ◌+◌, ◌≤◌, Err, IfOk, OnOk, length};
+ghost use Rattle.agg_laws.specs.Numbers.{most_values};
+ghost use Rattle.values.specs.Columns.{rows_of};
+ghost use Rattle.group_table.specs.declared.fault.TableFault.TheVariants.{TooManyGroups};
+ghost use Rattle.group_table.specs.Kept.{IsTableOf, groups_in};
+ghost use Rattle.scan_engine.specs.Scanned.{AddsRows, HaveAtMost, IsOverfull, selected};
+ghost use Rattle.coded_scan.specs.Coded.{AreCoded, table_of};
+ghost use Rattle.coded_scan.specs.Served.{rest_of};
+ghost use Rattle.coded_scan.specs.RowFilters.{AllCover, all_let, passing};
+ghost use Rattle.dictionary.specs.Coding.{AreBelow};
+ghost use Rattle.scan_engine.specs.Places.{rows_at};
+
+use crate::coded::SegmentColumns;
+use crate::merging::add_places;
+use crate::row_filter::{RowFilter, row_filters_of};
+use crate::selection::{Block, push_block};
+use group_table::{GroupTable, TableFault};
+use segment_plan::IndexChoice;
+use std::alloc::Global;
+use table_schema::BoundQuery;
+
+/// Rows are looked at in blocks of so many.
+const BLOCK: usize = 4096;
+
+/// Rows are added to the groups once there are so many places, or so many for each group that there is by
+/// then: a group is merged once for these rows, and a place takes little beside a group.
+const FEW_PLACES: usize = 8192;
+
+const PLACES_A_GROUP: usize = 10;
+
+/// Adds the rows of a segment that satisfy those of a query's conjuncts that are not served to its
+/// groups.
+pub fn add_segment(
+    alloc: Global,
+    query: &BoundQuery,
+    choices: &[IndexChoice],
+    segment: &SegmentColumns<'_>,
+    table: &mut GroupTable,
+) -> Result<(), TableFault>
+    requires coded { AreCoded segment.now }
+    requires table { IsTableOf query.now table.old }
+    requires fits { HaveAtMost (most_values - segment.now.count) (groups_in table.old) }
+    ensures ok { OnOk result (AddsRows query.now segment.now.count
+        (selected (rest_of query.now choices.now) (rows_of (table_of segment.now)))
+        table.old table.new) }
+    ensures full { result ≡ Err TooManyGroups → IsOverfull query.now
+        (selected (rest_of query.now choices.now) (rows_of (table_of segment.now))) table.old }
+{
+    let row_filters = row_filters_of(alloc, segment, query.conjuncts.as_slice(), choices)?;
+    add_blocks(alloc, query, segment, row_filters.as_slice(), table)
+}
+
+// Adds the rows of a segment that conditions let through.
+fn add_blocks(
+    alloc: Global,
+    query: &BoundQuery,
+    segment: &SegmentColumns<'_>,
+    row_filters: &[RowFilter<'_>],
+    table: &mut GroupTable,
+) -> Result<(), TableFault>
+    requires coded { AreCoded segment.now }
+    requires covers { AllCover segment.now.count row_filters.now }
+    requires table { IsTableOf query.now table.old }
+    requires fits { HaveAtMost (most_values - segment.now.count) (groups_in table.old) }
+    ensures ok { OnOk result (AddsRows query.now segment.now.count
+        (rows_at (table_of segment.now).columns
+        (passing (λ at. all_let at row_filters.now) 0 segment.now.count)) table.old table.new) }
+    ensures full { result ≡ Err TooManyGroups → IsOverfull query.now
+        (rows_at (table_of segment.now).columns
+        (passing (λ at. all_let at row_filters.now) 0 segment.now.count)) table.old }
+{
+    let mut places = Vec::with_capacity(alloc, FEW_PLACES.min(segment.count) + BLOCK)?;
+    let mut from = 0;
+    let mut done = 0;
+    for _ in 0..segment.count / BLOCK + 1 {
+        let block = block_from(from, segment.count);
+        match add_block(
+            alloc,
+            query,
+            segment,
+            row_filters,
+            block,
+            done,
+            &mut places,
+            table,
+        ) {
+            Ok(next) => done = next,
+            Err(fault) => return Err(fault),
+        }
+        from += block.length;
+    }
+    add_some(alloc, query, segment, places.as_slice(), table)
+}
+
+// The block that begins with a row.
+fn block_from(from: usize, count: usize) -> Block
+    requires { from ≤ count }
+    ensures from { result.from ≡ from }
+    ensures within { from + result.length ≤ count }
+    ensures left { count - (from + result.length) ≤ count - from - 4096 }
+{
+    let left = count - from;
+    if left < BLOCK {
+        return Block { from, length: left };
+    }
+    Block {
+        from,
+        length: BLOCK,
+    }
+}
+
+// Adds a place for each row of a block that conditions let through, and where there are many places
+// the rows in them; gives up to which row these are added.
+fn add_block(
+    alloc: Global,
+    query: &BoundQuery,
+    segment: &SegmentColumns<'_>,
+    row_filters: &[RowFilter<'_>],
+    block: Block,
+    done: usize,
+    places: &mut Vec<u32>,
+    table: &mut GroupTable,
+) -> Result<usize, TableFault>
+    requires coded { AreCoded segment.now }
+    requires covers { AllCover segment.now.count row_filters.now }
+    requires within { block.from + block.length ≤ segment.now.count }
+    requires table { IsTableOf query.now table.old }
+    requires fits { HaveAtMost (most_values - segment.now.count + done) (groups_in table.old) }
+    requires done { done ≤ block.from }
+    requires places { places.old.items
+        ≡ passing (λ at. all_let at row_filters.now) done (block.from - done) }
+    ensures next { IfOk result (λ next. next ≤ block.from + block.length) }
+    ensures from { IfOk result (λ next. done ≤ next) }
+    ensures places { IfOk result (λ next. places.new.items
+        ≡ passing (λ at. all_let at row_filters.now) next (block.from + block.length - next)) }
+    ensures ok { IfOk result (λ next. AddsRows query.now (next - done)
+        (rows_at (table_of segment.now).columns
+        (passing (λ at. all_let at row_filters.now) done (next - done))) table.old table.new) }
+    ensures full { result ≡ Err TooManyGroups → IsOverfull query.now
+        (rows_at (table_of segment.now).columns
+        (passing (λ at. all_let at row_filters.now) done (block.from + block.length - done)))
+        table.old }
+{
+    push_block(alloc, row_filters, segment.count, block, places)?;
+    let most = FEW_PLACES.max(table.groups() as usize * PLACES_A_GROUP);
+    if places.len() < most {
+        return Ok(done);
+    }
+    match add_some(alloc, query, segment, places.as_slice(), table) {
+        Ok(()) => {}
+        Err(fault) => return Err(fault),
+    }
+    places.clear();
+    Ok(block.from + block.length)
+}
+
+// Adds the rows in these places, if there are some.
+fn add_some(
+    alloc: Global,
+    query: &BoundQuery,
+    segment: &SegmentColumns<'_>,
+    places: &[u32],
+    table: &mut GroupTable,
+) -> Result<(), TableFault>
+    requires coded { AreCoded segment.now }
+    requires table { IsTableOf query.now table.old }
+    requires few { length places.now ≤ segment.now.count }
+    requires rows { AreBelow segment.now.count places.now }
+    requires fits { HaveAtMost (most_values - length places.now) (groups_in table.old) }
+    ensures ok { OnOk result (AddsRows query.now (length places.now)
+        (rows_at (table_of segment.now).columns places.now) table.old table.new) }
+    ensures full { result ≡ Err TooManyGroups
+        → IsOverfull query.now (rows_at (table_of segment.now).columns places.now) table.old }
+{
+    if places.is_empty() {
+        return Ok(());
+    }
+    add_places(alloc, query, segment, places, table)
+}
