@@ -152,14 +152,20 @@ module _ (place : Place) (width count rows at : ℕ) (first now : Seen) (ids : L
   even : at * 8192 ≡ 8 * (at * 1024)
   even = omega arith
 
-  pub blocks_next : (to : ℕ) (next : Seen) (block new : List ℕ) → at < rows / 8192 + 1 → to ≡ min (at * 8192 + 8192) rows → BlocksRead → OnlyReads ⊥ now next
-      → LogsOn place.file (place.offset + first_byte width (at * 8192)) (place.offset + end_byte width (at * 8192) to) now.log next.log → AppendsRange now.held place width count (at * 8192) to [] block
+  pub blocks_next : (to : ℕ) (next : Seen) (none block new : List ℕ) → none ≡ [] → at < rows / 8192 + 1 → to ≡ min (at * 8192 + 8192) rows → BlocksRead → OnlyReads ⊥ now next
+      → LogsOn place.file (place.offset + first_byte width (at * 8192)) (place.offset + end_byte width (at * 8192) to) now.log next.log → AppendsRange now.held place width count (at * 8192) to none block
       → new ≡ ids ++ block → BlockStep place width count (min ((at + 1) * 8192) rows) first next new
-  blocks_next to next block new lt is step reads logs appends added =
+  blocks_next to next none block new empty lt is step reads logs appends added =
       let same : to ≡ min ((at + 1) * 8192) rows = omega (arith, is) in
       subst (λ n. BlockStep place width count n first next new) same
       (block_next place width count (at * 1024) (at * 8192) to first now next ids new even (omega (arith, is, lt)) (begun lt step) reads logs
-      (record appends { appended = added ∙ ap (λ (l : List ℕ). ids ++ l) appends.appended }))
+      (record {
+        ids = appends.ids;
+        appended = added ∙ ap (λ (l : List ℕ). ids ++ l) (appends.appended ∙ ap (λ (l : List ℕ). l ++ appends.ids) empty);
+        number = appends.number;
+        below = appends.below;
+        told = appends.told;
+      }))
 
   pub blocks_partly : (to : ℕ) (next : Seen) → at < rows / 8192 + 1 → to ≡ min (at * 8192 + 8192) rows → BlocksRead
       → LogsUpTo place.file (place.offset + first_byte width (at * 8192)) (place.offset + end_byte width (at * 8192) to) now.log next.log
@@ -183,9 +189,10 @@ module _ (place : Place) (width count rows at : ℕ) (first now : Seen) (ids : L
   blocks_end ge step = let all : min (at * 8192) rows ≡ rows = omega (arith, ge) in subst (λ n. BlockStep place width count n first now ids) all step
 
 -- each id of a block has room where all ids of the column have
-pub block_fits : (held : Option Files) (place : Place) (width count from to : ℕ) (room : IdRoom) (block : List ℕ) → ((id : ℕ) → id < count → HasRoom room id) → AppendsRange held place width count from to [] block → All (HasRoom room) block
-block_fits held place width count from to room block has a =
-    λ j d lt. has (get_or block j d) (subst (λ (l : List ℕ). get_or l j d < count) (sym a.appended) (a.below j d (omega (arith, lt, ap length a.appended))))
+pub block_fits : (held : Option Files) (place : Place) (width count from to : ℕ) (room : IdRoom) (none block : List ℕ) → none ≡ [] → ((id : ℕ) → id < count → HasRoom room id) → AppendsRange held place width count from to none block → All (HasRoom room) block
+block_fits held place width count from to room none block empty has a =
+    let same : block ≡ a.ids = a.appended ∙ ap (λ (l : List ℕ). l ++ a.ids) empty in
+    λ j d lt. has (get_or block j d) (subst (λ (l : List ℕ). get_or l j d < count) (sym same) (a.below j d (omega (arith, lt, ap length same))))
 
 -- no block was read
 pub blocks_none : (place : Place) (width rows : ℕ) (log : Option (List Entry)) → LogsUpTo place.file (place.offset + first_byte width 0) (place.offset + end_byte width 0 rows) log log

@@ -1,4 +1,4 @@
-use Rattle.std.proofs.Common.{◌≡◌, ◌∙◌, ◌*◌, ◌+◌, ℕ, List, IfSome, refl, subst, sym}
+use Rattle.std.proofs.Common.{◌≡◌, ◌∙◌, ◌*◌, ◌+◌, ◌++◌, ℕ, All, List, IfSome, ap, refl, subst, sym}
 use Rattle.outside.specs.Reads.{LogsOn, LogsUpTo}
 use Rattle.outside.specs.Seen.{Seen, seen}
 use Rattle.outside.specs.declared.place.Place.{Place}
@@ -6,7 +6,7 @@ use Rattle.bit_column.specs.Column.{ids_between, width_of}
 use Rattle.bit_column.specs.Sections.{Readable, end_byte, first_byte, section}
 use Rattle.bit_column.specs.declared.fault.ColumnFault.{ColumnFault}
 use Rattle.bit_column.specs.declared.fault.ColumnFault.TheVariants as columns
-use Rattle.coded_scan.specs.Ids.{ids_in}
+use Rattle.coded_scan.specs.Ids.{HasRoom, ids_in}
 use Rattle.segment_scan.proofs.BlockSteps.{block_fits, blocks_bad, blocks_end, blocks_next, blocks_none, blocks_partly, blocks_start, blocks_upto}
 use Rattle.segment_scan.proofs.FaultLemmas.{column_bad, reads_well}
 use Rattle.segment_scan.proofs.LogLemmas.{err_is}
@@ -36,6 +36,16 @@ returns-in-Err-clause-log_of_fault g c =
     (blocks_partly place c.width_for-width.result c.args.count c.args.rows c.loop-at.at first (seen g.S.Shelf c.loop-at.shelf) (ids_in c.loop-at.room) c.block_end-to.result next c.loop-at-test.true c.block_end-to.ensures c.loop-at.invariant.step
     c.in-Err.ensures.log_of_fault)
 
+pub returns-in_err-append-clause-log_of_fault : goal.returns-in_err-append-clause-log_of_fault
+returns-in_err-append-clause-log_of_fault g c =
+    let place : Place = c.args.place.now in
+    let first : Seen = seen g.S.Shelf c.args.shelf.now in
+    let next : Seen = seen g.S.Shelf c.append_range.new.shelf in
+    err_is c.from_residual-in_err-append.result (LogsUpTo place.file (place.offset + first_byte (width_of c.args.count) 0) (place.offset + end_byte (width_of c.args.count) 0 c.args.rows) first.log next.log)
+    (subst (λ w. LogsUpTo place.file (place.offset + first_byte w 0) (place.offset + end_byte w 0 c.args.rows) first.log next.log) c.width_for-width.ensures.width
+    (blocks_upto place c.width_for-width.result c.args.count c.args.rows c.loop-at.at first (seen g.S.Shelf c.loop-at.shelf) (ids_in c.loop-at.room) c.block_end-to.result next c.loop-at-test.true c.block_end-to.ensures c.loop-at.invariant.step
+    c.in-Ok.ensures.log))
+
 pub loop-at-init : goal.loop-at-init
 loop-at-init g c = record {
   step = blocks_start c.args.place.now c.width_for-width.result c.args.count c.args.rows 0 (seen g.S.Shelf c.args.shelf.now) (ids_in c.in_ok-room.room) refl c.in_ok-room.ensures.none;
@@ -44,15 +54,16 @@ loop-at-init g c = record {
 
 pub append-requires : goal.append-requires
 append-requires g c =
-    block_fits (seen g.S.Shelf c.loop-at.shelf).held c.args.place.now c.width_for-width.result c.args.count (c.loop-at.at * 8192) c.block_end-to.result c.loop-at.room c.append_range.new.block.items c.loop-at.invariant.has c.in-Ok.ensures.ids
+    subst (All (HasRoom c.loop-at.room)) (sym c.deref.ensures.value)
+    (block_fits (seen g.S.Shelf c.loop-at.shelf).held c.args.place.now c.width_for-width.result c.args.count (c.loop-at.at * 8192) c.block_end-to.result c.loop-at.room c.clear.new.self.items c.append_range.new.ids.items c.clear.ensures.items c.loop-at.invariant.has c.in-Ok.ensures.ids)
 
 pub loop-at-preserved : goal.loop-at-preserved
 loop-at-preserved g c =
     let now : Seen = seen g.S.Shelf c.loop-at.shelf in
     let next : Seen = seen g.S.Shelf c.append_range.new.shelf in
     record {
-      step = blocks_next c.args.place.now c.width_for-width.result c.args.count c.args.rows c.loop-at.at (seen g.S.Shelf c.args.shelf.now) now (ids_in c.loop-at.room) c.block_end-to.result next c.append_range.new.block.items (ids_in c.append.new.room)
-          c.loop-at-test.true c.block_end-to.ensures c.loop-at.invariant.step (reads_well (Unit {0}) ColumnFault c.in-Ok.field-0 columns.ReadFault now next c.in-Ok.ensures.only_reads) c.in-Ok.ensures.log c.in-Ok.ensures.ids c.in_ok-append.ensures.ids;
+      step = blocks_next c.args.place.now c.width_for-width.result c.args.count c.args.rows c.loop-at.at (seen g.S.Shelf c.args.shelf.now) now (ids_in c.loop-at.room) c.block_end-to.result next c.clear.new.self.items c.append_range.new.ids.items (ids_in c.append.new.self)
+          c.clear.ensures.items c.loop-at-test.true c.block_end-to.ensures c.loop-at.invariant.step (reads_well (Unit {0}) ColumnFault c.in-Ok.field-0 columns.ReadFault now next c.in-Ok.ensures.only_reads) c.in-Ok.ensures.log c.in-Ok.ensures.ids (c.in_ok-append.ensures.ids ∙ ap (λ (l : List ℕ). ids_in c.loop-at.room ++ l) c.deref.ensures.value);
       has = λ id lt. c.append.ensures.room id (c.loop-at.invariant.has id lt);
     }
 
