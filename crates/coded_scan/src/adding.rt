@@ -26,7 +26,7 @@ const BLOCK: usize = 4096;
 
 /// Rows are added to the groups once there are so many places, or so many for each group that there is by
 /// then: a group is merged once for these rows, and a place takes little beside a group.
-const FEW_PLACES: usize = 8192;
+const FEW_PLACES: usize = 32_768;
 
 const PLACES_A_GROUP: usize = 10;
 

@@ -153,13 +153,7 @@ fn units(alloc: Global, kind: AggKind, count: usize) -> Result<StateColumn, NoMe
 }
 
 // Adds the number of each row, by its id, to the state in the row's slot.
-fn add_numbers(
-    column: &mut StateColumn,
-    slots: &[u32],
-    places: &[u32],
-    ids: &Ids,
-    numbers: &[i64],
-)
+fn add_numbers(column: &mut StateColumn, slots: &[u32], places: &[u32], ids: &Ids, numbers: &[i64])
     requires few { length places.now ≤ most_rows }
     requires same { length slots.now ≡ length places.now }
     requires below { AreBelow (length column.old.states) slots.now }
