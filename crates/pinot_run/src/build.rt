@@ -4,7 +4,7 @@ ghost use Rattle.std.specs.Fmt.{decimal};
 ghost use Rattle.std.specs.FinMap as map;
 ghost use Rattle.std.specs.List.{All};
 ghost use Rattle.outside.specs.Counts.{Rose};
-ghost use Rattle.outside.specs.Seen.{seen};
+ghost use Rattle.outside.specs.Seen.{Seen, seen};
 ghost use Rattle.values.specs.Columns.{rows_of};
 ghost use Rattle.csv_ingest.specs.Rows.{csv_limits, records_of, rows_in};
 ghost use Rattle.csv_ingest.specs.Unicode.{IsUnicode};
@@ -13,7 +13,7 @@ ghost use Rattle.segment_file.specs.Names.{IsSegmentName, file_of};
 ghost use Rattle.table_schema.specs.ValidTable.{AreRows, IsValidTable};
 ghost use Rattle.pinot_run.specs.Build.{csv_rows};
 ghost use Rattle.pinot_run.specs.Command.{Build};
-ghost use Rattle.pinot_run.specs.Gives.{Publishes, StopsRows, StopsText};
+ghost use Rattle.pinot_run.specs.Gives.{FindsPlace, Publishes, StopsRows, StopsText};
 ghost use Rattle.pinot_run.specs.Notes.{csv_note};
 ghost use Rattle.pinot_run.specs.Profile.{NoFile, csv_limit};
 ghost use Rattle.pinot_run.specs.Ran.{Ran};
@@ -49,8 +49,27 @@ pub fn build<I: Shelf, D: Depot>(
         (devices I.Shelf D.Shelf inputs.new depot.new) result }
 {
     let table = table_with_place(alloc, name, depot)?;
-    let columns = read_rows(alloc, csv, &table, inputs)?;
-    publish(alloc, &table, name, &columns, depot)
+    build_in(alloc, &table, name, csv, inputs, depot)
+}
+
+// The reply to `build` where the store has a place for the segment.
+fn build_in<I: Shelf, D: Depot>(
+    alloc: Global,
+    table: &Table,
+    name: &str,
+    csv: &str,
+    inputs: &mut I,
+    depot: &mut D,
+) -> Result<Bytes, Stop>
+    requires name { IsSegmentName name.now }
+    requires valid { IsValidTable table.now }
+    ensures { (first : Seen) → FindsPlace name.now first (seen D.Shelf depot.old) (Ok table.now)
+        → Ran (Some (Build name.now csv.now))
+        (record { inputs = seen I.Shelf inputs.old; depot = first })
+        (devices I.Shelf D.Shelf inputs.new depot.new) result }
+{
+    let columns = read_rows(alloc, csv, table, inputs)?;
+    publish(alloc, table, name, &columns, depot)
 }
 
 // The rows of a CSV file over the fields of a table, column by column.

@@ -1,18 +1,18 @@
 //! The command `list`: the segments of a store, with how many rows each has.
-ghost use Rattle.std.specs.Prelude.{◌≡◌, ◌∷◌, [], ◌++◌, codes, length, true, Some, IfOk, IfSome, OnOk};
+ghost use Rattle.std.specs.Prelude.{◌≡◌, ◌∷◌, [], ◌++◌, codes, length, true, Ok, Some, IfOk, IfSome, OnOk};
 ghost use Rattle.std.specs.Fmt.{decimal};
 ghost use Rattle.std.specs.List.{All, AllZip};
 ghost use Rattle.outside.specs.Seen.{Seen, seen};
 ghost use Rattle.segment_file.specs.Names.{IsSegmentName};
 ghost use Rattle.query_executor.specs.Logs.{LogsHeadOf, LogsHeadsOf};
 ghost use Rattle.table_schema.specs.ValidTable.{IsValidTable};
-ghost use Rattle.table_store.specs.Segments.{has_segment};
+ghost use Rattle.table_store.specs.Segments.{AreFirstNames, has_segment};
 ghost use Rattle.pinot_run.specs.Command.{Listing};
 ghost use Rattle.pinot_run.specs.Gives.{IsHeadStop, LooksFor};
-ghost use Rattle.pinot_run.specs.Profile.{StoreFiles};
+ghost use Rattle.pinot_run.specs.Profile.{StoreFiles, TableFile};
 ghost use Rattle.pinot_run.specs.Ran.{Ran};
 ghost use Rattle.pinot_run.specs.Stored as spec;
-ghost use Rattle.pinot_run.specs.Stored.{HasRows, HasTableFile, SegmentsRefuse};
+ghost use Rattle.pinot_run.specs.Stored.{HasRows, HasTableFile, SegmentsRefuse, TableRefuses};
 
 use crate::fault::Fault;
 use crate::part_name::segment_stop;
@@ -31,9 +31,42 @@ pub fn list<D: Depot>(alloc: Global, depot: &mut D) -> Result<Bytes, Stop>
         (record { inputs = inputs; depot = seen D.Shelf depot.new }) result }
 {
     let table = stored_table(alloc, depot)?;
+    list_table(alloc, depot, &table)
+}
+
+// The reply to `list` where the store has this table.
+fn list_table<D: Depot>(alloc: Global, depot: &mut D, table: &Table) -> Result<Bytes, Stop>
+    requires valid { IsValidTable table.now }
+    requires there { IfSome (D.held depot.old) (λ files. HasTableFile files table.now) }
+    ensures { (first : Seen) → LooksFor HasTableFile TableRefuses TableFile first
+        (seen D.Shelf depot.old) (Ok table.now) → (inputs : Seen) → Ran (Some Listing)
+        (record { inputs = inputs; depot = first })
+        (record { inputs = inputs; depot = seen D.Shelf depot.new }) result }
+{
     let names = stored_names(alloc, depot)?;
-    let counts = count_all(alloc, depot, &table, names.as_slice())?;
-    Ok(list_text(alloc, names.as_slice(), counts.as_slice())?)
+    list_names(alloc, depot, table, names.as_slice())
+}
+
+// The reply to `list` where the table has these segments.
+fn list_names<D: Depot>(
+    alloc: Global,
+    depot: &mut D,
+    table: &Table,
+    names: &[Name],
+) -> Result<Bytes, Stop>
+    requires valid { IsValidTable table.now }
+    requires named { All IsSegmentName names.now }
+    requires there { IfSome (D.held depot.old) (λ files. HasTableFile files table.now
+        × All (λ name. has_segment files name ≡ true) names.now) }
+    ensures { (first between : Seen)
+        → LooksFor HasTableFile TableRefuses TableFile first between (Ok table.now)
+        → LooksFor AreFirstNames TableRefuses TableFile between (seen D.Shelf depot.old)
+        (Ok names.now) → (inputs : Seen) → Ran (Some Listing)
+        (record { inputs = inputs; depot = first })
+        (record { inputs = inputs; depot = seen D.Shelf depot.new }) result }
+{
+    let counts = count_all(alloc, depot, table, names)?;
+    Ok(list_text(alloc, names, counts.as_slice())?)
 }
 
 // How many rows each of these segments has.

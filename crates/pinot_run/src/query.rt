@@ -33,8 +33,24 @@ pub fn ask<D: Depot>(alloc: Global, about: About, sql: &str, depot: &mut D) -> R
 {
     docs_bound_law();
     let table = stored_table(alloc, depot)?;
+    ask_table(alloc, about, &table, sql, depot)
+}
+
+// The reply over the segments of the store's table.
+fn ask_table<D: Depot>(
+    alloc: Global,
+    about: About,
+    table: &Table,
+    sql: &str,
+    depot: &mut D,
+) -> Result<Bytes, Stop>
+    requires valid { IsValidTable table.now }
+    requires there { IfSome (D.held depot.old) (λ files. HasTableFile files table.now) }
+    ensures { AnswersQuery about sql.now (seen D.Shelf depot.old) (seen D.Shelf depot.new) result }
+{
+    docs_bound_law();
     let names = stored_names(alloc, depot)?;
-    reply_over(alloc, about, &table, names.as_slice(), sql, depot)
+    reply_over(alloc, about, table, names.as_slice(), sql, depot)
 }
 
 // The reply over these segments.
