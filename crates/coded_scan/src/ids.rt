@@ -1,6 +1,6 @@
 //! The ids of the rows in a column, in as few bytes as they take.
 
-ghost use Rattle.std.specs.Prelude.{◌≡◌, ◌<◌, ◌++◌, [], ℕ, All, IfOk, OnOk, get_or, length};
+ghost use Rattle.std.specs.Prelude.{◌≡◌, ◌≤◌, ◌<◌, ◌+◌, ◌++◌, [], ℕ, All, IfOk, OnOk, get_or, length};
 ghost use Rattle.coded_scan.specs.Ids.{HasRoom, ids_in, most_narrow};
 
 use std::alloc::Global;
@@ -52,6 +52,21 @@ impl Ids {
             IdRoom::Narrow(ids) => u32::from(ids[row]),
             IdRoom::Wide(ids) => ids[row],
         }
+    }
+
+    /// The ids of some rows from one on, in four bytes each.
+    pub fn between(&self, alloc: Global, from: usize, many: usize) -> Result<Vec<u32>, NoMemory>
+        requires { from + many ≤ length self.now }
+        ensures count { IfOk result (λ own. length own.items ≡ many) }
+        ensures each { IfOk result (λ own. (at : ℕ) → at < many
+            → get_or own.items at 0 ≡ get_or self.now (from + at) 0) }
+    {
+        let mut own = vec![in alloc; 0u32; many]?;
+        match &self.room {
+            IdRoom::Narrow(ids) => widen(&ids[from..from + many], &mut own),
+            IdRoom::Wide(ids) => own.copy_from_slice(&ids[from..from + many]),
+        }
+        Ok(own)
     }
 
     /// The id of a row; 0 where there is none.
@@ -121,6 +136,16 @@ fn append_narrow(block: &[u32], ids: &mut Vec<u16>) -> Result<(), NoMemory>
     ids.resize(start + block.len(), 0)?;
     narrow(block, &mut ids[start..]);
     Ok(())
+}
+
+// Copies ids of two bytes each.
+fn widen(ids: &[u16], out: &mut [u32])
+    requires { length out.old ≡ length ids.now }
+    ensures { out.new ≡ ids.now }
+{
+    for at in 0..ids.len() {
+        out[at] = u32::from(ids[at]);
+    }
 }
 
 // Copies ids into two bytes each.

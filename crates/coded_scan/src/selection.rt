@@ -1,12 +1,11 @@
 //! The places of the rows of a block that conditions let through.
 
-ghost use Rattle.std.specs.Prelude.{◌≡◌, ◌&&◌, ◌||◌, ◌+◌, ◌^◌, ◌<◌, ◌≤◌, ◌++◌, ◌∷◌, [], ℕ, IfOk, OnOk, cond, get_or, false, true, length, nat_eq};
+ghost use Rattle.std.specs.Prelude.{◌≡◌, ◌&&◌, ◌||◌, ◌+◌, ◌<◌, ◌≤◌, ◌++◌, ◌∷◌, [], ℕ, IfOk, OnOk, cond, get_or, false, true, length, nat_eq};
 ghost use Rattle.dictionary.specs.Ids.{has_id};
 ghost use Rattle.scan_engine.specs.Selection.{Keeps};
 ghost use Rattle.coded_scan.specs.Coded.{Widens, most_rows};
 ghost use Rattle.coded_scan.specs.RowFilters.{AllCover, all_let, covers, lets, passing};
 
-use crate::ids::Ids;
 use crate::row_filter::RowFilter;
 use dictionary::IdSet;
 use std::alloc::Global;
@@ -128,7 +127,10 @@ fn keep(
     ensures { OnOk result (Keeps (λ at. lets (from + at) row_filter.now) marks.old marks.new) }
 {
     match row_filter {
-        RowFilter::Ids(ids, matching) => keep_ids(marks, ids, from, matching),
+        RowFilter::Ids(ids, matching) => {
+            let own = ids.between(alloc, from, marks.len())?;
+            keep_ids(marks, &own, matching);
+        }
         RowFilter::Fixed(holds) => keep_if(marks, *holds),
         RowFilter::All(_) | RowFilter::Any(_) => {
             let own = marks_of(alloc, count, from, marks.len(), row_filter)?;
@@ -146,37 +148,34 @@ fn is_kept(mark: bool, holds: bool) -> bool
     mark & holds
 }
 
-// Leaves the marks of those rows from one on whose id is in a set.
-fn keep_ids(marks: &mut [bool], ids: &Ids, from: usize, matching: &IdSet)
-    requires within { from + length marks.old ≤ length ids.now }
-    requires few { from + length marks.old < 2 ^ 64 }
-    ensures { Keeps (λ at. has_id matching.now (get_or ids.now (from + at) 0)) marks.old marks.new }
+// Leaves the marks of the rows whose id is in a set.
+fn keep_ids(marks: &mut [bool], ids: &[u32], matching: &IdSet)
+    requires { length marks.old ≡ length ids.now }
+    ensures { Keeps (λ at. has_id matching.now (get_or ids.now at 0)) marks.old marks.new }
 {
     match matching.as_slice() {
-        [only] => keep_only(marks, ids, from, *only),
-        _ => keep_any(marks, ids, from, matching),
+        [only] => keep_only(marks, ids, *only),
+        _ => keep_any(marks, ids, matching),
     }
 }
 
-// Leaves the marks of those rows from one on that have one id.
-fn keep_only(marks: &mut [bool], ids: &Ids, from: usize, only: u32)
-    requires within { from + length marks.old ≤ length ids.now }
-    requires few { from + length marks.old < 2 ^ 64 }
-    ensures { Keeps (λ at. nat_eq (get_or ids.now (from + at) 0) only) marks.old marks.new }
+// Leaves the marks of the rows of one id.
+fn keep_only(marks: &mut [bool], ids: &[u32], only: u32)
+    requires { length marks.old ≡ length ids.now }
+    ensures { Keeps (λ at. nat_eq (get_or ids.now at 0) only) marks.old marks.new }
 {
     for at in 0..marks.len() {
-        marks[at] = is_kept(marks[at], ids.at(from + at) == only);
+        marks[at] = is_kept(marks[at], ids[at] == only);
     }
 }
 
-// Leaves the marks of those rows from one on whose id has its bit in the mask of a set.
-fn keep_any(marks: &mut [bool], ids: &Ids, from: usize, matching: &IdSet)
-    requires within { from + length marks.old ≤ length ids.now }
-    requires few { from + length marks.old < 2 ^ 64 }
-    ensures { Keeps (λ at. has_id matching.now (get_or ids.now (from + at) 0)) marks.old marks.new }
+// Leaves the marks of the rows whose id has its bit in the mask of a set.
+fn keep_any(marks: &mut [bool], ids: &[u32], matching: &IdSet)
+    requires { length marks.old ≡ length ids.now }
+    ensures { Keeps (λ at. has_id matching.now (get_or ids.now at 0)) marks.old marks.new }
 {
     for at in 0..marks.len() {
-        marks[at] = is_kept(marks[at], matching.contains(ids.at(from + at)));
+        marks[at] = is_kept(marks[at], matching.contains(ids[at]));
     }
 }
 
@@ -233,7 +232,8 @@ fn marks_of(
 {
     match row_filter {
         RowFilter::Ids(ids, matching) => {
-            let marks = marks_of_ids(alloc, ids, from, many, matching)?;
+            let own = ids.between(alloc, from, many)?;
+            let marks = marks_of_ids(alloc, &own, matching)?;
             Ok(marks)
         }
         RowFilter::Fixed(holds) => {
@@ -269,21 +269,13 @@ fn same_marks(alloc: Global, holds: bool, many: usize) -> Result<Vec<bool>, NoMe
     Ok(marks)
 }
 
-// A mark for each of some rows from one on, whether its id is in a set.
-fn marks_of_ids(
-    alloc: Global,
-    ids: &Ids,
-    from: usize,
-    many: usize,
-    matching: &IdSet,
-) -> Result<Vec<bool>, NoMemory>
-    requires within { from + many ≤ length ids.now }
-    requires few { from + many < 2 ^ 64 }
-    ensures count { IfOk result (λ marks. length marks.items ≡ many) }
-    ensures each { IfOk result (λ marks. (at : ℕ) → at < many
-        → get_or marks.items at false ≡ has_id matching.now (get_or ids.now (from + at) 0)) }
+// A mark for each row, whether its id is in a set.
+fn marks_of_ids(alloc: Global, ids: &[u32], matching: &IdSet) -> Result<Vec<bool>, NoMemory>
+    ensures count { IfOk result (λ marks. length marks.items ≡ length ids.now) }
+    ensures each { IfOk result (λ marks. (at : ℕ) → at < length ids.now
+        → get_or marks.items at false ≡ has_id matching.now (get_or ids.now at 0)) }
 {
-    let mut marks = vec![in alloc; true; many]?;
-    keep_ids(&mut marks, ids, from, matching);
+    let mut marks = vec![in alloc; true; ids.len()]?;
+    keep_ids(&mut marks, ids, matching);
     Ok(marks)
 }

@@ -1,5 +1,6 @@
-use Rattle.std.proofs.Common.{◌∙◌, ◌<◌, ◌+◌, ◌&&◌, ◌||◌, ℕ, Bool, List, length, map, ap, sym, arith}
+use Rattle.std.proofs.Common.{◌≡◌, ◌∙◌, ◌<◌, ◌+◌, ◌&&◌, ◌||◌, ℕ, Bool, List, get_or, length, map, ap, sym, arith}
 use Rattle.values.specs.Tests.{all_true, any_true}
+use Rattle.dictionary.specs.Ids.{has_id}
 use Rattle.coded_scan.specs.declared.row_filter.RowFilter.{RowFilter}
 use Rattle.coded_scan.specs.declared.row_filter.RowFilter.TheOpen.{RowFilter-F}
 use Rattle.coded_scan.specs.declared.row_filter.RowFilter.TheFolds.{fold-roll-RowFilter}
@@ -34,7 +35,10 @@ pub returns-in_ok-marks-in-Ids-clause-each : goal.returns-in_ok-marks-in-Ids-cla
 unfolding Rattle.coded_scan.specs.declared.row_filter.RowFilter.TheViews.roll-RowFilter denote.Hole.Carrier.roll
 returns-in_ok-marks-in-Ids-clause-each t c = λ at lt.
     let from : ℕ = c.args.from in
-    c.in_ok-marks-in-Ids.ensures.each at lt
+    let same : c.deref.result.now ≡ c.in_ok-own-in-Ids.own.items = c.deref.ensures.value in
+    let within : at < length c.deref.result.now = omega (arith, lt, ap length same, c.in_ok-own-in-Ids.ensures.count) in
+    c.in_ok-marks-in-Ids.ensures.each at within
+    ∙ ap (has_id c.in-Ids.matching) (ap (λ (l : List ℕ). get_or l at 0) same ∙ c.in_ok-own-in-Ids.ensures.each at lt)
     ∙ sym (ap (lets (from + at)) c.in-Ids.is ∙ fold-roll-RowFilter Bool (lets_step (from + at)) (RowFilter-F.Ids c.in-Ids.ids c.in-Ids.matching))
 
 pub returns-in_ok-marks-in-Fixed-clause-each : goal.returns-in_ok-marks-in-Fixed-clause-each

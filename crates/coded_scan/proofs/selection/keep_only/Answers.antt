@@ -1,4 +1,4 @@
-use Rattle.std.proofs.Common.{◌<◌, ◌+◌, ◌∙◌, ◌&&◌, ℕ, Bool, ap, false, get_or, length, nat_eq, arith}
+use Rattle.std.proofs.Common.{◌<◌, ℕ, Bool, get_or, length, nat_eq, arith}
 use Rattle.scan_engine.proofs.SelectionLemmas.{keeps-all, keeps-none, keeps-set}
 use Rattle.coded_scan.proofs.selection.keep_only.Goals as goal
 
@@ -7,10 +7,9 @@ loop-at-init c = keeps-none _ _
 
 pub loop-at-preserved : goal.loop-at-preserved
 loop-at-preserved c =
-    let holds : ℕ → Bool = λ at. nat_eq (get_or c.args.ids.now (c.args.from + at) 0) c.args.only in
+    let holds : ℕ → Bool = λ at. nat_eq (get_or c.args.ids.now at 0) c.args.only in
     let lt : c.loop-at.at < length c.args.marks.now = omega arith in
-    keeps-set c.loop-at.at holds c.args.marks.now c.loop-at.marks c.is_kept.result lt
-    (c.is_kept.ensures ∙ ap (λ id. get_or c.loop-at.marks c.loop-at.at false && nat_eq id c.args.only) c.at.ensures) c.loop-at.invariant
+    keeps-set c.loop-at.at holds c.args.marks.now c.loop-at.marks c.is_kept.result lt c.is_kept.ensures c.loop-at.invariant
 
 pub returns : goal.returns
 returns c = keeps-all c.loop-at.at _ c.args.marks.now c.loop-at.marks (omega arith) c.loop-at.invariant
