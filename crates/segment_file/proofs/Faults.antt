@@ -1,0 +1,43 @@
+-- What a call leaves where it hands on a fault, or where a growth was refused.
+use Rattle.std.proofs.Common.{◌≡◌, Err, Ok, Result, ap}
+use Rattle.std.specs.Result.{IfErr, IfOk, IsErr, IsErrAnd, IsErrOf}
+use Rattle.outside.specs.Seen.{OnlyReads, Seen}
+use Rattle.outside.proofs.SeenLemmas.{reads_after, reads_so}
+use Rattle.segment_file.specs.declared.fault.HeadFault.{HeadFault}
+use Rattle.segment_file.specs.declared.fault.HeadFault.TheVariants as fault
+use Rattle.segment_file.specs.declared.part.Part.{Part}
+
+-- a growth that was refused
+abbrev pub IsGrowth : {T : Type 0} → Result T HeadFault → Type 0
+IsGrowth r = IsErr r × IsErrAnd r (λ f. f ≡ fault.NoMemory)
+
+pub growth_ok : {T : Type 0} (P : T → Type 0) (r : Result T HeadFault) → IsGrowth r → IfOk r P
+growth_ok P (Ok x) h = absurd h.1
+growth_ok P (Err y) h = tt
+
+pub growth_bad : {T : Type 0} (P : Part → Type 0) (r : Result T HeadFault) → IsGrowth r → IfErr r (λ f. (p : Part) → f ≡ fault.NotASegment p → P p)
+growth_bad P (Ok x) h = tt
+growth_bad P (Err y) h = λ p is. let no : y ≡ fault.NoMemory = h.1 in absurd cc
+
+pub growth_reads : {T : Type 0} (r : Result T HeadFault) (old new : Seen) → IsGrowth r → OnlyReads ⊥ old new → OnlyReads (IsErrOf r fault.ReadFault) old new
+growth_reads (Ok x) old new h reads = absurd h.1
+growth_reads {T} (Err y) old new h reads = let no : y ≡ fault.NoMemory = h.1 in reads_so ⊥ (IsErrOf {T = T} {E = HeadFault} (Err y) fault.ReadFault) old new (λ e. absurd cc) (λ e. absurd e) reads
+
+err_same : {T : Type 0} (a b : HeadFault) → IsErrOf {T = T} {E = HeadFault} (Err a) b → a ≡ b
+err_same a b e = cc
+
+-- a fault that is handed on
+pub reads_handed : {T U : Type 0} (a : HeadFault) (old new : Seen) → OnlyReads (IsErrOf {T = T} {E = HeadFault} (Err a) fault.ReadFault) old new → OnlyReads (IsErrOf {T = U} {E = HeadFault} (Err a) fault.ReadFault) old new
+reads_handed {T} {U} a old new reads =
+    reads_so (IsErrOf {T = T} {E = HeadFault} (Err a) fault.ReadFault) (IsErrOf {T = U} {E = HeadFault} (Err a) fault.ReadFault) old new (λ e. ap Err (err_same {T = U} a fault.ReadFault e)) (λ e. ap Err (err_same {T = T} a fault.ReadFault e)) reads
+
+-- a call that ended well
+pub reads_well : {T : Type 0} (x : T) (old new : Seen) → OnlyReads (IsErrOf {T = T} {E = HeadFault} (Ok x) fault.ReadFault) old new → OnlyReads ⊥ old new
+reads_well {T} x old new reads = reads_so (IsErrOf {T = T} {E = HeadFault} (Ok x) fault.ReadFault) ⊥ old new (λ e. absurd e) (λ e. absurd cc) reads
+
+pub reads_ended : {T : Type 0} (x : T) (old new : Seen) → OnlyReads ⊥ old new → OnlyReads (IsErrOf {T = T} {E = HeadFault} (Ok x) fault.ReadFault) old new
+reads_ended {T} x old new reads = reads_so ⊥ (IsErrOf {T = T} {E = HeadFault} (Ok x) fault.ReadFault) old new (λ e. absurd cc) (λ e. absurd e) reads
+
+-- a fault after a call that ended well
+pub reads_err : {T U : Type 0} (a : HeadFault) (old between new : Seen) → OnlyReads ⊥ old between → OnlyReads (IsErrOf {T = T} {E = HeadFault} (Err a) fault.ReadFault) between new → OnlyReads (IsErrOf {T = U} {E = HeadFault} (Err a) fault.ReadFault) old new
+reads_err {T} {U} a old between new before after = reads_after (IsErrOf {T = U} {E = HeadFault} (Err a) fault.ReadFault) old between new before (reads_handed {T = T} {U = U} a between new after)
