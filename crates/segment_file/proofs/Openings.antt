@@ -1,16 +1,18 @@
 -- The front of a file and the rest of its head, as they are read.
-use Rattle.std.proofs.Common.{◌≡◌, ◌∙◌, ◌≤◌, ◌<◌, ◌+◌, ℕ, List, ◌++◌, length, take, drop, sum, Option, Some, None, IfSome, inr, sym, ap, ap₂, subst, arith}
+use Rattle.std.proofs.Common.{◌≡◌, ◌∙◌, ◌≤◌, ◌<◌, ◌+◌, ℕ, List, ◌++◌, length, take, drop, sum, Option, Some, None, IfSome, inl, inr, sym, ap, ap₂, subst, arith}
 use Rattle.std.proofs.Math.Seq.{take-add}
 use Rattle.std.proofs.lemmas.List.Sums.{sum_by-take-le}
 use Rattle.outside.specs.Files.{Files, bytes_at, bytes_of}
 use Rattle.outside.specs.Reads.{Entry, LogsThrough, LogsUpTo}
-use Rattle.outside.proofs.ReadLemmas.{LogsThrough-append}
+use Rattle.outside.proofs.ReadLemmas.{LogsThrough-append, LogsThrough-none}
 use Rattle.table_schema.specs.declared.table.Table.{Table}
+use Rattle.segment_file.specs.declared.part.Part.{Part}
+use Rattle.segment_file.specs.declared.part.Part.TheVariants as parts
 use Rattle.segment_file.specs.Front.{Front, front_size, head_end}
-use Rattle.segment_file.specs.Heads.{IsHeadOf, IsPlaced, IsWithin, LogsWithin, Seen}
+use Rattle.segment_file.specs.Heads.{IsHeadOf, IsPlaced, IsWithin, KeepsRules, LogsWithin, Seen}
 use Rattle.segment_file.specs.Parts.{head_sections}
 use Rattle.segment_file.specs.Reading.{IsFrontOf}
-use Rattle.segment_file.specs.Rules.{HasFront, IsFront}
+use Rattle.segment_file.specs.Rules.{FailsAt, HasFront, IsFront}
 use Rattle.segment_file.proofs.Counts.{head_count, some_sections}
 use Rattle.segment_file.proofs.Fronts.{front_bytes_size}
 
@@ -65,3 +67,26 @@ pub logs_within : (end : Table → List ℕ → Front → ℕ) (table : Table) (
     → LogsThrough file 0 (front_size table name) first between → LogsUpTo file (front_size table name) (end table name front) between last → LogsWithin end table name file held first last
 logs_within end table name file bytes held front first between last is before (to, le, on) =
     (to, LogsThrough-append file 0 (front_size table name) to first between last before on, within end table name file bytes held front to is le)
+
+-- reads that do not go past the front
+pub logs_front : (end : Table → List ℕ → Front → ℕ) (table : Table) (name file : List ℕ) (held : Option Files) (old new : Option (List Entry)) → LogsUpTo file 0 (front_size table name) old new → LogsWithin end table name file held old new
+logs_front end table name file None old new (to, le, on) = (to, on, tt)
+logs_front end table name file (Some files) old new (to, le, on) = (to, on, inl le)
+
+pub logs_still : (end : Table → List ℕ → Front → ℕ) (table : Table) (name file : List ℕ) (held : Option Files) (log : Option (List Entry)) → LogsWithin end table name file held log log
+logs_still end table name file held log = logs_front end table name file held log log (0, omega arith, LogsThrough-none file 0 log)
+
+-- a told file that has no front keeps no rules
+pub frontless : (table : Table) (name file : List ℕ) (held : Option Files) → IfSome held (λ files. (front : Front) → ¬ HasFront table name (bytes_of (Some files) file) front) → IfSome held (λ files. ¬ KeepsRules table name (bytes_of (Some files) file))
+frontless table name file None none = tt
+frontless table name file (Some files) none = λ rules. none rules.0 rules.2.front_is
+
+-- the first of them to fail is that of the head
+pub head_fails : (table : Table) (name file : List ℕ) (held : Option Files) (p : Part) → p ≡ parts.Head → IfSome held (λ files. (front : Front) → ¬ HasFront table name (bytes_of (Some files) file) front) → IfSome held (λ files. FailsAt table name (bytes_of (Some files) file) p)
+head_fails table name file None p is none = tt
+head_fails table name file (Some files) p is none = subst (FailsAt table name (bytes_of (Some files) file)) (sym is) none
+
+-- where no file is told, whatever is said of one holds
+pub untold : (P : Files → Type 0) (held : Option Files) → held ≡ None → IfSome held P
+untold P None is = tt
+untold P (Some files) is = absurd cc

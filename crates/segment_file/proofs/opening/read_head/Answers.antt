@@ -1,11 +1,60 @@
+use Rattle.std.proofs.Common.{◌∙◌, Some, IfSome, sym}
+use Rattle.outside.specs.Files.{bytes_of}
+use Rattle.outside.specs.Seen.{seen}
+use Rattle.outside.proofs.SeenLemmas.{reads_none}
 use Rattle.segment_file.specs.Front.{head_end}
-use Rattle.segment_file.proofs.Openings.{logs_within}
+use Rattle.segment_file.specs.Heads.{IsHead, IsHeadOf}
+use Rattle.segment_file.specs.Rules.{FailsAt}
+use Rattle.segment_file.proofs.Faults.{growth_bad, growth_ok, growth_reads, reads_err, reads_handed, reads_well}
+use Rattle.segment_file.proofs.Openings.{head_fails, logs_front, logs_still, logs_within, untold}
 use Rattle.segment_file.proofs.opening.read_head.Goals as goal
 
-pub returns-in-Err-read_rest-clause-log : goal.returns-in-Err-read_rest-clause-log
-returns-in-Err-read_rest-clause-log g c =
+pub returns-in_err-parts : goal.returns-in_err-parts
+returns-in_err-parts g c =
+    let table = c.args.table.now in
+    let name = c.args.name.now in
+    let file = c.args.file.now in
+    let held = g.S.Shelf.held c.args.shelf.now in
+    let old = seen g.S.Shelf c.args.shelf.now in
+    record {
+      of = growth_ok (IsHeadOf table) c.from_residual.result c.from_residual.ensures;
+      head = growth_ok (λ head. IfSome held (λ files. IsHead table name file (bytes_of (Some files) file) head)) c.from_residual.result c.from_residual.ensures;
+      refused = growth_bad (λ p. IfSome held (λ files. FailsAt table name (bytes_of (Some files) file) p)) c.from_residual.result c.from_residual.ensures;
+      only_reads = growth_reads c.from_residual.result old old c.from_residual.ensures (reads_none old);
+      log = logs_still head_end table name file held (g.S.Shelf.log c.args.shelf.now);
+    }
+
+pub returns-in-Err : goal.returns-in-Err
+returns-in-Err g c =
+    let table = c.args.table.now in
+    let name = c.args.name.now in
+    let file = c.args.file.now in
+    let held = g.S.Shelf.held c.args.shelf.now in
+    let old = seen g.S.Shelf c.args.shelf.now in
+    record {
+      of = tt;
+      head = tt;
+      refused = λ p is. let first = c.in-Err.ensures.refused p is in head_fails table name file held p first.0 first.1;
+      only_reads = reads_handed c.in-Err.fault old (seen g.S.Shelf c.read_front.new.shelf) c.in-Err.ensures.only_reads;
+      log = logs_front head_end table name file held (g.S.Shelf.log c.args.shelf.now) (g.S.Shelf.log c.read_front.new.shelf) c.in-Err.ensures.log_of_fault;
+    }
+
+pub returns-in-Err-read_rest : goal.returns-in-Err-read_rest
+returns-in-Err-read_rest g c =
+    let table = c.args.table.now in
+    let name = c.args.name.now in
+    let file = c.args.file.now in
+    let held = g.S.Shelf.held c.args.shelf.now in
+    let old = seen g.S.Shelf c.args.shelf.now in
     let read = c.in-Ok.read in
-    logs_within head_end c.args.table.now c.args.name.now c.args.file.now read.bytes.items (g.S.Shelf.held c.args.shelf.now) read.front (g.S.Shelf.log c.args.shelf.now) (g.S.Shelf.log c.read_front.new.shelf) (g.S.Shelf.log c.read_rest.new.shelf) c.in-Ok.ensures.front c.in-Ok.ensures.log c.in-Err-read_rest.ensures.log
+    let between = seen g.S.Shelf c.read_front.new.shelf in
+    record {
+      of = tt;
+      head = tt;
+      refused = λ p is. untold (λ files. FailsAt table name (bytes_of (Some files) file) p) held (sym c.in-Ok.ensures.only_reads.held ∙ c.in-Err-read_rest.ensures.refused p is);
+      only_reads = reads_err c.in-Err-read_rest.fault old between (seen g.S.Shelf c.read_rest.new.shelf) (reads_well read old between c.in-Ok.ensures.only_reads) c.in-Err-read_rest.ensures.only_reads;
+      log = logs_within head_end table name file read.bytes.items held read.front (g.S.Shelf.log c.args.shelf.now) (g.S.Shelf.log c.read_front.new.shelf) (g.S.Shelf.log c.read_rest.new.shelf) c.in-Ok.ensures.front c.in-Ok.ensures.log c.in-Err-read_rest.ensures.log;
+    }
 
 pub returns-clause-log : goal.returns-clause-log
 returns-clause-log g c =

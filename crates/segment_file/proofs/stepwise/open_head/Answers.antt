@@ -1,20 +1,20 @@
-use Rattle.std.proofs.Common.{◌≡◌, ◌∙◌, ◌+◌, List, [], length, map, get_or, replicate, Option, None, Some, IfSome, refl, ap, sym, subst, arith}
+use Rattle.std.proofs.Common.{◌≡◌, ◌∙◌, ◌+◌, ℕ, List, [], length, map, get_or, replicate, Option, None, Some, IfSome, refl, ap, sym, subst, arith}
 use Rattle.std.proofs.lemmas.List.{length-replicate}
 use Rattle.std.proofs.lemmas.List.Elements.{All-map}
 use Rattle.outside.specs.Files.{bytes_of}
 use Rattle.outside.specs.Seen.{seen}
-use Rattle.outside.proofs.SeenLemmas.{reads_after}
+use Rattle.outside.proofs.SeenLemmas.{reads_after, reads_none}
 use Rattle.dictionary.specs.Dictionary.{Distinct}
 use Rattle.segment_file.specs.declared.bounds.Ends.{Ends}
 use Rattle.segment_file.specs.declared.section.Section.{Section}
 use Rattle.segment_file.specs.declared.trees.TreeNodes.{TreeNodes}
 use Rattle.segment_file.specs.Bounds.{AreBounds}
 use Rattle.segment_file.specs.Front.{Extent, bounds_end, extents_from, extents_of, front_size}
-use Rattle.segment_file.specs.Heads.{AreIn, IsPlaced, Seen, bounded, placed}
+use Rattle.segment_file.specs.Heads.{AreIn, AreNodesLoaded, IsHead, IsHeadOf, IsLoaded, IsOpened, IsPartOf, IsPlaced, KeepsRules, Seen, bounded, placed}
 use Rattle.segment_file.specs.Parts.{sections_of}
 use Rattle.segment_file.specs.Rules.{heads_in}
-use Rattle.segment_file.proofs.Faults.{reads_ended, reads_err, reads_well}
-use Rattle.segment_file.proofs.Openings.{front_length, head_of, logs_within}
+use Rattle.segment_file.proofs.Faults.{growth_bad, growth_ok, growth_reads, reads_ended, reads_err, reads_handed, reads_well}
+use Rattle.segment_file.proofs.Openings.{front_length, head_of, frontless, logs_front, logs_still, logs_within}
 use Rattle.segment_file.proofs.Steps.{bounds_break_told, none_loaded, opened_told, part_told}
 use Rattle.segment_file.proofs.stepwise.open_head.Goals as goal
 
@@ -49,13 +49,63 @@ bare_head-requires g c =
       short = omega (arith, front_length c.args.table.now c.args.name.now read.bytes.items is.size read.front is.front_is, is.front_is.whole, is.front_is.small);
     }
 
-pub returns-in_err-bare_head-clause-log : goal.returns-in_err-bare_head-clause-log
-returns-in_err-bare_head-clause-log g c =
+pub returns-in_err-parts : goal.returns-in_err-parts
+returns-in_err-parts g c =
+    let table = c.args.table.now in
+    let name = c.args.name.now in
+    let file = c.args.file.now in
+    let held = g.S.Shelf.held c.args.shelf.now in
+    record {
+      of = growth_ok (IsHeadOf table) c.from_residual.result c.from_residual.ensures;
+      none = growth_ok (λ head. (column : ℕ) → ¬ IsLoaded head column) c.from_residual.result c.from_residual.ensures;
+      no_nodes = growth_ok (λ head. (tree : ℕ) → ¬ AreNodesLoaded head tree) c.from_residual.result c.from_residual.ensures;
+      placed = growth_ok (λ head. AreIn file head.sections) c.from_residual.result c.from_residual.ensures;
+      opened = growth_ok (λ head. IfSome held (λ files. IsOpened table name file (bytes_of (Some files) file) head)) c.from_residual.result c.from_residual.ensures;
+      part = growth_ok (λ head. IfSome held (λ files. (whole : Seen) → IsHead table name file (bytes_of (Some files) file) whole → IsPartOf whole head)) c.from_residual.result c.from_residual.ensures;
+      refused = growth_bad (λ p. IfSome held (λ files. ¬ KeepsRules table name (bytes_of (Some files) file))) c.from_residual.result c.from_residual.ensures;
+      only_reads = growth_reads c.from_residual.result (seen g.S.Shelf c.args.shelf.now) (seen g.S.Shelf c.args.shelf.now) c.from_residual.ensures (reads_none (seen g.S.Shelf c.args.shelf.now));
+      log = logs_still bounds_end table name file held (g.S.Shelf.log c.args.shelf.now);
+    }
+
+pub returns-in-Err : goal.returns-in-Err
+returns-in-Err g c =
+    let table = c.args.table.now in
+    let name = c.args.name.now in
+    let file = c.args.file.now in
+    let held = g.S.Shelf.held c.args.shelf.now in
+    record {
+      of = tt;
+      none = tt;
+      no_nodes = tt;
+      placed = tt;
+      opened = tt;
+      part = tt;
+      refused = λ p is. frontless table name file held (c.in-Err.ensures.refused p is).1;
+      only_reads = reads_handed c.in-Err.fault (seen g.S.Shelf c.args.shelf.now) (seen g.S.Shelf c.read_front.new.shelf) c.in-Err.ensures.only_reads;
+      log = logs_front bounds_end table name file held (g.S.Shelf.log c.args.shelf.now) (g.S.Shelf.log c.read_front.new.shelf) c.in-Err.ensures.log_of_fault;
+    }
+
+pub returns-in_err-bare_head : goal.returns-in_err-bare_head
+returns-in_err-bare_head g c =
     let read = c.in-Ok.read in
     let table = c.args.table.now in
     let name = c.args.name.now in
     let file = c.args.file.now in
-    logs_within bounds_end table name file read.bytes.items (g.S.Shelf.held c.args.shelf.now) read.front (g.S.Shelf.log c.args.shelf.now) (g.S.Shelf.log c.read_front.new.shelf) (g.S.Shelf.log c.bounds_section.new.shelf) c.in-Ok.ensures.front c.in-Ok.ensures.log c.in-Ok-bounds_section.ensures.log
+    let held = g.S.Shelf.held c.args.shelf.now in
+    let old = seen g.S.Shelf c.args.shelf.now in
+    let between = seen g.S.Shelf c.read_front.new.shelf in
+    let last = seen g.S.Shelf c.bounds_section.new.shelf in
+    record {
+      of = growth_ok (IsHeadOf table) c.from_residual-in_err-bare_head.result c.from_residual-in_err-bare_head.ensures;
+      none = growth_ok (λ head. (column : ℕ) → ¬ IsLoaded head column) c.from_residual-in_err-bare_head.result c.from_residual-in_err-bare_head.ensures;
+      no_nodes = growth_ok (λ head. (tree : ℕ) → ¬ AreNodesLoaded head tree) c.from_residual-in_err-bare_head.result c.from_residual-in_err-bare_head.ensures;
+      placed = growth_ok (λ head. AreIn file head.sections) c.from_residual-in_err-bare_head.result c.from_residual-in_err-bare_head.ensures;
+      opened = growth_ok (λ head. IfSome held (λ files. IsOpened table name file (bytes_of (Some files) file) head)) c.from_residual-in_err-bare_head.result c.from_residual-in_err-bare_head.ensures;
+      part = growth_ok (λ head. IfSome held (λ files. (whole : Seen) → IsHead table name file (bytes_of (Some files) file) whole → IsPartOf whole head)) c.from_residual-in_err-bare_head.result c.from_residual-in_err-bare_head.ensures;
+      refused = growth_bad (λ p. IfSome held (λ files. ¬ KeepsRules table name (bytes_of (Some files) file))) c.from_residual-in_err-bare_head.result c.from_residual-in_err-bare_head.ensures;
+      only_reads = growth_reads c.from_residual-in_err-bare_head.result old last c.from_residual-in_err-bare_head.ensures (reads_after ⊥ old between last (reads_well read old between c.in-Ok.ensures.only_reads) (reads_well c.in-Ok-bounds_section.bounds between last c.in-Ok-bounds_section.ensures.only_reads));
+      log = logs_within bounds_end table name file read.bytes.items (g.S.Shelf.held c.args.shelf.now) read.front (g.S.Shelf.log c.args.shelf.now) (g.S.Shelf.log c.read_front.new.shelf) (g.S.Shelf.log c.bounds_section.new.shelf) c.in-Ok.ensures.front c.in-Ok.ensures.log c.in-Ok-bounds_section.ensures.log;
+    }
 
 pub returns : goal.returns
 returns g c =
