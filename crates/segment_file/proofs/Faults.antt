@@ -41,3 +41,13 @@ reads_ended {T} x old new reads = reads_so ⊥ (IsErrOf {T = T} {E = HeadFault} 
 -- a fault after a call that ended well
 pub reads_err : {T U : Type 0} (a : HeadFault) (old between new : Seen) → OnlyReads ⊥ old between → OnlyReads (IsErrOf {T = T} {E = HeadFault} (Err a) fault.ReadFault) between new → OnlyReads (IsErrOf {T = U} {E = HeadFault} (Err a) fault.ReadFault) old new
 reads_err {T} {U} a old between new before after = reads_after (IsErrOf {T = U} {E = HeadFault} (Err a) fault.ReadFault) old between new before (reads_handed {T = T} {U = U} a between new after)
+
+-- ---- what follows from an end of a call
+
+pub ok_so : {T E : Type 0} (P Q : T → Type 0) (r : Result T E) → ((x : T) → P x → Q x) → IfOk r P → IfOk r Q
+ok_so P Q (Ok x) so is = so x is
+ok_so P Q (Err y) so is = tt
+
+pub err_so : {T E : Type 0} (P Q : E → Type 0) (r : Result T E) → ((y : E) → P y → Q y) → IfErr r P → IfErr r Q
+err_so P Q (Ok x) so is = tt
+err_so P Q (Err y) so is = so y is

@@ -90,3 +90,9 @@ head_fails table name file (Some files) p is none = subst (FailsAt table name (b
 pub untold : (P : Files → Type 0) (held : Option Files) → held ≡ None → IfSome held P
 untold P None is = tt
 untold P (Some files) is = absurd cc
+
+-- what holds of each file with this front and these bytes of its head holds of the told one
+pub told_head : (P : List ℕ → Type 0) (table : Table) (name file bytes cut : List ℕ) (held : Option Files) (front : Front) → IsFrontOf table name file held bytes front → IfSome held (λ files. cut ≡ take (head_end table name front) (bytes_of (Some files) file))
+    → ((whole : List ℕ) → HasFront table name whole front → cut ≡ take (head_end table name front) whole → P whole) → IfSome held (λ files. P (bytes_of (Some files) file))
+told_head P table name file bytes cut None front is cut_is each = tt
+told_head P table name file bytes cut (Some files) front is cut_is each = each (bytes_of (Some files) file) (has_front table name file bytes files front is) cut_is

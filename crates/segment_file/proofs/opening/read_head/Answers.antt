@@ -1,12 +1,15 @@
-use Rattle.std.proofs.Common.{◌∙◌, Some, IfSome, sym}
+use Rattle.std.proofs.Common.{◌≡◌, ◌∙◌, ℕ, List, Some, IfSome, sym, subst, take}
+use Rattle.std.specs.Result.{IsErrOf}
 use Rattle.outside.specs.Files.{bytes_of}
 use Rattle.outside.specs.Seen.{seen}
-use Rattle.outside.proofs.SeenLemmas.{reads_none}
+use Rattle.outside.proofs.SeenLemmas.{reads_after, reads_none, reads_so}
+use Rattle.segment_file.specs.declared.fault.HeadFault.TheVariants as fault
+use Rattle.segment_file.specs.declared.part.Part.{Part}
 use Rattle.segment_file.specs.Front.{head_end}
-use Rattle.segment_file.specs.Heads.{IsHead, IsHeadOf}
-use Rattle.segment_file.specs.Rules.{FailsAt}
-use Rattle.segment_file.proofs.Faults.{growth_bad, growth_ok, growth_reads, reads_err, reads_handed, reads_well}
-use Rattle.segment_file.proofs.Openings.{head_fails, logs_front, logs_still, logs_within, untold}
+use Rattle.segment_file.specs.Heads.{IsHead, IsHeadOf, IsPlaced}
+use Rattle.segment_file.specs.Rules.{FailsAt, HasFront}
+use Rattle.segment_file.proofs.Faults.{err_so, growth_bad, growth_ok, growth_reads, ok_so, reads_err, reads_handed, reads_well}
+use Rattle.segment_file.proofs.Openings.{head_fails, head_of, logs_front, logs_still, logs_within, told_head, untold}
 use Rattle.segment_file.proofs.opening.read_head.Goals as goal
 
 pub returns-in_err-parts : goal.returns-in_err-parts
@@ -56,7 +59,31 @@ returns-in-Err-read_rest g c =
       log = logs_within head_end table name file read.bytes.items held read.front (g.S.Shelf.log c.args.shelf.now) (g.S.Shelf.log c.read_front.new.shelf) (g.S.Shelf.log c.read_rest.new.shelf) c.in-Ok.ensures.front c.in-Ok.ensures.log c.in-Err-read_rest.ensures.log;
     }
 
-pub returns-clause-log : goal.returns-clause-log
-returns-clause-log g c =
+pub returns : goal.returns
+returns g c =
+    let table = c.args.table.now in
+    let name = c.args.name.now in
+    let file = c.args.file.now in
+    let held = g.S.Shelf.held c.args.shelf.now in
+    let old = seen g.S.Shelf c.args.shelf.now in
     let read = c.in-Ok.read in
-    logs_within head_end c.args.table.now c.args.name.now c.args.file.now read.bytes.items (g.S.Shelf.held c.args.shelf.now) read.front (g.S.Shelf.log c.args.shelf.now) (g.S.Shelf.log c.read_front.new.shelf) (g.S.Shelf.log c.read_rest.new.shelf) c.in-Ok.ensures.front c.in-Ok.ensures.log c.in-Ok-read_rest.ensures.log
+    let between = seen g.S.Shelf c.read_front.new.shelf in
+    let last = seen g.S.Shelf c.read_rest.new.shelf in
+    let front = read.front in
+    let is = c.in-Ok.ensures.front in
+    let cut : List ℕ = c.deref-3.result.now in
+    let end : List ℕ → List ℕ = take (head_end table name front) in
+    let cut_is = subst (λ h. IfSome h (λ files. cut ≡ end (bytes_of (Some files) file))) c.in-Ok.ensures.only_reads.held (subst (λ b. IfSome between.held (λ files. b ≡ end (bytes_of (Some files) file))) (sym c.deref-3.ensures.value) c.in-Ok-read_rest.ensures.bytes) in
+    let made = c.check_head.result in
+    record {
+      of = ok_so (IsPlaced table name file front) (IsHeadOf table) made (λ head has. head_of table name file read.bytes.items held front head is has) c.check_head.ensures.placed;
+      head =
+          ok_so (λ head. (whole : List ℕ) → HasFront table name whole front → cut ≡ end whole → IsHead table name file whole head) (λ head. IfSome held (λ files. IsHead table name file (bytes_of (Some files) file) head)) made
+          (λ head each. told_head (λ whole. IsHead table name file whole head) table name file read.bytes.items cut held front is cut_is each) c.check_head.ensures.ok;
+      refused =
+          err_so (λ f. (p : Part) → f ≡ fault.NotASegment p → (whole : List ℕ) → HasFront table name whole front → cut ≡ end whole → FailsAt table name whole p)
+          (λ f. (p : Part) → f ≡ fault.NotASegment p → IfSome held (λ files. FailsAt table name (bytes_of (Some files) file) p)) made
+          (λ f each p is_p. told_head (λ whole. FailsAt table name whole p) table name file read.bytes.items cut held front is cut_is (each p is_p)) c.check_head.ensures.bad;
+      only_reads = reads_so ⊥ (IsErrOf made fault.ReadFault) old last c.check_head.ensures.read (λ e. absurd e) (reads_after ⊥ old between last (reads_well read old between c.in-Ok.ensures.only_reads) (reads_well c.in-Ok-read_rest.bytes between last c.in-Ok-read_rest.ensures.only_reads));
+      log = logs_within head_end table name file read.bytes.items held read.front (g.S.Shelf.log c.args.shelf.now) (g.S.Shelf.log c.read_front.new.shelf) (g.S.Shelf.log c.read_rest.new.shelf) c.in-Ok.ensures.front c.in-Ok.ensures.log c.in-Ok-read_rest.ensures.log;
+    }
