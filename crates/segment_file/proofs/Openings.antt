@@ -1,15 +1,17 @@
 -- The front of a file and the rest of its head, as they are read.
-use Rattle.std.proofs.Common.{◌≡◌, ◌∙◌, ◌≤◌, ◌<◌, ◌+◌, ℕ, List, ◌++◌, length, take, drop, sum, Option, Some, None, IfSome, inl, inr, sym, ap, ap₂, subst, arith}
+use Rattle.std.proofs.Common.{◌≡◌, ◌∙◌, ◌≤◌, ◌<◌, ◌+◌, ℕ, List, ◌++◌, length, take, drop, sum, Option, Some, None, IfSome, inl, inr, leb-true, sym, ap, ap₂, subst, arith}
 use Rattle.std.proofs.Math.Seq.{take-add}
 use Rattle.std.proofs.lemmas.List.Sums.{sum_by-take-le}
 use Rattle.outside.specs.Files.{Files, bytes_at, bytes_of}
 use Rattle.outside.specs.Reads.{Entry, LogsThrough, LogsUpTo}
 use Rattle.outside.proofs.ReadLemmas.{LogsThrough-append, LogsThrough-none}
 use Rattle.table_schema.specs.declared.table.Table.{Table}
+use Rattle.table_schema.specs.ValidTable.{most_rows}
 use Rattle.segment_file.specs.declared.part.Part.{Part}
 use Rattle.segment_file.specs.declared.part.Part.TheVariants as parts
 use Rattle.segment_file.specs.Front.{Front, front_size, head_end}
 use Rattle.segment_file.specs.Heads.{IsHeadOf, IsPlaced, IsWithin, KeepsRules, LogsWithin, Seen}
+use Rattle.segment_file.specs.Names.{IsSegmentName}
 use Rattle.segment_file.specs.Parts.{head_sections}
 use Rattle.segment_file.specs.Reading.{IsFrontOf}
 use Rattle.segment_file.specs.Rules.{FailsAt, HasFront, IsFront}
@@ -96,3 +98,11 @@ pub told_head : (P : List ℕ → Type 0) (table : Table) (name file bytes cut :
     → ((whole : List ℕ) → HasFront table name whole front → cut ≡ take (head_end table name front) whole → P whole) → IfSome held (λ files. P (bytes_of (Some files) file))
 told_head P table name file bytes cut None front is cut_is each = tt
 told_head P table name file bytes cut (Some files) front is cut_is each = each (bytes_of (Some files) file) (has_front table name file bytes files front is) cut_is
+
+-- ---- the sizes that are allowed
+
+pub few_rows : (table : Table) (rows : ℕ) → rows ≤ most_rows (length table.schema.fields) → rows ≤ 1048576
+few_rows table rows few = grind arith
+
+pub few_bytes : (name : List ℕ) → IsSegmentName name → length name ≤ 64
+few_bytes name is = leb-true (length name) 64 is.few

@@ -1,4 +1,4 @@
-use Rattle.std.proofs.Common.{◌≡◌, ◌∙◌, ℕ, List, Some, IfSome, sym, subst, take}
+use Rattle.std.proofs.Common.{◌≡◌, ◌∙◌, ℕ, List, Some, IfSome, ap, arith, length, sym, subst, take}
 use Rattle.std.specs.Result.{IsErrOf}
 use Rattle.outside.specs.Files.{bytes_of}
 use Rattle.outside.specs.Seen.{seen}
@@ -7,9 +7,10 @@ use Rattle.segment_file.specs.declared.fault.HeadFault.TheVariants as fault
 use Rattle.segment_file.specs.declared.part.Part.{Part}
 use Rattle.segment_file.specs.Front.{head_end}
 use Rattle.segment_file.specs.Heads.{IsHead, IsHeadOf, IsPlaced}
+use Rattle.segment_file.specs.Reading.{IsFrontOf}
 use Rattle.segment_file.specs.Rules.{FailsAt, HasFront}
 use Rattle.segment_file.proofs.Faults.{err_so, growth_bad, growth_ok, growth_reads, ok_so, reads_err, reads_handed, reads_well}
-use Rattle.segment_file.proofs.Openings.{head_fails, head_of, logs_front, logs_still, logs_within, told_head, untold}
+use Rattle.segment_file.proofs.Openings.{few_bytes, few_rows, head_fails, head_of, logs_front, logs_still, logs_within, told_head, untold}
 use Rattle.segment_file.proofs.opening.read_head.Goals as goal
 
 pub returns-in_err-parts : goal.returns-in_err-parts
@@ -87,3 +88,28 @@ returns g c =
       only_reads = reads_so ⊥ (IsErrOf made fault.ReadFault) old last c.check_head.ensures.read (λ e. absurd e) (reads_after ⊥ old between last (reads_well read old between c.in-Ok.ensures.only_reads) (reads_well c.in-Ok-read_rest.bytes between last c.in-Ok-read_rest.ensures.only_reads));
       log = logs_within head_end table name file read.bytes.items held read.front (g.S.Shelf.log c.args.shelf.now) (g.S.Shelf.log c.read_front.new.shelf) (g.S.Shelf.log c.read_rest.new.shelf) c.in-Ok.ensures.front c.in-Ok.ensures.log c.in-Ok-read_rest.ensures.log;
     }
+
+pub read_front-requires : goal.read_front-requires
+read_front-requires g c = record { valid = c.requires.valid; name = c.requires.name; parts = c.deref.ensures.value ∙ c.in_ok-parts.ensures }
+
+pub read_rest-requires : goal.read_rest-requires
+read_rest-requires g c =
+    let read = c.in-Ok.read in
+    record { front = subst (λ h. IsFrontOf c.args.table.now c.args.name.now c.args.file.now h read.bytes.items read.front) (sym c.in-Ok.ensures.only_reads.held) c.in-Ok.ensures.front }
+
+pub check_head-requires-clause-parts : goal.check_head-requires-clause-parts
+check_head-requires-clause-parts g c = c.deref-2.ensures.value ∙ c.in_ok-parts.ensures
+
+pub check_head-requires-clause-each : goal.check_head-requires-clause-each
+check_head-requires-clause-each g c = c.in-Ok.ensures.front.front_is.each ∙ ap length (sym c.in_ok-parts.ensures ∙ sym c.deref-2.ensures.value)
+
+pub check_head-requires-clause-short : goal.check_head-requires-clause-short
+check_head-requires-clause-short g c =
+    let is = c.in-Ok.ensures.front.front_is in
+    omega (arith, is.whole, is.small)
+
+pub check_head-requires-clause-rows : goal.check_head-requires-clause-rows
+check_head-requires-clause-rows g c = few_rows c.args.table.now c.in-Ok.read.front.rows c.in-Ok.ensures.front.front_is.few
+
+pub check_head-requires-clause-name : goal.check_head-requires-clause-name
+check_head-requires-clause-name g c = few_bytes c.args.name.now c.requires.name

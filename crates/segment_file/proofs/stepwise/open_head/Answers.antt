@@ -12,6 +12,7 @@ use Rattle.segment_file.specs.Bounds.{AreBounds}
 use Rattle.segment_file.specs.Front.{Extent, bounds_end, extents_from, extents_of, front_size}
 use Rattle.segment_file.specs.Heads.{AreIn, AreNodesLoaded, IsHead, IsHeadOf, IsLoaded, IsOpened, IsPartOf, IsPlaced, KeepsRules, Seen, bounded, placed}
 use Rattle.segment_file.specs.Parts.{sections_of}
+use Rattle.segment_file.specs.Reading.{IsFrontOf}
 use Rattle.segment_file.specs.Rules.{heads_in}
 use Rattle.segment_file.proofs.Faults.{growth_bad, growth_ok, growth_reads, reads_ended, reads_err, reads_handed, reads_well}
 use Rattle.segment_file.proofs.Openings.{front_length, head_of, frontless, logs_front, logs_still, logs_within}
@@ -147,3 +148,11 @@ returns g c =
       only_reads = reads_ended head old last (reads_after ⊥ old between last (reads_well read old between c.in-Ok.ensures.only_reads) (reads_well c.in-Ok-bounds_section.bounds between last c.in-Ok-bounds_section.ensures.only_reads));
       log = logs_within bounds_end table name file read.bytes.items (g.S.Shelf.held c.args.shelf.now) read.front (g.S.Shelf.log c.args.shelf.now) (g.S.Shelf.log c.read_front.new.shelf) (g.S.Shelf.log c.bounds_section.new.shelf) c.in-Ok.ensures.front c.in-Ok.ensures.log c.in-Ok-bounds_section.ensures.log;
     }
+
+pub read_front-requires : goal.read_front-requires
+read_front-requires g c = record { valid = c.requires.valid; name = c.requires.name; parts = c.deref.ensures.value ∙ c.in_ok-parts.ensures }
+
+pub bounds_section-requires : goal.bounds_section-requires
+bounds_section-requires g c =
+    let read = c.in-Ok.read in
+    record { front = subst (λ h. IsFrontOf c.args.table.now c.args.name.now c.args.file.now h read.bytes.items read.front) (sym c.in-Ok.ensures.only_reads.held) c.in-Ok.ensures.front }
