@@ -1,5 +1,5 @@
 -- What a call leaves where it hands on a fault, or where a growth was refused.
-use Rattle.std.proofs.Common.{◌≡◌, Err, Ok, Result, ap}
+use Rattle.std.proofs.Common.{◌≡◌, ◌≢◌, Err, Ok, Result, ap}
 use Rattle.std.specs.Result.{IfErr, IfOk, IsErr, IsErrAnd, IsErrOf}
 use Rattle.outside.specs.Seen.{OnlyReads, Seen}
 use Rattle.outside.proofs.SeenLemmas.{reads_after, reads_so}
@@ -51,3 +51,7 @@ ok_so P Q (Err y) so is = tt
 pub err_so : {T E : Type 0} (P Q : E → Type 0) (r : Result T E) → ((y : E) → P y → Q y) → IfErr r P → IfErr r Q
 err_so P Q (Ok x) so is = tt
 err_so P Q (Err y) so is = so y is
+
+-- a fault that is none of the device
+pub reads_other : {T : Type 0} (a : HeadFault) (old new : Seen) → a ≢ fault.ReadFault → OnlyReads ⊥ old new → OnlyReads (IsErrOf {T = T} {E = HeadFault} (Err a) fault.ReadFault) old new
+reads_other {T} a old new other reads = reads_so ⊥ (IsErrOf {T = T} {E = HeadFault} (Err a) fault.ReadFault) old new (λ e. other (err_same {T = T} a fault.ReadFault e)) (λ e. absurd e) reads

@@ -106,3 +106,16 @@ few_rows table rows few = grind arith
 
 pub few_bytes : (name : List ℕ) → IsSegmentName name → length name ≤ 64
 few_bytes name is = leb-true (length name) 64 is.few
+
+-- ---- the reading of the front
+
+pub front_log : (file : List ℕ) (count limit : ℕ) (old between new : Option (List Entry)) → 0 + count ≡ limit → between ≡ old → LogsThrough file 0 (0 + count) between new → LogsThrough file 0 limit old new
+front_log file count limit old between new e same on = subst (λ l. LogsThrough file 0 limit l new) same (subst (λ n. LogsThrough file 0 n between new) e on)
+
+pub front_up : (file : List ℕ) (count limit : ℕ) (old between new : Option (List Entry)) → 0 + count ≡ limit → between ≡ old → LogsUpTo file 0 (0 + count) between new → LogsUpTo file 0 limit old new
+front_up file count limit old between new e same on = subst (λ l. LogsUpTo file 0 limit l new) same (subst (λ n. LogsUpTo file 0 n between new) e on)
+
+-- a file that ends before its front would end has none
+pub front_short : (table : Table) (name file : List ℕ) (held : Option Files) (count : ℕ) → 0 + count ≡ front_size table name → IfSome held (λ files. length (bytes_of (Some files) file) < 0 + count) → IfSome held (λ files. (front : Front) → ¬ HasFront table name (bytes_of (Some files) file) front)
+front_short table name file None count e lt = tt
+front_short table name file (Some files) count e lt = λ front has. omega (arith, has.whole, lt, e)
