@@ -1,5 +1,5 @@
 -- The front of a file and the rest of its head, as they are read.
-use Rattle.std.proofs.Common.{◌≡◌, ◌∙◌, ◌≤◌, ◌<◌, ◌+◌, ℕ, List, ◌++◌, length, take, drop, sum, Option, Some, None, IfSome, inl, inr, leb-true, sym, ap, ap₂, subst, arith}
+use Rattle.std.proofs.Common.{◌≡◌, ◌∙◌, ◌≤◌, ◌<◌, ◌+◌, ℕ, List, ◌++◌, length, take, drop, sum, Option, Some, None, IfSome, refl, inl, inr, leb-true, sym, ap, ap₂, subst, arith}
 use Rattle.std.proofs.Math.Seq.{take-add}
 use Rattle.std.proofs.lemmas.List.Sums.{sum_by-take-le}
 use Rattle.outside.specs.Files.{Files, bytes_at, bytes_of}
@@ -119,3 +119,8 @@ front_up file count limit old between new e same on = subst (λ l. LogsUpTo file
 pub front_short : (table : Table) (name file : List ℕ) (held : Option Files) (count : ℕ) → 0 + count ≡ front_size table name → IfSome held (λ files. length (bytes_of (Some files) file) < 0 + count) → IfSome held (λ files. (front : Front) → ¬ HasFront table name (bytes_of (Some files) file) front)
 front_short table name file None count e lt = tt
 front_short table name file (Some files) count e lt = λ front has. omega (arith, has.whole, lt, e)
+
+-- a told file is not too short for the head that its front tells of
+pub rest_short : (table : Table) (name file bytes : List ℕ) (held : Option Files) (front : Front) (start rest : ℕ) → IsFrontOf table name file held bytes front → start + rest ≡ head_end table name front → IfSome held (λ files. length (bytes_of (Some files) file) < start + rest) → held ≡ None
+rest_short table name file bytes None front start rest is end lt = refl
+rest_short table name file bytes (Some files) front start rest is end lt = absurd (omega (arith, lt, end, is.told.0, head_within table name bytes is.size front is.front_is))
