@@ -55,3 +55,10 @@ err_so P Q (Err y) so is = so y is
 -- a fault that is none of the device
 pub reads_other : {T : Type 0} (a : HeadFault) (old new : Seen) → a ≢ fault.ReadFault → OnlyReads ⊥ old new → OnlyReads (IsErrOf {T = T} {E = HeadFault} (Err a) fault.ReadFault) old new
 reads_other {T} a old new other reads = reads_so ⊥ (IsErrOf {T = T} {E = HeadFault} (Err a) fault.ReadFault) old new (λ e. other (err_same {T = T} a fault.ReadFault e)) (λ e. absurd e) reads
+
+pub growth_read : {T : Type 0} (r : Result T HeadFault) → IsGrowth r → ¬ IsErrOf r fault.ReadFault
+growth_read (Ok x) h = absurd h.1
+growth_read (Err y) h = λ e. let no : y ≡ fault.NoMemory = h.1 in cc
+
+pub read_handed : {T U : Type 0} (a : HeadFault) → ¬ IsErrOf {T = T} {E = HeadFault} (Err a) fault.ReadFault → ¬ IsErrOf {T = U} {E = HeadFault} (Err a) fault.ReadFault
+read_handed {T} {U} a none e = none (ap Err (err_same {T = U} a fault.ReadFault e))

@@ -1,16 +1,17 @@
-use Rattle.std.proofs.Common.{◌≡◌, ◌≢◌, ◌∙◌, ◌+◌, ℕ, Bool, true, false, All, List, Some, [], length, map, get_or, drop, ap, sym, subst, arith}
+use Rattle.std.proofs.Common.{◌≡◌, ◌≢◌, ◌∙◌, ◌+◌, ℕ, Bool, true, false, All, List, Some, [], length, map, get_or, drop, take, ap, sym, subst, arith}
 use Rattle.std.proofs.lemmas.Bool.{false≢true}
 use Rattle.std.proofs.lemmas.List.{length-map}
 use Rattle.std.specs.Bool.{MatchBool}
 use Rattle.segment_file.specs.declared.part.Part.TheVariants as parts
 use Rattle.segment_file.specs.declared.section.Section.{Section}
 use Rattle.segment_file.specs.Bounds.{bounds_bytes, bounds_of}
-use Rattle.segment_file.specs.Front.{extents_of}
-use Rattle.segment_file.specs.Heads.{placed, trees_said}
+use Rattle.segment_file.specs.Front.{extents_of, head_end}
+use Rattle.segment_file.specs.Heads.{IsHead, IsPlaced, placed, trees_said}
 use Rattle.segment_file.specs.Parts.{columns_of}
 use Rattle.segment_file.specs.Reading.{AreRead, FitsSize, NodesStop, SizeFails, heads_read}
-use Rattle.segment_file.specs.Rules.{AreSpelled, FailsAt, HaveNodes, raw_extents}
+use Rattle.segment_file.specs.Rules.{AreSpelled, FailsAt, HasFront, HaveNodes, raw_extents}
 use Rattle.segment_file.proofs.Counts.{few_sections}
+use Rattle.segment_file.proofs.Faults.{growth_bad, growth_ok, growth_read, read_handed}
 use Rattle.segment_file.proofs.HeadLemmas.{heads_at}
 use Rattle.segment_file.proofs.Composed.{all_hold, bounds_fail, dictionary_fails, made_count, made_is, nodes_fail, parts_made, raw_made, size_fails, spelled_length, trees_told}
 use Rattle.segment_file.proofs.TreeChecks.{said_count}
@@ -202,13 +203,12 @@ returns-clause-ok c = λ whole has cut.
       front = front;
       dictionaries = ds;
       keeps = all_hold table name file whole c.args.bytes.now front c.deref.result.now c.rows.result c.requires.valid made c.rows.ensures has cut ds first c.in-Ok.ensures.ok first_is same have c.sections_after-tail.result.now raw_is fits;
-      rows_are = ap (λ h. h.rows) c.new.ensures ∙ c.rows-4.ensures;
-      sections_are = ap (λ h. h.sections) c.new.ensures ∙ sym c.deref.ensures.value ∙ made;
-      dictionaries_are = ap (λ h. h.dictionaries) c.new.ensures ∙ c.in_ok-dictionaries.ensures;
-      bounds_are = ap (λ h. h.bounds) c.new.ensures ∙ c.in_ok-bounds.ensures ∙ ap bounds_of c.deref-8.ensures.value;
+      rows_are = ap (λ h. h.rows) c.in_ok-whole_head.ensures ∙ c.rows-4.ensures;
+      sections_are = ap (λ h. h.sections) c.in_ok-whole_head.ensures ∙ sym c.deref.ensures.value ∙ made;
+      dictionaries_are = ap (λ h. h.dictionaries) c.in_ok-whole_head.ensures;
+      bounds_are = ap (λ h. h.bounds) c.in_ok-whole_head.ensures;
       trees_are =
-          ap (λ h. h.trees) c.new.ensures
-          ∙ c.in_ok-trees.ensures
+          ap (λ h. h.trees) c.in_ok-whole_head.ensures
           ∙ ap (map Some) (trees_told table name file whole c.args.bytes.now front c.deref.result.now c.rows.result c.requires.valid made c.rows.ensures has cut ds first c.in-Ok.ensures.ok first_is same c.in-Ok-check_trees.trees.items said);
     }
 
@@ -222,17 +222,99 @@ returns-clause-placed c =
     made_is table name file front c.args.parts.now c.deref.result.now c.in_ok-sections.sections.items c.front_size-start.result c.sizes.result.now c.front_size-start.ensures c.requires.parts c.sizes.ensures c.in_ok-sections.ensures c.deref.ensures.value in
     let ds = c.in-Ok.dictionaries.items in
     record {
-      rows_are = ap (λ h. h.rows) c.new.ensures ∙ c.rows-4.ensures;
-      sections_are = ap (λ h. h.sections) c.new.ensures ∙ sym c.deref.ensures.value ∙ made;
+      rows_are = ap (λ h. h.rows) c.in_ok-whole_head.ensures ∙ c.rows-4.ensures;
+      sections_are = ap (λ h. h.sections) c.in_ok-whole_head.ensures ∙ sym c.deref.ensures.value ∙ made;
       slots =
-          ap (λ h. length h.dictionaries) c.new.ensures
-          ∙ ap length c.in_ok-dictionaries.ensures
+          ap (λ h. length h.dictionaries) c.in_ok-whole_head.ensures
           ∙ length-map ds Some
           ∙ sym (spelled_length table c.rows.result (heads_read table c.deref.result.now c.args.bytes.now) ds c.in-Ok.ensures.ok);
       tree_slots =
-          ap (λ h. length h.trees) c.new.ensures
-          ∙ ap length c.in_ok-trees.ensures
+          ap (λ h. length h.trees) c.in_ok-whole_head.ensures
           ∙ length-map c.in-Ok-check_trees.trees.items Some
           ∙ ap length c.in-Ok-check_trees.ensures.said
           ∙ said_count table (heads_read table c.deref-4.result.now c.args.bytes.now);
     }
+
+pub returns-in_err-sections : goal.returns-in_err-sections
+returns-in_err-sections c =
+    let table = c.args.table.now in
+    let name = c.args.name.now in
+    let file = c.args.file.now in
+    let front = c.args.front.now in
+    let r = c.from_residual in
+    record {
+      ok = growth_ok (λ head. (whole : List ℕ) → HasFront table name whole front → c.args.bytes.now ≡ take (head_end table name front) whole → IsHead table name file whole head) r.result r.ensures;
+      placed = growth_ok (IsPlaced table name file front) r.result r.ensures;
+      bad = growth_bad (λ p. (whole : List ℕ) → HasFront table name whole front → c.args.bytes.now ≡ take (head_end table name front) whole → FailsAt table name whole p) r.result r.ensures;
+      read = growth_read r.result r.ensures;
+    }
+
+pub returns-in_err-has_bounds : goal.returns-in_err-has_bounds
+returns-in_err-has_bounds c =
+    let table = c.args.table.now in
+    let name = c.args.name.now in
+    let file = c.args.file.now in
+    let front = c.args.front.now in
+    let r = c.from_residual-in_err-has_bounds in
+    record {
+      ok = growth_ok (λ head. (whole : List ℕ) → HasFront table name whole front → c.args.bytes.now ≡ take (head_end table name front) whole → IsHead table name file whole head) r.result r.ensures;
+      placed = growth_ok (IsPlaced table name file front) r.result r.ensures;
+      bad = growth_bad (λ p. (whole : List ℕ) → HasFront table name whole front → c.args.bytes.now ≡ take (head_end table name front) whole → FailsAt table name whole p) r.result r.ensures;
+      read = growth_read r.result r.ensures;
+    }
+
+pub returns-in_err-whole_head : goal.returns-in_err-whole_head
+returns-in_err-whole_head c =
+    let table = c.args.table.now in
+    let name = c.args.name.now in
+    let file = c.args.file.now in
+    let front = c.args.front.now in
+    let r = c.from_residual-in_err-whole_head in
+    record {
+      ok = growth_ok (λ head. (whole : List ℕ) → HasFront table name whole front → c.args.bytes.now ≡ take (head_end table name front) whole → IsHead table name file whole head) r.result r.ensures;
+      placed = growth_ok (IsPlaced table name file front) r.result r.ensures;
+      bad = growth_bad (λ p. (whole : List ℕ) → HasFront table name whole front → c.args.bytes.now ≡ take (head_end table name front) whole → FailsAt table name whole p) r.result r.ensures;
+      read = growth_read r.result r.ensures;
+    }
+
+pub returns-in-Err-clause-ok : goal.returns-in-Err-clause-ok
+returns-in-Err-clause-ok c = tt
+
+pub returns-in-Err-clause-placed : goal.returns-in-Err-clause-placed
+returns-in-Err-clause-placed c = tt
+
+pub returns-in-Err-clause-read : goal.returns-in-Err-clause-read
+returns-in-Err-clause-read c = read_handed c.in-Err.fault c.in-Err.ensures.read
+
+pub returns-then-not-branch-clause-ok : goal.returns-then-not-branch-clause-ok
+returns-then-not-branch-clause-ok c = tt
+
+pub returns-then-not-branch-clause-placed : goal.returns-then-not-branch-clause-placed
+returns-then-not-branch-clause-placed c = tt
+
+pub returns-then-not-branch-clause-read : goal.returns-then-not-branch-clause-read
+returns-then-not-branch-clause-read c = λ e. cc
+
+pub returns-in-Err-check_trees-clause-ok : goal.returns-in-Err-check_trees-clause-ok
+returns-in-Err-check_trees-clause-ok c = tt
+
+pub returns-in-Err-check_trees-clause-placed : goal.returns-in-Err-check_trees-clause-placed
+returns-in-Err-check_trees-clause-placed c = tt
+
+pub returns-in-Err-check_trees-clause-read : goal.returns-in-Err-check_trees-clause-read
+returns-in-Err-check_trees-clause-read c = read_handed c.in-Err-check_trees.fault c.in-Err-check_trees.ensures.read
+
+pub returns-in-Err-check_sizes-clause-ok : goal.returns-in-Err-check_sizes-clause-ok
+returns-in-Err-check_sizes-clause-ok c = tt
+
+pub returns-in-Err-check_sizes-clause-placed : goal.returns-in-Err-check_sizes-clause-placed
+returns-in-Err-check_sizes-clause-placed c = tt
+
+pub returns-in-Err-check_sizes-clause-read : goal.returns-in-Err-check_sizes-clause-read
+returns-in-Err-check_sizes-clause-read c = λ e. cc
+
+pub returns-clause-bad : goal.returns-clause-bad
+returns-clause-bad c = tt
+
+pub returns-clause-read : goal.returns-clause-read
+returns-clause-read c = λ e. cc
