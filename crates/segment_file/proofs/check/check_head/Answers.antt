@@ -1,4 +1,4 @@
-use Rattle.std.proofs.Common.{◌≡◌, ◌≢◌, ◌∙◌, ◌+◌, ℕ, Bool, true, false, All, List, Some, [], length, map, get_or, drop, take, ap, sym, subst, arith}
+use Rattle.std.proofs.Common.{◌≡◌, ◌≢◌, ◌∙◌, ◌+◌, ℕ, Bool, true, false, All, List, Some, [], length, map, get_or, drop, sum, take, ap, sym, subst, arith}
 use Rattle.std.proofs.lemmas.Bool.{false≢true}
 use Rattle.std.proofs.lemmas.List.{length-map}
 use Rattle.std.specs.Bool.{MatchBool}
@@ -99,7 +99,7 @@ returns-in-Err-check_trees-clause-bad c = λ p is whole has cut.
     let heads = heads_read table c.deref.result.now c.args.bytes.now in
     let fourth : c.deref-4.result.now ≡ c.deref.result.now = c.deref-4.ensures.value ∙ sym c.deref.ensures.value in
     let second = c.rows-2.ensures ∙ sym c.rows.ensures in
-    let stops : (t : ℕ) × (p ≡ parts.Nodes t) × NodesStop table c.rows.result heads t = along (λ r s. (t : ℕ) × (p ≡ parts.Nodes t) × NodesStop table r (heads_read table s c.args.bytes.now) t) _ _ _ _ second fourth (c.in-Err-check_trees.ensures.bad p is) in
+    let stops : (t : ℕ) × (p ≡ parts.Nodes t) × NodesStop table c.rows.result heads t = along (λ r s. (t : ℕ) × (p ≡ parts.Nodes t) × NodesStop table r (heads_read table s c.args.bytes.now) t) c.rows-2.result c.rows.result c.deref-4.result.now c.deref.result.now second fourth (c.in-Err-check_trees.ensures.bad p is) in
     nodes_fail table name file whole c.args.bytes.now front c.deref.result.now c.rows.result c.requires.valid made c.rows.ensures has cut ds first c.in-Ok.ensures.ok first_is same p stops
 
 pub sections_after-tail-requires : goal.sections_after-tail-requires
@@ -152,7 +152,7 @@ returns-in-Err-check_sizes-clause-bad c = λ p is whole has cut.
     let heads = heads_read table c.deref.result.now c.args.bytes.now in
     let fourth : c.deref-4.result.now ≡ c.deref.result.now = c.deref-4.ensures.value ∙ sym c.deref.ensures.value in
     let second = c.rows-2.ensures ∙ sym c.rows.ensures in
-    let have = along (λ r s. HaveNodes table r (heads_read table s c.args.bytes.now) (length table.settings.trees)) _ _ _ _ second fourth c.in-Ok-check_trees.ensures.ok in
+    let have = along (λ r s. HaveNodes table r (heads_read table s c.args.bytes.now) (length table.settings.trees)) c.rows-2.result c.rows.result c.deref-4.result.now c.deref.result.now second fourth c.in-Ok-check_trees.ensures.ok in
     let said : c.in-Ok-check_trees.trees.items ≡ trees_said table heads = c.in-Ok-check_trees.ensures.said ∙ ap (λ s. trees_said table (heads_read table s c.args.bytes.now)) fourth in
     let raw_is : c.sections_after-tail.result.now ≡ map (placed file) (raw_extents table name front) =
     c.sections_after-tail.ensures ∙ (λ i. drop (c.len.ensures i + 1 + c.len-2.ensures i) ((c.deref-5.ensures.value ∙ sym c.deref.ensures.value) i)) ∙ raw_made table name file front c.deref.result.now made in
@@ -187,7 +187,7 @@ returns-clause-ok c = λ whole has cut.
     let heads = heads_read table c.deref.result.now c.args.bytes.now in
     let fourth : c.deref-4.result.now ≡ c.deref.result.now = c.deref-4.ensures.value ∙ sym c.deref.ensures.value in
     let second = c.rows-2.ensures ∙ sym c.rows.ensures in
-    let have = along (λ r s. HaveNodes table r (heads_read table s c.args.bytes.now) (length table.settings.trees)) _ _ _ _ second fourth c.in-Ok-check_trees.ensures.ok in
+    let have = along (λ r s. HaveNodes table r (heads_read table s c.args.bytes.now) (length table.settings.trees)) c.rows-2.result c.rows.result c.deref-4.result.now c.deref.result.now second fourth c.in-Ok-check_trees.ensures.ok in
     let said : c.in-Ok-check_trees.trees.items ≡ trees_said table heads = c.in-Ok-check_trees.ensures.said ∙ ap (λ s. trees_said table (heads_read table s c.args.bytes.now)) fourth in
     let raw_is : c.sections_after-tail.result.now ≡ map (placed file) (raw_extents table name front) =
     c.sections_after-tail.ensures ∙ (λ i. drop (c.len.ensures i + 1 + c.len-2.ensures i) ((c.deref-5.ensures.value ∙ sym c.deref.ensures.value) i)) ∙ raw_made table name file front c.deref.result.now made in
@@ -318,3 +318,25 @@ returns-clause-bad c = tt
 
 pub returns-clause-read : goal.returns-clause-read
 returns-clause-read c = λ e. cc
+
+pub front_size-start-requires-clause-name : goal.front_size-start-requires-clause-name
+front_size-start-requires-clause-name c = c.requires.name
+
+pub place_sections-requires : goal.place_sections-requires
+place_sections-requires c = record {
+  each = ap length c.sizes.ensures ∙ c.requires.each;
+  short = omega (arith, c.front_size-start.ensures, ap sum c.sizes.ensures, ap length c.requires.parts, c.requires.short);
+}
+
+pub check_trees-requires-clause-valid : goal.check_trees-requires-clause-valid
+check_trees-requires-clause-valid c = c.requires.valid
+
+pub check_trees-requires-clause-spelled : goal.check_trees-requires-clause-spelled
+check_trees-requires-clause-spelled c =
+    let table = c.args.table.now in
+    let bytes = c.args.bytes.now in
+    subst (AreSpelled table c.rows-2.result (heads_read table c.deref-4.result.now bytes) (columns_of table)) (sym c.deref-3.ensures.value)
+    (along (λ r s. AreSpelled table r (heads_read table s bytes) (columns_of table) c.in-Ok.dictionaries.items) c.rows.result c.rows-2.result c.deref.result.now c.deref-4.result.now (c.rows.ensures ∙ sym c.rows-2.ensures) (c.deref.ensures.value ∙ sym c.deref-4.ensures.value) c.in-Ok.ensures.ok)
+
+pub check_sizes-requires-clause-valid : goal.check_sizes-requires-clause-valid
+check_sizes-requires-clause-valid c = c.requires.valid
