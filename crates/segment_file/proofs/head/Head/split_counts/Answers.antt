@@ -1,4 +1,5 @@
-use Rattle.std.proofs.Common.{◌≡◌, ◌∙◌, ◌<◌, ◌+◌, [], ◌∷◌, All, length, get_or, refl, sym, ap, subst, arith, length-append}
+use Rattle.std.proofs.Common.{◌≡◌, ◌∙◌, ◌<◌, ◌+◌, [], ◌∷◌, All, length, get_or, refl, sym, ap, subst, arith, length-append, take}
+use Rattle.std.proofs.lemmas.List.{take_all}
 use Rattle.outside.specs.Seen.{seen}
 use Rattle.outside.proofs.SeenLemmas.{reads_none}
 use Rattle.segment_file.specs.Heads.{HasCount, HaveCounts, LogsCount, LogsCounts, OfWhole, split_of}
@@ -102,8 +103,22 @@ returns-in-Err-clause-each g c = tt
 pub returns-in-Err-clause-refused : goal.returns-in-Err-clause-refused
 returns-in-Err-clause-refused g c = λ p is. subst (λ h. OfWhole c.args.table.now h c.args.self.now (λ _. ⊥)) c.loop-column.invariant.reads.held (c.in-Err.ensures.refused p is)
 
-pub returns-clause-refused : goal.returns-clause-refused
-returns-clause-refused g c = tt
-
-pub returns-clause-only_reads : goal.returns-clause-only_reads
-returns-clause-only_reads g c = reads_ended c.loop-column.counts (seen g.S.Shelf c.args.shelf.now) (seen g.S.Shelf c.loop-column.shelf) c.loop-column.invariant.reads
+pub returns : goal.returns
+returns g c =
+    let table = c.args.table.now in
+    let head = c.args.self.now in
+    let split = c.as_slice-split.result.now in
+    let old = seen g.S.Shelf c.args.shelf.now in
+    let last = seen g.S.Shelf c.loop-column.shelf in
+    let counts = c.loop-column.counts in
+    let so_far = c.loop-column.invariant in
+    let split_are : split ≡ split_of table c.args.tree = c.as_slice-split.ensures ∙ sym (split_is table c.args.tree c.at.result.now c.at.ensures) in
+    let all : take c.loop-column.column-index split ≡ split_of table c.args.tree = take_all c.loop-column.column-index split c.loop-column-test.false ∙ split_are in
+    let ended : c.loop-column.column-index ≡ length split = omega (arith, c.loop-column-test.false, c.loop-column.auto.column-index-end) in
+    record {
+      counts = subst (λ xs. OfWhole table old.held head (HaveCounts xs counts.items)) all so_far.counts;
+      each = so_far.number ∙ ended ∙ ap length split_are;
+      refused = tt;
+      only_reads = reads_ended counts old last so_far.reads;
+      log = subst (λ xs. LogsCounts head xs old.log last.log) all so_far.log;
+    }
