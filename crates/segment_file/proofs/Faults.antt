@@ -62,3 +62,12 @@ growth_read (Err y) h = λ e. let no : y ≡ fault.NoMemory = h.1 in cc
 
 pub read_handed : {T U : Type 0} (a : HeadFault) → ¬ IsErrOf {T = T} {E = HeadFault} (Err a) fault.ReadFault → ¬ IsErrOf {T = U} {E = HeadFault} (Err a) fault.ReadFault
 read_handed {T} {U} a none e = none (ap Err (err_same {T = U} a fault.ReadFault e))
+
+pub same_part : (a b : Part) → fault.NotASegment a ≡ fault.NotASegment b → a ≡ b
+same_part a b e = cc
+
+pub no_read : {T : Type 0} (p : Part) → ¬ IsErrOf {T = T} {E = HeadFault} (Err (fault.NotASegment p)) fault.ReadFault
+no_read p e = cc
+
+pub well_read : {T : Type 0} (x : T) → ¬ IsErrOf {T = T} {E = HeadFault} (Ok x) fault.ReadFault
+well_read x e = cc

@@ -21,6 +21,9 @@ pub heads_at : (bytes : List ℕ) (sections : List Section) (count i : ℕ) (s :
 heads_at bytes sections count i s below lt is =
     get_or-map (bytes_of_section bytes) (take count sections) i s [] (omega (arith, length-take count sections)) ∙ ap (bytes_of_section bytes) (get_or-take count sections i s below ∙ sym is)
 
+pub head_first : (table : Table) (bytes : List ℕ) (sections : List Section) (s : Section) → length table.schema.fields + 1 + length table.settings.trees ≤ length sections → s ≡ get_or sections 0 s → get_or (heads_read table sections bytes) 0 [] ≡ bytes_of_section bytes s
+head_first table bytes sections s many is = heads_at bytes sections (length table.schema.fields + 1 + length table.settings.trees) 0 s (omega arith) (omega (arith, many)) is
+
 pub kind_found : (table : Table) (column : ℕ) (f : Field) → column < length table.schema.fields → f ≡ get_or table.schema.fields column f → kind_at table column ≡ f.kind
 kind_found table column f lt is = ap kind_or (slice_get-get_or table.schema.fields column f lt) ∙ ap (λ g. g.kind) (sym is)
 

@@ -1,4 +1,4 @@
-use Rattle.std.proofs.Common.{◌≡◌, ◌≢◌, ◌∙◌, ◌+◌, ℕ, Bool, true, false, All, List, Some, [], length, map, get_or, drop, sum, take, ap, sym, subst, arith}
+use Rattle.std.proofs.Common.{◌≡◌, ◌≢◌, ◌∙◌, ◌≤◌, ◌+◌, ℕ, Bool, true, false, All, List, Some, [], length, map, get_or, drop, take, ap, sym, subst}
 use Rattle.std.proofs.lemmas.Bool.{false≢true}
 use Rattle.std.proofs.lemmas.List.{length-map}
 use Rattle.std.specs.Bool.{MatchBool}
@@ -10,10 +10,9 @@ use Rattle.segment_file.specs.Heads.{IsHead, IsPlaced, placed, trees_said}
 use Rattle.segment_file.specs.Parts.{columns_of}
 use Rattle.segment_file.specs.Reading.{AreRead, FitsSize, NodesStop, SizeFails, heads_read}
 use Rattle.segment_file.specs.Rules.{AreSpelled, FailsAt, HasFront, HaveNodes, raw_extents}
-use Rattle.segment_file.proofs.Counts.{few_sections}
-use Rattle.segment_file.proofs.Faults.{growth_bad, growth_ok, growth_read, read_handed}
-use Rattle.segment_file.proofs.HeadLemmas.{heads_at}
-use Rattle.segment_file.proofs.Composed.{all_hold, bounds_fail, dictionary_fails, made_count, made_is, nodes_fail, parts_made, raw_made, size_fails, spelled_length, trees_told}
+use Rattle.segment_file.proofs.HeadLemmas.{head_first}
+use Rattle.segment_file.proofs.Faults.{growth_bad, growth_ok, growth_read, no_read, read_handed, same_part, well_read}
+use Rattle.segment_file.proofs.Composed.{all_hold, bounds_fail, dictionary_fails, few_parts, made_count, made_fields, made_heads, made_is, nodes_fail, parts_made, raw_made, short_sections, size_fails, spelled_length, trees_told}
 use Rattle.segment_file.proofs.TreeChecks.{said_count}
 use Rattle.segment_file.proofs.check.check_head.Goals as goal
 
@@ -30,7 +29,7 @@ differs true P h e p = false≢true (sym e)
 differs false P h e p = h p
 
 pub front_size-start-requires-clause-sections : goal.front_size-start-requires-clause-sections
-front_size-start-requires-clause-sections c = omega (arith, few_sections c.args.table.now c.requires.valid, ap length c.requires.parts)
+front_size-start-requires-clause-sections c = few_parts c.args.table.now c.args.parts.now c.requires.valid c.requires.parts
 
 pub check_dictionaries-requires-clause-each : goal.check_dictionaries-requires-clause-each
 check_dictionaries-requires-clause-each c =
@@ -40,7 +39,7 @@ check_dictionaries-requires-clause-each c =
     let front = c.args.front.now in
     let made : c.deref.result.now ≡ map (placed file) (extents_of table name front) =
     made_is table name file front c.args.parts.now c.deref.result.now c.in_ok-sections.sections.items c.front_size-start.result c.sizes.result.now c.front_size-start.ensures c.requires.parts c.sizes.ensures c.in_ok-sections.ensures c.deref.ensures.value in
-    omega (arith, made_count table name file front c.args.parts.now c.deref.result.now c.requires.parts c.requires.each made)
+    made_fields table c.deref.result.now (made_count table name file front c.args.parts.now c.deref.result.now c.requires.parts c.requires.each made)
 
 pub returns-in-Err-clause-bad : goal.returns-in-Err-clause-bad
 returns-in-Err-clause-bad c = λ p is whole has cut.
@@ -63,12 +62,10 @@ returns-then-not-branch-clause-bad c = λ p is whole has cut.
     let ds = c.in-Ok.dictionaries.items in
     let first = c.section_bytes.result.now in
     let zeroth : c.index.result.now ≡ get_or c.deref.result.now 0 c.index.result.now = c.index.ensures ∙ ap (λ xs. get_or xs 0 c.index.result.now) (sym c.deref.ensures.value) in
-    let first_is : first ≡ get_or (heads_read table c.deref.result.now c.args.bytes.now) 0 [] =
-    c.section_bytes.ensures
-    ∙ sym (heads_at c.args.bytes.now c.deref.result.now (length table.schema.fields + 1 + length table.settings.trees) 0 c.index.result.now (omega arith) (omega (arith, made_count table name file front c.args.parts.now c.deref.result.now c.requires.parts c.requires.each made)) zeroth) in
+    let first_is : first ≡ get_or (heads_read table c.deref.result.now c.args.bytes.now) 0 [] = c.section_bytes.ensures ∙ sym (head_first table c.args.bytes.now c.deref.result.now c.index.result.now (made_count table name file front c.args.parts.now c.deref.result.now c.requires.parts c.requires.each made) zeroth) in
     let other : first ≢ bounds_bytes (bounds_of ds) =
     subst (λ xs. first ≢ bounds_bytes (bounds_of xs)) c.deref-2.ensures.value (differs c.in_ok-has_bounds.field-0 (first ≡ bounds_bytes (bounds_of c.deref-2.result.now)) c.in_ok-has_bounds.ensures c.if-not-branch.true) in
-    let bounds_is : parts.Bounds ≡ p = cc in
+    let bounds_is : parts.Bounds ≡ p = same_part parts.Bounds p is in
     subst (FailsAt table name whole) bounds_is (bounds_fail table name file whole c.args.bytes.now front c.deref.result.now c.rows.result c.requires.valid made c.rows.ensures has cut ds first c.in-Ok.ensures.ok first_is other)
 
 pub check_trees-requires-clause-each : goal.check_trees-requires-clause-each
@@ -79,7 +76,7 @@ check_trees-requires-clause-each c =
     let front = c.args.front.now in
     let made : c.deref.result.now ≡ map (placed file) (extents_of table name front) =
     made_is table name file front c.args.parts.now c.deref.result.now c.in_ok-sections.sections.items c.front_size-start.result c.sizes.result.now c.front_size-start.ensures c.requires.parts c.sizes.ensures c.in_ok-sections.ensures c.deref.ensures.value in
-    omega (arith, made_count table name file front c.args.parts.now c.deref.result.now c.requires.parts c.requires.each made, ap length (c.deref-4.ensures.value ∙ sym c.deref.ensures.value))
+    subst (λ (s : List Section). length table.schema.fields + 1 + length table.settings.trees ≤ length s) (c.deref.ensures.value ∙ sym c.deref-4.ensures.value) (made_count table name file front c.args.parts.now c.deref.result.now c.requires.parts c.requires.each made)
 
 pub returns-in-Err-check_trees-clause-bad : goal.returns-in-Err-check_trees-clause-bad
 returns-in-Err-check_trees-clause-bad c = λ p is whole has cut.
@@ -92,9 +89,7 @@ returns-in-Err-check_trees-clause-bad c = λ p is whole has cut.
     let ds = c.in-Ok.dictionaries.items in
     let first = c.section_bytes.result.now in
     let zeroth : c.index.result.now ≡ get_or c.deref.result.now 0 c.index.result.now = c.index.ensures ∙ ap (λ xs. get_or xs 0 c.index.result.now) (sym c.deref.ensures.value) in
-    let first_is : first ≡ get_or (heads_read table c.deref.result.now c.args.bytes.now) 0 [] =
-    c.section_bytes.ensures
-    ∙ sym (heads_at c.args.bytes.now c.deref.result.now (length table.schema.fields + 1 + length table.settings.trees) 0 c.index.result.now (omega arith) (omega (arith, made_count table name file front c.args.parts.now c.deref.result.now c.requires.parts c.requires.each made)) zeroth) in
+    let first_is : first ≡ get_or (heads_read table c.deref.result.now c.args.bytes.now) 0 [] = c.section_bytes.ensures ∙ sym (head_first table c.args.bytes.now c.deref.result.now c.index.result.now (made_count table name file front c.args.parts.now c.deref.result.now c.requires.parts c.requires.each made) zeroth) in
     let same : first ≡ bounds_bytes (bounds_of ds) = agrees c.in_ok-has_bounds.field-0 (first ≡ bounds_bytes (bounds_of c.deref-2.result.now)) c.in_ok-has_bounds.ensures c.if-not-branch.false ∙ ap (λ xs. bounds_bytes (bounds_of xs)) c.deref-2.ensures.value in
     let heads = heads_read table c.deref.result.now c.args.bytes.now in
     let fourth : c.deref-4.result.now ≡ c.deref.result.now = c.deref-4.ensures.value ∙ sym c.deref.ensures.value in
@@ -110,7 +105,7 @@ sections_after-tail-requires c =
     let front = c.args.front.now in
     let made : c.deref.result.now ≡ map (placed file) (extents_of table name front) =
     made_is table name file front c.args.parts.now c.deref.result.now c.in_ok-sections.sections.items c.front_size-start.result c.sizes.result.now c.front_size-start.ensures c.requires.parts c.sizes.ensures c.in_ok-sections.ensures c.deref.ensures.value in
-    omega (arith, made_count table name file front c.args.parts.now c.deref.result.now c.requires.parts c.requires.each made, c.len.ensures, c.len-2.ensures, ap length (c.deref-5.ensures.value ∙ sym c.deref.ensures.value))
+    made_heads table c.len.result c.len-2.result c.deref-5.result.now c.deref.result.now c.len.ensures c.len-2.ensures (c.deref-5.ensures.value ∙ sym c.deref.ensures.value) (made_count table name file front c.args.parts.now c.deref.result.now c.requires.parts c.requires.each made)
 
 pub check_sizes-requires-clause-dictionaries : goal.check_sizes-requires-clause-dictionaries
 check_sizes-requires-clause-dictionaries c =
@@ -145,9 +140,7 @@ returns-in-Err-check_sizes-clause-bad c = λ p is whole has cut.
     let ds = c.in-Ok.dictionaries.items in
     let first = c.section_bytes.result.now in
     let zeroth : c.index.result.now ≡ get_or c.deref.result.now 0 c.index.result.now = c.index.ensures ∙ ap (λ xs. get_or xs 0 c.index.result.now) (sym c.deref.ensures.value) in
-    let first_is : first ≡ get_or (heads_read table c.deref.result.now c.args.bytes.now) 0 [] =
-    c.section_bytes.ensures
-    ∙ sym (heads_at c.args.bytes.now c.deref.result.now (length table.schema.fields + 1 + length table.settings.trees) 0 c.index.result.now (omega arith) (omega (arith, made_count table name file front c.args.parts.now c.deref.result.now c.requires.parts c.requires.each made)) zeroth) in
+    let first_is : first ≡ get_or (heads_read table c.deref.result.now c.args.bytes.now) 0 [] = c.section_bytes.ensures ∙ sym (head_first table c.args.bytes.now c.deref.result.now c.index.result.now (made_count table name file front c.args.parts.now c.deref.result.now c.requires.parts c.requires.each made) zeroth) in
     let same : first ≡ bounds_bytes (bounds_of ds) = agrees c.in_ok-has_bounds.field-0 (first ≡ bounds_bytes (bounds_of c.deref-2.result.now)) c.in_ok-has_bounds.ensures c.if-not-branch.false ∙ ap (λ xs. bounds_bytes (bounds_of xs)) c.deref-2.ensures.value in
     let heads = heads_read table c.deref.result.now c.args.bytes.now in
     let fourth : c.deref-4.result.now ≡ c.deref.result.now = c.deref-4.ensures.value ∙ sym c.deref.ensures.value in
@@ -163,7 +156,7 @@ returns-in-Err-check_sizes-clause-bad c = λ p is whole has cut.
           (subst (AreSpelled table c.rows.result heads (columns_of table)) (sym c.deref-6.ensures.value) c.in-Ok.ensures.ok);
       said = c.deref-7.ensures.value ∙ said;
     } in
-    let part_is : c.in-Err-check_sizes.part ≡ p = cc in
+    let part_is : c.in-Err-check_sizes.part ≡ p = same_part c.in-Err-check_sizes.part p is in
     let fails : SizeFails table c.rows.result heads c.sections_after-tail.result.now p =
     subst (SizeFails table c.rows.result heads c.sections_after-tail.result.now) part_is
     (subst (λ r. SizeFails table r heads c.sections_after-tail.result.now c.in-Err-check_sizes.part) third (c.in-Err-check_sizes.ensures.bad heads read)) in
@@ -180,9 +173,7 @@ returns-clause-ok c = λ whole has cut.
     let ds = c.in-Ok.dictionaries.items in
     let first = c.section_bytes.result.now in
     let zeroth : c.index.result.now ≡ get_or c.deref.result.now 0 c.index.result.now = c.index.ensures ∙ ap (λ xs. get_or xs 0 c.index.result.now) (sym c.deref.ensures.value) in
-    let first_is : first ≡ get_or (heads_read table c.deref.result.now c.args.bytes.now) 0 [] =
-    c.section_bytes.ensures
-    ∙ sym (heads_at c.args.bytes.now c.deref.result.now (length table.schema.fields + 1 + length table.settings.trees) 0 c.index.result.now (omega arith) (omega (arith, made_count table name file front c.args.parts.now c.deref.result.now c.requires.parts c.requires.each made)) zeroth) in
+    let first_is : first ≡ get_or (heads_read table c.deref.result.now c.args.bytes.now) 0 [] = c.section_bytes.ensures ∙ sym (head_first table c.args.bytes.now c.deref.result.now c.index.result.now (made_count table name file front c.args.parts.now c.deref.result.now c.requires.parts c.requires.each made) zeroth) in
     let same : first ≡ bounds_bytes (bounds_of ds) = agrees c.in_ok-has_bounds.field-0 (first ≡ bounds_bytes (bounds_of c.deref-2.result.now)) c.in_ok-has_bounds.ensures c.if-not-branch.false ∙ ap (λ xs. bounds_bytes (bounds_of xs)) c.deref-2.ensures.value in
     let heads = heads_read table c.deref.result.now c.args.bytes.now in
     let fourth : c.deref-4.result.now ≡ c.deref.result.now = c.deref-4.ensures.value ∙ sym c.deref.ensures.value in
@@ -293,7 +284,7 @@ pub returns-then-not-branch-clause-placed : goal.returns-then-not-branch-clause-
 returns-then-not-branch-clause-placed c = tt
 
 pub returns-then-not-branch-clause-read : goal.returns-then-not-branch-clause-read
-returns-then-not-branch-clause-read c = λ e. cc
+returns-then-not-branch-clause-read c = no_read parts.Bounds
 
 pub returns-in-Err-check_trees-clause-ok : goal.returns-in-Err-check_trees-clause-ok
 returns-in-Err-check_trees-clause-ok c = tt
@@ -311,13 +302,13 @@ pub returns-in-Err-check_sizes-clause-placed : goal.returns-in-Err-check_sizes-c
 returns-in-Err-check_sizes-clause-placed c = tt
 
 pub returns-in-Err-check_sizes-clause-read : goal.returns-in-Err-check_sizes-clause-read
-returns-in-Err-check_sizes-clause-read c = λ e. cc
+returns-in-Err-check_sizes-clause-read c = no_read c.in-Err-check_sizes.part
 
 pub returns-clause-bad : goal.returns-clause-bad
 returns-clause-bad c = tt
 
 pub returns-clause-read : goal.returns-clause-read
-returns-clause-read c = λ e. cc
+returns-clause-read c = well_read c.in_ok-whole_head.field-0
 
 pub front_size-start-requires-clause-name : goal.front_size-start-requires-clause-name
 front_size-start-requires-clause-name c = c.requires.name
@@ -325,7 +316,7 @@ front_size-start-requires-clause-name c = c.requires.name
 pub place_sections-requires : goal.place_sections-requires
 place_sections-requires c = record {
   each = ap length c.sizes.ensures ∙ c.requires.each;
-  short = omega (arith, c.front_size-start.ensures, ap sum c.sizes.ensures, ap length c.requires.parts, c.requires.short);
+  short = short_sections c.args.table.now c.args.name.now c.args.front.now c.args.parts.now c.sizes.result.now c.front_size-start.result c.front_size-start.ensures c.requires.parts c.sizes.ensures c.requires.short;
 }
 
 pub check_trees-requires-clause-valid : goal.check_trees-requires-clause-valid
