@@ -71,3 +71,6 @@ no_read p e = cc
 
 pub well_read : {T : Type 0} (x : T) → ¬ IsErrOf {T = T} {E = HeadFault} (Ok x) fault.ReadFault
 well_read x e = cc
+
+pub other_fault : (p : Part) → fault.NotASegment p ≢ fault.ReadFault
+other_fault p e = cc

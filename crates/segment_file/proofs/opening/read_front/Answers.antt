@@ -10,7 +10,7 @@ use Rattle.segment_file.specs.Front.{Front, front_size}
 use Rattle.segment_file.specs.Reading.{IsFrontOf}
 use Rattle.segment_file.specs.Rules.{HasFront}
 use Rattle.segment_file.proofs.Counts.{few_sections}
-use Rattle.segment_file.proofs.Faults.{growth_bad, growth_ok, growth_reads, reads_ended, reads_err, reads_handed, reads_other, reads_well}
+use Rattle.segment_file.proofs.Faults.{growth_bad, growth_ok, growth_reads, other_fault, reads_ended, reads_err, reads_handed, reads_other, reads_well}
 use Rattle.segment_file.proofs.Openings.{few_bytes, front_log, front_short, front_up}
 use Rattle.segment_file.proofs.opening.read_front.Goals as goal
 
@@ -88,7 +88,7 @@ returns-in-None-clause-only_reads g c =
     let old = seen g.S.Shelf c.args.shelf.now in
     let between = seen g.S.Shelf c.file_length.new.shelf in
     let last = seen g.S.Shelf c.read_exactly.new.shelf in
-    reads_other (fault.NotASegment parts.Head) old last (λ e. cc) (reads_after ⊥ old between last (reads_well c.in-Ok.size old between c.in-Ok.ensures.only_reads) (reads_well c.in-Ok-read_exactly.bytes between last c.in-Ok-read_exactly.ensures.only_reads))
+    reads_other (fault.NotASegment parts.Head) old last (other_fault parts.Head) (reads_after ⊥ old between last (reads_well c.in-Ok.size old between c.in-Ok.ensures.only_reads) (reads_well c.in-Ok-read_exactly.bytes between last c.in-Ok-read_exactly.ensures.only_reads))
 
 pub returns-in-None-clause-log_of_fault : goal.returns-in-None-clause-log_of_fault
 returns-in-None-clause-log_of_fault g c =
