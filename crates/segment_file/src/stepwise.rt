@@ -78,7 +78,7 @@ fn bare_head(
     ensures { IfOk result (λ head. head ≡ record {
       rows = read.now.front.rows;
       sections = map (placed file.now)
-        (extents_from (length read.now.bytes.items) parts.now read.now.front.sizes);
+          (extents_from (length read.now.bytes.items) parts.now read.now.front.sizes);
       bounds = bounds.items;
       dictionaries = replicate (length table.now.schema.fields) None;
       trees = replicate (length table.now.settings.trees) None;

@@ -28,10 +28,13 @@ returns-in-Err c = record {
       let bad = bad_dictionary c.in-Err.fault c.of_dictionary.result p c.of_dictionary.ensures.memory is in
       let both = sym is ∙ c.of_dictionary.ensures.bad bad in
       let part : p ≡ parts.Dictionary column = cc in
-      let none = c.in-Err.ensures.bad (ap Err bad) in
-      (column, part, stops_here table c.args.rows c.args.bytes.now c.section_bytes-bytes.result.now c.args.sections.now column c.index-fields-column.result c.index-sections-column.result c.loop-column.dictionaries.items
-      (omega (arith, c.loop-column-test.true, ap length c.as_slice-fields.ensures)) c.requires.each field c.index-sections-column.is c.section_bytes-bytes.ensures c.loop-column.invariant
-      (λ d is'. none d (subst (λ f. IsSpelled f.kind c.args.rows c.section_bytes-bytes.result.now d) c.index-fields-column.is is')));
+      let none = c.in-Err.ensures.bad (ap Err bad) in (
+        column,
+        part,
+        stops_here table c.args.rows c.args.bytes.now c.section_bytes-bytes.result.now c.args.sections.now column c.index-fields-column.result c.index-sections-column.result c.loop-column.dictionaries.items
+            (omega (arith, c.loop-column-test.true, ap length c.as_slice-fields.ensures)) c.requires.each field c.index-sections-column.is c.section_bytes-bytes.ensures c.loop-column.invariant
+            (λ d is'. none d (subst (λ f. IsSpelled f.kind c.args.rows c.section_bytes-bytes.result.now d) c.index-fields-column.is is')),
+      );
 }
 
 pub returns : goal.returns
