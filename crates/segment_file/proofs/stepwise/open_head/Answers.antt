@@ -1,4 +1,4 @@
-use Rattle.std.proofs.Common.{◌≡◌, ◌∙◌, ◌+◌, ℕ, List, [], length, map, get_or, replicate, Option, None, Some, IfSome, refl, ap, sym, subst, arith}
+use Rattle.std.proofs.Common.{◌≡◌, ◌∙◌, ℕ, List, [], length, map, get_or, replicate, Option, None, Some, IfSome, refl, ap, sym, subst, arith}
 use Rattle.std.proofs.lemmas.List.{length-replicate}
 use Rattle.std.proofs.lemmas.List.Elements.{All-map}
 use Rattle.outside.specs.Files.{bytes_of}
@@ -9,7 +9,7 @@ use Rattle.segment_file.specs.declared.bounds.Ends.{Ends}
 use Rattle.segment_file.specs.declared.section.Section.{Section}
 use Rattle.segment_file.specs.declared.trees.TreeNodes.{TreeNodes}
 use Rattle.segment_file.specs.Bounds.{AreBounds}
-use Rattle.segment_file.specs.Front.{Extent, bounds_end, extents_from, extents_of, front_size}
+use Rattle.segment_file.specs.Front.{Extent, bounds_end, extents_from, front_size}
 use Rattle.segment_file.specs.Heads.{AreIn, AreNodesLoaded, IsHead, IsHeadOf, IsLoaded, IsOpened, IsPartOf, IsPlaced, KeepsRules, Seen, bounded, placed}
 use Rattle.segment_file.specs.Parts.{sections_of}
 use Rattle.segment_file.specs.Reading.{IsFrontOf}
