@@ -20,14 +20,14 @@ use Rattle.segment_file.specs.declared.part.Part.{Part}
 use Rattle.segment_file.specs.declared.part.Part.TheVariants as parts
 use Rattle.segment_file.specs.declared.section.Section.{Section}
 use Rattle.segment_file.specs.Bounds.{bounds_bytes, bounds_of}
-use Rattle.segment_file.specs.Front.{Extent, Front, extents_from, extents_of, front_size, head_end}
+use Rattle.segment_file.specs.Front.{Extent, Front, extents_from, extents_of, file_end, front_size, head_end}
 use Rattle.segment_file.specs.Heads.{placed, trees_said}
 use Rattle.segment_file.specs.declared.trees.TreeNodes.{TreeNodes}
 use Rattle.segment_file.specs.Image.{kind_at}
 use Rattle.segment_file.specs.Parts.{columns_of, head_sections, marked, marked_from, raw_sections, sections_of, tail_sections, trees_of}
 use Rattle.segment_file.specs.Reading.{FitsSize, IsTailPart, NodesStop, SizeFails, StopsAt, bytes_of_section, count_at, heads_of, heads_read}
 use Rattle.segment_file.specs.Rules.{AreSpelled, FailsAt, FailsSize, HasDictionaries, HasFront, HaveNodes, IsSized, IsSpelled, KeepsAll, count_in, dictionary_in, heads_in, raw_extents, section_bytes}
-use Rattle.segment_file.proofs.Counts.{head_count, some_sections}
+use Rattle.segment_file.proofs.Counts.{few_sections, head_count, some_sections}
 
 -- ---- the sections of the head
 
@@ -178,6 +178,19 @@ made_count table name file front ps sections ps_are each made =
       some_sections table,
       head_count table,
     )
+
+-- there are enough of them for the dictionaries, and for what the head takes
+pub made_fields : (table : Table) (sections : List Section) → length table.schema.fields + 1 + length table.settings.trees ≤ length sections → length table.schema.fields + 1 ≤ length sections
+made_fields table sections many = omega (arith, many)
+
+pub made_heads : (table : Table) (fields trees : ℕ) (here sections : List Section) → fields ≡ length table.schema.fields → trees ≡ length table.settings.trees → here ≡ sections → length table.schema.fields + 1 + length table.settings.trees ≤ length sections → fields + 1 + trees ≤ length here
+made_heads table fields trees here sections fields_are trees_are same many = omega (arith, fields_are, trees_are, ap length same, many)
+
+pub few_parts : (table : Table) (ps : List Part) → IsValidTable table → ps ≡ sections_of table → length ps ≤ 512
+few_parts table ps valid ps_are = omega (arith, few_sections table valid, ap length ps_are)
+
+pub short_sections : (table : Table) (name : List ℕ) (front : Front) (ps : List Part) (sizes : List ℕ) (start : ℕ) → start ≡ 38 + length name + 19 * length ps → ps ≡ sections_of table → sizes ≡ front.sizes → file_end table name front < 2 ^ 64 → start + sum sizes < 2 ^ 64
+short_sections table name front ps sizes start start_is ps_are sizes_are short = omega (arith, start_is, ap length ps_are, ap sum sizes_are, short)
 
 -- ---- what fails in the file, and what holds
 

@@ -7,14 +7,22 @@ use Rattle.std.specs.List.{AllZip, range_with_len}
 use Rattle.table_schema.specs.declared.field.Field.{Field}
 use Rattle.table_schema.specs.declared.table.Table.{Table}
 use Rattle.dictionary.specs.Dictionary.{Distinct}
+use Rattle.dictionary.specs.declared.fault.DictFault.{DictFault}
+use Rattle.dictionary.specs.declared.fault.DictFault.TheVariants as reasons
+use Rattle.segment_file.specs.declared.fault.HeadFault.{HeadFault}
+use Rattle.segment_file.specs.declared.fault.HeadFault.TheVariants as fault
+use Rattle.segment_file.specs.declared.part.Part.{Part}
 use Rattle.segment_file.specs.declared.section.Section.{Section}
 use Rattle.segment_file.specs.Image.{kind_at, kind_or}
-use Rattle.segment_file.specs.Reading.{FitsSize, SizeFails, bytes_of_section, count_at, heads_of, heads_read}
+use Rattle.segment_file.specs.Reading.{FitsSize, SizeFails, StopsAt, bytes_of_section, count_at, heads_of, heads_read}
 use Rattle.segment_file.specs.Rules.{AreSpelled, IsSpelled, dictionary_in}
 
 pub heads_at : (bytes : List ℕ) (sections : List Section) (count i : ℕ) (s : Section) → i < count → i < length sections → s ≡ get_or sections i s → get_or (heads_of count sections bytes) i [] ≡ bytes_of_section bytes s
 heads_at bytes sections count i s below lt is =
     get_or-map (bytes_of_section bytes) (take count sections) i s [] (omega (arith, length-take count sections)) ∙ ap (bytes_of_section bytes) (get_or-take count sections i s below ∙ sym is)
+
+pub head_first : (table : Table) (bytes : List ℕ) (sections : List Section) (s : Section) → length table.schema.fields + 1 + length table.settings.trees ≤ length sections → s ≡ get_or sections 0 s → get_or (heads_read table sections bytes) 0 [] ≡ bytes_of_section bytes s
+head_first table bytes sections s many is = heads_at bytes sections (length table.schema.fields + 1 + length table.settings.trees) 0 s (omega arith) (omega (arith, many)) is
 
 pub kind_found : (table : Table) (column : ℕ) (f : Field) → column < length table.schema.fields → f ≡ get_or table.schema.fields column f → kind_at table column ≡ f.kind
 kind_found table column f lt is = ap kind_or (slice_get-get_or table.schema.fields column f lt) ∙ ap (λ g. g.kind) (sym is)
@@ -45,6 +53,23 @@ spelled_more table rows bytes here sections column f s ds d lt many field sectio
     let at : here ≡ dictionary_in heads column = bytes_are ∙ sym (heads_at bytes sections (length table.schema.fields + 1 + length table.settings.trees) (column + 1) s (omega arith) (omega arith) section) in
     let now : R column d = subst (λ b. IsSpelled (kind_at table column) rows b d) at (subst (λ k. IsSpelled k rows here d) kind one) in
     subst (λ cs. AllZip R cs (ds ++ d ∷ [])) (sym (ranges_push column)) (zip_push R (range_with_len 0 column) ds column d so_far now)
+
+-- a fault of a dictionary that is one of the file
+pub bad_dictionary : (reason : DictFault) (result : HeadFault) (p : Part) → (reason ≡ reasons.NoMemory → result ≡ fault.NoMemory) → result ≡ fault.NotASegment p → reason ≡ reasons.BadDictionary
+bad_dictionary reasons.BadDictionary result p memory is = refl
+bad_dictionary reasons.NoMemory result p memory is = let e : result ≡ fault.NoMemory = memory refl in absurd cc
+
+-- the field at which the dictionaries stop
+pub stops_here : (table : Table) (rows : ℕ) (bytes here : List ℕ) (sections : List Section) (column : ℕ) (f : Field) (s : Section) (ds : List Distinct) → column < length table.schema.fields → length table.schema.fields + 1 ≤ length sections
+    → f ≡ get_or table.schema.fields column f → s ≡ get_or sections (column + 1) s → here ≡ bytes_of_section bytes s
+    → AreSpelled table rows (heads_read table sections bytes) (range_with_len 0 column) ds
+    → ((d : Distinct) → ¬ IsSpelled f.kind rows here d)
+    → StopsAt table rows (heads_read table sections bytes) column
+stops_here table rows bytes here sections column f s ds lt many field section bytes_are so_far none =
+    let heads : List (List ℕ) = heads_read table sections bytes in
+    let kind : kind_at table column ≡ f.kind = kind_found table column f lt field in
+    let at : dictionary_in heads column ≡ here = heads_at bytes sections (length table.schema.fields + 1 + length table.settings.trees) (column + 1) s (omega arith) (omega arith) section ∙ sym bytes_are in
+    record { field = lt; before = ds; spelled = so_far; none = λ d is. none d (subst (λ b. IsSpelled f.kind rows b d) at (subst (λ k. IsSpelled k rows (dictionary_in heads column) d) kind is)) }
 
 -- ---- counts
 

@@ -1,4 +1,5 @@
 pub mod Counts
+pub mod Faults
 pub mod Fronts
 pub mod BoundLemmas
 mod BoundReads

@@ -1,16 +1,20 @@
 -- The front of a file and the rest of its head, as they are read.
-use Rattle.std.proofs.Common.{◌≡◌, ◌∙◌, ◌≤◌, ◌<◌, ◌+◌, ℕ, List, ◌++◌, length, take, drop, sum, Option, Some, None, IfSome, inr, sym, ap, ap₂, subst, arith}
+use Rattle.std.proofs.Common.{◌≡◌, ◌∙◌, ◌≤◌, ◌<◌, ◌+◌, ℕ, List, ◌++◌, length, take, drop, sum, Option, Some, None, IfSome, refl, inl, inr, leb-true, sym, ap, ap₂, subst, arith}
 use Rattle.std.proofs.Math.Seq.{take-add}
 use Rattle.std.proofs.lemmas.List.Sums.{sum_by-take-le}
 use Rattle.outside.specs.Files.{Files, bytes_at, bytes_of}
 use Rattle.outside.specs.Reads.{Entry, LogsThrough, LogsUpTo}
-use Rattle.outside.proofs.ReadLemmas.{LogsThrough-append}
+use Rattle.outside.proofs.ReadLemmas.{LogsThrough-append, LogsThrough-none}
 use Rattle.table_schema.specs.declared.table.Table.{Table}
+use Rattle.table_schema.specs.ValidTable.{most_rows}
+use Rattle.segment_file.specs.declared.part.Part.{Part}
+use Rattle.segment_file.specs.declared.part.Part.TheVariants as parts
 use Rattle.segment_file.specs.Front.{Front, front_size, head_end}
-use Rattle.segment_file.specs.Heads.{IsHeadOf, IsPlaced, IsWithin, LogsWithin, Seen}
+use Rattle.segment_file.specs.Heads.{IsHeadOf, IsPlaced, IsWithin, KeepsRules, LogsWithin, Seen}
+use Rattle.segment_file.specs.Names.{IsSegmentName}
 use Rattle.segment_file.specs.Parts.{head_sections}
 use Rattle.segment_file.specs.Reading.{IsFrontOf}
-use Rattle.segment_file.specs.Rules.{HasFront, IsFront}
+use Rattle.segment_file.specs.Rules.{FailsAt, HasFront, IsFront}
 use Rattle.segment_file.proofs.Counts.{head_count, some_sections}
 use Rattle.segment_file.proofs.Fronts.{front_bytes_size}
 
@@ -65,3 +69,58 @@ pub logs_within : (end : Table → List ℕ → Front → ℕ) (table : Table) (
     → LogsThrough file 0 (front_size table name) first between → LogsUpTo file (front_size table name) (end table name front) between last → LogsWithin end table name file held first last
 logs_within end table name file bytes held front first between last is before (to, le, on) =
     (to, LogsThrough-append file 0 (front_size table name) to first between last before on, within end table name file bytes held front to is le)
+
+-- reads that do not go past the front
+pub logs_front : (end : Table → List ℕ → Front → ℕ) (table : Table) (name file : List ℕ) (held : Option Files) (old new : Option (List Entry)) → LogsUpTo file 0 (front_size table name) old new → LogsWithin end table name file held old new
+logs_front end table name file None old new (to, le, on) = (to, on, tt)
+logs_front end table name file (Some files) old new (to, le, on) = (to, on, inl le)
+
+pub logs_still : (end : Table → List ℕ → Front → ℕ) (table : Table) (name file : List ℕ) (held : Option Files) (log : Option (List Entry)) → LogsWithin end table name file held log log
+logs_still end table name file held log = logs_front end table name file held log log (0, omega arith, LogsThrough-none file 0 log)
+
+-- a told file that has no front keeps no rules
+pub frontless : (table : Table) (name file : List ℕ) (held : Option Files) → IfSome held (λ files. (front : Front) → ¬ HasFront table name (bytes_of (Some files) file) front) → IfSome held (λ files. ¬ KeepsRules table name (bytes_of (Some files) file))
+frontless table name file None none = tt
+frontless table name file (Some files) none = λ rules. none rules.0 rules.2.front_is
+
+-- the first of them to fail is that of the head
+pub head_fails : (table : Table) (name file : List ℕ) (held : Option Files) (p : Part) → p ≡ parts.Head → IfSome held (λ files. (front : Front) → ¬ HasFront table name (bytes_of (Some files) file) front) → IfSome held (λ files. FailsAt table name (bytes_of (Some files) file) p)
+head_fails table name file None p is none = tt
+head_fails table name file (Some files) p is none = subst (FailsAt table name (bytes_of (Some files) file)) (sym is) none
+
+-- where no file is told, whatever is said of one holds
+pub untold : (P : Files → Type 0) (held : Option Files) → held ≡ None → IfSome held P
+untold P None is = tt
+untold P (Some files) is = absurd cc
+
+-- what holds of each file with this front and these bytes of its head holds of the told one
+pub told_head : (P : List ℕ → Type 0) (table : Table) (name file bytes cut : List ℕ) (held : Option Files) (front : Front) → IsFrontOf table name file held bytes front → IfSome held (λ files. cut ≡ take (head_end table name front) (bytes_of (Some files) file))
+    → ((whole : List ℕ) → HasFront table name whole front → cut ≡ take (head_end table name front) whole → P whole) → IfSome held (λ files. P (bytes_of (Some files) file))
+told_head P table name file bytes cut None front is cut_is each = tt
+told_head P table name file bytes cut (Some files) front is cut_is each = each (bytes_of (Some files) file) (has_front table name file bytes files front is) cut_is
+
+-- ---- the sizes that are allowed
+
+pub few_rows : (table : Table) (rows : ℕ) → rows ≤ most_rows (length table.schema.fields) → rows ≤ 1048576
+few_rows table rows few = grind arith
+
+pub few_bytes : (name : List ℕ) → IsSegmentName name → length name ≤ 64
+few_bytes name is = leb-true (length name) 64 is.few
+
+-- ---- the reading of the front
+
+pub front_log : (file : List ℕ) (count limit : ℕ) (old between new : Option (List Entry)) → 0 + count ≡ limit → between ≡ old → LogsThrough file 0 (0 + count) between new → LogsThrough file 0 limit old new
+front_log file count limit old between new e same on = subst (λ l. LogsThrough file 0 limit l new) same (subst (λ n. LogsThrough file 0 n between new) e on)
+
+pub front_up : (file : List ℕ) (count limit : ℕ) (old between new : Option (List Entry)) → 0 + count ≡ limit → between ≡ old → LogsUpTo file 0 (0 + count) between new → LogsUpTo file 0 limit old new
+front_up file count limit old between new e same on = subst (λ l. LogsUpTo file 0 limit l new) same (subst (λ n. LogsUpTo file 0 n between new) e on)
+
+-- a file that ends before its front would end has none
+pub front_short : (table : Table) (name file : List ℕ) (held : Option Files) (count : ℕ) → 0 + count ≡ front_size table name → IfSome held (λ files. length (bytes_of (Some files) file) < 0 + count) → IfSome held (λ files. (front : Front) → ¬ HasFront table name (bytes_of (Some files) file) front)
+front_short table name file None count e lt = tt
+front_short table name file (Some files) count e lt = λ front has. omega (arith, has.whole, lt, e)
+
+-- a told file is not too short for the head that its front tells of
+pub rest_short : (table : Table) (name file bytes : List ℕ) (held : Option Files) (front : Front) (start rest : ℕ) → IsFrontOf table name file held bytes front → start + rest ≡ head_end table name front → IfSome held (λ files. length (bytes_of (Some files) file) < start + rest) → held ≡ None
+rest_short table name file bytes None front start rest is end lt = refl
+rest_short table name file bytes (Some files) front start rest is end lt = absurd (omega (arith, lt, end, is.told.0, head_within table name bytes is.size front is.front_is))

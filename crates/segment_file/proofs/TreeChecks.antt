@@ -109,6 +109,12 @@ split_below fields (c ∷ split) known =
 pub split_known : (table : Table) (t : ℕ) (tree : TreeSetting) → IsValidTable table → slice_get table.settings.trees t ≡ Some tree → All (λ c. c < length table.schema.fields) tree.split
 split_known table t tree valid at = split_below table.schema.fields tree.split (valid_at table.schema.fields table.settings.trees t tree valid.settings.trees_valid at).split_known
 
+-- a tree of a table has at most 16 split dimensions and pairs
+pub few_dims : (table : Table) (t : ℕ) (tree : TreeSetting) → IsValidTable table → slice_get table.settings.trees t ≡ Some tree → (tree.shape.dims ≤ 16) × (length tree.shape.kinds ≤ 16)
+few_dims table t tree valid at =
+    let is : IsValidTree table.schema.fields tree = valid_at table.schema.fields table.settings.trees t tree valid.settings.trees_valid at in
+    (omega (arith, is.has_dims, is.few_split), few_kinds table.schema.fields tree is)
+
 same_counts : (table : Table) (rows : ℕ) (heads : List (List ℕ)) (ds : List Distinct) (split : List ℕ) → AreSpelled table rows heads (columns_of table) ds → All (λ c. c < length table.schema.fields) split → map (count_at ds) split ≡ map (λ c. count_in (dictionary_in heads c)) split
 same_counts table rows heads ds [] spelled below = refl
 same_counts table rows heads ds (c ∷ split) spelled below =

@@ -13,7 +13,7 @@ use crate::bounds::{Ends, push_bounds};
 use crate::dictionaries::{check_dictionaries, section_bytes};
 use crate::sizes::check_sizes;
 use crate::trees::check_trees;
-use crate::{Front, Head, HeadFault, NoMemory, Part, Section, front_size};
+use crate::{Front, Head, HeadFault, NoMemory, Part, Section, TreeNodes, front_size};
 use dictionary::Dictionary;
 use outside::{Name, Place};
 use std::alloc::Global;
@@ -65,10 +65,29 @@ pub fn check_head(
     if let Err(part) = check_sizes(table, front.rows(), &dictionaries, &trees, tail) {
         return Err(HeadFault::NotASegment(part));
     }
+    Ok(whole_head(alloc, front.rows(), sections, dictionaries, trees)?)
+}
+
+// The head with these sections, of which all is loaded.
+fn whole_head(
+    alloc: Global,
+    rows: u32,
+    sections: Vec<Section>,
+    dictionaries: Vec<Dictionary>,
+    trees: Vec<TreeNodes>,
+) -> Result<Head, NoMemory>
+    ensures { IfOk result (λ head. head ≡ record {
+      rows = rows;
+      sections = sections.items;
+      bounds = bounds_of dictionaries.items;
+      dictionaries = map Some dictionaries.items;
+      trees = map Some trees.items;
+    }) }
+{
     let bounds = all_bounds(alloc, &dictionaries)?;
     let dictionaries = loaded(alloc, dictionaries)?;
     let trees = loaded(alloc, trees)?;
-    Ok(Head::new(front.rows(), sections, bounds, dictionaries, trees))
+    Ok(Head::new(rows, sections, bounds, dictionaries, trees))
 }
 
 // The sections after the first so many.

@@ -1,5 +1,5 @@
 //! The head of a segment's file is read.
-ghost use Rattle.std.specs.Prelude.{◌≡◌, IfOk, IfErr, IfSome, OnErr, IsErrOf, None, Some, take};
+ghost use Rattle.std.specs.Prelude.{◌≡◌, ◌++◌, IfOk, IfErr, IfSome, OnErr, IsErrOf, None, Some, take};
 ghost use Rattle.outside.specs.Files.{bytes_of};
 ghost use Rattle.outside.specs.Reads.{LogsThrough, LogsUpTo};
 ghost use Rattle.outside.specs.Seen.{OnlyReads, seen};
@@ -16,7 +16,8 @@ ghost use Rattle.segment_file.specs.declared.part.Part.{Part};
 ghost use Rattle.segment_file.specs.declared.part.Part.TheVariants as part;
 
 use crate::{
-    Front, Head, HeadFault, Part, check_head, file_length, front_size, read_exactly, sections_of,
+    Front, Head, HeadFault, NoMemory, Part, check_head, file_length, front_size, read_exactly,
+    sections_of,
 };
 use outside::Shelf;
 use std::alloc::Global;
@@ -130,8 +131,15 @@ fn read_rest<S: Shelf>(
         Ok(more) => more,
         Err(fault) => return Err(fault),
     };
-    let mut bytes = Vec::with_capacity(alloc, read.bytes.len() + more.len())?;
-    bytes.extend_from_slice(&read.bytes)?;
-    bytes.extend_from_slice(more.as_slice())?;
+    Ok(joined(alloc, &read.bytes, more.as_slice())?)
+}
+
+// The bytes of the one, and then of the other.
+fn joined(alloc: Global, first: &[u8], second: &[u8]) -> Result<Vec<u8>, NoMemory>
+    ensures { IfOk result (λ bytes. bytes.items ≡ first.now ++ second.now) }
+{
+    let mut bytes = Vec::with_capacity(alloc, first.len() + second.len())?;
+    bytes.extend_from_slice(first)?;
+    bytes.extend_from_slice(second)?;
     Ok(bytes)
 }

@@ -1,14 +1,14 @@
 //! The head of a segment's file is opened without its dictionaries.
-ghost use Rattle.std.specs.Prelude.{◌≡◌, [], ℕ, List, IfOk, IfErr, IfSome, IsErrOf, None, Some, length, replicate, slice_index_or, sum, take};
+ghost use Rattle.std.specs.Prelude.{◌≡◌, ◌<◌, ◌+◌, ◌^◌, [], ℕ, List, IfOk, IfErr, IfSome, IsErrOf, None, Some, length, map, replicate, slice_index_or, sum, take};
 ghost use Rattle.outside.specs.Files.{bytes_of};
 ghost use Rattle.outside.specs.Reads.{LogsUpTo};
 ghost use Rattle.outside.specs.Seen.{OnlyReads, seen};
 ghost use Rattle.dictionary.specs.Dictionary.{Distinct};
 ghost use Rattle.table_schema.specs.ValidTable.{IsValidTable};
 ghost use Rattle.segment_file.specs.Bounds.{AreBounds};
-ghost use Rattle.segment_file.specs.Front.{bounds_end, front_size};
+ghost use Rattle.segment_file.specs.Front.{bounds_end, extents_from, front_size};
 ghost use Rattle.segment_file.specs.Heads as spec;
-ghost use Rattle.segment_file.specs.Heads.{AreIn, AreNodesLoaded, IsHead, IsHeadOf, IsLoaded, IsOpened, IsPartOf, KeepsRules, LogsOpened, bounded};
+ghost use Rattle.segment_file.specs.Heads.{AreIn, AreNodesLoaded, IsHead, IsHeadOf, IsLoaded, IsOpened, IsPartOf, KeepsRules, LogsOpened, bounded, placed};
 ghost use Rattle.segment_file.specs.Names.{IsSegmentName};
 ghost use Rattle.segment_file.specs.Reading.{IsFrontOf};
 ghost use Rattle.segment_file.specs.Rules.{heads_in};
@@ -61,8 +61,31 @@ pub fn open_head<S: Shelf>(
         Ok(bounds) => bounds,
         Err(fault) => return Err(fault),
     };
+    Ok(bare_head(alloc, table, file, &parts, &read, bounds)?)
+}
+
+// The head of a file with this front and these bounds, of which nothing is loaded.
+fn bare_head(
+    alloc: Global,
+    table: &Table,
+    file: &str,
+    parts: &[Part],
+    read: &FrontRead,
+    bounds: Vec<Ends>,
+) -> Result<Head, NoMemory>
+    requires each { length read.now.front.sizes ≡ length parts.now }
+    requires short { length read.now.bytes.items + sum read.now.front.sizes < 2 ^ 64 }
+    ensures { IfOk result (λ head. head ≡ record {
+      rows = read.now.front.rows;
+      sections = map (placed file.now)
+          (extents_from (length read.now.bytes.items) parts.now read.now.front.sizes);
+      bounds = bounds.items;
+      dictionaries = replicate (length table.now.schema.fields) None;
+      trees = replicate (length table.now.settings.trees) None;
+    }) }
+{
     let start = read.bytes.len() as u64;
-    let sections = place_sections(alloc, file, &parts, read.front.sizes(), start)?;
+    let sections = place_sections(alloc, file, parts, read.front.sizes(), start)?;
     let dictionaries = unloaded(alloc, table.schema.fields.len())?;
     let trees = unloaded(alloc, table.settings.trees.len())?;
     Ok(Head::new(read.front.rows(), sections, bounds, dictionaries, trees))

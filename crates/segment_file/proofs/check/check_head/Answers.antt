@@ -1,18 +1,18 @@
-use Rattle.std.proofs.Common.{◌≡◌, ◌≢◌, ◌∙◌, ◌+◌, ℕ, Bool, true, false, All, List, Some, [], length, map, get_or, drop, ap, sym, subst, arith}
+use Rattle.std.proofs.Common.{◌≡◌, ◌≢◌, ◌∙◌, ◌≤◌, ◌+◌, ℕ, Bool, true, false, All, List, Some, [], length, map, get_or, drop, take, ap, sym, subst}
 use Rattle.std.proofs.lemmas.Bool.{false≢true}
 use Rattle.std.proofs.lemmas.List.{length-map}
 use Rattle.std.specs.Bool.{MatchBool}
 use Rattle.segment_file.specs.declared.part.Part.TheVariants as parts
 use Rattle.segment_file.specs.declared.section.Section.{Section}
 use Rattle.segment_file.specs.Bounds.{bounds_bytes, bounds_of}
-use Rattle.segment_file.specs.Front.{extents_of}
-use Rattle.segment_file.specs.Heads.{placed, trees_said}
+use Rattle.segment_file.specs.Front.{extents_of, head_end}
+use Rattle.segment_file.specs.Heads.{IsHead, IsPlaced, placed, trees_said}
 use Rattle.segment_file.specs.Parts.{columns_of}
 use Rattle.segment_file.specs.Reading.{AreRead, FitsSize, NodesStop, SizeFails, heads_read}
-use Rattle.segment_file.specs.Rules.{AreSpelled, FailsAt, HaveNodes, raw_extents}
-use Rattle.segment_file.proofs.Counts.{few_sections}
-use Rattle.segment_file.proofs.HeadLemmas.{heads_at}
-use Rattle.segment_file.proofs.Composed.{all_hold, bounds_fail, dictionary_fails, made_count, made_is, nodes_fail, parts_made, raw_made, size_fails, spelled_length, trees_told}
+use Rattle.segment_file.specs.Rules.{AreSpelled, FailsAt, HasFront, HaveNodes, raw_extents}
+use Rattle.segment_file.proofs.HeadLemmas.{head_first}
+use Rattle.segment_file.proofs.Faults.{growth_bad, growth_ok, growth_read, no_read, read_handed, same_part, well_read}
+use Rattle.segment_file.proofs.Composed.{all_hold, bounds_fail, dictionary_fails, few_parts, made_count, made_fields, made_heads, made_is, nodes_fail, parts_made, raw_made, short_sections, size_fails, spelled_length, trees_told}
 use Rattle.segment_file.proofs.TreeChecks.{said_count}
 use Rattle.segment_file.proofs.check.check_head.Goals as goal
 
@@ -29,7 +29,7 @@ differs true P h e p = false≢true (sym e)
 differs false P h e p = h p
 
 pub front_size-start-requires-clause-sections : goal.front_size-start-requires-clause-sections
-front_size-start-requires-clause-sections c = omega (arith, few_sections c.args.table.now c.requires.valid, ap length c.requires.parts)
+front_size-start-requires-clause-sections c = few_parts c.args.table.now c.args.parts.now c.requires.valid c.requires.parts
 
 pub check_dictionaries-requires-clause-each : goal.check_dictionaries-requires-clause-each
 check_dictionaries-requires-clause-each c =
@@ -39,7 +39,7 @@ check_dictionaries-requires-clause-each c =
     let front = c.args.front.now in
     let made : c.deref.result.now ≡ map (placed file) (extents_of table name front) =
     made_is table name file front c.args.parts.now c.deref.result.now c.in_ok-sections.sections.items c.front_size-start.result c.sizes.result.now c.front_size-start.ensures c.requires.parts c.sizes.ensures c.in_ok-sections.ensures c.deref.ensures.value in
-    omega (arith, made_count table name file front c.args.parts.now c.deref.result.now c.requires.parts c.requires.each made)
+    made_fields table c.deref.result.now (made_count table name file front c.args.parts.now c.deref.result.now c.requires.parts c.requires.each made)
 
 pub returns-in-Err-clause-bad : goal.returns-in-Err-clause-bad
 returns-in-Err-clause-bad c = λ p is whole has cut.
@@ -62,12 +62,10 @@ returns-then-not-branch-clause-bad c = λ p is whole has cut.
     let ds = c.in-Ok.dictionaries.items in
     let first = c.section_bytes.result.now in
     let zeroth : c.index.result.now ≡ get_or c.deref.result.now 0 c.index.result.now = c.index.ensures ∙ ap (λ xs. get_or xs 0 c.index.result.now) (sym c.deref.ensures.value) in
-    let first_is : first ≡ get_or (heads_read table c.deref.result.now c.args.bytes.now) 0 [] =
-    c.section_bytes.ensures
-    ∙ sym (heads_at c.args.bytes.now c.deref.result.now (length table.schema.fields + 1 + length table.settings.trees) 0 c.index.result.now (omega arith) (omega (arith, made_count table name file front c.args.parts.now c.deref.result.now c.requires.parts c.requires.each made)) zeroth) in
+    let first_is : first ≡ get_or (heads_read table c.deref.result.now c.args.bytes.now) 0 [] = c.section_bytes.ensures ∙ sym (head_first table c.args.bytes.now c.deref.result.now c.index.result.now (made_count table name file front c.args.parts.now c.deref.result.now c.requires.parts c.requires.each made) zeroth) in
     let other : first ≢ bounds_bytes (bounds_of ds) =
     subst (λ xs. first ≢ bounds_bytes (bounds_of xs)) c.deref-2.ensures.value (differs c.in_ok-has_bounds.field-0 (first ≡ bounds_bytes (bounds_of c.deref-2.result.now)) c.in_ok-has_bounds.ensures c.if-not-branch.true) in
-    let bounds_is : parts.Bounds ≡ p = cc in
+    let bounds_is : parts.Bounds ≡ p = same_part parts.Bounds p is in
     subst (FailsAt table name whole) bounds_is (bounds_fail table name file whole c.args.bytes.now front c.deref.result.now c.rows.result c.requires.valid made c.rows.ensures has cut ds first c.in-Ok.ensures.ok first_is other)
 
 pub check_trees-requires-clause-each : goal.check_trees-requires-clause-each
@@ -78,7 +76,7 @@ check_trees-requires-clause-each c =
     let front = c.args.front.now in
     let made : c.deref.result.now ≡ map (placed file) (extents_of table name front) =
     made_is table name file front c.args.parts.now c.deref.result.now c.in_ok-sections.sections.items c.front_size-start.result c.sizes.result.now c.front_size-start.ensures c.requires.parts c.sizes.ensures c.in_ok-sections.ensures c.deref.ensures.value in
-    omega (arith, made_count table name file front c.args.parts.now c.deref.result.now c.requires.parts c.requires.each made, ap length (c.deref-4.ensures.value ∙ sym c.deref.ensures.value))
+    subst (λ (s : List Section). length table.schema.fields + 1 + length table.settings.trees ≤ length s) (c.deref.ensures.value ∙ sym c.deref-4.ensures.value) (made_count table name file front c.args.parts.now c.deref.result.now c.requires.parts c.requires.each made)
 
 pub returns-in-Err-check_trees-clause-bad : goal.returns-in-Err-check_trees-clause-bad
 returns-in-Err-check_trees-clause-bad c = λ p is whole has cut.
@@ -91,14 +89,12 @@ returns-in-Err-check_trees-clause-bad c = λ p is whole has cut.
     let ds = c.in-Ok.dictionaries.items in
     let first = c.section_bytes.result.now in
     let zeroth : c.index.result.now ≡ get_or c.deref.result.now 0 c.index.result.now = c.index.ensures ∙ ap (λ xs. get_or xs 0 c.index.result.now) (sym c.deref.ensures.value) in
-    let first_is : first ≡ get_or (heads_read table c.deref.result.now c.args.bytes.now) 0 [] =
-    c.section_bytes.ensures
-    ∙ sym (heads_at c.args.bytes.now c.deref.result.now (length table.schema.fields + 1 + length table.settings.trees) 0 c.index.result.now (omega arith) (omega (arith, made_count table name file front c.args.parts.now c.deref.result.now c.requires.parts c.requires.each made)) zeroth) in
+    let first_is : first ≡ get_or (heads_read table c.deref.result.now c.args.bytes.now) 0 [] = c.section_bytes.ensures ∙ sym (head_first table c.args.bytes.now c.deref.result.now c.index.result.now (made_count table name file front c.args.parts.now c.deref.result.now c.requires.parts c.requires.each made) zeroth) in
     let same : first ≡ bounds_bytes (bounds_of ds) = agrees c.in_ok-has_bounds.field-0 (first ≡ bounds_bytes (bounds_of c.deref-2.result.now)) c.in_ok-has_bounds.ensures c.if-not-branch.false ∙ ap (λ xs. bounds_bytes (bounds_of xs)) c.deref-2.ensures.value in
     let heads = heads_read table c.deref.result.now c.args.bytes.now in
     let fourth : c.deref-4.result.now ≡ c.deref.result.now = c.deref-4.ensures.value ∙ sym c.deref.ensures.value in
     let second = c.rows-2.ensures ∙ sym c.rows.ensures in
-    let stops : (t : ℕ) × (p ≡ parts.Nodes t) × NodesStop table c.rows.result heads t = along (λ r s. (t : ℕ) × (p ≡ parts.Nodes t) × NodesStop table r (heads_read table s c.args.bytes.now) t) _ _ _ _ second fourth (c.in-Err-check_trees.ensures.bad p is) in
+    let stops : (t : ℕ) × (p ≡ parts.Nodes t) × NodesStop table c.rows.result heads t = along (λ r s. (t : ℕ) × (p ≡ parts.Nodes t) × NodesStop table r (heads_read table s c.args.bytes.now) t) c.rows-2.result c.rows.result c.deref-4.result.now c.deref.result.now second fourth (c.in-Err-check_trees.ensures.bad p is) in
     nodes_fail table name file whole c.args.bytes.now front c.deref.result.now c.rows.result c.requires.valid made c.rows.ensures has cut ds first c.in-Ok.ensures.ok first_is same p stops
 
 pub sections_after-tail-requires : goal.sections_after-tail-requires
@@ -109,7 +105,7 @@ sections_after-tail-requires c =
     let front = c.args.front.now in
     let made : c.deref.result.now ≡ map (placed file) (extents_of table name front) =
     made_is table name file front c.args.parts.now c.deref.result.now c.in_ok-sections.sections.items c.front_size-start.result c.sizes.result.now c.front_size-start.ensures c.requires.parts c.sizes.ensures c.in_ok-sections.ensures c.deref.ensures.value in
-    omega (arith, made_count table name file front c.args.parts.now c.deref.result.now c.requires.parts c.requires.each made, c.len.ensures, c.len-2.ensures, ap length (c.deref-5.ensures.value ∙ sym c.deref.ensures.value))
+    made_heads table c.len.result c.len-2.result c.deref-5.result.now c.deref.result.now c.len.ensures c.len-2.ensures (c.deref-5.ensures.value ∙ sym c.deref.ensures.value) (made_count table name file front c.args.parts.now c.deref.result.now c.requires.parts c.requires.each made)
 
 pub check_sizes-requires-clause-dictionaries : goal.check_sizes-requires-clause-dictionaries
 check_sizes-requires-clause-dictionaries c =
@@ -144,14 +140,12 @@ returns-in-Err-check_sizes-clause-bad c = λ p is whole has cut.
     let ds = c.in-Ok.dictionaries.items in
     let first = c.section_bytes.result.now in
     let zeroth : c.index.result.now ≡ get_or c.deref.result.now 0 c.index.result.now = c.index.ensures ∙ ap (λ xs. get_or xs 0 c.index.result.now) (sym c.deref.ensures.value) in
-    let first_is : first ≡ get_or (heads_read table c.deref.result.now c.args.bytes.now) 0 [] =
-    c.section_bytes.ensures
-    ∙ sym (heads_at c.args.bytes.now c.deref.result.now (length table.schema.fields + 1 + length table.settings.trees) 0 c.index.result.now (omega arith) (omega (arith, made_count table name file front c.args.parts.now c.deref.result.now c.requires.parts c.requires.each made)) zeroth) in
+    let first_is : first ≡ get_or (heads_read table c.deref.result.now c.args.bytes.now) 0 [] = c.section_bytes.ensures ∙ sym (head_first table c.args.bytes.now c.deref.result.now c.index.result.now (made_count table name file front c.args.parts.now c.deref.result.now c.requires.parts c.requires.each made) zeroth) in
     let same : first ≡ bounds_bytes (bounds_of ds) = agrees c.in_ok-has_bounds.field-0 (first ≡ bounds_bytes (bounds_of c.deref-2.result.now)) c.in_ok-has_bounds.ensures c.if-not-branch.false ∙ ap (λ xs. bounds_bytes (bounds_of xs)) c.deref-2.ensures.value in
     let heads = heads_read table c.deref.result.now c.args.bytes.now in
     let fourth : c.deref-4.result.now ≡ c.deref.result.now = c.deref-4.ensures.value ∙ sym c.deref.ensures.value in
     let second = c.rows-2.ensures ∙ sym c.rows.ensures in
-    let have = along (λ r s. HaveNodes table r (heads_read table s c.args.bytes.now) (length table.settings.trees)) _ _ _ _ second fourth c.in-Ok-check_trees.ensures.ok in
+    let have = along (λ r s. HaveNodes table r (heads_read table s c.args.bytes.now) (length table.settings.trees)) c.rows-2.result c.rows.result c.deref-4.result.now c.deref.result.now second fourth c.in-Ok-check_trees.ensures.ok in
     let said : c.in-Ok-check_trees.trees.items ≡ trees_said table heads = c.in-Ok-check_trees.ensures.said ∙ ap (λ s. trees_said table (heads_read table s c.args.bytes.now)) fourth in
     let raw_is : c.sections_after-tail.result.now ≡ map (placed file) (raw_extents table name front) =
     c.sections_after-tail.ensures ∙ (λ i. drop (c.len.ensures i + 1 + c.len-2.ensures i) ((c.deref-5.ensures.value ∙ sym c.deref.ensures.value) i)) ∙ raw_made table name file front c.deref.result.now made in
@@ -162,7 +156,7 @@ returns-in-Err-check_sizes-clause-bad c = λ p is whole has cut.
           (subst (AreSpelled table c.rows.result heads (columns_of table)) (sym c.deref-6.ensures.value) c.in-Ok.ensures.ok);
       said = c.deref-7.ensures.value ∙ said;
     } in
-    let part_is : c.in-Err-check_sizes.part ≡ p = cc in
+    let part_is : c.in-Err-check_sizes.part ≡ p = same_part c.in-Err-check_sizes.part p is in
     let fails : SizeFails table c.rows.result heads c.sections_after-tail.result.now p =
     subst (SizeFails table c.rows.result heads c.sections_after-tail.result.now) part_is
     (subst (λ r. SizeFails table r heads c.sections_after-tail.result.now c.in-Err-check_sizes.part) third (c.in-Err-check_sizes.ensures.bad heads read)) in
@@ -179,14 +173,12 @@ returns-clause-ok c = λ whole has cut.
     let ds = c.in-Ok.dictionaries.items in
     let first = c.section_bytes.result.now in
     let zeroth : c.index.result.now ≡ get_or c.deref.result.now 0 c.index.result.now = c.index.ensures ∙ ap (λ xs. get_or xs 0 c.index.result.now) (sym c.deref.ensures.value) in
-    let first_is : first ≡ get_or (heads_read table c.deref.result.now c.args.bytes.now) 0 [] =
-    c.section_bytes.ensures
-    ∙ sym (heads_at c.args.bytes.now c.deref.result.now (length table.schema.fields + 1 + length table.settings.trees) 0 c.index.result.now (omega arith) (omega (arith, made_count table name file front c.args.parts.now c.deref.result.now c.requires.parts c.requires.each made)) zeroth) in
+    let first_is : first ≡ get_or (heads_read table c.deref.result.now c.args.bytes.now) 0 [] = c.section_bytes.ensures ∙ sym (head_first table c.args.bytes.now c.deref.result.now c.index.result.now (made_count table name file front c.args.parts.now c.deref.result.now c.requires.parts c.requires.each made) zeroth) in
     let same : first ≡ bounds_bytes (bounds_of ds) = agrees c.in_ok-has_bounds.field-0 (first ≡ bounds_bytes (bounds_of c.deref-2.result.now)) c.in_ok-has_bounds.ensures c.if-not-branch.false ∙ ap (λ xs. bounds_bytes (bounds_of xs)) c.deref-2.ensures.value in
     let heads = heads_read table c.deref.result.now c.args.bytes.now in
     let fourth : c.deref-4.result.now ≡ c.deref.result.now = c.deref-4.ensures.value ∙ sym c.deref.ensures.value in
     let second = c.rows-2.ensures ∙ sym c.rows.ensures in
-    let have = along (λ r s. HaveNodes table r (heads_read table s c.args.bytes.now) (length table.settings.trees)) _ _ _ _ second fourth c.in-Ok-check_trees.ensures.ok in
+    let have = along (λ r s. HaveNodes table r (heads_read table s c.args.bytes.now) (length table.settings.trees)) c.rows-2.result c.rows.result c.deref-4.result.now c.deref.result.now second fourth c.in-Ok-check_trees.ensures.ok in
     let said : c.in-Ok-check_trees.trees.items ≡ trees_said table heads = c.in-Ok-check_trees.ensures.said ∙ ap (λ s. trees_said table (heads_read table s c.args.bytes.now)) fourth in
     let raw_is : c.sections_after-tail.result.now ≡ map (placed file) (raw_extents table name front) =
     c.sections_after-tail.ensures ∙ (λ i. drop (c.len.ensures i + 1 + c.len-2.ensures i) ((c.deref-5.ensures.value ∙ sym c.deref.ensures.value) i)) ∙ raw_made table name file front c.deref.result.now made in
@@ -202,13 +194,12 @@ returns-clause-ok c = λ whole has cut.
       front = front;
       dictionaries = ds;
       keeps = all_hold table name file whole c.args.bytes.now front c.deref.result.now c.rows.result c.requires.valid made c.rows.ensures has cut ds first c.in-Ok.ensures.ok first_is same have c.sections_after-tail.result.now raw_is fits;
-      rows_are = ap (λ h. h.rows) c.new.ensures ∙ c.rows-4.ensures;
-      sections_are = ap (λ h. h.sections) c.new.ensures ∙ sym c.deref.ensures.value ∙ made;
-      dictionaries_are = ap (λ h. h.dictionaries) c.new.ensures ∙ c.in_ok-dictionaries.ensures;
-      bounds_are = ap (λ h. h.bounds) c.new.ensures ∙ c.in_ok-bounds.ensures ∙ ap bounds_of c.deref-8.ensures.value;
+      rows_are = ap (λ h. h.rows) c.in_ok-whole_head.ensures ∙ c.rows-4.ensures;
+      sections_are = ap (λ h. h.sections) c.in_ok-whole_head.ensures ∙ sym c.deref.ensures.value ∙ made;
+      dictionaries_are = ap (λ h. h.dictionaries) c.in_ok-whole_head.ensures;
+      bounds_are = ap (λ h. h.bounds) c.in_ok-whole_head.ensures;
       trees_are =
-          ap (λ h. h.trees) c.new.ensures
-          ∙ c.in_ok-trees.ensures
+          ap (λ h. h.trees) c.in_ok-whole_head.ensures
           ∙ ap (map Some) (trees_told table name file whole c.args.bytes.now front c.deref.result.now c.rows.result c.requires.valid made c.rows.ensures has cut ds first c.in-Ok.ensures.ok first_is same c.in-Ok-check_trees.trees.items said);
     }
 
@@ -222,17 +213,121 @@ returns-clause-placed c =
     made_is table name file front c.args.parts.now c.deref.result.now c.in_ok-sections.sections.items c.front_size-start.result c.sizes.result.now c.front_size-start.ensures c.requires.parts c.sizes.ensures c.in_ok-sections.ensures c.deref.ensures.value in
     let ds = c.in-Ok.dictionaries.items in
     record {
-      rows_are = ap (λ h. h.rows) c.new.ensures ∙ c.rows-4.ensures;
-      sections_are = ap (λ h. h.sections) c.new.ensures ∙ sym c.deref.ensures.value ∙ made;
+      rows_are = ap (λ h. h.rows) c.in_ok-whole_head.ensures ∙ c.rows-4.ensures;
+      sections_are = ap (λ h. h.sections) c.in_ok-whole_head.ensures ∙ sym c.deref.ensures.value ∙ made;
       slots =
-          ap (λ h. length h.dictionaries) c.new.ensures
-          ∙ ap length c.in_ok-dictionaries.ensures
+          ap (λ h. length h.dictionaries) c.in_ok-whole_head.ensures
           ∙ length-map ds Some
           ∙ sym (spelled_length table c.rows.result (heads_read table c.deref.result.now c.args.bytes.now) ds c.in-Ok.ensures.ok);
       tree_slots =
-          ap (λ h. length h.trees) c.new.ensures
-          ∙ ap length c.in_ok-trees.ensures
+          ap (λ h. length h.trees) c.in_ok-whole_head.ensures
           ∙ length-map c.in-Ok-check_trees.trees.items Some
           ∙ ap length c.in-Ok-check_trees.ensures.said
           ∙ said_count table (heads_read table c.deref-4.result.now c.args.bytes.now);
     }
+
+pub returns-in_err-sections : goal.returns-in_err-sections
+returns-in_err-sections c =
+    let table = c.args.table.now in
+    let name = c.args.name.now in
+    let file = c.args.file.now in
+    let front = c.args.front.now in
+    let r = c.from_residual in
+    record {
+      ok = growth_ok (λ head. (whole : List ℕ) → HasFront table name whole front → c.args.bytes.now ≡ take (head_end table name front) whole → IsHead table name file whole head) r.result r.ensures;
+      placed = growth_ok (IsPlaced table name file front) r.result r.ensures;
+      bad = growth_bad (λ p. (whole : List ℕ) → HasFront table name whole front → c.args.bytes.now ≡ take (head_end table name front) whole → FailsAt table name whole p) r.result r.ensures;
+      read = growth_read r.result r.ensures;
+    }
+
+pub returns-in_err-has_bounds : goal.returns-in_err-has_bounds
+returns-in_err-has_bounds c =
+    let table = c.args.table.now in
+    let name = c.args.name.now in
+    let file = c.args.file.now in
+    let front = c.args.front.now in
+    let r = c.from_residual-in_err-has_bounds in
+    record {
+      ok = growth_ok (λ head. (whole : List ℕ) → HasFront table name whole front → c.args.bytes.now ≡ take (head_end table name front) whole → IsHead table name file whole head) r.result r.ensures;
+      placed = growth_ok (IsPlaced table name file front) r.result r.ensures;
+      bad = growth_bad (λ p. (whole : List ℕ) → HasFront table name whole front → c.args.bytes.now ≡ take (head_end table name front) whole → FailsAt table name whole p) r.result r.ensures;
+      read = growth_read r.result r.ensures;
+    }
+
+pub returns-in_err-whole_head : goal.returns-in_err-whole_head
+returns-in_err-whole_head c =
+    let table = c.args.table.now in
+    let name = c.args.name.now in
+    let file = c.args.file.now in
+    let front = c.args.front.now in
+    let r = c.from_residual-in_err-whole_head in
+    record {
+      ok = growth_ok (λ head. (whole : List ℕ) → HasFront table name whole front → c.args.bytes.now ≡ take (head_end table name front) whole → IsHead table name file whole head) r.result r.ensures;
+      placed = growth_ok (IsPlaced table name file front) r.result r.ensures;
+      bad = growth_bad (λ p. (whole : List ℕ) → HasFront table name whole front → c.args.bytes.now ≡ take (head_end table name front) whole → FailsAt table name whole p) r.result r.ensures;
+      read = growth_read r.result r.ensures;
+    }
+
+pub returns-in-Err-clause-ok : goal.returns-in-Err-clause-ok
+returns-in-Err-clause-ok c = tt
+
+pub returns-in-Err-clause-placed : goal.returns-in-Err-clause-placed
+returns-in-Err-clause-placed c = tt
+
+pub returns-in-Err-clause-read : goal.returns-in-Err-clause-read
+returns-in-Err-clause-read c = read_handed c.in-Err.fault c.in-Err.ensures.read
+
+pub returns-then-not-branch-clause-ok : goal.returns-then-not-branch-clause-ok
+returns-then-not-branch-clause-ok c = tt
+
+pub returns-then-not-branch-clause-placed : goal.returns-then-not-branch-clause-placed
+returns-then-not-branch-clause-placed c = tt
+
+pub returns-then-not-branch-clause-read : goal.returns-then-not-branch-clause-read
+returns-then-not-branch-clause-read c = no_read parts.Bounds
+
+pub returns-in-Err-check_trees-clause-ok : goal.returns-in-Err-check_trees-clause-ok
+returns-in-Err-check_trees-clause-ok c = tt
+
+pub returns-in-Err-check_trees-clause-placed : goal.returns-in-Err-check_trees-clause-placed
+returns-in-Err-check_trees-clause-placed c = tt
+
+pub returns-in-Err-check_trees-clause-read : goal.returns-in-Err-check_trees-clause-read
+returns-in-Err-check_trees-clause-read c = read_handed c.in-Err-check_trees.fault c.in-Err-check_trees.ensures.read
+
+pub returns-in-Err-check_sizes-clause-ok : goal.returns-in-Err-check_sizes-clause-ok
+returns-in-Err-check_sizes-clause-ok c = tt
+
+pub returns-in-Err-check_sizes-clause-placed : goal.returns-in-Err-check_sizes-clause-placed
+returns-in-Err-check_sizes-clause-placed c = tt
+
+pub returns-in-Err-check_sizes-clause-read : goal.returns-in-Err-check_sizes-clause-read
+returns-in-Err-check_sizes-clause-read c = no_read c.in-Err-check_sizes.part
+
+pub returns-clause-bad : goal.returns-clause-bad
+returns-clause-bad c = tt
+
+pub returns-clause-read : goal.returns-clause-read
+returns-clause-read c = well_read c.in_ok-whole_head.field-0
+
+pub front_size-start-requires-clause-name : goal.front_size-start-requires-clause-name
+front_size-start-requires-clause-name c = c.requires.name
+
+pub place_sections-requires : goal.place_sections-requires
+place_sections-requires c = record {
+  each = ap length c.sizes.ensures ∙ c.requires.each;
+  short = short_sections c.args.table.now c.args.name.now c.args.front.now c.args.parts.now c.sizes.result.now c.front_size-start.result c.front_size-start.ensures c.requires.parts c.sizes.ensures c.requires.short;
+}
+
+pub check_trees-requires-clause-valid : goal.check_trees-requires-clause-valid
+check_trees-requires-clause-valid c = c.requires.valid
+
+pub check_trees-requires-clause-spelled : goal.check_trees-requires-clause-spelled
+check_trees-requires-clause-spelled c =
+    let table = c.args.table.now in
+    let bytes = c.args.bytes.now in
+    subst (AreSpelled table c.rows-2.result (heads_read table c.deref-4.result.now bytes) (columns_of table)) (sym c.deref-3.ensures.value)
+    (along (λ r s. AreSpelled table r (heads_read table s bytes) (columns_of table) c.in-Ok.dictionaries.items) c.rows.result c.rows-2.result c.deref.result.now c.deref-4.result.now (c.rows.ensures ∙ sym c.rows-2.ensures) (c.deref.ensures.value ∙ sym c.deref-4.ensures.value) c.in-Ok.ensures.ok)
+
+pub check_sizes-requires-clause-valid : goal.check_sizes-requires-clause-valid
+check_sizes-requires-clause-valid c = c.requires.valid

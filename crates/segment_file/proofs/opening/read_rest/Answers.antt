@@ -1,10 +1,10 @@
-use Rattle.std.proofs.Common.{◌≡◌, ◌∙◌, ◌+◌, ℕ, List, [], ◌++◌, ap₂, arith}
+use Rattle.std.proofs.Common.{◌≡◌, ◌∙◌, ◌+◌, ◌++◌, IfSome, None, Some, ap₂, arith, take}
+use Rattle.outside.specs.Files.{bytes_of}
+use Rattle.outside.specs.Seen.{seen}
 use Rattle.segment_file.specs.Front.{front_size, head_end}
-use Rattle.segment_file.proofs.Openings.{front_length, has_heads, head_bytes, head_within, rest_through, rest_up}
+use Rattle.segment_file.proofs.Faults.{growth_bad, growth_ok, growth_reads, reads_ended, reads_handed, reads_well}
+use Rattle.segment_file.proofs.Openings.{front_length, has_heads, head_bytes, head_within, rest_short, rest_through, rest_up}
 use Rattle.segment_file.proofs.opening.read_rest.Goals as goal
-
-joined : (front more none first second before all : List ℕ) → none ≡ [] → first ≡ front → second ≡ more → before ≡ none ++ first → all ≡ before ++ second → all ≡ front ++ more
-joined front more none first second before all none_is first_is second_is before_is all_is = all_is ∙ ap₂ ◌++◌ (before_is ∙ ap₂ ◌++◌ none_is first_is) second_is
 
 pub head_size-rest-requires-clause-some : goal.head_size-rest-requires-clause-some
 head_size-rest-requires-clause-some g c =
@@ -22,42 +22,62 @@ read_exactly-requires-clause-fits g c =
     let start : c.len-start.result ≡ front_size table name = omega (arith, c.len-start.ensures, read.bytes.ok, front_length table name read.bytes.items is.size read.front is.front_is) in
     omega (arith, start, c.head_size-rest.ensures, small, head_within table name read.bytes.items is.size read.front is.front_is)
 
-pub returns-in-Err-clause-log : goal.returns-in-Err-clause-log
-returns-in-Err-clause-log g c =
+pub returns-in-Err : goal.returns-in-Err
+returns-in-Err g c =
     let read = c.args.read.now in
     let table = c.args.table.now in
     let name = c.args.name.now in
+    let file = c.args.file.now in
+    let held = g.S.Shelf.held c.args.shelf.now in
+    let old = seen g.S.Shelf c.args.shelf.now in
+    let new = seen g.S.Shelf c.read_exactly.new.shelf in
     let is = c.requires.front in
     let start : c.len-start.result ≡ front_size table name = omega (arith, c.len-start.ensures, read.bytes.ok, front_length table name read.bytes.items is.size read.front is.front_is) in
     let end : c.len-start.result + c.head_size-rest.result ≡ head_end table name read.front = (λ i. start i + c.head_size-rest.ensures i) in
-    rest_up c.args.file.now c.len-start.result c.head_size-rest.result (front_size table name) (head_end table name read.front) (g.S.Shelf.log c.args.shelf.now) (g.S.Shelf.log c.read_exactly.new.shelf) start end c.in-Err.ensures.log_of_fault
+    record {
+      bytes = tt;
+      refused = λ p is_p. rest_short table name file read.bytes.items held read.front c.len-start.result c.head_size-rest.result is end (c.in-Err.ensures.short p is_p).1;
+      only_reads = reads_handed c.in-Err.fault old new c.in-Err.ensures.only_reads;
+      log = rest_up file c.len-start.result c.head_size-rest.result (front_size table name) (head_end table name read.front) old.log new.log start end c.in-Err.ensures.log_of_fault;
+    }
 
-pub returns-in_err-bytes-clause-log : goal.returns-in_err-bytes-clause-log
-returns-in_err-bytes-clause-log g c =
+pub returns-in_err-joined : goal.returns-in_err-joined
+returns-in_err-joined g c =
     let read = c.args.read.now in
     let table = c.args.table.now in
     let name = c.args.name.now in
+    let file = c.args.file.now in
+    let held = g.S.Shelf.held c.args.shelf.now in
+    let old = seen g.S.Shelf c.args.shelf.now in
+    let new = seen g.S.Shelf c.read_exactly.new.shelf in
     let is = c.requires.front in
     let start : c.len-start.result ≡ front_size table name = omega (arith, c.len-start.ensures, read.bytes.ok, front_length table name read.bytes.items is.size read.front is.front_is) in
     let end : c.len-start.result + c.head_size-rest.result ≡ head_end table name read.front = (λ i. start i + c.head_size-rest.ensures i) in
-    rest_through c.args.file.now c.len-start.result c.head_size-rest.result (front_size table name) (head_end table name read.front) (g.S.Shelf.log c.args.shelf.now) (g.S.Shelf.log c.read_exactly.new.shelf) start end c.in-Ok.ensures.log
+    let r = c.from_residual in
+    record {
+      bytes = growth_ok (λ bytes. IfSome held (λ files. bytes.items ≡ take (head_end table name read.front) (bytes_of (Some files) file))) r.result r.ensures;
+      refused = growth_bad (λ p. held ≡ None) r.result r.ensures;
+      only_reads = growth_reads r.result old new r.ensures (reads_well c.in-Ok.more old new c.in-Ok.ensures.only_reads);
+      log = rest_through file c.len-start.result c.head_size-rest.result (front_size table name) (head_end table name read.front) old.log new.log start end c.in-Ok.ensures.log;
+    }
 
-pub returns-clause-bytes : goal.returns-clause-bytes
-returns-clause-bytes g c =
+pub returns : goal.returns
+returns g c =
     let read = c.args.read.now in
     let table = c.args.table.now in
     let name = c.args.name.now in
-    let is = c.requires.front in
-    let start : c.len-start.result ≡ front_size table name = omega (arith, c.len-start.ensures, read.bytes.ok, front_length table name read.bytes.items is.size read.front is.front_is) in
-    let both : c.extend_from_slice-2.new.self.items ≡ read.bytes.items ++ c.in-Ok.more = joined read.bytes.items c.in-Ok.more c.in_ok-bytes.bytes.items c.deref.result.now c.as_slice.result.now c.extend_from_slice.new.self.items c.extend_from_slice-2.new.self.items c.in_ok-bytes.ensures.items c.deref.ensures.value c.as_slice.ensures c.in_ok-extend_from_slice.ensures.items c.in_ok-extend_from_slice-2.ensures.items in
-    head_bytes table name c.args.file.now read.bytes.items (g.S.Shelf.held c.args.shelf.now) read.front c.len-start.result c.head_size-rest.result c.in-Ok.more c.extend_from_slice-2.new.self.items is start c.head_size-rest.ensures c.in-Ok.ensures.bytes both
-
-pub returns-clause-log : goal.returns-clause-log
-returns-clause-log g c =
-    let read = c.args.read.now in
-    let table = c.args.table.now in
-    let name = c.args.name.now in
+    let file = c.args.file.now in
+    let held = g.S.Shelf.held c.args.shelf.now in
+    let old = seen g.S.Shelf c.args.shelf.now in
+    let new = seen g.S.Shelf c.read_exactly.new.shelf in
     let is = c.requires.front in
     let start : c.len-start.result ≡ front_size table name = omega (arith, c.len-start.ensures, read.bytes.ok, front_length table name read.bytes.items is.size read.front is.front_is) in
     let end : c.len-start.result + c.head_size-rest.result ≡ head_end table name read.front = (λ i. start i + c.head_size-rest.ensures i) in
-    rest_through c.args.file.now c.len-start.result c.head_size-rest.result (front_size table name) (head_end table name read.front) (g.S.Shelf.log c.args.shelf.now) (g.S.Shelf.log c.read_exactly.new.shelf) start end c.in-Ok.ensures.log
+    let all = c.in_ok-joined.field-0 in
+    let both : all.items ≡ read.bytes.items ++ c.in-Ok.more = c.in_ok-joined.ensures ∙ ap₂ ◌++◌ c.deref.ensures.value c.as_slice.ensures in
+    record {
+      bytes = head_bytes table name file read.bytes.items held read.front c.len-start.result c.head_size-rest.result c.in-Ok.more all.items is start c.head_size-rest.ensures c.in-Ok.ensures.bytes both;
+      refused = tt;
+      only_reads = reads_ended all old new (reads_well c.in-Ok.more old new c.in-Ok.ensures.only_reads);
+      log = rest_through file c.len-start.result c.head_size-rest.result (front_size table name) (head_end table name read.front) old.log new.log start end c.in-Ok.ensures.log;
+    }

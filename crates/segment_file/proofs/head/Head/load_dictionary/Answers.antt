@@ -1,5 +1,8 @@
-use Rattle.std.proofs.Common.{sym, subst, arith}
+use Rattle.std.proofs.Common.{refl, sym, subst, arith}
+use Rattle.outside.specs.Seen.{seen}
+use Rattle.outside.proofs.SeenLemmas.{reads_none}
 use Rattle.segment_file.specs.Heads.{IsPartOf, Loads, OfWhole}
+use Rattle.segment_file.proofs.Faults.{reads_ended, reads_handed, reads_well}
 use Rattle.segment_file.proofs.Steps.{kept_loads, kept_part, none_read}
 use Rattle.segment_file.proofs.head.Head.load_dictionary.Goals as goal
 
@@ -17,3 +20,45 @@ returns-clause-part g c =
     let head = c.args.self.now in
     let held = g.S.Shelf.held c.args.shelf.now in
     subst (λ h. OfWhole table held head (λ whole. IsPartOf whole h)) (sym c.keep.ensures) (kept_part table head c.args.column c.in-Ok.dictionary held c.in-Ok.ensures.dictionary)
+
+pub returns-then-is_some-clause-same : goal.returns-then-is_some-clause-same
+returns-then-is_some-clause-same g c = tt
+
+pub returns-then-is_some-clause-of : goal.returns-then-is_some-clause-of
+returns-then-is_some-clause-of g c = c.requires.opened
+
+pub returns-then-is_some-clause-refused : goal.returns-then-is_some-clause-refused
+returns-then-is_some-clause-refused g c = tt
+
+pub returns-then-is_some-clause-only_reads : goal.returns-then-is_some-clause-only_reads
+returns-then-is_some-clause-only_reads g c = reads_ended tt (seen g.S.Shelf c.args.shelf.now) (seen g.S.Shelf c.args.shelf.now) (reads_none (seen g.S.Shelf c.args.shelf.now))
+
+pub returns-in-Err-clause-loads : goal.returns-in-Err-clause-loads
+returns-in-Err-clause-loads g c = tt
+
+pub returns-in-Err-clause-same : goal.returns-in-Err-clause-same
+returns-in-Err-clause-same g c = refl
+
+pub returns-in-Err-clause-of : goal.returns-in-Err-clause-of
+returns-in-Err-clause-of g c = c.requires.opened
+
+pub returns-in-Err-clause-part : goal.returns-in-Err-clause-part
+returns-in-Err-clause-part g c = tt
+
+pub returns-in-Err-clause-refused : goal.returns-in-Err-clause-refused
+returns-in-Err-clause-refused g c = c.in-Err.ensures.refused
+
+pub returns-in-Err-clause-only_reads : goal.returns-in-Err-clause-only_reads
+returns-in-Err-clause-only_reads g c = reads_handed c.in-Err.fault (seen g.S.Shelf c.args.shelf.now) (seen g.S.Shelf c.read_dictionary.new.shelf) c.in-Err.ensures.only_reads
+
+pub returns-clause-same : goal.returns-clause-same
+returns-clause-same g c = tt
+
+pub returns-clause-refused : goal.returns-clause-refused
+returns-clause-refused g c = tt
+
+pub returns-clause-only_reads : goal.returns-clause-only_reads
+returns-clause-only_reads g c =
+    let old = seen g.S.Shelf c.args.shelf.now in
+    let new = seen g.S.Shelf c.read_dictionary.new.shelf in
+    reads_ended tt old new (reads_well c.in-Ok.dictionary old new c.in-Ok.ensures.only_reads)
