@@ -1,7 +1,7 @@
 -- Parts of a query and of an option, for the functions that read them.
 use Rattle.std.specs.Prelude.{Bool}
 use Rattle.query_parser.specs.declared.query.Selected.{Selected}
-use Rattle.query_parser.specs.declared.query.RowClauses.{RowClauses}
+use Rattle.query_parser.specs.declared.query.Shaped.{Shaped}
 use Rattle.query_parser.specs.declared.token.Kind.TheVariants as k
 use Rattle.query_parser.specs.declared.tree.NameAt.{NameAt}
 use Rattle.query_parser.specs.declared.tree.Query.{Query}
@@ -26,19 +26,19 @@ selection = do
   table ← name
   pure (record { select = select; items = items; table = table })
 
--- WHERE, GROUP BY and ORDER BY
-unfoldable pub clauses : Parser RowClauses
-clauses = do
-  cond ← condition_if
+-- what follows the condition, up to the end
+unfoldable pub shape : Parser Shaped
+shape = do
   group ← groups
   keys ← order
-  pure (record { condition = cond; groups = group; order = keys })
+  limit ← closing
+  pure (record { groups = group; order = keys; limit = limit.0; offset = limit.1 })
 
 -- a whole query by these parts
 unfoldable pub query : Parser Query
 query = do
   use_tree ← options
   s ← selection
-  c ← clauses
-  limit ← closing
-  pure (record { use_tree = use_tree; select = s.select; items = s.items; table = s.table; condition = c.condition; groups = c.groups; order = c.order; limit = limit.0; offset = limit.1 })
+  cond ← condition_if
+  e ← shape
+  pure (record { use_tree = use_tree; select = s.select; items = s.items; table = s.table; condition = cond; groups = e.groups; order = e.order; limit = e.limit; offset = e.offset })

@@ -339,26 +339,28 @@ fn selection(alloc: Global, tokens: &mut Tokens<'_>) -> Result<Selected, QueryFa
     })
 }
 
-// What is asked of the rows.
+// How the rows are grouped and put in order, and how many are wanted.
 #[derive(Drop)]
-struct RowClauses {
-    condition: Option<Cond>,
+struct Shaped {
     groups: Seq<NameAt>,
     order: Seq<QueryKey>,
+    limit: Option<LiteralAt>,
+    offset: Option<LiteralAt>,
 }
 
-// WHERE, GROUP BY and ORDER BY.
-#[tactic(auto, unfolding(crate::specs::QueryParts::clauses))]
-fn clauses(alloc: Global, tokens: &mut Tokens<'_>) -> Result<RowClauses, QueryFault>
-    ensures { Reads (parts.clauses tokens.old) result tokens.new }
+// What follows the condition, up to the end.
+#[tactic(auto, unfolding(crate::specs::QueryParts::shape))]
+fn shape(alloc: Global, tokens: &mut Tokens<'_>) -> Result<Shaped, QueryFault>
+    ensures { Reads (parts.shape tokens.old) result tokens.new }
 {
-    let condition = condition_if(alloc, tokens)?;
     let groups = groups(alloc, tokens)?;
     let order = order(alloc, tokens)?;
-    Ok(RowClauses {
-        condition,
+    let (limit, offset) = closing(tokens)?;
+    Ok(Shaped {
         groups,
         order,
+        limit,
+        offset,
     })
 }
 
@@ -368,18 +370,18 @@ fn query(alloc: Global, tokens: &mut Tokens<'_>) -> Result<Query, QueryFault>
 {
     let use_tree = options(alloc, tokens)?;
     let selection = selection(alloc, tokens)?;
-    let clauses = clauses(alloc, tokens)?;
-    let (limit, offset) = closing(tokens)?;
+    let condition = condition_if(alloc, tokens)?;
+    let shape = shape(alloc, tokens)?;
     Ok(Query {
         use_tree,
         select: selection.select,
         items: selection.items,
         table: selection.table,
-        condition: clauses.condition,
-        groups: clauses.groups,
-        order: clauses.order,
-        limit,
-        offset,
+        condition,
+        groups: shape.groups,
+        order: shape.order,
+        limit: shape.limit,
+        offset: shape.offset,
     })
 }
 
