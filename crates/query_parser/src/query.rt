@@ -385,7 +385,6 @@ fn query(alloc: Global, tokens: &mut Tokens<'_>) -> Result<Query, QueryFault>
     })
 }
 
-#[tactic(auto, unfolding(crate::specs::Query::parsed), using(crate::proofs::QueryParts::query_is))]
 fn whole(alloc: Global, text: &str) -> Result<Query, QueryFault>
     requires { length text.now ≤ 65536 }
     ensures { spec.Parses (spec.parsed text.now) result }
