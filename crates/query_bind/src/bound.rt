@@ -96,12 +96,7 @@ struct Shown {
     order: Seq<OrderKey>,
 }
 
-fn displayed(
-    alloc: Global,
-    query: &Query,
-    terms: &Terms,
-    lists: &Lists,
-) -> Result<Shown, NoMemory>
+fn displayed(alloc: Global, query: &Query, terms: &Terms, lists: &Lists) -> Result<Shown, NoMemory>
     requires few { (length lists.now.groups ≤ 8) × (length lists.now.aggs ≤ 16) }
     ensures items { IfOk result (λ s. s.items ≡ spec.items_of lists.now.groups lists.now.aggs terms.now.items) }
     ensures labels { IfOk result (λ s. s.labels ≡ map spec.label_of query.now.items) }

@@ -1,5 +1,4 @@
-use Rattle.std.proofs.Common.{Ok, sym, ap, ◌∙◌}
-use Rattle.query_bind.specs.Bound.{parts_of, query_finding}
+use Rattle.std.proofs.Common.{Ok, ap, ◌∙◌}
 use Rattle.query_bind.specs.Names.{where_finding}
 use Rattle.query_bind.specs.Written.{where_written}
 use Rattle.query_bind.specs.Conjuncts.{where_conjuncts}
