@@ -67,7 +67,7 @@ fn check(
     check_names(alloc, &names, table, any_table)
 }
 
-/// The same, with the names of the query in maps.
+// The same, with the names of the query in maps.
 fn check_names(
     alloc: Global,
     names: &QueryNames<'_>,
@@ -88,7 +88,7 @@ fn check_names(
     Ok((terms, lists))
 }
 
-/// What the answer shows, and in which order.
+// What the answer shows, and in which order.
 #[derive(Drop)]
 struct Shown {
     items: Seq<Item>,
