@@ -98,9 +98,11 @@ struct Shown {
 
 fn displayed(alloc: Global, query: &Query, terms: &Terms, lists: &Lists) -> Result<Shown, NoMemory>
     requires few { (length lists.now.groups ≤ 8) × (length lists.now.aggs ≤ 16) }
-    ensures items { IfOk result (λ s. s.items ≡ spec.items_of lists.now.groups lists.now.aggs terms.now.items) }
+    ensures items { IfOk result
+        (λ s. s.items ≡ spec.items_of lists.now.groups lists.now.aggs terms.now.items) }
     ensures labels { IfOk result (λ s. s.labels ≡ map spec.label_of query.now.items) }
-    ensures order { IfOk result (λ s. s.order ≡ spec.keys_of lists.now.groups lists.now.aggs terms.now.keys) }
+    ensures order { IfOk result
+        (λ s. s.order ≡ spec.keys_of lists.now.groups lists.now.aggs terms.now.keys) }
 {
     let groups = lists.groups.as_slice();
     let aggs = lists.aggs.as_slice();
