@@ -1,9 +1,10 @@
 //! The query over the fields of a table.
 
-ghost use Rattle.std.specs.Prelude.{◌≡◌, ◌≤◌, length, true, IfOk};
+ghost use Rattle.std.specs.Prelude.{◌≡◌, ◌≤◌, length, map, true, None, IfOk};
 ghost use Rattle.query_bind.specs.Written.{where_written};
-ghost use Rattle.query_bind.specs.Conjuncts.{KeepRows};
+ghost use Rattle.query_bind.specs.Conjuncts.{KeepRows, where_conjuncts};
 ghost use Rattle.query_bind.specs.Limits as limits;
+ghost use Rattle.query_bind.specs.Names.{where_finding};
 ghost use Rattle.query_bind.specs.Bound as spec;
 ghost use Rattle.query_bind.specs.Faults.{Gives};
 ghost use Rattle.table_schema.specs.ValidQuery.{IsValidQuery};
@@ -18,8 +19,8 @@ use crate::lookups::QueryNames;
 use crate::terms::{Terms, resolve};
 use query_parser::{LiteralAt, Query};
 use std::alloc::Global;
-use table_schema::{BoundQuery, Conjunct, Table};
-use values::{NoMemory, Seq, Value};
+use table_schema::{BoundQuery, Field, Item, OrderKey, Table};
+use values::{Name, NoMemory, Seq, Value};
 
 /// How many groups are answered where the query does not say.
 const USUAL_LIMIT: u64 = 10;
@@ -43,15 +44,31 @@ pub fn bind(
         KeepRows bound.conjuncts (where_written table.now.schema.fields query.now.condition)) }
     ensures valid { IfOk result (IsValidQuery table.now) }
 {
-    let names = QueryNames::new(alloc, query)?;
-    let (terms, lists) = check(alloc, &names, table, any_table)?;
-    let conjuncts = conjuncts(alloc, table.schema.fields.as_slice(), &query.condition)?;
-    let bound = assemble(alloc, query, &terms, lists, conjuncts)?;
+    let (terms, lists) = check(alloc, query, table, any_table)?;
+    let fields = table.schema.fields.as_slice();
+    let bound = assemble(alloc, query, fields, &terms, lists)?;
     Ok(bound)
 }
 
 /// What the terms of a query are, and the lists of them, where no check fails.
 fn check(
+    alloc: Global,
+    query: &Query,
+    table: &Table,
+    any_table: bool,
+) -> Result<(Terms, Lists), BindFault>
+    requires { length table.now.schema.fields ≤ 64 }
+    ensures checked { Gives (spec.query_finding table.now any_table query.now)
+        (spec.parts_of table.now.schema.fields query.now) result }
+    ensures few { IfOk result
+        (λ parts. (length parts.1.groups ≤ 8) × (length parts.1.aggs ≤ 16)) }
+{
+    let names = QueryNames::new(alloc, query)?;
+    check_names(alloc, &names, table, any_table)
+}
+
+// The same, with the names of the query in maps.
+fn check_names(
     alloc: Global,
     names: &QueryNames<'_>,
     table: &Table,
@@ -71,32 +88,62 @@ fn check(
     Ok((terms, lists))
 }
 
-/// The bound query of these parts.
-fn assemble(
-    alloc: Global,
-    query: &Query,
-    terms: &Terms,
-    lists: Lists,
-    conjuncts: Seq<Conjunct>,
-) -> Result<BoundQuery, NoMemory>
-    requires few { (length lists.groups ≤ 8) × (length lists.aggs ≤ 16) }
-    requires limit { limits.is_count query.now.limit ≡ true }
-    requires offset { limits.is_count query.now.offset ≡ true }
-    ensures { IfOk result (λ bound. bound ≡ spec.assembled query.now terms.now lists conjuncts) }
+// What the answer shows, and in which order.
+#[derive(Drop)]
+struct Shown {
+    items: Seq<Item>,
+    labels: Seq<Name>,
+    order: Seq<OrderKey>,
+}
+
+fn displayed(alloc: Global, query: &Query, terms: &Terms, lists: &Lists) -> Result<Shown, NoMemory>
+    requires few { (length lists.now.groups ≤ 8) × (length lists.now.aggs ≤ 16) }
+    ensures items { IfOk result
+        (λ s. s.items ≡ spec.items_of lists.now.groups lists.now.aggs terms.now.items) }
+    ensures labels { IfOk result (λ s. s.labels ≡ map spec.label_of query.now.items) }
+    ensures order { IfOk result
+        (λ s. s.order ≡ spec.keys_of lists.now.groups lists.now.aggs terms.now.keys) }
 {
     let groups = lists.groups.as_slice();
     let aggs = lists.aggs.as_slice();
     let items = items_of(alloc, groups, aggs, terms.items.as_slice())?;
     let order = keys_of(alloc, groups, aggs, terms.keys.as_slice())?;
     let labels = labels(alloc, query.items.as_slice())?;
+    Ok(Shown {
+        items,
+        labels,
+        order,
+    })
+}
+
+/// The bound query of these parts, over fields that its condition names.
+fn assemble(
+    alloc: Global,
+    query: &Query,
+    fields: &[Field],
+    terms: &Terms,
+    lists: Lists,
+) -> Result<BoundQuery, NoMemory>
+    requires fields { length fields.now ≤ 64 }
+    requires checked { where_finding fields.now query.now.condition ≡ None }
+    requires few { (length lists.groups ≤ 8) × (length lists.aggs ≤ 16) }
+    requires limit { limits.is_count query.now.limit ≡ true }
+    requires offset { limits.is_count query.now.offset ≡ true }
+    ensures bound { IfOk result (λ bound. bound ≡ spec.assembled query.now terms.now lists
+        (where_conjuncts (where_written fields.now query.now.condition))) }
+    ensures rows { IfOk result (λ bound.
+        KeepRows bound.conjuncts (where_written fields.now query.now.condition)) }
+{
+    let conjuncts = conjuncts(alloc, fields, &query.condition)?;
+    let shown = displayed(alloc, query, terms, &lists)?;
     Ok(BoundQuery {
         use_tree: query.use_tree,
         conjuncts,
         groups: lists.groups,
         aggs: lists.aggs,
-        items,
-        labels,
-        order,
+        items: shown.items,
+        labels: shown.labels,
+        order: shown.order,
         offset: count_or(0, &query.offset),
         limit: count_or(USUAL_LIMIT, &query.limit),
     })

@@ -11,7 +11,7 @@ use Rattle.query_parser.specs.declared.tree.Cond.{Cond}
 use Rattle.query_parser.specs.declared.tree.Cond.TheVariants.{Compare, OneOf, Between}
 use Rattle.query_parser.specs.Lex.{is_last}
 use Rattle.query_parser.specs.Stream.{Lexeme, Stream, kind, place, number, word, next}
-use Rattle.query_parser.specs.Reading.{Outcome, Parser, pure, sees, after, expect, name, literal_by, literal, separated_from, separated, too_deep}
+use Rattle.query_parser.specs.Reading.{Outcome, Parser, pure, refusal, sees, after, expect, name, literal_by, literal, separated_from, separated, too_deep}
 use Rattle.query_parser.specs.Cond as c
 use Rattle.query_parser.specs.Spells.{Rule, IsToken, Skips, SpellsName, SpellsLiteral, SpellsList, MayNegate, SpellsTest, SpellsConjunction, SpellsCond, SpellsNegation, SpellsGroup, SpellsFactor, SpellsCondition}
 use Rattle.query_parser.specs.Shrinks.{ok, stop, rest_is, bind_ok, sees_kind, name_goes_on, end_is_last}
@@ -23,6 +23,10 @@ value_or a (Err e) = a
 
 pub value_is : {A : Type 0} (a b : A) (ts us : Stream) → ok a ts ≡ ok b us → b ≡ a
 value_is a b ts us e = sym (ap (value_or b) e)
+
+-- a fault is no outcome
+pub not_ok : {A : Type 0} (f : QueryFault) (y : A × Stream) → stop f ≡ Ok y → ⊥
+not_ok f y e = cc
 
 -- ---- one token
 
@@ -66,7 +70,7 @@ literal_step k.Text ts us v s e =
     let rest = rest_is (record { value = Text (word ts); offset = place ts }) v (next ts) us e in
     let is = value_is (record { value = Text (word ts); offset = place ts }) v (next ts) us e in
     (t.0, inr ((t.1.0 ∙ ap (λ r. t.0 ∷ r) (sym rest), t.1.1), is ∙ rw (t.2, t.3) refl))
-literal_step _ ts us v s e = absurd (cc)
+literal_step _ ts us v s e = absurd (not_ok (refusal ts) (v, us) e)
 
 pub literal_found : (ts : Stream) (v : LiteralAt) (us : Stream) → literal ts ≡ Ok (v, us) → SpellsLiteral ts v us
 unfolding literal
@@ -231,7 +235,7 @@ negated_found : (kd : Kind) (ts mid from : Stream) (column : NameAt) (x : Cond) 
 unfolding is_last
 negated_found k.In ts mid from column x us n may h e = of_in ts mid from (next from) column true x us n may (skips_next k.In from (next from) h refl refl) (one_of_found column true (next from) x us e)
 negated_found k.Between ts mid from column x us n may h e = of_between ts mid from (next from) column true x us n may (skips_next k.Between from (next from) h refl refl) (between_found column true (next from) x us e)
-negated_found _ ts mid from column x us n may h e = absurd (cc)
+negated_found _ ts mid from column x us n may h e = absurd (not_ok (refusal from) (x, us) e)
 
 following_found : (kd : Kind) (ts mid : Stream) (column : NameAt) (x : Cond) (us : Stream) → SpellsName ts column mid → kind mid ≡ kd → c.test_by column kd mid ≡ Ok (x, us) → SpellsTest ts x us
 unfolding is_last
@@ -274,7 +278,7 @@ module _ {C : Type 0} (rule : Rule C) (leaf : Parser C) (j : c.Joints C) (each :
   zero_found k.Not ts x us e = absurd (cc)
   zero_found k.LParen ts x us e = absurd (cc)
   zero_found k.Name ts x us e = each ts x us e
-  zero_found _ ts x us e = absurd (cc)
+  zero_found _ ts x us e = absurd (not_ok (refusal ts) (x, us) e)
 
   deep_found : (d : ℕ) (kd : Kind) (ts : Stream) (x : C) (us : Stream) → ((ts : Stream) (x : C) (us : Stream) → c.factor leaf j d ts ≡ Ok (x, us) → SpellsFactor rule j d ts x us) → kind ts ≡ kd
       → c.factor_by leaf j (c.negation leaf j (c.factor leaf j d)) (c.in_parentheses leaf j (c.factor leaf j d)) kd ts ≡ Ok (x, us)
@@ -293,7 +297,7 @@ module _ {C : Type 0} (rule : Rule C) (leaf : Parser C) (j : c.Joints C) (each :
       let f = cond_found j (SpellsFactor rule j d) (c.factor leaf j d) deeper (next ts) m.0.0 m.0.1 m.1 in
       inr (inr (next ts, m.0.1, skips_next k.LParen ts (next ts) h refl refl, subst (λ (y : C). SpellsCond j (SpellsFactor rule j d) (next ts) y m.0.1) (sym is) f.0, subst (λ (q : Stream). Skips k.RParen m.0.1 q) (sym rest) (expect_found k.RParen m.0.1 r.0.1 r.0.0 refl r.1)))
   deep_found d k.Name ts x us deeper h e = inl (each ts x us e)
-  deep_found d _ ts x us deeper h e = absurd (cc)
+  deep_found d _ ts x us deeper h e = absurd (not_ok (refusal ts) (x, us) e)
 
   pub factor_found : (d : ℕ) (ts : Stream) (x : C) (us : Stream) → c.factor leaf j d ts ≡ Ok (x, us) → SpellsFactor rule j d ts x us
   unfolding SpellsFactor c.factor

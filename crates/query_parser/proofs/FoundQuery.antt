@@ -17,7 +17,7 @@ use Rattle.query_parser.specs.declared.tree.Query.{Query}
 use Rattle.query_parser.specs.declared.tree.Cond.{Cond}
 use Rattle.query_parser.specs.Lex.{Bytes, is_last}
 use Rattle.query_parser.specs.Stream.{Lexeme, Stream, kind, place, number, word, next}
-use Rattle.query_parser.specs.Reading.{Parser, ◌>>=◌, ◌>>◌, ◌<$>◌, pure, take_token, sees, after, eat, expect, name, separated}
+use Rattle.query_parser.specs.Reading.{Outcome, Parser, and_then, ◌>>=◌, ◌>>◌, ◌<$>◌, pure, refusal, take_token, sees, after, eat, expect, name, separated}
 use Rattle.query_parser.specs.Cond as c
 use Rattle.query_parser.specs.Query as q
 use Rattle.query_parser.specs.Spells.{Rule, Skips, SpellsName, SpellsCondition}
@@ -25,7 +25,12 @@ use Rattle.query_parser.specs.SpellsQuery.{SpellsArgument, SpellsCall, SpellsTer
 use Rattle.query_parser.specs.Shrinks.{ok, rest_is, bind_ok, sees_kind}
 use Rattle.query_parser.proofs.Again.{not_after}
 use Rattle.query_parser.proofs.AgainQuery.{value_goes_on}
-use Rattle.query_parser.proofs.Found.{value_is, token_at, skips_next, expect_found, name_found, list_found, condition_found}
+use Rattle.query_parser.proofs.Found.{not_ok, value_is, token_at, skips_next, expect_found, name_found, list_found, condition_found}
+
+-- what was read first, and the rest after it
+with_ok : {A B P : Type 0} (o : Outcome A) (f : A → Parser B) (y : B × Stream) → and_then o f ≡ Ok y → ((a : A) (mid : Stream) → o ≡ Ok (a, mid) → f a mid ≡ Ok y → P) → P
+with_ok (Ok p) f y e then = then p.0 p.1 refl e
+with_ok (Err x) f y e then = absurd (cc)
 
 -- what was eaten, and what was passed over
 eaten_found : (kd : Kind) (ts us : Stream) → is_last kd ≡ false → eat kd ts ≡ Ok (true, us) → Skips kd ts us
@@ -88,7 +93,7 @@ argument_step k.Name f ts a us h e =
     let m = bind_ok (name ts) _ (a, us) e in
     let rest = rest_is (argument.Column m.0.0) a m.0.1 us m.2 in
     inr (m.0.0, subst (λ (r : Stream). SpellsName ts m.0.0 r) (sym rest) (name_found ts m.0.1 m.0.0 m.1), value_is (argument.Column m.0.0) a m.0.1 us m.2)
-argument_step _ f ts a us h e = absurd (cc)
+argument_step _ f ts a us h e = absurd (not_ok (refusal ts) (a, us) e)
 
 argument_found : (f : Func) (ts : Stream) (a : Argument) (us : Stream) → q.argument_of f ts ≡ Ok (a, us) → SpellsArgument f ts a us
 unfolding q.argument_of
@@ -140,11 +145,14 @@ item_found ts i us e =
     let o = optional_found k.As SpellsName name m.0.1 l.0.0 l.0.1 refl (λ ts a us h. name_found ts us a h) l.1 in
     subst (λ (j : QueryItem). SpellsItem ts j us) (sym is) (m.0.1, term_found ts m.0.0 m.0.1 m.1, subst (λ (r : Stream). SpellsOptional k.As SpellsName m.0.1 l.0.0 r) (sym rest) o)
 
+stays : (ts : Stream) (b : Bool) (us : Stream) → ok false ts ≡ Ok (b, us) → SpellsDirection ts b us
+stays ts b us e = subst (λ (x : Bool). SpellsDirection ts x us) (sym (value_is false b ts us e)) (inl (rest_is false b ts us e))
+
 direction_step : (kd : Kind) (ts : Stream) (b : Bool) (us : Stream) → kind ts ≡ kd → q.direction_by kd ts ≡ Ok (b, us) → SpellsDirection ts b us
 unfolding is_last
 direction_step k.Asc ts b us h e = subst (λ (x : Bool). SpellsDirection ts x us) (sym (value_is false b (next ts) us e)) (inr (skips_next k.Asc ts us h refl (rest_is false b (next ts) us e)))
 direction_step k.Desc ts b us h e = subst (λ (x : Bool). SpellsDirection ts x us) (sym (value_is true b (next ts) us e)) (skips_next k.Desc ts us h refl (rest_is true b (next ts) us e))
-direction_step _ ts b us h e = subst (λ (x : Bool). SpellsDirection ts x us) (sym (value_is false b ts us e)) (inl (rest_is false b ts us e))
+direction_step _ ts b us h e = stays ts b us e
 
 key_found : (ts : Stream) (i : QueryKey) (us : Stream) → q.key ts ≡ Ok (i, us) → SpellsKey ts i us
 unfolding q.key q.direction
@@ -256,37 +264,47 @@ checked_found : (r : Result Bool QueryFault) (ts : Stream) (b : Bool) (us : Stre
 checked_found (Ok a) ts b us e = (ap (λ x. Ok x) (sym (value_is a b ts us e)), rest_is a b ts us e)
 checked_found (Err f) ts b us e = absurd (cc)
 
-set_found : (before : Bool) (ts : Stream) (now : Bool) (us : Stream) → q.option before ts ≡ Ok (now, us) → (n : NameAt) × (v : Bytes) × SpellsSet ts n v us × (q.set_option n v before ≡ Ok now)
-unfolding q.option is_last
-set_found before ts now us e =
-    let s = bind_ok (expect k.Set ts) _ (now, us) e in
-    let n = bind_ok (name s.0.1) _ (now, us) s.2 in
-    let g = bind_ok (expect k.Eq n.0.1) _ (now, us) n.2 in
-    let v = bind_ok (q.option_value g.0.1) _ (now, us) g.2 in
-    let a = bind_ok (q.checked (q.set_option n.0.0 v.0.0 before) v.0.1) _ (now, us) v.2 in
-    let z = bind_ok (expect k.Semi a.0.1) _ (now, us) a.2 in
-    let is = value_is a.0.0 now z.0.1 us z.2 in
-    let rest = rest_is a.0.0 now z.0.1 us z.2 in
-    let w = value_found g.0.1 v.0.0 v.0.1 v.1 in
-    let allowed = checked_found (q.set_option n.0.0 v.0.0 before) v.0.1 a.0.0 a.0.1 a.1 in (
-      n.0.0,
-      v.0.0,
+abbrev SetFound : Bool → Stream → Bool → Stream → Type 0
+SetFound before ts now us = (n : NameAt) × (v : Bytes) × SpellsSet ts n v us × (q.set_option n v before ≡ Ok now)
+
+ends_after : (at_end mid last us : Stream) (u : Unit {0}) → mid ≡ at_end → us ≡ last → expect k.Semi mid ≡ Ok (u, last) → Skips k.Semi at_end us
+unfolding is_last
+ends_after at_end mid last us u is rest e = subst (λ (r : Stream). Skips k.Semi r us) is (subst (λ (r : Stream). Skips k.Semi mid r) (sym rest) (expect_found k.Semi mid last u refl e))
+
+valued_found : (before : Bool) (ts at_name at_sign at_value : Stream) (n : NameAt) (now : Bool) (us : Stream) → Skips k.Set ts at_name → SpellsName at_name n at_sign → Skips k.Eq at_sign at_value
+    → (q.option_value >>= (λ v. q.checked (q.set_option n v before) >>= (λ after. expect k.Semi >> pure after))) at_value ≡ Ok (now, us) → SetFound before ts now us
+valued_found before ts at_name at_sign at_value n now us set spells sign e =
+    with_ok (q.option_value at_value) (λ v. q.checked (q.set_option n v before) >>= (λ after. expect k.Semi >> pure after)) (now, us) e (λ v at_end ve e.
+    with_ok (q.checked (q.set_option n v before) at_end) (λ after. expect k.Semi >> pure after) (now, us) e (λ after mid ae e.
+    with_ok (expect k.Semi mid) (λ _. pure after) (now, us) e (λ u last ze e.
+    let w = value_found at_value v at_end ve in
+    let allowed = checked_found (q.set_option n v before) at_end after mid ae in (
+      n,
+      v,
       record {
-        at_name = s.0.1;
-        at_sign = n.0.1;
-        at_value = g.0.1;
-        at_end = v.0.1;
+        at_name = at_name;
+        at_sign = at_sign;
+        at_value = at_value;
+        at_end = at_end;
         token = w.0;
-        word = expect_found k.Set ts s.0.1 s.0.0 refl s.1;
-        spells_name = name_found s.0.1 n.0.1 n.0.0 n.1;
-        sign = expect_found k.Eq n.0.1 g.0.1 g.0.0 refl g.1;
+        word = set;
+        spells_name = spells;
+        sign = sign;
         is_value = w.1;
         spells_value = w.2;
         value_is = w.3;
-        ends = subst (λ (r : Stream). Skips k.Semi r us) allowed.1 (subst (λ (r : Stream). Skips k.Semi a.0.1 r) (sym rest) (expect_found k.Semi a.0.1 z.0.1 z.0.0 refl z.1));
+        ends = ends_after at_end mid last us u allowed.1 (rest_is after now last us e) ze;
       },
-      allowed.0 ∙ ap (λ x. Ok x) (sym is),
-    )
+      allowed.0 ∙ ap (λ x. Ok x) (sym (value_is after now last us e)),
+    ))))
+
+set_found : (before : Bool) (ts : Stream) (now : Bool) (us : Stream) → q.option before ts ≡ Ok (now, us) → SetFound before ts now us
+unfolding q.option is_last
+set_found before ts now us e =
+    with_ok (expect k.Set ts) _ (now, us) e (λ u at_name se e.
+    with_ok (name at_name) _ (now, us) e (λ n at_sign ne e.
+    with_ok (expect k.Eq at_sign) _ (now, us) e (λ w at_value ge e.
+    valued_found before ts at_name at_sign at_value n now us (expect_found k.Set ts at_name u refl se) (name_found at_name at_sign n ne) (expect_found k.Eq at_sign at_value w refl ge) e)))
 
 sets_step : (b : Bool) (n : ℕ) (ts : Stream) (before after : Bool) (us : Stream) → sees k.Set ts ≡ b
     → ((ts : Stream) (before after : Bool) (us : Stream) → q.options_from n before ts ≡ Ok (after, us) → (os : List (NameAt × Bytes)) × SpellsSets os ts before after us × (sees k.Set us ≡ false))
@@ -322,41 +340,40 @@ closing_found ts l us e =
 pub query_found : (ts : Stream) (x : Query) (us : Stream) → q.query ts ≡ Ok (x, us) → SpellsQuery ts x
 unfolding q.query is_last
 query_found ts x us e =
-    let o = bind_ok (q.options ts) _ (x, us) e in
-    let s = bind_ok (expect k.Select o.0.1) _ (x, us) o.2 in
-    let i = bind_ok (separated k.Comma q.item s.0.1) _ (x, us) s.2 in
-    let f = bind_ok (expect k.From i.0.1) _ (x, us) i.2 in
-    let t = bind_ok (name f.0.1) _ (x, us) f.2 in
-    let w = bind_ok (q.condition_if t.0.1) _ (x, us) t.2 in
-    let g = bind_ok (q.groups w.0.1) _ (x, us) w.2 in
-    let r = bind_ok (q.order g.0.1) _ (x, us) g.2 in
-    let l = bind_ok (q.closing r.0.1) _ (x, us) r.2 in
-    let z = closing_found r.0.1 l.0.0 l.0.1 l.1 in
-    let made : Query = record { use_tree = o.0.0; select = place o.0.1; items = i.0.0; table = t.0.0; condition = w.0.0; groups = g.0.0; order = r.0.0; limit = l.0.0.0; offset = l.0.0.1 } in
-    let is = value_is made x l.0.1 us l.2 in
-    let sets = sets_found _ ts true o.0.0 o.0.1 o.1 in
-    let word = expect_found k.Select o.0.1 s.0.1 s.0.0 refl s.1 in
-    subst (λ (z : Query). SpellsQuery ts z) (sym is) (record {
+    with_ok (q.options ts) _ (x, us) e (λ use_tree at_select oe e.
+    with_ok (expect k.Select at_select) _ (x, us) e (λ u at_items se e.
+    with_ok (separated k.Comma q.item at_items) _ (x, us) e (λ items at_from ie e.
+    with_ok (expect k.From at_from) _ (x, us) e (λ v at_table fe e.
+    with_ok (name at_table) _ (x, us) e (λ table after_table te e.
+    with_ok (q.condition_if after_table) _ (x, us) e (λ condition after_condition we e.
+    with_ok (q.groups after_condition) _ (x, us) e (λ groups after_groups ge e.
+    with_ok (q.order after_groups) _ (x, us) e (λ order after_order re e.
+    with_ok (q.closing after_order) _ (x, us) e (λ limits rest le e.
+    let z = closing_found after_order limits rest le in
+    let made : Query = record { use_tree = use_tree; select = place at_select; items = items; table = table; condition = condition; groups = groups; order = order; limit = limits.0; offset = limits.1 } in
+    let sets = sets_found _ ts true use_tree at_select oe in
+    let word = expect_found k.Select at_select at_items u refl se in
+    subst (λ (z : Query). SpellsQuery ts z) (sym (value_is made x rest us e)) (record {
       sets = sets.0;
-      at_select = o.0.1;
-      at_items = s.0.1;
-      at_from = i.0.1;
-      at_table = f.0.1;
-      after_table = t.0.1;
-      after_condition = w.0.1;
-      after_groups = g.0.1;
-      after_order = r.0.1;
+      at_select = at_select;
+      at_items = at_items;
+      at_from = at_from;
+      at_table = at_table;
+      after_table = after_table;
+      after_condition = after_condition;
+      after_groups = after_groups;
+      after_order = after_order;
       at_end = z.0;
       select = word.0;
       spells_sets = sets.1;
       spells_select = word.1;
-      select_at = select_place o.0.1 s.0.1 word;
-      spells_items = (list_found k.Comma SpellsItem q.item (λ _. Unit {0}) refl (λ ts x us h. (item_found ts x us h, tt)) s.0.1 i.0.0 i.0.1 i.1).0;
-      from = expect_found k.From i.0.1 f.0.1 f.0.0 refl f.1;
-      spells_table = name_found f.0.1 t.0.1 t.0.0 t.1;
-      spells_condition = condition_if_found t.0.1 w.0.0 w.0.1 w.1;
-      spells_groups = groups_found w.0.1 g.0.0 g.0.1 g.1;
-      spells_order = order_found g.0.1 r.0.0 r.0.1 r.1;
+      select_at = select_place at_select at_items word;
+      spells_items = (list_found k.Comma SpellsItem q.item (λ _. Unit {0}) refl (λ ts x us h. (item_found ts x us h, tt)) at_items items at_from ie).0;
+      from = expect_found k.From at_from at_table v refl fe;
+      spells_table = name_found at_table after_table table te;
+      spells_condition = condition_if_found after_table condition after_condition we;
+      spells_groups = groups_found after_condition groups after_groups ge;
+      spells_order = order_found after_groups order after_order re;
       spells_limits = z.1;
       ends = z.2;
-    })
+    }))))))))))

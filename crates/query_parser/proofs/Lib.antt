@@ -12,3 +12,4 @@ pub mod Whole
 pub mod Seen
 pub mod SeenQuery
 pub mod FinalLaws
+pub mod QueryParts

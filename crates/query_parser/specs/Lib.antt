@@ -9,3 +9,4 @@ pub mod SpellsQuery
 pub mod Stream
 pub mod Final
 pub mod FaultTexts
+pub mod QueryParts

@@ -1,6 +1,6 @@
 //! Cuts the token at the front of a text.
 
-ghost use Rattle.std.specs.Prelude.{◌≡◌, ◌≢◌, ◌<◌, ◌≤◌, ◌+◌, ◌-◌, length, map, drop, slice_index, IfSome, IfOk, true, false};
+ghost use Rattle.std.specs.Prelude.{◌≡◌, ◌≢◌, ◌<◌, ◌≤◌, ◌+◌, ◌-◌, length, map, if◌then◌else◌, ◌==◌, drop, slice_index, IfSome, IfOk, true, false};
 ghost use Rattle.std.specs.Str.{str_eq_ignore_ascii_case};
 ghost use Rattle.std.specs.Str.{IsUtf8};
 ghost use Rattle.std.specs.List.{prefix_len};
@@ -149,6 +149,18 @@ fn word(z: &[u8]) -> Token
     }
 }
 
+// How many bytes the sign of a number takes.
+fn sign_len(z: &[u8]) -> usize
+    requires some { 0 < length z.now }
+    requires begins { slice_index z.now 0 ≢ 45 → spec.is_in Class.Digit (slice_index z.now 0) ≡ true }
+    ensures value { result ≡ (if slice_index z.now 0 == 45 then 1 else 0) }
+    ensures within { result ≤ length z.now }
+    ensures digit { result ≡ 0 → spec.is_in Class.Digit (slice_index z.now 0) ≡ true }
+    ensures ends { 0 < result → slice_index z.now (result - 1) < 128 }
+{
+    if byte(z, 0) == b'-' { 1 } else { 0 }
+}
+
 #[tactic(auto, unfolding(crate::specs::Lex::number))]
 fn number(z: &[u8]) -> Token
     requires some { 0 < length z.now }
@@ -158,7 +170,7 @@ fn number(z: &[u8]) -> Token
     ensures moves { result.len ≡ 0 → spec.is_last result.kind ≡ true }
     ensures ends { 0 < result.len → slice_index z.now (result.len - 1) < 128 }
 {
-    let front = if byte(z, 0) == b'-' { 1 } else { 0 };
+    let front = sign_len(z);
     let len = front + run(Class::Digit, &z[front..]);
     number_or_fault(len, read_whole(FieldKind::Long, &z[..len]))
 }

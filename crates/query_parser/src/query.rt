@@ -2,6 +2,7 @@
 
 ghost use Rattle.std.specs.Prelude.{◌≡◌, ◌≤◌, length, IfOk};
 ghost use Rattle.query_parser.specs.Query as spec;
+ghost use Rattle.query_parser.specs.QueryParts as parts;
 ghost use Rattle.query_parser.specs.Reading.{Reads};
 ghost use Rattle.query_parser.specs.SpellsQuery.{SpellsQuery};
 ghost use Rattle.query_parser.specs.Stream.{tokens};
@@ -196,17 +197,30 @@ fn option_value(alloc: Global, tokens: &mut Tokens<'_>) -> Result<Name, QueryFau
     Ok(value)
 }
 
-#[tactic(auto, unfolding(crate::specs::Query::option))]
+// An option from its value on.
+#[tactic(auto, unfolding(crate::specs::QueryParts::valued))]
+fn valued(
+    alloc: Global,
+    tokens: &mut Tokens<'_>,
+    name: NameAt,
+    use_tree: bool,
+) -> Result<bool, QueryFault>
+    ensures { Reads (parts.valued use_tree name tokens.old) result tokens.new }
+{
+    let value = option_value(alloc, tokens)?;
+    let after = set_option(&name, &value, use_tree)?;
+    tokens.expect(Kind::Semi)?;
+    Ok(after)
+}
+
+#[tactic(auto, unfolding(crate::specs::Query::option, crate::specs::QueryParts::valued))]
 fn option(alloc: Global, tokens: &mut Tokens<'_>, use_tree: bool) -> Result<bool, QueryFault>
     ensures { Reads (spec.option use_tree tokens.old) result tokens.new }
 {
     tokens.expect(Kind::Set)?;
     let name = name(alloc, tokens)?;
     tokens.expect(Kind::Eq)?;
-    let value = option_value(alloc, tokens)?;
-    let after = set_option(&name, &value, use_tree)?;
-    tokens.expect(Kind::Semi)?;
-    Ok(after)
+    valued(alloc, tokens, name, use_tree)
 }
 
 fn options(alloc: Global, tokens: &mut Tokens<'_>) -> Result<bool, QueryFault>
@@ -300,26 +314,49 @@ fn closing(tokens: &mut Tokens<'_>) -> Result<(Option<LiteralAt>, Option<Literal
     Ok(limits)
 }
 
-#[tactic(auto, unfolding(crate::specs::Query::query))]
-fn query(alloc: Global, tokens: &mut Tokens<'_>) -> Result<Query, QueryFault>
-    ensures { Reads (spec.query tokens.old) result tokens.new }
+// What a query takes, and from where.
+#[derive(Drop)]
+struct Selected {
+    select: u32,
+    items: Seq<QueryItem>,
+    table: NameAt,
+}
+
+// SELECT and FROM.
+#[tactic(auto, unfolding(crate::specs::QueryParts::selection))]
+fn selection(alloc: Global, tokens: &mut Tokens<'_>) -> Result<Selected, QueryFault>
+    ensures { Reads (parts.selection tokens.old) result tokens.new }
 {
-    let use_tree = options(alloc, tokens)?;
     let select = tokens.place();
     tokens.expect(Kind::Select)?;
     let items = list::<QueryItem>(alloc, tokens, Kind::Comma)?;
     tokens.expect(Kind::From)?;
     let table = name(alloc, tokens)?;
-    let condition = condition_if(alloc, tokens)?;
-    let groups = groups(alloc, tokens)?;
-    let order = order(alloc, tokens)?;
-    let (limit, offset) = closing(tokens)?;
-    Ok(Query {
-        use_tree,
+    Ok(Selected {
         select,
         items,
         table,
-        condition,
+    })
+}
+
+// How the rows are grouped and put in order, and how many are wanted.
+#[derive(Drop)]
+struct Shaped {
+    groups: Seq<NameAt>,
+    order: Seq<QueryKey>,
+    limit: Option<LiteralAt>,
+    offset: Option<LiteralAt>,
+}
+
+// What follows the condition, up to the end.
+#[tactic(auto, unfolding(crate::specs::QueryParts::shape))]
+fn shape(alloc: Global, tokens: &mut Tokens<'_>) -> Result<Shaped, QueryFault>
+    ensures { Reads (parts.shape tokens.old) result tokens.new }
+{
+    let groups = groups(alloc, tokens)?;
+    let order = order(alloc, tokens)?;
+    let (limit, offset) = closing(tokens)?;
+    Ok(Shaped {
         groups,
         order,
         limit,
@@ -327,7 +364,27 @@ fn query(alloc: Global, tokens: &mut Tokens<'_>) -> Result<Query, QueryFault>
     })
 }
 
-#[tactic(auto, unfolding(crate::specs::Query::parsed))]
+#[tactic(auto, unfolding(crate::specs::QueryParts::query))]
+fn query(alloc: Global, tokens: &mut Tokens<'_>) -> Result<Query, QueryFault>
+    ensures { Reads (parts.query tokens.old) result tokens.new }
+{
+    let use_tree = options(alloc, tokens)?;
+    let selection = selection(alloc, tokens)?;
+    let condition = condition_if(alloc, tokens)?;
+    let shape = shape(alloc, tokens)?;
+    Ok(Query {
+        use_tree,
+        select: selection.select,
+        items: selection.items,
+        table: selection.table,
+        condition,
+        groups: shape.groups,
+        order: shape.order,
+        limit: shape.limit,
+        offset: shape.offset,
+    })
+}
+
 fn whole(alloc: Global, text: &str) -> Result<Query, QueryFault>
     requires { length text.now ≤ 65536 }
     ensures { spec.Parses (spec.parsed text.now) result }

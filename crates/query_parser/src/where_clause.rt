@@ -141,7 +141,6 @@ impl Condition for Cond {
     ghost takes = { test_shrinks };
 }
 
-#[tactic(auto, unfolding(crate::specs::Cond::condition))]
 pub fn condition(alloc: Global, tokens: &mut Tokens<'_>) -> Result<Cond, QueryFault>
     ensures { Reads (spec.condition tokens.old) result tokens.new }
 {

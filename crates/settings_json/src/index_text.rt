@@ -1,10 +1,13 @@
 //! What is under `tableIndexConfig`.
 
-ghost use Rattle.std.specs.Prelude.{◌≡◌, ◌<◌, ◌≤◌, length, IfOk, IfErr, map, None};
+ghost use Rattle.std.specs.Prelude.{◌≡◌, ◌∷◌, [], ◌<◌, ◌≤◌, length, IfOk, IfErr, map, None};
 ghost use Rattle.std.specs.List.{slice_get};
 ghost use Rattle.serde_json.specs.View.{view};
 ghost use Rattle.schema_json.specs.Keys.{items_at};
 ghost use Rattle.settings_json.specs.Indexes as spec;
+ghost use Rattle.settings_json.specs.Trees.{trees_of, trees_finding};
+ghost use Rattle.settings_json.specs.NamedColumns.{columns_finding};
+ghost use Rattle.table_schema.specs.Firsts.{first_of};
 ghost use Rattle.table_schema.specs.NeedIds as ids;
 ghost use Rattle.schema_json.specs.Faults.{Gives, Passes, Refuses, at_place};
 
@@ -15,7 +18,7 @@ use schema_json::{KeyKind, TextFault, below, check_not, check_object, fault_at, 
 use serde_json::Value as Json;
 use std::alloc::Global;
 use table_schema::{Field, Role, Settings, TreeSetting};
-use values::Name;
+use values::{Name, Seq};
 
 pub(crate) const INDEX_KEY: &str = "tableIndexConfig";
 
@@ -57,22 +60,92 @@ fn indexed<'v>(
         (λ both. map view both.1.now ≡ items_at spec.RAW_KEY (view json.now)) }
     ensures err { IfErr result (Refuses (spec.index_form fields.now (view json.now))) }
 {
+    let keys = index_keys(alloc, fields, json)?;
+    let inverted = named(alloc, fields, keys.inverted)?;
+    let ranged = named(alloc, fields, keys.ranged)?;
+    let raw = named(alloc, fields, keys.raw)?;
+    let settings = Settings {
+        table,
+        sorted: keys.sorted,
+        inverted,
+        ranged,
+        raw,
+        trees: keys.trees,
+    };
+    Ok((settings, keys.raw))
+}
+
+// What the keys say, with lists of columns as the text has them.
+#[derive(Drop)]
+struct IndexKeys<'v> {
+    sorted: Option<u16>,
+    inverted: &'v [Json],
+    ranged: &'v [Json],
+    raw: &'v [Json],
+    trees: Seq<TreeSetting>,
+}
+
+fn index_keys<'v>(
+    alloc: Global,
+    fields: &[Field],
+    json: &'v Json,
+) -> Result<IndexKeys<'v>, TextFault>
+    requires { length fields.now ≤ 64 }
+    ensures ok { IfOk result (λ keys. spec.index_form fields.now (view json.now) ≡ None) }
+    ensures sorted { IfOk result
+        (λ keys. keys.sorted ≡ spec.sorted_of fields.now (view json.now)) }
+    ensures inverted { IfOk result
+        (λ keys. map view keys.inverted.now ≡ items_at spec.INVERTED_KEY (view json.now)) }
+    ensures ranged { IfOk result
+        (λ keys. map view keys.ranged.now ≡ items_at spec.RANGE_KEY (view json.now)) }
+    ensures raw { IfOk result
+        (λ keys. map view keys.raw.now ≡ items_at spec.RAW_KEY (view json.now)) }
+    ensures trees { IfOk result (λ keys. keys.trees ≡ trees_of fields.now (view json.now)) }
+    ensures err { IfErr result (Refuses (spec.index_form fields.now (view json.now))) }
+{
     check_object(alloc, INDEX_KEY, json)?;
     check_not(alloc, true, INDEX_KEY, "nullHandlingEnabled", json)?;
     let sorted = read_sorted(alloc, fields, INDEX_KEY, json)?;
+    index_lists(alloc, fields, sorted, json)
+}
+
+fn index_lists<'v>(
+    alloc: Global,
+    fields: &[Field],
+    sorted: Option<u16>,
+    json: &'v Json,
+) -> Result<IndexKeys<'v>, TextFault>
+    requires { length fields.now ≤ 64 }
+    ensures ok { IfOk result (λ keys. first_of
+        (columns_finding fields.now spec.INDEX_KEY spec.INVERTED_KEY (view json.now)
+        ∷ columns_finding fields.now spec.INDEX_KEY spec.RANGE_KEY (view json.now)
+        ∷ columns_finding fields.now spec.INDEX_KEY spec.RAW_KEY (view json.now)
+        ∷ trees_finding fields.now spec.INDEX_KEY (view json.now) ∷ []) ≡ None) }
+    ensures sorted { IfOk result (λ keys. keys.sorted ≡ sorted) }
+    ensures inverted { IfOk result
+        (λ keys. map view keys.inverted.now ≡ items_at spec.INVERTED_KEY (view json.now)) }
+    ensures ranged { IfOk result
+        (λ keys. map view keys.ranged.now ≡ items_at spec.RANGE_KEY (view json.now)) }
+    ensures raw { IfOk result
+        (λ keys. map view keys.raw.now ≡ items_at spec.RAW_KEY (view json.now)) }
+    ensures trees { IfOk result (λ keys. keys.trees ≡ trees_of fields.now (view json.now)) }
+    ensures err { IfErr result (Refuses (first_of
+        (columns_finding fields.now spec.INDEX_KEY spec.INVERTED_KEY (view json.now)
+        ∷ columns_finding fields.now spec.INDEX_KEY spec.RANGE_KEY (view json.now)
+        ∷ columns_finding fields.now spec.INDEX_KEY spec.RAW_KEY (view json.now)
+        ∷ trees_finding fields.now spec.INDEX_KEY (view json.now) ∷ []))) }
+{
     let inverted = columns(alloc, fields, INDEX_KEY, INVERTED_KEY, json)?;
     let ranged = columns(alloc, fields, INDEX_KEY, RANGE_KEY, json)?;
     let raw = columns(alloc, fields, INDEX_KEY, RAW_KEY, json)?;
     let trees = read_trees(alloc, fields, INDEX_KEY, json)?;
-    let settings = Settings {
-        table,
+    Ok(IndexKeys {
         sorted,
-        inverted: named(alloc, fields, inverted)?,
-        ranged: named(alloc, fields, ranged)?,
-        raw: named(alloc, fields, raw)?,
+        inverted,
+        ranged,
+        raw,
         trees,
-    };
-    Ok((settings, raw))
+    })
 }
 
 /// No metric that is to be kept without a dictionary needs its ids.
