@@ -5,7 +5,7 @@ ghost use Rattle.agg_laws.specs.declared.aggregate_kind.AggKind.TheVariants as k
 ghost use Rattle.agg_laws.specs.Kind.{width_of};
 ghost use Rattle.agg_laws.specs.States.{kind_of, IsStored};
 
-use crate::expect::{Expectations, TestFault};
+use crate::expect::Expectations;
 use agg_laws::{
     AggKind, AggState, Aggregator, Average, AverageState, BadState, Count, Greatest, Kinds, Least,
     StateRow, Sum, compare_states,
@@ -25,7 +25,7 @@ fn is_spelled(state: AggState, bytes: &[u8]) -> bool
 }
 
 // Counts, sums and extremes.
-fn expect_spelled(all: &mut Expectations) -> Result<(), TestFault> {
+fn expect_spelled(all: &mut Expectations) {
     let count = is_spelled(AggState::Count(258), &[0, 0, 0, 0, 0, 0, 1, 2]);
     all.expect(count, "a count");
     let sum = [0, 0, 0, 0, 0, 0, 0, 0, 0, 0, 0, 0, 0, 0, 2, 88];
@@ -42,11 +42,10 @@ fn expect_spelled(all: &mut Expectations) -> Result<(), TestFault> {
     let greatest = [128, 0, 0, 0, 0, 0, 0, 0];
     let state = AggState::Greatest(Some(-9223372036854775808));
     all.expect(is_spelled(state, &greatest), "a greatest number");
-    Ok(())
 }
 
 // Bytes that are no state.
-fn expect_refused(all: &mut Expectations) -> Result<(), TestFault> {
+fn expect_refused(all: &mut Expectations) {
     let none = AggState::take(AggKind::Count, &[0; 8]);
     all.expect(none == Err(BadState), "a count of no value");
     let many = AggState::take(AggKind::Count, &[0, 0, 0, 0, 0, 16, 0, 1]);
@@ -56,10 +55,9 @@ fn expect_refused(all: &mut Expectations) -> Result<(), TestFault> {
     all.expect(sum == Err(BadState), "a sum of 2 to the 83rd");
     let average = AggState::take(AggKind::Average, &[0; 24]);
     all.expect(average == Err(BadState), "an average of no value");
-    Ok(())
 }
 
-fn expect_averages(all: &mut Expectations) -> Result<(), TestFault> {
+fn expect_averages(all: &mut Expectations) {
     let bytes = [
         255, 255, 255, 255, 255, 255, 255, 255, 255, 255, 255, 255, 255, 255, 255, 254, 0, 0, 0, 0,
         0, 0, 0, 3,
@@ -71,18 +69,16 @@ fn expect_averages(all: &mut Expectations) -> Result<(), TestFault> {
     ];
     let read = AggState::take(AggKind::Average, &wide);
     all.expect(read == Err(BadState), "an average of 2 to the 63rd");
-    Ok(())
 }
 
-pub fn stored_states(alloc: Global) -> Result<Expectations, TestFault> {
-    let mut all = Expectations::new();
-    expect_spelled(&mut all)?;
-    expect_refused(&mut all)?;
-    expect_averages(&mut all)?;
-    Ok(all)
+pub fn stored_states(all: &mut Expectations) {
+    expect_spelled(all);
+    expect_refused(all);
+    expect_averages(all);
+    all.end("stored states");
 }
 
-fn expect_order(all: &mut Expectations) -> Result<(), TestFault> {
+fn expect_order(all: &mut Expectations) {
     let order = compare_states(
         &AggState::Average(AverageState { sum: -2, count: 3 }),
         &AggState::Average(AverageState { sum: -1, count: 2 }),
@@ -97,7 +93,6 @@ fn expect_order(all: &mut Expectations) -> Result<(), TestFault> {
     all.expect(matches!(order, Ordering::Greater), "least numbers");
     let order = compare_states(&AggState::Count(3), &AggState::Count(4));
     all.expect(matches!(order, Ordering::Less), "counts");
-    Ok(())
 }
 
 fn expect_sums(all: &mut Expectations) {
@@ -123,16 +118,19 @@ fn expect_extremes(all: &mut Expectations) {
     all.expect(greatest == Some(5), "a greatest number");
 }
 
-pub fn states_of_values(alloc: Global) -> Result<Expectations, TestFault> {
-    let mut all = Expectations::new();
-    expect_sums(&mut all);
-    expect_extremes(&mut all);
+fn expect_average(all: &mut Expectations) {
     let mut average = Average::unit();
     Average::add(&mut average, 4);
     Average::merge(&mut average, &AverageState { sum: -2, count: 2 });
     all.expect(average == AverageState { sum: 2, count: 3 }, "an average");
-    expect_order(&mut all)?;
-    Ok(all)
+}
+
+pub fn states_of_values(all: &mut Expectations) {
+    expect_sums(all);
+    expect_extremes(all);
+    expect_average(all);
+    expect_order(all);
+    all.end("aggregates");
 }
 
 pub fn sums_and_counts(alloc: Global) -> Result<Kinds, AllocError>
@@ -144,17 +142,26 @@ pub fn sums_and_counts(alloc: Global) -> Result<Kinds, AllocError>
     Ok(kinds)
 }
 
-pub fn rows_of_states(alloc: Global) -> Result<Expectations, TestFault> {
-    let mut all = Expectations::new();
+// A row of a sum and a count, of two values.
+fn row_of_two(alloc: Global) -> Result<StateRow, AllocError> {
     let kinds = sums_and_counts(alloc)?;
     let mut row = StateRow::units(alloc, &kinds)?;
     row.add(&[600, 0]);
     let other = row.copy(alloc)?;
     row.merge(&other);
+    Ok(row)
+}
+
+fn expect_row(row: &StateRow, all: &mut Expectations) {
     let wanted = [AggState::Sum(1200), AggState::Count(2)];
     all.expect(row.as_slice() == wanted.as_slice(), "a row and its copy");
-    if row.len() > 1 {
-        all.expect(*row.at(1) == AggState::Count(2), "a state of a row");
+    let is_second = row.len() > 1 && *row.at(1) == AggState::Count(2);
+    all.expect(is_second, "a state of a row");
+}
+
+pub fn rows_of_states(alloc: Global, all: &mut Expectations) {
+    if let Ok(row) = row_of_two(alloc) {
+        expect_row(&row, all);
     }
-    Ok(all)
+    all.end("rows of states");
 }

@@ -5,14 +5,16 @@ ghost use Rattle.std.specs.List.{All};
 ghost use Rattle.values.specs.Kinds.{fits};
 ghost use Rattle.dictionary.specs.Dictionary.{Fits, most_values};
 
-use crate::expect::{Expectations, TestFault};
+use crate::expect::Expectations;
 use crate::values_in_order::text;
 use dictionary::{DictFault, Dictionary, IdSet};
 use std::alloc::{AllocError, Global};
 use values::{CompareOp, FieldKind, Seq, Test, Value, read_value};
 
 // A kind, the cells of a column, and the dictionary's bytes.
-const SPELLED: &[(FieldKind, &[&str], &[u8])] = &[
+type Spelled = (FieldKind, &'static [&'static str], &'static [u8]);
+
+const SPELLED: &[Spelled] = &[
     (FieldKind::Int, &[], &[0, 0, 0, 0]),
     (FieldKind::Text, &[], &[0, 0, 0, 0, 0, 0, 0, 0]),
     (
@@ -153,30 +155,36 @@ fn is_read_again(alloc: Global, kind: FieldKind, bytes: &[u8]) -> bool {
     }
 }
 
-fn expect_spelled(
-    alloc: Global,
-    row: &(FieldKind, &[&str], &[u8]),
-    all: &mut Expectations,
-) -> Result<(), TestFault> {
-    let (kind, cells, bytes) = *row;
-    let mut out = written(alloc, kind, cells)?;
-    let is_written = out.as_slice().strip_prefix(b"x") == Some(bytes);
-    all.expect(is_written, "a dictionary is written");
+fn expect_read(alloc: Global, kind: FieldKind, bytes: &[u8], all: &mut Expectations) {
     all.expect(is_read_again(alloc, kind, bytes), "it is read");
     let is_refused = refuses_beginnings(alloc, kind, bytes);
     all.expect(is_refused, "its beginnings are refused");
-    out.extend_from_slice(b"x")?;
-    let is_refused = refuses(alloc, kind, &out.as_slice()[1..]);
-    all.expect(is_refused, "one byte more is refused");
-    Ok(())
 }
 
-pub fn spelled(alloc: Global) -> Result<Expectations, TestFault> {
-    let mut all = Expectations::new();
+// What is expected of the bytes that are written after a byte `x`.
+fn expect_written(alloc: Global, row: &Spelled, out: Vec<u8>, all: &mut Expectations) {
+    let is_written = out.as_slice().strip_prefix(b"x") == Some(row.2);
+    all.expect(is_written, "a dictionary is written");
+    let is_refused = refuses_longer(alloc, row.0, out);
+    all.expect(is_refused, "one byte more is refused");
+}
+
+// Whether the bytes after the first one are refused with one more.
+fn refuses_longer(alloc: Global, kind: FieldKind, mut out: Vec<u8>) -> bool {
+    out.push(b'x').is_ok() && out.len() > 1 && refuses(alloc, kind, &out.as_slice()[1..])
+}
+
+fn expect_spelled(alloc: Global, row: &Spelled, all: &mut Expectations) {
+    expect_read(alloc, row.0, row.2, all);
+    let out = written(alloc, row.0, row.1).unwrap_or(Vec::new(alloc));
+    expect_written(alloc, row, out, all);
+}
+
+pub fn spelled(alloc: Global, all: &mut Expectations) {
     for row in SPELLED {
-        expect_spelled(alloc, row, &mut all)?;
+        expect_spelled(alloc, row, all);
     }
-    Ok(all)
+    all.end("dictionaries");
 }
 
 // The bytes of a dictionary of one text of so many letters.
@@ -189,20 +197,26 @@ fn one_text(alloc: Global, length: u16) -> Result<Vec<u8>, AllocError> {
     Ok(bytes)
 }
 
-pub fn refused(alloc: Global) -> Result<Expectations, TestFault> {
-    let mut all = Expectations::new();
-    for (kind, bytes) in REFUSED {
-        all.expect(
-            refuses(alloc, *kind, bytes),
-            "bytes that spell no dictionary",
-        );
-    }
-    let longest = one_text(alloc, 512)?;
-    let is_read = Dictionary::check(alloc, FieldKind::Text, &longest).is_ok();
+fn one_text_or_none(alloc: Global, length: u16) -> Vec<u8> {
+    one_text(alloc, length).unwrap_or(Vec::new(alloc))
+}
+
+fn expect_lengths(alloc: Global, all: &mut Expectations) {
+    let longest = one_text_or_none(alloc, 512);
+    let is_read = Dictionary::check(alloc, FieldKind::Text, longest.as_slice()).is_ok();
     all.expect(is_read, "a longest text");
-    let longer = one_text(alloc, 513)?;
-    all.expect(refuses(alloc, FieldKind::Text, &longer), "a longer text");
-    Ok(all)
+    let longer = one_text_or_none(alloc, 513);
+    let is_refused = refuses(alloc, FieldKind::Text, longer.as_slice());
+    all.expect(is_refused, "a longer text");
+}
+
+pub fn refused(alloc: Global, all: &mut Expectations) {
+    for (kind, bytes) in REFUSED {
+        let is_refused = refuses(alloc, *kind, bytes);
+        all.expect(is_refused, "bytes that spell no dictionary");
+    }
+    expect_lengths(alloc, all);
+    all.end("refused dictionaries");
 }
 
 fn dictionary_of(alloc: Global, cells: &[&str]) -> Result<Dictionary, AllocError> {
@@ -210,53 +224,73 @@ fn dictionary_of(alloc: Global, cells: &[&str]) -> Result<Dictionary, AllocError
     Dictionary::build(alloc, FieldKind::Text, &column)
 }
 
-fn expect_values(
-    alloc: Global,
-    countries: &Dictionary,
-    all: &mut Expectations,
-) -> Result<(), TestFault> {
+fn id_of(alloc: Global, countries: &Dictionary, country: &str) -> Option<u32> {
+    countries.id_of(&text(alloc, country))
+}
+
+fn is_fourth(countries: &Dictionary, value: Value) -> bool {
+    countries.count() > 3 && *countries.value_at(3) == value
+}
+
+fn expect_values(alloc: Global, countries: &Dictionary, all: &mut Expectations) {
     all.expect(countries.count() == 4, "distinct values");
-    let found = countries.id_of(&text(alloc, "MX")?);
+    let found = id_of(alloc, countries, "MX");
     all.expect(found == Some(2), "the id of a value");
-    let missing = countries.id_of(&text(alloc, "UK")?);
+    let missing = id_of(alloc, countries, "UK");
     all.expect(missing.is_none(), "no value of the column");
-    if countries.count() > 3 {
-        let is_last = *countries.value_at(3) == text(alloc, "US")?;
-        all.expect(is_last, "the value of an id");
-    }
-    Ok(())
+    let is_last = is_fourth(countries, text(alloc, "US"));
+    all.expect(is_last, "the value of an id");
 }
 
-fn expect_matches(
-    alloc: Global,
-    countries: &Dictionary,
-    all: &mut Expectations,
-) -> Result<(), TestFault> {
-    let test = Test::Compare(CompareOp::Unequal, text(alloc, "CA")?);
-    let ids = countries.ids_matching(alloc, &test)?;
+fn expect_ids(ids: &IdSet, all: &mut Expectations) {
     all.expect(ids.as_slice() == [0, 2, 3].as_slice(), "ids that match");
-    let is_found = ids.contains(2) && !ids.contains(1) && !ids.contains(4);
-    all.expect(is_found, "ids in the set");
-    Ok(())
+    all.expect(ids.contains(2), "an id in the set");
+    all.expect(!ids.contains(1), "an id that is not");
+    all.expect(!ids.contains(4), "no id");
 }
 
-pub fn look_ups(alloc: Global) -> Result<Expectations, TestFault> {
-    let mut all = Expectations::new();
-    let countries = dictionary_of(alloc, &["US", "", "CA", "US", "MX"])?;
-    expect_values(alloc, &countries, &mut all)?;
-    expect_matches(alloc, &countries, &mut all)?;
-    Ok(all)
+// The ids of all values but one.
+fn other_ids(alloc: Global, countries: &Dictionary, country: Value) -> Result<IdSet, AllocError> {
+    let test = Test::Compare(CompareOp::Unequal, country);
+    countries.ids_matching(alloc, &test)
 }
 
-pub fn lists_of_ids(alloc: Global) -> Result<Expectations, TestFault> {
-    let mut all = Expectations::new();
+fn expect_matches(alloc: Global, countries: &Dictionary, all: &mut Expectations) {
+    let ids = other_ids(alloc, countries, text(alloc, "CA")).unwrap_or(IdSet::new(alloc));
+    expect_ids(&ids, all);
+}
+
+pub fn look_ups(alloc: Global, all: &mut Expectations) {
+    if let Ok(countries) = dictionary_of(alloc, &["US", "", "CA", "US", "MX"]) {
+        expect_values(alloc, &countries, all);
+        expect_matches(alloc, &countries, all);
+    }
+    all.end("look-ups");
+}
+
+fn three_ids(alloc: Global) -> Result<IdSet, AllocError> {
     let mut ids = IdSet::new(alloc);
-    all.expect(ids.is_empty() && !ids.contains(0), "no ids");
     ids.push(0)?;
     ids.push(7)?;
     ids.push(u32::MAX)?;
-    all.expect(ids.len() == 3 && *ids.at(1) == 7, "three ids");
-    let is_found = ids.contains(u32::MAX) && !ids.contains(8);
-    all.expect(is_found, "the greatest id");
-    Ok(all)
+    Ok(ids)
+}
+
+fn expect_three(ids: &IdSet, all: &mut Expectations) {
+    all.expect(ids.len() == 3, "three ids");
+    let is_second = ids.as_slice().len() > 1 && *ids.at(1) == 7;
+    all.expect(is_second, "the second of them");
+    all.expect(ids.contains(u32::MAX), "the greatest id");
+    all.expect(!ids.contains(8), "no id of the set");
+}
+
+fn expect_no_ids(ids: &IdSet, all: &mut Expectations) {
+    all.expect(ids.is_empty(), "no ids");
+    all.expect(!ids.contains(0), "not the least one");
+}
+
+pub fn lists_of_ids(alloc: Global, all: &mut Expectations) {
+    expect_no_ids(&IdSet::new(alloc), all);
+    expect_three(&three_ids(alloc).unwrap_or(IdSet::new(alloc)), all);
+    all.end("lists of ids");
 }

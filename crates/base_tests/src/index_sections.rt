@@ -1,13 +1,13 @@
 //! Sections of indexes worked by hand, and the documents that are read from them.
 
-ghost use Rattle.std.specs.Prelude.{◌≡◌, ◌<◌, [], ◌∷◌, IfOk};
+ghost use Rattle.std.specs.Prelude.{◌≡◌, ◌<◌, [], ◌∷◌, All, IfOk};
 
-use crate::expect::{Expectations, TestFault};
-use crate::shelves::{name, shelf_of};
+use crate::expect::Expectations;
+use crate::fixtures::{name, shelf_of};
 use dictionary::IdSet;
 use doc_lists::DocList;
 use index_reading::{ListFault, ListKind, docs_between, docs_of_ids};
-use outside::{MemoryShelf, NoMemory, Place, Seq};
+use outside::{MemoryShelf, NoMemory, Place};
 use std::alloc::Global;
 
 // How many ids the column of the range index has, and how many rows.
@@ -54,22 +54,28 @@ const LISTED: &[Listed] = &[
     (2, 3, &[5], &[0, 4, 5]),
 ];
 
-// A shelf with the file of these numbers, in four bytes each.
-fn shelf(alloc: Global, words: &[u32], failing: &[u64]) -> Result<MemoryShelf, NoMemory> {
+// These numbers in four bytes each.
+fn bytes_of(alloc: Global, words: &[u32]) -> Result<Vec<u8>, NoMemory> {
     let mut bytes = Vec::new(alloc);
     for word in words {
         bytes.extend_from_slice(&word.to_be_bytes())?;
     }
-    shelf_of(alloc, (name(alloc, "f")?, Seq::from_vec(bytes)), failing)
+    Ok(bytes)
+}
+
+// A shelf with the file of these numbers.
+fn shelf(alloc: Global, words: &[u32], failing: &[u64]) -> Result<MemoryShelf, NoMemory> {
+    let bytes = bytes_of(alloc, words)?;
+    shelf_of(alloc, bytes.as_slice(), failing)
 }
 
 // The section that is a file of so many numbers.
-fn place(alloc: Global, file: &str, words: usize) -> Result<Place, NoMemory> {
-    Ok(Place {
-        file: name(alloc, file)?,
+fn place(alloc: Global, file: &str, words: usize) -> Place {
+    Place {
+        file: name(alloc, file),
         offset: 0,
         length: (words as u64).saturating_mul(4),
-    })
+    }
 }
 
 // Whether a list has just these documents.
@@ -82,46 +88,54 @@ fn is_list(docs: &DocList, wanted: &[u32]) -> bool {
     docs.len() == wanted.len()
 }
 
-fn reads_between(alloc: Global, row: &Between) -> Result<bool, NoMemory> {
+fn reads_between(alloc: Global, shelf: &mut MemoryShelf, row: &Between) -> bool {
     let (low, high, sure, check) = *row;
     if low > high || high >= COUNT {
-        return Ok(false);
+        return false;
     }
-    let mut shelf = shelf(alloc, RANGED, &[])?;
-    let place = place(alloc, "f", RANGED.len())?;
-    Ok(
-        match docs_between(alloc, &mut shelf, &place, COUNT, ROWS, low, high) {
-            Ok(docs) => is_list(&docs.0, sure) && is_list(&docs.1, check),
-            Err(_) => false,
-        },
-    )
+    let place = place(alloc, "f", RANGED.len());
+    match docs_between(alloc, shelf, &place, COUNT, ROWS, low, high) {
+        Ok(docs) => is_list(&docs.0, sure) && is_list(&docs.1, check),
+        Err(_) => false,
+    }
+}
+
+fn expect_between(alloc: Global, shelf: &mut MemoryShelf, all: &mut Expectations) {
+    for row in BETWEEN {
+        let is_found = reads_between(alloc, shelf, row);
+        all.expect(is_found, "the rows of ids within bounds");
+    }
 }
 
 // Why the rows of the ids from 3 to 16 are not found in a section.
-fn refusal(
-    alloc: Global,
-    file: &str,
-    words: &[u32],
-    failing: &[u64],
-) -> Result<Option<ListFault>, NoMemory> {
-    let mut shelf = shelf(alloc, words, failing)?;
-    let place = place(alloc, file, words.len())?;
-    Ok(docs_between(alloc, &mut shelf, &place, COUNT, ROWS, 3, 16).err())
+fn refusal_over(alloc: Global, shelf: &mut MemoryShelf, place: Place) -> Option<ListFault> {
+    docs_between(alloc, shelf, &place, COUNT, ROWS, 3, 16).err()
+}
+
+// The same of the section that is a file of these numbers, some of whose calls fail.
+fn refusal(alloc: Global, file: &str, words: &[u32], failing: &[u64]) -> Option<ListFault> {
+    match shelf(alloc, words, failing) {
+        Ok(mut shelf) => refusal_over(alloc, &mut shelf, place(alloc, file, words.len())),
+        Err(_) => None,
+    }
+}
+
+fn expect_refusals(alloc: Global, all: &mut Expectations) {
+    let refused = refusal(alloc, "f", RANGED, &[0]);
+    all.expect(refused == Some(ListFault::ReadFault), "call 0 fails");
+    let refused = refusal(alloc, "g", RANGED, &[]);
+    all.expect(refused == Some(ListFault::BadList), "no file");
+    let refused = refusal(alloc, "f", TOO_MANY, &[]);
+    all.expect(refused == Some(ListFault::BadList), "too many entries");
 }
 
 /// The rows whose ids are within bounds, by a range index.
-pub fn range_indexes(alloc: Global) -> Result<Expectations, TestFault> {
-    let mut all = Expectations::new();
-    for row in BETWEEN {
-        all.expect(reads_between(alloc, row)?, "the rows of ids within bounds");
+pub fn range_indexes(alloc: Global, all: &mut Expectations) {
+    if let Ok(mut shelf) = shelf(alloc, RANGED, &[]) {
+        expect_between(alloc, &mut shelf, all);
     }
-    let refused = refusal(alloc, "f", RANGED, &[0])?;
-    all.expect(refused == Some(ListFault::ReadFault), "call 0 fails");
-    let refused = refusal(alloc, "g", RANGED, &[])?;
-    all.expect(refused == Some(ListFault::BadList), "no file");
-    let refused = refusal(alloc, "f", TOO_MANY, &[])?;
-    all.expect(refused == Some(ListFault::BadList), "too many entries");
-    Ok(all)
+    expect_refusals(alloc, all);
+    all.end("range indexes");
 }
 
 // A set of two ids.
@@ -135,37 +149,63 @@ fn set_of(alloc: Global, first: u32, second: u32) -> Result<IdSet, NoMemory>
     Ok(set)
 }
 
-// Whether the rows of two ids in a section of a kind are these.
+// Whether the rows of a set of ids in a section of a kind are these.
+fn reads_set(
+    alloc: Global,
+    section: (ListKind, &[u32]),
+    shelf: &mut MemoryShelf,
+    set: IdSet,
+    wanted: &[u32],
+) -> bool
+    requires { All (λ id. id < 4) set }
+{
+    let place = place(alloc, "f", section.1.len());
+    match docs_of_ids(alloc, shelf, &place, section.0, 4, ROWS, &set) {
+        Ok(docs) => is_list(&docs, wanted),
+        Err(_) => false,
+    }
+}
+
+// The same of two ids.
 fn reads_ids(
     alloc: Global,
-    kind: ListKind,
-    words: &[u32],
+    section: (ListKind, &[u32]),
+    shelf: &mut MemoryShelf,
     ids: (u32, u32),
     wanted: &[u32],
-) -> Result<bool, NoMemory> {
+) -> bool {
     if ids.0 >= ids.1 || ids.1 >= 4 {
-        return Ok(false);
+        return false;
     }
-    let set = set_of(alloc, ids.0, ids.1)?;
-    let mut shelf = shelf(alloc, words, &[])?;
-    let place = place(alloc, "f", words.len())?;
-    Ok(
-        match docs_of_ids(alloc, &mut shelf, &place, kind, 4, ROWS, &set) {
-            Ok(docs) => is_list(&docs, wanted),
-            Err(_) => false,
-        },
-    )
+    match set_of(alloc, ids.0, ids.1) {
+        Ok(set) => reads_set(alloc, section, shelf, set, wanted),
+        Err(_) => false,
+    }
+}
+
+fn expect_sorted(alloc: Global, shelf: &mut MemoryShelf, all: &mut Expectations) {
+    for (first, second, wanted, _) in LISTED {
+        let section = (ListKind::Sorted, SORTED);
+        let is_found = reads_ids(alloc, section, shelf, (*first, *second), *wanted);
+        all.expect(is_found, "the rows of ids in a sorted column");
+    }
+}
+
+fn expect_inverted(alloc: Global, shelf: &mut MemoryShelf, all: &mut Expectations) {
+    for (first, second, _, wanted) in LISTED {
+        let section = (ListKind::Inverted, INVERTED);
+        let is_found = reads_ids(alloc, section, shelf, (*first, *second), *wanted);
+        all.expect(is_found, "the rows of ids by an inverted index");
+    }
 }
 
 /// The rows of ids, by the section of a sorted column and by an inverted index.
-pub fn lists_of_rows(alloc: Global) -> Result<Expectations, TestFault> {
-    let mut all = Expectations::new();
-    for (first, second, sorted, inverted) in LISTED {
-        let ids = (*first, *second);
-        let is_found = reads_ids(alloc, ListKind::Sorted, SORTED, ids, *sorted)?;
-        all.expect(is_found, "the rows of ids in a sorted column");
-        let is_found = reads_ids(alloc, ListKind::Inverted, INVERTED, ids, *inverted)?;
-        all.expect(is_found, "the rows of ids by an inverted index");
+pub fn lists_of_rows(alloc: Global, all: &mut Expectations) {
+    if let Ok(mut shelf) = shelf(alloc, SORTED, &[]) {
+        expect_sorted(alloc, &mut shelf, all);
     }
-    Ok(all)
+    if let Ok(mut shelf) = shelf(alloc, INVERTED, &[]) {
+        expect_inverted(alloc, &mut shelf, all);
+    }
+    all.end("lists of rows");
 }

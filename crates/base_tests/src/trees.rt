@@ -5,12 +5,12 @@ ghost use Rattle.agg_laws.specs.declared.aggregate_kind.AggKind.TheVariants as k
 ghost use Rattle.agg_laws.specs.Worked.{doc};
 
 use crate::aggregates::sums_and_counts;
-use crate::expect::{Expectations, TestFault};
+use crate::expect::Expectations;
 use agg_laws::{
     AggState, Ids, STAR, StarRow, StarTable, StateRow, TreeShape, aggregated_law, answer_law,
     children_law, covers_law, flat_law, node_rules_law, picks_law, reads_law, worked_law,
 };
-use std::alloc::Global;
+use std::alloc::{AllocError, Global};
 
 // Adds a page view: country, browser and locale, and its impressions.
 fn add_view(
@@ -18,7 +18,7 @@ fn add_view(
     table: &mut StarTable,
     ids: [u32; 3],
     impressions: u16,
-) -> Result<(), TestFault>
+) -> Result<(), AllocError>
     requires dims { table.old.dims ≡ 3 }
     requires kinds { table.old.kinds ≡ kind.Sum ∷ kind.Count ∷ [] }
     requires spare { 1 ≤ table.old.spare }
@@ -39,7 +39,7 @@ fn add_view(
 }
 
 // The page views of the USA, and room for more.
-fn views_of_the_usa(alloc: Global) -> Result<StarTable, TestFault>
+fn views_of_the_usa(alloc: Global) -> Result<StarTable, AllocError>
     ensures { IfOk result (λ table. table ≡ record {
       dims = 3;
       kinds = kind.Sum ∷ kind.Count ∷ [];
@@ -95,22 +95,27 @@ fn expect_docs(table: &StarTable, all: &mut Expectations)
     );
 }
 
-/// Documents are starred, merged and aggregated in their table.
-pub fn tables_of_documents(alloc: Global) -> Result<Expectations, TestFault> {
-    let mut all = Expectations::new();
+// What is expected of the page views of the USA, starred by browser and merged.
+fn expect_views(alloc: Global, all: &mut Expectations) -> Result<(), AllocError> {
     let mut table = views_of_the_usa(alloc)?;
     // browsers are starred: two rows share a locale
     let starred = table.append_starred(0, 3, 1)?;
     all.expect(starred == 2, "two locales");
     table.append_total(0, 3, 1);
     table.append_total(1, 3, 2);
-    expect_docs(&table, &mut all);
-    Ok(all)
+    expect_docs(&table, all);
+    Ok(())
+}
+
+/// Documents are starred, merged and aggregated in their table.
+pub fn tables_of_documents(alloc: Global, all: &mut Expectations) {
+    let ran = expect_views(alloc, all);
+    all.expect(ran.is_ok(), "memory for the documents");
+    all.end("tables of documents");
 }
 
 /// The laws, whose contracts hold the trees that were worked by hand.
-pub fn laws_of_trees(alloc: Global) -> Result<Expectations, TestFault> {
-    let mut all = Expectations::new();
+pub fn laws_of_trees(all: &mut Expectations) {
     worked_law();
     flat_law();
     node_rules_law();
@@ -121,5 +126,5 @@ pub fn laws_of_trees(alloc: Global) -> Result<Expectations, TestFault> {
     aggregated_law();
     answer_law();
     all.expect(true, "laws");
-    Ok(all)
+    all.end("laws of trees");
 }

@@ -1,22 +1,22 @@
 //! Values, their order, and rows of them.
 
-use crate::expect::{Expectations, TestFault};
+use crate::expect::Expectations;
+use crate::fixtures::string;
 use std::alloc::{AllocError, Global};
 use std::collections::{BTreeMap, HashMap};
 use values::{
     Boxed, FieldKind, Name, Row, Seq, Value, ValueFault, compare, copy_row, push_text, read_value,
 };
 
-pub fn text(alloc: Global, text: &str) -> Result<Value, AllocError> {
-    Ok(Value::Text(Name::from_text(alloc, text)?))
+pub fn text(alloc: Global, text: &str) -> Value {
+    Value::Text(Name::from_text(alloc, text).unwrap_or(Name::new(alloc)))
 }
 
-fn many(alloc: Global, count: u32) -> Result<String, AllocError> {
-    let mut text = String::new(alloc);
-    for _ in 0..count {
-        text.push('x')?;
-    }
-    Ok(text)
+// So many letters.
+fn many(alloc: Global, count: usize) -> String {
+    string(alloc, "x")
+        .repeat(alloc, count)
+        .unwrap_or(String::new(alloc))
 }
 
 fn reads_as_text(alloc: Global, text: &str) -> bool {
@@ -26,148 +26,177 @@ fn reads_as_text(alloc: Global, text: &str) -> bool {
     }
 }
 
-// What is expected of `name` beside its copy of when it was `na`, and the same made of a string.
-fn expect_name(name: &Name, copy: &Name, same: &Name, all: &mut Expectations) {
-    all.expect(copy.as_str() == "na", "a copy is not changed");
-    all.expect(
-        name.as_slice() == b"name".as_slice() && name.len() == 4,
-        "a name",
-    );
-    all.expect(copy < name, "a proper prefix is less");
-    all.expect(same == copy, "names by their bytes");
-    if name.len() > 2 {
-        all.expect(name.at(2) == b'm', "a byte of a name");
-    }
-}
-
-fn na(alloc: Global) -> Result<Name, AllocError> {
-    Name::from_string(alloc, String::from_str(alloc, "na")?)
-}
-
-fn expect_names(alloc: Global, all: &mut Expectations) -> Result<(), TestFault> {
-    let mut name = Name::new(alloc);
-    all.expect(name.is_empty(), "an empty name");
-    name.push_str("na")?;
-    let copy = name.copy()?;
-    name.push_str("me")?;
-    let same = na(alloc)?;
-    expect_name(&name, &copy, &same, all);
-    Ok(())
-}
-
 fn reads_as_number(alloc: Global, kind: FieldKind, text: &str, number: i64) -> bool {
     matches!(read_value(alloc, kind, text), Ok(Value::Whole(read)) if read == number)
 }
 
-pub fn numbers(alloc: Global) -> Result<Expectations, TestFault> {
-    let mut all = Expectations::new();
-    let wide = read_value(alloc, FieldKind::Int, "2147483648");
-    all.expect(matches!(wide, Err(ValueFault::OutOfRange)), "a wide INT");
+// Why a text is no value of a kind.
+fn refusal(alloc: Global, kind: FieldKind, text: &str) -> Option<ValueFault> {
+    read_value(alloc, kind, text).err()
+}
+
+pub fn numbers(alloc: Global, all: &mut Expectations) {
+    let wide = refusal(alloc, FieldKind::Int, "2147483648");
+    all.expect(wide == Some(ValueFault::OutOfRange), "a wide INT");
     let is_long = reads_as_number(alloc, FieldKind::Long, "2147483648", 2147483648);
     all.expect(is_long, "a LONG");
-    let power = read_value(alloc, FieldKind::Long, "1e2");
-    all.expect(matches!(power, Err(ValueFault::NotANumber)), "a power");
+    let power = refusal(alloc, FieldKind::Long, "1e2");
+    all.expect(power == Some(ValueFault::NotANumber), "a power");
     let is_minus = reads_as_number(alloc, FieldKind::Int, "-009", -9);
     all.expect(is_minus, "zeros before a number");
-    Ok(all)
+    all.end("whole numbers");
 }
 
-fn expect_long_texts(alloc: Global, all: &mut Expectations) -> Result<(), TestFault> {
-    let long = read_value(alloc, FieldKind::Text, many(alloc, 513)?.as_str());
-    all.expect(matches!(long, Err(ValueFault::TooLong)), "a long text");
-    let longest = many(alloc, 512)?;
+fn expect_long_texts(alloc: Global, all: &mut Expectations) {
+    let longer = many(alloc, 513);
+    let refused = refusal(alloc, FieldKind::Text, longer.as_str());
+    all.expect(refused == Some(ValueFault::TooLong), "a long text");
+    let longest = many(alloc, 512);
     all.expect(reads_as_text(alloc, longest.as_str()), "a longest text");
-    Ok(())
 }
 
-fn expect_written(alloc: Global, all: &mut Expectations) -> Result<(), TestFault> {
-    let mut out = Vec::from_slice(alloc, b"x=")?;
-    push_text(alloc, &Value::Whole(-9), &mut out)?;
-    push_text(alloc, &text(alloc, ";é")?, &mut out)?;
+// Adds a value's text, and says whether there was memory for it.
+fn is_added(alloc: Global, value: Value, out: &mut Vec<u8>) -> bool {
+    push_text(alloc, &value, out).is_ok()
+}
+
+fn expect_written(alloc: Global, all: &mut Expectations) {
+    let mut out = Vec::from_slice(alloc, b"x=").unwrap_or(Vec::new(alloc));
+    let is_added_whole = is_added(alloc, Value::Whole(-9), &mut out);
+    all.expect(is_added_whole, "the text of a number");
+    let is_added_text = is_added(alloc, text(alloc, ";é"), &mut out);
+    all.expect(is_added_text, "a text of a text");
     all.expect(out.as_slice() == "x=-9;é".as_bytes(), "texts of values");
-    Ok(())
 }
 
-pub fn texts(alloc: Global) -> Result<Expectations, TestFault> {
-    let mut all = Expectations::new();
-    expect_long_texts(alloc, &mut all)?;
-    expect_written(alloc, &mut all)?;
-    let boxed = Boxed::new(alloc, 7)?;
-    all.expect(*boxed.get() == 7 && boxed.into_inner() == 7, "a box");
-    expect_names(alloc, &mut all)?;
-    Ok(all)
+// What is expected of `name` beside its copy of when it was `na`, and the same made of a string.
+fn expect_name(name: &Name, copy: &Name, same: &Name, all: &mut Expectations) {
+    all.expect(copy.as_str() == "na", "a copy is not changed");
+    all.expect(name.as_slice() == b"name".as_slice(), "a name");
+    all.expect(name.len() == 4, "its length");
+    all.expect(copy < name, "a proper prefix is less");
+    all.expect(same == copy, "names by their bytes");
+    all.expect(name.len() > 2 && name.at(2) == b'm', "a byte of a name");
+}
+
+fn copy(alloc: Global, name: &Name) -> Name {
+    name.copy().unwrap_or(Name::new(alloc))
+}
+
+fn na(alloc: Global) -> Name {
+    Name::from_string(alloc, string(alloc, "na")).unwrap_or(Name::new(alloc))
+}
+
+fn expect_names(alloc: Global, all: &mut Expectations) {
+    let mut name = Name::new(alloc);
+    all.expect(name.is_empty(), "an empty name");
+    all.expect(name.push_str("na").is_ok(), "a text is added");
+    let copy = copy(alloc, &name);
+    all.expect(name.push_str("me").is_ok(), "more is added");
+    expect_name(&name, &copy, &na(alloc), all);
+}
+
+fn expect_box(alloc: Global, all: &mut Expectations) {
+    if let Ok(boxed) = Boxed::new(alloc, 7) {
+        all.expect(*boxed.get() == 7, "a box");
+        all.expect(boxed.into_inner() == 7, "what was in it");
+    }
+}
+
+pub fn texts(alloc: Global, all: &mut Expectations) {
+    expect_long_texts(alloc, all);
+    expect_written(alloc, all);
+    expect_box(alloc, all);
+    expect_names(alloc, all);
+    all.end("texts of values");
 }
 
 // Ascending: numbers, then texts by their bytes, a proper prefix first.
 fn ascending(alloc: Global) -> Result<Vec<Value>, AllocError> {
     let mut values = Vec::new(alloc);
-    for n in [i64::MIN, -1, 10] {
-        values.push(Value::Whole(n))?;
+    for n in &[i64::MIN, -1, 10] {
+        values.push(Value::Whole(*n))?;
     }
-    for t in ["", "10", "9", "Z", "a", "ab", "é"] {
-        values.push(text(alloc, t)?)?;
+    for t in &["", "10", "9", "Z", "a", "ab", "é"] {
+        values.push(text(alloc, t))?;
     }
     Ok(values)
 }
 
-pub fn order_of_values(alloc: Global) -> Result<Expectations, TestFault> {
-    let mut all = Expectations::new();
-    let values = ascending(alloc)?;
-    for (i, a) in values.iter().enumerate() {
-        for (j, b) in values.iter().enumerate() {
-            all.expect(compare(a, b) == i.cmp(&j), "the order of two values");
-            all.expect((a == b) == (i == j), "whether they are equal");
-            all.expect((a < b) == (i < j), "whether one is less");
-        }
-    }
-    Ok(all)
+fn ascending_or_none(alloc: Global) -> Vec<Value> {
+    ascending(alloc).unwrap_or(Vec::new(alloc))
 }
 
-fn row(alloc: Global, values: &[Value]) -> Result<Row, AllocError> {
-    let mut row = Seq::with_capacity(alloc, values.len())?;
-    for value in values {
-        row.push(value.copy(alloc)?)?;
+// What is expected of two of the values, by their places.
+fn expect_pair((i, a): (usize, &Value), (j, b): (usize, &Value), all: &mut Expectations) {
+    all.expect(compare(a, b) == i.cmp(&j), "the order of two values");
+    all.expect((a == b) == (i == j), "whether they are equal");
+    all.expect((a < b) == (i < j), "whether one is less");
+}
+
+fn expect_pairs(first: (usize, &Value), values: &[Value], all: &mut Expectations) {
+    for second in values.iter().enumerate() {
+        expect_pair(first, second, all);
     }
-    Ok(row)
+}
+
+fn expect_order(values: &[Value], all: &mut Expectations) {
+    for first in values.iter().enumerate() {
+        expect_pairs(first, values, all);
+    }
+}
+
+pub fn order_of_values(alloc: Global, all: &mut Expectations) {
+    expect_order(ascending_or_none(alloc).as_slice(), all);
+    all.end("order of values");
 }
 
 // What is expected of a row beside a proper prefix of it and its copy.
 fn expect_row(long: &Row, short: &Row, copy: &Row, all: &mut Expectations) {
     all.expect(copy == long, "a copy is equal");
-    if long.len() > 2 {
-        all.expect(*long.at(2) == Value::Whole(10), "a value of a row");
-    }
-    all.expect(short != long && short < long, "a proper prefix is less");
+    all.expect(short != long, "a proper prefix is another row");
+    all.expect(short < long, "a proper prefix is less");
 }
 
-fn long_row(alloc: Global) -> Result<Row, AllocError> {
-    row(alloc, ascending(alloc)?.as_slice())
+fn expect_value(row: &Row, all: &mut Expectations) {
+    let is_third = row.len() > 2 && *row.at(2) == Value::Whole(10);
+    all.expect(is_third, "a value of a row");
 }
 
-fn short_row(alloc: Global) -> Result<Row, AllocError> {
-    row(alloc, &[Value::Whole(i64::MIN)])
+fn long_row(alloc: Global) -> Row {
+    Seq::from_vec(ascending_or_none(alloc))
 }
 
-pub fn order_of_rows(alloc: Global) -> Result<Expectations, TestFault> {
-    let mut all = Expectations::new();
-    let long = long_row(alloc)?;
-    let short = short_row(alloc)?;
-    expect_row(&long, &short, &copy_row(alloc, &long)?, &mut all);
-    let is_found = is_found_by_order(alloc, &long)?;
-    all.expect(is_found, "a key that is found by order");
-    let is_found = is_found_by_hash(alloc, &long)?;
-    all.expect(is_found, "a key that is found by hash");
-    Ok(all)
+fn short_row(alloc: Global) -> Row {
+    let mut row = Seq::new(alloc);
+    let _pushed = row.push(Value::Whole(i64::MIN)).is_ok();
+    row
 }
 
-fn is_found_by_order(alloc: Global, key: &Row) -> Result<bool, AllocError> {
+fn copy_of(alloc: Global, row: &Row) -> Row {
+    copy_row(alloc, row).unwrap_or(Seq::new(alloc))
+}
+
+fn expect_rows(alloc: Global, long: &Row, all: &mut Expectations) {
+    expect_row(long, &short_row(alloc), &copy_of(alloc, long), all);
+    expect_value(long, all);
+    all.expect(is_found_by_order(alloc, long), "a key found by order");
+    all.expect(is_found_by_hash(alloc, long), "a key found by hash");
+}
+
+pub fn order_of_rows(alloc: Global, all: &mut Expectations) {
+    expect_rows(alloc, &long_row(alloc), all);
+    all.end("order of rows");
+}
+
+fn is_found_by_order(alloc: Global, key: &Row) -> bool {
     let mut map: BTreeMap<Row, u8> = BTreeMap::new(alloc);
-    let is_kept = map.insert(copy_row(alloc, key)?, 1).is_ok();
-    Ok(is_kept && map.get(key).copied() == Some(1))
+    let is_kept = map.insert(copy_of(alloc, key), 1).is_ok();
+    is_kept && map.get(key).copied() == Some(1)
 }
 
-fn is_found_by_hash(alloc: Global, key: &Row) -> Result<bool, AllocError> {
+fn is_found_by_hash(alloc: Global, key: &Row) -> bool {
     let mut map: HashMap<Row, u8> = HashMap::new(alloc);
-    let is_kept = map.insert(copy_row(alloc, key)?, 1).is_ok();
-    Ok(is_kept && map.get(key).copied() == Some(1))
+    let is_kept = map.insert(copy_of(alloc, key), 1).is_ok();
+    is_kept && map.get(key).copied() == Some(1)
 }
