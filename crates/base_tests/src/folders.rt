@@ -1,9 +1,9 @@
 //! The devices over real folders.
 
-use crate::depots::expect_depot;
+use crate::depots::CALLS;
+use crate::device_calls::{DepotCall, ShelfCall, reads, run_depot, run_shelf};
 use crate::expect::Expectations;
 use crate::fixtures::string;
-use crate::shelves::{lists, reads, refuses};
 use host_devices::{FolderDepot, FolderShelf};
 use outside::{Depot, DepotFault, ReadAllFault, Shelf, ShelfFault};
 use std::alloc::{AllocError, Global};
@@ -43,59 +43,80 @@ fn fill(rt: &HostRuntime, folder: &str, all: &mut Expectations) {
     all.expect(is_written(rt, folder, "sub/c"), "a file in a folder");
 }
 
-fn expect_names<S: Shelf>(alloc: Global, shelf: &mut S, all: &mut Expectations) {
-    all.expect(lists(alloc, shelf, &["a", "z.part"]), "files are listed");
-    for path in ["a", "sub/c", "./sub/../a"] {
-        all.expect(reads(alloc, shelf, path, 5, b"12345"), "a path is read");
-    }
-}
+// Calls of a shelf over such a folder.
+const SHELF_NAMES: &[(ShelfCall, &str)] = &[
+    (ShelfCall::Names(&["a", "z.part"]), "files are listed"),
+    (ShelfCall::Whole("a", 5, Ok(b"12345")), "a name is read"),
+    (ShelfCall::Whole("sub/c", 5, Ok(b"12345")), "a path is read"),
+    (
+        ShelfCall::Whole("./sub/../a", 5, Ok(b"12345")),
+        "a path up is read",
+    ),
+    (ShelfCall::Length("b", Err(ShelfFault::Missing)), "no file"),
+    (ShelfCall::Length("", Err(ShelfFault::Missing)), "no name"),
+    (
+        ShelfCall::Length("a/b", Err(ShelfFault::Missing)),
+        "no folder",
+    ),
+    (
+        ShelfCall::Length("a\0", Err(ShelfFault::Missing)),
+        "no path",
+    ),
+    (
+        ShelfCall::Length("sub", Err(ShelfFault::Failed)),
+        "a folder is no file",
+    ),
+    (
+        ShelfCall::Length(".", Err(ShelfFault::Failed)),
+        "nor is the folder",
+    ),
+    (
+        ShelfCall::Length("..", Err(ShelfFault::Failed)),
+        "nor the one above",
+    ),
+];
 
-fn expect_no_files<S: Shelf>(alloc: Global, shelf: &mut S, all: &mut Expectations) {
-    for missing in ["b", "", "a/b", "a\0"] {
-        let length = shelf.length(alloc, missing);
-        all.expect(length == Err(ShelfFault::Missing), "no file");
-    }
-    for folder in ["sub", ".", ".."] {
-        let length = shelf.length(alloc, folder);
-        all.expect(length == Err(ShelfFault::Failed), "a folder is no file");
-    }
-}
+const SHELF_READS: &[(ShelfCall, &str)] = &[
+    (ShelfCall::Part(3, 2, b"45"), "a read within"),
+    (ShelfCall::Part(u64::MAX, 0, b"\0\0"), "a read past the end"),
+    (
+        ShelfCall::Whole("a", 4, Err(ReadAllFault::TooLong)),
+        "a file over the limit",
+    ),
+];
 
-// Reads of the file `a`, also by the path of its folder.
-fn expect_reads<S: Shelf>(alloc: Global, shelf: &mut S, folder: &str, all: &mut Expectations) {
+// Whether the file `a` is read by the path of its folder.
+fn reads_absolute<S: Shelf>(alloc: Global, shelf: &mut S, folder: &str) -> bool {
     let absolute = path(alloc, folder, "a");
-    let is_read = reads(alloc, shelf, absolute.as_str(), 5, b"12345");
-    all.expect(is_read, "an absolute path");
-    let is_long = refuses(alloc, shelf, "a", 4, ReadAllFault::TooLong);
-    all.expect(is_long, "a file over the limit");
-}
-
-fn expect_reads_at<S: Shelf>(alloc: Global, shelf: &mut S, all: &mut Expectations) {
-    let mut into = [0u8; 2];
-    let read = shelf.read_at(alloc, "a", 3, &mut into);
-    all.expect(read == Ok(2), "a read within");
-    all.expect(into == [b'4', b'5'], "its bytes");
-    let read = shelf.read_at(alloc, "a", u64::MAX, &mut into);
-    all.expect(read == Ok(0), "a read past the end");
+    reads(alloc, shelf, absolute.as_str(), 5, Ok(b"12345"))
 }
 
 fn shelf_over(rt: &HostRuntime, folder: &str) -> Result<FolderShelf<HostRuntime>, AllocError> {
     Ok(FolderShelf::new(rt.clone()?, string(rt.alloc(), folder)))
 }
 
-fn expect_shelf(rt: &HostRuntime, folder: &str, all: &mut Expectations) {
-    if let Ok(mut shelf) = shelf_over(rt, folder) {
-        expect_names(rt.alloc(), &mut shelf, all);
-        expect_no_files(rt.alloc(), &mut shelf, all);
-        expect_reads(rt.alloc(), &mut shelf, folder, all);
-        expect_reads_at(rt.alloc(), &mut shelf, all);
+fn expect_shelf<S: Shelf + Drop>(
+    alloc: Global,
+    mut shelf: S,
+    folder: &str,
+    all: &mut Expectations,
+) {
+    run_shelf(alloc, &mut shelf, SHELF_NAMES, all);
+    let is_read = reads_absolute(alloc, &mut shelf, folder);
+    all.expect(is_read, "an absolute path");
+    run_shelf(alloc, &mut shelf, SHELF_READS, all);
+}
+
+fn expect_shelf_over(rt: &HostRuntime, folder: &str, all: &mut Expectations) {
+    if let Ok(shelf) = shelf_over(rt, folder) {
+        expect_shelf(rt.alloc(), shelf, folder, all);
     }
 }
 
 pub fn shelf_over_a_folder(rt: &HostRuntime, all: &mut Expectations) {
     let folder = folder_of(rt, "shelf");
     fill(rt, folder.as_str(), all);
-    expect_shelf(rt, folder.as_str(), all);
+    expect_shelf_over(rt, folder.as_str(), all);
     all.expect(is_removed(rt, folder.as_str()), "the folder is removed");
     all.end("shelf over a folder");
 }
@@ -109,17 +130,39 @@ fn expect_bad_name<D: Depot>(alloc: Global, depot: &mut D, name: &str, all: &mut
     all.expect(removed == Err(DepotFault::Missing), "it is not removed");
 }
 
+// Names of no published file.
+const BAD_NAMES: &[&str] = &["", ".", "..", "../x", "sub/c", "z.part", "a\0"];
+
 fn expect_bad_names<D: Depot>(alloc: Global, depot: &mut D, all: &mut Expectations) {
-    for name in ["", ".", "..", "../x", "sub/c", "z.part", "a\0"] {
+    for name in BAD_NAMES {
         expect_bad_name(alloc, depot, name, all);
     }
-    for part in ["", "..", "sub/x", "a\0"] {
-        let begun = depot.begin(alloc, part);
-        all.expect(begun == Err(DepotFault::Failed), "no name of a part");
-    }
-    let length = depot.length(alloc, "sub");
-    all.expect(length == Err(ShelfFault::Failed), "a folder is no file");
 }
+
+const BEGUN: &[(DepotCall, &str)] = &[(DepotCall::Begin("p", Ok(())), "a part is begun")];
+
+const BAD_PARTS: &[(DepotCall, &str)] = &[
+    (
+        DepotCall::Begin("", Err(DepotFault::Failed)),
+        "no name of a part",
+    ),
+    (
+        DepotCall::Begin("..", Err(DepotFault::Failed)),
+        "nor a way up",
+    ),
+    (
+        DepotCall::Begin("sub/x", Err(DepotFault::Failed)),
+        "nor a path",
+    ),
+    (
+        DepotCall::Begin("a\0", Err(DepotFault::Failed)),
+        "nor a NUL",
+    ),
+    (
+        DepotCall::Shelf(ShelfCall::Length("sub", Err(ShelfFault::Failed))),
+        "a folder is no file",
+    ),
+];
 
 fn expect_part(rt: &HostRuntime, folder: &str, all: &mut Expectations) {
     let path = path(rt.alloc(), folder, "q.part");
@@ -134,17 +177,18 @@ fn depot_over(rt: &HostRuntime, folder: &str) -> Result<FolderDepot<HostRuntime>
     Ok(FolderDepot::new(rt.clone()?, string(rt.alloc(), folder)))
 }
 
-fn expect_folder<D: Depot>(alloc: Global, depot: &mut D, all: &mut Expectations) {
-    all.expect(depot.begin(alloc, "p") == Ok(()), "a part is begun");
-    expect_depot(alloc, depot, all);
-    expect_bad_names(alloc, depot, all);
+fn expect_depot<D: Depot + Drop>(alloc: Global, mut depot: D, all: &mut Expectations) {
+    run_depot(alloc, &mut depot, BEGUN, all);
+    run_depot(alloc, &mut depot, CALLS, all);
+    expect_bad_names(alloc, &mut depot, all);
+    run_depot(alloc, &mut depot, BAD_PARTS, all);
 }
 
 fn expect_depot_over(rt: &HostRuntime, folder: &str, all: &mut Expectations) {
-    if let Ok(mut depot) = depot_over(rt, folder) {
-        expect_folder(rt.alloc(), &mut depot, all);
-        expect_part(rt, folder, all);
+    if let Ok(depot) = depot_over(rt, folder) {
+        expect_depot(rt.alloc(), depot, all);
     }
+    expect_part(rt, folder, all);
 }
 
 pub fn depot_over_a_folder(rt: &HostRuntime, all: &mut Expectations) {

@@ -4,6 +4,7 @@
 
 mod aggregates;
 mod depots;
+mod device_calls;
 mod dictionaries;
 mod expect;
 mod fixtures;
