@@ -44,17 +44,38 @@ fn expect_spelled(all: &mut Expectations) {
     all.expect(is_spelled(state, &greatest), "a greatest number");
 }
 
-// Bytes that are no state.
+// Bytes that are no state of a kind, and what they would be.
+const REFUSED: &[(AggKind, &[u8], &str)] = &[
+    (AggKind::Count, &[0; 8], "a count of no value"),
+    (
+        AggKind::Count,
+        &[0, 0, 0, 0, 0, 16, 0, 1],
+        "a count of 1,048,577 values",
+    ),
+    (
+        AggKind::Sum,
+        &[0, 0, 0, 0, 0, 8, 0, 0, 0, 0, 0, 0, 0, 0, 0, 0],
+        "a sum of 2 to the 83rd",
+    ),
+    (AggKind::Average, &[0; 24], "an average of no value"),
+    (
+        AggKind::Average,
+        &[
+            0, 0, 0, 0, 0, 0, 0, 0, 128, 0, 0, 0, 0, 0, 0, 0, 0, 0, 0, 0, 0, 0, 0, 1,
+        ],
+        "an average of 2 to the 63rd",
+    ),
+];
+
+// Whether bytes that are as many as a state has are refused.
+fn is_refused(kind: AggKind, bytes: &[u8]) -> bool {
+    bytes.len() == kind.width() && AggState::take(kind, bytes) == Err(BadState)
+}
+
 fn expect_refused(all: &mut Expectations) {
-    let none = AggState::take(AggKind::Count, &[0; 8]);
-    all.expect(none == Err(BadState), "a count of no value");
-    let many = AggState::take(AggKind::Count, &[0, 0, 0, 0, 0, 16, 0, 1]);
-    all.expect(many == Err(BadState), "a count of 1,048,577 values");
-    let wide = [0, 0, 0, 0, 0, 8, 0, 0, 0, 0, 0, 0, 0, 0, 0, 0];
-    let sum = AggState::take(AggKind::Sum, &wide);
-    all.expect(sum == Err(BadState), "a sum of 2 to the 83rd");
-    let average = AggState::take(AggKind::Average, &[0; 24]);
-    all.expect(average == Err(BadState), "an average of no value");
+    for (kind, bytes, what) in REFUSED {
+        all.expect(is_refused(*kind, bytes), what);
+    }
 }
 
 fn expect_averages(all: &mut Expectations) {
@@ -64,11 +85,6 @@ fn expect_averages(all: &mut Expectations) {
     ];
     let average = AggState::Average(AverageState { sum: -2, count: 3 });
     all.expect(is_spelled(average, &bytes), "an average");
-    let wide = [
-        0, 0, 0, 0, 0, 0, 0, 0, 128, 0, 0, 0, 0, 0, 0, 0, 0, 0, 0, 0, 0, 0, 0, 1,
-    ];
-    let read = AggState::take(AggKind::Average, &wide);
-    all.expect(read == Err(BadState), "an average of 2 to the 63rd");
 }
 
 pub fn stored_states(all: &mut Expectations) {

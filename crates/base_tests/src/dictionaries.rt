@@ -1,12 +1,12 @@
 //! Dictionaries worked by hand.
 
-ghost use Rattle.std.specs.Prelude.{◌≡◌, ◌≤◌, length, IfOk};
+ghost use Rattle.std.specs.Prelude.{◌≡◌, ◌≤◌, [], length, IfOk};
 ghost use Rattle.std.specs.List.{All};
 ghost use Rattle.values.specs.Kinds.{fits};
 ghost use Rattle.dictionary.specs.Dictionary.{Fits, most_values};
 
 use crate::expect::Expectations;
-use crate::values_in_order::text;
+use crate::values_in_order::{many, text};
 use dictionary::{DictFault, Dictionary, IdSet};
 use std::alloc::{AllocError, Global};
 use values::{CompareOp, FieldKind, Seq, Test, Value, read_value};
@@ -122,13 +122,21 @@ fn refuses(alloc: Global, kind: FieldKind, bytes: &[u8]) -> bool {
     )
 }
 
-// What is written after a byte.
-fn written(alloc: Global, kind: FieldKind, cells: &[&str]) -> Result<Vec<u8>, AllocError> {
+fn dictionary_of(alloc: Global, kind: FieldKind, cells: &[&str]) -> Result<Dictionary, AllocError> {
     let column = column(alloc, kind, cells)?;
-    let built = Dictionary::build(alloc, kind, &column)?;
+    Dictionary::build(alloc, kind, &column)
+}
+
+// What is written after a byte.
+fn written_after_x(alloc: Global, dictionary: &Dictionary) -> Result<Vec<u8>, AllocError> {
     let mut out = Vec::from_slice(alloc, b"x")?;
-    built.write(&mut out)?;
+    dictionary.write(&mut out)?;
     Ok(out)
+}
+
+fn written(alloc: Global, kind: FieldKind, cells: &[&str]) -> Result<Vec<u8>, AllocError> {
+    let dictionary = dictionary_of(alloc, kind, cells)?;
+    written_after_x(alloc, &dictionary)
 }
 
 // What is written of what is read.
@@ -189,11 +197,9 @@ pub fn spelled(alloc: Global, all: &mut Expectations) {
 
 // The bytes of a dictionary of one text of so many letters.
 fn one_text(alloc: Global, length: u16) -> Result<Vec<u8>, AllocError> {
-    let mut bytes = Vec::from_slice(alloc, &[0, 0, 0, 1, 0, 0, 0, 0, 0, 0])?;
-    bytes.extend_from_slice(&length.to_be_bytes())?;
-    for _ in 0..length {
-        bytes.push(b'x')?;
-    }
+    let [high, low] = length.to_be_bytes();
+    let mut bytes = Vec::from_slice(alloc, &[0, 0, 0, 1, 0, 0, 0, 0, 0, 0, high, low])?;
+    bytes.extend_from_slice(many(alloc, length as usize).as_bytes())?;
     Ok(bytes)
 }
 
@@ -217,11 +223,6 @@ pub fn refused(alloc: Global, all: &mut Expectations) {
     }
     expect_lengths(alloc, all);
     all.end("refused dictionaries");
-}
-
-fn dictionary_of(alloc: Global, cells: &[&str]) -> Result<Dictionary, AllocError> {
-    let column = column(alloc, FieldKind::Text, cells)?;
-    Dictionary::build(alloc, FieldKind::Text, &column)
 }
 
 fn id_of(alloc: Global, countries: &Dictionary, country: &str) -> Option<u32> {
@@ -249,31 +250,31 @@ fn expect_ids(ids: &IdSet, all: &mut Expectations) {
     all.expect(!ids.contains(4), "no id");
 }
 
-// The ids of all values but one.
-fn other_ids(alloc: Global, countries: &Dictionary, country: Value) -> Result<IdSet, AllocError> {
-    let test = Test::Compare(CompareOp::Unequal, country);
-    countries.ids_matching(alloc, &test)
+fn ids_matching(alloc: Global, countries: &Dictionary, test: Test) -> IdSet {
+    countries
+        .ids_matching(alloc, &test)
+        .unwrap_or(IdSet::new(alloc))
 }
 
 fn expect_matches(alloc: Global, countries: &Dictionary, all: &mut Expectations) {
-    let ids = other_ids(alloc, countries, text(alloc, "CA")).unwrap_or(IdSet::new(alloc));
-    expect_ids(&ids, all);
+    let test = Test::Compare(CompareOp::Unequal, text(alloc, "CA"));
+    expect_ids(&ids_matching(alloc, countries, test), all);
 }
 
 pub fn look_ups(alloc: Global, all: &mut Expectations) {
-    if let Ok(countries) = dictionary_of(alloc, &["US", "", "CA", "US", "MX"]) {
+    if let Ok(countries) = dictionary_of(alloc, FieldKind::Text, &["US", "", "CA", "US", "MX"]) {
         expect_values(alloc, &countries, all);
         expect_matches(alloc, &countries, all);
     }
     all.end("look-ups");
 }
 
-fn three_ids(alloc: Global) -> Result<IdSet, AllocError> {
-    let mut ids = IdSet::new(alloc);
+fn push_three(ids: &mut IdSet) -> Result<(), AllocError>
+    requires { ids.old ≡ [] }
+{
     ids.push(0)?;
     ids.push(7)?;
-    ids.push(u32::MAX)?;
-    Ok(ids)
+    ids.push(u32::MAX)
 }
 
 fn expect_three(ids: &IdSet, all: &mut Expectations) {
@@ -290,7 +291,10 @@ fn expect_no_ids(ids: &IdSet, all: &mut Expectations) {
 }
 
 pub fn lists_of_ids(alloc: Global, all: &mut Expectations) {
-    expect_no_ids(&IdSet::new(alloc), all);
-    expect_three(&three_ids(alloc).unwrap_or(IdSet::new(alloc)), all);
+    let mut ids = IdSet::new(alloc);
+    expect_no_ids(&ids, all);
+    let pushed = push_three(&mut ids);
+    all.expect(pushed.is_ok(), "ids are added");
+    expect_three(&ids, all);
     all.end("lists of ids");
 }

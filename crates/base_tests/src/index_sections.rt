@@ -44,14 +44,21 @@ const SORTED: &[u32] = &[0, 2, 2, 5, 5, 5, 5, 6];
 // and then the rows of each.
 const INVERTED: &[u32] = &[0, 2, 3, 5, 6, 1, 3, 2, 0, 4, 5];
 
-// Two ids, the rows that have one of them in the sorted column, and in the other one.
-type Listed = (u32, u32, &'static [u32], &'static [u32]);
+// Two ids, and the rows that have one of them.
+type Listed = (u32, u32, &'static [u32]);
 
-const LISTED: &[Listed] = &[
-    (0, 1, &[0, 1, 2, 3, 4], &[1, 2, 3]),
-    (0, 2, &[0, 1], &[0, 1, 3, 4]),
-    (1, 3, &[2, 3, 4, 5], &[2, 5]),
-    (2, 3, &[5], &[0, 4, 5]),
+const OF_SORTED: &[Listed] = &[
+    (0, 1, &[0, 1, 2, 3, 4]),
+    (0, 2, &[0, 1]),
+    (1, 3, &[2, 3, 4, 5]),
+    (2, 3, &[5]),
+];
+
+const OF_INVERTED: &[Listed] = &[
+    (0, 1, &[1, 2, 3]),
+    (0, 2, &[0, 1, 3, 4]),
+    (1, 3, &[2, 5]),
+    (2, 3, &[0, 4, 5]),
 ];
 
 // These numbers in four bytes each.
@@ -152,15 +159,15 @@ fn set_of(alloc: Global, first: u32, second: u32) -> Result<IdSet, NoMemory>
 // Whether the rows of a set of ids in a section of a kind are these.
 fn reads_set(
     alloc: Global,
-    section: (ListKind, &[u32]),
+    section: (ListKind, &Place),
     shelf: &mut MemoryShelf,
     set: IdSet,
     wanted: &[u32],
 ) -> bool
     requires { All (λ id. id < 4) set }
 {
-    let place = place(alloc, "f", section.1.len());
-    match docs_of_ids(alloc, shelf, &place, section.0, 4, ROWS, &set) {
+    let (kind, place) = section;
+    match docs_of_ids(alloc, shelf, place, kind, 4, ROWS, &set) {
         Ok(docs) => is_list(&docs, wanted),
         Err(_) => false,
     }
@@ -169,43 +176,50 @@ fn reads_set(
 // The same of two ids.
 fn reads_ids(
     alloc: Global,
-    section: (ListKind, &[u32]),
+    section: (ListKind, &Place),
     shelf: &mut MemoryShelf,
-    ids: (u32, u32),
-    wanted: &[u32],
+    row: &Listed,
 ) -> bool {
-    if ids.0 >= ids.1 || ids.1 >= 4 {
+    let (first, second, wanted) = *row;
+    if first >= second || second >= 4 {
         return false;
     }
-    match set_of(alloc, ids.0, ids.1) {
+    match set_of(alloc, first, second) {
         Ok(set) => reads_set(alloc, section, shelf, set, wanted),
         Err(_) => false,
     }
 }
 
-fn expect_sorted(alloc: Global, shelf: &mut MemoryShelf, all: &mut Expectations) {
-    for (first, second, wanted, _) in LISTED {
-        let section = (ListKind::Sorted, SORTED);
-        let is_found = reads_ids(alloc, section, shelf, (*first, *second), *wanted);
-        all.expect(is_found, "the rows of ids in a sorted column");
+fn expect_rows(
+    alloc: Global,
+    section: (ListKind, &Place),
+    shelf: &mut MemoryShelf,
+    rows: &[Listed],
+    all: &mut Expectations,
+) {
+    for row in rows {
+        let is_found = reads_ids(alloc, section, shelf, row);
+        all.expect(is_found, "the rows of ids");
     }
 }
 
-fn expect_inverted(alloc: Global, shelf: &mut MemoryShelf, all: &mut Expectations) {
-    for (first, second, _, wanted) in LISTED {
-        let section = (ListKind::Inverted, INVERTED);
-        let is_found = reads_ids(alloc, section, shelf, (*first, *second), *wanted);
-        all.expect(is_found, "the rows of ids by an inverted index");
+// The rows of ids in a section of a kind that is a file of these numbers.
+fn expect_section(
+    alloc: Global,
+    kind: ListKind,
+    words: &[u32],
+    rows: &[Listed],
+    all: &mut Expectations,
+) {
+    let place = place(alloc, "f", words.len());
+    if let Ok(mut shelf) = shelf(alloc, words, &[]) {
+        expect_rows(alloc, (kind, &place), &mut shelf, rows, all);
     }
 }
 
 /// The rows of ids, by the section of a sorted column and by an inverted index.
 pub fn lists_of_rows(alloc: Global, all: &mut Expectations) {
-    if let Ok(mut shelf) = shelf(alloc, SORTED, &[]) {
-        expect_sorted(alloc, &mut shelf, all);
-    }
-    if let Ok(mut shelf) = shelf(alloc, INVERTED, &[]) {
-        expect_inverted(alloc, &mut shelf, all);
-    }
+    expect_section(alloc, ListKind::Sorted, SORTED, OF_SORTED, all);
+    expect_section(alloc, ListKind::Inverted, INVERTED, OF_INVERTED, all);
     all.end("lists of rows");
 }

@@ -16,11 +16,15 @@ fn may(test: &Test) -> bool {
     may_hold(test, &number(3), &number(5))
 }
 
-fn expect_test(test: Test, held: &str, may_be: bool, all: &mut Expectations) {
+fn expect_held(test: &Test, held: &[u8], all: &mut Expectations) {
     for digit in b"123456789" {
-        let is_held = held.as_bytes().contains(digit);
-        all.expect(holds(&test, *digit) == is_held, "a value satisfies a test");
+        let is_held = holds(test, *digit) == held.contains(digit);
+        all.expect(is_held, "a value satisfies a test");
     }
+}
+
+fn expect_test(test: Test, held: &str, may_be: bool, all: &mut Expectations) {
+    expect_held(&test, held.as_bytes(), all);
     all.expect(may(&test) == may_be, "a test may hold within bounds");
 }
 

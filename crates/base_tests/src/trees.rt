@@ -1,7 +1,8 @@
 //! Tables of documents, and the laws of trees worked by hand.
 
-ghost use Rattle.std.specs.Prelude.{◌≡◌, ◌-◌, ◌≤◌, ◌<◌, ◌∷◌, ◌++◌, [], OnOk, IfOk, slice_index};
+ghost use Rattle.std.specs.Prelude.{◌≡◌, ◌-◌, ◌≤◌, ◌<◌, ◌∷◌, ◌++◌, [], OnOk, IfOk, pos, slice_index};
 ghost use Rattle.agg_laws.specs.declared.aggregate_kind.AggKind.TheVariants as kind;
+ghost use Rattle.agg_laws.specs.declared.states.AggState.TheVariants as state;
 ghost use Rattle.agg_laws.specs.Worked.{doc};
 
 use crate::aggregates::sums_and_counts;
@@ -12,7 +13,41 @@ use agg_laws::{
 };
 use std::alloc::{AllocError, Global};
 
-// Adds a page view: country, browser and locale, and its impressions.
+fn ids_of(alloc: Global, ids: [u32; 3]) -> Result<Ids, AllocError>
+    ensures { IfOk result (λ dims. dims
+        ≡ slice_index ids 0 ∷ slice_index ids 1 ∷ slice_index ids 2 ∷ []) }
+{
+    let mut dims = Ids::new(alloc);
+    dims.push(ids[0])?;
+    dims.push(ids[1])?;
+    dims.push(ids[2])?;
+    Ok(dims)
+}
+
+fn states_of(alloc: Global, impressions: u16) -> Result<StateRow, AllocError>
+    ensures { IfOk result (λ states. states
+        ≡ state.Sum (pos impressions) ∷ state.Count 1 ∷ []) }
+{
+    let mut states = StateRow::new(alloc);
+    states.push(AggState::Sum(impressions as i128))?;
+    states.push(AggState::Count(1))?;
+    Ok(states)
+}
+
+// A page view: country, browser and locale, and its impressions.
+fn view(alloc: Global, ids: [u32; 3], impressions: u16) -> Result<StarRow, AllocError>
+    ensures dims { IfOk result (λ row. row.dims
+        ≡ slice_index ids 0 ∷ slice_index ids 1 ∷ slice_index ids 2 ∷ []) }
+    ensures states { IfOk result (λ row. row.states
+        ≡ state.Sum (pos impressions) ∷ state.Count 1 ∷ []) }
+{
+    Ok(StarRow {
+        dims: ids_of(alloc, ids)?,
+        states: states_of(alloc, impressions)?,
+    })
+}
+
+// Adds a page view.
 fn add_view(
     alloc: Global,
     table: &mut StarTable,
@@ -27,15 +62,48 @@ fn add_view(
       spare = table.old.spare - 1;
     }) }
 {
-    let mut dims = Ids::new(alloc);
-    dims.push(ids[0])?;
-    dims.push(ids[1])?;
-    dims.push(ids[2])?;
-    let mut states = StateRow::new(alloc);
-    states.push(AggState::Sum(impressions as i128))?;
-    states.push(AggState::Count(1))?;
-    table.append(&StarRow { dims, states });
+    table.append(&view(alloc, ids, impressions)?);
     Ok(())
+}
+
+// A table with room for documents, and none yet.
+fn room(alloc: Global) -> Result<StarTable, AllocError>
+    ensures { IfOk result (λ table. table ≡ record {
+      dims = 3;
+      kinds = kind.Sum ∷ kind.Count ∷ [];
+      docs = [];
+      spare = 8;
+    }) }
+{
+    let shape = TreeShape {
+        dims: 3,
+        skipped: 0,
+        leaf: 1,
+        kinds: sums_and_counts(alloc)?,
+    };
+    let mut table = StarTable::new(alloc, &shape)?;
+    table.reserve(8)?;
+    Ok(table)
+}
+
+// Adds the page views of the USA.
+fn add_views(alloc: Global, table: &mut StarTable) -> Result<(), AllocError>
+    requires { table.old ≡ record {
+      dims = 3;
+      kinds = kind.Sum ∷ kind.Count ∷ [];
+      docs = [];
+      spare = 8;
+    } }
+    ensures { OnOk result (table.new ≡ record {
+      dims = 3;
+      kinds = kind.Sum ∷ kind.Count ∷ [];
+      docs = doc 2 0 0 600 1 ∷ doc 2 1 0 400 1 ∷ doc 2 1 1 200 1 ∷ [];
+      spare = 5;
+    }) }
+{
+    add_view(alloc, table, [2, 0, 0], 600)?;
+    add_view(alloc, table, [2, 1, 0], 400)?;
+    add_view(alloc, table, [2, 1, 1], 200)
 }
 
 // The page views of the USA, and room for more.
@@ -47,17 +115,8 @@ fn views_of_the_usa(alloc: Global) -> Result<StarTable, AllocError>
       spare = 5;
     }) }
 {
-    let shape = TreeShape {
-        dims: 3,
-        skipped: 0,
-        leaf: 1,
-        kinds: sums_and_counts(alloc)?,
-    };
-    let mut table = StarTable::new(alloc, &shape)?;
-    table.reserve(8)?;
-    add_view(alloc, &mut table, [2, 0, 0], 600)?;
-    add_view(alloc, &mut table, [2, 1, 0], 400)?;
-    add_view(alloc, &mut table, [2, 1, 1], 200)?;
+    let mut table = room(alloc)?;
+    add_views(alloc, &mut table)?;
     Ok(table)
 }
 

@@ -12,8 +12,8 @@ pub fn text(alloc: Global, text: &str) -> Value {
     Value::Text(Name::from_text(alloc, text).unwrap_or(Name::new(alloc)))
 }
 
-// So many letters.
-fn many(alloc: Global, count: usize) -> String {
+/// So many letters.
+pub fn many(alloc: Global, count: usize) -> String {
     string(alloc, "x")
         .repeat(alloc, count)
         .unwrap_or(String::new(alloc))
@@ -26,33 +26,56 @@ fn reads_as_text(alloc: Global, text: &str) -> bool {
     }
 }
 
-fn reads_as_number(alloc: Global, kind: FieldKind, text: &str, number: i64) -> bool {
-    matches!(read_value(alloc, kind, text), Ok(Value::Whole(read)) if read == number)
-}
+// A kind, a text, the number that it spells or why it spells none, and what that says.
+type Number = (
+    FieldKind,
+    &'static str,
+    Result<i64, ValueFault>,
+    &'static str,
+);
 
-// Why a text is no value of a kind.
-fn refusal(alloc: Global, kind: FieldKind, text: &str) -> Option<ValueFault> {
-    read_value(alloc, kind, text).err()
+const NUMBERS: &[Number] = &[
+    (
+        FieldKind::Int,
+        "2147483648",
+        Err(ValueFault::OutOfRange),
+        "a wide INT",
+    ),
+    (FieldKind::Long, "2147483648", Ok(2147483648), "a LONG"),
+    (
+        FieldKind::Long,
+        "1e2",
+        Err(ValueFault::NotANumber),
+        "a power",
+    ),
+    (FieldKind::Int, "-009", Ok(-9), "zeros before a number"),
+];
+
+fn is_number(found: Result<Value, ValueFault>, wanted: Result<i64, ValueFault>) -> bool {
+    match found {
+        Ok(Value::Whole(number)) => wanted == Ok(number),
+        Ok(Value::Text(_)) => false,
+        Err(fault) => wanted == Err(fault),
+    }
 }
 
 pub fn numbers(alloc: Global, all: &mut Expectations) {
-    let wide = refusal(alloc, FieldKind::Int, "2147483648");
-    all.expect(wide == Some(ValueFault::OutOfRange), "a wide INT");
-    let is_long = reads_as_number(alloc, FieldKind::Long, "2147483648", 2147483648);
-    all.expect(is_long, "a LONG");
-    let power = refusal(alloc, FieldKind::Long, "1e2");
-    all.expect(power == Some(ValueFault::NotANumber), "a power");
-    let is_minus = reads_as_number(alloc, FieldKind::Int, "-009", -9);
-    all.expect(is_minus, "zeros before a number");
+    for (kind, text, wanted, what) in NUMBERS {
+        let found = read_value(alloc, *kind, text);
+        all.expect(is_number(found, *wanted), what);
+    }
     all.end("whole numbers");
 }
 
+fn is_too_long(alloc: Global, text: &str) -> bool {
+    read_value(alloc, FieldKind::Text, text).err() == Some(ValueFault::TooLong)
+}
+
 fn expect_long_texts(alloc: Global, all: &mut Expectations) {
-    let longer = many(alloc, 513);
-    let refused = refusal(alloc, FieldKind::Text, longer.as_str());
-    all.expect(refused == Some(ValueFault::TooLong), "a long text");
-    let longest = many(alloc, 512);
-    all.expect(reads_as_text(alloc, longest.as_str()), "a longest text");
+    let is_refused = is_too_long(alloc, many(alloc, 513).as_str());
+    all.expect(is_refused, "a long text");
+    let is_read = reads_as_text(alloc, many(alloc, 512).as_str());
+    all.expect(is_read, "a longest text");
 }
 
 // Adds a value's text, and says whether there was memory for it.
@@ -111,20 +134,21 @@ pub fn texts(alloc: Global, all: &mut Expectations) {
     all.end("texts of values");
 }
 
-// Ascending: numbers, then texts by their bytes, a proper prefix first.
-fn ascending(alloc: Global) -> Result<Vec<Value>, AllocError> {
-    let mut values = Vec::new(alloc);
+// Adds, ascending: numbers, then texts by their bytes, a proper prefix first.
+fn push_all(alloc: Global, values: &mut Vec<Value>) -> Result<(), AllocError> {
     for n in &[i64::MIN, -1, 10] {
         values.push(Value::Whole(*n))?;
     }
     for t in &["", "10", "9", "Z", "a", "ab", "é"] {
         values.push(text(alloc, t))?;
     }
-    Ok(values)
+    Ok(())
 }
 
-fn ascending_or_none(alloc: Global) -> Vec<Value> {
-    ascending(alloc).unwrap_or(Vec::new(alloc))
+fn ascending(alloc: Global) -> Vec<Value> {
+    let mut values = Vec::new(alloc);
+    let _pushed = push_all(alloc, &mut values).is_ok();
+    values
 }
 
 // What is expected of two of the values, by their places.
@@ -141,13 +165,14 @@ fn expect_pairs(first: (usize, &Value), values: &[Value], all: &mut Expectations
 }
 
 fn expect_order(values: &[Value], all: &mut Expectations) {
+    all.expect(values.len() == 10, "ten values");
     for first in values.iter().enumerate() {
         expect_pairs(first, values, all);
     }
 }
 
 pub fn order_of_values(alloc: Global, all: &mut Expectations) {
-    expect_order(ascending_or_none(alloc).as_slice(), all);
+    expect_order(ascending(alloc).as_slice(), all);
     all.end("order of values");
 }
 
@@ -164,7 +189,7 @@ fn expect_value(row: &Row, all: &mut Expectations) {
 }
 
 fn long_row(alloc: Global) -> Row {
-    Seq::from_vec(ascending_or_none(alloc))
+    Seq::from_vec(ascending(alloc))
 }
 
 fn short_row(alloc: Global) -> Row {
