@@ -99,16 +99,16 @@ fn expect_order(all: &mut Expectations) {
         &AggState::Average(AverageState { sum: -2, count: 3 }),
         &AggState::Average(AverageState { sum: -1, count: 2 }),
     );
-    all.expect(matches!(order, Ordering::Less), "a lesser average");
+    all.equal(order, Ordering::Less, "a lesser average");
     let order = compare_states(
         &AggState::Average(AverageState { sum: 2, count: 4 }),
         &AggState::Average(AverageState { sum: 1, count: 2 }),
     );
-    all.expect(matches!(order, Ordering::Equal), "equal averages");
+    all.equal(order, Ordering::Equal, "equal averages");
     let order = compare_states(&AggState::Least(Some(3)), &AggState::Least(Some(-4)));
-    all.expect(matches!(order, Ordering::Greater), "least numbers");
+    all.equal(order, Ordering::Greater, "least numbers");
     let order = compare_states(&AggState::Count(3), &AggState::Count(4));
-    all.expect(matches!(order, Ordering::Less), "counts");
+    all.equal(order, Ordering::Less, "counts");
 }
 
 fn expect_sums(all: &mut Expectations) {
@@ -127,18 +127,18 @@ fn expect_extremes(all: &mut Expectations) {
     Least::add(&mut least, 4);
     Least::merge(&mut least, &Some(-7));
     Least::merge(&mut least, &None);
-    all.expect(least == Some(-7), "a least number");
+    all.equal(least, Some(-7), "a least number");
     let mut greatest = Greatest::unit();
     Greatest::add(&mut greatest, 4);
     Greatest::merge(&mut greatest, &Some(5));
-    all.expect(greatest == Some(5), "a greatest number");
+    all.equal(greatest, Some(5), "a greatest number");
 }
 
 fn expect_average(all: &mut Expectations) {
     let mut average = Average::unit();
     Average::add(&mut average, 4);
     Average::merge(&mut average, &AverageState { sum: -2, count: 2 });
-    all.expect(average == AverageState { sum: 2, count: 3 }, "an average");
+    all.equal(average, AverageState { sum: 2, count: 3 }, "an average");
 }
 
 pub fn states_of_values(all: &mut Expectations) {
@@ -170,7 +170,7 @@ fn row_of_two(alloc: Global) -> Result<StateRow, AllocError> {
 
 fn expect_row(row: &StateRow, all: &mut Expectations) {
     let wanted = [AggState::Sum(1200), AggState::Count(2)];
-    all.expect(row.as_slice() == wanted.as_slice(), "a row and its copy");
+    all.equal(row.as_slice(), wanted.as_slice(), "a row and its copy");
     let is_second = row.len() > 1 && *row.at(1) == AggState::Count(2);
     all.expect(is_second, "a state of a row");
 }

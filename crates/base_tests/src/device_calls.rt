@@ -66,7 +66,7 @@ pub fn run_depot<D: Depot>(
 /// Gives a sink bytes.
 pub fn run_sink<S: Sink>(sink: &mut S, puts: &[Put], all: &mut Expectations) {
     for (bytes, outcome, what) in puts {
-        all.expect(sink.put(bytes) == *outcome, what);
+        all.equal(sink.put(bytes), *outcome, what);
     }
 }
 

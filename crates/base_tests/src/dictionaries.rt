@@ -236,7 +236,7 @@ fn is_fourth(countries: &Dictionary, value: Value) -> bool {
 fn expect_values(alloc: Global, countries: &Dictionary, all: &mut Expectations) {
     all.expect(countries.count() == 4, "distinct values");
     let found = id_of(alloc, countries, "MX");
-    all.expect(found == Some(2), "the id of a value");
+    all.equal(found, Some(2), "the id of a value");
     let missing = id_of(alloc, countries, "UK");
     all.expect(missing.is_none(), "no value of the column");
     let is_last = is_fourth(countries, text(alloc, "US"));
@@ -244,7 +244,7 @@ fn expect_values(alloc: Global, countries: &Dictionary, all: &mut Expectations) 
 }
 
 fn expect_ids(ids: &IdSet, all: &mut Expectations) {
-    all.expect(ids.as_slice() == [0, 2, 3].as_slice(), "ids that match");
+    all.equal(ids.as_slice(), [0, 2, 3].as_slice(), "ids that match");
     all.expect(ids.contains(2), "an id in the set");
     all.expect(!ids.contains(1), "an id that is not");
     all.expect(!ids.contains(4), "no id");

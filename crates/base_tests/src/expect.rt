@@ -29,6 +29,11 @@ impl Expectations {
         }
     }
 
+    /// Expects a value.
+    pub fn equal<T: PartialEq + Drop>(&mut self, found: T, wanted: T, what: &str) {
+        self.expect(found == wanted, what);
+    }
+
     /// Ends a table: tells how it went, and begins the next one.
     pub fn end(&mut self, table: &str) {
         let outcome = match (self.count, self.broken) {

@@ -123,11 +123,11 @@ pub fn shelf_over_a_folder(rt: &HostRuntime, all: &mut Expectations) {
 
 fn expect_bad_name<D: Depot>(alloc: Global, depot: &mut D, name: &str, all: &mut Expectations) {
     let length = depot.length(alloc, name);
-    all.expect(length == Err(ShelfFault::Missing), "no published name");
+    all.equal(length, Err(ShelfFault::Missing), "no published name");
     let published = depot.publish(alloc, "q", name);
-    all.expect(published == Err(DepotFault::Failed), "it is not published");
+    all.equal(published, Err(DepotFault::Failed), "it is not published");
     let removed = depot.remove(alloc, name);
-    all.expect(removed == Err(DepotFault::Missing), "it is not removed");
+    all.equal(removed, Err(DepotFault::Missing), "it is not removed");
 }
 
 // Names of no published file.

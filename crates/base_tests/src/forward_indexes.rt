@@ -159,11 +159,11 @@ fn refusal_over(alloc: Global, shelf: &mut MemoryShelf, file: &str) -> Option<Co
 
 fn expect_faults(alloc: Global, all: &mut Expectations) {
     let refused = refusal(alloc, "f", &[0]);
-    all.expect(refused == Ok(Some(ColumnFault::ReadFault)), "call 0 fails");
+    all.equal(refused, Ok(Some(ColumnFault::ReadFault)), "call 0 fails");
     let refused = refusal(alloc, "f", &[]);
-    all.expect(refused == Ok(None), "no call fails");
+    all.equal(refused, Ok(None), "no call fails");
     let refused = refusal(alloc, "g", &[]);
-    all.expect(refused == Ok(Some(ColumnFault::BadId)), "no file");
+    all.equal(refused, Ok(Some(ColumnFault::BadId)), "no file");
 }
 
 pub fn ranges(alloc: Global, all: &mut Expectations) {

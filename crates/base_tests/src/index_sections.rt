@@ -129,11 +129,11 @@ fn refusal(alloc: Global, file: &str, words: &[u32], failing: &[u64]) -> Option<
 
 fn expect_refusals(alloc: Global, all: &mut Expectations) {
     let refused = refusal(alloc, "f", RANGED, &[0]);
-    all.expect(refused == Some(ListFault::ReadFault), "call 0 fails");
+    all.equal(refused, Some(ListFault::ReadFault), "call 0 fails");
     let refused = refusal(alloc, "g", RANGED, &[]);
-    all.expect(refused == Some(ListFault::BadList), "no file");
+    all.equal(refused, Some(ListFault::BadList), "no file");
     let refused = refusal(alloc, "f", TOO_MANY, &[]);
-    all.expect(refused == Some(ListFault::BadList), "too many entries");
+    all.equal(refused, Some(ListFault::BadList), "too many entries");
 }
 
 /// The rows whose ids are within bounds, by a range index.

@@ -9,23 +9,23 @@ use std::cmp::Ordering;
 
 // What is expected of the name `ab` beside the same name, the name `b` and an empty one.
 fn expect_order(ab: &Name, same: &Name, b: &Name, empty: &Name, all: &mut Expectations) {
-    all.expect(ab == same, "equal names");
-    all.expect(ab < b, "a lesser name");
-    all.expect(ab.cmp(empty) == Ordering::Greater, "a greater name");
+    all.expect(ab.eq(same), "equal names");
+    all.expect(ab.lt(b), "a lesser name");
+    all.equal(ab.cmp(empty), Ordering::Greater, "a greater name");
 }
 
 fn expect_name(ab: &Name, all: &mut Expectations) {
     all.expect(ab.len() == 2 && !ab.is_empty(), "a name's length");
-    all.expect(ab.as_str() == "ab", "a name");
-    all.expect(ab.as_slice() == b"ab".as_slice(), "its bytes");
+    all.equal(ab.as_str(), "ab", "a name");
+    all.equal(ab.as_slice(), b"ab".as_slice(), "its bytes");
     all.expect(ab.len() > 1 && ab.at(1) == b'b', "a byte of a name");
 }
 
 // What is expected of the list of `x` and `y` beside that of `x`.
 fn expect_list(xy: &Bytes, x: &Bytes, all: &mut Expectations) {
-    all.expect(xy != x, "unequal lists");
-    all.expect(xy > x, "a greater list");
-    all.expect(xy.as_slice() == b"xy".as_slice(), "a list");
+    all.expect(xy.ne(x), "unequal lists");
+    all.expect(xy.gt(x), "a greater list");
+    all.equal(xy.as_slice(), b"xy".as_slice(), "a list");
     let is_second = xy.len() == 2 && *xy.at(1) == b'y';
     all.expect(is_second, "its length and an item of it");
 }

@@ -57,7 +57,7 @@ fn expect_stream(alloc: Global, all: &mut Expectations) {
         interrupts: false,
     };
     run_stream(narrow, all);
-    all.expect(taken.as_slice() == b"abc".as_slice(), "what it took");
+    all.equal(taken.as_slice(), b"abc".as_slice(), "what it took");
     all.expect(flushes == 2, "each put that ends well is flushed");
 }
 
@@ -72,7 +72,7 @@ const ROOM: &[Put] = &[
 pub fn sinks(alloc: Global, all: &mut Expectations) {
     if let Ok(mut sink) = MemorySink::with_room(alloc, 4, calls(alloc, &[1])) {
         run_sink(&mut sink, ROOM, all);
-        all.expect(sink.bytes() == b"abcd".as_slice(), "what it took");
+        all.equal(sink.bytes(), b"abcd".as_slice(), "what it took");
     }
     expect_stream(alloc, all);
     all.end("sinks");

@@ -89,16 +89,16 @@ fn expect_written(alloc: Global, all: &mut Expectations) {
     all.expect(is_added_whole, "the text of a number");
     let is_added_text = is_added(alloc, text(alloc, ";é"), &mut out);
     all.expect(is_added_text, "a text of a text");
-    all.expect(out.as_slice() == "x=-9;é".as_bytes(), "texts of values");
+    all.equal(out.as_slice(), "x=-9;é".as_bytes(), "texts of values");
 }
 
 // What is expected of `name` beside its copy of when it was `na`, and the same made of a string.
 fn expect_name(name: &Name, copy: &Name, same: &Name, all: &mut Expectations) {
-    all.expect(copy.as_str() == "na", "a copy is not changed");
-    all.expect(name.as_slice() == b"name".as_slice(), "a name");
+    all.equal(copy.as_str(), "na", "a copy is not changed");
+    all.equal(name.as_slice(), b"name".as_slice(), "a name");
     all.expect(name.len() == 4, "its length");
-    all.expect(copy < name, "a proper prefix is less");
-    all.expect(same == copy, "names by their bytes");
+    all.expect(copy.lt(name), "a proper prefix is less");
+    all.expect(same.eq(copy), "names by their bytes");
     all.expect(name.len() > 2 && name.at(2) == b'm', "a byte of a name");
 }
 
@@ -153,9 +153,9 @@ fn ascending(alloc: Global) -> Vec<Value> {
 
 // What is expected of two of the values, by their places.
 fn expect_pair((i, a): (usize, &Value), (j, b): (usize, &Value), all: &mut Expectations) {
-    all.expect(compare(a, b) == i.cmp(&j), "the order of two values");
-    all.expect((a == b) == (i == j), "whether they are equal");
-    all.expect((a < b) == (i < j), "whether one is less");
+    all.equal(compare(a, b), i.cmp(&j), "the order of two values");
+    all.expect(a.eq(b) == (i == j), "whether they are equal");
+    all.expect(a.lt(b) == (i < j), "whether one is less");
 }
 
 fn expect_pairs(first: (usize, &Value), values: &[Value], all: &mut Expectations) {
@@ -178,9 +178,9 @@ pub fn order_of_values(alloc: Global, all: &mut Expectations) {
 
 // What is expected of a row beside a proper prefix of it and its copy.
 fn expect_row(long: &Row, short: &Row, copy: &Row, all: &mut Expectations) {
-    all.expect(copy == long, "a copy is equal");
-    all.expect(short != long, "a proper prefix is another row");
-    all.expect(short < long, "a proper prefix is less");
+    all.expect(copy.eq(long), "a copy is equal");
+    all.expect(short.ne(long), "a proper prefix is another row");
+    all.expect(short.lt(long), "a proper prefix is less");
 }
 
 fn expect_value(row: &Row, all: &mut Expectations) {
