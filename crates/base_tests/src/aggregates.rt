@@ -178,6 +178,7 @@ fn expect_row(row: &StateRow, all: &mut Expectations) {
 pub fn rows_of_states(alloc: Global, all: &mut Expectations) {
     if let Ok(row) = row_of_two(alloc) {
         expect_row(&row, all);
+        drop(row);
     }
     all.end("rows of states");
 }

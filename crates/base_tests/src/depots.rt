@@ -56,6 +56,7 @@ pub fn depot_in_memory(alloc: Global, all: &mut Expectations) {
     if let Ok(mut depot) = one_file(alloc) {
         run_depot(alloc, &mut depot, FAILING, all);
         run_depot(alloc, &mut depot, CALLS, all);
+        drop(depot);
     }
     all.end("depot in memory");
 }

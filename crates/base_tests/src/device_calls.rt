@@ -2,7 +2,8 @@
 
 use crate::expect::Expectations;
 use outside::{
-    Depot, DepotFault, Name, ReadAllFault, Shelf, ShelfFault, Sink, SinkFault, read_all, read_bytes,
+    Depot, DepotFault, Name, ReadAllFault, Seq, Shelf, ShelfFault, Sink, SinkFault, read_all,
+    read_bytes,
 };
 use std::alloc::Global;
 
@@ -104,9 +105,22 @@ fn are_names(found: &[Name], wanted: &[&str]) -> bool {
 }
 
 fn lists<S: Shelf>(alloc: Global, shelf: &mut S, names: &[&str]) -> bool {
-    match shelf.names(alloc) {
-        Ok(found) => are_names(found.as_slice(), names),
-        Err(_) => false,
+    let Ok(found) = shelf.names(alloc) else {
+        return false;
+    };
+    let are_these = are_names(found.as_slice(), names);
+    drop(found);
+    are_these
+}
+
+/// Whether a list that was read, or why none was, is this.
+pub fn is_read<T: PartialEq, F: PartialEq + Copy>(
+    found: &Result<Seq<T>, F>,
+    wanted: Result<&[T], F>,
+) -> bool {
+    match found {
+        Ok(items) => wanted == Ok(items.as_slice()),
+        Err(fault) => wanted == Err(*fault),
     }
 }
 
@@ -118,10 +132,10 @@ pub fn reads<S: Shelf>(
     limit: u64,
     wanted: Result<&[u8], ReadAllFault>,
 ) -> bool {
-    match read_all(alloc, shelf, name, limit) {
-        Ok(bytes) => wanted == Ok(bytes.as_slice()),
-        Err(fault) => wanted == Err(fault),
-    }
+    let found = read_all(alloc, shelf, name, limit);
+    let is_so = is_read(&found, wanted);
+    drop(found);
+    is_so
 }
 
 fn gives<S: Shelf>(
@@ -134,10 +148,10 @@ fn gives<S: Shelf>(
     if count > u64::MAX - offset {
         return false;
     }
-    match read_bytes(alloc, shelf, name, offset, count) {
-        Ok(bytes) => wanted == Ok(bytes.as_slice()),
-        Err(fault) => wanted == Err(fault),
-    }
+    let found = read_bytes(alloc, shelf, name, offset, count);
+    let is_so = is_read(&found, wanted);
+    drop(found);
+    is_so
 }
 
 fn reads_at<S: Shelf>(

@@ -116,15 +116,14 @@ fn column(alloc: Global, kind: FieldKind, cells: &[&str]) -> Result<Seq<Value>, 
 }
 
 fn refuses(alloc: Global, kind: FieldKind, bytes: &[u8]) -> bool {
-    matches!(
-        Dictionary::check(alloc, kind, bytes),
-        Err(DictFault::BadDictionary)
-    )
+    Dictionary::check(alloc, kind, bytes).err() == Some(DictFault::BadDictionary)
 }
 
 fn dictionary_of(alloc: Global, kind: FieldKind, cells: &[&str]) -> Result<Dictionary, AllocError> {
     let column = column(alloc, kind, cells)?;
-    Dictionary::build(alloc, kind, &column)
+    let dictionary = Dictionary::build(alloc, kind, &column);
+    drop(column);
+    dictionary
 }
 
 // What is written after a byte.
@@ -136,7 +135,9 @@ fn written_after_x(alloc: Global, dictionary: &Dictionary) -> Result<Vec<u8>, Al
 
 fn written(alloc: Global, kind: FieldKind, cells: &[&str]) -> Result<Vec<u8>, AllocError> {
     let dictionary = dictionary_of(alloc, kind, cells)?;
-    written_after_x(alloc, &dictionary)
+    let out = written_after_x(alloc, &dictionary);
+    drop(dictionary);
+    out
 }
 
 // What is written of what is read.
@@ -157,10 +158,12 @@ fn refuses_beginnings(alloc: Global, kind: FieldKind, bytes: &[u8]) -> bool {
 }
 
 fn is_read_again(alloc: Global, kind: FieldKind, bytes: &[u8]) -> bool {
-    match again(alloc, kind, bytes) {
-        Ok(same) => same.as_slice() == bytes,
-        Err(_) => false,
-    }
+    let Ok(same) = again(alloc, kind, bytes) else {
+        return false;
+    };
+    let is_so = same.as_slice() == bytes;
+    drop(same);
+    is_so
 }
 
 fn expect_read(alloc: Global, kind: FieldKind, bytes: &[u8], all: &mut Expectations) {
@@ -170,22 +173,23 @@ fn expect_read(alloc: Global, kind: FieldKind, bytes: &[u8], all: &mut Expectati
 }
 
 // What is expected of the bytes that are written after a byte `x`.
-fn expect_written(alloc: Global, row: &Spelled, out: Vec<u8>, all: &mut Expectations) {
-    let is_written = out.as_slice().strip_prefix(b"x") == Some(row.2);
-    all.expect(is_written, "a dictionary is written");
+fn expect_written(alloc: Global, row: &Spelled, out: &mut Vec<u8>, all: &mut Expectations) {
+    let bytes = out.as_slice().strip_prefix(b"x");
+    all.equal(bytes, Some(row.2), "a dictionary is written");
     let is_refused = refuses_longer(alloc, row.0, out);
     all.expect(is_refused, "one byte more is refused");
 }
 
 // Whether the bytes after the first one are refused with one more.
-fn refuses_longer(alloc: Global, kind: FieldKind, mut out: Vec<u8>) -> bool {
+fn refuses_longer(alloc: Global, kind: FieldKind, out: &mut Vec<u8>) -> bool {
     out.push(b'x').is_ok() && out.len() > 1 && refuses(alloc, kind, &out.as_slice()[1..])
 }
 
 fn expect_spelled(alloc: Global, row: &Spelled, all: &mut Expectations) {
     expect_read(alloc, row.0, row.2, all);
-    let out = written(alloc, row.0, row.1).unwrap_or(Vec::new(alloc));
-    expect_written(alloc, row, out, all);
+    let mut out = written(alloc, row.0, row.1).unwrap_or(Vec::new(alloc));
+    expect_written(alloc, row, &mut out, all);
+    drop(out);
 }
 
 pub fn spelled(alloc: Global, all: &mut Expectations) {
@@ -203,17 +207,18 @@ fn one_text(alloc: Global, length: u16) -> Result<Vec<u8>, AllocError> {
     Ok(bytes)
 }
 
-fn one_text_or_none(alloc: Global, length: u16) -> Vec<u8> {
-    one_text(alloc, length).unwrap_or(Vec::new(alloc))
+// Why the bytes of a dictionary of one text of so many letters are refused, if they are.
+fn fault_of_text(alloc: Global, length: u16) -> Option<DictFault> {
+    let bytes = one_text(alloc, length).unwrap_or(Vec::new(alloc));
+    let fault = Dictionary::check(alloc, FieldKind::Text, bytes.as_slice()).err();
+    drop(bytes);
+    fault
 }
 
 fn expect_lengths(alloc: Global, all: &mut Expectations) {
-    let longest = one_text_or_none(alloc, 512);
-    let is_read = Dictionary::check(alloc, FieldKind::Text, longest.as_slice()).is_ok();
-    all.expect(is_read, "a longest text");
-    let longer = one_text_or_none(alloc, 513);
-    let is_refused = refuses(alloc, FieldKind::Text, longer.as_slice());
-    all.expect(is_refused, "a longer text");
+    all.equal(fault_of_text(alloc, 512), None, "a longest text");
+    let refused = fault_of_text(alloc, 513);
+    all.equal(refused, Some(DictFault::BadDictionary), "a longer text");
 }
 
 pub fn refused(alloc: Global, all: &mut Expectations) {
@@ -226,11 +231,16 @@ pub fn refused(alloc: Global, all: &mut Expectations) {
 }
 
 fn id_of(alloc: Global, countries: &Dictionary, country: &str) -> Option<u32> {
-    countries.id_of(&text(alloc, country))
+    let value = text(alloc, country);
+    let id = countries.id_of(&value);
+    drop(value);
+    id
 }
 
 fn is_fourth(countries: &Dictionary, value: Value) -> bool {
-    countries.count() > 3 && *countries.value_at(3) == value
+    let is_so = countries.count() > 3 && countries.value_at(3).eq(&value);
+    drop(value);
+    is_so
 }
 
 fn expect_values(alloc: Global, countries: &Dictionary, all: &mut Expectations) {
@@ -251,20 +261,23 @@ fn expect_ids(ids: &IdSet, all: &mut Expectations) {
 }
 
 fn ids_matching(alloc: Global, countries: &Dictionary, test: Test) -> IdSet {
-    countries
-        .ids_matching(alloc, &test)
-        .unwrap_or(IdSet::new(alloc))
+    let ids = countries.ids_matching(alloc, &test);
+    drop(test);
+    ids.unwrap_or(IdSet::new(alloc))
 }
 
 fn expect_matches(alloc: Global, countries: &Dictionary, all: &mut Expectations) {
     let test = Test::Compare(CompareOp::Unequal, text(alloc, "CA"));
-    expect_ids(&ids_matching(alloc, countries, test), all);
+    let ids = ids_matching(alloc, countries, test);
+    expect_ids(&ids, all);
+    drop(ids);
 }
 
 pub fn look_ups(alloc: Global, all: &mut Expectations) {
     if let Ok(countries) = dictionary_of(alloc, FieldKind::Text, &["US", "", "CA", "US", "MX"]) {
         expect_values(alloc, &countries, all);
         expect_matches(alloc, &countries, all);
+        drop(countries);
     }
     all.end("look-ups");
 }
@@ -296,5 +309,6 @@ pub fn lists_of_ids(alloc: Global, all: &mut Expectations) {
     let pushed = push_three(&mut ids);
     all.expect(pushed.is_ok(), "ids are added");
     expect_three(&ids, all);
+    drop(ids);
     all.end("lists of ids");
 }

@@ -22,22 +22,25 @@ fn folder_of(rt: &HostRuntime, test: &str) -> String {
 
 fn is_written(rt: &HostRuntime, folder: &str, file: &str) -> bool {
     let path = path(rt.alloc(), folder, file);
-    fs::write(rt, path.as_str(), b"12345".as_slice()).is_ok()
+    let written = fs::write(rt, path.as_str(), b"12345".as_slice()).ok();
+    drop(path);
+    written.is_some()
 }
 
 fn is_made(rt: &HostRuntime, folder: &str) -> bool {
-    fs::create_dir_all(rt, folder).is_ok()
+    fs::create_dir_all(rt, folder).ok().is_some()
 }
 
 fn is_removed(rt: &HostRuntime, folder: &str) -> bool {
-    fs::remove_dir_all(rt, folder).is_ok()
+    fs::remove_dir_all(rt, folder).ok().is_some()
 }
 
 // Makes a folder anew with the file `a`, the file `z.part` and a folder `sub` that has the file `c`.
 fn fill(rt: &HostRuntime, folder: &str, all: &mut Expectations) {
     let _was_there = is_removed(rt, folder);
-    let is_made = is_made(rt, path(rt.alloc(), folder, "sub").as_str());
-    all.expect(is_made, "a folder is made");
+    let sub = path(rt.alloc(), folder, "sub");
+    all.expect(is_made(rt, sub.as_str()), "a folder is made");
+    drop(sub);
     all.expect(is_written(rt, folder, "a"), "a file is written");
     all.expect(is_written(rt, folder, "z.part"), "a part is written");
     all.expect(is_written(rt, folder, "sub/c"), "a file in a folder");
@@ -88,7 +91,9 @@ const SHELF_READS: &[(ShelfCall, &str)] = &[
 // Whether the file `a` is read by the path of its folder.
 fn reads_absolute<S: Shelf>(alloc: Global, shelf: &mut S, folder: &str) -> bool {
     let absolute = path(alloc, folder, "a");
-    reads(alloc, shelf, absolute.as_str(), 5, Ok(b"12345"))
+    let is_read = reads(alloc, shelf, absolute.as_str(), 5, Ok(b"12345"));
+    drop(absolute);
+    is_read
 }
 
 fn shelf_over(rt: &HostRuntime, folder: &str) -> Result<FolderShelf<HostRuntime>, AllocError> {
@@ -118,6 +123,7 @@ pub fn shelf_over_a_folder(rt: &HostRuntime, all: &mut Expectations) {
     fill(rt, folder.as_str(), all);
     expect_shelf_over(rt, folder.as_str(), all);
     all.expect(is_removed(rt, folder.as_str()), "the folder is removed");
+    drop(folder);
     all.end("shelf over a folder");
 }
 
@@ -164,13 +170,21 @@ const BAD_PARTS: &[(DepotCall, &str)] = &[
     ),
 ];
 
+// Whether the file at a path has these bytes.
+fn has(rt: &HostRuntime, path: &str, bytes: &[u8]) -> bool {
+    let Ok(found) = fs::read(rt, path) else {
+        return false;
+    };
+    let are_these = found.as_slice() == bytes;
+    drop(found);
+    are_these
+}
+
 fn expect_part(rt: &HostRuntime, folder: &str, all: &mut Expectations) {
     let path = path(rt.alloc(), folder, "q.part");
-    let is_file = match fs::read(rt, path.as_str()) {
-        Ok(part) => part.as_slice() == b"never begun".as_slice(),
-        Err(_) => false,
-    };
+    let is_file = has(rt, path.as_str(), b"never begun");
     all.expect(is_file, "a part is a file");
+    drop(path);
 }
 
 fn depot_over(rt: &HostRuntime, folder: &str) -> Result<FolderDepot<HostRuntime>, AllocError> {
@@ -196,5 +210,6 @@ pub fn depot_over_a_folder(rt: &HostRuntime, all: &mut Expectations) {
     fill(rt, folder.as_str(), all);
     expect_depot_over(rt, folder.as_str(), all);
     all.expect(is_removed(rt, folder.as_str()), "the folder is removed");
+    drop(folder);
     all.end("depot over a folder");
 }

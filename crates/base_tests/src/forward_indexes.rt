@@ -2,10 +2,11 @@
 
 ghost use Rattle.std.specs.Prelude.{◌≤◌, ◌<◌, ◌^◌, All, IsTrue};
 
+use crate::device_calls::is_read;
 use crate::expect::Expectations;
 use crate::fixtures::{name, shelf_of};
 use bit_column::{ColumnFault, at, read_range, width_for, write};
-use outside::{MemoryShelf, NoMemory, Place, Seq};
+use outside::{MemoryShelf, NoMemory, Place};
 use std::alloc::Global;
 
 // Widths, ids and the bytes that they are, worked by hand.
@@ -80,16 +81,18 @@ fn reads_each(bytes: &[u8], width: u32, ids: &[u32]) -> bool {
 }
 
 // Whether the ids are written as the bytes.
-fn is_written(ids: &[u32], width: u32, bytes: &[u8], mut out: Vec<u8>) -> bool {
+fn is_written(ids: &[u32], width: u32, bytes: &[u8], out: &mut Vec<u8>) -> bool {
     if 1 <= width && width <= 32 && fit(ids, width) {
-        return write(ids, width, &mut out).is_ok() && out.as_slice() == bytes;
+        return write(ids, width, out).is_ok() && out.as_slice() == bytes;
     }
     false
 }
 
 fn expect_spelled(alloc: Global, row: &Spelled, all: &mut Expectations) {
     let (width, ids, bytes) = *row;
-    let is_written = is_written(ids, width, bytes, Vec::new(alloc));
+    let mut out = Vec::new(alloc);
+    let is_written = is_written(ids, width, bytes, &mut out);
+    drop(out);
     all.expect(is_written, "ids are written");
     all.expect(reads_each(bytes, width, ids), "and read");
 }
@@ -123,38 +126,38 @@ pub fn spelled(alloc: Global, all: &mut Expectations) {
     all.end("spelled columns");
 }
 
-// Reads a range of ids of a row.
-fn ids_read(alloc: Global, shelf: &mut MemoryShelf, row: &Read) -> Result<Seq<u32>, ColumnFault> {
+// Whether the range of a row is read as it says.
+fn reads_row(alloc: Global, shelf: &mut MemoryShelf, row: &Read) -> bool {
     if row.3 > row.4 {
-        return Err(ColumnFault::ReadFault);
+        return false;
     }
     let place = place(alloc, "f", row.0, row.1);
-    read_range(alloc, shelf, &place, 3, row.2, row.3, row.4)
-}
-
-fn is_read(found: Result<Seq<u32>, ColumnFault>, wanted: Result<&[u32], ColumnFault>) -> bool {
-    match found {
-        Ok(ids) => wanted == Ok(ids.as_slice()),
-        Err(fault) => wanted == Err(fault),
-    }
+    let found = read_range(alloc, shelf, &place, 3, row.2, row.3, row.4);
+    drop(place);
+    let is_so = is_read(&found, row.5);
+    drop(found);
+    is_so
 }
 
 fn expect_ranges(alloc: Global, shelf: &mut MemoryShelf, all: &mut Expectations) {
     for row in READS {
-        let is_read = is_read(ids_read(alloc, shelf, row), row.5);
-        all.expect(is_read, "the ids of a range");
+        all.expect(reads_row(alloc, shelf, row), "the ids of a range");
     }
+}
+
+fn refusal_over(alloc: Global, shelf: &mut MemoryShelf, file: &str) -> Option<ColumnFault> {
+    let section = place(alloc, file, 1, 3);
+    let refused = read_range(alloc, shelf, &section, 3, 8, 0, 8).err();
+    drop(section);
+    refused
 }
 
 // Why no id of a range of the file of that name is read, where a call of the shelf fails.
 fn refusal(alloc: Global, file: &str, failing: &[u64]) -> Result<Option<ColumnFault>, NoMemory> {
     let mut shelf = shelf_of(alloc, FILE, failing)?;
-    Ok(refusal_over(alloc, &mut shelf, file))
-}
-
-fn refusal_over(alloc: Global, shelf: &mut MemoryShelf, file: &str) -> Option<ColumnFault> {
-    let section = place(alloc, file, 1, 3);
-    read_range(alloc, shelf, &section, 3, 8, 0, 8).err()
+    let refused = refusal_over(alloc, &mut shelf, file);
+    drop(shelf);
+    Ok(refused)
 }
 
 fn expect_faults(alloc: Global, all: &mut Expectations) {
@@ -169,6 +172,7 @@ fn expect_faults(alloc: Global, all: &mut Expectations) {
 pub fn ranges(alloc: Global, all: &mut Expectations) {
     if let Ok(mut shelf) = shelf_of(alloc, FILE, &[]) {
         expect_ranges(alloc, &mut shelf, all);
+        drop(shelf);
     }
     expect_faults(alloc, all);
     all.end("ranges");

@@ -73,7 +73,9 @@ fn bytes_of(alloc: Global, words: &[u32]) -> Result<Vec<u8>, NoMemory> {
 // A shelf with the file of these numbers.
 fn shelf(alloc: Global, words: &[u32], failing: &[u64]) -> Result<MemoryShelf, NoMemory> {
     let bytes = bytes_of(alloc, words)?;
-    shelf_of(alloc, bytes.as_slice(), failing)
+    let shelf = shelf_of(alloc, bytes.as_slice(), failing);
+    drop(bytes);
+    shelf
 }
 
 // The section that is a file of so many numbers.
@@ -101,7 +103,16 @@ fn reads_between(alloc: Global, shelf: &mut MemoryShelf, row: &Between) -> bool 
         return false;
     }
     let place = place(alloc, "f", RANGED.len());
-    match docs_between(alloc, shelf, &place, COUNT, ROWS, low, high) {
+    let found = docs_between(alloc, shelf, &place, COUNT, ROWS, low, high);
+    drop(place);
+    let are_these = are_lists(&found, sure, check);
+    drop(found);
+    are_these
+}
+
+// Whether these are the documents that are found for sure, and those to be checked.
+fn are_lists(found: &Result<(DocList, DocList), ListFault>, sure: &[u32], check: &[u32]) -> bool {
+    match found {
         Ok(docs) => is_list(&docs.0, sure) && is_list(&docs.1, check),
         Err(_) => false,
     }
@@ -115,16 +126,20 @@ fn expect_between(alloc: Global, shelf: &mut MemoryShelf, all: &mut Expectations
 }
 
 // Why the rows of the ids from 3 to 16 are not found in a section.
-fn refusal_over(alloc: Global, shelf: &mut MemoryShelf, place: Place) -> Option<ListFault> {
-    docs_between(alloc, shelf, &place, COUNT, ROWS, 3, 16).err()
+fn refusal_over(alloc: Global, shelf: &mut MemoryShelf, place: &Place) -> Option<ListFault> {
+    docs_between(alloc, shelf, place, COUNT, ROWS, 3, 16).err()
 }
 
 // The same of the section that is a file of these numbers, some of whose calls fail.
 fn refusal(alloc: Global, file: &str, words: &[u32], failing: &[u64]) -> Option<ListFault> {
-    match shelf(alloc, words, failing) {
-        Ok(mut shelf) => refusal_over(alloc, &mut shelf, place(alloc, file, words.len())),
-        Err(_) => None,
-    }
+    let Ok(mut shelf) = shelf(alloc, words, failing) else {
+        return None;
+    };
+    let place = place(alloc, file, words.len());
+    let refused = refusal_over(alloc, &mut shelf, &place);
+    drop(place);
+    drop(shelf);
+    refused
 }
 
 fn expect_refusals(alloc: Global, all: &mut Expectations) {
@@ -140,6 +155,7 @@ fn expect_refusals(alloc: Global, all: &mut Expectations) {
 pub fn range_indexes(alloc: Global, all: &mut Expectations) {
     if let Ok(mut shelf) = shelf(alloc, RANGED, &[]) {
         expect_between(alloc, &mut shelf, all);
+        drop(shelf);
     }
     expect_refusals(alloc, all);
     all.end("range indexes");
@@ -161,14 +177,21 @@ fn reads_set(
     alloc: Global,
     section: (ListKind, &Place),
     shelf: &mut MemoryShelf,
-    set: IdSet,
+    set: &IdSet,
     wanted: &[u32],
 ) -> bool
-    requires { All (λ id. id < 4) set }
+    requires { All (λ id. id < 4) set.now }
 {
     let (kind, place) = section;
-    match docs_of_ids(alloc, shelf, place, kind, 4, ROWS, &set) {
-        Ok(docs) => is_list(&docs, wanted),
+    let found = docs_of_ids(alloc, shelf, place, kind, 4, ROWS, set);
+    let is_so = is_found(&found, wanted);
+    drop(found);
+    is_so
+}
+
+fn is_found(found: &Result<DocList, ListFault>, wanted: &[u32]) -> bool {
+    match found {
+        Ok(docs) => is_list(docs, wanted),
         Err(_) => false,
     }
 }
@@ -184,10 +207,12 @@ fn reads_ids(
     if first >= second || second >= 4 {
         return false;
     }
-    match set_of(alloc, first, second) {
-        Ok(set) => reads_set(alloc, section, shelf, set, wanted),
-        Err(_) => false,
-    }
+    let Ok(set) = set_of(alloc, first, second) else {
+        return false;
+    };
+    let is_found = reads_set(alloc, section, shelf, &set, wanted);
+    drop(set);
+    is_found
 }
 
 fn expect_rows(
@@ -214,7 +239,9 @@ fn expect_section(
     let place = place(alloc, "f", words.len());
     if let Ok(mut shelf) = shelf(alloc, words, &[]) {
         expect_rows(alloc, (kind, &place), &mut shelf, rows, all);
+        drop(shelf);
     }
+    drop(place);
 }
 
 /// The rows of ids, by the section of a sorted column and by an inverted index.

@@ -65,5 +65,7 @@ fn main(rt: HostRuntime) -> io::Result<()> {
     values_in_lists(rt.alloc(), &mut all);
     columns(rt.alloc(), &mut all);
     aggregates_and_trees(rt.alloc(), &mut all);
-    print!(rt; "{}", all.lines())
+    let printed = print!(rt; "{}", all.lines());
+    drop(all);
+    printed
 }

@@ -31,17 +31,28 @@ fn expect_list(xy: &Bytes, x: &Bytes, all: &mut Expectations) {
 }
 
 fn expect_lists(alloc: Global, all: &mut Expectations) {
-    expect_list(&bytes(alloc, b"xy"), &bytes(alloc, b"x"), all);
+    let xy = bytes(alloc, b"xy");
+    let x = bytes(alloc, b"x");
+    expect_list(&xy, &x, all);
+    drop(xy);
+    drop(x);
 }
 
 fn expect_names(alloc: Global, ab: &Name, all: &mut Expectations) {
     expect_name(ab, all);
     let same = name(alloc, "ab");
-    expect_order(ab, &same, &name(alloc, "b"), &Name::new(alloc), all);
+    let b = name(alloc, "b");
+    let empty = Name::new(alloc);
+    expect_order(ab, &same, &b, &empty, all);
+    drop(same);
+    drop(b);
+    drop(empty);
 }
 
 pub fn lists_and_names(alloc: Global, all: &mut Expectations) {
-    expect_names(alloc, &name(alloc, "ab"), all);
+    let ab = name(alloc, "ab");
+    expect_names(alloc, &ab, all);
+    drop(ab);
     expect_lists(alloc, all);
     all.end("lists and names");
 }
@@ -83,6 +94,7 @@ fn run(
 ) {
     if let Ok(mut shelf) = shelf {
         run_shelf(alloc, &mut shelf, calls, all);
+        drop(shelf);
     }
 }
 

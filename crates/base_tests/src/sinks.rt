@@ -45,7 +45,9 @@ const STREAM: &[Put] = &[
 ];
 
 fn run_stream(narrow: Narrow<'_>, all: &mut Expectations) {
-    run_sink(&mut StreamSink::new(narrow), STREAM, all);
+    let mut sink = StreamSink::new(narrow);
+    run_sink(&mut sink, STREAM, all);
+    drop(sink);
 }
 
 fn expect_stream(alloc: Global, all: &mut Expectations) {
@@ -59,6 +61,7 @@ fn expect_stream(alloc: Global, all: &mut Expectations) {
     run_stream(narrow, all);
     all.equal(taken.as_slice(), b"abc".as_slice(), "what it took");
     all.expect(flushes == 2, "each put that ends well is flushed");
+    drop(taken);
 }
 
 // What a sink takes that has room for four bytes, and whose call 1 fails.
@@ -73,6 +76,7 @@ pub fn sinks(alloc: Global, all: &mut Expectations) {
     if let Ok(mut sink) = MemorySink::with_room(alloc, 4, calls(alloc, &[1])) {
         run_sink(&mut sink, ROOM, all);
         all.equal(sink.bytes(), b"abcd".as_slice(), "what it took");
+        drop(sink);
     }
     expect_stream(alloc, all);
     all.end("sinks");

@@ -9,11 +9,19 @@ fn number(number: i64) -> Value {
 }
 
 fn holds(test: &Test, digit: u8) -> bool {
-    holds_value(test, &number(i64::from(digit.wrapping_sub(b'0'))))
+    let value = number(i64::from(digit.wrapping_sub(b'0')));
+    let holds = holds_value(test, &value);
+    drop(value);
+    holds
 }
 
 fn may(test: &Test) -> bool {
-    may_hold(test, &number(3), &number(5))
+    let least = number(3);
+    let greatest = number(5);
+    let may = may_hold(test, &least, &greatest);
+    drop(least);
+    drop(greatest);
+    may
 }
 
 fn expect_held(test: &Test, held: &[u8], all: &mut Expectations) {
@@ -26,6 +34,7 @@ fn expect_held(test: &Test, held: &[u8], all: &mut Expectations) {
 fn expect_test(test: Test, held: &str, may_be: bool, all: &mut Expectations) {
     expect_held(&test, held.as_bytes(), all);
     all.expect(may(&test) == may_be, "a test may hold within bounds");
+    drop(test);
 }
 
 // A comparison with a number: its operator, the number, the values that satisfy it, whether it may hold.

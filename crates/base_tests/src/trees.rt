@@ -62,7 +62,9 @@ fn add_view(
       spare = table.old.spare - 1;
     }) }
 {
-    table.append(&view(alloc, ids, impressions)?);
+    let row = view(alloc, ids, impressions)?;
+    table.append(&row);
+    drop(row);
     Ok(())
 }
 
@@ -163,6 +165,7 @@ fn expect_views(alloc: Global, all: &mut Expectations) -> Result<(), AllocError>
     table.append_total(0, 3, 1);
     table.append_total(1, 3, 2);
     expect_docs(&table, all);
+    drop(table);
     Ok(())
 }
 

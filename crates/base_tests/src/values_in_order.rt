@@ -19,8 +19,8 @@ pub fn many(alloc: Global, count: usize) -> String {
         .unwrap_or(String::new(alloc))
 }
 
-fn reads_as_text(alloc: Global, text: &str) -> bool {
-    match read_value(alloc, FieldKind::Text, text) {
+fn is_text(found: &Result<Value, ValueFault>, text: &str) -> bool {
+    match found {
         Ok(Value::Text(kept)) => kept.as_str() == text,
         _ => false,
     }
@@ -51,36 +51,48 @@ const NUMBERS: &[Number] = &[
     (FieldKind::Int, "-009", Ok(-9), "zeros before a number"),
 ];
 
-fn is_number(found: Result<Value, ValueFault>, wanted: Result<i64, ValueFault>) -> bool {
+fn is_number(found: &Result<Value, ValueFault>, wanted: Result<i64, ValueFault>) -> bool {
     match found {
-        Ok(Value::Whole(number)) => wanted == Ok(number),
+        Ok(Value::Whole(number)) => wanted == Ok(*number),
         Ok(Value::Text(_)) => false,
-        Err(fault) => wanted == Err(fault),
+        Err(fault) => wanted == Err(*fault),
     }
 }
 
+fn expect_number(alloc: Global, row: &Number, all: &mut Expectations) {
+    let (kind, text, wanted, what) = *row;
+    let found = read_value(alloc, kind, text);
+    all.expect(is_number(&found, wanted), what);
+    drop(found);
+}
+
 pub fn numbers(alloc: Global, all: &mut Expectations) {
-    for (kind, text, wanted, what) in NUMBERS {
-        let found = read_value(alloc, *kind, text);
-        all.expect(is_number(found, *wanted), what);
+    for row in NUMBERS {
+        expect_number(alloc, row, all);
     }
     all.end("whole numbers");
 }
 
-fn is_too_long(alloc: Global, text: &str) -> bool {
-    read_value(alloc, FieldKind::Text, text).err() == Some(ValueFault::TooLong)
+fn expect_long_text(alloc: Global, all: &mut Expectations) {
+    let long = many(alloc, 513);
+    let refused = read_value(alloc, FieldKind::Text, long.as_str()).err();
+    all.equal(refused, Some(ValueFault::TooLong), "a long text");
+    drop(long);
 }
 
-fn expect_long_texts(alloc: Global, all: &mut Expectations) {
-    let is_refused = is_too_long(alloc, many(alloc, 513).as_str());
-    all.expect(is_refused, "a long text");
-    let is_read = reads_as_text(alloc, many(alloc, 512).as_str());
-    all.expect(is_read, "a longest text");
+fn expect_longest_text(alloc: Global, all: &mut Expectations) {
+    let longest = many(alloc, 512);
+    let found = read_value(alloc, FieldKind::Text, longest.as_str());
+    all.expect(is_text(&found, longest.as_str()), "a longest text");
+    drop(found);
+    drop(longest);
 }
 
 // Adds a value's text, and says whether there was memory for it.
 fn is_added(alloc: Global, value: Value, out: &mut Vec<u8>) -> bool {
-    push_text(alloc, &value, out).is_ok()
+    let is_pushed = push_text(alloc, &value, out).is_ok();
+    drop(value);
+    is_pushed
 }
 
 fn expect_written(alloc: Global, all: &mut Expectations) {
@@ -90,6 +102,7 @@ fn expect_written(alloc: Global, all: &mut Expectations) {
     let is_added_text = is_added(alloc, text(alloc, ";é"), &mut out);
     all.expect(is_added_text, "a text of a text");
     all.equal(out.as_slice(), "x=-9;é".as_bytes(), "texts of values");
+    drop(out);
 }
 
 // What is expected of `name` beside its copy of when it was `na`, and the same made of a string.
@@ -116,7 +129,11 @@ fn expect_names(alloc: Global, all: &mut Expectations) {
     all.expect(name.push_str("na").is_ok(), "a text is added");
     let copy = copy(alloc, &name);
     all.expect(name.push_str("me").is_ok(), "more is added");
-    expect_name(&name, &copy, &na(alloc), all);
+    let same = na(alloc);
+    expect_name(&name, &copy, &same, all);
+    drop(name);
+    drop(copy);
+    drop(same);
 }
 
 fn expect_box(alloc: Global, all: &mut Expectations) {
@@ -127,7 +144,8 @@ fn expect_box(alloc: Global, all: &mut Expectations) {
 }
 
 pub fn texts(alloc: Global, all: &mut Expectations) {
-    expect_long_texts(alloc, all);
+    expect_long_text(alloc, all);
+    expect_longest_text(alloc, all);
     expect_written(alloc, all);
     expect_box(alloc, all);
     expect_names(alloc, all);
@@ -172,7 +190,9 @@ fn expect_order(values: &[Value], all: &mut Expectations) {
 }
 
 pub fn order_of_values(alloc: Global, all: &mut Expectations) {
-    expect_order(ascending(alloc).as_slice(), all);
+    let values = ascending(alloc);
+    expect_order(values.as_slice(), all);
+    drop(values);
     all.end("order of values");
 }
 
@@ -203,25 +223,35 @@ fn copy_of(alloc: Global, row: &Row) -> Row {
 }
 
 fn expect_rows(alloc: Global, long: &Row, all: &mut Expectations) {
-    expect_row(long, &short_row(alloc), &copy_of(alloc, long), all);
+    let short = short_row(alloc);
+    let copy = copy_of(alloc, long);
+    expect_row(long, &short, &copy, all);
+    drop(short);
+    drop(copy);
     expect_value(long, all);
     all.expect(is_found_by_order(alloc, long), "a key found by order");
     all.expect(is_found_by_hash(alloc, long), "a key found by hash");
 }
 
 pub fn order_of_rows(alloc: Global, all: &mut Expectations) {
-    expect_rows(alloc, &long_row(alloc), all);
+    let long = long_row(alloc);
+    expect_rows(alloc, &long, all);
+    drop(long);
     all.end("order of rows");
 }
 
 fn is_found_by_order(alloc: Global, key: &Row) -> bool {
     let mut map: BTreeMap<Row, u8> = BTreeMap::new(alloc);
     let is_kept = map.insert(copy_of(alloc, key), 1).is_ok();
-    is_kept && map.get(key).copied() == Some(1)
+    let is_found = is_kept && map.get(key).copied() == Some(1);
+    drop(map);
+    is_found
 }
 
 fn is_found_by_hash(alloc: Global, key: &Row) -> bool {
     let mut map: HashMap<Row, u8> = HashMap::new(alloc);
     let is_kept = map.insert(copy_of(alloc, key), 1).is_ok();
-    is_kept && map.get(key).copied() == Some(1)
+    let is_found = is_kept && map.get(key).copied() == Some(1);
+    drop(map);
+    is_found
 }
