@@ -25,7 +25,7 @@ fn is_spelled(state: AggState, bytes: &[u8]) -> bool
 }
 
 // Counts, sums and extremes.
-fn expect_spelled(all: &mut Expectations) {
+fn expect_spelled(all: &Expectations) {
     let count = is_spelled(AggState::Count(258), &[0, 0, 0, 0, 0, 0, 1, 2]);
     all.expect(count, "a count");
     let sum = [0, 0, 0, 0, 0, 0, 0, 0, 0, 0, 0, 0, 0, 0, 2, 88];
@@ -72,13 +72,13 @@ fn is_refused(kind: AggKind, bytes: &[u8]) -> bool {
     bytes.len() == kind.width() && AggState::take(kind, bytes) == Err(BadState)
 }
 
-fn expect_refused(all: &mut Expectations) {
+fn expect_refused(all: &Expectations) {
     for (kind, bytes, what) in REFUSED {
         all.expect(is_refused(*kind, bytes), what);
     }
 }
 
-fn expect_averages(all: &mut Expectations) {
+fn expect_averages(all: &Expectations) {
     let bytes = [
         255, 255, 255, 255, 255, 255, 255, 255, 255, 255, 255, 255, 255, 255, 255, 254, 0, 0, 0, 0,
         0, 0, 0, 3,
@@ -87,14 +87,14 @@ fn expect_averages(all: &mut Expectations) {
     all.expect(is_spelled(average, &bytes), "an average");
 }
 
-pub fn stored_states(all: &mut Expectations) {
+pub fn stored_states(all: &Expectations) {
     expect_spelled(all);
     expect_refused(all);
     expect_averages(all);
     all.end("stored states");
 }
 
-fn expect_order(all: &mut Expectations) {
+fn expect_order(all: &Expectations) {
     let order = compare_states(
         &AggState::Average(AverageState { sum: -2, count: 3 }),
         &AggState::Average(AverageState { sum: -1, count: 2 }),
@@ -111,7 +111,7 @@ fn expect_order(all: &mut Expectations) {
     all.equal(order, Ordering::Less, "counts");
 }
 
-fn expect_sums(all: &mut Expectations) {
+fn expect_sums(all: &Expectations) {
     let mut count = Count::unit();
     Count::add(&mut count, 4);
     Count::merge(&mut count, &2);
@@ -122,7 +122,7 @@ fn expect_sums(all: &mut Expectations) {
     all.expect(sum == 2, "a sum");
 }
 
-fn expect_extremes(all: &mut Expectations) {
+fn expect_extremes(all: &Expectations) {
     let mut least = Least::unit();
     Least::add(&mut least, 4);
     Least::merge(&mut least, &Some(-7));
@@ -134,14 +134,14 @@ fn expect_extremes(all: &mut Expectations) {
     all.equal(greatest, Some(5), "a greatest number");
 }
 
-fn expect_average(all: &mut Expectations) {
+fn expect_average(all: &Expectations) {
     let mut average = Average::unit();
     Average::add(&mut average, 4);
     Average::merge(&mut average, &AverageState { sum: -2, count: 2 });
     all.equal(average, AverageState { sum: 2, count: 3 }, "an average");
 }
 
-pub fn states_of_values(all: &mut Expectations) {
+pub fn states_of_values(all: &Expectations) {
     expect_sums(all);
     expect_extremes(all);
     expect_average(all);
@@ -168,14 +168,14 @@ fn row_of_two(alloc: Global) -> Result<StateRow, AllocError> {
     Ok(row)
 }
 
-fn expect_row(row: &StateRow, all: &mut Expectations) {
+fn expect_row(row: &StateRow, all: &Expectations) {
     let wanted = [AggState::Sum(1200), AggState::Count(2)];
     all.equal(row.as_slice(), wanted.as_slice(), "a row and its copy");
     let is_second = row.len() > 1 && *row.at(1) == AggState::Count(2);
     all.expect(is_second, "a state of a row");
 }
 
-pub fn rows_of_states(alloc: Global, all: &mut Expectations) {
+pub fn rows_of_states(alloc: Global, all: &Expectations) {
     if let Ok(row) = row_of_two(alloc) {
         expect_row(&row, all);
         drop(row);

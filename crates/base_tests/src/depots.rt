@@ -52,7 +52,7 @@ fn one_file(alloc: Global) -> Result<MemoryDepot, NoMemory> {
     MemoryDepot::new(alloc, files(alloc, &[("a", "1")]), calls(alloc, &[1]))
 }
 
-pub fn depot_in_memory(alloc: Global, all: &mut Expectations) {
+pub fn depot_in_memory(alloc: Global, all: &Expectations) {
     if let Ok(mut depot) = one_file(alloc) {
         run_depot(alloc, &mut depot, FAILING, all);
         run_depot(alloc, &mut depot, CALLS, all);

@@ -45,7 +45,7 @@ pub fn run_shelf<S: Shelf>(
     alloc: Global,
     shelf: &mut S,
     calls: &[(ShelfCall, &str)],
-    all: &mut Expectations,
+    all: &Expectations,
 ) {
     for (call, what) in calls {
         all.expect(shelf_does(alloc, shelf, call), what);
@@ -57,7 +57,7 @@ pub fn run_depot<D: Depot>(
     alloc: Global,
     depot: &mut D,
     calls: &[(DepotCall, &str)],
-    all: &mut Expectations,
+    all: &Expectations,
 ) {
     for (call, what) in calls {
         all.expect(depot_does(alloc, depot, call), what);
@@ -65,7 +65,7 @@ pub fn run_depot<D: Depot>(
 }
 
 /// Gives a sink bytes.
-pub fn run_sink<S: Sink>(sink: &mut S, puts: &[Put], all: &mut Expectations) {
+pub fn run_sink<S: Sink>(sink: &mut S, puts: &[Put], all: &Expectations) {
     for (bytes, outcome, what) in puts {
         all.equal(sink.put(bytes), *outcome, what);
     }

@@ -166,14 +166,14 @@ fn is_read_again(alloc: Global, kind: FieldKind, bytes: &[u8]) -> bool {
     is_so
 }
 
-fn expect_read(alloc: Global, kind: FieldKind, bytes: &[u8], all: &mut Expectations) {
+fn expect_read(alloc: Global, kind: FieldKind, bytes: &[u8], all: &Expectations) {
     all.expect(is_read_again(alloc, kind, bytes), "it is read");
     let is_refused = refuses_beginnings(alloc, kind, bytes);
     all.expect(is_refused, "its beginnings are refused");
 }
 
 // What is expected of the bytes that are written after a byte `x`.
-fn expect_written(alloc: Global, row: &Spelled, out: &mut Vec<u8>, all: &mut Expectations) {
+fn expect_written(alloc: Global, row: &Spelled, out: &mut Vec<u8>, all: &Expectations) {
     let bytes = out.as_slice().strip_prefix(b"x");
     all.equal(bytes, Some(row.2), "a dictionary is written");
     let is_refused = refuses_longer(alloc, row.0, out);
@@ -185,14 +185,14 @@ fn refuses_longer(alloc: Global, kind: FieldKind, out: &mut Vec<u8>) -> bool {
     out.push(b'x').is_ok() && out.len() > 1 && refuses(alloc, kind, &out.as_slice()[1..])
 }
 
-fn expect_spelled(alloc: Global, row: &Spelled, all: &mut Expectations) {
+fn expect_spelled(alloc: Global, row: &Spelled, all: &Expectations) {
     expect_read(alloc, row.0, row.2, all);
     let mut out = written(alloc, row.0, row.1).unwrap_or(Vec::new(alloc));
     expect_written(alloc, row, &mut out, all);
     drop(out);
 }
 
-pub fn spelled(alloc: Global, all: &mut Expectations) {
+pub fn spelled(alloc: Global, all: &Expectations) {
     for row in SPELLED {
         expect_spelled(alloc, row, all);
     }
@@ -215,13 +215,13 @@ fn fault_of_text(alloc: Global, length: u16) -> Option<DictFault> {
     fault
 }
 
-fn expect_lengths(alloc: Global, all: &mut Expectations) {
+fn expect_lengths(alloc: Global, all: &Expectations) {
     all.equal(fault_of_text(alloc, 512), None, "a longest text");
     let refused = fault_of_text(alloc, 513);
     all.equal(refused, Some(DictFault::BadDictionary), "a longer text");
 }
 
-pub fn refused(alloc: Global, all: &mut Expectations) {
+pub fn refused(alloc: Global, all: &Expectations) {
     for (kind, bytes) in REFUSED {
         let is_refused = refuses(alloc, *kind, bytes);
         all.expect(is_refused, "bytes that spell no dictionary");
@@ -243,7 +243,7 @@ fn is_fourth(countries: &Dictionary, value: Value) -> bool {
     is_so
 }
 
-fn expect_values(alloc: Global, countries: &Dictionary, all: &mut Expectations) {
+fn expect_values(alloc: Global, countries: &Dictionary, all: &Expectations) {
     all.expect(countries.count() == 4, "distinct values");
     let found = id_of(alloc, countries, "MX");
     all.equal(found, Some(2), "the id of a value");
@@ -253,7 +253,7 @@ fn expect_values(alloc: Global, countries: &Dictionary, all: &mut Expectations) 
     all.expect(is_last, "the value of an id");
 }
 
-fn expect_ids(ids: &IdSet, all: &mut Expectations) {
+fn expect_ids(ids: &IdSet, all: &Expectations) {
     all.equal(ids.as_slice(), [0, 2, 3].as_slice(), "ids that match");
     all.expect(ids.contains(2), "an id in the set");
     all.expect(!ids.contains(1), "an id that is not");
@@ -266,14 +266,14 @@ fn ids_matching(alloc: Global, countries: &Dictionary, test: Test) -> IdSet {
     ids.unwrap_or(IdSet::new(alloc))
 }
 
-fn expect_matches(alloc: Global, countries: &Dictionary, all: &mut Expectations) {
+fn expect_matches(alloc: Global, countries: &Dictionary, all: &Expectations) {
     let test = Test::Compare(CompareOp::Unequal, text(alloc, "CA"));
     let ids = ids_matching(alloc, countries, test);
     expect_ids(&ids, all);
     drop(ids);
 }
 
-pub fn look_ups(alloc: Global, all: &mut Expectations) {
+pub fn look_ups(alloc: Global, all: &Expectations) {
     if let Ok(countries) = dictionary_of(alloc, FieldKind::Text, &["US", "", "CA", "US", "MX"]) {
         expect_values(alloc, &countries, all);
         expect_matches(alloc, &countries, all);
@@ -290,7 +290,7 @@ fn push_three(ids: &mut IdSet) -> Result<(), AllocError>
     ids.push(u32::MAX)
 }
 
-fn expect_three(ids: &IdSet, all: &mut Expectations) {
+fn expect_three(ids: &IdSet, all: &Expectations) {
     all.expect(ids.len() == 3, "three ids");
     let is_second = ids.as_slice().len() > 1 && *ids.at(1) == 7;
     all.expect(is_second, "the second of them");
@@ -298,12 +298,12 @@ fn expect_three(ids: &IdSet, all: &mut Expectations) {
     all.expect(!ids.contains(8), "no id of the set");
 }
 
-fn expect_no_ids(ids: &IdSet, all: &mut Expectations) {
+fn expect_no_ids(ids: &IdSet, all: &Expectations) {
     all.expect(ids.is_empty(), "no ids");
     all.expect(!ids.contains(0), "not the least one");
 }
 
-pub fn lists_of_ids(alloc: Global, all: &mut Expectations) {
+pub fn lists_of_ids(alloc: Global, all: &Expectations) {
     let mut ids = IdSet::new(alloc);
     expect_no_ids(&ids, all);
     let pushed = push_three(&mut ids);

@@ -1,57 +1,63 @@
 //! Expectations: how many a table had, and a line for each that did not hold.
 
 use std::alloc::Global;
+use std::cell::Cell;
 use std::fmt::Write;
 
-/// The lines of the tables so far, and what was expected in the one that runs.
+/// The lines of the tables so far, and what was expected in the one that runs. It is shared by what runs them, so
+/// that it need not be lent anew at each expectation.
 #[derive(Drop)]
 pub struct Expectations {
-    lines: String,
-    count: u64,
-    broken: u64,
+    alloc: Global,
+    lines: Cell<String>,
+    count: Cell<u64>,
+    broken: Cell<u64>,
 }
 
 impl Expectations {
     pub fn new(alloc: Global) -> Expectations {
         Expectations {
-            lines: String::new(alloc),
-            count: 0,
-            broken: 0,
+            alloc,
+            lines: Cell::new(String::new(alloc)),
+            count: Cell::new(0),
+            broken: Cell::new(0),
         }
     }
 
     /// Counts an expectation, and tells of it where it does not hold.
-    pub fn expect(&mut self, holds: bool, what: &str) {
-        self.count = self.count.saturating_add(1);
+    pub fn expect(&self, holds: bool, what: &str) {
+        self.count.set(self.count.get().saturating_add(1));
         if !holds {
-            self.broken = self.broken.saturating_add(1);
+            self.broken.set(self.broken.get().saturating_add(1));
             self.tell("not so", what);
         }
     }
 
     /// Expects a value.
-    pub fn equal<T: PartialEq + Drop>(&mut self, found: T, wanted: T, what: &str) {
+    pub fn equal<T: PartialEq + Drop>(&self, found: T, wanted: T, what: &str) {
         self.expect(found == wanted, what);
     }
 
     /// Ends a table: tells how it went, and begins the next one.
-    pub fn end(&mut self, table: &str) {
-        let outcome = match (self.count, self.broken) {
+    pub fn end(&self, table: &str) {
+        let outcome = match (self.count.get(), self.broken.get()) {
             (0, _) => "nothing was run",
             (_, 0) => "ran",
             _ => "failed",
         };
         self.tell(table, outcome);
-        self.count = 0;
-        self.broken = 0;
+        self.count.set(0);
+        self.broken.set(0);
     }
 
     // Adds a line. Without memory it is left out, and the line is missed in the output.
-    fn tell(&mut self, subject: &str, what: &str) {
-        let _told = writeln!(self.lines, "{subject}: {what}");
+    fn tell(&self, subject: &str, what: &str) {
+        let mut lines = self.lines.replace(String::new(self.alloc));
+        let _told = writeln!(lines, "{subject}: {what}");
+        self.lines.set(lines);
     }
 
-    pub fn lines(&self) -> &str {
-        self.lines.as_str()
+    pub fn into_lines(self) -> String {
+        self.lines.into_inner()
     }
 }

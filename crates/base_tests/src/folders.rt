@@ -36,7 +36,7 @@ fn is_removed(rt: &HostRuntime, folder: &str) -> bool {
 }
 
 // Makes a folder anew with the file `a`, the file `z.part` and a folder `sub` that has the file `c`.
-fn fill(rt: &HostRuntime, folder: &str, all: &mut Expectations) {
+fn fill(rt: &HostRuntime, folder: &str, all: &Expectations) {
     let _was_there = is_removed(rt, folder);
     let sub = path(rt.alloc(), folder, "sub");
     all.expect(is_made(rt, sub.as_str()), "a folder is made");
@@ -100,25 +100,20 @@ fn shelf_over(rt: &HostRuntime, folder: &str) -> Result<FolderShelf<HostRuntime>
     Ok(FolderShelf::new(rt.clone()?, string(rt.alloc(), folder)))
 }
 
-fn expect_shelf<S: Shelf + Drop>(
-    alloc: Global,
-    mut shelf: S,
-    folder: &str,
-    all: &mut Expectations,
-) {
+fn expect_shelf<S: Shelf + Drop>(alloc: Global, mut shelf: S, folder: &str, all: &Expectations) {
     run_shelf(alloc, &mut shelf, SHELF_NAMES, all);
     let is_read = reads_absolute(alloc, &mut shelf, folder);
     all.expect(is_read, "an absolute path");
     run_shelf(alloc, &mut shelf, SHELF_READS, all);
 }
 
-fn expect_shelf_over(rt: &HostRuntime, folder: &str, all: &mut Expectations) {
+fn expect_shelf_over(rt: &HostRuntime, folder: &str, all: &Expectations) {
     if let Ok(shelf) = shelf_over(rt, folder) {
         expect_shelf(rt.alloc(), shelf, folder, all);
     }
 }
 
-pub fn shelf_over_a_folder(rt: &HostRuntime, all: &mut Expectations) {
+pub fn shelf_over_a_folder(rt: &HostRuntime, all: &Expectations) {
     let folder = folder_of(rt, "shelf");
     fill(rt, folder.as_str(), all);
     expect_shelf_over(rt, folder.as_str(), all);
@@ -127,7 +122,7 @@ pub fn shelf_over_a_folder(rt: &HostRuntime, all: &mut Expectations) {
     all.end("shelf over a folder");
 }
 
-fn expect_bad_name<D: Depot>(alloc: Global, depot: &mut D, name: &str, all: &mut Expectations) {
+fn expect_bad_name<D: Depot>(alloc: Global, depot: &mut D, name: &str, all: &Expectations) {
     let length = depot.length(alloc, name);
     all.equal(length, Err(ShelfFault::Missing), "no published name");
     let published = depot.publish(alloc, "q", name);
@@ -139,7 +134,7 @@ fn expect_bad_name<D: Depot>(alloc: Global, depot: &mut D, name: &str, all: &mut
 // Names of no published file.
 const BAD_NAMES: &[&str] = &["", ".", "..", "../x", "sub/c", "z.part", "a\0"];
 
-fn expect_bad_names<D: Depot>(alloc: Global, depot: &mut D, all: &mut Expectations) {
+fn expect_bad_names<D: Depot>(alloc: Global, depot: &mut D, all: &Expectations) {
     for name in BAD_NAMES {
         expect_bad_name(alloc, depot, name, all);
     }
@@ -180,7 +175,7 @@ fn has(rt: &HostRuntime, path: &str, bytes: &[u8]) -> bool {
     are_these
 }
 
-fn expect_part(rt: &HostRuntime, folder: &str, all: &mut Expectations) {
+fn expect_part(rt: &HostRuntime, folder: &str, all: &Expectations) {
     let path = path(rt.alloc(), folder, "q.part");
     let is_file = has(rt, path.as_str(), b"never begun");
     all.expect(is_file, "a part is a file");
@@ -191,21 +186,21 @@ fn depot_over(rt: &HostRuntime, folder: &str) -> Result<FolderDepot<HostRuntime>
     Ok(FolderDepot::new(rt.clone()?, string(rt.alloc(), folder)))
 }
 
-fn expect_depot<D: Depot + Drop>(alloc: Global, mut depot: D, all: &mut Expectations) {
+fn expect_depot<D: Depot + Drop>(alloc: Global, mut depot: D, all: &Expectations) {
     run_depot(alloc, &mut depot, BEGUN, all);
     run_depot(alloc, &mut depot, CALLS, all);
     expect_bad_names(alloc, &mut depot, all);
     run_depot(alloc, &mut depot, BAD_PARTS, all);
 }
 
-fn expect_depot_over(rt: &HostRuntime, folder: &str, all: &mut Expectations) {
+fn expect_depot_over(rt: &HostRuntime, folder: &str, all: &Expectations) {
     if let Ok(depot) = depot_over(rt, folder) {
         expect_depot(rt.alloc(), depot, all);
     }
     expect_part(rt, folder, all);
 }
 
-pub fn depot_over_a_folder(rt: &HostRuntime, all: &mut Expectations) {
+pub fn depot_over_a_folder(rt: &HostRuntime, all: &Expectations) {
     let folder = folder_of(rt, "depot");
     fill(rt, folder.as_str(), all);
     expect_depot_over(rt, folder.as_str(), all);

@@ -88,7 +88,7 @@ fn is_written(ids: &[u32], width: u32, bytes: &[u8], out: &mut Vec<u8>) -> bool 
     false
 }
 
-fn expect_spelled(alloc: Global, row: &Spelled, all: &mut Expectations) {
+fn expect_spelled(alloc: Global, row: &Spelled, all: &Expectations) {
     let (width, ids, bytes) = *row;
     let mut out = Vec::new(alloc);
     let is_written = is_written(ids, width, bytes, &mut out);
@@ -111,14 +111,14 @@ const WIDTHS: &[(u32, u32)] = &[
     (4294967295, 32),
 ];
 
-fn expect_widths(all: &mut Expectations) {
+fn expect_widths(all: &Expectations) {
     for (count, width) in WIDTHS {
         let is_width = width_for(*count) == *width;
         all.expect(is_width, "the width for a number of ids");
     }
 }
 
-pub fn spelled(alloc: Global, all: &mut Expectations) {
+pub fn spelled(alloc: Global, all: &Expectations) {
     expect_widths(all);
     for row in SPELLED {
         expect_spelled(alloc, row, all);
@@ -139,7 +139,7 @@ fn reads_row(alloc: Global, shelf: &mut MemoryShelf, row: &Read) -> bool {
     is_so
 }
 
-fn expect_ranges(alloc: Global, shelf: &mut MemoryShelf, all: &mut Expectations) {
+fn expect_ranges(alloc: Global, shelf: &mut MemoryShelf, all: &Expectations) {
     for row in READS {
         all.expect(reads_row(alloc, shelf, row), "the ids of a range");
     }
@@ -160,7 +160,7 @@ fn refusal(alloc: Global, file: &str, failing: &[u64]) -> Result<Option<ColumnFa
     Ok(refused)
 }
 
-fn expect_faults(alloc: Global, all: &mut Expectations) {
+fn expect_faults(alloc: Global, all: &Expectations) {
     let refused = refusal(alloc, "f", &[0]);
     all.equal(refused, Ok(Some(ColumnFault::ReadFault)), "call 0 fails");
     let refused = refusal(alloc, "f", &[]);
@@ -169,7 +169,7 @@ fn expect_faults(alloc: Global, all: &mut Expectations) {
     all.equal(refused, Ok(Some(ColumnFault::BadId)), "no file");
 }
 
-pub fn ranges(alloc: Global, all: &mut Expectations) {
+pub fn ranges(alloc: Global, all: &Expectations) {
     if let Ok(mut shelf) = shelf_of(alloc, FILE, &[]) {
         expect_ranges(alloc, &mut shelf, all);
         drop(shelf);

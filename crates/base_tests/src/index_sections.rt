@@ -61,18 +61,18 @@ const OF_INVERTED: &[Listed] = &[
     (2, 3, &[0, 4, 5]),
 ];
 
-// These numbers in four bytes each.
-fn bytes_of(alloc: Global, words: &[u32]) -> Result<Vec<u8>, NoMemory> {
-    let mut bytes = Vec::new(alloc);
+// Adds these numbers in four bytes each.
+fn push_words(bytes: &mut Vec<u8>, words: &[u32]) -> Result<(), NoMemory> {
     for word in words {
         bytes.extend_from_slice(&word.to_be_bytes())?;
     }
-    Ok(bytes)
+    Ok(())
 }
 
 // A shelf with the file of these numbers.
 fn shelf(alloc: Global, words: &[u32], failing: &[u64]) -> Result<MemoryShelf, NoMemory> {
-    let bytes = bytes_of(alloc, words)?;
+    let mut bytes = Vec::new(alloc);
+    let _pushed = push_words(&mut bytes, words).is_ok();
     let shelf = shelf_of(alloc, bytes.as_slice(), failing);
     drop(bytes);
     shelf
@@ -118,7 +118,7 @@ fn are_lists(found: &Result<(DocList, DocList), ListFault>, sure: &[u32], check:
     }
 }
 
-fn expect_between(alloc: Global, shelf: &mut MemoryShelf, all: &mut Expectations) {
+fn expect_between(alloc: Global, shelf: &mut MemoryShelf, all: &Expectations) {
     for row in BETWEEN {
         let is_found = reads_between(alloc, shelf, row);
         all.expect(is_found, "the rows of ids within bounds");
@@ -142,7 +142,7 @@ fn refusal(alloc: Global, file: &str, words: &[u32], failing: &[u64]) -> Option<
     refused
 }
 
-fn expect_refusals(alloc: Global, all: &mut Expectations) {
+fn expect_refusals(alloc: Global, all: &Expectations) {
     let refused = refusal(alloc, "f", RANGED, &[0]);
     all.equal(refused, Some(ListFault::ReadFault), "call 0 fails");
     let refused = refusal(alloc, "g", RANGED, &[]);
@@ -152,7 +152,7 @@ fn expect_refusals(alloc: Global, all: &mut Expectations) {
 }
 
 /// The rows whose ids are within bounds, by a range index.
-pub fn range_indexes(alloc: Global, all: &mut Expectations) {
+pub fn range_indexes(alloc: Global, all: &Expectations) {
     if let Ok(mut shelf) = shelf(alloc, RANGED, &[]) {
         expect_between(alloc, &mut shelf, all);
         drop(shelf);
@@ -220,7 +220,7 @@ fn expect_rows(
     section: (ListKind, &Place),
     shelf: &mut MemoryShelf,
     rows: &[Listed],
-    all: &mut Expectations,
+    all: &Expectations,
 ) {
     for row in rows {
         let is_found = reads_ids(alloc, section, shelf, row);
@@ -234,7 +234,7 @@ fn expect_section(
     kind: ListKind,
     words: &[u32],
     rows: &[Listed],
-    all: &mut Expectations,
+    all: &Expectations,
 ) {
     let place = place(alloc, "f", words.len());
     if let Ok(mut shelf) = shelf(alloc, words, &[]) {
@@ -245,7 +245,7 @@ fn expect_section(
 }
 
 /// The rows of ids, by the section of a sorted column and by an inverted index.
-pub fn lists_of_rows(alloc: Global, all: &mut Expectations) {
+pub fn lists_of_rows(alloc: Global, all: &Expectations) {
     expect_section(alloc, ListKind::Sorted, SORTED, OF_SORTED, all);
     expect_section(alloc, ListKind::Inverted, INVERTED, OF_INVERTED, all);
     all.end("lists of rows");

@@ -21,7 +21,7 @@ use expect::Expectations;
 use std::alloc::Global;
 use std::io;
 
-fn devices(rt: &HostRuntime, all: &mut Expectations) {
+fn devices(rt: &HostRuntime, all: &Expectations) {
     shelves::lists_and_names(rt.alloc(), all);
     shelves::shelf_in_memory(rt.alloc(), all);
     shelves::bytes_of_a_file(rt.alloc(), all);
@@ -31,7 +31,7 @@ fn devices(rt: &HostRuntime, all: &mut Expectations) {
     folders::depot_over_a_folder(rt, all);
 }
 
-fn values_in_lists(alloc: Global, all: &mut Expectations) {
+fn values_in_lists(alloc: Global, all: &Expectations) {
     values_in_order::numbers(alloc, all);
     values_in_order::texts(alloc, all);
     values_in_order::order_of_values(alloc, all);
@@ -40,7 +40,7 @@ fn values_in_lists(alloc: Global, all: &mut Expectations) {
     tests_of_values::lists_of_tests(alloc, all);
 }
 
-fn columns(alloc: Global, all: &mut Expectations) {
+fn columns(alloc: Global, all: &Expectations) {
     dictionaries::spelled(alloc, all);
     dictionaries::refused(alloc, all);
     dictionaries::look_ups(alloc, all);
@@ -51,7 +51,7 @@ fn columns(alloc: Global, all: &mut Expectations) {
     index_sections::range_indexes(alloc, all);
 }
 
-fn aggregates_and_trees(alloc: Global, all: &mut Expectations) {
+fn aggregates_and_trees(alloc: Global, all: &Expectations) {
     aggregates::states_of_values(all);
     aggregates::stored_states(all);
     aggregates::rows_of_states(alloc, all);
@@ -60,12 +60,13 @@ fn aggregates_and_trees(alloc: Global, all: &mut Expectations) {
 }
 
 fn main(rt: HostRuntime) -> io::Result<()> {
-    let mut all = Expectations::new(rt.alloc());
-    devices(&rt, &mut all);
-    values_in_lists(rt.alloc(), &mut all);
-    columns(rt.alloc(), &mut all);
-    aggregates_and_trees(rt.alloc(), &mut all);
-    let printed = print!(rt; "{}", all.lines());
-    drop(all);
+    let all = Expectations::new(rt.alloc());
+    devices(&rt, &all);
+    values_in_lists(rt.alloc(), &all);
+    columns(rt.alloc(), &all);
+    aggregates_and_trees(rt.alloc(), &all);
+    let lines = all.into_lines();
+    let printed = print!(rt; "{}", lines.as_str());
+    drop(lines);
     printed
 }

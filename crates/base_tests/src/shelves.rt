@@ -8,13 +8,13 @@ use std::alloc::Global;
 use std::cmp::Ordering;
 
 // What is expected of the name `ab` beside the same name, the name `b` and an empty one.
-fn expect_order(ab: &Name, same: &Name, b: &Name, empty: &Name, all: &mut Expectations) {
+fn expect_order(ab: &Name, same: &Name, b: &Name, empty: &Name, all: &Expectations) {
     all.expect(ab.eq(same), "equal names");
     all.expect(ab.lt(b), "a lesser name");
     all.equal(ab.cmp(empty), Ordering::Greater, "a greater name");
 }
 
-fn expect_name(ab: &Name, all: &mut Expectations) {
+fn expect_name(ab: &Name, all: &Expectations) {
     all.expect(ab.len() == 2 && !ab.is_empty(), "a name's length");
     all.equal(ab.as_str(), "ab", "a name");
     all.equal(ab.as_slice(), b"ab".as_slice(), "its bytes");
@@ -22,7 +22,7 @@ fn expect_name(ab: &Name, all: &mut Expectations) {
 }
 
 // What is expected of the list of `x` and `y` beside that of `x`.
-fn expect_list(xy: &Bytes, x: &Bytes, all: &mut Expectations) {
+fn expect_list(xy: &Bytes, x: &Bytes, all: &Expectations) {
     all.expect(xy.ne(x), "unequal lists");
     all.expect(xy.gt(x), "a greater list");
     all.equal(xy.as_slice(), b"xy".as_slice(), "a list");
@@ -30,7 +30,7 @@ fn expect_list(xy: &Bytes, x: &Bytes, all: &mut Expectations) {
     all.expect(is_second, "its length and an item of it");
 }
 
-fn expect_lists(alloc: Global, all: &mut Expectations) {
+fn expect_lists(alloc: Global, all: &Expectations) {
     let xy = bytes(alloc, b"xy");
     let x = bytes(alloc, b"x");
     expect_list(&xy, &x, all);
@@ -38,7 +38,7 @@ fn expect_lists(alloc: Global, all: &mut Expectations) {
     drop(x);
 }
 
-fn expect_names(alloc: Global, ab: &Name, all: &mut Expectations) {
+fn expect_names(alloc: Global, ab: &Name, all: &Expectations) {
     expect_name(ab, all);
     let same = name(alloc, "ab");
     let b = name(alloc, "b");
@@ -49,7 +49,7 @@ fn expect_names(alloc: Global, ab: &Name, all: &mut Expectations) {
     drop(empty);
 }
 
-pub fn lists_and_names(alloc: Global, all: &mut Expectations) {
+pub fn lists_and_names(alloc: Global, all: &Expectations) {
     let ab = name(alloc, "ab");
     expect_names(alloc, &ab, all);
     drop(ab);
@@ -90,7 +90,7 @@ fn run(
     alloc: Global,
     shelf: Result<MemoryShelf, NoMemory>,
     calls: &[(ShelfCall, &str)],
-    all: &mut Expectations,
+    all: &Expectations,
 ) {
     if let Ok(mut shelf) = shelf {
         run_shelf(alloc, &mut shelf, calls, all);
@@ -98,7 +98,7 @@ fn run(
     }
 }
 
-pub fn shelf_in_memory(alloc: Global, all: &mut Expectations) {
+pub fn shelf_in_memory(alloc: Global, all: &Expectations) {
     run(alloc, two_files(alloc), CALLS, all);
     all.end("shelf in memory");
 }
@@ -120,7 +120,7 @@ fn one_file(alloc: Global) -> Result<MemoryShelf, NoMemory> {
     MemoryShelf::new(alloc, files(alloc, &[("a", "12345")]), Seq::new(alloc))
 }
 
-pub fn bytes_of_a_file(alloc: Global, all: &mut Expectations) {
+pub fn bytes_of_a_file(alloc: Global, all: &Expectations) {
     run(alloc, one_file(alloc), PARTS, all);
     all.end("bytes of a file");
 }

@@ -44,13 +44,13 @@ const STREAM: &[Put] = &[
     (b"cd", Err(SinkFault::Failed), "a full stream"),
 ];
 
-fn run_stream(narrow: Narrow<'_>, all: &mut Expectations) {
+fn run_stream(narrow: Narrow<'_>, all: &Expectations) {
     let mut sink = StreamSink::new(narrow);
     run_sink(&mut sink, STREAM, all);
     drop(sink);
 }
 
-fn expect_stream(alloc: Global, all: &mut Expectations) {
+fn expect_stream(alloc: Global, all: &Expectations) {
     let mut taken = Vec::new(alloc);
     let mut flushes = 0;
     let narrow = Narrow {
@@ -72,7 +72,7 @@ const ROOM: &[Put] = &[
     (b"cd", Ok(()), "just room"),
 ];
 
-pub fn sinks(alloc: Global, all: &mut Expectations) {
+pub fn sinks(alloc: Global, all: &Expectations) {
     if let Ok(mut sink) = MemorySink::with_room(alloc, 4, calls(alloc, &[1])) {
         run_sink(&mut sink, ROOM, all);
         all.equal(sink.bytes(), b"abcd".as_slice(), "what it took");

@@ -24,14 +24,14 @@ fn may(test: &Test) -> bool {
     may
 }
 
-fn expect_held(test: &Test, held: &[u8], all: &mut Expectations) {
+fn expect_held(test: &Test, held: &[u8], all: &Expectations) {
     for digit in b"123456789" {
         let is_held = holds(test, *digit) == held.contains(digit);
         all.expect(is_held, "a value satisfies a test");
     }
 }
 
-fn expect_test(test: Test, held: &str, may_be: bool, all: &mut Expectations) {
+fn expect_test(test: Test, held: &str, may_be: bool, all: &Expectations) {
     expect_held(&test, held.as_bytes(), all);
     all.expect(may(&test) == may_be, "a test may hold within bounds");
     drop(test);
@@ -61,18 +61,18 @@ const BETWEEN: &[Between] = &[
     (4, 5, true, "1236789", true),
 ];
 
-fn expect_comparison(row: &Comparison, all: &mut Expectations) {
+fn expect_comparison(row: &Comparison, all: &Expectations) {
     let (op, bound, held, may) = *row;
     expect_test(Test::Compare(op, number(bound)), held, may, all);
 }
 
-fn expect_between(row: &Between, all: &mut Expectations) {
+fn expect_between(row: &Between, all: &Expectations) {
     let (low, high, negated, held, may) = *row;
     let test = Test::Between(number(low), number(high), negated);
     expect_test(test, held, may, all);
 }
 
-pub fn comparisons(all: &mut Expectations) {
+pub fn comparisons(all: &Expectations) {
     for row in COMPARISONS {
         expect_comparison(row, all);
     }
@@ -82,19 +82,14 @@ pub fn comparisons(all: &mut Expectations) {
     all.end("comparisons");
 }
 
-fn members(alloc: Global) -> Result<Seq<Value>, AllocError> {
-    let mut values = Seq::new(alloc);
+fn push_members(values: &mut Seq<Value>) -> Result<(), AllocError> {
     values.push(number(2))?;
-    values.push(number(6))?;
-    Ok(values)
+    values.push(number(6))
 }
 
-// More than the first number, and less than the second.
-fn pair(alloc: Global, over: i64, under: i64) -> Result<Seq<Test>, AllocError> {
-    let mut tests = Seq::new(alloc);
+fn push_pair(tests: &mut Seq<Test>, over: i64, under: i64) -> Result<(), AllocError> {
     tests.push(Test::Compare(CompareOp::More, number(over)))?;
-    tests.push(Test::Compare(CompareOp::Less, number(under)))?;
-    Ok(tests)
+    tests.push(Test::Compare(CompareOp::Less, number(under)))
 }
 
 // IN: whether it is negated, the values that satisfy it, whether it may hold.
@@ -110,31 +105,34 @@ const ALL: &[Pair] = &[(1, 3, "2", false), (2, 5, "34", true)];
 // The same of either.
 const ANY: &[Pair] = &[(7, 4, "12389", true), (7, 3, "1289", false)];
 
-// The tests of a pair, or none where there is no memory, of which other values hold.
-fn pair_or_none(alloc: Global, row: &Pair) -> Seq<Test> {
-    pair(alloc, row.0, row.1).unwrap_or(Seq::new(alloc))
+// More than the first number, and less than the second. Where there is no memory it is fewer tests.
+fn pair(alloc: Global, row: &Pair) -> Seq<Test> {
+    let mut tests = Seq::new(alloc);
+    let _pushed = push_pair(&mut tests, row.0, row.1).is_ok();
+    tests
 }
 
-fn expect_one_of(alloc: Global, row: &OneOf, all: &mut Expectations) {
-    let values = members(alloc).unwrap_or(Seq::new(alloc));
+fn expect_one_of(alloc: Global, row: &OneOf, all: &Expectations) {
+    let mut values = Seq::new(alloc);
+    let _pushed = push_members(&mut values).is_ok();
     expect_test(Test::OneOf(values, row.0), row.1, row.2, all);
 }
 
-fn expect_all(alloc: Global, row: &Pair, all: &mut Expectations) {
-    expect_test(Test::All(pair_or_none(alloc, row)), row.2, row.3, all);
+fn expect_all(alloc: Global, row: &Pair, all: &Expectations) {
+    expect_test(Test::All(pair(alloc, row)), row.2, row.3, all);
 }
 
-fn expect_any(alloc: Global, row: &Pair, all: &mut Expectations) {
-    expect_test(Test::Any(pair_or_none(alloc, row)), row.2, row.3, all);
+fn expect_any(alloc: Global, row: &Pair, all: &Expectations) {
+    expect_test(Test::Any(pair(alloc, row)), row.2, row.3, all);
 }
 
 // No tests at all.
-fn expect_empty(alloc: Global, all: &mut Expectations) {
+fn expect_empty(alloc: Global, all: &Expectations) {
     expect_test(Test::All(Seq::new(alloc)), "123456789", true, all);
     expect_test(Test::Any(Seq::new(alloc)), "", false, all);
 }
 
-fn expect_pairs(alloc: Global, all: &mut Expectations) {
+fn expect_pairs(alloc: Global, all: &Expectations) {
     for row in ALL {
         expect_all(alloc, row, all);
     }
@@ -143,7 +141,7 @@ fn expect_pairs(alloc: Global, all: &mut Expectations) {
     }
 }
 
-pub fn lists_of_tests(alloc: Global, all: &mut Expectations) {
+pub fn lists_of_tests(alloc: Global, all: &Expectations) {
     for row in ONE_OF {
         expect_one_of(alloc, row, all);
     }

@@ -136,7 +136,7 @@ fn is_doc(table: &StarTable, at: u32, ids: [u32; 3], sum: i128, count: u64) -> b
 }
 
 // What is expected of the documents that were starred and merged.
-fn expect_docs(table: &StarTable, all: &mut Expectations)
+fn expect_docs(table: &StarTable, all: &Expectations)
     requires dims { table.now.dims ≡ 3 }
     requires kinds { table.now.kinds ≡ kind.Sum ∷ kind.Count ∷ [] }
 {
@@ -157,7 +157,7 @@ fn expect_docs(table: &StarTable, all: &mut Expectations)
 }
 
 // What is expected of the page views of the USA, starred by browser and merged.
-fn expect_views(alloc: Global, all: &mut Expectations) -> Result<(), AllocError> {
+fn expect_views(alloc: Global, all: &Expectations) -> Result<(), AllocError> {
     let mut table = views_of_the_usa(alloc)?;
     // browsers are starred: two rows share a locale
     let starred = table.append_starred(0, 3, 1)?;
@@ -170,14 +170,14 @@ fn expect_views(alloc: Global, all: &mut Expectations) -> Result<(), AllocError>
 }
 
 /// Documents are starred, merged and aggregated in their table.
-pub fn tables_of_documents(alloc: Global, all: &mut Expectations) {
+pub fn tables_of_documents(alloc: Global, all: &Expectations) {
     let ran = expect_views(alloc, all);
     all.expect(ran.is_ok(), "memory for the documents");
     all.end("tables of documents");
 }
 
 /// The laws, whose contracts hold the trees that were worked by hand.
-pub fn laws_of_trees(all: &mut Expectations) {
+pub fn laws_of_trees(all: &Expectations) {
     worked_law();
     flat_law();
     node_rules_law();

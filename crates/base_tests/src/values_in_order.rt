@@ -59,28 +59,28 @@ fn is_number(found: &Result<Value, ValueFault>, wanted: Result<i64, ValueFault>)
     }
 }
 
-fn expect_number(alloc: Global, row: &Number, all: &mut Expectations) {
+fn expect_number(alloc: Global, row: &Number, all: &Expectations) {
     let (kind, text, wanted, what) = *row;
     let found = read_value(alloc, kind, text);
     all.expect(is_number(&found, wanted), what);
     drop(found);
 }
 
-pub fn numbers(alloc: Global, all: &mut Expectations) {
+pub fn numbers(alloc: Global, all: &Expectations) {
     for row in NUMBERS {
         expect_number(alloc, row, all);
     }
     all.end("whole numbers");
 }
 
-fn expect_long_text(alloc: Global, all: &mut Expectations) {
+fn expect_long_text(alloc: Global, all: &Expectations) {
     let long = many(alloc, 513);
     let refused = read_value(alloc, FieldKind::Text, long.as_str()).err();
     all.equal(refused, Some(ValueFault::TooLong), "a long text");
     drop(long);
 }
 
-fn expect_longest_text(alloc: Global, all: &mut Expectations) {
+fn expect_longest_text(alloc: Global, all: &Expectations) {
     let longest = many(alloc, 512);
     let found = read_value(alloc, FieldKind::Text, longest.as_str());
     all.expect(is_text(&found, longest.as_str()), "a longest text");
@@ -95,7 +95,7 @@ fn is_added(alloc: Global, value: Value, out: &mut Vec<u8>) -> bool {
     is_pushed
 }
 
-fn expect_written(alloc: Global, all: &mut Expectations) {
+fn expect_written(alloc: Global, all: &Expectations) {
     let mut out = Vec::from_slice(alloc, b"x=").unwrap_or(Vec::new(alloc));
     let is_added_whole = is_added(alloc, Value::Whole(-9), &mut out);
     all.expect(is_added_whole, "the text of a number");
@@ -106,7 +106,7 @@ fn expect_written(alloc: Global, all: &mut Expectations) {
 }
 
 // What is expected of `name` beside its copy of when it was `na`, and the same made of a string.
-fn expect_name(name: &Name, copy: &Name, same: &Name, all: &mut Expectations) {
+fn expect_name(name: &Name, copy: &Name, same: &Name, all: &Expectations) {
     all.equal(copy.as_str(), "na", "a copy is not changed");
     all.equal(name.as_slice(), b"name".as_slice(), "a name");
     all.expect(name.len() == 4, "its length");
@@ -123,7 +123,7 @@ fn na(alloc: Global) -> Name {
     Name::from_string(alloc, string(alloc, "na")).unwrap_or(Name::new(alloc))
 }
 
-fn expect_names(alloc: Global, all: &mut Expectations) {
+fn expect_names(alloc: Global, all: &Expectations) {
     let mut name = Name::new(alloc);
     all.expect(name.is_empty(), "an empty name");
     all.expect(name.push_str("na").is_ok(), "a text is added");
@@ -136,14 +136,14 @@ fn expect_names(alloc: Global, all: &mut Expectations) {
     drop(same);
 }
 
-fn expect_box(alloc: Global, all: &mut Expectations) {
+fn expect_box(alloc: Global, all: &Expectations) {
     if let Ok(boxed) = Boxed::new(alloc, 7) {
         all.expect(*boxed.get() == 7, "a box");
         all.expect(boxed.into_inner() == 7, "what was in it");
     }
 }
 
-pub fn texts(alloc: Global, all: &mut Expectations) {
+pub fn texts(alloc: Global, all: &Expectations) {
     expect_long_text(alloc, all);
     expect_longest_text(alloc, all);
     expect_written(alloc, all);
@@ -170,26 +170,26 @@ fn ascending(alloc: Global) -> Vec<Value> {
 }
 
 // What is expected of two of the values, by their places.
-fn expect_pair((i, a): (usize, &Value), (j, b): (usize, &Value), all: &mut Expectations) {
+fn expect_pair((i, a): (usize, &Value), (j, b): (usize, &Value), all: &Expectations) {
     all.equal(compare(a, b), i.cmp(&j), "the order of two values");
     all.expect(a.eq(b) == (i == j), "whether they are equal");
     all.expect(a.lt(b) == (i < j), "whether one is less");
 }
 
-fn expect_pairs(first: (usize, &Value), values: &[Value], all: &mut Expectations) {
+fn expect_pairs(first: (usize, &Value), values: &[Value], all: &Expectations) {
     for second in values.iter().enumerate() {
         expect_pair(first, second, all);
     }
 }
 
-fn expect_order(values: &[Value], all: &mut Expectations) {
+fn expect_order(values: &[Value], all: &Expectations) {
     all.expect(values.len() == 10, "ten values");
     for first in values.iter().enumerate() {
         expect_pairs(first, values, all);
     }
 }
 
-pub fn order_of_values(alloc: Global, all: &mut Expectations) {
+pub fn order_of_values(alloc: Global, all: &Expectations) {
     let values = ascending(alloc);
     expect_order(values.as_slice(), all);
     drop(values);
@@ -197,13 +197,13 @@ pub fn order_of_values(alloc: Global, all: &mut Expectations) {
 }
 
 // What is expected of a row beside a proper prefix of it and its copy.
-fn expect_row(long: &Row, short: &Row, copy: &Row, all: &mut Expectations) {
+fn expect_row(long: &Row, short: &Row, copy: &Row, all: &Expectations) {
     all.expect(copy.eq(long), "a copy is equal");
     all.expect(short.ne(long), "a proper prefix is another row");
     all.expect(short.lt(long), "a proper prefix is less");
 }
 
-fn expect_value(row: &Row, all: &mut Expectations) {
+fn expect_value(row: &Row, all: &Expectations) {
     let is_third = row.len() > 2 && *row.at(2) == Value::Whole(10);
     all.expect(is_third, "a value of a row");
 }
@@ -222,7 +222,7 @@ fn copy_of(alloc: Global, row: &Row) -> Row {
     copy_row(alloc, row).unwrap_or(Seq::new(alloc))
 }
 
-fn expect_rows(alloc: Global, long: &Row, all: &mut Expectations) {
+fn expect_rows(alloc: Global, long: &Row, all: &Expectations) {
     let short = short_row(alloc);
     let copy = copy_of(alloc, long);
     expect_row(long, &short, &copy, all);
@@ -233,7 +233,7 @@ fn expect_rows(alloc: Global, long: &Row, all: &mut Expectations) {
     all.expect(is_found_by_hash(alloc, long), "a key found by hash");
 }
 
-pub fn order_of_rows(alloc: Global, all: &mut Expectations) {
+pub fn order_of_rows(alloc: Global, all: &Expectations) {
     let long = long_row(alloc);
     expect_rows(alloc, &long, all);
     drop(long);
