@@ -186,18 +186,24 @@ fn depot_over(rt: &HostRuntime, folder: &str) -> Result<FolderDepot<HostRuntime>
     Ok(FolderDepot::new(rt.clone()?, string(rt.alloc(), folder)))
 }
 
-fn expect_depot<D: Depot + Drop>(alloc: Global, mut depot: D, all: &Expectations) {
-    run_depot(alloc, &mut depot, BEGUN, all);
-    run_depot(alloc, &mut depot, CALLS, all);
-    expect_bad_names(alloc, &mut depot, all);
-    run_depot(alloc, &mut depot, BAD_PARTS, all);
+fn expect_calls<D: Depot>(alloc: Global, depot: &mut D, all: &Expectations) {
+    run_depot(alloc, depot, BEGUN, all);
+    run_depot(alloc, depot, CALLS, all);
+    expect_bad_names(alloc, depot, all);
+    run_depot(alloc, depot, BAD_PARTS, all);
+}
+
+// What a depot over a folder does; the part is there while the depot is still open.
+fn expect_depot<D: Depot + Drop>(rt: &HostRuntime, mut depot: D, folder: &str, all: &Expectations) {
+    expect_calls(rt.alloc(), &mut depot, all);
+    expect_part(rt, folder, all);
+    drop(depot);
 }
 
 fn expect_depot_over(rt: &HostRuntime, folder: &str, all: &Expectations) {
     if let Ok(depot) = depot_over(rt, folder) {
-        expect_depot(rt.alloc(), depot, all);
+        expect_depot(rt, depot, folder, all);
     }
-    expect_part(rt, folder, all);
 }
 
 pub fn depot_over_a_folder(rt: &HostRuntime, all: &Expectations) {
