@@ -1,61 +1,62 @@
 //! The depot in memory, and what each depot does.
 
-use crate::expect::{Expectations, TestFault};
-use crate::shelves::{calls, files, lists, reads};
-use outside::{Depot, DepotFault, MemoryDepot, ShelfFault};
+use crate::device_calls::{DepotCall, ShelfCall, run_depot};
+use crate::expect::Expectations;
+use crate::fixtures::{calls, files};
+use outside::{DepotFault, MemoryDepot, NoMemory, ShelfFault};
 use std::alloc::Global;
 
-/// What a depot does that has the file `a` and an empty part `p`.
-pub fn expect_depot<D: Depot>(
-    alloc: Global,
-    depot: &mut D,
-    all: &mut Expectations,
-) -> Result<(), TestFault> {
-    all.expect(depot.append(alloc, "p", b"12") == Ok(()), "more of a part");
-    let other = depot.append(alloc, "q", b"never begun");
-    all.expect(other == Ok(()), "a part that was not begun");
-    all.expect(depot.append(alloc, "p", b"3") == Ok(()), "still more");
-    all.expect(lists(alloc, depot, "a ")?, "parts are not listed");
-    all.expect(
-        depot.publish(alloc, "p", "b") == Ok(()),
-        "a part is published",
-    );
-    all.expect(reads(alloc, depot, "b", 9, b"123"), "its bytes");
-    Ok(())
+/// Calls of a depot that has the file `a` and an empty part `p`.
+pub const CALLS: &[(DepotCall, &str)] = &[
+    (DepotCall::Append("p", b"12", Ok(())), "more of a part"),
+    (
+        DepotCall::Append("q", b"never begun", Ok(())),
+        "a part that was not begun",
+    ),
+    (DepotCall::Append("p", b"3", Ok(())), "still more"),
+    (
+        DepotCall::Shelf(ShelfCall::Names(&["a"])),
+        "parts are not listed",
+    ),
+    (DepotCall::Publish("p", "b", Ok(())), "a part is published"),
+    (
+        DepotCall::Shelf(ShelfCall::Whole("b", 9, Ok(b"123"))),
+        "its bytes",
+    ),
+    (DepotCall::Publish("p", "b", Ok(())), "no part is published"),
+    (
+        DepotCall::Shelf(ShelfCall::Length("b", Ok(0))),
+        "as an empty file",
+    ),
+    (DepotCall::Remove("a", Ok(())), "a file is removed"),
+    (
+        DepotCall::Remove("a", Err(DepotFault::Missing)),
+        "and not again",
+    ),
+    (
+        DepotCall::Shelf(ShelfCall::Length("a", Err(ShelfFault::Missing))),
+        "it is gone",
+    ),
+];
+
+// Calls of a depot of which that of the number 1 fails.
+const FAILING: &[(DepotCall, &str)] = &[
+    (DepotCall::Begin("p", Ok(())), "a part is begun"),
+    (
+        DepotCall::Append("p", b"x", Err(DepotFault::Failed)),
+        "call 1 fails",
+    ),
+];
+
+fn one_file(alloc: Global) -> Result<MemoryDepot, NoMemory> {
+    MemoryDepot::new(alloc, files(alloc, &[("a", "1")]), calls(alloc, &[1]))
 }
 
-/// What it does after that.
-pub fn expect_removal<D: Depot>(
-    alloc: Global,
-    depot: &mut D,
-    all: &mut Expectations,
-) -> Result<(), TestFault> {
-    all.expect(
-        depot.publish(alloc, "p", "b") == Ok(()),
-        "no part is published",
-    );
-    all.expect(depot.length(alloc, "b") == Ok(0), "as an empty file");
-    all.expect(depot.remove(alloc, "a") == Ok(()), "a file is removed");
-    let again = depot.remove(alloc, "a");
-    all.expect(again == Err(DepotFault::Missing), "and not again");
-    let length = depot.length(alloc, "a");
-    all.expect(length == Err(ShelfFault::Missing), "it is gone");
-    Ok(())
-}
-
-// What a depot does whose call 1 fails.
-fn expect_failing<D: Depot>(alloc: Global, depot: &mut D, all: &mut Expectations) {
-    all.expect(depot.begin(alloc, "p") == Ok(()), "a part is begun");
-    let failed = depot.append(alloc, "p", b"x");
-    all.expect(failed == Err(DepotFault::Failed), "call 1 fails");
-}
-
-pub fn depot_in_memory(alloc: Global) -> Result<Expectations, TestFault> {
-    let mut all = Expectations::new();
-    let held = files(alloc, &[("a", "1")])?;
-    let mut depot = MemoryDepot::new(alloc, held, calls(alloc, &[1])?)?;
-    expect_failing(alloc, &mut depot, &mut all);
-    expect_depot(alloc, &mut depot, &mut all)?;
-    expect_removal(alloc, &mut depot, &mut all)?;
-    Ok(all)
+pub fn depot_in_memory(alloc: Global, all: &Expectations) {
+    if let Ok(mut depot) = one_file(alloc) {
+        run_depot(alloc, &mut depot, FAILING, all);
+        run_depot(alloc, &mut depot, CALLS, all);
+        drop(depot);
+    }
+    all.end("depot in memory");
 }

@@ -1,18 +1,20 @@
 //! Dictionaries worked by hand.
 
-ghost use Rattle.std.specs.Prelude.{◌≡◌, ◌≤◌, length, IfOk};
+ghost use Rattle.std.specs.Prelude.{◌≡◌, ◌≤◌, [], length, IfOk};
 ghost use Rattle.std.specs.List.{All};
 ghost use Rattle.values.specs.Kinds.{fits};
 ghost use Rattle.dictionary.specs.Dictionary.{Fits, most_values};
 
-use crate::expect::{Expectations, TestFault};
-use crate::values_in_order::text;
+use crate::expect::Expectations;
+use crate::values_in_order::{many, text};
 use dictionary::{DictFault, Dictionary, IdSet};
 use std::alloc::{AllocError, Global};
 use values::{CompareOp, FieldKind, Seq, Test, Value, read_value};
 
 // A kind, the cells of a column, and the dictionary's bytes.
-const SPELLED: &[(FieldKind, &[&str], &[u8])] = &[
+type Spelled = (FieldKind, &'static [&'static str], &'static [u8]);
+
+const SPELLED: &[Spelled] = &[
     (FieldKind::Int, &[], &[0, 0, 0, 0]),
     (FieldKind::Text, &[], &[0, 0, 0, 0, 0, 0, 0, 0]),
     (
@@ -114,19 +116,28 @@ fn column(alloc: Global, kind: FieldKind, cells: &[&str]) -> Result<Seq<Value>, 
 }
 
 fn refuses(alloc: Global, kind: FieldKind, bytes: &[u8]) -> bool {
-    matches!(
-        Dictionary::check(alloc, kind, bytes),
-        Err(DictFault::BadDictionary)
-    )
+    Dictionary::check(alloc, kind, bytes).err() == Some(DictFault::BadDictionary)
+}
+
+fn dictionary_of(alloc: Global, kind: FieldKind, cells: &[&str]) -> Result<Dictionary, AllocError> {
+    let column = column(alloc, kind, cells)?;
+    let dictionary = Dictionary::build(alloc, kind, &column);
+    drop(column);
+    dictionary
 }
 
 // What is written after a byte.
-fn written(alloc: Global, kind: FieldKind, cells: &[&str]) -> Result<Vec<u8>, AllocError> {
-    let column = column(alloc, kind, cells)?;
-    let built = Dictionary::build(alloc, kind, &column)?;
+fn written_after_x(alloc: Global, dictionary: &Dictionary) -> Result<Vec<u8>, AllocError> {
     let mut out = Vec::from_slice(alloc, b"x")?;
-    built.write(&mut out)?;
+    dictionary.write(&mut out)?;
     Ok(out)
+}
+
+fn written(alloc: Global, kind: FieldKind, cells: &[&str]) -> Result<Vec<u8>, AllocError> {
+    let dictionary = dictionary_of(alloc, kind, cells)?;
+    let out = written_after_x(alloc, &dictionary);
+    drop(dictionary);
+    out
 }
 
 // What is written of what is read.
@@ -147,116 +158,157 @@ fn refuses_beginnings(alloc: Global, kind: FieldKind, bytes: &[u8]) -> bool {
 }
 
 fn is_read_again(alloc: Global, kind: FieldKind, bytes: &[u8]) -> bool {
-    match again(alloc, kind, bytes) {
-        Ok(same) => same.as_slice() == bytes,
-        Err(_) => false,
-    }
+    let Ok(same) = again(alloc, kind, bytes) else {
+        return false;
+    };
+    let is_so = same.as_slice() == bytes;
+    drop(same);
+    is_so
 }
 
-fn expect_spelled(
-    alloc: Global,
-    row: &(FieldKind, &[&str], &[u8]),
-    all: &mut Expectations,
-) -> Result<(), TestFault> {
-    let (kind, cells, bytes) = *row;
-    let mut out = written(alloc, kind, cells)?;
-    let is_written = out.as_slice().strip_prefix(b"x") == Some(bytes);
-    all.expect(is_written, "a dictionary is written");
+fn expect_read(alloc: Global, kind: FieldKind, bytes: &[u8], all: &Expectations) {
     all.expect(is_read_again(alloc, kind, bytes), "it is read");
     let is_refused = refuses_beginnings(alloc, kind, bytes);
     all.expect(is_refused, "its beginnings are refused");
-    out.extend_from_slice(b"x")?;
-    let is_refused = refuses(alloc, kind, &out.as_slice()[1..]);
-    all.expect(is_refused, "one byte more is refused");
-    Ok(())
 }
 
-pub fn spelled(alloc: Global) -> Result<Expectations, TestFault> {
-    let mut all = Expectations::new();
+// What is expected of the bytes that are written after a byte `x`.
+fn expect_written(alloc: Global, row: &Spelled, out: &mut Vec<u8>, all: &Expectations) {
+    let bytes = out.as_slice().strip_prefix(b"x");
+    all.equal(bytes, Some(row.2), "a dictionary is written");
+    let is_refused = refuses_longer(alloc, row.0, out);
+    all.expect(is_refused, "one byte more is refused");
+}
+
+// Whether the bytes after the first one are refused with one more.
+fn refuses_longer(alloc: Global, kind: FieldKind, out: &mut Vec<u8>) -> bool {
+    out.push(b'x').is_ok() && out.len() > 1 && refuses(alloc, kind, &out.as_slice()[1..])
+}
+
+fn expect_spelled(alloc: Global, row: &Spelled, all: &Expectations) {
+    expect_read(alloc, row.0, row.2, all);
+    let mut out = written(alloc, row.0, row.1).unwrap_or(Vec::new(alloc));
+    expect_written(alloc, row, &mut out, all);
+    drop(out);
+}
+
+pub fn spelled(alloc: Global, all: &Expectations) {
     for row in SPELLED {
-        expect_spelled(alloc, row, &mut all)?;
+        expect_spelled(alloc, row, all);
     }
-    Ok(all)
+    all.end("dictionaries");
 }
 
 // The bytes of a dictionary of one text of so many letters.
 fn one_text(alloc: Global, length: u16) -> Result<Vec<u8>, AllocError> {
-    let mut bytes = Vec::from_slice(alloc, &[0, 0, 0, 1, 0, 0, 0, 0, 0, 0])?;
-    bytes.extend_from_slice(&length.to_be_bytes())?;
-    for _ in 0..length {
-        bytes.push(b'x')?;
-    }
+    let [high, low] = length.to_be_bytes();
+    let mut bytes = Vec::from_slice(alloc, &[0, 0, 0, 1, 0, 0, 0, 0, 0, 0, high, low])?;
+    bytes.extend_from_slice(many(alloc, length as usize).as_bytes())?;
     Ok(bytes)
 }
 
-pub fn refused(alloc: Global) -> Result<Expectations, TestFault> {
-    let mut all = Expectations::new();
+// Why the bytes of a dictionary of one text of so many letters are refused, if they are.
+fn fault_of_text(alloc: Global, length: u16) -> Option<DictFault> {
+    let bytes = one_text(alloc, length).unwrap_or(Vec::new(alloc));
+    let fault = Dictionary::check(alloc, FieldKind::Text, bytes.as_slice()).err();
+    drop(bytes);
+    fault
+}
+
+fn expect_lengths(alloc: Global, all: &Expectations) {
+    all.equal(fault_of_text(alloc, 512), None, "a longest text");
+    let refused = fault_of_text(alloc, 513);
+    all.equal(refused, Some(DictFault::BadDictionary), "a longer text");
+}
+
+pub fn refused(alloc: Global, all: &Expectations) {
     for (kind, bytes) in REFUSED {
-        all.expect(
-            refuses(alloc, *kind, bytes),
-            "bytes that spell no dictionary",
-        );
+        let is_refused = refuses(alloc, *kind, bytes);
+        all.expect(is_refused, "bytes that spell no dictionary");
     }
-    let longest = one_text(alloc, 512)?;
-    let is_read = Dictionary::check(alloc, FieldKind::Text, &longest).is_ok();
-    all.expect(is_read, "a longest text");
-    let longer = one_text(alloc, 513)?;
-    all.expect(refuses(alloc, FieldKind::Text, &longer), "a longer text");
-    Ok(all)
+    expect_lengths(alloc, all);
+    all.end("refused dictionaries");
 }
 
-fn dictionary_of(alloc: Global, cells: &[&str]) -> Result<Dictionary, AllocError> {
-    let column = column(alloc, FieldKind::Text, cells)?;
-    Dictionary::build(alloc, FieldKind::Text, &column)
+fn id_of(alloc: Global, countries: &Dictionary, country: &str) -> Option<u32> {
+    let value = text(alloc, country);
+    let id = countries.id_of(&value);
+    drop(value);
+    id
 }
 
-fn expect_values(
-    alloc: Global,
-    countries: &Dictionary,
-    all: &mut Expectations,
-) -> Result<(), TestFault> {
+fn is_fourth(countries: &Dictionary, value: Value) -> bool {
+    let is_so = countries.count() > 3 && countries.value_at(3).eq(&value);
+    drop(value);
+    is_so
+}
+
+fn expect_values(alloc: Global, countries: &Dictionary, all: &Expectations) {
     all.expect(countries.count() == 4, "distinct values");
-    let found = countries.id_of(&text(alloc, "MX")?);
-    all.expect(found == Some(2), "the id of a value");
-    let missing = countries.id_of(&text(alloc, "UK")?);
+    let found = id_of(alloc, countries, "MX");
+    all.equal(found, Some(2), "the id of a value");
+    let missing = id_of(alloc, countries, "UK");
     all.expect(missing.is_none(), "no value of the column");
-    if countries.count() > 3 {
-        let is_last = *countries.value_at(3) == text(alloc, "US")?;
-        all.expect(is_last, "the value of an id");
+    let is_last = is_fourth(countries, text(alloc, "US"));
+    all.expect(is_last, "the value of an id");
+}
+
+fn expect_ids(ids: &IdSet, all: &Expectations) {
+    all.equal(ids.as_slice(), [0, 2, 3].as_slice(), "ids that match");
+    all.expect(ids.contains(2), "an id in the set");
+    all.expect(!ids.contains(1), "an id that is not");
+    all.expect(!ids.contains(4), "no id");
+}
+
+fn ids_matching(alloc: Global, countries: &Dictionary, test: Test) -> IdSet {
+    let ids = countries.ids_matching(alloc, &test);
+    drop(test);
+    ids.unwrap_or(IdSet::new(alloc))
+}
+
+fn expect_matches(alloc: Global, countries: &Dictionary, all: &Expectations) {
+    let test = Test::Compare(CompareOp::Unequal, text(alloc, "CA"));
+    let ids = ids_matching(alloc, countries, test);
+    expect_ids(&ids, all);
+    drop(ids);
+}
+
+pub fn look_ups(alloc: Global, all: &Expectations) {
+    if let Ok(countries) = dictionary_of(alloc, FieldKind::Text, &["US", "", "CA", "US", "MX"]) {
+        expect_values(alloc, &countries, all);
+        expect_matches(alloc, &countries, all);
+        drop(countries);
     }
-    Ok(())
+    all.end("look-ups");
 }
 
-fn expect_matches(
-    alloc: Global,
-    countries: &Dictionary,
-    all: &mut Expectations,
-) -> Result<(), TestFault> {
-    let test = Test::Compare(CompareOp::Unequal, text(alloc, "CA")?);
-    let ids = countries.ids_matching(alloc, &test)?;
-    all.expect(ids.as_slice() == [0, 2, 3].as_slice(), "ids that match");
-    let is_found = ids.contains(2) && !ids.contains(1) && !ids.contains(4);
-    all.expect(is_found, "ids in the set");
-    Ok(())
-}
-
-pub fn look_ups(alloc: Global) -> Result<Expectations, TestFault> {
-    let mut all = Expectations::new();
-    let countries = dictionary_of(alloc, &["US", "", "CA", "US", "MX"])?;
-    expect_values(alloc, &countries, &mut all)?;
-    expect_matches(alloc, &countries, &mut all)?;
-    Ok(all)
-}
-
-pub fn lists_of_ids(alloc: Global) -> Result<Expectations, TestFault> {
-    let mut all = Expectations::new();
-    let mut ids = IdSet::new(alloc);
-    all.expect(ids.is_empty() && !ids.contains(0), "no ids");
+fn push_three(ids: &mut IdSet) -> Result<(), AllocError>
+    requires { ids.old ≡ [] }
+{
     ids.push(0)?;
     ids.push(7)?;
-    ids.push(u32::MAX)?;
-    all.expect(ids.len() == 3 && *ids.at(1) == 7, "three ids");
-    let is_found = ids.contains(u32::MAX) && !ids.contains(8);
-    all.expect(is_found, "the greatest id");
-    Ok(all)
+    ids.push(u32::MAX)
+}
+
+fn expect_three(ids: &IdSet, all: &Expectations) {
+    all.expect(ids.len() == 3, "three ids");
+    let is_second = ids.as_slice().len() > 1 && *ids.at(1) == 7;
+    all.expect(is_second, "the second of them");
+    all.expect(ids.contains(u32::MAX), "the greatest id");
+    all.expect(!ids.contains(8), "no id of the set");
+}
+
+fn expect_no_ids(ids: &IdSet, all: &Expectations) {
+    all.expect(ids.is_empty(), "no ids");
+    all.expect(!ids.contains(0), "not the least one");
+}
+
+pub fn lists_of_ids(alloc: Global, all: &Expectations) {
+    let mut ids = IdSet::new(alloc);
+    expect_no_ids(&ids, all);
+    let pushed = push_three(&mut ids);
+    all.expect(pushed.is_ok(), "ids are added");
+    expect_three(&ids, all);
+    drop(ids);
+    all.end("lists of ids");
 }

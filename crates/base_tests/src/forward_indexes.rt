@@ -2,14 +2,17 @@
 
 ghost use Rattle.std.specs.Prelude.{◌≤◌, ◌<◌, ◌^◌, All, IsTrue};
 
-use crate::expect::{Expectations, TestFault};
-use crate::shelves::{name, named_file, shelf_of};
+use crate::device_calls::is_read;
+use crate::expect::Expectations;
+use crate::fixtures::{name, shelf_of};
 use bit_column::{ColumnFault, at, read_range, width_for, write};
 use outside::{MemoryShelf, NoMemory, Place};
 use std::alloc::Global;
 
 // Widths, ids and the bytes that they are, worked by hand.
-const SPELLED: &[(u32, &[u32], &[u8])] = &[
+type Spelled = (u32, &'static [u32], &'static [u8]);
+
+const SPELLED: &[Spelled] = &[
     (1, &[1, 0, 1, 1, 0, 0, 0, 1, 1], &[0b1011_0001, 0b1000_0000]),
     (3, &[5, 0, 7, 2], &[0b1010_0011, 0b1010_0000]),
     (8, &[1, 255, 16], &[1, 255, 16]),
@@ -40,16 +43,12 @@ const READS: &[Read] = &[
     (18446744073709551615, 9, 8, 0, 8, Err(ColumnFault::BadId)),
 ];
 
-fn shelf(alloc: Global, failing: &[u64]) -> Result<MemoryShelf, NoMemory> {
-    shelf_of(alloc, named_file(alloc, "f", FILE)?, failing)
-}
-
-fn place(alloc: Global, file: &str, offset: u64, length: u64) -> Result<Place, NoMemory> {
-    Ok(Place {
-        file: name(alloc, file)?,
+fn place(alloc: Global, file: &str, offset: u64, length: u64) -> Place {
+    Place {
+        file: name(alloc, file),
         offset,
         length,
-    })
+    }
 }
 
 // Whether each id fits so many bits.
@@ -81,73 +80,100 @@ fn reads_each(bytes: &[u8], width: u32, ids: &[u32]) -> bool {
     true
 }
 
-fn expect_spelled(
-    alloc: Global,
-    row: &(u32, &[u32], &[u8]),
-    all: &mut Expectations,
-) -> Result<(), TestFault> {
+// Whether the ids are written as the bytes.
+fn is_written(ids: &[u32], width: u32, bytes: &[u8], out: &mut Vec<u8>) -> bool {
+    if 1 <= width && width <= 32 && fit(ids, width) {
+        return write(ids, width, out).is_ok() && out.as_slice() == bytes;
+    }
+    false
+}
+
+fn expect_spelled(alloc: Global, row: &Spelled, all: &Expectations) {
     let (width, ids, bytes) = *row;
     let mut out = Vec::new(alloc);
-    if 1 <= width && width <= 32 && fit(ids, width) {
-        write(ids, width, &mut out)?;
-    }
-    all.expect(out.as_slice() == bytes, "ids are written");
+    let is_written = is_written(ids, width, bytes, &mut out);
+    drop(out);
+    all.expect(is_written, "ids are written");
     all.expect(reads_each(bytes, width, ids), "and read");
-    Ok(())
 }
 
-pub fn spelled(alloc: Global) -> Result<Expectations, TestFault> {
-    let mut all = Expectations::new();
-    let counts = [0, 1, 2, 3, 4, 5, 1048576, 1048577, 2147483648, 4294967295];
-    let widths = [1, 1, 1, 2, 2, 3, 20, 21, 31, 32];
-    for i in 0..10usize {
-        all.expect(
-            width_for(counts[i]) == widths[i],
-            "the width for a number of ids",
-        );
+// How many ids there are, and how wide they are.
+const WIDTHS: &[(u32, u32)] = &[
+    (0, 1),
+    (1, 1),
+    (2, 1),
+    (3, 2),
+    (4, 2),
+    (5, 3),
+    (1048576, 20),
+    (1048577, 21),
+    (2147483648, 31),
+    (4294967295, 32),
+];
+
+fn expect_widths(all: &Expectations) {
+    for (count, width) in WIDTHS {
+        let is_width = width_for(*count) == *width;
+        all.expect(is_width, "the width for a number of ids");
     }
+}
+
+pub fn spelled(alloc: Global, all: &Expectations) {
+    expect_widths(all);
     for row in SPELLED {
-        expect_spelled(alloc, row, &mut all)?;
+        expect_spelled(alloc, row, all);
     }
-    Ok(all)
+    all.end("spelled columns");
 }
 
-fn reads(alloc: Global, row: &Read) -> Result<bool, NoMemory> {
-    let place = place(alloc, "f", row.0, row.1)?;
-    let mut shelf = shelf(alloc, &[])?;
+// Whether the range of a row is read as it says.
+fn reads_row(alloc: Global, shelf: &mut MemoryShelf, row: &Read) -> bool {
     if row.3 > row.4 {
-        return Ok(false);
+        return false;
     }
-    let read = read_range(alloc, &mut shelf, &place, 3, row.2, row.3, row.4);
-    Ok(match (read, row.5) {
-        (Ok(ids), Ok(wanted)) => ids.as_slice() == wanted,
-        (Err(fault), Err(wanted)) => fault == wanted,
-        _ => false,
-    })
+    let place = place(alloc, "f", row.0, row.1);
+    let found = read_range(alloc, shelf, &place, 3, row.2, row.3, row.4);
+    drop(place);
+    let is_so = is_read(&found, row.5);
+    drop(found);
+    is_so
+}
+
+fn expect_ranges(alloc: Global, shelf: &mut MemoryShelf, all: &Expectations) {
+    for row in READS {
+        all.expect(reads_row(alloc, shelf, row), "the ids of a range");
+    }
+}
+
+fn refusal_over(alloc: Global, shelf: &mut MemoryShelf, file: &str) -> Option<ColumnFault> {
+    let section = place(alloc, file, 1, 3);
+    let refused = read_range(alloc, shelf, &section, 3, 8, 0, 8).err();
+    drop(section);
+    refused
 }
 
 // Why no id of a range of the file of that name is read, where a call of the shelf fails.
 fn refusal(alloc: Global, file: &str, failing: &[u64]) -> Result<Option<ColumnFault>, NoMemory> {
-    let section = place(alloc, file, 1, 3)?;
-    let mut shelf = shelf(alloc, failing)?;
-    Ok(read_range(alloc, &mut shelf, &section, 3, 8, 0, 8).err())
+    let mut shelf = shelf_of(alloc, FILE, failing)?;
+    let refused = refusal_over(alloc, &mut shelf, file);
+    drop(shelf);
+    Ok(refused)
 }
 
-fn expect_faults(alloc: Global, all: &mut Expectations) -> Result<(), TestFault> {
-    let refused = refusal(alloc, "f", &[0])?;
-    all.expect(refused == Some(ColumnFault::ReadFault), "call 0 fails");
-    let refused = refusal(alloc, "f", &[])?;
-    all.expect(refused.is_none(), "no call fails");
-    let refused = refusal(alloc, "g", &[])?;
-    all.expect(refused == Some(ColumnFault::BadId), "no file");
-    Ok(())
+fn expect_faults(alloc: Global, all: &Expectations) {
+    let refused = refusal(alloc, "f", &[0]);
+    all.equal(refused, Ok(Some(ColumnFault::ReadFault)), "call 0 fails");
+    let refused = refusal(alloc, "f", &[]);
+    all.equal(refused, Ok(None), "no call fails");
+    let refused = refusal(alloc, "g", &[]);
+    all.equal(refused, Ok(Some(ColumnFault::BadId)), "no file");
 }
 
-pub fn ranges(alloc: Global) -> Result<Expectations, TestFault> {
-    let mut all = Expectations::new();
-    for row in READS {
-        all.expect(reads(alloc, row)?, "the ids of a range");
+pub fn ranges(alloc: Global, all: &Expectations) {
+    if let Ok(mut shelf) = shelf_of(alloc, FILE, &[]) {
+        expect_ranges(alloc, &mut shelf, all);
+        drop(shelf);
     }
-    expect_faults(alloc, &mut all)?;
-    Ok(all)
+    expect_faults(alloc, all);
+    all.end("ranges");
 }

@@ -1,13 +1,13 @@
 //! Sections of indexes worked by hand, and the documents that are read from them.
 
-ghost use Rattle.std.specs.Prelude.{◌≡◌, ◌<◌, [], ◌∷◌, IfOk};
+ghost use Rattle.std.specs.Prelude.{◌≡◌, ◌<◌, [], ◌∷◌, All, IfOk};
 
-use crate::expect::{Expectations, TestFault};
-use crate::shelves::{name, shelf_of};
+use crate::expect::Expectations;
+use crate::fixtures::{name, shelf_of};
 use dictionary::IdSet;
 use doc_lists::DocList;
 use index_reading::{ListFault, ListKind, docs_between, docs_of_ids};
-use outside::{MemoryShelf, NoMemory, Place, Seq};
+use outside::{MemoryShelf, NoMemory, Place};
 use std::alloc::Global;
 
 // How many ids the column of the range index has, and how many rows.
@@ -44,32 +44,47 @@ const SORTED: &[u32] = &[0, 2, 2, 5, 5, 5, 5, 6];
 // and then the rows of each.
 const INVERTED: &[u32] = &[0, 2, 3, 5, 6, 1, 3, 2, 0, 4, 5];
 
-// Two ids, the rows that have one of them in the sorted column, and in the other one.
-type Listed = (u32, u32, &'static [u32], &'static [u32]);
+// Two ids, and the rows that have one of them.
+type Listed = (u32, u32, &'static [u32]);
 
-const LISTED: &[Listed] = &[
-    (0, 1, &[0, 1, 2, 3, 4], &[1, 2, 3]),
-    (0, 2, &[0, 1], &[0, 1, 3, 4]),
-    (1, 3, &[2, 3, 4, 5], &[2, 5]),
-    (2, 3, &[5], &[0, 4, 5]),
+const OF_SORTED: &[Listed] = &[
+    (0, 1, &[0, 1, 2, 3, 4]),
+    (0, 2, &[0, 1]),
+    (1, 3, &[2, 3, 4, 5]),
+    (2, 3, &[5]),
 ];
 
-// A shelf with the file of these numbers, in four bytes each.
-fn shelf(alloc: Global, words: &[u32], failing: &[u64]) -> Result<MemoryShelf, NoMemory> {
-    let mut bytes = Vec::new(alloc);
+const OF_INVERTED: &[Listed] = &[
+    (0, 1, &[1, 2, 3]),
+    (0, 2, &[0, 1, 3, 4]),
+    (1, 3, &[2, 5]),
+    (2, 3, &[0, 4, 5]),
+];
+
+// Adds these numbers in four bytes each.
+fn push_words(bytes: &mut Vec<u8>, words: &[u32]) -> Result<(), NoMemory> {
     for word in words {
         bytes.extend_from_slice(&word.to_be_bytes())?;
     }
-    shelf_of(alloc, (name(alloc, "f")?, Seq::from_vec(bytes)), failing)
+    Ok(())
+}
+
+// A shelf with the file of these numbers.
+fn shelf(alloc: Global, words: &[u32], failing: &[u64]) -> Result<MemoryShelf, NoMemory> {
+    let mut bytes = Vec::new(alloc);
+    let _pushed = push_words(&mut bytes, words).is_ok();
+    let shelf = shelf_of(alloc, bytes.as_slice(), failing);
+    drop(bytes);
+    shelf
 }
 
 // The section that is a file of so many numbers.
-fn place(alloc: Global, file: &str, words: usize) -> Result<Place, NoMemory> {
-    Ok(Place {
-        file: name(alloc, file)?,
+fn place(alloc: Global, file: &str, words: usize) -> Place {
+    Place {
+        file: name(alloc, file),
         offset: 0,
         length: (words as u64).saturating_mul(4),
-    })
+    }
 }
 
 // Whether a list has just these documents.
@@ -82,46 +97,68 @@ fn is_list(docs: &DocList, wanted: &[u32]) -> bool {
     docs.len() == wanted.len()
 }
 
-fn reads_between(alloc: Global, row: &Between) -> Result<bool, NoMemory> {
+fn reads_between(alloc: Global, shelf: &mut MemoryShelf, row: &Between) -> bool {
     let (low, high, sure, check) = *row;
     if low > high || high >= COUNT {
-        return Ok(false);
+        return false;
     }
-    let mut shelf = shelf(alloc, RANGED, &[])?;
-    let place = place(alloc, "f", RANGED.len())?;
-    Ok(
-        match docs_between(alloc, &mut shelf, &place, COUNT, ROWS, low, high) {
-            Ok(docs) => is_list(&docs.0, sure) && is_list(&docs.1, check),
-            Err(_) => false,
-        },
-    )
+    let place = place(alloc, "f", RANGED.len());
+    let found = docs_between(alloc, shelf, &place, COUNT, ROWS, low, high);
+    drop(place);
+    let are_these = are_lists(&found, sure, check);
+    drop(found);
+    are_these
+}
+
+// Whether these are the documents that are found for sure, and those to be checked.
+fn are_lists(found: &Result<(DocList, DocList), ListFault>, sure: &[u32], check: &[u32]) -> bool {
+    match found {
+        Ok(docs) => is_list(&docs.0, sure) && is_list(&docs.1, check),
+        Err(_) => false,
+    }
+}
+
+fn expect_between(alloc: Global, shelf: &mut MemoryShelf, all: &Expectations) {
+    for row in BETWEEN {
+        let is_found = reads_between(alloc, shelf, row);
+        all.expect(is_found, "the rows of ids within bounds");
+    }
 }
 
 // Why the rows of the ids from 3 to 16 are not found in a section.
-fn refusal(
-    alloc: Global,
-    file: &str,
-    words: &[u32],
-    failing: &[u64],
-) -> Result<Option<ListFault>, NoMemory> {
-    let mut shelf = shelf(alloc, words, failing)?;
-    let place = place(alloc, file, words.len())?;
-    Ok(docs_between(alloc, &mut shelf, &place, COUNT, ROWS, 3, 16).err())
+fn refusal_over(alloc: Global, shelf: &mut MemoryShelf, place: &Place) -> Option<ListFault> {
+    docs_between(alloc, shelf, place, COUNT, ROWS, 3, 16).err()
+}
+
+// The same of the section that is a file of these numbers, some of whose calls fail.
+fn refusal(alloc: Global, file: &str, words: &[u32], failing: &[u64]) -> Option<ListFault> {
+    let Ok(mut shelf) = shelf(alloc, words, failing) else {
+        return None;
+    };
+    let place = place(alloc, file, words.len());
+    let refused = refusal_over(alloc, &mut shelf, &place);
+    drop(place);
+    drop(shelf);
+    refused
+}
+
+fn expect_refusals(alloc: Global, all: &Expectations) {
+    let refused = refusal(alloc, "f", RANGED, &[0]);
+    all.equal(refused, Some(ListFault::ReadFault), "call 0 fails");
+    let refused = refusal(alloc, "g", RANGED, &[]);
+    all.equal(refused, Some(ListFault::BadList), "no file");
+    let refused = refusal(alloc, "f", TOO_MANY, &[]);
+    all.equal(refused, Some(ListFault::BadList), "too many entries");
 }
 
 /// The rows whose ids are within bounds, by a range index.
-pub fn range_indexes(alloc: Global) -> Result<Expectations, TestFault> {
-    let mut all = Expectations::new();
-    for row in BETWEEN {
-        all.expect(reads_between(alloc, row)?, "the rows of ids within bounds");
+pub fn range_indexes(alloc: Global, all: &Expectations) {
+    if let Ok(mut shelf) = shelf(alloc, RANGED, &[]) {
+        expect_between(alloc, &mut shelf, all);
+        drop(shelf);
     }
-    let refused = refusal(alloc, "f", RANGED, &[0])?;
-    all.expect(refused == Some(ListFault::ReadFault), "call 0 fails");
-    let refused = refusal(alloc, "g", RANGED, &[])?;
-    all.expect(refused == Some(ListFault::BadList), "no file");
-    let refused = refusal(alloc, "f", TOO_MANY, &[])?;
-    all.expect(refused == Some(ListFault::BadList), "too many entries");
-    Ok(all)
+    expect_refusals(alloc, all);
+    all.end("range indexes");
 }
 
 // A set of two ids.
@@ -135,37 +172,81 @@ fn set_of(alloc: Global, first: u32, second: u32) -> Result<IdSet, NoMemory>
     Ok(set)
 }
 
-// Whether the rows of two ids in a section of a kind are these.
+// Whether the rows of a set of ids in a section of a kind are these.
+fn reads_set(
+    alloc: Global,
+    section: (ListKind, &Place),
+    shelf: &mut MemoryShelf,
+    set: &IdSet,
+    wanted: &[u32],
+) -> bool
+    requires { All (λ id. id < 4) set.now }
+{
+    let (kind, place) = section;
+    let found = docs_of_ids(alloc, shelf, place, kind, 4, ROWS, set);
+    let is_so = is_found(&found, wanted);
+    drop(found);
+    is_so
+}
+
+fn is_found(found: &Result<DocList, ListFault>, wanted: &[u32]) -> bool {
+    match found {
+        Ok(docs) => is_list(docs, wanted),
+        Err(_) => false,
+    }
+}
+
+// The same of two ids.
 fn reads_ids(
+    alloc: Global,
+    section: (ListKind, &Place),
+    shelf: &mut MemoryShelf,
+    row: &Listed,
+) -> bool {
+    let (first, second, wanted) = *row;
+    if first >= second || second >= 4 {
+        return false;
+    }
+    let Ok(set) = set_of(alloc, first, second) else {
+        return false;
+    };
+    let is_found = reads_set(alloc, section, shelf, &set, wanted);
+    drop(set);
+    is_found
+}
+
+fn expect_rows(
+    alloc: Global,
+    section: (ListKind, &Place),
+    shelf: &mut MemoryShelf,
+    rows: &[Listed],
+    all: &Expectations,
+) {
+    for row in rows {
+        let is_found = reads_ids(alloc, section, shelf, row);
+        all.expect(is_found, "the rows of ids");
+    }
+}
+
+// The rows of ids in a section of a kind that is a file of these numbers.
+fn expect_section(
     alloc: Global,
     kind: ListKind,
     words: &[u32],
-    ids: (u32, u32),
-    wanted: &[u32],
-) -> Result<bool, NoMemory> {
-    if ids.0 >= ids.1 || ids.1 >= 4 {
-        return Ok(false);
+    rows: &[Listed],
+    all: &Expectations,
+) {
+    let place = place(alloc, "f", words.len());
+    if let Ok(mut shelf) = shelf(alloc, words, &[]) {
+        expect_rows(alloc, (kind, &place), &mut shelf, rows, all);
+        drop(shelf);
     }
-    let set = set_of(alloc, ids.0, ids.1)?;
-    let mut shelf = shelf(alloc, words, &[])?;
-    let place = place(alloc, "f", words.len())?;
-    Ok(
-        match docs_of_ids(alloc, &mut shelf, &place, kind, 4, ROWS, &set) {
-            Ok(docs) => is_list(&docs, wanted),
-            Err(_) => false,
-        },
-    )
+    drop(place);
 }
 
 /// The rows of ids, by the section of a sorted column and by an inverted index.
-pub fn lists_of_rows(alloc: Global) -> Result<Expectations, TestFault> {
-    let mut all = Expectations::new();
-    for (first, second, sorted, inverted) in LISTED {
-        let ids = (*first, *second);
-        let is_found = reads_ids(alloc, ListKind::Sorted, SORTED, ids, *sorted)?;
-        all.expect(is_found, "the rows of ids in a sorted column");
-        let is_found = reads_ids(alloc, ListKind::Inverted, INVERTED, ids, *inverted)?;
-        all.expect(is_found, "the rows of ids by an inverted index");
-    }
-    Ok(all)
+pub fn lists_of_rows(alloc: Global, all: &Expectations) {
+    expect_section(alloc, ListKind::Sorted, SORTED, OF_SORTED, all);
+    expect_section(alloc, ListKind::Inverted, INVERTED, OF_INVERTED, all);
+    all.end("lists of rows");
 }

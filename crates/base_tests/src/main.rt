@@ -4,8 +4,10 @@
 
 mod aggregates;
 mod depots;
+mod device_calls;
 mod dictionaries;
 mod expect;
+mod fixtures;
 mod folders;
 mod forward_indexes;
 mod index_sections;
@@ -15,84 +17,56 @@ mod tests_of_values;
 mod trees;
 mod values_in_order;
 
-use expect::{Expectations, TestFault};
+use expect::Expectations;
+use std::alloc::Global;
 use std::io;
 
-fn print(rt: &HostRuntime, name: &str, held: Result<Expectations, TestFault>) -> io::Result<()> {
-    let Ok(expectations) = held else {
-        return println!(rt; "{name}: ended early");
-    };
-    if let Some(what) = expectations.broken {
-        println!(rt; "{name}: not so: {what}")?;
-    }
-    println!(rt;
-        "{name}: {}",
-        if expectations.count > 0 {
-            "ran"
-        } else {
-            "nothing was run"
-        }
-    )
+fn devices(rt: &HostRuntime, all: &Expectations) {
+    shelves::lists_and_names(rt.alloc(), all);
+    shelves::shelf_in_memory(rt.alloc(), all);
+    shelves::bytes_of_a_file(rt.alloc(), all);
+    depots::depot_in_memory(rt.alloc(), all);
+    sinks::sinks(rt.alloc(), all);
+    folders::shelf_over_a_folder(rt, all);
+    folders::depot_over_a_folder(rt, all);
 }
 
-fn devices_in_memory(rt: &HostRuntime) -> io::Result<()> {
-    let alloc = rt.alloc();
-    print(rt, "lists and names", shelves::lists_and_names(alloc))?;
-    print(rt, "shelf in memory", shelves::shelf_in_memory(alloc))?;
-    print(rt, "bytes of a file", shelves::bytes_of_a_file(alloc))?;
-    print(rt, "depot in memory", depots::depot_in_memory(alloc))?;
-    print(rt, "sinks", sinks::sinks(alloc))
+fn values_in_lists(alloc: Global, all: &Expectations) {
+    values_in_order::numbers(alloc, all);
+    values_in_order::texts(alloc, all);
+    values_in_order::order_of_values(alloc, all);
+    values_in_order::order_of_rows(alloc, all);
+    tests_of_values::comparisons(all);
+    tests_of_values::lists_of_tests(alloc, all);
 }
 
-fn devices_over_folders(rt: &HostRuntime) -> io::Result<()> {
-    print(rt, "shelf over a folder", folders::shelf_over_a_folder(rt))?;
-    print(rt, "depot over a folder", folders::depot_over_a_folder(rt))
+fn columns(alloc: Global, all: &Expectations) {
+    dictionaries::spelled(alloc, all);
+    dictionaries::refused(alloc, all);
+    dictionaries::look_ups(alloc, all);
+    dictionaries::lists_of_ids(alloc, all);
+    forward_indexes::spelled(alloc, all);
+    forward_indexes::ranges(alloc, all);
+    index_sections::lists_of_rows(alloc, all);
+    index_sections::range_indexes(alloc, all);
 }
 
-fn values_in_lists(rt: &HostRuntime) -> io::Result<()> {
-    let alloc = rt.alloc();
-    print(rt, "whole numbers", values_in_order::numbers(alloc))?;
-    print(rt, "texts of values", values_in_order::texts(alloc))?;
-    print(
-        rt,
-        "order of values",
-        values_in_order::order_of_values(alloc),
-    )?;
-    print(rt, "order of rows", values_in_order::order_of_rows(alloc))
-}
-
-fn tests_on_values(rt: &HostRuntime) -> io::Result<()> {
-    let alloc = rt.alloc();
-    print(rt, "comparisons", tests_of_values::comparisons(alloc))?;
-    print(rt, "lists of tests", tests_of_values::lists_of_tests(alloc))
-}
-
-fn columns(rt: &HostRuntime) -> io::Result<()> {
-    let alloc = rt.alloc();
-    print(rt, "dictionaries", dictionaries::spelled(alloc))?;
-    print(rt, "refused dictionaries", dictionaries::refused(alloc))?;
-    print(rt, "look-ups", dictionaries::look_ups(alloc))?;
-    print(rt, "lists of ids", dictionaries::lists_of_ids(alloc))?;
-    print(rt, "spelled columns", forward_indexes::spelled(alloc))?;
-    print(rt, "ranges", forward_indexes::ranges(alloc))?;
-    print(rt, "lists of rows", index_sections::lists_of_rows(alloc))?;
-    print(rt, "range indexes", index_sections::range_indexes(alloc))
-}
-
-fn aggregates_and_trees(rt: &HostRuntime) -> io::Result<()> {
-    let alloc = rt.alloc();
-    print(rt, "aggregates", aggregates::states_of_values(alloc))?;
-    print(rt, "stored states", aggregates::stored_states(alloc))?;
-    print(rt, "rows of states", aggregates::rows_of_states(alloc))?;
-    print(rt, "tables of documents", trees::tables_of_documents(alloc))?;
-    print(rt, "laws of trees", trees::laws_of_trees(alloc))
+fn aggregates_and_trees(alloc: Global, all: &Expectations) {
+    aggregates::states_of_values(all);
+    aggregates::stored_states(all);
+    aggregates::rows_of_states(alloc, all);
+    trees::tables_of_documents(alloc, all);
+    trees::laws_of_trees(all);
 }
 
 fn main(rt: HostRuntime) -> io::Result<()> {
-    devices_in_memory(&rt)?;
-    devices_over_folders(&rt)?;
-    values_in_lists(&rt)?;
-    tests_on_values(&rt)?;
-    columns(&rt)?;
-    aggregates_and_trees(&rt)
+    let all = Expectations::new(rt.alloc());
+    devices(&rt, &all);
+    values_in_lists(rt.alloc(), &all);
+    columns(rt.alloc(), &all);
+    aggregates_and_trees(rt.alloc(), &all);
+    let lines = all.into_lines();
+    let printed = print!(rt; "{}", lines.as_str());
+    drop(lines);
+    printed
 }

@@ -1,9 +1,10 @@
 //! The sink in memory, and the sink over a stream.
 
-use crate::expect::{Expectations, TestFault};
-use crate::shelves::calls;
+use crate::device_calls::{Put, run_sink};
+use crate::expect::Expectations;
+use crate::fixtures::calls;
 use host_devices::StreamSink;
-use outside::{MemorySink, Sink, SinkFault};
+use outside::{MemorySink, SinkFault};
 use std::alloc::Global;
 use std::io;
 use std::io::{ErrorKind, Write};
@@ -36,31 +37,47 @@ impl Write for Narrow<'_> {
     }
 }
 
-fn expect_stream(alloc: Global, all: &mut Expectations) -> Result<(), TestFault> {
+// What a stream takes that has room for three bytes.
+const STREAM: &[Put] = &[
+    (b"ab", Ok(()), "two bytes, one at a time"),
+    (b"", Ok(()), "none"),
+    (b"cd", Err(SinkFault::Failed), "a full stream"),
+];
+
+fn run_stream(narrow: Narrow<'_>, all: &Expectations) {
+    let mut sink = StreamSink::new(narrow);
+    run_sink(&mut sink, STREAM, all);
+    drop(sink);
+}
+
+fn expect_stream(alloc: Global, all: &Expectations) {
     let mut taken = Vec::new(alloc);
     let mut flushes = 0;
-    let mut sink = StreamSink::new(Narrow {
+    let narrow = Narrow {
         taken: &mut taken,
         flushes: &mut flushes,
         interrupts: false,
-    });
-    all.expect(sink.put(b"ab") == Ok(()), "two bytes, one at a time");
-    all.expect(sink.put(b"") == Ok(()), "none");
-    all.expect(sink.put(b"cd") == Err(SinkFault::Failed), "a full stream");
-    drop(sink);
-    all.expect(taken.as_slice() == b"abc".as_slice(), "what it took");
+    };
+    run_stream(narrow, all);
+    all.equal(taken.as_slice(), b"abc".as_slice(), "what it took");
     all.expect(flushes == 2, "each put that ends well is flushed");
-    Ok(())
+    drop(taken);
 }
 
-pub fn sinks(alloc: Global) -> Result<Expectations, TestFault> {
-    let mut all = Expectations::new();
-    let mut sink = MemorySink::with_room(alloc, 4, calls(alloc, &[1])?)?;
-    all.expect(sink.put(b"ab") == Ok(()), "bytes");
-    all.expect(sink.put(b"c") == Err(SinkFault::Failed), "call 1 fails");
-    all.expect(sink.put(b"cde") == Err(SinkFault::Failed), "no room");
-    all.expect(sink.put(b"cd") == Ok(()), "just room");
-    all.expect(sink.bytes() == b"abcd".as_slice(), "what it took");
-    expect_stream(alloc, &mut all)?;
-    Ok(all)
+// What a sink takes that has room for four bytes, and whose call 1 fails.
+const ROOM: &[Put] = &[
+    (b"ab", Ok(()), "bytes"),
+    (b"c", Err(SinkFault::Failed), "call 1 fails"),
+    (b"cde", Err(SinkFault::Failed), "no room"),
+    (b"cd", Ok(()), "just room"),
+];
+
+pub fn sinks(alloc: Global, all: &Expectations) {
+    if let Ok(mut sink) = MemorySink::with_room(alloc, 4, calls(alloc, &[1])) {
+        run_sink(&mut sink, ROOM, all);
+        all.equal(sink.bytes(), b"abcd".as_slice(), "what it took");
+        drop(sink);
+    }
+    expect_stream(alloc, all);
+    all.end("sinks");
 }
