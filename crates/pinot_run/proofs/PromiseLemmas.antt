@@ -5,7 +5,7 @@ use Rattle.outside.specs.Files.{Files}
 use Rattle.outside.specs.Sink.{appended, AppendsPrefix}
 use Rattle.table_store.specs.State.{State}
 use Rattle.pinot_run.specs.Command.{Command}
-use Rattle.pinot_run.specs.Notes.{note_text, status_of, status_of_fault}
+use Rattle.pinot_run.specs.Notes.{is_fault, note_text, status_of, status_of_fault}
 use Rattle.pinot_run.specs.Promise.{Counted, IsAnswered, IsGiven, IsStep, Leaves, Noted, Promise}
 use Rattle.pinot_run.specs.Ran.{Acted, IsStepped, NoFaults, Ran, WhereStands}
 use Rattle.pinot_run.specs.Step.{Answer, Refuses, Replies, status_after, step_of}
@@ -55,7 +55,7 @@ pub record GaveNote (line : Note) (ended : Status) (notes notes_new : Heard) : T
   pub cut : ended ≡ status.WriteFault → Rose notes.faults notes_new.faults
   pub noted : Noted ended notes notes_new
 
-abbrev after : Devices → Heard → Heard → World
+abbrev pub after : Devices → Heard → Heard → World
 after new out notes = record { devices = new; out = out; notes = notes }
 
 abbrev Completes : Option Command → World → Status → Type 0
@@ -214,6 +214,12 @@ module _ (command : Option Command) (old : World) (new : Devices) where
     touched = ran.touched;
     reads = ran.reads;
   }
+
+-- the status of a fault is one
+pub faults_are : (why : Fault) → is_fault (status_of_fault why) ≡ true
+faults_are fault.Read = refl
+faults_are fault.Write = refl
+faults_are fault.Memory = refl
 
 -- ---- notes
 

@@ -2,10 +2,37 @@ use Rattle.std.proofs.Common.{◌≡◌, ◌∙◌, ◌<◌, ◌+◌, ◌++◌, 
 use Rattle.std.specs.List.{AllZip}
 use Rattle.outside.specs.Seen.{Seen, seen}
 use Rattle.pinot_run.specs.Profile.{StoreFiles}
+use Rattle.pinot_run.specs.Touched.{IsStoreFile}
 use Rattle.pinot_run.specs.Stored.{HasRows, SegmentsRefuse}
-use Rattle.query_executor.proofs.LogLemmas.{heads_more}
-use Rattle.pinot_run.proofs.StoredLemmas.{CountsOn, any_default, counts_all, counts_more, err_after, handed, logs_then, no_memory, reads_then}
+use Rattle.std.specs.List.{Contains}
+use Rattle.query_executor.specs.Logs.{IsHeadRead}
+use Rattle.query_executor.proofs.LogLemmas.{entries_none, heads_more}
+use Rattle.outside.proofs.SeenLemmas.{reads_none}
+use Rattle.pinot_run.proofs.StoredLemmas.{CountsOn, any_default, counts_all, counts_more, counts_none, err_after, handed, logs_then, no_memory, reads_then}
 use Rattle.pinot_run.proofs.list.count_all.Goals as goal
+
+pub returns-in_err-counts-clause-looks : goal.returns-in_err-counts-clause-looks
+returns-in_err-counts-clause-looks g c =
+    let a : Seen = seen g.D.Shelf c.args.depot.now in
+    handed (λ files counts. AllZip (HasRows c.args.table.now files) c.args.names.now counts) SegmentsRefuse StoreFiles a a c.from_residual.result _ c.from_residual.ensures.1
+    (no_memory _ SegmentsRefuse StoreFiles a a (reads_none a) (entries_none (λ entry. IsStoreFile entry.file) a.log))
+
+pub returns-in_err-counts-clause-heads : goal.returns-in_err-counts-clause-heads
+returns-in_err-counts-clause-heads g c =
+    let a : Seen = seen g.D.Shelf c.args.depot.now in
+    entries_none (λ entry. (name : List ℕ) × Contains c.args.names.now name × IsHeadRead c.args.table.now a.held name entry) a.log
+
+pub names-init : goal.names-init
+names-init g c =
+    let a : Seen = seen g.D.Shelf c.args.depot.now in
+    let none : c.in_ok-counts.counts.items ≡ [] = c.in_ok-counts.ensures.items in
+    record {
+      reads = reads_none a;
+      log = entries_none (λ entry. IsStoreFile entry.file) a.log;
+      heads = entries_none (λ entry. (name : List ℕ) × Contains c.args.names.now name × IsHeadRead c.args.table.now a.held name entry) a.log;
+      each = ap length none;
+      so_far = subst (λ counts. IfSome a.held (CountsOn c.args.table.now c.args.names.now 0 counts)) (sym none) (counts_none a.held c.args.table.now c.args.names.now);
+    }
 
 pub returns-in_err-rows-clause-looks : goal.returns-in_err-rows-clause-looks
 returns-in_err-rows-clause-looks g c =
