@@ -49,7 +49,7 @@ impl Model for StateColumn {
 
 /// Adds an item, for which there is room.
 #[inline(always)]
-fn put<T: Copy>(out: &mut Vec<T>, item: T)
+pub(crate) fn put<T: Copy>(out: &mut Vec<T>, item: T)
     requires room { length out.old.items + 1 ≤ vec_capacity out.old }
     ensures items { out.new.items ≡ out.old.items ++ item ∷ [] }
     ensures capacity { vec_capacity out.old ≤ vec_capacity out.new }
@@ -140,12 +140,12 @@ impl StateColumn {
             return Ok(());
         }
         match &mut self.cells {
-            Cells::Counts(counts) => widen(counts, more)?,
-            Cells::Sums(sums) => widen(sums, more)?,
-            Cells::Leasts(leasts) => widen(leasts, more)?,
-            Cells::Greatests(greatests) => widen(greatests, more)?,
-            Cells::Averages(averages) => widen(averages, more)?,
-        }
+            Cells::Counts(counts) => widen(counts, more),
+            Cells::Sums(sums) => widen(sums, more),
+            Cells::Leasts(leasts) => widen(leasts, more),
+            Cells::Greatests(greatests) => widen(greatests, more),
+            Cells::Averages(averages) => widen(averages, more),
+        }?;
         self.spare = more;
         Ok(())
     }
