@@ -31,7 +31,7 @@ use crate::id_list::STAR;
 use crate::kind_list::Kinds;
 use crate::packing::{Span, packed, places};
 use crate::star_row::StarRow;
-use crate::state_column::{StateColumn, put, rest};
+use crate::state_column::{StateColumn, put, tail_of};
 use crate::states::AggState;
 use crate::tree_shape::TreeShape;
 use std::alloc::{AllocError, Global};
@@ -697,7 +697,7 @@ impl StarTable {
             kinds: self.kinds.copy(alloc)?,
             count: self.count - from,
             spare: 0,
-            ids: Vec::from_slice(alloc, rest(&self.ids, from * self.dims as usize))?,
+            ids: tail_of(alloc, &self.ids, from * self.dims as usize)?,
             columns: tail_columns(alloc, self.columns.as_slice(), from, self.count)?,
         })
     }
