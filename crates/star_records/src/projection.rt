@@ -53,6 +53,7 @@ pub fn project(
 }
 
 // Adds the document of a row.
+#[inline(always)]
 fn project_row(
     table: &mut StarTable,
     dims: &Seq<Seq<u32>>,
