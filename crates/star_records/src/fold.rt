@@ -8,12 +8,11 @@ ghost use Rattle.agg_laws.specs.Merged.{weights};
 ghost use Rattle.agg_laws.specs.Docs.{projected, Doc};
 ghost use Rattle.agg_laws.specs.Tree.{merged_docs};
 ghost use Rattle.star_records.specs.Columns.{row_count, rows_of};
-ghost use Rattle.std.specs.Prelude.{ℕ, ℤ, take, drop};
-ghost use Rattle.star_records.specs.Folding.{picked, AreHeads, AreZero, HasMerged};
+ghost use Rattle.star_records.specs.Folding.{AreZero, HasMerged};
 ghost use Rattle.star_records.specs.Words.{ids_at, key_in, states_at, InOrder};
 
 use crate::NoMemory;
-use crate::blocks::{Heads, columns_at, heads_of, numbers_at, part, repeats, zero_columns};
+use crate::blocks::{columns_at, heads_of, numbers_at, part, repeats, zero_columns};
 use crate::numbers::NumberColumns;
 use crate::projection::read_row;
 use agg_laws::{StarTable, TreeShape};
@@ -22,15 +21,6 @@ use std::alloc::Global;
 
 // So many rows are gathered at once. Of fewer, each would be on a page of its own in its column.
 const BLOCK: usize = 65536;
-
-// The rows of a block of words: the numbers of each, the words whose ids are others than those of the
-// one before, and the ids of these.
-#[derive(Drop)]
-struct Block {
-    pub numbers: Seq<Seq<i64>>,
-    pub heads: Heads,
-    pub ids: Seq<Seq<u32>>,
-}
 
 /// The documents of the rows of some words, merged. A row that has the ids of the one before it is
 /// merged at once. The rows are gathered a block at a time, column by column.
@@ -111,20 +101,22 @@ fn merge_block(
         (HasMerged table.old.kinds dims.now metrics.now words.now to table.new) }
     ensures dims { OnOk result (table.new.dims ≡ table.old.dims) }
 {
-    let block = block_at(alloc, dims, metrics, zeros, words, from, to)?;
-    let slots = block.heads.slots.as_slice();
+    let numbers = numbers_at(alloc, metrics, zeros, part(words, from, to))?;
+    let heads = heads_of(alloc, words, from, to)?;
+    let ids = columns_at(alloc, dims, heads.words.as_slice())?;
+    let slots = heads.slots.as_slice();
     let mut id_row = Vec::with_capacity(alloc, dims.len())?;
     let mut values = Vec::with_capacity(alloc, metrics.len())?;
     for at in from..to {
         if repeats(words, at) {
-            merge_row(table, &block.numbers, at - from, &mut values)?;
+            merge_row(table, &numbers, at - from, &mut values)?;
         } else {
             let place = slots[at - from];
             append_row(
                 table,
-                &block.ids,
+                &ids,
                 place,
-                &block.numbers,
+                &numbers,
                 at - from,
                 &mut id_row,
                 &mut values,
@@ -132,39 +124,6 @@ fn merge_block(
         }
     }
     Ok(())
-}
-
-// Gathers the rows of a block of words.
-fn block_at(
-    alloc: Global,
-    dims: &Seq<Seq<u32>>,
-    metrics: &NumberColumns,
-    zeros: &[bool],
-    words: &[u32],
-    from: usize,
-    to: usize,
-) -> Result<Block, NoMemory>
-    requires ids_long { All (λ c. length c ≡ row_count dims.now) dims.now }
-    requires values_long { All (λ c. length c ≡ row_count dims.now) metrics.now }
-    requires zeros { AreZero zeros.now metrics.now }
-    requires order { InOrder (row_count dims.now) dims.now words.now }
-    requires range { from ≤ to }
-    requires within { to ≤ length words.now }
-    ensures numbers { IfOk result (λ block. (d : ℤ) → block.numbers
-        ≡ picked d (take (to - from) (drop from words.now)) metrics.now) }
-    ensures heads { IfOk result (λ block. AreHeads words.now from to block.heads.words.items
-        block.heads.slots.items) }
-    ensures ids { IfOk result (λ block. (d : ℕ) → block.ids
-        ≡ picked d block.heads.words.items dims.now) }
-{
-    let numbers = numbers_at(alloc, metrics, zeros, part(words, from, to))?;
-    let heads = heads_of(alloc, words, from, to)?;
-    let ids = columns_at(alloc, dims, heads.words.as_slice())?;
-    Ok(Block {
-        numbers,
-        heads,
-        ids,
-    })
 }
 
 // Each item of a list of 64-bit numbers is one. It is known of an item that is read, so they are

@@ -1,7 +1,8 @@
-use Rattle.std.proofs.Common.{◌≡◌, ℕ, ◌+◌, ◌-◌, ◌<◌, ◌≤◌, ◌++◌, ◌∷◌, [], List, get_or, length, take, drop, pos, refl, sym, ap, subst, ◌∙◌, arith, length-append}
+use Rattle.std.proofs.Common.{◌≡◌, ℕ, ◌+◌, ◌-◌, ◌<◌, ◌≤◌, ◌++◌, ◌∷◌, [], List, All, get_or, length, pos, refl, sym, ap, subst, ◌∙◌, arith, length-append}
 use Rattle.agg_laws.specs.Docs.{Docs}
 use Rattle.agg_laws.specs.Rows.{merged_rows, row_of, row_weight}
 use Rattle.star_records.specs.Columns.{row_at, row_count}
+use Rattle.star_records.specs.Folding.{picked}
 use Rattle.star_records.specs.Words.{ids_at, row_in, states_at}
 use Rattle.star_records.proofs.BlockSteps as blocks
 use Rattle.star_records.proofs.FoldSteps as steps
@@ -9,41 +10,58 @@ use Rattle.star_records.proofs.fold.merge_block.Goals as goal
 use Rattle.star_records.proofs.fold.merge_block.Goals.{then-repeats+in_ok-merge_row}
 use Rattle.star_records.proofs.fold.merge_block.Goals.{else-repeats+in_ok-append_row}
 
+pub numbers_at-requires-clause-below : goal.numbers_at-requires-clause-below
+numbers_at-requires-clause-below c =
+    let n = row_count c.args.dims.now in
+    let words = c.args.words.now in
+    blocks.in_columns n c.part.result.now c.args.metrics.now c.requires.values_long
+    (subst (All (λ word. row_in word < n)) (sym c.part.ensures)
+    (blocks.part_below words c.args.from c.args.to c.requires.range c.requires.within n
+    (blocks.all_below n words c.requires.order.all)))
+
+pub columns_at-requires : goal.columns_at-requires
+columns_at-requires c =
+    let n = row_count c.args.dims.now in
+    let words = c.args.words.now in
+    blocks.in_columns n c.as_slice.result.now c.args.dims.now c.requires.ids_long
+    (subst (All (λ word. row_in word < n)) (sym c.as_slice.ensures.value)
+    (c.in_ok-heads.ensures.among n (blocks.all_below n words c.requires.order.all)))
+
 pub merge_row-requires-clause-metrics : goal.merge_row-requires-clause-metrics
 merge_row-requires-clause-metrics c =
-    ap length (c.in_ok-block.ensures.numbers (pos 0))
-    ∙ blocks.wide_picked (pos 0) (take (c.args.to - c.args.from) (drop c.args.from c.args.words.now)) c.args.metrics.now ∙ c.requires.metrics
+    ap length (c.in_ok-numbers.ensures (pos 0))
+    ∙ blocks.wide_picked (pos 0) c.part.result.now c.args.metrics.now ∙ c.requires.metrics
     ∙ ap length (sym c.loop-at.invariant.merged.kinds)
 
 pub append_row-requires-clause-metrics : goal.append_row-requires-clause-metrics
 append_row-requires-clause-metrics c =
-    ap length (c.in_ok-block.ensures.numbers (pos 0))
-    ∙ blocks.wide_picked (pos 0) (take (c.args.to - c.args.from) (drop c.args.from c.args.words.now)) c.args.metrics.now ∙ c.requires.metrics
+    ap length (c.in_ok-numbers.ensures (pos 0))
+    ∙ blocks.wide_picked (pos 0) c.part.result.now c.args.metrics.now ∙ c.requires.metrics
     ∙ ap length (sym c.loop-at.invariant.merged.kinds)
 
 pub append_row-requires-clause-dims : goal.append_row-requires-clause-dims
 append_row-requires-clause-dims c =
-    ap length (c.in_ok-block.ensures.ids 0) ∙ blocks.wide_picked 0 c.in_ok-block.block.heads.words.items c.args.dims.now
+    ap length (c.in_ok-ids.ensures 0) ∙ blocks.wide_picked 0 c.as_slice.result.now c.args.dims.now
     ∙ c.requires.dims ∙ sym c.loop-at.invariant.dims
 
 pub merge_row-requires-clause-long : goal.merge_row-requires-clause-long
 merge_row-requires-clause-long c =
     blocks.block_long (pos 0) c.args.words.now c.args.from c.args.to c.requires.range
-    c.requires.within c.args.metrics.now c.in_ok-block.block.numbers (take (c.args.to - c.args.from) (drop c.args.from c.args.words.now)) refl
-    (c.in_ok-block.ensures.numbers (pos 0)) c.loop-at.at c.loop-at.auto.at c.loop-at-test.true
+    c.requires.within c.args.metrics.now c.in_ok-numbers.numbers c.part.result.now c.part.ensures
+    (c.in_ok-numbers.ensures (pos 0)) c.loop-at.at c.loop-at.auto.at c.loop-at-test.true
 
 pub append_row-requires-clause-values_long : goal.append_row-requires-clause-values_long
 append_row-requires-clause-values_long c =
     blocks.block_long (pos 0) c.args.words.now c.args.from c.args.to c.requires.range
-    c.requires.within c.args.metrics.now c.in_ok-block.block.numbers (take (c.args.to - c.args.from) (drop c.args.from c.args.words.now)) refl
-    (c.in_ok-block.ensures.numbers (pos 0)) c.loop-at.at c.loop-at.auto.at c.loop-at-test.true
+    c.requires.within c.args.metrics.now c.in_ok-numbers.numbers c.part.result.now c.part.ensures
+    (c.in_ok-numbers.ensures (pos 0)) c.loop-at.at c.loop-at.auto.at c.loop-at-test.true
 
 pub append_row-requires-clause-ids_long : goal.append_row-requires-clause-ids_long
 append_row-requires-clause-ids_long c =
     blocks.head_long 0 c.args.words.now c.args.from c.args.to c.requires.range c.requires.within
-    c.args.dims.now c.in_ok-block.block.ids c.in_ok-block.block.heads.words.items
-    c.in_ok-block.block.heads.slots.items c.in_ok-block.ensures.heads
-    (c.in_ok-block.ensures.ids 0)
+    c.args.dims.now c.in_ok-ids.ids c.in_ok-heads.heads.words.items
+    c.in_ok-heads.heads.slots.items c.in_ok-heads.ensures
+    (c.in_ok-ids.ensures 0 ∙ ap (λ ws. picked 0 ws c.args.dims.now) c.as_slice.ensures.value)
     c.loop-at.at (get_or c.as_slice-slots.result.now (c.loop-at.at - c.args.from) 0)
     c.loop-at.auto.at c.loop-at-test.true
     (ap (λ (l : List ℕ). get_or l (c.loop-at.at - c.args.from) 0) c.as_slice-slots.ensures.value)
@@ -93,11 +111,11 @@ loop-at-preserved c =
     let next : i ≡ i + 1 - 1 = omega arith in
     let ids_next : ids_at dims row ≡ ids_at dims (row_in (get_or words (i + 1 - 1) 0)) =
     ap (λ k. ids_at dims (row_in (get_or words k 0))) next in
-    let numbers : row_at (pos 0) (i - from) c.in_ok-block.block.numbers ≡ row_at (pos 0) row ms =
+    let numbers : row_at (pos 0) (i - from) c.in_ok-numbers.numbers ≡ row_at (pos 0) row ms =
     blocks.block_row (pos 0) words from to c.requires.range c.requires.within ms
-    c.in_ok-block.block.numbers (take (c.args.to - c.args.from) (drop c.args.from c.args.words.now)) refl (c.in_ok-block.ensures.numbers (pos 0)) i low
+    c.in_ok-numbers.numbers c.part.result.now c.part.ensures (c.in_ok-numbers.ensures (pos 0)) i low
     high in
-    let states : states_at c.loop-at.table.kinds c.in_ok-block.block.numbers (i - from)
+    let states : states_at c.loop-at.table.kinds c.in_ok-numbers.numbers (i - from)
     ≡ states_at ks ms row = λ j. row_of (inv.kinds j) (numbers j ∷ []) in
     elim c.if-repeats.branch [
       | then-repeats+in_ok-merge_row w ↦
@@ -134,10 +152,10 @@ loop-at-preserved c =
       | else-repeats+in_ok-append_row w ↦
           let turns = c.repeats.ensures.other w.if-repeats.false in
           let place = get_or c.as_slice-slots.result.now (i - from) 0 in
-          let ids : ids_at c.in_ok-block.block.ids place ≡ ids_at dims row =
-          blocks.head_row 0 words from to c.requires.range c.requires.within dims c.in_ok-block.block.ids
-          c.in_ok-block.block.heads.words.items c.in_ok-block.block.heads.slots.items c.in_ok-block.ensures.heads
-          (c.in_ok-block.ensures.ids 0) i
+          let ids : ids_at c.in_ok-ids.ids place ≡ ids_at dims row =
+          blocks.head_row 0 words from to c.requires.range c.requires.within dims c.in_ok-ids.ids
+          c.in_ok-heads.heads.words.items c.in_ok-heads.heads.slots.items c.in_ok-heads.ensures
+          (c.in_ok-ids.ensures 0 ∙ ap (λ ws. picked 0 ws dims) c.as_slice.ensures.value) i
           place low high
           (ap (λ (l : List ℕ). get_or l (i - from) 0) c.as_slice-slots.ensures.value) turns in
           let is : new ≡ old ++ ((ids_at dims row, states_at ks ms row) ∷ []) =
