@@ -16,17 +16,17 @@ module _ {X : Type 0} (f : X → AggState) (k : AggKind) where
     there i lt = let e = ap (λ (c : Column). length c.states) is in let l = length-map xs f
         in omega (arith, lt, e, l)
 
-    pub state_is : (i : ℕ) (v : X) → i < length col.states → v ≡ get_or xs i v
-        → state_at (kept xs n) i ≡ f v
-    state_is i v lt h = get_or-map f xs i v (unit_of k) (there i lt) ∙ ap f (sym h)
+    pub item_is : (i : ℕ) (d : X) → i < length col.states
+        → state_at (kept xs n) i ≡ f (get_or xs i d)
+    item_is i d lt = get_or-map f xs i d (unit_of k) (there i lt)
 
     -- another state in a place, made of the column
-    pub put_back : (i : ℕ) (w : X) (made : Column → AggState) → made (kept xs n) ≡ f w
-        → kept (set xs i w) n ≡ replaced i col (made col)
-    put_back i w made h =
+    pub put_back : (i : ℕ) (ys : List X) (w : X) → ys ≡ set xs i w → (made : Column → AggState)
+        → made (kept xs n) ≡ f w → kept ys n ≡ replaced i col (made col)
+    put_back i ys w are made h =
         (λ j. record {
           kind = k;
-          states = (map-set f xs i w ∙ ap (set (map f xs) i) (sym h)) j;
+          states = (ap (map f) are ∙ map-set f xs i w ∙ ap (set (map f xs) i) (sym h)) j;
           spare = n;
         })
         ∙ ap (λ c. replaced i c (made c)) is

@@ -2,14 +2,14 @@
 use Rattle.std.proofs.Common.{◌≡◌, ℕ, zero, suc, ◌+◌, ◌*◌, ◌-◌, ◌/◌, ◌%◌, ◌^◌, ◌<◌, ◌≤◌, List, []}
 use Rattle.std.proofs.Common.{◌∷◌, ◌++◌, ◌&&◌, map, All, Bool, true, false, length, take, drop}
 use Rattle.std.proofs.Common.{get_or, set, refl, sym, ap, subst, ◌∙◌, arith, append_assoc}
-use Rattle.std.proofs.Common.{length-append}
+use Rattle.std.proofs.Common.{length-append, add-one}
 use Rattle.std.specs.List.Sorted.{IsPermutation}
 use Rattle.std.specs.FinMap.{is_sorted}
 use Rattle.std.specs.FinMap.Entries.{below_all}
 use Rattle.std.specs.declared.cmp.Ordering.TheVariants.{Less, Equal, Greater}
 use Rattle.std.specs.Ordering.{is_lt, ordering_reverse}
 use Rattle.std.proofs.lemmas.Cmp.{nat_list_cmp_total}
-use Rattle.std.proofs.lemmas.List.{length-map, get_or_append_left}
+use Rattle.std.proofs.lemmas.List.{length-map, get_or_append_left, at_drop_all, append-nil}
 use Rattle.std.proofs.lemmas.List.Sorted.{IsPermutation-refl, IsPermutation-trans}
 use Rattle.std.proofs.lemmas.List.Sorted.{IsPermutation-cons, IsPermutation-middle}
 use Rattle.std.proofs.lemmas.List.Sorted.{IsPermutation-to_front, IsPermutation-append_left}
@@ -112,46 +112,68 @@ found_still table others k v some h j d lt =
 pub first_step : (start key : ℕ) (table firsts : List ℕ) (at : ℕ) → key < length table
     → at ≡ get_or table key 0 → 0 < at → at ≤ 2 ^ 20
     → (firsts ++ ((start + (at - 1)) % 2 ^ 32 ∷ []))
-    ++ map (place start) (first_words (suc key) (drop (suc key) table))
+    ++ map (place start) (first_words (key + 1) (drop (key + 1) table))
     ≡ firsts ++ map (place start) (first_words key (drop key table))
 first_step start key table firsts at lt is some few =
     let here : drop key table ≡ suc (at - 1) ∷ drop (suc key) table = drop-cons table key 0 lt
     ∙ ap (λ v. v ∷ drop (suc key) table) (omega (arith, is, some)) in
     let p : (key * 2 ^ 20 + (at - 1)) % 2 ^ 20 ≡ at - 1 =
     mod-mul-add key (2 ^ 20) (at - 1) (omega (arith, few, some)) in
-    append_assoc firsts ((start + (at - 1)) % 2 ^ 32 ∷ [])
+    subst (λ k. (firsts ++ ((start + (at - 1)) % 2 ^ 32 ∷ []))
+    ++ map (place start) (first_words k (drop k table))
+    ≡ firsts ++ map (place start) (first_words key (drop key table))) (sym (add-one key))
+    (append_assoc firsts ((start + (at - 1)) % 2 ^ 32 ∷ [])
     (map (place start) (first_words (suc key) (drop (suc key) table)))
     ∙ ap (λ v. firsts ++ ((start + v) % 2 ^ 32
     ∷ map (place start) (first_words (suc key) (drop (suc key) table)))) (sym p)
-    ∙ ap (λ l. firsts ++ map (place start) (first_words key l)) (sym here)
+    ∙ ap (λ l. firsts ++ map (place start) (first_words key l)) (sym here))
 
 pub no_first : (key : ℕ) (table : List ℕ) (at : ℕ) → key < length table
     → at ≡ get_or table key 0 → at ≡ 0
-    → first_words (suc key) (drop (suc key) table) ≡ first_words key (drop key table)
+    → first_words (key + 1) (drop (key + 1) table) ≡ first_words key (drop key table)
 no_first key table at lt is none =
-    ap (first_words key) (sym (drop-cons table key 0 lt
-    ∙ ap (λ v. v ∷ drop (suc key) table) (sym is ∙ none)))
+    subst (λ k. first_words k (drop k table) ≡ first_words key (drop key table)) (sym (add-one key))
+    (ap (first_words key) (sym (drop-cons table key 0 lt
+    ∙ ap (λ v. v ∷ drop (suc key) table) (sym is ∙ none))))
 
 -- their slots, as far as a combination
 pub slot_step : (n key : ℕ) (table slots : List ℕ) (at : ℕ) → key < length table
     → at ≡ get_or table key 0 → 0 < at
-    → (slots ++ (suc n ∷ [])) ++ numbered (suc n) (drop (suc key) table)
+    → (slots ++ ((n + 1) ∷ [])) ++ numbered (n + 1) (drop (key + 1) table)
     ≡ slots ++ numbered n (drop key table)
 slot_step n key table slots at lt is some =
     let here : drop key table ≡ suc (at - 1) ∷ drop (suc key) table = drop-cons table key 0 lt
     ∙ ap (λ v. v ∷ drop (suc key) table) (omega (arith, is, some)) in
-    append_assoc slots (suc n ∷ []) (numbered (suc n) (drop (suc key) table))
-    ∙ ap (λ l. slots ++ numbered n l) (sym here)
+    subst (λ k. (slots ++ ((n + 1) ∷ [])) ++ numbered (n + 1) (drop k table)
+    ≡ slots ++ numbered n (drop key table)) (sym (add-one key))
+    (subst (λ m. (slots ++ (m ∷ [])) ++ numbered m (drop (suc key) table)
+    ≡ slots ++ numbered n (drop key table)) (sym (add-one n))
+    (append_assoc slots (suc n ∷ []) (numbered (suc n) (drop (suc key) table))
+    ∙ ap (λ l. slots ++ numbered n l) (sym here)))
 
 pub no_slot : (n key : ℕ) (table slots : List ℕ) (at : ℕ) → key < length table
     → at ≡ get_or table key 0 → at ≡ 0
-    → (slots ++ (0 ∷ [])) ++ numbered n (drop (suc key) table)
+    → (slots ++ (0 ∷ [])) ++ numbered n (drop (key + 1) table)
     ≡ slots ++ numbered n (drop key table)
 no_slot n key table slots at lt is none =
     let here : drop key table ≡ 0 ∷ drop (suc key) table = drop-cons table key 0 lt
     ∙ ap (λ v. v ∷ drop (suc key) table) (sym is ∙ none) in
-    append_assoc slots (0 ∷ []) (numbered n (drop (suc key) table))
-    ∙ ap (λ l. slots ++ numbered n l) (sym here)
+    subst (λ k. (slots ++ (0 ∷ [])) ++ numbered n (drop k table)
+    ≡ slots ++ numbered n (drop key table)) (sym (add-one key))
+    (append_assoc slots (0 ∷ []) (numbered n (drop (suc key) table))
+    ∙ ap (λ l. slots ++ numbered n l) (sym here))
+
+-- none is left past the last combination
+pub no_firsts_left : (start key : ℕ) (table firsts : List ℕ) → length table ≤ key
+    → firsts ++ map (place start) (first_words key (drop key table)) ≡ firsts
+no_firsts_left start key table firsts all =
+    ap (λ ws. firsts ++ map (place start) ws) (at_drop_all (first_words key) table key all)
+    ∙ append-nil firsts
+
+pub no_slots_left : (n key : ℕ) (table slots : List ℕ) → length table ≤ key
+    → slots ++ numbered n (drop key table) ≡ slots
+no_slots_left n key table slots all =
+    ap (λ ns. slots ++ ns) (at_drop_all (numbered n) table key all) ∙ append-nil slots
 
 -- the combination of a first word
 key_here : (key at : ℕ) → at < 2 ^ 20 → key_of (key * 2 ^ 20 + at) ≡ key

@@ -19,10 +19,7 @@ pub fn read_i64(bytes: &[u8]) -> i64
     requires { length bytes.now ≡ 8 }
     ensures { result ≡ cast_signed w64 (from_be_bytes w64 bytes.now) }
 {
-    match bytes.first_chunk::<8>() {
-        Some(chunk) => i64::from_be_bytes(*chunk),
-        None => unreachable!(),
-    }
+    read_u64(bytes).cast_signed()
 }
 
 /// The signed number that sixteen bytes spell.
@@ -31,7 +28,7 @@ pub fn read_i128(bytes: &[u8]) -> i128
     ensures { result ≡ cast_signed w128 (from_be_bytes w128 bytes.now) }
 {
     match bytes.first_chunk::<16>() {
-        Some(chunk) => i128::from_be_bytes(*chunk),
+        Some(chunk) => u128::from_be_bytes(*chunk).cast_signed(),
         None => unreachable!(),
     }
 }

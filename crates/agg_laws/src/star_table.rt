@@ -31,7 +31,7 @@ use crate::id_list::STAR;
 use crate::kind_list::Kinds;
 use crate::packing::{Span, packed, places};
 use crate::star_row::StarRow;
-use crate::state_column::{StateColumn, rest};
+use crate::state_column::{StateColumn, put, tail_of};
 use crate::states::AggState;
 use crate::tree_shape::TreeShape;
 use std::alloc::{AllocError, Global};
@@ -75,9 +75,7 @@ fn put_all<T: Copy>(out: &mut Vec<T>, items: &[T])
     ensures capacity { vec_capacity out.old ≤ vec_capacity out.new }
 {
     for i in 0..items.len() {
-        if let Err(_) = out.push(items[i]) {
-            unreachable!();
-        }
+        put(out, items[i]);
     }
 }
 
@@ -90,9 +88,7 @@ fn put_again<T: Copy>(out: &mut Vec<T>, from: usize, count: usize)
 {
     for i in 0..count {
         let item = out[from + i];
-        if let Err(_) = out.push(item) {
-            unreachable!();
-        }
+        put(out, item);
     }
 }
 
@@ -701,7 +697,7 @@ impl StarTable {
             kinds: self.kinds.copy(alloc)?,
             count: self.count - from,
             spare: 0,
-            ids: Vec::from_slice(alloc, rest(&self.ids, from * self.dims as usize))?,
+            ids: tail_of(alloc, &self.ids, from * self.dims as usize)?,
             columns: tail_columns(alloc, self.columns.as_slice(), from, self.count)?,
         })
     }

@@ -1,7 +1,7 @@
 //! Columns of states of one kind.
 
 ghost use Rattle.std.specs.Prelude.{◌≡◌, ◌+◌, ◌-◌, ◌<◌, ◌≤◌, [], ◌∷◌, ◌++◌, length, max, OnOk};
-ghost use Rattle.std.specs.Prelude.{OnErr};
+ghost use Rattle.std.specs.Prelude.{OnErr, get_or, set};
 ghost use Rattle.std.specs.Prelude.{IfOk, vec_capacity, drop};
 ghost use Rattle.agg_laws.specs.Numbers.{most_values};
 ghost use Rattle.agg_laws.specs.States.{kind_of, unit_of, state_of, merged, Fits};
@@ -49,7 +49,7 @@ impl Model for StateColumn {
 
 /// Adds an item, for which there is room.
 #[inline(always)]
-fn put<T: Copy>(out: &mut Vec<T>, item: T)
+pub(crate) fn put<T: Copy>(out: &mut Vec<T>, item: T)
     requires room { length out.old.items + 1 ≤ vec_capacity out.old }
     ensures items { out.new.items ≡ out.old.items ++ item ∷ [] }
     ensures capacity { vec_capacity out.old ≤ vec_capacity out.new }
@@ -68,12 +68,40 @@ fn widen<T>(out: &mut Vec<T>, more: usize) -> Result<(), NoMemory>
     out.reserve(more)
 }
 
-/// The items from one on.
-pub(crate) fn rest<T: Copy>(items: &[T], from: usize) -> &[T]
-    requires { from ≤ length items.now }
-    ensures { result.now ≡ drop from items.now }
+/// Adds a value to the state in a place.
+#[inline(always)]
+fn add_in<A: Aggregator>(states: &mut Vec<A::State>, place: usize, value: i64)
+    requires place { place < length states.old.items }
+    requires fits { A.fits (A.merged (get_or states.old.items place A.empty)
+        (A.of (value ∷ []))) most_values }
+    ensures items { states.new.items ≡ set states.old.items place
+        (A.merged (get_or states.old.items place A.empty) (A.of (value ∷ []))) }
+    ensures capacity { vec_capacity states.new ≡ vec_capacity states.old }
 {
-    &items[from..]
+    A::add(&mut states[place], value);
+}
+
+/// Merges the state in one place into that in another.
+#[inline(always)]
+fn merge_in<A: Aggregator>(states: &mut Vec<A::State>, into: usize, from: usize)
+    requires into { into < length states.old.items }
+    requires from { from < length states.old.items }
+    requires fits { A.fits (A.merged (get_or states.old.items into A.empty)
+        (get_or states.old.items from A.empty)) most_values }
+    ensures items { states.new.items ≡ set states.old.items into
+        (A.merged (get_or states.old.items into A.empty) (get_or states.old.items from A.empty)) }
+    ensures capacity { vec_capacity states.new ≡ vec_capacity states.old }
+{
+    let state = states[from];
+    A::merge(&mut states[into], &state);
+}
+
+/// The items from one on, as a list of their own.
+pub(crate) fn tail_of<T: Copy>(alloc: Global, items: &[T], from: usize) -> Result<Vec<T>, NoMemory>
+    requires { from ≤ length items.now }
+    ensures { IfOk result (λ tail. tail.items ≡ drop from items.now) }
+{
+    Vec::from_slice(alloc, &items[from..])
 }
 
 impl StateColumn {
@@ -140,12 +168,12 @@ impl StateColumn {
             return Ok(());
         }
         match &mut self.cells {
-            Cells::Counts(counts) => widen(counts, more)?,
-            Cells::Sums(sums) => widen(sums, more)?,
-            Cells::Leasts(leasts) => widen(leasts, more)?,
-            Cells::Greatests(greatests) => widen(greatests, more)?,
-            Cells::Averages(averages) => widen(averages, more)?,
-        }
+            Cells::Counts(counts) => widen(counts, more),
+            Cells::Sums(sums) => widen(sums, more),
+            Cells::Leasts(leasts) => widen(leasts, more),
+            Cells::Greatests(greatests) => widen(greatests, more),
+            Cells::Averages(averages) => widen(averages, more),
+        }?;
         self.spare = more;
         Ok(())
     }
@@ -206,11 +234,11 @@ impl StateColumn {
             (merged (state_at self.old place) (state_of self.old.kind (value ∷ []))) }
     {
         match &mut self.cells {
-            Cells::Counts(counts) => Count::add(&mut counts[place], value),
-            Cells::Sums(sums) => Sum::add(&mut sums[place], value),
-            Cells::Leasts(leasts) => Least::add(&mut leasts[place], value),
-            Cells::Greatests(greatests) => Greatest::add(&mut greatests[place], value),
-            Cells::Averages(averages) => Average::add(&mut averages[place], value),
+            Cells::Counts(counts) => add_in::<Count>(counts, place, value),
+            Cells::Sums(sums) => add_in::<Sum>(sums, place, value),
+            Cells::Leasts(leasts) => add_in::<Least>(leasts, place, value),
+            Cells::Greatests(greatests) => add_in::<Greatest>(greatests, place, value),
+            Cells::Averages(averages) => add_in::<Average>(averages, place, value),
         }
     }
 
@@ -224,26 +252,11 @@ impl StateColumn {
             (merged (state_at self.old into) (state_at self.old from)) }
     {
         match &mut self.cells {
-            Cells::Counts(counts) => {
-                let state = counts[from];
-                Count::merge(&mut counts[into], &state);
-            }
-            Cells::Sums(sums) => {
-                let state = sums[from];
-                Sum::merge(&mut sums[into], &state);
-            }
-            Cells::Leasts(leasts) => {
-                let state = leasts[from];
-                Least::merge(&mut leasts[into], &state);
-            }
-            Cells::Greatests(greatests) => {
-                let state = greatests[from];
-                Greatest::merge(&mut greatests[into], &state);
-            }
-            Cells::Averages(averages) => {
-                let state = averages[from];
-                Average::merge(&mut averages[into], &state);
-            }
+            Cells::Counts(counts) => merge_in::<Count>(counts, into, from),
+            Cells::Sums(sums) => merge_in::<Sum>(sums, into, from),
+            Cells::Leasts(leasts) => merge_in::<Least>(leasts, into, from),
+            Cells::Greatests(greatests) => merge_in::<Greatest>(greatests, into, from),
+            Cells::Averages(averages) => merge_in::<Average>(averages, into, from),
         }
     }
 
@@ -266,16 +279,11 @@ impl StateColumn {
         ensures { IfOk result (λ column. column ≡ column_tail from self.now) }
     {
         let cells = match &self.cells {
-            Cells::Counts(counts) => Cells::Counts(Vec::from_slice(alloc, rest(counts, from))?),
-            Cells::Sums(sums) => Cells::Sums(Vec::from_slice(alloc, rest(sums, from))?),
-            Cells::Leasts(leasts) => Cells::Leasts(Vec::from_slice(alloc, rest(leasts, from))?),
-            Cells::Greatests(greatests) => {
-                Cells::Greatests(Vec::from_slice(alloc, rest(greatests, from))?)
-            }
-            Cells::Averages(averages) => Cells::Averages(Vec::from_slice(
-                alloc,
-                rest(averages, from),
-            )?),
+            Cells::Counts(counts) => Cells::Counts(tail_of(alloc, counts, from)?),
+            Cells::Sums(sums) => Cells::Sums(tail_of(alloc, sums, from)?),
+            Cells::Leasts(leasts) => Cells::Leasts(tail_of(alloc, leasts, from)?),
+            Cells::Greatests(greatests) => Cells::Greatests(tail_of(alloc, greatests, from)?),
+            Cells::Averages(averages) => Cells::Averages(tail_of(alloc, averages, from)?),
         };
         Ok(StateColumn { cells, spare: 0 })
     }

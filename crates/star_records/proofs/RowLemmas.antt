@@ -1,5 +1,5 @@
 -- Rows of columns, one by one.
-use Rattle.std.proofs.Common.{◌≡◌, ℕ, zero, suc, ◌+◌, ◌-◌, ◌<◌, ◌≤◌, List, [], ◌∷◌, ◌++◌, map, length}
+use Rattle.std.proofs.Common.{◌≡◌, ℕ, zero, suc, ◌+◌, ◌<◌, ◌≤◌, List, [], ◌∷◌, ◌++◌, map, length}
 use Rattle.std.proofs.Common.{take, get_or, slice_get, Some, All, refl, sym, ap, ◌∙◌, arith, ℤ}
 use Rattle.std.proofs.Common.{length-append, pos, Option}
 use Rattle.std.proofs.lemmas.List.{map-append}
@@ -7,7 +7,7 @@ use Rattle.std.proofs.Math.Seq.{take-suc}
 use Rattle.agg_laws.specs.declared.aggregate_kind.AggKind.{AggKind}
 use Rattle.agg_laws.specs.Rows.{row_of, row_weight}
 use Rattle.agg_laws.specs.Merged.{weights}
-use Rattle.agg_laws.specs.Docs.{Doc, Docs, projected}
+use Rattle.agg_laws.specs.Docs.{Doc, projected}
 use Rattle.agg_laws.proofs.WeightLemmas.{weights-append}
 use Rattle.star_records.specs.Columns.{row_count, row_at, rows_of}
 
@@ -56,19 +56,12 @@ projected_more ks [] row = refl
 projected_more ks (r ∷ rs) row =
     ap (λ t. (r.0, row_of ks (r.1 ∷ [])) ∷ t) (projected_more ks rs row)
 
-module _ (v u w : Docs) (e : Doc) (s : ℕ) (room : u ≡ record v { spare = s }) (is : w ≡ record u {
-  docs = u.docs ++ (e ∷ []);
-  spare = u.spare - 1;
-}) where
-  pub docs_more : w.docs ≡ v.docs ++ (e ∷ [])
-  docs_more = ap (λ (d : Docs). d.docs) is ∙ ap (λ (d : Docs). d.docs ++ (e ∷ [])) room
+module _ (old new : List Doc) (e : Doc) (is : new ≡ old ++ (e ∷ [])) where
+  pub one_longer : length new ≡ length old + 1
+  one_longer = ap length is ∙ length-append old (e ∷ [])
 
-  pub longer : length w.docs ≡ length v.docs + 1
-  longer = ap length docs_more ∙ length-append v.docs (e ∷ [])
-
-  pub heavier : row_weight e.1 ≤ 1 → weights row_weight w.docs ≤ weights row_weight v.docs + 1
-  heavier le =
-      let a = ap (weights row_weight) docs_more ∙ weights-append row_weight v.docs (e ∷ []) in
+  pub one_heavier : row_weight e.1 ≤ 1 → weights row_weight new ≤ weights row_weight old + 1
+  one_heavier le = let a = ap (weights row_weight) is ∙ weights-append row_weight old (e ∷ []) in
       omega (arith, a, le)
 
 -- how many rows there are

@@ -6,7 +6,9 @@ ghost use Rattle.agg_laws.specs.Rows.{merged_rows, row_weight};
 ghost use Rattle.agg_laws.specs.Merged.{weights};
 ghost use Rattle.agg_laws.specs.Docs.{projected};
 ghost use Rattle.agg_laws.specs.Tree.{merged_docs};
+ghost use Rattle.std.specs.Prelude.{◌++◌, ◌∷◌, []};
 ghost use Rattle.star_records.specs.Columns.{row_count, rows_of};
+ghost use Rattle.star_records.specs.Words.{ids_at, states_at};
 
 use crate::NoMemory;
 use crate::fold::merge_in_order;
@@ -45,12 +47,36 @@ pub fn project(
     let mut values = Vec::with_capacity(alloc, metrics.len())?;
     table.reserve(u32::try_from(rows).unwrap_or(u32::MAX))?;
     for row in 0..rows {
-        read_row(dims, row, &mut ids)?;
-        metrics.read_row(row, &mut values)?;
-        table.reserve(1)?;
-        table.append_values(ids.as_slice(), values.as_slice());
+        project_row(&mut table, dims, metrics, row, &mut ids, &mut values)?;
     }
     Ok(table)
+}
+
+// Adds the document of a row.
+#[inline(always)]
+fn project_row(
+    table: &mut StarTable,
+    dims: &Seq<Seq<u32>>,
+    metrics: &NumberColumns,
+    row: usize,
+    ids: &mut Vec<u32>,
+    values: &mut Vec<i64>,
+) -> Result<(), NoMemory>
+    requires dims { length dims.now ≡ table.old.dims }
+    requires metrics { length metrics.now ≡ length table.old.kinds }
+    requires ids_long { All (λ c. row < length c) dims.now }
+    requires values_long { All (λ c. row < length c) metrics.now }
+    ensures appended { OnOk result (table.new.docs ≡ table.old.docs
+        ++ (ids_at dims.now row, states_at table.old.kinds metrics.now row) ∷ []) }
+    ensures weighs { OnOk result (row_weight (states_at table.old.kinds metrics.now row) ≤ 1) }
+    ensures dims { OnOk result (table.new.dims ≡ table.old.dims) }
+    ensures kinds { OnOk result (table.new.kinds ≡ table.old.kinds) }
+{
+    read_row(dims, row, ids)?;
+    metrics.read_row(row, values)?;
+    table.reserve(1)?;
+    table.append_values(ids.as_slice(), values.as_slice());
+    Ok(())
 }
 
 /// The documents of the rows, sorted by their ids, those of equal ids merged. Where no more

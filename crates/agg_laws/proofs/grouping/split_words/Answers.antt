@@ -4,6 +4,7 @@ use Rattle.std.specs.List.Sorted.{IsPermutation}
 use Rattle.std.proofs.lemmas.List.Sorted.{IsPermutation-refl}
 use Rattle.std.proofs.lemmas.List.Elements.{All-set, All-append, All-cons, All-nil}
 use Rattle.std.proofs.Math.Nat.{mod-lt}
+use Rattle.std.proofs.lemmas.List.{take_all}
 use Rattle.agg_laws.specs.Grouping.{first_words, key_of, entry_of}
 use Rattle.agg_laws.proofs.GroupSteps as steps
 use Rattle.agg_laws.proofs.RegionLemmas.{any_default}
@@ -99,3 +100,27 @@ loop-i-preserved c =
                 word [] some (All-nil (λ word. 0 < entry_of c.loop-i.table.items word))));
           }
     ]
+
+pub overflow_cast-word : goal.overflow_cast-word
+overflow_cast-word c =
+    let low : c.index-word.result.now % 2 ^ 20 < 2 ^ 20 = mod-lt c.index-word.result.now (omega arith)
+    in omega (arith, low)
+
+pub overflow_add-word : goal.overflow_add-word
+overflow_add-word c =
+    let low : c.index-word.result.now % 2 ^ 20 < 2 ^ 20 = mod-lt c.index-word.result.now (omega arith)
+    in omega (arith, low)
+
+pub returns : goal.returns
+returns c =
+    let h = c.loop-i.invariant in
+    let words = c.args.words.items in
+    let all : take c.loop-i.i words ≡ words = take_all c.loop-i.i words
+    (omega (arith, c.loop-i-test.false, c.len-i-end.ensures, c.args.words.ok.0)) in
+    record {
+      same = subst (λ l. IsPermutation l (first_words 0 c.loop-i.table.items
+          ++ c.loop-i.others.items)) all h.same;
+      few = h.few;
+      places = h.places;
+      found = h.found;
+    }

@@ -19,8 +19,8 @@ overflow_sub-result c =
     ) in
     le
 
-pub rest-requires : goal.rest-requires
-rest-requires c =
+pub tail_of-requires : goal.tail_of-requires
+tail_of-requires c =
     let t = c.self.inside in
     let le : c.args.from ≤ t.count = omega (
       arith,
@@ -58,14 +58,14 @@ invariant_of-result c =
       ap (λ v. length v.docs) c.self.view_is,
       region.length-docs_in t.count t.dims t.ids.items t.columns.items,
     ) in
-    let is : c.in_ok-from_slice.field-0.items ≡ drop (c.args.from * t.dims) t.ids.items =
-    c.in_ok-from_slice.ensures.items ∙ c.rest.ensures
+    let is : c.in_ok-tail_of.field-0.items ≡ drop (c.args.from * t.dims) t.ids.items =
+    c.in_ok-tail_of.ensures
     ∙ ap (drop (c.args.from * t.dims)) c.deref.ensures.value in
     let js : c.in_ok-tail_columns.field-0.items ≡ map (column_tail c.args.from) t.columns.items =
     c.in_ok-tail_columns.ensures
     ∙ ap (λ l. map (column_tail c.args.from) l) c.as_slice.ensures.value in
     steps.tail_region c.args.from t.count t.dims t.kinds t.ids.items t.columns.items t.spare _ _
-    c.in_ok-from_slice.field-0.items c.in_ok-tail_columns.field-0.items c.in_ok-copy.field-0
+    c.in_ok-tail_of.field-0.items c.in_ok-tail_columns.field-0.items c.in_ok-copy.field-0
     c.self.invariant le c.in_ok-copy.ensures is js (search rules)
 
 pub returns : goal.returns
@@ -77,8 +77,8 @@ returns c =
       ap (λ v. length v.docs) c.self.view_is,
       region.length-docs_in t.count t.dims t.ids.items t.columns.items,
     ) in
-    let is : c.in_ok-from_slice.field-0.items ≡ drop (c.args.from * t.dims) t.ids.items =
-    c.in_ok-from_slice.ensures.items ∙ c.rest.ensures
+    let is : c.in_ok-tail_of.field-0.items ≡ drop (c.args.from * t.dims) t.ids.items =
+    c.in_ok-tail_of.ensures
     ∙ ap (drop (c.args.from * t.dims)) c.deref.ensures.value in
     let js : c.in_ok-tail_columns.field-0.items ≡ map (column_tail c.args.from) t.columns.items =
     c.in_ok-tail_columns.ensures
