@@ -88,3 +88,9 @@ shelf_well {T} x old new reads = reads_so (IsErrOf {T = T} {E = ShelfFault} (Ok 
 pub shelf_handed : {T U : Type 0} (a : ShelfFault) (b : HeadFault) (old new : Seen) → (b ≡ fault.ReadFault → a ≡ shelf.Failed) → (a ≡ shelf.Failed → b ≡ fault.ReadFault) → OnlyReads (IsErrOf {T = T} {E = ShelfFault} (Err a) shelf.Failed) old new → OnlyReads (IsErrOf {T = U} {E = HeadFault} (Err b) fault.ReadFault) old new
 shelf_handed {T} {U} a b old new from to reads =
     reads_so (IsErrOf {T = T} {E = ShelfFault} (Err a) shelf.Failed) (IsErrOf {T = U} {E = HeadFault} (Err b) fault.ReadFault) old new (λ e. ap Err (from (err_same {T = U} b fault.ReadFault e))) (λ e. ap Err (to (shelf_same {T = T} a shelf.Failed e))) reads
+
+pub shelf_ok : {T : Type 0} (x : T) → ¬ IsErrOf {T = T} {E = ShelfFault} (Ok x) shelf.Failed
+shelf_ok x e = cc
+
+pub shelf_other : {T : Type 0} (a : ShelfFault) → a ≢ shelf.Failed → ¬ IsErrOf {T = T} {E = ShelfFault} (Err a) shelf.Failed
+shelf_other {T} a other e = other (shelf_same {T = T} a shelf.Failed e)
