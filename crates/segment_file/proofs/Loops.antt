@@ -87,6 +87,9 @@ entries_stop parts sizes at offset out whole over so_far =
 pub offset_step : (sizes : List ℕ) (at offset end : ℕ) → at < length sizes → offset + sum (drop at sizes) ≡ end → (offset + get_or sizes at 0) + sum (drop (at + 1) sizes) ≡ end
 offset_step sizes at offset end lt so_far = omega (arith, sum_by-drop_more (λ x. x) sizes at 0 lt, so_far)
 
+pub offset_fits : (sizes : List ℕ) (at offset end : ℕ) → at < length sizes → offset + sum (drop at sizes) ≡ end → offset + get_or sizes at 0 ≤ end
+offset_fits sizes at offset end lt so_far = omega (arith, sum_by-drop_more (λ x. x) sizes at 0 lt, so_far)
+
 -- ---- how many values columns have
 
 pub counts_step : (ds : List Distinct) (columns : List ℕ) (at n : ℕ) (d : Distinct) (out new : List ℕ) → All (λ c. c < length ds) columns → at < length columns → d ≡ get_or ds (get_or columns at 0) d → n ≡ length d.values

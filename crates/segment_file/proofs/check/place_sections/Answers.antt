@@ -1,5 +1,5 @@
 use Rattle.std.proofs.Common.{◌∙◌, ◌<◌, ◌++◌, ◌∷◌, [], length, ap, arith}
-use Rattle.segment_file.proofs.Loops.{offset_step, sections_step, sections_stop}
+use Rattle.segment_file.proofs.Loops.{offset_fits, offset_step, sections_step, sections_stop}
 use Rattle.segment_file.proofs.check.place_sections.Goals as goal
 
 pub loop-at-preserved : goal.loop-at-preserved
@@ -14,3 +14,8 @@ loop-at-preserved c =
 
 pub returns : goal.returns
 returns c = sections_stop c.args.file.now c.args.parts.now _ c.loop-at.at c.loop-at.offset c.loop-at.sections.items _ c.loop-at-test.false c.loop-at.invariant.made
+
+pub overflow_add-offset : goal.overflow_add-offset
+overflow_add-offset c =
+    let within : c.loop-at.at < length c.args.sizes.now = omega (arith, c.loop-at-test.true, c.requires.each) in
+    omega (arith, offset_fits c.args.sizes.now c.loop-at.at c.loop-at.offset _ within c.loop-at.invariant.offset, c.requires.short)

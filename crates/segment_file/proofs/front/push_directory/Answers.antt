@@ -1,5 +1,5 @@
 use Rattle.std.proofs.Common.{◌<◌, length, arith}
-use Rattle.segment_file.proofs.Loops.{entries_step, entries_stop, offset_step}
+use Rattle.segment_file.proofs.Loops.{entries_step, entries_stop, offset_fits, offset_step}
 use Rattle.segment_file.proofs.front.push_directory.Goals as goal
 
 pub loop-at-preserved : goal.loop-at-preserved
@@ -12,3 +12,8 @@ loop-at-preserved c =
 
 pub returns : goal.returns
 returns c = entries_stop c.args.sections.now _ c.loop-at.at c.loop-at.offset c.loop-at.out.items _ c.loop-at-test.false c.loop-at.invariant.written
+
+pub overflow_add-offset : goal.overflow_add-offset
+overflow_add-offset c =
+    let within : c.loop-at.at < length c.args.sizes.now = omega (arith, c.loop-at-test.true, c.requires.each) in
+    omega (arith, offset_fits c.args.sizes.now c.loop-at.at c.loop-at.offset _ within c.loop-at.invariant.offset, c.requires.short)
