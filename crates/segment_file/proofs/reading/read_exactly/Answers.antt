@@ -38,3 +38,12 @@ returns-clause-only_reads g c =
     let old = seen g.S.Shelf c.args.shelf.now in
     let new = seen g.S.Shelf c.read_bytes.new.shelf in
     reads_ended c.in-Ok.bytes old new (shelf_well c.in-Ok.bytes old new c.in-Ok.ensures.only_reads)
+
+pub returns-in-Err-clause-log_of_fault : goal.returns-in-Err-clause-log_of_fault
+returns-in-Err-clause-log_of_fault g c = c.in-Err.ensures.log_of_fault
+
+pub returns-clause-size : goal.returns-clause-size
+returns-clause-size g c = omega (arith, c.in-Ok.ensures.bound, c.if-len-count.false)
+
+pub returns-clause-bytes : goal.returns-clause-bytes
+returns-clause-bytes g c = c.in-Ok.ensures.bytes
