@@ -167,26 +167,17 @@ next_pair f fs (ends ∷ others) least greatest rest following after all e first
     let one : following ≡ tail = bound_following f.kind least ends.least following tail first.may all.0.0 (sym first.spelled ∙ e ∙ append_assoc (bound_bytes ends.least) (bound_bytes ends.greatest) (bounds_bytes others)) in
     (others, all.1, bound_following f.kind greatest ends.greatest after (bounds_bytes others) second.may all.0.1 (sym second.spelled ∙ one))
 
--- the bytes begin with no pair of values of the kind
-abbrev pub NoPair : FieldKind → List ℕ → Type 0
-NoPair k bytes = (ends : Ends) (rest : List ℕ) → MayBound k ends.least → MayBound k ends.greatest → bytes ≢ pair_bytes ends ++ rest
+no_first : (f : Field) (fs : List Field) (more : List Ends) (rest : List ℕ) → AllZip MayEnd (f ∷ fs) more → rest ≡ bounds_bytes more → NoBound f.kind rest → ⊥
+no_first f fs [] rest all e none = absurd all
+no_first f fs (ends ∷ others) rest all e none =
+    none ends.least (bound_bytes ends.greatest ++ bounds_bytes others) (record { may = all.0.0; spelled = e ∙ append_assoc (bound_bytes ends.least) (bound_bytes ends.greatest) (bounds_bytes others) })
 
-pub no_first : (k : FieldKind) (bytes : List ℕ) → NoBound k bytes → NoPair k bytes
-no_first k bytes none ends rest may other e =
-    none ends.least (bound_bytes ends.greatest ++ rest) (record { may = may; spelled = e ∙ append_assoc (bound_bytes ends.least) (bound_bytes ends.greatest) rest })
-
-pub no_second : (k : FieldKind) (bytes following : List ℕ) (least : Value) → IsBound k bytes least following → NoBound k following → NoPair k bytes
-no_second k bytes following least first none ends rest may other e =
-    let tail : List ℕ = bound_bytes ends.greatest ++ rest in
-    let one : following ≡ tail = bound_following k least ends.least following tail first.may may (sym first.spelled ∙ e ∙ append_assoc (bound_bytes ends.least) (bound_bytes ends.greatest) rest) in
-    none ends.greatest rest (record { may = other; spelled = one })
-
-pub pair_read : (k : FieldKind) (bytes following rest : List ℕ) (least greatest : Value) → IsBound k bytes least following → IsBound k following greatest rest → bytes ≡ pair_bytes (record { least = least; greatest = greatest }) ++ rest
-pair_read k bytes following rest least greatest first second = first.spelled ∙ ap (λ b. bound_bytes least ++ b) second.spelled ∙ sym (append_assoc (bound_bytes least) (bound_bytes greatest) rest)
-
-no_next : (f : Field) (fs : List Field) (more : List Ends) (rest : List ℕ) → AllZip MayEnd (f ∷ fs) more → rest ≡ bounds_bytes more → NoPair f.kind rest → ⊥
-no_next f fs [] rest all e none = absurd all
-no_next f fs (ends ∷ others) rest all e none = none ends (bounds_bytes others) all.0.0 all.0.1 e
+no_second : (f : Field) (fs : List Field) (more : List Ends) (least : Value) (rest following : List ℕ) → AllZip MayEnd (f ∷ fs) more → rest ≡ bounds_bytes more → IsBound f.kind rest least following → NoBound f.kind following → ⊥
+no_second f fs [] least rest following all e first none = absurd all
+no_second f fs (ends ∷ others) least rest following all e first none =
+    let tail : List ℕ = bound_bytes ends.greatest ++ bounds_bytes others in
+    let one : following ≡ tail = bound_following f.kind least ends.least following tail first.may all.0.0 (sym first.spelled ∙ e ∙ append_assoc (bound_bytes ends.least) (bound_bytes ends.greatest) (bounds_bytes others)) in
+    none ends.greatest (bounds_bytes others) (record { may = all.0.1; spelled = one })
 
 -- the fields that are left begin with this one
 ahead : (fields : List Field) (at : ℕ) (f : Field) → at < length fields → f ≡ get_or fields at f → drop at fields ≡ f ∷ drop (at + 1) fields
@@ -213,10 +204,16 @@ bounds_more fields bytes at f bounds new least greatest rest following after lt 
           next_pair f (drop (at + 1) fields) more least greatest rest following after (subst (λ fs. AllZip MayEnd fs more) (ahead fields at f lt is) zip) e first second;
     })
 
-pub no_ends : (fields : List Field) (bytes : List ℕ) (at : ℕ) (f : Field) (bounds : List Ends) (rest : List ℕ) → at < length fields → f ≡ get_or fields at f → NoPair f.kind rest → BoundsRead fields bytes at bounds rest → (all : List Ends) → ¬ AreBounds fields bytes all
-no_ends fields bytes at f bounds rest lt is none so_far all are =
+pub no_least : (fields : List Field) (bytes : List ℕ) (at : ℕ) (f : Field) (bounds : List Ends) (rest : List ℕ) → at < length fields → f ≡ get_or fields at f → NoBound f.kind rest → BoundsRead fields bytes at bounds rest → (all : List Ends) → ¬ AreBounds fields bytes all
+no_least fields bytes at f bounds rest lt is none so_far all are =
     let (more, zip, e) = so_far.left all are in
-    no_next f (drop (at + 1) fields) more rest (subst (λ fs. AllZip MayEnd fs more) (ahead fields at f lt is) zip) e none
+    no_first f (drop (at + 1) fields) more rest (subst (λ fs. AllZip MayEnd fs more) (ahead fields at f lt is) zip) e none
+
+pub no_greatest : (fields : List Field) (bytes : List ℕ) (at : ℕ) (f : Field) (bounds : List Ends) (least : Value) (rest following : List ℕ) → at < length fields → f ≡ get_or fields at f → IsBound f.kind rest least following → NoBound f.kind following
+    → BoundsRead fields bytes at bounds rest → (all : List Ends) → ¬ AreBounds fields bytes all
+no_greatest fields bytes at f bounds least rest following lt is first none so_far all are =
+    let (more, zip, e) = so_far.left all are in
+    no_second f (drop (at + 1) fields) more least rest following (subst (λ fs. AllZip MayEnd fs more) (ahead fields at f lt is) zip) e first none
 
 empty : {X : Type 0} (xs : List X) → length xs ≡ 0 → xs ≡ []
 empty [] e = refl

@@ -1,8 +1,8 @@
 //! The bounds of columns: the least and the greatest value of each.
-ghost use Rattle.std.specs.Prelude.{◌≡◌, ◌≢◌, ◌<◌, ◌^◌, ◌++◌, List, ℕ, true, length, IfOk, OnOk, MatchOption};
+ghost use Rattle.std.specs.Prelude.{◌≡◌, ◌≢◌, ◌<◌, ◌^◌, ◌++◌, List, true, length, IfOk, OnOk, MatchOption};
 ghost use Rattle.dictionary.specs.Spelling.{number_bytes};
 ghost use Rattle.values.specs.Numbers.{is_in_range};
-ghost use Rattle.segment_file.specs.Bounds.{AreBounds, IsBound, IsShort, MayBound, NoBound, bound_bytes, bounds_bytes, bounds_of, ends_of, pair_bytes};
+ghost use Rattle.segment_file.specs.Bounds.{AreBounds, IsBound, IsShort, NoBound, bound_bytes, bounds_bytes, bounds_of, ends_of};
 ghost use Rattle.segment_file.specs.Front.{short};
 
 use crate::NoMemory;
@@ -70,38 +70,20 @@ pub fn read_bounds(
     let mut bounds = Vec::with_capacity(alloc, fields.len())?;
     let mut rest = bytes;
     for field in fields {
-        let Some((ends, following)) = read_ends(alloc, field.kind, rest)? else {
+        let Some((least, following)) = read_bound(alloc, field.kind, rest)? else {
             return Ok(None);
         };
-        bounds.push(ends)?;
-        rest = following;
+        let Some((greatest, after)) = read_bound(alloc, field.kind, following)? else {
+            return Ok(None);
+        };
+        bounds.push(Ends { least, greatest })?;
+        rest = after;
     }
     if rest.is_empty() {
         Ok(Some(bounds))
     } else {
         Ok(None)
     }
-}
-
-// The least and the greatest value of the kind at the front, and the bytes after them.
-fn read_ends(
-    alloc: Global,
-    kind: FieldKind,
-    bytes: &[u8],
-) -> Result<Option<(Ends, &[u8])>, NoMemory>
-    ensures { IfOk result (λ read. MatchOption read
-        ((ends : Ends) (rest : List ℕ) → MayBound kind ends.least → MayBound kind ends.greatest →
-        bytes.now ≢ pair_bytes ends ++ rest)
-        (λ p. MayBound kind p.0.least × MayBound kind p.0.greatest
-        × (bytes.now ≡ pair_bytes p.0 ++ p.1.now))) }
-{
-    let Some((least, following)) = read_bound(alloc, kind, bytes)? else {
-        return Ok(None);
-    };
-    let Some((greatest, rest)) = read_bound(alloc, kind, following)? else {
-        return Ok(None);
-    };
-    Ok(Some((Ends { least, greatest }, rest)))
 }
 
 // The value of the kind at the front, and the bytes after it.
