@@ -1,6 +1,8 @@
 -- What a call leaves where it hands on a fault, or where a growth was refused.
 use Rattle.std.proofs.Common.{◌≡◌, ◌≢◌, Err, Ok, Result, ap}
 use Rattle.std.specs.Result.{IfErr, IfOk, IsErr, IsErrAnd, IsErrOf}
+use Rattle.outside.specs.declared.shelf.ShelfFault.{ShelfFault}
+use Rattle.outside.specs.declared.shelf.ShelfFault.TheVariants as shelf
 use Rattle.outside.specs.Seen.{OnlyReads, Seen}
 use Rattle.outside.proofs.SeenLemmas.{reads_after, reads_so}
 use Rattle.segment_file.specs.declared.fault.HeadFault.{HeadFault}
@@ -74,3 +76,21 @@ well_read x e = cc
 
 pub other_fault : (p : Part) → fault.NotASegment p ≢ fault.ReadFault
 other_fault p e = cc
+
+-- ---- what a fault of a shelf is for a head
+
+shelf_same : {T : Type 0} (a b : ShelfFault) → IsErrOf {T = T} {E = ShelfFault} (Err a) b → a ≡ b
+shelf_same a b e = cc
+
+pub shelf_well : {T : Type 0} (x : T) (old new : Seen) → OnlyReads (IsErrOf {T = T} {E = ShelfFault} (Ok x) shelf.Failed) old new → OnlyReads ⊥ old new
+shelf_well {T} x old new reads = reads_so (IsErrOf {T = T} {E = ShelfFault} (Ok x) shelf.Failed) ⊥ old new (λ e. absurd e) (λ e. absurd cc) reads
+
+pub shelf_handed : {T U : Type 0} (a : ShelfFault) (b : HeadFault) (old new : Seen) → (b ≡ fault.ReadFault → a ≡ shelf.Failed) → (a ≡ shelf.Failed → b ≡ fault.ReadFault) → OnlyReads (IsErrOf {T = T} {E = ShelfFault} (Err a) shelf.Failed) old new → OnlyReads (IsErrOf {T = U} {E = HeadFault} (Err b) fault.ReadFault) old new
+shelf_handed {T} {U} a b old new from to reads =
+    reads_so (IsErrOf {T = T} {E = ShelfFault} (Err a) shelf.Failed) (IsErrOf {T = U} {E = HeadFault} (Err b) fault.ReadFault) old new (λ e. ap Err (from (err_same {T = U} b fault.ReadFault e))) (λ e. ap Err (to (shelf_same {T = T} a shelf.Failed e))) reads
+
+pub shelf_ok : {T : Type 0} (x : T) → ¬ IsErrOf {T = T} {E = ShelfFault} (Ok x) shelf.Failed
+shelf_ok x e = cc
+
+pub shelf_other : {T : Type 0} (a : ShelfFault) → a ≢ shelf.Failed → ¬ IsErrOf {T = T} {E = ShelfFault} (Err a) shelf.Failed
+shelf_other {T} a other e = other (shelf_same {T = T} a shelf.Failed e)

@@ -17,3 +17,4 @@ pub mod TreeChecks
 mod TreeSteps
 pub mod ImageTrees
 pub mod SectionBytes
+mod Loops

@@ -1,7 +1,9 @@
 -- A head that is opened in steps has what the whole head has.
-use Rattle.std.proofs.Common.{◌≡◌, ◌≢◌, ◌∙◌, ◌<◌, ◌≤◌, ◌+◌, ◌^◌, ℕ, zero, suc, All, List, [], ◌∷◌, ◌++◌, length, map, get_or, set, take, drop, sum, replicate, Option, Some, None, IfSome, refl, sym, ap, subst, arith, length-take}
+use Rattle.std.proofs.Common.{◌≡◌, ◌≢◌, ◌∙◌, ◌<◌, ◌≤◌, ◌+◌, ◌^◌, ℕ, zero, suc, All, List, [], ◌∷◌, ◌++◌, length, map, get_or, set, take, drop, sum, replicate, Option, Some, None, IfSome, MatchOption, true, false, refl, sym, ap, subst, arith, length-take}
 use Rattle.std.specs.Prelude.{option_map, slice_get}
-use Rattle.std.proofs.lemmas.List.{get_or-map, get_or-replicate, get_or-take, length-map, length-append, length-replicate, take-take}
+use Rattle.std.proofs.lemmas.List.{get_or-map, get_or-replicate, get_or-take, length-map, length-set, length-append, length-replicate, take-take}
+use Rattle.std.proofs.lemmas.Bool.{false≢true}
+use Rattle.std.specs.Option.{is_some}
 use Rattle.std.proofs.lemmas.List.Elements.{All-get_or}
 use Rattle.std.proofs.lemmas.List.FromFn.{length-range_with_len}
 use Rattle.std.proofs.lemmas.List.Sums.{sum_by-cons, sum_by-take-le}
@@ -424,3 +426,24 @@ same_loads head column d at = record { loaded = (d, at); rows_same = refl; secti
 -- a dictionary that is not loaded
 pub not_loaded : (head : Seen) (column : ℕ) → slice_get head.dictionaries column ≡ Some None → ¬ IsLoaded head column
 not_loaded head column none (d, at) = absurd cc
+
+-- a head in which a dictionary was loaded is one of the table as before
+pub kept_head : (table : Table) (head : Seen) (column : ℕ) (d : Distinct) → IsHeadOf table head → IsHeadOf table (with_dictionary column d head)
+kept_head table head column d is = record {
+  name = is.name;
+  file = is.file;
+  front = is.front;
+  few = is.few;
+  each = is.each;
+  small = is.small;
+  has = record { rows_are = is.has.rows_are; sections_are = is.has.sections_are; slots = length-set head.dictionaries column (Some d) ∙ is.has.slots; tree_slots = is.has.tree_slots };
+}
+
+-- what an option that was looked at has to show
+pub absent : {A : Type 0} (o : Option A) (P : Type 0) (Q : A → Type 0) → false ≡ is_some o → MatchOption o P Q → P
+absent None P Q e known = known
+absent (Some x) P Q e known = absurd (false≢true e)
+
+pub present : {A : Type 0} (o : Option A) (P : Type 0) (Q : A → Type 0) → true ≡ is_some o → MatchOption o P Q → (x : A) × Q x
+present None P Q e known = absurd (false≢true (sym e))
+present (Some x) P Q e known = (x, known)

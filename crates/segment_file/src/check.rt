@@ -114,19 +114,31 @@ pub fn place_sections(
     let mut sections = Vec::with_capacity(alloc, parts.len())?;
     let mut offset = start;
     for at in 0..parts.len() {
-        let file = Name::from_string(String::from_str(alloc, file)?);
-        let place = Place {
-            file,
-            offset,
-            length: sizes[at],
-        };
-        sections.push(Section {
-            part: parts[at],
-            place,
-        })?;
+        let section = placed(alloc, file, parts[at], offset, sizes[at])?;
+        sections.push(section)?;
         offset += sizes[at];
     }
     Ok(sections)
+}
+
+// A section of so many bytes that begins at a place of a file.
+fn placed(
+    alloc: Global,
+    file: &str,
+    part: Part,
+    offset: u64,
+    length: u64,
+) -> Result<Section, NoMemory>
+    ensures { IfOk result (λ section. section
+        ≡ placed file.now (record { part = part; offset = offset; size = length })) }
+{
+    let file = Name::from_string(String::from_str(alloc, file)?);
+    let place = Place {
+        file,
+        offset,
+        length,
+    };
+    Ok(Section { part, place })
 }
 
 // Whether the bytes are the bounds of columns with these dictionaries.

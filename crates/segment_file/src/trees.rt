@@ -1,5 +1,5 @@
 //! The nodes of the star-trees of a segment's file.
-ghost use Rattle.std.specs.Prelude.{◌≡◌, ◌≤◌, ◌<◌, ◌+◌, ◌++◌, ◌∷◌, [], ℕ, length, map, IfOk, IfErr, OnOk, IsErrOf};
+ghost use Rattle.std.specs.Prelude.{◌≡◌, ◌≤◌, ◌<◌, ◌+◌, ◌++◌, ◌∷◌, ◌↔◌, [], ℕ, length, map, MatchBool, IfOk, IfErr, OnOk, IsErrOf};
 ghost use Rattle.std.specs.List.{All};
 ghost use Rattle.table_schema.specs.ValidTable.{IsValidTable};
 ghost use Rattle.segment_file.specs.Heads.{nodes_said, trees_said};
@@ -46,10 +46,18 @@ pub fn check_tree(
         Ok(found) => found,
         Err(fault) => return Err(fault),
     };
-    if (documents == 0) != (rows == 0) {
+    if !fits_rows(documents, rows) {
         return Err(NodesFault::BadNodes);
     }
     Ok(TreeNodes { documents, nodes })
+}
+
+// Whether there are no documents exactly where there are no rows.
+fn fits_rows(documents: u32, rows: u32) -> bool
+    ensures { MatchBool result ((documents ≡ 0) ↔ (rows ≡ 0))
+        (¬ ((documents ≡ 0) ↔ (rows ≡ 0))) }
+{
+    (documents == 0) == (rows == 0)
 }
 
 /// The nodes of all trees, or the number of the first tree whose section has none.

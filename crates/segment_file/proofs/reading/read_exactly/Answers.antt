@@ -1,6 +1,10 @@
 use Rattle.std.proofs.Common.{◌≡◌, ◌+◌, length, subst, arith}
 use Rattle.outside.specs.Reads.{LogsThrough}
 use Rattle.outside.proofs.ReadLemmas.{LogsFilled-through}
+use Rattle.outside.specs.Seen.{seen}
+use Rattle.segment_file.specs.declared.fault.HeadFault.TheVariants.{NotASegment}
+use Rattle.segment_file.specs.declared.part.Part.TheVariants as part
+use Rattle.segment_file.proofs.Faults.{other_fault, reads_ended, reads_other, shelf_handed, shelf_well}
 use Rattle.segment_file.proofs.reading.read_exactly.Goals as goal
 
 pub returns-then-len-count-clause-log_of_fault : goal.returns-then-len-count-clause-log_of_fault
@@ -18,3 +22,28 @@ returns-clause-log g c =
     let last = g.S.Shelf.log c.read_bytes.new.shelf in
     let size : length c.in-Ok.bytes ≡ c.args.count = omega (arith, c.in-Ok.ensures.bound, c.if-len-count.false) in
     subst (λ n. LogsThrough file offset (offset + n) first last) size (LogsFilled-through file offset (offset + length c.in-Ok.bytes) (offset + c.args.count) first last c.in-Ok.ensures.log)
+
+pub returns-in-Err-clause-only_reads : goal.returns-in-Err-clause-only_reads
+returns-in-Err-clause-only_reads g c =
+    shelf_handed c.in-Err.fault c.of_shelf.result (seen g.S.Shelf c.args.shelf.now) (seen g.S.Shelf c.read_bytes.new.shelf) c.of_shelf.ensures.failed.0 c.of_shelf.ensures.failed.1 c.in-Err.ensures.only_reads
+
+pub returns-then-len-count-clause-only_reads : goal.returns-then-len-count-clause-only_reads
+returns-then-len-count-clause-only_reads g c =
+    let old = seen g.S.Shelf c.args.shelf.now in
+    let new = seen g.S.Shelf c.read_bytes.new.shelf in
+    reads_other (NotASegment part.Head) old new (other_fault part.Head) (shelf_well c.in-Ok.bytes old new c.in-Ok.ensures.only_reads)
+
+pub returns-clause-only_reads : goal.returns-clause-only_reads
+returns-clause-only_reads g c =
+    let old = seen g.S.Shelf c.args.shelf.now in
+    let new = seen g.S.Shelf c.read_bytes.new.shelf in
+    reads_ended c.in-Ok.bytes old new (shelf_well c.in-Ok.bytes old new c.in-Ok.ensures.only_reads)
+
+pub returns-in-Err-clause-log_of_fault : goal.returns-in-Err-clause-log_of_fault
+returns-in-Err-clause-log_of_fault g c = c.in-Err.ensures.log_of_fault
+
+pub returns-clause-size : goal.returns-clause-size
+returns-clause-size g c = omega (arith, c.in-Ok.ensures.bound, c.if-len-count.false)
+
+pub returns-clause-bytes : goal.returns-clause-bytes
+returns-clause-bytes g c = c.in-Ok.ensures.bytes

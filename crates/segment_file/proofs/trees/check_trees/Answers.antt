@@ -5,10 +5,11 @@ use Rattle.std.specs.List.{range_with_len}
 use Rattle.std.specs.Prelude.{slice_get, Some}
 use Rattle.segment_file.specs.declared.part.Part.TheVariants as parts
 use Rattle.segment_file.specs.declared.trees.TreeNodes.{TreeNodes}
-use Rattle.segment_file.specs.Heads.{nodes_said}
-use Rattle.segment_file.specs.Reading.{count_at, heads_read}
+use Rattle.segment_file.specs.Heads.{nodes_said, trees_said}
+use Rattle.segment_file.specs.Reading.{NodesStop, count_at, heads_read}
 use Rattle.segment_file.specs.Rules.{HaveNodes, nodes_in}
 use Rattle.segment_file.proofs.Composed.{spelled_length}
+use Rattle.segment_file.proofs.Faults.{growth_bad, growth_ok, growth_read}
 use Rattle.segment_file.proofs.TreeChecks.{bad_nodes, few_dims, have_more, nodes_are, nodes_has, split_known, tree_read}
 use Rattle.segment_file.proofs.trees.check_trees.Goals as goal
 
@@ -84,3 +85,45 @@ check_tree-requires-clause-kinds c =
     let lt : c.loop-tree.tree < length table.settings.trees = omega (arith, c.loop-tree-test.true, ap length c.as_slice-settings.ensures) in
     let at : slice_get table.settings.trees c.loop-tree.tree ≡ Some tree = slice_get-get_or table.settings.trees c.loop-tree.tree tree lt ∙ ap Some (sym (c.index-settings-tree.is ∙ ap (λ xs. get_or xs c.loop-tree.tree tree) c.as_slice-settings.ensures)) in
     (few_dims table c.loop-tree.tree tree c.requires.valid at).1
+
+pub overflow_add-first : goal.overflow_add-first
+overflow_add-first c = omega (arith, c.len-first.ensures, c.requires.valid.schema.few)
+
+pub bounds-sections-first : goal.bounds-sections-first
+bounds-sections-first c = omega (arith, c.len-first.ensures, c.requires.each, c.loop-tree-test.true, ap length c.as_slice-settings.ensures)
+
+pub returns-in_err-trees : goal.returns-in_err-trees
+returns-in_err-trees c =
+    let table = c.args.table.now in
+    let heads = heads_read table c.args.sections.now c.args.bytes.now in
+    let r = c.from_residual in
+    record {
+      said = growth_ok (λ trees. trees.items ≡ trees_said table heads) r.result r.ensures;
+      ok = growth_ok (λ trees. HaveNodes table c.args.rows heads (length table.settings.trees)) r.result r.ensures;
+      read = growth_read r.result r.ensures;
+      bad = growth_bad (λ p. (t : ℕ) × (p ≡ parts.Nodes t) × NodesStop table c.args.rows heads t) r.result r.ensures;
+    }
+
+pub returns-in_err-counts : goal.returns-in_err-counts
+returns-in_err-counts c =
+    let table = c.args.table.now in
+    let heads = heads_read table c.args.sections.now c.args.bytes.now in
+    let r = c.from_residual-in_err-counts in
+    record {
+      said = growth_ok (λ trees. trees.items ≡ trees_said table heads) r.result r.ensures;
+      ok = growth_ok (λ trees. HaveNodes table c.args.rows heads (length table.settings.trees)) r.result r.ensures;
+      read = growth_read r.result r.ensures;
+      bad = growth_bad (λ p. (t : ℕ) × (p ≡ parts.Nodes t) × NodesStop table c.args.rows heads t) r.result r.ensures;
+    }
+
+pub returns-in_err-keep-in-Ok : goal.returns-in_err-keep-in-Ok
+returns-in_err-keep-in-Ok c =
+    let table = c.args.table.now in
+    let heads = heads_read table c.args.sections.now c.args.bytes.now in
+    let r = c.from_residual-in_err-keep-in-Ok in
+    record {
+      said = growth_ok (λ trees. trees.items ≡ trees_said table heads) r.result r.ensures;
+      ok = growth_ok (λ trees. HaveNodes table c.args.rows heads (length table.settings.trees)) r.result r.ensures;
+      read = growth_read r.result r.ensures;
+      bad = growth_bad (λ p. (t : ℕ) × (p ≡ parts.Nodes t) × NodesStop table c.args.rows heads t) r.result r.ensures;
+    }

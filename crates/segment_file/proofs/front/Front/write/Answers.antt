@@ -32,3 +32,15 @@ returns c =
     c.in_ok-push_directory.ensures ∙ (λ i. c.push_counts.new.out.items ++ directory (extents_from c.front_size-start.result (sections i) (sizes i))) in
     front_written table name f c.front_size-start.result (c.front_size-start.result + c.head_size.result) (c.front_size-start.result + c.total.result) c.in_ok-out.out.items c.push_title.new.out.items c.push_counts.new.out.items c.push_directory.new.out.items
     start (λ i. start i + c.head_size.ensures i) (λ i. start i + second i) c.in_ok-out.ensures.items c.in_ok-push_title.ensures counts all
+
+pub head_size-requires-clause-short : goal.head_size-requires-clause-short
+head_size-requires-clause-short c = omega (arith, c.requires.short)
+
+pub total-requires : goal.total-requires
+total-requires c = omega (arith, c.requires.short, ap sum (c.deref.ensures.value ∙ ap (λ g. g.sizes) c.self.view_is))
+
+pub push_directory-requires : goal.push_directory-requires
+push_directory-requires c =
+    let sizes : c.deref-2.result.now ≡ c.args.self.now.sizes = c.deref-2.ensures.value ∙ ap (λ g. g.sizes) c.self.view_is in
+    let start : c.front_size-start.result ≡ front_size c.args.table.now c.args.name.now = c.front_size-start.ensures ∙ ap (λ parts. 38 + length c.args.name.now + 19 * length parts) c.requires.sections in
+    record { each = ap length sizes ∙ c.requires.each; short = omega (arith, c.requires.short, ap sum sizes, start) }

@@ -1,9 +1,9 @@
 use Rattle.std.proofs.Common.{refl, sym, subst, arith}
 use Rattle.outside.specs.Seen.{seen}
 use Rattle.outside.proofs.SeenLemmas.{reads_none}
-use Rattle.segment_file.specs.Heads.{IsPartOf, Loads, OfWhole}
+use Rattle.segment_file.specs.Heads.{IsHeadOf, IsPartOf, Loads, OfWhole}
 use Rattle.segment_file.proofs.Faults.{reads_ended, reads_handed, reads_well}
-use Rattle.segment_file.proofs.Steps.{kept_loads, kept_part, none_read}
+use Rattle.segment_file.proofs.Steps.{absent, kept_head, kept_loads, kept_part, none_read, not_loaded, present, same_loads, same_part}
 use Rattle.segment_file.proofs.head.Head.load_dictionary.Goals as goal
 
 pub returns-then-is_some-clause-log : goal.returns-then-is_some-clause-log
@@ -62,3 +62,29 @@ returns-clause-only_reads g c =
     let old = seen g.S.Shelf c.args.shelf.now in
     let new = seen g.S.Shelf c.read_dictionary.new.shelf in
     reads_ended tt old new (reads_well c.in-Ok.dictionary old new c.in-Ok.ensures.only_reads)
+
+pub returns-clause-of : goal.returns-clause-of
+returns-clause-of g c = subst (IsHeadOf c.args.table.now) (sym c.keep.ensures) (kept_head c.args.table.now c.args.self.now c.args.column c.in-Ok.dictionary c.requires.opened)
+
+pub returns-clause-loaded : goal.returns-clause-loaded
+returns-clause-loaded g c = λ is. absurd (not_loaded c.args.self.now c.args.column (absent c.loaded.result _ _ c.if-is_some.ensures c.loaded.ensures) is)
+
+pub returns-clause-log : goal.returns-clause-log
+returns-clause-log g c = c.in-Ok.ensures.log
+
+pub returns-in-Err-clause-loaded : goal.returns-in-Err-clause-loaded
+returns-in-Err-clause-loaded g c = λ is. absurd (not_loaded c.args.self.now c.args.column (absent c.loaded.result _ _ c.if-is_some.ensures c.loaded.ensures) is)
+
+pub returns-in-Err-clause-log : goal.returns-in-Err-clause-log
+returns-in-Err-clause-log g c = c.in-Err.ensures.log
+
+pub returns-then-is_some-clause-loaded : goal.returns-then-is_some-clause-loaded
+returns-then-is_some-clause-loaded g c = λ is. (refl, refl)
+
+pub returns-then-is_some-clause-loads : goal.returns-then-is_some-clause-loads
+returns-then-is_some-clause-loads g c =
+    let (d, at) = present c.loaded.result _ _ c.if-is_some.ensures c.loaded.ensures in
+    same_loads c.args.self.now c.args.column d.now at
+
+pub returns-then-is_some-clause-part : goal.returns-then-is_some-clause-part
+returns-then-is_some-clause-part g c = same_part c.args.table.now c.args.self.now (g.S.Shelf.held c.args.shelf.now)

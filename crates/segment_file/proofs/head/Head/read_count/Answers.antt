@@ -3,6 +3,11 @@ use Rattle.std.specs.Int.{w32, from_be_bytes}
 use Rattle.outside.specs.Files.{bytes_at, bytes_of}
 use Rattle.outside.specs.Reads.{LogsThrough, LogsUpTo}
 use Rattle.outside.proofs.ReadLemmas.{LogsThrough-none}
+use Rattle.outside.specs.Seen.{seen}
+use Rattle.outside.proofs.SeenLemmas.{reads_none}
+use Rattle.segment_file.specs.declared.fault.HeadFault.TheVariants.{NotASegment}
+use Rattle.segment_file.specs.declared.part.Part.TheVariants.{Dictionary}
+use Rattle.segment_file.proofs.Faults.{other_fault, reads_ended, reads_handed, reads_other, reads_well}
 use Rattle.segment_file.proofs.Steps.{count_none, count_over, count_whole, dictionary_slot, if_some, section_cut, section_few, section_within}
 use Rattle.segment_file.proofs.head.Head.read_count.Goals as goal
 
@@ -79,3 +84,29 @@ returns-clause-log g c =
     let s = c.dictionary_section.result.now in
     if_some _ s _ c.dictionary_section.ensures
     (s.place.offset + 4, omega arith, subst (λ f. LogsThrough f s.place.offset (s.place.offset + 4) (g.S.Shelf.log c.args.shelf.now) (g.S.Shelf.log c.read_exactly.new.shelf)) c.as_str.ensures c.in-Ok.ensures.log)
+
+pub returns-in-Err-clause-only_reads : goal.returns-in-Err-clause-only_reads
+returns-in-Err-clause-only_reads g c = reads_handed c.in-Err.fault (seen g.S.Shelf c.args.shelf.now) (seen g.S.Shelf c.read_exactly.new.shelf) c.in-Err.ensures.only_reads
+
+pub returns-then-place-lt4-clause-only_reads : goal.returns-then-place-lt4-clause-only_reads
+returns-then-place-lt4-clause-only_reads g c =
+    let old = seen g.S.Shelf c.args.shelf.now in
+    reads_other (NotASegment (Dictionary c.args.column)) old old (other_fault (Dictionary c.args.column)) (reads_none old)
+
+pub returns-then-count-self-clause-only_reads : goal.returns-then-count-self-clause-only_reads
+returns-then-count-self-clause-only_reads g c =
+    let old = seen g.S.Shelf c.args.shelf.now in
+    let new = seen g.S.Shelf c.read_exactly.new.shelf in
+    reads_other (NotASegment (Dictionary c.args.column)) old new (other_fault (Dictionary c.args.column)) (reads_well c.in-Ok.bytes old new c.in-Ok.ensures.only_reads)
+
+pub returns-then-self-gt0-clause-only_reads : goal.returns-then-self-gt0-clause-only_reads
+returns-then-self-gt0-clause-only_reads g c =
+    let old = seen g.S.Shelf c.args.shelf.now in
+    let new = seen g.S.Shelf c.read_exactly.new.shelf in
+    reads_other (NotASegment (Dictionary c.args.column)) old new (other_fault (Dictionary c.args.column)) (reads_well c.in-Ok.bytes old new c.in-Ok.ensures.only_reads)
+
+pub returns-clause-only_reads : goal.returns-clause-only_reads
+returns-clause-only_reads g c =
+    let old = seen g.S.Shelf c.args.shelf.now in
+    let new = seen g.S.Shelf c.read_exactly.new.shelf in
+    reads_ended c.four_at-count.result old new (reads_well c.in-Ok.bytes old new c.in-Ok.ensures.only_reads)

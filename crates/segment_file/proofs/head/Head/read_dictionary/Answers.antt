@@ -1,6 +1,8 @@
 use Rattle.std.proofs.Common.{◌≡◌, ◌∙◌, ◌<◌, ◌+◌, Some, Err, IfSome, get_or, length, sym, ap, subst, arith}
 use Rattle.outside.specs.Files.{bytes_at, bytes_of}
 use Rattle.outside.specs.Reads.{LogsThrough, LogsUpTo}
+use Rattle.outside.specs.Seen.{seen}
+use Rattle.segment_file.proofs.Faults.{reads_ended, reads_handed, reads_other, reads_well}
 use Rattle.segment_file.specs.Image.{kind_at}
 use Rattle.segment_file.proofs.HeadLemmas.{kind_found}
 use Rattle.segment_file.proofs.Steps.{bad_fault, dictionary_none, dictionary_slot, dictionary_whole, if_some, section_cut, section_within, spelled_there}
@@ -72,3 +74,18 @@ returns-clause-log g c =
     let s = c.dictionary_section.result.now in
     if_some _ s _ c.dictionary_section.ensures
     (s.place.offset + s.place.length, omega arith, subst (λ f. LogsThrough f s.place.offset (s.place.offset + s.place.length) (g.S.Shelf.log c.args.shelf.now) (g.S.Shelf.log c.read_exactly.new.shelf)) c.as_str-file.ensures c.in-Ok.ensures.log)
+
+pub returns-in-Err-clause-only_reads : goal.returns-in-Err-clause-only_reads
+returns-in-Err-clause-only_reads g c = reads_handed c.in-Err.fault (seen g.S.Shelf c.args.shelf.now) (seen g.S.Shelf c.read_exactly.new.shelf) c.in-Err.ensures.only_reads
+
+pub returns-in-Ok-check_dictionary-clause-only_reads : goal.returns-in-Ok-check_dictionary-clause-only_reads
+returns-in-Ok-check_dictionary-clause-only_reads g c =
+    let old = seen g.S.Shelf c.args.shelf.now in
+    let new = seen g.S.Shelf c.read_exactly.new.shelf in
+    reads_ended c.in-Ok-check_dictionary.dictionary old new (reads_well c.in-Ok.bytes old new c.in-Ok.ensures.only_reads)
+
+pub returns-clause-only_reads : goal.returns-clause-only_reads
+returns-clause-only_reads g c =
+    let old = seen g.S.Shelf c.args.shelf.now in
+    let new = seen g.S.Shelf c.read_exactly.new.shelf in
+    reads_other c.of_dictionary.result old new c.of_dictionary.ensures.read (reads_well c.in-Ok.bytes old new c.in-Ok.ensures.only_reads)

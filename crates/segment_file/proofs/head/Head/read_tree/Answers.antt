@@ -2,6 +2,9 @@ use Rattle.std.proofs.Common.{◌≡◌, ◌∙◌, ◌<◌, ◌+◌, Some, Err,
 use Rattle.outside.specs.Files.{bytes_at, bytes_of}
 use Rattle.outside.specs.Reads.{LogsThrough, LogsUpTo}
 use Rattle.segment_file.specs.Heads.{AreKept, HaveCounts, OfWhole, nodes_said, nodes_section}
+use Rattle.outside.specs.Seen.{seen}
+use Rattle.outside.proofs.SeenLemmas.{reads_after}
+use Rattle.segment_file.proofs.Faults.{reads_ended, reads_err, reads_handed, reads_other, reads_well}
 use Rattle.segment_file.proofs.Steps.{if_some, none_read, section_within}
 use Rattle.segment_file.proofs.TreeChecks.{bad_nodes, few_kinds, valid_at}
 use Rattle.segment_file.proofs.TreeSteps.{kept_so, nodes_as, nodes_cut, nodes_none, nodes_slot, nodes_whole, split_is}
@@ -154,3 +157,33 @@ returns-in-Ok-check_tree-clause-keeps g c =
     let each : length c.deref.result.now ≡ tree.shape.dims = ap length c.deref.ensures.value ∙ c.in-Ok.ensures.each ∙ ap length (split_is table c.args.tree tree c.at.ensures) ∙ sym valid.has_dims in
     if_some _ tree (λ setting. AreKept setting.shape c.in-Ok.counts.items c.in-Ok-check_tree.nodes) c.at.ensures
     (kept_so tree.shape c.deref.result.now c.in-Ok.counts.items c.as_slice.result.now _ c.in-Ok-check_tree.nodes c.deref.ensures.value c.in-Ok-check_tree.ensures.said c.in-Ok-check_tree.ensures.ok each)
+
+pub returns-in-Err-clause-refused : goal.returns-in-Err-clause-refused
+returns-in-Err-clause-refused g c = c.in-Err.ensures.refused
+
+pub returns-in-Err-clause-only_reads : goal.returns-in-Err-clause-only_reads
+returns-in-Err-clause-only_reads g c = reads_handed c.in-Err.fault (seen g.S.Shelf c.args.shelf.now) (seen g.S.Shelf c.split_counts.new.shelf) c.in-Err.ensures.only_reads
+
+pub returns-in-Err-read_exactly-clause-only_reads : goal.returns-in-Err-read_exactly-clause-only_reads
+returns-in-Err-read_exactly-clause-only_reads g c =
+    let old = seen g.S.Shelf c.args.shelf.now in
+    let between = seen g.S.Shelf c.split_counts.new.shelf in
+    reads_err c.in-Err-read_exactly.fault old between (seen g.S.Shelf c.read_exactly.new.shelf) (reads_well c.in-Ok.counts old between c.in-Ok.ensures.only_reads) c.in-Err-read_exactly.ensures.only_reads
+
+pub returns-in-Ok-check_tree-clause-counts : goal.returns-in-Ok-check_tree-clause-counts
+returns-in-Ok-check_tree-clause-counts g c = c.in-Ok.ensures.counts
+
+pub returns-in-Ok-check_tree-clause-only_reads : goal.returns-in-Ok-check_tree-clause-only_reads
+returns-in-Ok-check_tree-clause-only_reads g c =
+    let old = seen g.S.Shelf c.args.shelf.now in
+    let between = seen g.S.Shelf c.split_counts.new.shelf in
+    let new = seen g.S.Shelf c.read_exactly.new.shelf in
+    reads_ended _ old new (reads_after ⊥ old between new (reads_well c.in-Ok.counts old between c.in-Ok.ensures.only_reads) (reads_well c.in-Ok-read_exactly.bytes between new c.in-Ok-read_exactly.ensures.only_reads))
+
+pub returns-in-Err-check_tree-clause-only_reads : goal.returns-in-Err-check_tree-clause-only_reads
+returns-in-Err-check_tree-clause-only_reads g c =
+    let old = seen g.S.Shelf c.args.shelf.now in
+    let between = seen g.S.Shelf c.split_counts.new.shelf in
+    let new = seen g.S.Shelf c.read_exactly.new.shelf in
+    reads_other c.of_nodes.result old new c.of_nodes.ensures.read
+    (reads_after ⊥ old between new (reads_well c.in-Ok.counts old between c.in-Ok.ensures.only_reads) (reads_well c.in-Ok-read_exactly.bytes between new c.in-Ok-read_exactly.ensures.only_reads))
