@@ -1,14 +1,16 @@
 //! What comes of a query over a table: `Reason@byte`, or the bound query.
 
+use crate::queries::show_query_fault;
 use crate::schemas::show_fault;
+use crate::text::Text;
+use crate::trees::op_word;
 use query_bind::{BindFault, bind};
-use query_parser::{QueryFault, parse};
+use query_parser::parse;
 use schema_json::{TextFault, read_schema};
 use settings_json::read_settings;
-use std::alloc::{AllocError, Global};
-use std::fmt::Write;
+use std::alloc::Global;
 use table_schema::{Agg, BoundQuery, Conjunct, Item, Table, Wide};
-use values::{CompareOp, Test, Value};
+use values::{Test, Value};
 
 /// The texts of a table.
 pub struct TableTexts {
@@ -47,125 +49,84 @@ fn read(alloc: Global, texts: &TableTexts) -> Result<Table, TextFault> {
     Ok(Table { schema, settings })
 }
 
-// Why there is no bound query.
-#[derive(Drop)]
-enum Unbound {
-    Table(TextFault),
-    TooLong,
-    Query(QueryFault),
-    Bind(BindFault),
-}
-
-fn show_unbound(alloc: Global, unbound: &Unbound) -> Result<String, AllocError> {
-    match unbound {
-        Unbound::Table(fault) => show_fault(alloc, fault),
-        Unbound::TooLong => String::from_str(alloc, "too long"),
-        Unbound::Query(QueryFault::At(reason, place)) => format!(in alloc; "{reason:?}@{place}"),
-        Unbound::Bind(BindFault::At(reason, place)) => format!(in alloc; "{reason:?}@{place}"),
-        Unbound::Query(QueryFault::NoMemory) => Err(AllocError),
-        Unbound::Bind(BindFault::NoMemory) => Err(AllocError),
+// Adds the bound query, or of one that may name any table only the conjuncts.
+fn show_bound(bound: &Result<BoundQuery, BindFault>, any_table: bool, out: &Text) {
+    match bound {
+        Ok(query) if any_table => show_conjuncts(query, out),
+        Ok(query) => show_query(query, out),
+        Err(BindFault::At(reason, place)) => {
+            out.add_debug(reason);
+            out.add_place(*place);
+        }
+        Err(BindFault::NoMemory) => out.add("NoMemory"),
     }
 }
 
-fn bind_text(
-    alloc: Global,
-    table: &Table,
-    text: &str,
-    any_table: bool,
-) -> Result<BoundQuery, Unbound> {
+fn bind_text(alloc: Global, table: &Table, text: &str, any_table: bool, out: &Text) {
     if text.len() > 65536 || table.schema.fields.len() > 64 {
-        return Err(Unbound::TooLong);
+        out.add("too long");
+        return;
     }
     match parse(alloc, text) {
-        Ok(query) => bind(alloc, &query, table, any_table).map_err(Unbound::Bind),
-        Err(fault) => Err(Unbound::Query(fault)),
+        Ok(query) => {
+            let bound = bind(alloc, &query, table, any_table);
+            drop(query);
+            show_bound(&bound, any_table, out);
+            drop(bound);
+        }
+        Err(fault) => show_query_fault(fault, out),
     }
 }
 
-fn bound(
-    alloc: Global,
-    texts: &TableTexts,
-    text: &str,
-    any_table: bool,
-) -> Result<BoundQuery, Unbound> {
-    match read(alloc, texts) {
-        Ok(table) => bind_text(alloc, &table, text, any_table),
-        Err(fault) => Err(Unbound::Table(fault)),
+fn show_over(alloc: Global, texts: &TableTexts, text: &str, any_table: bool, out: &Text) {
+    let table = read(alloc, texts);
+    match &table {
+        Ok(table) => bind_text(alloc, table, text, any_table, out),
+        Err(fault) => show_fault(fault, out),
     }
+    drop(table);
 }
 
-/// What comes of a query whose FROM has to name the table.
-pub fn bound_query(alloc: Global, texts: &TableTexts, text: &str) -> Result<String, AllocError> {
-    match bound(alloc, texts, text, false) {
-        Ok(query) => query_text(alloc, &query),
-        Err(unbound) => show_unbound(alloc, &unbound),
-    }
+/// Adds what comes of a query whose FROM has to name the table.
+pub fn bound_query(alloc: Global, texts: &TableTexts, text: &str, out: &Text) {
+    show_over(alloc, texts, text, false, out);
 }
 
-fn query_text(alloc: Global, query: &BoundQuery) -> Result<String, AllocError> {
-    let mut out = String::new(alloc);
-    show_query(&mut out, query)?;
-    Ok(out)
+/// Adds the conjuncts of a condition, in a query whose FROM names another table.
+pub fn conjuncts_of(alloc: Global, texts: &TableTexts, text: &str, out: &Text) {
+    let query = Text::new(alloc);
+    query.add("SELECT COUNT(*) FROM any WHERE ");
+    query.add(text);
+    let query = query.into_string();
+    show_over(alloc, texts, query.as_str(), true, out);
+    drop(query);
 }
 
-fn conjuncts_text(alloc: Global, query: &BoundQuery) -> Result<String, AllocError> {
-    let mut out = String::new(alloc);
-    show_conjuncts(&mut out, query)?;
-    Ok(out)
+fn show_value(value: &Value, out: &Text) {
+    out.add_value(value, ("'", "'"));
 }
 
-fn conjuncts(alloc: Global, texts: &TableTexts, query: &str) -> Result<String, AllocError> {
-    match bound(alloc, texts, query, true) {
-        Ok(query) => conjuncts_text(alloc, &query),
-        Err(unbound) => show_unbound(alloc, &unbound),
-    }
-}
-
-/// The conjuncts of a condition, in a query whose FROM names another table.
-pub fn conjuncts_of(alloc: Global, texts: &TableTexts, text: &str) -> Result<String, AllocError> {
-    let query = format!(in alloc; "SELECT COUNT(*) FROM any WHERE {text}")?;
-    conjuncts(alloc, texts, query.as_str())
-}
-
-fn show_value(out: &mut String, value: &Value) -> Result<(), AllocError> {
-    match value {
-        Value::Whole(number) => write!(out, "{number}"),
-        Value::Text(text) => write!(out, "'{}'", text.as_str()),
-    }
-}
-
-fn op_word(op: CompareOp) -> &'static str {
-    match op {
-        CompareOp::Equal => "=",
-        CompareOp::Unequal => "<>",
-        CompareOp::Less => "<",
-        CompareOp::AtMost => "<=",
-        CompareOp::More => ">",
-        CompareOp::AtLeast => ">=",
-    }
-}
-
-fn show_one_of(out: &mut String, values: &[Value], negated: bool) -> Result<(), AllocError> {
-    out.push_str(if negated { "!in(" } else { "in(" })?;
+fn show_one_of(values: &[Value], negated: bool, out: &Text) {
+    out.add(if negated { "!in(" } else { "in(" });
     for value in values {
-        show_value(out, value)?;
-        out.push_str(" ")?;
+        show_value(value, out);
+        out.add(" ");
     }
-    out.push_str(")")
+    out.add(")");
 }
 
-fn show_test(out: &mut String, test: &Test) -> Result<(), AllocError> {
+fn show_test(test: &Test, out: &Text) {
     match test {
         Test::Compare(op, value) => {
-            out.push_str(op_word(*op))?;
-            show_value(out, value)
+            out.add(op_word(*op));
+            show_value(value, out);
         }
-        Test::OneOf(values, negated) => show_one_of(out, values.as_slice(), *negated),
+        Test::OneOf(values, negated) => show_one_of(values.as_slice(), *negated, out),
         Test::Between(low, high, negated) => {
-            out.push_str(if *negated { "!" } else { "" })?;
-            show_value(out, low)?;
-            out.push_str("..")?;
-            show_value(out, high)
+            out.add(if *negated { "!" } else { "" });
+            show_value(low, out);
+            out.add("..");
+            show_value(high, out);
         }
         Test::All(inner) | Test::Any(inner) => {
             let word = if let Test::All(_) = test {
@@ -173,114 +134,125 @@ fn show_test(out: &mut String, test: &Test) -> Result<(), AllocError> {
             } else {
                 "any("
             };
-            out.push_str(word)?;
+            out.add(word);
             for test in inner.as_slice() {
-                show_test(out, test)?;
-                out.push_str(" ")?;
+                show_test(test, out);
+                out.add(" ");
             }
-            out.push_str(")")
+            out.add(")");
         }
     }
 }
 
-fn show_wide(out: &mut String, wide: &Wide) -> Result<(), AllocError> {
+// Adds a test on a field.
+fn show_tested(field: u16, test: &Test, out: &Text) {
+    out.add_count(u64::from(field));
+    out.add(":");
+    show_test(test, out);
+}
+
+fn show_wide(wide: &Wide, out: &Text) {
     match wide {
-        Wide::Leaf(field, test) => {
-            write!(out, "{field}:")?;
-            show_test(out, test)
-        }
+        Wide::Leaf(field, test) => show_tested(*field, test, out),
         Wide::All(inner) | Wide::Any(inner) => {
             let word = if let Wide::All(_) = wide {
                 "all("
             } else {
                 "any("
             };
-            out.push_str(word)?;
+            out.add(word);
             for wide in inner.as_slice() {
-                show_wide(out, wide)?;
-                out.push_str(" ")?;
+                show_wide(wide, out);
+                out.add(" ");
             }
-            out.push_str(")")
+            out.add(")");
         }
     }
 }
 
-fn show_conjuncts(out: &mut String, query: &BoundQuery) -> Result<(), AllocError> {
-    out.push_str("where")?;
+fn show_conjunct(conjunct: &Conjunct, out: &Text) {
+    out.add(" ");
+    match conjunct {
+        Conjunct::One(field, test) => show_tested(*field, test, out),
+        Conjunct::Many(wide) => {
+            out.add("many ");
+            show_wide(wide, out);
+        }
+    }
+}
+
+fn show_conjuncts(query: &BoundQuery, out: &Text) {
+    out.add("where");
     for conjunct in query.conjuncts.as_slice() {
-        match conjunct {
-            Conjunct::One(field, test) => {
-                write!(out, " {field}:")?;
-                show_test(out, test)?;
-            }
-            Conjunct::Many(wide) => {
-                out.push_str(" many ")?;
-                show_wide(out, wide)?;
-            }
-        }
-    }
-    Ok(())
-}
-
-fn show_item(out: &mut String, item: Item) -> Result<(), AllocError> {
-    match item {
-        Item::Group(place) => write!(out, "g{place}"),
-        Item::Agg(place) => write!(out, "a{place}"),
+        show_conjunct(conjunct, out);
     }
 }
 
-fn show_labels(out: &mut String, query: &BoundQuery) -> Result<(), AllocError> {
+fn show_item(item: Item, out: &Text) {
+    let (word, place) = match item {
+        Item::Group(place) => (" g", place),
+        Item::Agg(place) => (" a", place),
+    };
+    out.add(word);
+    out.add_count(u64::from(place));
+}
+
+fn show_labels(query: &BoundQuery, out: &Text) {
     for label in query.labels.as_slice() {
-        write!(out, "{} ", label.as_str())?;
+        out.add(label.as_str());
+        out.add(" ");
     }
-    out.push_str("are")?;
+    out.add("are");
+}
+
+fn show_items(query: &BoundQuery, out: &Text) {
     for item in query.items.as_slice() {
-        out.push_str(" ")?;
-        show_item(out, *item)?;
-    }
-    Ok(())
-}
-
-fn show_agg(out: &mut String, agg: Agg) -> Result<(), AllocError> {
-    match agg.column {
-        Some(column) => write!(out, " {:?}{column}", agg.kind),
-        None => write!(out, " {:?}", agg.kind),
+        show_item(*item, out);
     }
 }
 
-fn show_groups(out: &mut String, query: &BoundQuery) -> Result<(), AllocError> {
-    out.push_str(" by")?;
+fn show_agg(agg: Agg, out: &Text) {
+    out.add(" ");
+    out.add_debug(&agg.kind);
+    if let Some(column) = agg.column {
+        out.add_count(u64::from(column));
+    }
+}
+
+fn show_groups(query: &BoundQuery, out: &Text) {
+    out.add(" by");
     for group in query.groups.as_slice() {
-        write!(out, " {group}")?;
+        out.add(" ");
+        out.add_count(u64::from(*group));
     }
-    Ok(())
 }
 
-fn show_aggs(out: &mut String, query: &BoundQuery) -> Result<(), AllocError> {
-    out.push_str(" of")?;
+fn show_aggs(query: &BoundQuery, out: &Text) {
+    out.add(" of");
     for agg in query.aggs.as_slice() {
-        show_agg(out, *agg)?;
+        show_agg(*agg, out);
     }
-    Ok(())
 }
 
-fn show_order(out: &mut String, query: &BoundQuery) -> Result<(), AllocError> {
-    out.push_str(" order")?;
+fn show_order(query: &BoundQuery, out: &Text) {
+    out.add(" order");
     for key in query.order.as_slice() {
-        out.push_str(" ")?;
-        show_item(out, key.item)?;
-        out.push_str(if key.descending { "-" } else { "" })?;
+        show_item(key.item, out);
+        out.add(if key.descending { "-" } else { "" });
     }
-    Ok(())
 }
 
-fn show_query(out: &mut String, query: &BoundQuery) -> Result<(), AllocError> {
-    show_labels(out, query)?;
-    show_groups(out, query)?;
-    show_aggs(out, query)?;
-    show_order(out, query)?;
-    out.push_str(" ")?;
-    show_conjuncts(out, query)?;
-    write!(out, " skip {} take {}", query.offset, query.limit)?;
-    out.push_str(if query.use_tree { "" } else { " no tree" })
+fn show_query(query: &BoundQuery, out: &Text) {
+    show_labels(query, out);
+    show_items(query, out);
+    show_groups(query, out);
+    show_aggs(query, out);
+    show_order(query, out);
+    out.add(" ");
+    show_conjuncts(query, out);
+    out.add(" skip ");
+    out.add_count(query.offset);
+    out.add(" take ");
+    out.add_count(query.limit);
+    out.add(if query.use_tree { "" } else { " no tree" });
 }

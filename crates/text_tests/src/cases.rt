@@ -2,69 +2,56 @@
 
 use crate::escapes::{on_one_line, unescaped};
 use crate::subject::Subject;
-use std::alloc::{AllocError, Global};
+use crate::text::Text;
+use std::alloc::Global;
+use std::cell::Cell;
 
-/// How many cases a file has, and the lines of those that are wrong.
-#[derive(Drop)]
-pub struct Report {
-    pub count: u64,
-    pub wrong: Vec<String>,
+/// How many cases a file has, the lines of those that are wrong, and what came so far of the case that runs.
+#[derive(Clone, Copy)]
+pub struct Report<'a> {
+    pub count: &'a Cell<u64>,
+    pub wrong: &'a Text,
+    pub found: &'a Text,
 }
 
-impl Report {
-    pub fn new(alloc: Global) -> Report {
-        Report {
-            count: 0,
-            wrong: Vec::new(alloc),
+impl<'a> Report<'a> {
+    fn compare(&self, found: &str, expected: &str, line: &str) {
+        if found != expected {
+            self.wrong.add("wrong: ");
+            self.wrong.add(found);
+            self.wrong.add(" for ");
+            self.wrong.add(line);
+            self.wrong.add("\n");
         }
     }
 
-    /// Counts a case, and notes its line where it is wrong.
-    pub fn add(&mut self, wrong: Option<String>) -> Result<(), AllocError> {
-        self.count = self.count.saturating_add(1);
-        if let Some(line) = wrong {
-            self.wrong.push(line)?;
-        }
-        Ok(())
+    /// Ends a case: notes its line where something else came of it.
+    pub fn end_case(&self, alloc: Global, expected: &str, line: &str) {
+        self.count.set(self.count.get().saturating_add(1));
+        let found = self.found.take();
+        let shown = on_one_line(alloc, found.as_str());
+        drop(found);
+        self.compare(shown.as_str(), expected, line);
+        drop(shown);
     }
 }
 
-/// What is wrong with what came, if something is.
-pub fn compared(
-    alloc: Global,
-    found: &str,
-    expected: &str,
-    line: &str,
-) -> Result<Option<String>, AllocError> {
-    let found = on_one_line(alloc, found)?;
-    if found.as_str() == expected {
-        return Ok(None);
-    }
-    Ok(Some(format!(in alloc; "{found} for {line}")?))
-}
-
-// What comes of a text on one line.
-fn outcome(alloc: Global, subject: Subject, text: &str) -> Result<String, AllocError> {
-    let bytes = unescaped(alloc, text)?;
-    subject.outcome(alloc, bytes.as_slice())
-}
-
-// What is wrong with a case, if something is.
-fn wrong_case(alloc: Global, subject: Subject, line: &str) -> Result<Option<String>, AllocError> {
+fn run_case(alloc: Global, subject: Subject, line: &str, report: &Report) {
     let Some((expected, text)) = line.split_once('|') else {
-        return Ok(Some(format!(in alloc; "no bar: {line}")?));
+        report.found.add("no bar");
+        return report.end_case(alloc, "", line);
     };
-    let found = outcome(alloc, subject, text)?;
-    compared(alloc, found.as_str(), expected, line)
+    let bytes = unescaped(alloc, text);
+    subject.outcome(alloc, bytes.as_slice(), report.found);
+    drop(bytes);
+    report.end_case(alloc, expected, line);
 }
 
 /// Runs the cases of a file. Lines that begin with `#` are comments.
-pub fn run_cases(alloc: Global, subject: Subject, file: &str) -> Result<Report, AllocError> {
-    let mut report = Report::new(alloc);
+pub fn run_cases(alloc: Global, subject: Subject, file: &str, report: &Report) {
     for line in file.lines() {
         if !line.starts_with('#') {
-            report.add(wrong_case(alloc, subject, line)?)?;
+            run_case(alloc, subject, line, report);
         }
     }
-    Ok(report)
 }

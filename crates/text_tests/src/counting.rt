@@ -1,7 +1,8 @@
 //! A depot in memory that counts what is read of some parts of its files.
 
+use crate::text::{Text, string};
 use outside::{Depot, DepotFault, MemoryDepot, Name, Seq, Shelf, ShelfFault};
-use std::alloc::{AllocError, Global};
+use std::alloc::Global;
 
 /// The bytes of a file from one place up to another, and how many of them were read.
 #[derive(Drop)]
@@ -14,25 +15,18 @@ pub struct Span {
 }
 
 impl Span {
-    pub fn new(
-        alloc: Global,
-        label: &str,
-        file: &str,
-        (from, to): (u64, u64),
-    ) -> Result<Self, AllocError> {
-        let label = String::from_str(alloc, label)?;
-        let file = String::from_str(alloc, file)?;
-        Ok(Span {
-            label,
-            file,
+    pub fn new(alloc: Global, label: &str, file: &str, (from, to): (u64, u64)) -> Span {
+        Span {
+            label: string(alloc, label),
+            file: string(alloc, file),
             from,
             to,
             read: 0,
-        })
+        }
     }
 
     // A span of the same bytes, of which nothing was read.
-    fn fresh(&self, alloc: Global) -> Result<Span, AllocError> {
+    fn fresh(&self, alloc: Global) -> Span {
         let ends = (self.from, self.to);
         Span::new(alloc, self.label.as_str(), self.file.as_str(), ends)
     }
@@ -58,6 +52,15 @@ impl Span {
     }
 }
 
+/// Spans of the same bytes, of which nothing was read.
+pub fn fresh_spans(alloc: Global, spans: &[Span]) -> Vec<Span> {
+    let mut fresh = Vec::new(alloc);
+    for span in spans {
+        let _added = fresh.push(span.fresh(alloc));
+    }
+    fresh
+}
+
 /// A depot in memory, and what was read of spans of its files.
 #[derive(Drop)]
 pub struct CountingDepot {
@@ -66,20 +69,25 @@ pub struct CountingDepot {
 }
 
 impl CountingDepot {
-    /// A depot whose reads of these spans are counted from now on.
-    pub fn new(alloc: Global, depot: MemoryDepot, spans: &[Span]) -> Result<Self, AllocError> {
-        let mut fresh = Vec::with_capacity(alloc, spans.len())?;
-        for span in spans {
-            fresh.push(span.fresh(alloc)?)?;
-        }
-        Ok(CountingDepot {
-            depot,
-            spans: fresh,
-        })
+    /// A depot of which the reads of these spans are counted from now on.
+    pub fn new(depot: MemoryDepot, spans: Vec<Span>) -> CountingDepot {
+        CountingDepot { depot, spans }
     }
 
-    /// How many bytes were read of the spans of a label since this was last asked.
-    pub fn taken(&mut self, label: &str) -> u64 {
+    /// Adds each label, and how many bytes were read of its spans since this was last asked.
+    pub fn show_taken(&mut self, labels: &str, out: &Text) {
+        let mut is_first = true;
+        for label in labels.split(' ') {
+            out.add(if is_first { "" } else { " " });
+            out.add(label);
+            out.add(" ");
+            out.add_count(self.taken(label));
+            is_first = false;
+        }
+    }
+
+    // How many bytes were read of the spans of a label since this was last asked.
+    fn taken(&mut self, label: &str) -> u64 {
         let mut taken: u64 = 0;
         for span in &mut self.spans {
             taken = taken.saturating_add(span.taken(label));

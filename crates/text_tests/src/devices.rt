@@ -1,12 +1,12 @@
 //! The devices of a command, in memory.
 
-use crate::counting::{CountingDepot, Span};
-use crate::long_files::LongFiles;
-use outside::{Bytes, Depot, MemoryDepot, MemoryShelf, MemorySink, Name, Seq, Shelf, read_all};
+use crate::counting::{CountingDepot, Span, fresh_spans};
+use crate::inputs::Inputs;
+use crate::text::{Text, number, parted};
+use outside::{Bytes, MemoryDepot, MemoryShelf, MemorySink, Name, NoMemory, Seq, read_all};
 use pinot_run::run_command;
-use std::alloc::{AllocError, Global};
-use std::fmt::Write;
-use table_store::{StoreFault, open_table};
+use std::alloc::Global;
+use table_store::open_table;
 
 /// Files by name.
 pub type Files = Seq<(Name, Bytes)>;
@@ -18,12 +18,12 @@ struct Streams {
     notes: MemorySink,
 }
 
-/// The input files, the store and the two streams.
+/// The input files, the store and the two streams, each where there was memory for it.
 #[derive(Drop)]
 pub struct Devices {
-    inputs: MemoryShelf,
-    depot: CountingDepot,
-    streams: Streams,
+    inputs: Result<Inputs, NoMemory>,
+    depot: Result<CountingDepot, NoMemory>,
+    streams: Result<Streams, NoMemory>,
 }
 
 // The most bytes that a stream takes.
@@ -38,31 +38,25 @@ fn added(bytes: &[u8], start: usize) -> &str {
     }
 }
 
-/// The number that a text spells, or none.
-pub fn number(text: &str) -> u32 {
-    text.parse::<u32>().unwrap_or(0)
-}
-
 // The numbers from 0 of the calls of a device that fail.
-fn failing(alloc: Global, calls: &str, device: &str) -> Result<Seq<u64>, AllocError> {
+fn failing(alloc: Global, calls: &str, device: &str) -> Seq<u64> {
     let mut numbers = Seq::new(alloc);
     for call in calls.split(' ') {
-        if let Some((name, at)) = call.split_once(':') {
-            if name == device {
-                numbers.push(u64::from(number(at)))?;
-            }
+        let (name, at) = parted(call, ':');
+        if name == device {
+            let _added = numbers.push(u64::from(number(at)));
         }
     }
-    Ok(numbers)
+    numbers
 }
 
-fn stream(alloc: Global, calls: &str, device: &str) -> Result<MemorySink, AllocError> {
-    MemorySink::with_room(alloc, ROOM, failing(alloc, calls, device)?)
+fn stream(alloc: Global, calls: &str, device: &str) -> Result<MemorySink, NoMemory> {
+    MemorySink::with_room(alloc, ROOM, failing(alloc, calls, device))
 }
 
 impl Streams {
     // Streams of which these calls fail.
-    fn new(alloc: Global, calls: &str) -> Result<Streams, AllocError> {
+    fn new(alloc: Global, calls: &str) -> Result<Streams, NoMemory> {
         let out = stream(alloc, calls, "out")?;
         let notes = stream(alloc, calls, "notes")?;
         Ok(Streams { out, notes })
@@ -73,28 +67,22 @@ impl Streams {
         (self.out.bytes().len(), self.notes.bytes().len())
     }
 
-    // A status, and what the streams were given after that many bytes.
-    fn shown(
-        &self,
-        alloc: Global,
-        status: u8,
-        starts: (usize, usize),
-    ) -> Result<String, AllocError> {
-        let out = added(self.out.bytes(), starts.0);
+    // Adds what the streams were given after that many bytes.
+    fn show_added(&self, starts: (usize, usize), out: &Text) {
+        out.add(added(self.out.bytes(), starts.0));
         let notes = added(self.notes.bytes(), starts.1);
-        let mark = if notes.is_empty() { "" } else { "! " };
-        format!(in alloc; "{status} {out}{mark}{notes}")
+        out.add(if notes.is_empty() { "" } else { "! " });
+        out.add(notes);
     }
 }
 
-fn run_over<I: Shelf, D: Depot>(
+fn run_over(
     alloc: Global,
-    words: &Vec<String>,
-    inputs: &mut I,
-    depot: &mut D,
+    words: &[String],
+    inputs: &mut Inputs,
+    depot: &mut CountingDepot,
     streams: &mut Streams,
-) -> Result<String, AllocError> {
-    let starts = streams.lengths();
+) -> u8 {
     let status = run_command(
         alloc,
         words,
@@ -103,14 +91,7 @@ fn run_over<I: Shelf, D: Depot>(
         &mut streams.out,
         &mut streams.notes,
     );
-    streams.shown(alloc, status.code(), starts)
-}
-
-/// The same where each input file is too long for every command.
-pub fn run_over_long_files(alloc: Global, words: &Vec<String>) -> Result<String, AllocError> {
-    let mut depot = MemoryDepot::new(alloc, Seq::new(alloc), Seq::new(alloc))?;
-    let mut streams = Streams::new(alloc, "")?;
-    run_over(alloc, words, &mut LongFiles, &mut depot, &mut streams)
+    status.code()
 }
 
 // A store of these files, of which these calls fail and the reads of these spans are counted.
@@ -119,65 +100,74 @@ fn store(
     stored: Files,
     spans: &[Span],
     calls: &str,
-) -> Result<CountingDepot, AllocError> {
-    let depot = MemoryDepot::new(alloc, stored, failing(alloc, calls, "depot")?)?;
-    CountingDepot::new(alloc, depot, spans)
+) -> Result<CountingDepot, NoMemory> {
+    let depot = MemoryDepot::new(alloc, stored, failing(alloc, calls, "depot"))?;
+    Ok(CountingDepot::new(depot, fresh_spans(alloc, spans)))
 }
 
-/// Input files, of which these calls fail.
-pub fn inputs_of(alloc: Global, files: Files, calls: &str) -> Result<MemoryShelf, AllocError> {
-    MemoryShelf::new(alloc, files, failing(alloc, calls, "inputs")?)
+// Input files, of which these calls fail.
+fn inputs_of(alloc: Global, files: Files, calls: &str) -> Result<Inputs, NoMemory> {
+    let files = MemoryShelf::new(alloc, files, failing(alloc, calls, "inputs"))?;
+    let are_long = calls == "long";
+    Ok(Inputs { files, are_long })
 }
 
 impl Devices {
     /// Devices with these input files and published files. The calls that fail are `DEVICE:NUMBER`, from 0 on, with
-    /// blanks between them.
-    pub fn new(
-        alloc: Global,
-        inputs: MemoryShelf,
-        stored: Files,
-        spans: &[Span],
-        calls: &str,
-    ) -> Result<Devices, AllocError> {
-        let depot = store(alloc, stored, spans, calls)?;
-        let streams = Streams::new(alloc, calls)?;
-        Ok(Devices {
-            inputs,
-            depot,
-            streams,
-        })
-    }
-
-    /// Runs a command: its status, its reply and, after an exclamation mark, its note line.
-    pub fn run(&mut self, alloc: Global, words: &Vec<String>) -> Result<String, AllocError> {
-        let streams = &mut self.streams;
-        run_over(alloc, words, &mut self.inputs, &mut self.depot, streams)
-    }
-
-    /// How many bytes were read of the spans of each label since this was last asked.
-    pub fn reads(&mut self, alloc: Global, labels: &str) -> Result<String, AllocError> {
-        let mut text = String::new(alloc);
-        for label in labels.split(' ') {
-            let gap = if text.is_empty() { "" } else { " " };
-            write!(text, "{gap}{label} {}", self.depot.taken(label))?;
-        }
-        Ok(text)
-    }
-
-    /// The bytes of the table's file.
-    pub fn table_file(&mut self, alloc: Global) -> Result<String, AllocError> {
-        match read_all(alloc, &mut self.depot, "table", 4096) {
-            Ok(file) => String::from_str(alloc, added(file.as_slice(), 0)),
-            Err(fault) => format!(in alloc; "{fault:?}"),
+    /// blanks between them; where they are `long`, none fails, and every input file is too long.
+    pub fn new(alloc: Global, files: Files, stored: Files, spans: &[Span], calls: &str) -> Devices {
+        Devices {
+            inputs: inputs_of(alloc, files, calls),
+            depot: store(alloc, stored, spans, calls),
+            streams: Streams::new(alloc, calls),
         }
     }
 
-    /// Opens the table of the store: its name, or why there is none.
-    pub fn open(&mut self, alloc: Global) -> Result<String, AllocError> {
-        match open_table(alloc, &mut self.depot) {
-            Ok(table) => String::from_str(alloc, table.settings.table.as_str()),
-            Err(StoreFault::NoMemory) => Err(AllocError),
-            Err(fault) => format!(in alloc; "{fault:?}"),
+    /// Runs a command, and adds its status, its reply and, after an exclamation mark, its note line.
+    pub fn run(&mut self, alloc: Global, words: &[String], out: &Text) {
+        let (Ok(inputs), Ok(depot), Ok(streams)) = (
+            &mut self.inputs,
+            &mut self.depot,
+            &mut self.streams,
+        ) else {
+            out.add("NoMemory");
+            return;
+        };
+        let starts = streams.lengths();
+        let status = run_over(alloc, words, inputs, depot, streams);
+        out.add_count(u64::from(status));
+        out.add(" ");
+        streams.show_added(starts, out);
+    }
+
+    /// Adds how many bytes were read of the spans of each label since this was last asked.
+    pub fn reads(&mut self, labels: &str, out: &Text) {
+        if let Ok(depot) = &mut self.depot {
+            depot.show_taken(labels, out);
+        }
+    }
+
+    /// Adds the bytes of the table's file.
+    pub fn table_file(&mut self, alloc: Global, out: &Text) {
+        if let Ok(depot) = &mut self.depot {
+            let file = read_all(alloc, depot, "table", 4096);
+            match &file {
+                Ok(file) => out.add(added(file.as_slice(), 0)),
+                Err(fault) => out.add_debug(fault),
+            }
+            drop(file);
+        }
+    }
+
+    /// Opens the table of the store, and adds its name, or why there is none.
+    pub fn open(&mut self, alloc: Global, out: &Text) {
+        if let Ok(depot) = &mut self.depot {
+            let table = open_table(alloc, depot);
+            match &table {
+                Ok(table) => out.add(table.settings.table.as_str()),
+                Err(fault) => out.add_debug(fault),
+            }
+            drop(table);
         }
     }
 }

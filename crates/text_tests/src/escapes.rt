@@ -1,6 +1,6 @@
 //! Texts on one line: `\n`, `\r`, `\t`, `\\` and `\xHH` are bytes.
 
-use std::alloc::{AllocError, Global};
+use std::alloc::Global;
 use std::fmt::Write;
 
 // Where the reading of a text is: in a backslash's word, or outside of one.
@@ -29,47 +29,49 @@ fn plain_escape(c: u8) -> u8 {
     }
 }
 
+// Adds a byte. Without memory it is left out.
+fn push(bytes: &mut Vec<u8>, c: u8) {
+    let _pushed = bytes.push(c);
+}
+
+// Reads the next byte of a text.
+fn read(bytes: &mut Vec<u8>, escape: Escape, c: u8) -> Escape {
+    match escape {
+        Escape::Outside if c == b'\\' => return Escape::Backslash,
+        Escape::Backslash if c == b'x' => return Escape::FirstDigit,
+        Escape::FirstDigit => return Escape::SecondDigit(hex_digit(c)),
+        Escape::Outside => push(bytes, c),
+        Escape::Backslash => push(bytes, plain_escape(c)),
+        Escape::SecondDigit(high) => push(bytes, (high % 16) * 16 + hex_digit(c) % 16),
+    }
+    Escape::Outside
+}
+
 /// The bytes that a text on one line spells.
-pub fn unescaped(alloc: Global, text: &str) -> Result<Vec<u8>, AllocError> {
-    let mut bytes = Vec::with_capacity(alloc, text.len())?;
+pub fn unescaped(alloc: Global, text: &str) -> Vec<u8> {
+    let mut bytes = Vec::new(alloc);
     let mut escape = Escape::Outside;
     for c in text.as_bytes() {
-        escape = match (escape, *c) {
-            (Escape::Outside, b'\\') => Escape::Backslash,
-            (Escape::Backslash, b'x') => Escape::FirstDigit,
-            (Escape::FirstDigit, c) => Escape::SecondDigit(hex_digit(c)),
-            (Escape::Outside, c) => {
-                bytes.push(c)?;
-                Escape::Outside
-            }
-            (Escape::Backslash, c) => {
-                bytes.push(plain_escape(c))?;
-                Escape::Outside
-            }
-            (Escape::SecondDigit(high), c) => {
-                bytes.push((high % 16) * 16 + hex_digit(c) % 16)?;
-                Escape::Outside
-            }
-        };
+        escape = read(&mut bytes, escape, *c);
     }
-    Ok(bytes)
+    bytes
 }
 
 // Adds a character, or what is written for it.
-fn push_shown(line: &mut String, c: char) -> Result<(), AllocError> {
-    match c {
+fn push_shown(line: &mut String, c: char) {
+    let _pushed = match c {
         '\n' => line.push_str("\\n"),
         '\r' => line.push_str("\\r"),
         _ if c < ' ' => write!(line, "\\x{:02x}", c as u32),
         _ => line.push(c),
-    }
+    };
 }
 
 /// A text with its line ends spelled, and each other byte below a blank as `\xHH`.
-pub fn on_one_line(alloc: Global, text: &str) -> Result<String, AllocError> {
+pub fn on_one_line(alloc: Global, text: &str) -> String {
     let mut line = String::new(alloc);
     for c in text.chars() {
-        push_shown(&mut line, c)?;
+        push_shown(&mut line, c);
     }
-    Ok(line)
+    line
 }

@@ -9,40 +9,76 @@ mod counting;
 mod csv_texts;
 mod devices;
 mod escapes;
-mod long_files;
+mod inputs;
 mod queries;
 mod schemas;
 mod settings;
 mod subject;
+mod text;
 mod trees;
 
 use cases::{Report, run_cases};
 use commands::run_commands;
+use std::cell::Cell;
 use std::{env, fs, io};
 use subject::Subject;
+use text::Text;
 
-fn report(rt: &HostRuntime, name: &str) -> io::Result<Report> {
-    let path = format!(in rt.alloc(); "{name}.txt")?;
-    let text = fs::read_to_string(rt, path.as_str())?;
+fn run_text(rt: &HostRuntime, name: &str, text: &str, report: &Report) {
     match Subject::of_name(name) {
-        Some(subject) => Ok(run_cases(rt.alloc(), subject, text.as_str())?),
-        None => Ok(run_commands(rt.alloc(), text.as_str())?),
+        Some(subject) => run_cases(rt.alloc(), subject, text, report),
+        None => run_commands(rt.alloc(), text, report),
     }
 }
 
-// Prints how many cases a file has, and which of them are wrong.
-fn print(rt: &HostRuntime, name: &str, report: &Report) -> io::Result<()> {
-    println!(rt; "{name}: {} cases", report.count)?;
-    for line in &report.wrong {
-        println!(rt; "wrong: {line}")?;
+// Runs the cases of a file. One that is not read has none.
+fn run_file(rt: &HostRuntime, name: &str, report: &Report) {
+    let path = Text::new(rt.alloc());
+    path.add(name);
+    path.add(".txt");
+    let path = path.into_string();
+    if let Ok(text) = fs::read_to_string(rt, path.as_str()) {
+        run_text(rt, name, text.as_str(), report);
+        drop(text);
     }
-    Ok(())
+    drop(path);
+}
+
+// Adds how many cases a file has, and which of them are wrong.
+fn show_file(rt: &HostRuntime, name: &str, out: &Text) {
+    let count = Cell::new(0);
+    let wrong = Text::new(rt.alloc());
+    let found = Text::new(rt.alloc());
+    let report = Report {
+        count: &count,
+        wrong: &wrong,
+        found: &found,
+    };
+    run_file(rt, name, &report);
+    out.add(name);
+    out.add(": ");
+    out.add_count(count.get());
+    out.add(" cases\n");
+    let wrong = wrong.into_string();
+    out.add(wrong.as_str());
+    drop(wrong);
+    drop(found.into_string());
+}
+
+fn show_files(rt: &HostRuntime, out: &Text) {
+    if let Ok(names) = env::args(rt) {
+        for name in names.skip(1) {
+            show_file(rt, name.as_str(), out);
+            drop(name);
+        }
+    }
 }
 
 fn main(rt: HostRuntime) -> io::Result<()> {
-    for name in env::args(&rt)?.skip(1) {
-        let report = report(&rt, name.as_str())?;
-        print(&rt, name.as_str(), &report)?;
-    }
-    Ok(())
+    let out = Text::new(rt.alloc());
+    show_files(&rt, &out);
+    let lines = out.into_string();
+    let printed = print!(rt; "{}", lines.as_str());
+    drop(lines);
+    printed
 }

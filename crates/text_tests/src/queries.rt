@@ -1,89 +1,101 @@
 //! What comes of the text of a query: `Reason@byte`, or the syntax tree.
 
+use crate::text::{Text, number, parted};
 use crate::trees::show_query;
 use query_parser::{Query, QueryFault, parse};
-use std::alloc::{AllocError, Global};
+use std::alloc::Global;
 
 const MOST_BYTES: usize = 65536;
 
-fn tree_text(alloc: Global, query: &Query) -> Result<String, AllocError> {
-    let mut out = String::new(alloc);
-    show_query(&mut out, query)?;
-    Ok(out)
+/// Adds why a text is no query.
+pub fn show_query_fault(fault: QueryFault, out: &Text) {
+    match fault {
+        QueryFault::At(reason, place) => {
+            out.add_debug(&reason);
+            out.add_place(place);
+        }
+        QueryFault::NoMemory => out.add("NoMemory"),
+    }
 }
 
-pub fn outcome(alloc: Global, text: &str) -> Result<String, AllocError> {
+fn show_parsed(parsed: &Result<Query, QueryFault>, out: &Text) {
+    match parsed {
+        Ok(query) => show_query(query, out),
+        Err(fault) => show_query_fault(*fault, out),
+    }
+}
+
+pub fn outcome(alloc: Global, text: &str, out: &Text) {
     if text.len() > MOST_BYTES {
-        return String::from_str(alloc, "too long");
+        out.add("too long");
+        return;
     }
-    match parse(alloc, text) {
-        Ok(query) => tree_text(alloc, &query),
-        Err(QueryFault::At(reason, place)) => format!(in alloc; "{reason:?}@{place}"),
-        Err(QueryFault::NoMemory) => Err(AllocError),
-    }
+    let parsed = parse(alloc, text);
+    show_parsed(&parsed, out);
+    drop(parsed);
 }
 
 /// Where SELECT is, or the first fault: what comes before the first blank.
-pub fn first_word(alloc: Global, text: &str) -> Result<String, AllocError> {
-    let found = outcome(alloc, text)?;
-    match found.as_str().split_once(' ') {
-        Some((word, _)) => String::from_str(alloc, word),
-        None => Ok(found),
-    }
+pub fn first_word(alloc: Global, text: &str, out: &Text) {
+    outcome(alloc, text, out);
+    let found = out.take();
+    out.add(parted(found.as_str(), ' ').0);
+    drop(found);
 }
 
-// A text of a beginning, a number, what is between so many times, and an end, with `#` between them.
-fn repeated(alloc: Global, text: &str) -> Result<Option<String>, AllocError> {
-    let Some((start, rest)) = text.split_once('#') else {
-        return Ok(None);
-    };
-    let Some((count, rest)) = rest.split_once('#') else {
-        return Ok(None);
-    };
-    let Some((part, end)) = rest.split_once('#') else {
-        return Ok(None);
-    };
-    let mut whole = String::from_str(alloc, start)?;
-    for _ in 0..count.parse::<u32>().unwrap_or(0) {
-        whole.push_str(part)?;
+// A beginning, what is between so many times, and an end.
+fn repeated(alloc: Global, start: &str, (count, part): (u32, &str), end: &str) -> String {
+    let whole = Text::new(alloc);
+    whole.add(start);
+    for _ in 0..count {
+        whole.add(part);
     }
-    whole.push_str(end)?;
-    Ok(Some(whole))
+    whole.add(end);
+    whole.into_string()
 }
 
-/// The first word of what comes of a long text, spelled with a part that is repeated.
-pub fn long_outcome(alloc: Global, text: &str) -> Result<String, AllocError> {
-    match repeated(alloc, text)? {
-        Some(text) => first_word(alloc, text.as_str()),
-        None => String::from_str(alloc, "no long text"),
-    }
+/// The first word of what comes of a long text, spelled as a beginning, a number, a part that stands so many times,
+/// and an end, with `#` between them.
+pub fn long_outcome(alloc: Global, text: &str, out: &Text) {
+    let (start, rest) = parted(text, '#');
+    let (count, rest) = parted(rest, '#');
+    let (part, end) = parted(rest, '#');
+    let whole = repeated(alloc, start, (number(count), part), end);
+    first_word(alloc, whole.as_str(), out);
+    drop(whole);
 }
 
-// Whether a text is a query, or has a fault within it.
-fn is_answered(alloc: Global, text: &str) -> bool {
-    if text.len() > MOST_BYTES {
-        return false;
-    }
-    match parse(alloc, text) {
+// Whether a text of so many bytes is a query, or has a fault within it.
+fn is_answer(parsed: &Result<Query, QueryFault>, length: usize) -> bool {
+    match parsed {
         Ok(_) => true,
-        Err(QueryFault::At(_, place)) => place as usize <= text.len(),
+        Err(QueryFault::At(_, place)) => *place as usize <= length,
         Err(QueryFault::NoMemory) => false,
     }
 }
 
-/// Whether each beginning of a text is answered.
-pub fn outcome_of_beginnings(alloc: Global, text: &str) -> Result<String, AllocError> {
+// Adds a text that is not answered.
+fn check_answered(alloc: Global, text: &str, out: &Text) {
+    if text.len() > MOST_BYTES {
+        out.add("too long");
+        return;
+    }
+    let parsed = parse(alloc, text);
+    if !is_answer(&parsed, text.len()) {
+        out.add("not ");
+        out.add(text);
+    }
+    drop(parsed);
+}
+
+/// Whether each beginning of a text is answered; those that are not come first.
+pub fn outcome_of_beginnings(alloc: Global, text: &str, out: &Text) {
     let mut beginning = String::new(alloc);
     for c in text.chars() {
-        if !is_answered(alloc, beginning.as_str()) {
-            return Ok(beginning);
-        }
-        beginning.push(c)?;
+        check_answered(alloc, beginning.as_str(), out);
+        let _pushed = beginning.push(c);
     }
-    let answer = if is_answered(alloc, text) {
-        "answered"
-    } else {
-        "not answered"
-    };
-    String::from_str(alloc, answer)
+    drop(beginning);
+    check_answered(alloc, text, out);
+    out.add("answered");
 }

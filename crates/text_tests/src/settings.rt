@@ -2,46 +2,54 @@
 
 use crate::bindings::V;
 use crate::schemas::show_fault;
-use schema_json::read_schema;
+use crate::text::Text;
+use schema_json::{TextFault, read_schema};
 use settings_json::read_settings;
-use std::alloc::{AllocError, Global};
-use std::fmt::Write;
+use std::alloc::Global;
 use table_schema::Settings;
 
 // A letter for each field that is on a list, and a dot for each other.
-fn show_fields(out: &mut String, word: &str, fields: &[bool]) -> Result<(), AllocError> {
-    write!(out, " {word} ")?;
+fn show_fields(word: &str, fields: &[bool], out: &Text) {
+    out.add(word);
     for is_on in fields {
-        out.push_str(if *is_on { "x" } else { "." })?;
+        out.add(if *is_on { "x" } else { "." });
     }
-    Ok(())
 }
 
-fn show_settings(out: &mut String, settings: &Settings) -> Result<(), AllocError> {
-    out.push_str(settings.table.as_str())?;
-    match settings.sorted {
-        Some(field) => write!(out, " sorted {field}")?,
-        None => out.push_str(" sorted -")?,
+fn show_sorted(sorted: Option<u16>, out: &Text) {
+    out.add(" sorted ");
+    match sorted {
+        Some(field) => out.add_count(u64::from(field)),
+        None => out.add("-"),
     }
-    show_fields(out, "inverted", settings.inverted.as_slice())?;
-    show_fields(out, "ranged", settings.ranged.as_slice())?;
-    show_fields(out, "raw", settings.raw.as_slice())?;
-    write!(out, " trees {}", settings.trees.len())
 }
 
-fn settings_text(alloc: Global, settings: &Settings) -> Result<String, AllocError> {
-    let mut out = String::new(alloc);
-    show_settings(&mut out, settings)?;
-    Ok(out)
+fn show_settings(settings: &Settings, out: &Text) {
+    out.add(settings.table.as_str());
+    show_sorted(settings.sorted, out);
+    show_fields(" inverted ", settings.inverted.as_slice(), out);
+    show_fields(" ranged ", settings.ranged.as_slice(), out);
+    show_fields(" raw ", settings.raw.as_slice(), out);
+    out.add(" trees ");
+    out.add_count(settings.trees.len() as u64);
 }
 
-pub fn settings_outcome(alloc: Global, text: &[u8]) -> Result<String, AllocError> {
-    let schema = match read_schema(alloc, V.as_bytes()) {
-        Ok(schema) => schema,
-        Err(fault) => return show_fault(alloc, &fault),
-    };
-    match read_settings(alloc, &schema, text) {
-        Ok(settings) => settings_text(alloc, &settings),
-        Err(fault) => show_fault(alloc, &fault),
+fn show_read(settings: &Result<Settings, TextFault>, out: &Text) {
+    match settings {
+        Ok(settings) => show_settings(settings, out),
+        Err(fault) => show_fault(fault, out),
     }
+}
+
+pub fn settings_outcome(alloc: Global, text: &[u8], out: &Text) {
+    let schema = read_schema(alloc, V.as_bytes());
+    match &schema {
+        Ok(schema) => {
+            let settings = read_settings(alloc, schema, text);
+            show_read(&settings, out);
+            drop(settings);
+        }
+        Err(fault) => show_fault(fault, out),
+    }
+    drop(schema);
 }

@@ -5,7 +5,8 @@ use crate::csv_texts::{FIELDS, VISITS, rows_of_fields, rows_of_numbers};
 use crate::queries::{first_word, long_outcome, outcome, outcome_of_beginnings};
 use crate::schemas::schema_outcome;
 use crate::settings::settings_outcome;
-use std::alloc::{AllocError, Global};
+use crate::text::{Text, meaning};
+use std::alloc::Global;
 use values::{FieldKind, WholeFault, read_whole};
 
 #[derive(Clone, Copy)]
@@ -25,68 +26,69 @@ pub enum Subject {
     CsvVisits,
 }
 
-// A whole number, or why it is none.
-fn whole(alloc: Global, kind: FieldKind, text: &[u8]) -> Result<String, AllocError> {
+const NAMES: &[(&str, Subject)] = &[
+    ("whole_numbers", Subject::WholeNumbers),
+    ("queries", Subject::Queries),
+    ("long_queries", Subject::LongQueries),
+    ("characters", Subject::Characters),
+    ("cut_queries", Subject::CutQueries),
+    ("schemas", Subject::Schemas),
+    ("settings", Subject::Settings),
+    ("bound_v", Subject::BoundV),
+    ("bound_k", Subject::BoundK),
+    ("conditions", Subject::Conditions),
+    ("csv_numbers", Subject::CsvNumbers),
+    ("csv_fields", Subject::CsvFields),
+    ("csv_visits", Subject::CsvVisits),
+];
+
+// Adds a whole number, or why it is none.
+fn show_whole(kind: FieldKind, text: &[u8], out: &Text) {
     match read_whole(kind, text) {
-        Ok(number) => format!(in alloc; "{number}"),
-        Err(WholeFault::NotANumber) => String::from_str(alloc, "NotANumber"),
-        Err(WholeFault::OutOfRange) => String::from_str(alloc, "OutOfRange"),
+        Ok(number) => out.add_number(number),
+        Err(WholeFault::NotANumber) => out.add("NotANumber"),
+        Err(WholeFault::OutOfRange) => out.add("OutOfRange"),
     }
 }
 
-fn whole_numbers(alloc: Global, text: &[u8]) -> Result<String, AllocError> {
-    let int = whole(alloc, FieldKind::Int, text)?;
-    let long = whole(alloc, FieldKind::Long, text)?;
-    format!(in alloc; "{int} {long}")
+fn whole_numbers(text: &[u8], out: &Text) {
+    show_whole(FieldKind::Int, text, out);
+    out.add(" ");
+    show_whole(FieldKind::Long, text, out);
 }
 
 impl Subject {
     /// The subject whose cases are in the file of that name.
     pub fn of_name(name: &str) -> Option<Subject> {
-        match name {
-            "whole_numbers" => Some(Subject::WholeNumbers),
-            "queries" => Some(Subject::Queries),
-            "long_queries" => Some(Subject::LongQueries),
-            "characters" => Some(Subject::Characters),
-            "cut_queries" => Some(Subject::CutQueries),
-            "schemas" => Some(Subject::Schemas),
-            "settings" => Some(Subject::Settings),
-            "bound_v" => Some(Subject::BoundV),
-            "bound_k" => Some(Subject::BoundK),
-            "conditions" => Some(Subject::Conditions),
-            "csv_numbers" => Some(Subject::CsvNumbers),
-            "csv_fields" => Some(Subject::CsvFields),
-            "csv_visits" => Some(Subject::CsvVisits),
-            _ => None,
-        }
+        meaning(NAMES, name)
     }
 
-    /// What comes of a text.
-    pub fn outcome(self, alloc: Global, text: &[u8]) -> Result<String, AllocError> {
+    /// Adds what comes of a text.
+    pub fn outcome(self, alloc: Global, text: &[u8], out: &Text) {
         match self {
-            Subject::WholeNumbers => whole_numbers(alloc, text),
-            Subject::Schemas => schema_outcome(alloc, text),
-            Subject::Settings => settings_outcome(alloc, text),
-            Subject::CsvNumbers => rows_of_numbers(alloc, text),
-            Subject::CsvFields => rows_of_fields(alloc, FIELDS, text),
-            Subject::CsvVisits => rows_of_fields(alloc, VISITS, text),
+            Subject::WholeNumbers => whole_numbers(text, out),
+            Subject::Schemas => schema_outcome(alloc, text, out),
+            Subject::Settings => settings_outcome(alloc, text, out),
+            Subject::CsvNumbers => rows_of_numbers(alloc, text, out),
+            Subject::CsvFields => rows_of_fields(alloc, FIELDS, text, out),
+            Subject::CsvVisits => rows_of_fields(alloc, VISITS, text, out),
             _ => match str::from_utf8(text) {
-                Ok(text) => self.outcome_of_query(alloc, text),
-                Err(_) => String::from_str(alloc, "not UTF-8"),
+                Ok(text) => self.outcome_of_query(alloc, text, out),
+                Err(_) => out.add("not UTF-8"),
             },
         }
     }
 
-    // What comes of the text of a query or of a condition.
-    fn outcome_of_query(self, alloc: Global, text: &str) -> Result<String, AllocError> {
+    // Adds what comes of the text of a query or of a condition.
+    fn outcome_of_query(self, alloc: Global, text: &str, out: &Text) {
         match self {
-            Subject::LongQueries => long_outcome(alloc, text),
-            Subject::Characters => first_word(alloc, text),
-            Subject::CutQueries => outcome_of_beginnings(alloc, text),
-            Subject::BoundV => bound_query(alloc, &TABLE_V, text),
-            Subject::BoundK => bound_query(alloc, &TABLE_K, text),
-            Subject::Conditions => conjuncts_of(alloc, &TABLE_K, text),
-            _ => outcome(alloc, text),
+            Subject::LongQueries => long_outcome(alloc, text, out),
+            Subject::Characters => first_word(alloc, text, out),
+            Subject::CutQueries => outcome_of_beginnings(alloc, text, out),
+            Subject::BoundV => bound_query(alloc, &TABLE_V, text, out),
+            Subject::BoundK => bound_query(alloc, &TABLE_K, text, out),
+            Subject::Conditions => conjuncts_of(alloc, &TABLE_K, text, out),
+            _ => outcome(alloc, text, out),
         }
     }
 }

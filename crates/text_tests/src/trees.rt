@@ -1,26 +1,17 @@
 //! The syntax tree of a query on one line, with the byte of each token.
 
-use query_parser::{Argument, Cond, Func, LiteralAt, NameAt, Query, Term};
-use std::alloc::AllocError;
-use std::fmt::Write;
-use values::{CompareOp, Value};
+use crate::text::Text;
+use query_parser::{Argument, Call, Cond, Func, LiteralAt, NameAt, Query, Term};
+use values::CompareOp;
 
-fn show_at(out: &mut String, text: &str, place: u32) -> Result<(), AllocError> {
-    write!(out, "{text}@{place}")
+fn show_name(name: &NameAt, out: &Text) {
+    out.add(name.name.as_str());
+    out.add_place(name.offset);
 }
 
-fn show_name(out: &mut String, name: &NameAt) -> Result<(), AllocError> {
-    show_at(out, name.name.as_str(), name.offset)
-}
-
-fn show_literal(out: &mut String, literal: &LiteralAt) -> Result<(), AllocError> {
-    match &literal.value {
-        Value::Whole(number) => write!(out, "{number}@{}", literal.offset),
-        Value::Text(text) => {
-            out.push_str("'")?;
-            show_at(out, text.as_str(), literal.offset)
-        }
-    }
+fn show_literal(literal: &LiteralAt, out: &Text) {
+    out.add_value(&literal.value, ("'", ""));
+    out.add_place(literal.offset);
 }
 
 fn func_word(func: Func) -> &'static str {
@@ -33,63 +24,66 @@ fn func_word(func: Func) -> &'static str {
     }
 }
 
-fn op_word(op: CompareOp) -> &'static str {
+/// How a comparison is written.
+pub fn op_word(op: CompareOp) -> &'static str {
     match op {
-        CompareOp::Equal => " = ",
-        CompareOp::Unequal => " <> ",
-        CompareOp::Less => " < ",
-        CompareOp::AtMost => " <= ",
-        CompareOp::More => " > ",
-        CompareOp::AtLeast => " >= ",
+        CompareOp::Equal => "=",
+        CompareOp::Unequal => "<>",
+        CompareOp::Less => "<",
+        CompareOp::AtMost => "<=",
+        CompareOp::More => ">",
+        CompareOp::AtLeast => ">=",
     }
 }
 
-fn show_term(out: &mut String, term: &Term) -> Result<(), AllocError> {
+fn show_call(call: &Call, out: &Text) {
+    out.add(func_word(call.func));
+    out.add_place(call.offset);
+    out.add("(");
+    match &call.argument {
+        Argument::Star => out.add("*"),
+        Argument::Column(name) => show_name(name, out),
+    }
+}
+
+fn show_term(term: &Term, out: &Text) {
     match term {
-        Term::Column(name) => show_name(out, name),
-        Term::Call(call) => {
-            show_at(out, func_word(call.func), call.offset)?;
-            match &call.argument {
-                Argument::Star => out.push_str("(*"),
-                Argument::Column(name) => {
-                    out.push_str("(")?;
-                    show_name(out, name)
-                }
-            }
-        }
+        Term::Column(name) => show_name(name, out),
+        Term::Call(call) => show_call(call, out),
     }
 }
 
-fn show_one_of(out: &mut String, literals: &[LiteralAt], negated: bool) -> Result<(), AllocError> {
-    out.push_str(if negated { " not in" } else { " in" })?;
+fn show_one_of(literals: &[LiteralAt], negated: bool, out: &Text) {
+    out.add(if negated { " not in" } else { " in" });
     for literal in literals {
-        out.push_str(" ")?;
-        show_literal(out, literal)?;
+        out.add(" ");
+        show_literal(literal, out);
     }
-    Ok(())
 }
 
-fn show_cond(out: &mut String, cond: &Cond) -> Result<(), AllocError> {
+fn show_cond(cond: &Cond, out: &Text) {
     match cond {
         Cond::Compare(name, op, literal) => {
-            show_name(out, name)?;
-            out.push_str(op_word(*op))?;
-            show_literal(out, literal)
+            show_name(name, out);
+            out.add(" ");
+            out.add(op_word(*op));
+            out.add(" ");
+            show_literal(literal, out);
         }
         Cond::OneOf(name, literals, negated) => {
-            show_name(out, name)?;
-            show_one_of(out, literals.as_slice(), *negated)
+            show_name(name, out);
+            show_one_of(literals.as_slice(), *negated, out);
         }
         Cond::Between(name, low, high, negated) => {
-            show_name(out, name)?;
-            out.push_str(if *negated { " outside " } else { " between " })?;
-            show_literal(out, low)?;
-            out.push_str(" ")?;
-            show_literal(out, high)
+            show_name(name, out);
+            out.add(if *negated { " outside " } else { " between " });
+            show_literal(low, out);
+            out.add(" ");
+            show_literal(high, out);
         }
         Cond::Not(inner) => {
-            out.push_str("not ")?;
-            show_cond(out, inner.get())
+            out.add("not ");
+            show_cond(inner.get(), out);
         }
         Cond::All(members) | Cond::Any(members) => {
             let word = if let Cond::All(_) = cond {
@@ -97,67 +91,65 @@ fn show_cond(out: &mut String, cond: &Cond) -> Result<(), AllocError> {
             } else {
                 "any("
             };
-            out.push_str(word)?;
+            out.add(word);
             for member in members.as_slice() {
-                show_cond(out, member)?;
-                out.push_str(";")?;
+                show_cond(member, out);
+                out.add(";");
             }
-            out.push_str(")")
+            out.add(")");
         }
     }
 }
 
-fn show_items(out: &mut String, query: &Query) -> Result<(), AllocError> {
+fn show_items(query: &Query, out: &Text) {
     for item in query.items.as_slice() {
-        out.push_str(" ")?;
-        show_term(out, &item.term)?;
+        out.add(" ");
+        show_term(&item.term, out);
         if let Some(label) = &item.label {
-            out.push_str(" as ")?;
-            show_name(out, label)?;
+            out.add(" as ");
+            show_name(label, out);
         }
     }
-    Ok(())
 }
 
-fn show_keys(out: &mut String, query: &Query) -> Result<(), AllocError> {
+fn show_groups(query: &Query, out: &Text) {
     for name in query.groups.as_slice() {
-        out.push_str(" group ")?;
-        show_name(out, name)?;
+        out.add(" group ");
+        show_name(name, out);
     }
-    for key in query.order.as_slice() {
-        out.push_str(if key.descending { " down " } else { " up " })?;
-        show_term(out, &key.term)?;
-    }
-    Ok(())
 }
 
-fn show_limits(out: &mut String, query: &Query) -> Result<(), AllocError> {
-    if let Some(limit) = &query.limit {
-        out.push_str(" limit ")?;
-        show_literal(out, limit)?;
+fn show_order(query: &Query, out: &Text) {
+    for key in query.order.as_slice() {
+        out.add(if key.descending { " down " } else { " up " });
+        show_term(&key.term, out);
     }
-    if let Some(offset) = &query.offset {
-        out.push_str(" offset ")?;
-        show_literal(out, offset)?;
+}
+
+fn show_limit(word: &str, limit: &Option<LiteralAt>, out: &Text) {
+    if let Some(limit) = limit {
+        out.add(word);
+        show_literal(limit, out);
     }
-    Ok(())
 }
 
 /// Adds the tree of a query to a text.
-pub fn show_query(out: &mut String, query: &Query) -> Result<(), AllocError> {
-    let words = if query.use_tree {
+pub fn show_query(query: &Query, out: &Text) {
+    out.add(if query.use_tree {
         "select"
     } else {
         "no tree select"
-    };
-    show_at(out, words, query.select)?;
-    show_items(out, query)?;
-    out.push_str(" from ")?;
-    show_name(out, &query.table)?;
+    });
+    out.add_place(query.select);
+    show_items(query, out);
+    out.add(" from ");
+    show_name(&query.table, out);
     if let Some(condition) = &query.condition {
-        out.push_str(" where ")?;
-        show_cond(out, condition)?;
+        out.add(" where ");
+        show_cond(condition, out);
     }
-    show_keys(out, query)?;
-    show_limits(out, query)
+    show_groups(query, out);
+    show_order(query, out);
+    show_limit(" limit ", &query.limit, out);
+    show_limit(" offset ", &query.offset, out);
 }
