@@ -1,8 +1,22 @@
 -- The ends of a function whose calls may fail: what it says of the fault that it passes on, and of what it read.
-use Rattle.std.proofs.Common.{◌≡◌, ◌≢◌, Result, Ok, Err, ap}
+use Rattle.std.proofs.Common.{◌≡◌, ◌≢◌, ◌∙◌, Result, Ok, Err, IfOk, sym, ap, subst}
+use Rattle.std.specs.Prelude.{IsErrAnd, OnOk}
 use Rattle.outside.specs.Seen as outside
 use Rattle.outside.specs.Seen.{OnlyReads}
-use Rattle.query_executor.proofs.LogLemmas.{reads_as}
+use Rattle.segment_file.specs.declared.fault.HeadFault.{HeadFault}
+use Rattle.segment_file.specs.declared.fault.HeadFault.TheVariants as head
+use Rattle.segment_file.specs.declared.part.Part.{Part}
+use Rattle.segment_scan.specs.declared.fault.EngineFault.{EngineFault}
+use Rattle.segment_scan.specs.declared.fault.EngineFault.TheVariants as engine
+use Rattle.star_answer.specs.declared.segment_fault.SegmentFault.{SegmentFault}
+use Rattle.star_answer.specs.declared.segment_fault.SegmentFault.TheVariants as answer
+use Rattle.query_executor.specs.Steps.{fault_of, of_answer}
+use Rattle.query_executor.proofs.FaultLemmas.{read_answer, read_head}
+use Rattle.query_executor.proofs.LogLemmas.{reads_as, reads_none}
+
+-- nothing was read
+pub reads_unread : (F : Type 0) (a : outside.Seen) → (F → ⊥) → OnlyReads F a a
+reads_unread F a none = reads_as a a (reads_none a) none (λ e. absurd e)
 
 module _ {E : Type 0} where
   abbrev pub Done : {T : Type 0} → T → Result T E
@@ -32,3 +46,38 @@ module _ {E : Type 0} where
   -- an end with another fault, after a call without one
   pub reads_other : (T U : Type 0) (x : T) (f g : E) (a b : outside.Seen) → f ≢ g → OnlyReads (Done x ≡ Failed T g) a b → OnlyReads (Failed U f ≡ Failed U g) a b
   reads_other T U x f g a b ne o = reads_as a b o (λ e. absurd (ne (own_fault U f g e))) (λ e. absurd (no_fault T x g e))
+
+  -- a result that is known to be a fault
+  module _ (T : Type 0) (r : Result T E) (f : E) where
+    pub gives_fault : IsErrAnd r (λ g. g ≡ f) → r ≡ Err f
+    gives_fault is = by r is
+      where
+        by : (r : Result T E) → IsErrAnd r (λ g. g ≡ f) → r ≡ Err f
+        by (Ok x) is = absurd is
+        by (Err g) is = ap Err is
+
+    pub fault_ok : (P : Type 0) → r ≡ Err f → OnOk r P
+    fault_ok P is = subst (λ r. OnOk r P) (sym is) tt
+
+    pub fault_if : (P : T → Type 0) → r ≡ Err f → IfOk r P
+    fault_if P is = subst (λ r. IfOk r P) (sym is) tt
+
+    pub fault_not : (g : E) → f ≢ g → r ≡ Err f → r ≢ Err g
+    fault_not g ne is = λ e. ne (own_fault T f g (sym is ∙ e))
+
+-- the fault of an answer from a star-tree, as that of its segment
+pub reads_answered : (T U : Type 0) (f : SegmentFault) (g : EngineFault) (a b : outside.Seen) → g ≡ of_answer f → OnlyReads (Failed T f ≡ Failed T answer.ReadFault) a b → OnlyReads (Failed U g ≡ Failed U engine.ReadFault) a b
+reads_answered T U f g a b is o = reads_as a b o (λ e. ap Err (read_answer f (sym is ∙ own_fault U g engine.ReadFault e))) (λ e. ap Err (is ∙ ap of_answer (own_fault T f answer.ReadFault e)))
+
+-- the fault of a head, as that of its segment
+pub reads_headed : (T U : Type 0) (f : HeadFault) (g : EngineFault) (a b : outside.Seen) → g ≡ fault_of f → OnlyReads (Failed T f ≡ Failed T head.ReadFault) a b → OnlyReads (Failed U g ≡ Failed U engine.ReadFault) a b
+reads_headed T U f g a b is o = reads_as a b o (λ e. ap Err (read_head f (sym is ∙ own_fault U g engine.ReadFault e))) (λ e. ap Err (is ∙ ap fault_of (own_fault T f head.ReadFault e)))
+
+pub memory_not_full : engine.NoMemory ≢ engine.TooManyGroups
+memory_not_full = λ e. absurd cc
+
+pub memory_not_bad : (part : Part) → engine.NoMemory ≢ engine.NotASegment part
+memory_not_bad part = λ e. absurd cc
+
+pub memory_not_read : engine.NoMemory ≢ engine.ReadFault
+memory_not_read = λ e. absurd cc

@@ -69,3 +69,9 @@ bad_answer answer.TooManyGroups part e = absurd cc
 bad_answer (answer.NotASegment p) part e = cc
 bad_answer answer.ReadFault part e = absurd cc
 bad_answer answer.NoMemory part e = absurd cc
+
+pub read_answer : (f : SegmentFault) → of_answer f ≡ engine.ReadFault → f ≡ answer.ReadFault
+read_answer answer.TooManyGroups e = absurd cc
+read_answer (answer.NotASegment p) e = absurd cc
+read_answer answer.ReadFault e = refl
+read_answer answer.NoMemory e = absurd cc
