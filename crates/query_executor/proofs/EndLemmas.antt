@@ -11,7 +11,11 @@ use Rattle.segment_scan.specs.declared.fault.EngineFault.TheVariants as engine
 use Rattle.star_answer.specs.declared.segment_fault.SegmentFault.{SegmentFault}
 use Rattle.star_answer.specs.declared.segment_fault.SegmentFault.TheVariants as answer
 use Rattle.query_executor.specs.Steps.{fault_of, of_answer}
-use Rattle.query_executor.proofs.FaultLemmas.{read_answer, read_head}
+use Rattle.sql_reply.specs.declared.fault.SqlFault.{SqlFault}
+use Rattle.sql_reply.specs.declared.fault.SqlFault.TheVariants as sql
+use Rattle.query_executor.specs.declared.fault.ExecutorFault.{ExecutorFault}
+use Rattle.query_executor.specs.declared.fault.ExecutorFault.TheVariants.{Sql}
+use Rattle.query_executor.proofs.FaultLemmas.{own_refusal, read_answer, read_head}
 use Rattle.query_executor.proofs.LogLemmas.{reads_as, reads_none}
 
 -- nothing was read
@@ -81,3 +85,11 @@ memory_not_bad part = λ e. absurd cc
 
 pub memory_not_read : engine.NoMemory ≢ engine.ReadFault
 memory_not_read = λ e. absurd cc
+
+-- a fault other than that of a read, after reads without one
+pub reads_lacking : (F : Type 0) (a b : outside.Seen) → (F → ⊥) → OnlyReads ⊥ a b → OnlyReads F a b
+reads_lacking F a b none o = reads_as a b o none (λ e. absurd e)
+
+-- a query's result that is known to be a want of memory
+pub memory_refused : (T : Type 0) (r : Result T ExecutorFault) (fault : SqlFault) → r ≡ Err (Sql sql.NoMemory) → r ≡ Err (Sql fault) → fault ≢ sql.NoMemory → ⊥
+memory_refused T r fault is e real = real (sym (own_refusal sql.NoMemory fault (own_fault T (Sql sql.NoMemory) (Sql fault) (sym is ∙ e))))

@@ -56,6 +56,15 @@ wrong_so at (engine.NotASegment part) fault e fewer = absurd cc
 wrong_so at engine.ReadFault fault e fewer = absurd cc
 wrong_so at engine.NoMemory fault e fewer = cc
 
+pub memory_not_bad_at : (at : ℕ) (part : Part) → Sql sql.NoMemory ≢ NotASegment at part
+memory_not_bad_at at part = λ e. absurd cc
+
+pub memory_not_read_at : Sql sql.NoMemory ≢ ReadFault
+memory_not_read_at = λ e. absurd cc
+
+pub own_refusal : (f fault : SqlFault) → Sql f ≡ Sql fault → f ≡ fault
+own_refusal f fault e = cc
+
 -- ---- of an answer from a star-tree, for its segment
 
 pub full_answer : (f : SegmentFault) → of_answer f ≡ engine.TooManyGroups → f ≡ answer.TooManyGroups

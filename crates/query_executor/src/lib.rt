@@ -10,6 +10,7 @@ mod loading;
 mod opening;
 mod pass;
 mod planned;
+mod replying;
 mod segment;
 mod segment_fault;
 mod stats;
