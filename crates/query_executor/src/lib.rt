@@ -2,6 +2,7 @@
 //! them is kept in memory at a time.
 #![tactic(auto)]
 
+mod adding;
 mod executor;
 mod explain;
 mod fault;
@@ -11,6 +12,7 @@ mod opening;
 mod pass;
 mod planned;
 mod replying;
+mod scanned;
 mod segment;
 mod segment_fault;
 mod stats;

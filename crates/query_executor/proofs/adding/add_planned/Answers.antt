@@ -30,7 +30,7 @@ use Rattle.query_executor.proofs.FaultLemmas.{bad_answer, full_answer}
 use Rattle.query_executor.proofs.TreeLogs.{answer_in_file, answer_partly}
 use Rattle.query_executor.proofs.ScanLogs.{scan_in_file, scan_partly}
 use Rattle.query_executor.proofs.SegmentLemmas.{adds_answered, adds_none, adds_scanned, bad_answered, bad_scanned, overfull_answered, overfull_scanned, room}
-use Rattle.query_executor.proofs.segment.add_planned.Goals as goal
+use Rattle.query_executor.proofs.adding.add_planned.Goals as goal
 
 scan_plan : (query : BoundQuery) (table : Table) → HeadTells → PlanIsOver → IsValidTable table → IsValidQuery table query → (files : Files) (name : List ℕ) (head : Seen) (plan : ScanPlan) → Scan plan ≡ plan_of query table head → AreLoaded query.conjuncts head → IsHeadIn table (Some files) name head → (rows : List (List Value)) → HasImage table files name rows
     → TellsOf table (ordered table.settings.sorted rows) head × (Scan plan ≡ plan_over query table (ordered table.settings.sorted rows))
