@@ -1,4 +1,4 @@
-use Rattle.std.proofs.Common.{◌≡◌, ◌∙◌, Err, IfSome, inl, inr, sym, ap, subst}
+use Rattle.std.proofs.Common.{◌∙◌, Err, IfSome, inl, inr, sym, ap, subst}
 use Rattle.outside.specs.Seen.{Seen, seen}
 use Rattle.eligibility.specs.Rule.{picked}
 use Rattle.segment_scan.specs.declared.fault.EngineFault.TheVariants as engine

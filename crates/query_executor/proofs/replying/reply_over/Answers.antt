@@ -1,4 +1,4 @@
-use Rattle.std.proofs.Common.{◌≡◌, ◌∙◌, true, false, ℕ, List, Err, IfSome, length, sym, ap, subst}
+use Rattle.std.proofs.Common.{true, false, ℕ, List, Err, IfSome, length, sym, ap, subst}
 use Rattle.outside.specs.Seen.{Seen, seen}
 use Rattle.outside.proofs.ReadLemmas.{on-err}
 use Rattle.sql_reply.specs.declared.fault.SqlFault.TheVariants.{NoMemory}
