@@ -68,9 +68,9 @@ returns-then-prune g c =
     record {
       ok = adds_none query table name head c.head_tells_law.ensures c.requires.valid a.held c.args.groups.now c.requires.of_query (λ rows tells. c.pruned_law.ensures query table rows head tells is) c.in-Ok.ensures.image;
       done = done;
-      full = λ fault. absurd (no_fault _ c.nothing.result engine.TooManyGroups fault);
-      bad = λ part fault. absurd (no_fault _ c.nothing.result (engine.NotASegment part) fault);
-      only_reads = reads_done _ _ head c.nothing.result engine.ReadFault a b c.in-Ok.ensures.only_reads;
+      full = λ fault. absurd (no_fault _ _ engine.TooManyGroups fault);
+      bad = λ part fault. absurd (no_fault _ _ (engine.NotASegment part) fault);
+      only_reads = reads_done _ _ head _ engine.ReadFault a b c.in-Ok.ensures.only_reads;
       log = head_in table name a.held a.log b.log c.in-Ok.ensures.log;
       reads = quiet_one query table name a.held c.nothing.result.plan c.nothing.result.docs a.log b.log done (inl c.nothing.ensures.plan) (opened_one query table name c.requires.valid c.requires.name a.held a.log b.log c.in-Ok.ensures.log);
       reads_of_fault = tt;
