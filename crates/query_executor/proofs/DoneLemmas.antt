@@ -44,6 +44,11 @@ module _ (query : BoundQuery) (table : Table) where
       let os : List (List Value) = ordered table.settings.sorted rows in
       zero ∙ sym (none os) ∙ ap (docs_by query table os) (sym is)
 
+  pub none_done : HeadTells → PlanIsOver → IsValidTable table → IsValidQuery table query → (held : Option Files) (name : List ℕ) (head : Seen) (plan known : SegmentPlan) (docs : ℕ) → plan ≡ known → known ≡ plan_of query table head → IsPlannable query head
+      → ((rows : List (List Value)) → docs_by query table rows known ≡ 0) → docs ≡ 0 → IsHeadIn table held name head → IsDoneIn query table held name plan docs
+  none_done tells_law law valid query_valid held name head plan known docs is planned plannable none zero image =
+      done_so tells_law law valid query_valid held name head plan docs (is ∙ planned) plannable (none_looked held head plan known docs is none zero) image
+
   -- those that the indexes leave, by a scan
   pub scan_looked : (held : Option Files) (head : Seen) (plan : ScanPlan) (docs : ℕ) → plan.choices ≡ choices_for query table head → AreDocs query table held head docs → AreLookedAt held head (Scan plan) docs
   scan_looked held head plan docs choices are = by held are.told

@@ -56,6 +56,15 @@ wrong_so at (engine.NotASegment part) fault e fewer = absurd cc
 wrong_so at engine.ReadFault fault e fewer = absurd cc
 wrong_so at engine.NoMemory fault e fewer = cc
 
+pub memory_not_bad_at : (at : ℕ) (part : Part) → Sql sql.NoMemory ≢ NotASegment at part
+memory_not_bad_at at part = λ e. absurd cc
+
+pub memory_not_read_at : Sql sql.NoMemory ≢ ReadFault
+memory_not_read_at = λ e. absurd cc
+
+pub own_refusal : (f fault : SqlFault) → Sql f ≡ Sql fault → f ≡ fault
+own_refusal f fault e = cc
+
 -- ---- of an answer from a star-tree, for its segment
 
 pub full_answer : (f : SegmentFault) → of_answer f ≡ engine.TooManyGroups → f ≡ answer.TooManyGroups
@@ -69,3 +78,9 @@ bad_answer answer.TooManyGroups part e = absurd cc
 bad_answer (answer.NotASegment p) part e = cc
 bad_answer answer.ReadFault part e = absurd cc
 bad_answer answer.NoMemory part e = absurd cc
+
+pub read_answer : (f : SegmentFault) → of_answer f ≡ engine.ReadFault → f ≡ answer.ReadFault
+read_answer answer.TooManyGroups e = absurd cc
+read_answer (answer.NotASegment p) e = absurd cc
+read_answer answer.ReadFault e = refl
+read_answer answer.NoMemory e = absurd cc

@@ -1,3 +1,4 @@
+mod EndLemmas
 mod FaultLemmas
 pub mod GroupLemmas
 mod HeadLemmas

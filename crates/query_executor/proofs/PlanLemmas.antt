@@ -96,6 +96,10 @@ module _ (query : BoundQuery) (table : Table) (head : Seen) where
   pub is_empty_so : Empty ≡ plan_of query table head → is_emptied query.conjuncts table head ≡ true
   is_empty_so is = empty_so (is_pruned query head) (is_emptied query.conjuncts table head) all_choices (picked query table.settings.trees) is
 
+  -- what was found is this plan
+  pub planned_as : (found plan : SegmentPlan) → found ≡ plan → found ≡ plan_of query table head → plan ≡ plan_of query table head
+  planned_as found plan is made = sym is ∙ made
+
   -- the bounds exclude all rows
   pub pruned_planned : is_pruned query head ≡ true → Pruned ≡ plan_of query table head
   pruned_planned is =

@@ -21,9 +21,10 @@ ghost use Rattle.query_executor.specs.Steps.{HasGroups, HaveTooMany};
 ghost use Rattle.query_executor.specs.declared.fault.ExecutorFault.TheVariants.{NotASegment, ReadFault, Sql};
 
 use crate::ExecutorFault;
-use crate::pass::{Pass, pass_over};
+use crate::pass::Pass;
+use crate::replying::reply_over;
 use outside::{Bytes, Name, Shelf};
-use sql_reply::{SqlFault, answer, bound_query};
+use sql_reply::{SqlFault, bound_query};
 use star_answer::docs_bound_law;
 use std::alloc::Global;
 use table_schema::{BoundQuery, Table};
@@ -103,10 +104,7 @@ fn reply_to_bound<S: Shelf>(
 {
     docs_bound_law();
     let mut pass = Pass::new(alloc, query, false)?;
-    match pass_over(alloc, shelf, table, names, query, &mut pass) {
-        Ok(()) => {}
-        Err(fault) => return Err(fault),
-    }
-    let text = answer(alloc, query, &pass.groups)?;
-    Ok(text)
+    let reply = reply_over(alloc, shelf, table, names, query, &mut pass);
+    drop(pass);
+    reply
 }

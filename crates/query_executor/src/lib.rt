@@ -2,6 +2,7 @@
 //! them is kept in memory at a time.
 #![tactic(auto)]
 
+mod adding;
 mod executor;
 mod explain;
 mod fault;
@@ -10,6 +11,8 @@ mod loading;
 mod opening;
 mod pass;
 mod planned;
+mod replying;
+mod scanned;
 mod segment;
 mod segment_fault;
 mod stats;

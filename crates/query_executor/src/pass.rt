@@ -23,7 +23,8 @@ ghost use Rattle.query_executor.specs.Steps.{AddsLine, AddsStored, HasGroups, Ha
 ghost use Rattle.query_executor.specs.declared.fault.ExecutorFault.TheVariants.{NotASegment, ReadFault, Sql};
 
 use crate::ExecutorFault;
-use crate::segment::{Scanned, add_segment};
+use crate::scanned::Scanned;
+use crate::segment::add_segment;
 use crate::segment_fault::fault_at;
 use group_table::GroupTable;
 use outside::{Name, Shelf};

@@ -52,7 +52,9 @@ pub fn explain_segment<S: Shelf>(
     };
     head_tells_law();
     explained_law();
-    push_line(alloc, table, name, query, &found, text)?;
+    let pushed = push_line(alloc, table, name, query, &found, text);
+    drop(found);
+    pushed?;
     Ok(())
 }
 

@@ -1,47 +1,31 @@
 //! The rows of a segment are added to the groups of a query.
-ghost use Rattle.std.specs.Prelude.{◌≡◌, ◌-◌, true, false, Err, IfOk, IfSome, IsErrOf, List, None, ℕ, OnErr, OnOk};
+ghost use Rattle.std.specs.Prelude.{◌≡◌, ◌-◌, true, false, Err, IfOk, IfSome, IsErrOf, OnErr, OnOk};
 ghost use Rattle.outside.specs.Seen.{OnlyReads, seen};
 ghost use Rattle.agg_laws.specs.Numbers.{most_values};
 ghost use Rattle.group_table.specs.Kept.{IsTableOf, groups_in};
 ghost use Rattle.scan_engine.specs.Scanned.{HaveAtMost};
-ghost use Rattle.segment_file.specs.Heads.{AreIn, IsHeadOf};
 ghost use Rattle.segment_file.specs.Names.{IsSegmentName, file_of};
 ghost use Rattle.segment_file.specs.declared.part.Part.{Part};
-ghost use Rattle.segment_scan.specs.Images.{AreNamedLoaded};
 ghost use Rattle.segment_scan.specs.declared.fault.EngineFault.TheVariants.{NotASegment, ReadFault, TooManyGroups};
-ghost use Rattle.segment_plan.specs.Matched.{AreLoaded};
-ghost use Rattle.eligibility.specs.Rule.{picked};
-ghost use Rattle.star_answer.specs.Tasks.{AreGroupsLoaded};
 ghost use Rattle.table_schema.specs.ValidQuery.{IsValidQuery};
 ghost use Rattle.table_schema.specs.ValidTable.{IsValidTable};
 ghost use Rattle.query_executor.specs.Logs.{LogsIn};
 ghost use Rattle.query_executor.specs.Reads.{LogsOne, ReadsPlanned};
 ghost use Rattle.query_executor.specs.Segments.{HasNoImage};
-ghost use Rattle.query_executor.specs.Steps.{AddsStored, IsDoneIn, IsHeadIn, IsSpreadIn, IsStoredOverfull};
-ghost use Rattle.query_executor.specs.Steps as spec;
+ghost use Rattle.query_executor.specs.Steps.{AddsStored, IsDoneIn, IsStoredOverfull};
 
+use crate::adding::add_planned;
 use crate::loading::load_wanted;
 use crate::opening::open_segment;
+use crate::scanned::{Scanned, nothing};
 use eligibility::pick;
 use group_table::GroupTable;
 use outside::Shelf;
-use segment_file::Head;
-use segment_plan::{
-    SegmentPlan, empty_law, head_tells_law, plan, plan_over_law, prune, pruned_law,
-};
-use segment_scan::{EngineFault, image_law, index_law, scan_segment};
-use star_answer::{SegmentFault, answer_segment, docs_bound_law};
+use segment_plan::{SegmentPlan, head_tells_law, plan_over_law, prune, pruned_law};
+use segment_scan::EngineFault;
+use star_answer::docs_bound_law;
 use std::alloc::Global;
 use table_schema::{BoundQuery, Table};
-
-/// What was done with a segment for a query.
-#[derive(Drop)]
-pub struct Scanned {
-    pub plan: SegmentPlan,
-    /// How many documents were looked at: the rows that its indexes left, or the documents of the
-    /// star-tree that were read.
-    pub docs: u32,
-}
 
 /// Adds the rows of the segment of this name that satisfy the filter of a query to its groups, by a
 /// star-tree where one serves the query. Of a segment that its bounds exclude no more than the front
@@ -92,100 +76,4 @@ pub fn add_segment<S: Shelf>(
         Err(fault) => return Err(fault),
     }
     add_planned(alloc, shelf, table, &head, query, groups)
-}
-
-// Adds the rows of a segment whose dictionaries are loaded, as its plan says.
-fn add_planned<S: Shelf>(
-    alloc: Global,
-    shelf: &mut S,
-    table: &Table,
-    head: &Head,
-    query: &BoundQuery,
-    groups: &mut GroupTable,
-) -> Result<Scanned, EngineFault>
-    requires valid { IsValidTable table.now }
-    requires of_table { IsHeadOf table.now head.now }
-    requires filtered { AreLoaded query.now.conjuncts head.now }
-    requires grouped { AreGroupsLoaded query.now.groups head.now }
-    requires named { picked query.now table.now.settings.trees ≡ None →
-        AreNamedLoaded query.now head.now }
-    requires query { IsValidQuery table.now query.now }
-    requires of_query { IsTableOf query.now groups.old }
-    requires fits { HaveAtMost (most_values - 1048576) (groups_in groups.old) }
-    ensures ok { OnOk result ((name : List ℕ) →
-        IsHeadIn table.now (S.held shelf.old) name head.now →
-        AddsStored query.now table.now (S.held shelf.old) name groups.old groups.new) }
-    ensures done { IfOk result (λ done. (name : List ℕ) →
-        IsHeadIn table.now (S.held shelf.old) name head.now →
-        IsDoneIn query.now table.now (S.held shelf.old) name done.plan done.docs) }
-    ensures full { result ≡ Err TooManyGroups → (name : List ℕ) →
-        IsHeadIn table.now (S.held shelf.old) name head.now →
-        IsStoredOverfull query.now table.now (S.held shelf.old) name groups.old }
-    ensures bad { (part : Part) → result ≡ Err (NotASegment part) → (name : List ℕ) →
-        IsHeadIn table.now (S.held shelf.old) name head.now →
-        IfSome (S.held shelf.old) (λ files. HasNoImage table.now files name) }
-    ensures only_reads { OnlyReads (IsErrOf result ReadFault)
-        (seen S.Shelf shelf.old) (seen S.Shelf shelf.new) }
-    ensures log { (file : List ℕ) → AreIn file head.now.sections →
-        LogsIn file (S.log shelf.old) (S.log shelf.new) }
-    ensures reads { OnOk result ((name : List ℕ) →
-        IsHeadIn table.now (S.held shelf.old) name head.now →
-        IsSpreadIn table.now (S.held shelf.old) name head.now →
-        LogsOne (ReadsPlanned query.now table.now true) table.now (S.held shelf.old) name
-        (S.log shelf.old) (S.log shelf.new)) }
-    ensures reads_of_fault { OnErr result ((name : List ℕ) →
-        IsHeadIn table.now (S.held shelf.old) name head.now →
-        IsSpreadIn table.now (S.held shelf.old) name head.now →
-        LogsOne (ReadsPlanned query.now table.now false) table.now (S.held shelf.old) name
-        (S.log shelf.old) (S.log shelf.new)) }
-{
-    docs_bound_law();
-    head_tells_law();
-    pruned_law();
-    empty_law();
-    plan_over_law();
-    image_law();
-    index_law();
-    match plan(alloc, query, table, head)? {
-        SegmentPlan::Scan(plan) => match scan_segment(
-            alloc, shelf, head, table, query, &plan, groups,
-        ) {
-            Ok(docs) => Ok(Scanned {
-                plan: SegmentPlan::Scan(plan),
-                docs,
-            }),
-            Err(fault) => Err(fault),
-        },
-        SegmentPlan::Pruned => Ok(nothing(SegmentPlan::Pruned)),
-        SegmentPlan::Empty => Ok(nothing(SegmentPlan::Empty)),
-        SegmentPlan::StarTree(tree) => match answer_segment(
-            alloc, shelf, head, table, tree, query, groups,
-        ) {
-            Ok(read) => Ok(Scanned {
-                plan: SegmentPlan::StarTree(tree),
-                docs: read,
-            }),
-            Err(fault) => Err(of_answer(fault)),
-        },
-    }
-}
-
-// What the fault of an answer from a star-tree is for the answer of its segment.
-fn of_answer(fault: SegmentFault) -> EngineFault
-    ensures { result ≡ spec.of_answer fault }
-{
-    match fault {
-        SegmentFault::TooManyGroups => EngineFault::TooManyGroups,
-        SegmentFault::NotASegment(part) => EngineFault::NotASegment(part),
-        SegmentFault::ReadFault => EngineFault::ReadFault,
-        SegmentFault::NoMemory => EngineFault::NoMemory,
-    }
-}
-
-// None of the rows of a segment with this plan is looked at.
-fn nothing(plan: SegmentPlan) -> Scanned
-    ensures plan { result.plan ≡ plan }
-    ensures none { result.docs ≡ 0 }
-{
-    Scanned { plan, docs: 0 }
 }

@@ -4,8 +4,10 @@ ghost use Rattle.std.specs.List.{All};
 ghost use Rattle.outside.specs.Seen.{OnlyReads, seen};
 ghost use Rattle.table_schema.specs.ValidQuery.{IsValidQuery};
 ghost use Rattle.table_schema.specs.ValidTable.{IsValidTable};
+ghost use Rattle.group_table.specs.Kept.{IsNew};
 ghost use Rattle.segment_file.specs.Names.{IsSegmentName};
 ghost use Rattle.segment_file.specs.declared.part.Part.{Part};
+ghost use Rattle.sql_reply.specs.Reply.{most_groups};
 ghost use Rattle.sql_reply.specs.Asked.{asked};
 ghost use Rattle.sql_reply.specs.SqlReply.{IsOfText};
 ghost use Rattle.sql_reply.specs.declared.fault.SqlFault.{SqlFault};
@@ -20,9 +22,10 @@ ghost use Rattle.query_executor.specs.Steps.{IsBoundStated};
 ghost use Rattle.query_executor.specs.declared.fault.ExecutorFault.TheVariants.{NotASegment, ReadFault, Sql};
 
 use crate::ExecutorFault;
-use crate::pass::{Pass, pass_over};
+use crate::pass::Pass;
+use crate::replying::reply_over;
 use outside::{Bytes, Name, Seq, Shelf};
-use sql_reply::{SqlFault, answer, bound_query};
+use sql_reply::{SqlFault, bound_query};
 use star_answer::docs_bound_law;
 use std::alloc::{AllocError, Global};
 use table_schema::{BoundQuery, Table};
@@ -102,12 +105,49 @@ fn stats_of_bound<S: Shelf>(
 {
     docs_bound_law();
     let mut pass = Pass::new(alloc, query, true)?;
-    match pass_over(alloc, shelf, table, names, query, &mut pass) {
-        Ok(()) => {}
+    let reply = stats_over(alloc, shelf, table, names, query, &mut pass);
+    drop(pass);
+    reply
+}
+
+// The same, by a pass over them.
+fn stats_over<S: Shelf>(
+    alloc: Global,
+    shelf: &mut S,
+    table: &Table,
+    names: &[Name],
+    query: &BoundQuery,
+    pass: &mut Pass,
+) -> Result<Bytes, ExecutorFault>
+    requires valid { IsValidTable table.now }
+    requires named { All IsSegmentName names.now }
+    requires few { length names.now ≤ 512 }
+    requires query { IsValidQuery table.now query.now }
+    requires new { IsNew query.now most_groups pass.old.groups }
+    requires none { pass.old.lines.items ≡ [] }
+    requires wants { pass.old.wants_lines ≡ true }
+    ensures reply { IfOk result (λ text. IfSome (S.held shelf.old) (λ files.
+        IsBoundStated table.now files names.now query.now text)) }
+    ensures refused { (fault : SqlFault) → result ≡ Err (Sql fault) → fault ≢ NoMemory →
+        (¬ IsOfText fault) × IfSome (S.held shelf.old) (λ files.
+        IsBoundReply table.now files names.now query.now (Err fault)) }
+    ensures bad { (at : ℕ) (part : Part) → result ≡ Err (NotASegment at part) →
+        (at < length names.now) × IfSome (S.held shelf.old) (λ files.
+        HasNoImage table.now files (get_or names.now at [])) }
+    ensures only_reads { OnlyReads (IsErrOf result ReadFault)
+        (seen S.Shelf shelf.old) (seen S.Shelf shelf.new) }
+    ensures log { LogsOf names.now (S.log shelf.old) (S.log shelf.new) }
+    ensures reads { OnOk result (LogsEach (ReadsPlanned query.now table.now true) table.now
+        (S.held shelf.old) names.now (length names.now) (S.log shelf.old) (S.log shelf.new)) }
+    ensures reads_of_fault { OnErr result (LogsEach (ReadsPlanned query.now table.now false)
+        table.now (S.held shelf.old) names.now (length names.now)
+        (S.log shelf.old) (S.log shelf.new)) }
+{
+    let reply = match reply_over(alloc, shelf, table, names, query, pass) {
+        Ok(reply) => reply,
         Err(fault) => return Err(fault),
-    }
-    let text = answer(alloc, query, &pass.groups)?;
-    let text = with_lines(text, pass.lines.as_slice())?;
+    };
+    let text = with_lines(reply, pass.lines.as_slice())?;
     Ok(text)
 }
 

@@ -1,26 +1,50 @@
-use Rattle.std.proofs.Common.{◌≡◌, true, false, Err, ap}
-use Rattle.query_executor.specs.declared.fault.ExecutorFault.TheVariants.{NotASegment}
-use Rattle.query_executor.proofs.GroupLemmas.{all_answered}
+use Rattle.std.proofs.Common.{false, length}
+use Rattle.outside.specs.Seen.{Seen, seen}
 use Rattle.outside.proofs.ReadLemmas.{on-err}
-use Rattle.query_executor.specs.Reads.{ReadsPlanned}
-use Rattle.query_executor.proofs.GrownLemmas.{each_as}
-use Rattle.query_executor.proofs.SpanLemmas.{planned_less}
+use Rattle.sql_reply.specs.declared.fault.SqlFault.TheVariants.{NoMemory}
+use Rattle.query_executor.specs.Logs.{IsFileOf}
+use Rattle.query_executor.specs.Reads.{LogsEach, ReadsPlanned}
+use Rattle.query_executor.specs.declared.fault.ExecutorFault.TheVariants.{NotASegment, ReadFault, Sql}
+use Rattle.query_executor.proofs.EndLemmas.{fault_if, fault_not, fault_ok, gives_fault, memory_refused, reads_unread}
+use Rattle.query_executor.proofs.FaultLemmas.{memory_not_bad_at, memory_not_read_at}
+use Rattle.query_executor.proofs.LogLemmas.{logs_none}
 use Rattle.query_executor.proofs.Unread.{unread}
 use Rattle.query_executor.proofs.executor.reply_to_bound.Goals as goal
 
-pub returns-clause-reply : goal.returns-clause-reply
-returns-clause-reply g c =
-    all_answered c.args.query.now c.args.table.now c.args.names.now (g.S.Shelf.held c.args.shelf.now) c.pass_over.new.pass.groups c.in_ok-text.text c.in-Ok.ensures.ok c.in_ok-text.ensures
+pub reply_over-reply-requires : goal.reply_over-reply-requires
+reply_over-reply-requires g c = record {
+  valid = c.requires.valid;
+  named = c.requires.named;
+  few = c.requires.few;
+  query = c.requires.query;
+  new = c.in_ok-pass.ensures.groups;
+  none = c.in_ok-pass.ensures.lines;
+}
 
-pub returns-in-Err-clause-bad : goal.returns-in-Err-clause-bad
-returns-in-Err-clause-bad g c = λ at part is. let own : c.in-Err.fault ≡ NotASegment at part = cc in c.in-Err.ensures.bad at part (ap Err own)
-
-pub returns-in_err-text-clause-reads_of_fault : goal.returns-in_err-text-clause-reads_of_fault
-returns-in_err-text-clause-reads_of_fault g c =
+pub returns-in_err-pass : goal.returns-in_err-pass
+returns-in_err-pass g c =
     let query = c.args.query.now in
     let table = c.args.table.now in
-    on-err _ _ (each_as (ReadsPlanned query table true) (ReadsPlanned query table false) table (g.S.Shelf.held c.args.shelf.now) c.args.names.now _ (g.S.Shelf.log c.args.shelf.now) (g.S.Shelf.log c.pass_over.new.shelf) (planned_less query table) c.in-Ok.ensures.reads)
+    let a : Seen = seen g.S.Shelf c.args.shelf.now in
+    let r = c.from_residual.result in
+    let is = gives_fault _ r (Sql NoMemory) c.from_residual.ensures.1 in
+    record {
+      reply = fault_if _ r (Sql NoMemory) _ is;
+      refused = λ fault e real. absurd (memory_refused _ r fault is e real);
+      bad = λ at part e. absurd (fault_not _ r (Sql NoMemory) (NotASegment at part) (memory_not_bad_at at part) is e);
+      only_reads = reads_unread _ a (λ e. fault_not _ r (Sql NoMemory) ReadFault memory_not_read_at is e);
+      log = logs_none (IsFileOf c.args.names.now) a.log;
+      reads = fault_ok _ r (Sql NoMemory) _ is;
+      reads_of_fault = on-err r (LogsEach (ReadsPlanned query table false) table a.held c.args.names.now (length c.args.names.now) a.log a.log) (unread c.docs_bound_law.ensures.bound query table c.requires.valid a.held c.args.names.now a.log);
+    }
 
-pub returns-in_err-pass-clause-reads_of_fault : goal.returns-in_err-pass-clause-reads_of_fault
-returns-in_err-pass-clause-reads_of_fault g c =
-    on-err _ _ (unread c.docs_bound_law.ensures.bound c.args.query.now c.args.table.now c.requires.valid (g.S.Shelf.held c.args.shelf.now) c.args.names.now (g.S.Shelf.log c.args.shelf.now))
+pub returns : goal.returns
+returns g c = record {
+  reply = c.reply_over-reply.ensures.reply;
+  refused = c.reply_over-reply.ensures.refused;
+  bad = c.reply_over-reply.ensures.bad;
+  only_reads = c.reply_over-reply.ensures.only_reads;
+  log = c.reply_over-reply.ensures.log;
+  reads = c.reply_over-reply.ensures.reads;
+  reads_of_fault = c.reply_over-reply.ensures.reads_of_fault;
+}
