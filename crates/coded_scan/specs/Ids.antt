@@ -16,3 +16,8 @@ most_narrow = 65536
 abbrev pub HasRoom : IdRoom → ℕ → Type 0
 HasRoom (room.Narrow ids) id = id < most_narrow
 HasRoom (room.Wide ids) id = Unit {0}
+
+-- each id takes two bytes
+abbrev pub IsNarrow : IdRoom → Type 0
+IsNarrow (room.Narrow ids) = Unit {0}
+IsNarrow (room.Wide ids) = ⊥

@@ -1,7 +1,7 @@
 //! The ids of the rows in a column, in as few bytes as they take.
 
 ghost use Rattle.std.specs.Prelude.{◌≡◌, ◌≤◌, ◌<◌, ◌+◌, ◌++◌, [], ℕ, All, IfOk, OnOk, get_or, length};
-ghost use Rattle.coded_scan.specs.Ids.{HasRoom, ids_in, most_narrow};
+ghost use Rattle.coded_scan.specs.Ids.{HasRoom, IsNarrow, ids_in, most_narrow};
 
 use std::alloc::Global;
 use std::marker::Model;
@@ -99,6 +99,7 @@ impl IdRoom {
     pub fn for_values(alloc: Global, count: u32, rows: usize) -> Result<IdRoom, NoMemory>
         ensures none { IfOk result (λ room. ids_in room ≡ []) }
         ensures room { IfOk result (λ room. (id : ℕ) → id < count → HasRoom room id) }
+        ensures least { IfOk result (λ room. count ≤ most_narrow → IsNarrow room) }
     {
         if count <= MOST_NARROW {
             return Ok(IdRoom::Narrow(Vec::with_capacity(alloc, rows)?));
@@ -111,6 +112,7 @@ impl IdRoom {
         requires { All (HasRoom self.old) block.now }
         ensures ids { OnOk result (ids_in self.new ≡ ids_in self.old ++ block.now) }
         ensures room { (id : ℕ) → HasRoom self.old id → HasRoom self.new id }
+        ensures least { IsNarrow self.old → IsNarrow self.new }
     {
         match self {
             IdRoom::Narrow(ids) => append_narrow(block, ids)?,
