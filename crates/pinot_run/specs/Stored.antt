@@ -7,9 +7,8 @@ use Rattle.outside.specs.Files.{Files, Lacks, OfFile, bytes_of}
 use Rattle.table_schema.specs.declared.field.Field.{Field}
 use Rattle.table_schema.specs.declared.table.Table.{Table}
 use Rattle.segment_file.specs.Front.{Front}
-use Rattle.segment_file.specs.Heads.{KeepsRules}
+use Rattle.segment_file.specs.Rules.{KeepsRules, HasFront}
 use Rattle.segment_file.specs.Names.{file_of}
-use Rattle.segment_file.specs.Rules.{HasFront}
 use Rattle.segment_file.specs.declared.part.Part.{Part}
 use Rattle.segment_file.specs.declared.part.Part.TheVariants as parts
 use Rattle.table_store.specs.Accepted.{IsNoTableFile, IsTableFile}

@@ -6,7 +6,7 @@ use Rattle.table_schema.specs.declared.query.BoundQuery.{BoundQuery}
 use Rattle.table_schema.specs.declared.table.Table.{Table}
 use Rattle.table_schema.specs.ValidQuery.{IsValidQuery}
 use Rattle.table_schema.specs.ValidTable.{IsValidTable}
-use Rattle.segment_file.specs.Heads.{Seen}
+use Rattle.segment_head.specs.Heads.{Seen}
 use Rattle.segment_file.specs.Ordered.{ordered}
 use Rattle.segment_plan.specs.declared.plans.ScanPlan.{ScanPlan}
 use Rattle.segment_plan.specs.declared.plans.SegmentPlan.{SegmentPlan}
@@ -14,7 +14,7 @@ use Rattle.segment_plan.specs.declared.plans.SegmentPlan.TheVariants.{Scan, Star
 use Rattle.segment_plan.specs.Laws.{HeadTells, IsPlannable, PlanIsOver}
 use Rattle.segment_plan.specs.Plan.{plan_of}
 use Rattle.segment_plan.specs.Planned.{plan_over}
-use Rattle.segment_file.specs.Stored.{IsOfImage}
+use Rattle.segment_head.specs.Stored.{IsOfImage}
 use Rattle.segment_scan.specs.Images.{AreDocs, choices_for}
 use Rattle.segment_scan.specs.Served.{rows_left}
 use Rattle.star_answer.specs.Docs.{docs_read}

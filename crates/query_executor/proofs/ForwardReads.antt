@@ -17,7 +17,7 @@ use Rattle.index_reading.proofs.RunLemmas.{lasts_below}
 use Rattle.table_schema.specs.declared.table.Table.{Table}
 use Rattle.segment_file.specs.declared.part.Part.TheVariants.{Forward}
 use Rattle.segment_file.specs.Front.{extents_of}
-use Rattle.segment_file.specs.Heads.{IsHeadOf, IsLoaded, Seen, place_in, placed}
+use Rattle.segment_head.specs.Heads.{IsHeadOf, IsLoaded, Seen, place_in, placed}
 use Rattle.segment_file.specs.Image.{count_of, front_of}
 use Rattle.segment_file.specs.Image as segment
 use Rattle.segment_file.specs.Names.{file_of}

@@ -11,14 +11,15 @@ use Rattle.dictionary.specs.Dictionary.{Distinct}
 use Rattle.segment_file.specs.declared.section.Section.{Section}
 use Rattle.segment_file.specs.Bounds.{bounds_of}
 use Rattle.segment_file.specs.Front.{extents_of}
-use Rattle.segment_file.specs.Heads.{AreIn, IsHead, IsHeadOf, IsLoaded, IsPartOf, KeepsRules, Loads, OfWhole, Seen, dictionary_section, placed, trees_said}
+use Rattle.segment_head.specs.Heads.{AreIn, IsHead, IsHeadOf, IsLoaded, IsPartOf, Loads, OfWhole, Seen, dictionary_section, placed}
+use Rattle.segment_file.specs.Rules.{KeepsRules, heads_in}
+use Rattle.segment_file.specs.Reading.{trees_said}
 use Rattle.segment_file.specs.Image.{CanHold, dictionary_of, front_of, image}
 use Rattle.segment_file.specs.Laws.{ImageKeeps}
 use Rattle.segment_file.specs.Names.{IsSegmentName, file_of}
 use Rattle.segment_file.specs.Ordered.{ordered}
 use Rattle.segment_file.specs.Parts.{columns_of, sections_of}
-use Rattle.segment_file.specs.Rules.{heads_in}
-use Rattle.segment_file.proofs.Composed.{made_count}
+use Rattle.segment_head.proofs.Composed.{made_count}
 use Rattle.query_executor.specs.Logs.{DictionariesEnd, EndsBy, LogsThat}
 use Rattle.query_executor.specs.Segments.{HasNoImage}
 use Rattle.query_executor.specs.Steps.{Grows, IsHeadIn, IsSpreadIn}

@@ -20,7 +20,7 @@ use Rattle.segment_file.specs.declared.part.Part.{Part}
 use Rattle.segment_file.specs.declared.part.Part.TheVariants as parts
 use Rattle.segment_file.specs.declared.section.Section.{Section}
 use Rattle.segment_file.specs.Front.{Front, extents_from, extents_of, front_size, head_end}
-use Rattle.segment_file.specs.Heads.{IsWithin, LogsCount, LogsCounts, LogsTree, Seen, placed, split_of}
+use Rattle.segment_head.specs.Heads.{IsWithin, LogsCount, LogsCounts, LogsTree, Seen, placed, split_of}
 use Rattle.segment_file.specs.Image.{front_of, image, section_of, sections_of_rows}
 use Rattle.segment_file.specs.Names.{IsSegmentName, file_of}
 use Rattle.segment_file.specs.Ordered.{ordered}

@@ -28,7 +28,7 @@ use Rattle.table_schema.specs.declared.table.Table.{Table}
 use Rattle.segment_file.specs.declared.part.Part.{Part}
 use Rattle.segment_file.specs.declared.part.Part.TheVariants as parts
 use Rattle.segment_file.specs.Front.{extents_of}
-use Rattle.segment_file.specs.Heads.{IsLoaded, Seen, place_in, placed}
+use Rattle.segment_head.specs.Heads.{IsLoaded, Seen, place_in, placed}
 use Rattle.segment_file.specs.Image.{count_of, front_of, section_of}
 use Rattle.segment_file.specs.Image as segment
 use Rattle.segment_file.specs.Names.{file_of}

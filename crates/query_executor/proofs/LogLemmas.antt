@@ -10,7 +10,7 @@ use Rattle.outside.specs.Seen.{OnlyReads}
 use Rattle.table_schema.specs.declared.table.Table.{Table}
 use Rattle.segment_file.specs.declared.part.Part.{Part}
 use Rattle.segment_file.specs.Front.{Front, bounds_end, extents_from, extents_of, front_size, head_end}
-use Rattle.segment_file.specs.Heads.{AreIn, IsHeadOf, IsOpened, IsWithin, LogsOpened, Seen, placed}
+use Rattle.segment_head.specs.Heads.{AreIn, IsHeadOf, IsOpened, IsWithin, LogsOpened, Seen, placed}
 use Rattle.segment_file.specs.Names.{file_of}
 use Rattle.segment_file.specs.Parts.{head_sections, sections_of}
 use Rattle.segment_file.specs.Rules.{HasFront}

@@ -22,7 +22,7 @@ use Rattle.table_schema.specs.Columns.{is_member}
 use Rattle.table_schema.specs.ValidQuery.{IsValidQuery, conjunct_known, fields_of, fields_step}
 use Rattle.table_schema.specs.ValidSettings.{IsValidTree, is_known_number, is_number_of}
 use Rattle.table_schema.specs.ValidTable.{IsValidTable}
-use Rattle.segment_file.specs.Heads.{IsLoaded, Seen}
+use Rattle.segment_head.specs.Heads.{IsLoaded, Seen}
 use Rattle.segment_file.proofs.TreeChecks.{valid_at}
 use Rattle.segment_plan.specs.Factors.{AreWholeLoaded, is_whole}
 use Rattle.segment_plan.specs.Matched.{AreLoaded, is_filtered, is_on}

@@ -18,7 +18,7 @@ use Rattle.bit_column.proofs.Spelling.{length-spelled}
 use Rattle.segment_file.specs.declared.part.Part.{Part}
 use Rattle.segment_file.specs.declared.part.Part.TheVariants as parts
 use Rattle.segment_file.specs.Front.{Front, extents_from, extents_of, front_size}
-use Rattle.segment_file.specs.Heads.{place_in, placed}
+use Rattle.segment_head.specs.Heads.{place_in, placed}
 use Rattle.segment_file.specs.Image.{count_of, front_of, ids_of, section_of}
 use Rattle.segment_file.specs.Names.{file_of}
 use Rattle.segment_file.specs.Parts.{columns_of, head_sections, is_same, kind_of, marked, owner_of, raw_sections, sections_of, trees_of}

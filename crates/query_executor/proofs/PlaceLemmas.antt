@@ -12,7 +12,7 @@ use Rattle.table_schema.specs.declared.table.Table.{Table}
 use Rattle.segment_file.specs.declared.part.Part.{Part}
 use Rattle.segment_file.specs.declared.part.Part.TheVariants as parts
 use Rattle.segment_file.specs.Front.{Front, extents_from, extents_of, front_size}
-use Rattle.segment_file.specs.Heads.{place_in, placed}
+use Rattle.segment_head.specs.Heads.{place_in, placed}
 use Rattle.query_executor.specs.Reads.{span_of}
 use Rattle.segment_file.specs.Parts.{columns_of, head_sections, is_same, marked, raw_sections, sections_of, trees_of}
 

@@ -10,7 +10,7 @@ use Rattle.bit_column.specs.Sections.{end_byte, first_byte}
 use Rattle.segment_file.specs.declared.part.Part.{Part}
 use Rattle.segment_file.specs.declared.part.Part.TheVariants.{Forward, Range}
 use Rattle.segment_file.specs.declared.section.Section.{Section}
-use Rattle.segment_file.specs.Heads.{AreIn, Seen, place_in}
+use Rattle.segment_head.specs.Heads.{AreIn, Seen, place_in}
 use Rattle.segment_file.specs.Parts.{is_same}
 use Rattle.outside.specs.Files.{Files}
 use Rattle.values.specs.declared.test.Test.{Test}
@@ -30,7 +30,7 @@ use Rattle.index_reading.specs.declared.kind.ListKind.{ListKind}
 use Rattle.index_reading.specs.declared.kind.ListKind.TheVariants as kinds
 use Rattle.segment_plan.specs.declared.plans.IndexChoice.{IndexChoice}
 use Rattle.segment_plan.specs.declared.plans.IndexChoice.TheVariants as choices
-use Rattle.segment_file.specs.Heads.{IsHeadOf}
+use Rattle.segment_head.specs.Heads.{IsHeadOf}
 use Rattle.segment_scan.specs.Documents.{LogsDocs, LogsDocsPartly}
 use Rattle.segment_scan.specs.Forward.{IsReadable, LogsColumns, LogsForward, LogsNamed, LogsPart, LogsPartly, LogsSome, width_in}
 use Rattle.segment_scan.specs.Images.{AreNamedLoaded, LogsPartsPartly, LogsScan, LogsScanPartly, choices_for, names_in, rest_for, sure_for}

@@ -12,11 +12,11 @@ use Rattle.group_table.specs.Groups.{groups_of}
 use Rattle.group_table.specs.Shape.{shape_of}
 use Rattle.scan_engine.specs.Scanned.{AddsRows, HaveAtMost, IsOverfull, selected}
 use Rattle.scan_engine.proofs.AddLemmas.{at_most_more}
-use Rattle.segment_file.specs.Heads.{IsHeadOf, Seen}
+use Rattle.segment_head.specs.Heads.{IsHeadOf, Seen}
 use Rattle.segment_file.specs.Ordered.{ordered}
 use Rattle.segment_file.specs.declared.part.Part.{Part}
 use Rattle.segment_plan.specs.Laws.{HeadTells, NoneHolds, TellsOf}
-use Rattle.segment_file.specs.Stored.{IsNoImage, IsOfImage}
+use Rattle.segment_head.specs.Stored.{IsNoImage, IsOfImage}
 use Rattle.segment_scan.specs.Images.{AddsImage, IsBadIn, IsImageOverfull}
 use Rattle.star_answer.specs.Segments.{AddsAnswer}
 use Rattle.query_executor.specs.Segments.{HasImage, HasNoImage}

@@ -14,9 +14,9 @@ use Rattle.table_schema.specs.ValidSettings.{is_number_of}
 use Rattle.table_schema.specs.ValidTable.{IsValidTable}
 use Rattle.segment_file.specs.declared.part.Part.TheVariants.{Star}
 use Rattle.segment_file.specs.declared.section.Section.{Section}
-use Rattle.segment_file.specs.Heads.{AreIn, IsHeadOf, LogsCount, LogsCounts, LogsTree, Seen, place_in, split_of}
+use Rattle.segment_head.specs.Heads.{AreIn, IsHeadOf, LogsCount, LogsCounts, LogsTree, Seen, place_in, split_of}
 use Rattle.segment_file.specs.Parts.{sections_of}
-use Rattle.segment_file.proofs.Composed.{made_count}
+use Rattle.segment_head.proofs.Composed.{made_count}
 use Rattle.segment_file.proofs.TreeChecks.{valid_at}
 use Rattle.star_answer.specs.Segments.{LogsAnswer, LogsAnswerPartly, LogsDocs}
 use Rattle.query_executor.specs.Logs.{LogsIn}

@@ -14,16 +14,16 @@ use Rattle.table_schema.specs.declared.table.Table.{Table}
 use Rattle.table_schema.specs.ValidTable.{IsValidTable}
 use Rattle.segment_file.specs.declared.part.Part.TheVariants as parts
 use Rattle.segment_file.specs.Front.{extents_of}
-use Rattle.segment_file.specs.Heads.{IsHeadOf, LogsTree, Seen, place_in, placed}
+use Rattle.segment_head.specs.Heads.{IsHeadOf, LogsTree, Seen, place_in, placed}
 use Rattle.segment_file.specs.Image.{front_of}
 use Rattle.segment_file.specs.Names.{file_of}
 use Rattle.segment_file.specs.Ordered.{ordered}
 use Rattle.segment_file.specs.Parts.{head_sections, raw_sections, sections_of}
-use Rattle.segment_file.specs.Stored.{IsOfImage}
+use Rattle.segment_head.specs.Stored.{IsOfImage}
 use Rattle.segment_file.specs.Trees.{nodes_of}
-use Rattle.segment_file.proofs.Composed.{made_count}
+use Rattle.segment_head.proofs.Composed.{made_count}
 use Rattle.segment_file.proofs.ImageRows.{ordered_count}
-use Rattle.segment_file.proofs.ImageTrees.{image_tree}
+use Rattle.segment_head.proofs.ImageTrees.{image_tree}
 use Rattle.segment_plan.specs.declared.plans.SegmentPlan.TheVariants.{StarTree}
 use Rattle.segment_plan.specs.Planned.{factors_over, plan_over}
 use Rattle.star_file.specs.Reading.{doc_width}

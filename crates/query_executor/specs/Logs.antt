@@ -5,7 +5,7 @@ use Rattle.outside.specs.Files.{Files, bytes_of}
 use Rattle.outside.specs.Reads.{Entry}
 use Rattle.table_schema.specs.declared.table.Table.{Table}
 use Rattle.segment_file.specs.Front.{Front, head_end}
-use Rattle.segment_file.specs.Heads.{IsWithin, Seen, dictionary_section}
+use Rattle.segment_head.specs.Heads.{IsWithin, Seen, dictionary_section}
 use Rattle.segment_file.specs.Names.{file_of}
 use Rattle.segment_file.specs.Rules.{HasFront}
 

@@ -11,7 +11,7 @@ use Rattle.group_table.specs.Kept.{IsTableOf, KeptGroups, groups_in}
 use Rattle.group_table.specs.Shape.{shape_of}
 use Rattle.scan_engine.specs.Scanned.{HaveAtMost, IsOverfull, selected}
 use Rattle.segment_file.specs.Front.{extents_of}
-use Rattle.segment_file.specs.Heads.{IsHeadOf, IsLoaded, Seen, placed}
+use Rattle.segment_head.specs.Heads.{IsHeadOf, IsLoaded, Seen, placed}
 use Rattle.segment_file.specs.Image.{front_of}
 use Rattle.segment_file.specs.Names.{file_of}
 use Rattle.segment_file.specs.Ordered.{ordered}

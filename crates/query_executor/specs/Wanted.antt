@@ -6,7 +6,7 @@ use Rattle.table_schema.specs.declared.query.BoundQuery.{BoundQuery}
 use Rattle.table_schema.specs.declared.settings.TreeSetting.{TreeSetting}
 use Rattle.table_schema.specs.declared.table.Table.{Table}
 use Rattle.table_schema.specs.Columns.{is_member}
-use Rattle.segment_file.specs.Heads.{Seen}
+use Rattle.segment_head.specs.Heads.{Seen}
 use Rattle.segment_plan.specs.Factors.{AreWholeLoaded, is_whole}
 use Rattle.segment_plan.specs.Matched.{is_filtered}
 use Rattle.segment_scan.specs.Named.{query_names}

@@ -1,7 +1,7 @@
 //! The dictionaries of a segment that a query wants are loaded.
 ghost use Rattle.std.specs.Prelude.{◌≡◌, ◌≢◌, ◌<◌, true, false, Err, IfSome, IsErrOf, List, ℕ, OnOk, get_or, length};
 ghost use Rattle.outside.specs.Seen.{OnlyReads, seen};
-ghost use Rattle.segment_file.specs.Heads.{AreIn, IsHeadOf, IsLoaded};
+ghost use Rattle.segment_head.specs.Heads.{AreIn, IsHeadOf, IsLoaded};
 ghost use Rattle.segment_file.specs.declared.part.Part.{Part};
 ghost use Rattle.segment_plan.specs.Matched.{AreLoaded};
 ghost use Rattle.star_answer.specs.Tasks.{AreGroupsLoaded};
@@ -17,7 +17,7 @@ ghost use Rattle.query_executor.specs.Wanted.{AreFactorsLoaded};
 use crate::opening::engine_fault;
 use crate::wanted::{detailed_columns, wanted_columns};
 use outside::Shelf;
-use segment_file::Head;
+use segment_head::Head;
 use segment_scan::EngineFault;
 use std::alloc::Global;
 use table_schema::{BoundQuery, Table};

@@ -1,7 +1,7 @@
 //! A segment of a table is opened.
 ghost use Rattle.std.specs.Prelude.{◌≡◌, ◌≢◌, Err, IfOk, IfSome, IsErrOf, string_bytes};
 ghost use Rattle.outside.specs.Seen.{OnlyReads, seen};
-ghost use Rattle.segment_file.specs.Heads.{AreIn, IsHeadOf};
+ghost use Rattle.segment_head.specs.Heads.{AreIn, IsHeadOf};
 ghost use Rattle.segment_file.specs.Names.{IsSegmentName, file_of};
 ghost use Rattle.segment_file.specs.declared.part.Part.{Part};
 ghost use Rattle.segment_scan.specs.declared.fault.EngineFault.TheVariants.{NotASegment, ReadFault, TooManyGroups};
@@ -11,7 +11,8 @@ ghost use Rattle.query_executor.specs.Segments.{HasNoImage};
 ghost use Rattle.query_executor.specs.Steps.{IsHeadIn, IsSpreadIn, fault_of};
 
 use outside::Shelf;
-use segment_file::{Head, HeadFault, image_keeps_law, open_head};
+use segment_file::{HeadFault, image_keeps_law};
+use segment_head::{Head, open_head};
 use segment_scan::EngineFault;
 use std::alloc::{AllocError, Global};
 use table_schema::Table;

@@ -17,7 +17,7 @@ use crate::loading::load_detailed;
 use crate::opening::open_segment;
 use eligibility::pick;
 use outside::Shelf;
-use segment_file::Head;
+use segment_head::Head;
 use segment_plan::{SegmentPlan, explained_law, head_tells_law, plan, prune, push_plan};
 use segment_scan::EngineFault;
 use std::alloc::{AllocError, Global};

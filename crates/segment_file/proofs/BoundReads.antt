@@ -1,12 +1,12 @@
 -- The bytes of bounds are read in one way.
-use Rattle.std.proofs.Common.{◌≡◌, ◌≢◌, ◌∙◌, ◌<◌, ◌≤◌, ◌+◌, ◌^◌, ℕ, ℤ, true, false, List, [], ◌∷◌, ◌++◌, length, get_or, take, drop, refl, sym, ap, subst, arith, append_assoc, append-nil, length-take, Option, Some, None, MatchOption}
+use Rattle.std.proofs.Common.{◌≡◌, ◌≢◌, ◌∙◌, ◌<◌, ◌≤◌, ◌+◌, ◌^◌, ℕ, ℤ, true, false, List, [], ◌∷◌, ◌++◌, length, get_or, take, drop, refl, sym, ap, subst, arith, append_assoc, append-nil, length-take, Option, Some, None, MatchOption, zero, suc, All}
 use Rattle.std.proofs.Math.Seq.{take-append_seam}
 use Rattle.std.proofs.lemmas.Bool.{false≢true}
 use Rattle.std.proofs.lemmas.Grind.{flat_map-append}
 use Rattle.std.proofs.lemmas.List.{drop_more, length-append, length-drop, take_all, take_more, take-append-drop}
 use Rattle.std.proofs.lemmas.Nat.{be_bytes_2, from_be_bytes-to_be_bytes_2}
 use Rattle.std.specs.Int.{w16, from_be_bytes}
-use Rattle.std.specs.List.{AllZip}
+use Rattle.std.specs.List.{AllZip, range_with_len}
 use Rattle.std.specs.Str.{IsUtf8}
 use Rattle.values.specs.declared.kind.FieldKind.{FieldKind}
 use Rattle.values.specs.declared.kind.FieldKind.TheVariants as kind
@@ -19,10 +19,23 @@ use Rattle.dictionary.proofs.Bytes.{AreBytes, same_fronts, same_rests, take_smal
 use Rattle.dictionary.proofs.Numbers.{fits_long, length-number, no_text, number_once}
 use Rattle.table_schema.specs.declared.field.Field.{Field}
 use Rattle.segment_file.specs.declared.bounds.Ends.{Ends}
-use Rattle.segment_file.specs.Bounds.{AreBounds, IsBound, MayBound, MayEnd, NoBound, bound_bytes, bounds_bytes, pair_bytes}
+use Rattle.segment_file.specs.Bounds.{AreBounds, IsBound, MayBound, MayEnd, NoBound, bound_bytes, bounds_bytes, pair_bytes, bounds_of, ends_of, bounded}
 use Rattle.segment_file.specs.Front.{short}
 use Rattle.segment_file.proofs.BoundLemmas.{fits_short}
-use Rattle.segment_file.proofs.HeadLemmas.{zip_push}
+use Rattle.std.proofs.lemmas.List.Elements.{All-get_or}
+use Rattle.std.proofs.lemmas.Option.{slice_get-get_or}
+use Rattle.table_schema.specs.declared.table.Table.{Table}
+use Rattle.dictionary.specs.Dictionary.{Distinct, Fits, IsUnicode}
+use Rattle.segment_file.specs.Image.{kind_at, kind_or}
+use Rattle.segment_file.specs.Rules.{AreSpelled}
+use Rattle.values.specs.declared.kind.FieldKind.TheVariants.{Long}
+use Rattle.segment_file.specs.Parts.{columns_of}
+
+pub zip_push : {A B : Type 0} (R : A → B → Type 0) (xs : List A) (ys : List B) (x : A) (y : B) → AllZip R xs ys → R x y → AllZip R (xs ++ x ∷ []) (ys ++ y ∷ [])
+zip_push R [] [] x y all one = (one, tt)
+zip_push R [] (b ∷ ys) x y all one = absurd all
+zip_push R (a ∷ xs) [] x y all one = absurd all
+zip_push R (a ∷ xs) (b ∷ ys) x y all one = (all.0, zip_push R xs ys x y all.1 one)
 
 -- ---- two bytes
 
@@ -244,3 +257,52 @@ at_some r x P Q e all = subst (λ o. MatchOption o P Q) e all
 
 pub at_nothing : {X : Type 0} (r : Option X) (P : Type 0) (Q : X → Type 0) → r ≡ None → MatchOption r P Q → P
 at_nothing r P Q e all = subst (λ o. MatchOption o P Q) e all
+
+-- ---- the bounds of dictionaries
+
+-- ---- the bounds of dictionaries
+
+-- a column of some values has a pair
+ends_more : (f : Field) (fs : List Field) (values : List Value) (rest : List Ends) → 0 < length values → All (Fits f.kind) values → All IsUnicode values → AllZip MayEnd fs rest → AllZip MayEnd (f ∷ fs) (ends_of values ++ rest)
+ends_more f fs [] rest some fit unicode zip = absurd (omega arith)
+ends_more f fs (v ∷ vs) rest some fit unicode zip =
+    let last : length vs < length (v ∷ vs) = omega arith in (
+      (
+        record { fit = fit 0 v (omega arith); unicode = unicode 0 v (omega arith) },
+        record { fit = All-get_or (Fits f.kind) (v ∷ vs) (length vs) v last fit; unicode = All-get_or IsUnicode (v ∷ vs) (length vs) v last unicode },
+      ),
+      zip,
+    )
+
+ends_each : (table : Table) (rows : ℕ) (heads : List (List ℕ)) (a : ℕ) (fs : List Field) (ds : List Distinct) → 0 < rows → ((i : ℕ) (f : Field) → i < length fs → kind_at table (a + i) ≡ (get_or fs i f).kind) → AreSpelled table rows heads (range_with_len a (length fs)) ds → AllZip MayEnd fs (bounds_of ds)
+ends_each table rows heads a [] [] some kinds all = tt
+ends_each table rows heads a [] (d ∷ ds) some kinds all = absurd all
+ends_each table rows heads a (f ∷ fs) [] some kinds all = absurd all
+ends_each table rows heads a (f ∷ fs) (d ∷ ds) some kinds all =
+    let first : a + 0 ≡ a = omega arith in
+    let kind : d.kind ≡ f.kind = all.0.kind_is ∙ ap (kind_at table) (sym first) ∙ kinds 0 f (omega arith) in
+    let later : (i : ℕ) (g : Field) → i < length fs → kind_at table (a + 1 + i) ≡ (get_or fs i g).kind = λ i g lt.
+    (let e : a + 1 + i ≡ a + suc i = omega arith in ap (kind_at table) e ∙ kinds (suc i) g (omega arith)) in
+    ends_more f fs d.values (bounds_of ds) (all.0.some some) (subst (λ k. All (Fits k) d.values) kind all.0.stands.fit) all.0.stands.unicode (ends_each table rows heads (a + 1) fs ds some later all.1)
+
+no_ends : (values : List Value) → length values ≤ 0 → ends_of values ≡ []
+no_ends [] few = refl
+no_ends (v ∷ vs) few = absurd (omega arith)
+
+no_bounds : (table : Table) (heads : List (List ℕ)) (columns : List ℕ) (ds : List Distinct) → AreSpelled table 0 heads columns ds → bounds_of ds ≡ []
+no_bounds table heads [] [] all = refl
+no_bounds table heads [] (d ∷ ds) all = absurd all
+no_bounds table heads (c ∷ cs) [] all = absurd all
+no_bounds table heads (c ∷ cs) (d ∷ ds) all = (λ i. no_ends d.values all.0.few i ++ no_bounds table heads cs ds all.1 i)
+
+bounds_each : (table : Table) (rows : ℕ) (heads : List (List ℕ)) (ds : List Distinct) → AreSpelled table rows heads (columns_of table) ds → AllZip MayEnd (bounded rows table.schema.fields) (bounds_of ds)
+bounds_each table zero heads ds all = subst (AllZip MayEnd []) (sym (no_bounds table heads (columns_of table) ds all)) tt
+bounds_each table (suc rows) heads ds all =
+    let fields : List Field = table.schema.fields in
+    let kinds : (i : ℕ) (f : Field) → i < length fields → kind_at table (0 + i) ≡ (get_or fields i f).kind = λ i f lt.
+    (let e : 0 + i ≡ i = omega arith in ap (kind_at table) e ∙ ap kind_or (slice_get-get_or fields i f lt)) in
+    ends_each table (suc rows) heads 0 fields ds (omega arith) kinds all
+
+-- bytes that are the bounds of dictionaries are bounds of the fields
+pub bounds_there : (table : Table) (rows : ℕ) (heads : List (List ℕ)) (first : List ℕ) (ds : List Distinct) → AreSpelled table rows heads (columns_of table) ds → first ≡ bounds_bytes (bounds_of ds) → AreBounds (bounded rows table.schema.fields) first (bounds_of ds)
+bounds_there table rows heads first ds all is = record { each = bounds_each table rows heads ds all; spelled = is }

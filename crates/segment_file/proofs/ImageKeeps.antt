@@ -19,9 +19,8 @@ use Rattle.table_schema.specs.declared.table.Table.{Table}
 use Rattle.table_schema.specs.ValidTable.{IsRow, IsValidTable, most_rows}
 use Rattle.segment_file.specs.declared.part.Part.{Part}
 use Rattle.segment_file.specs.declared.part.Part.TheVariants as parts
-use Rattle.segment_file.specs.Bounds.{bounds_bytes, bounds_of}
+use Rattle.segment_file.specs.Bounds.{bounds_bytes, bounds_of, bounded}
 use Rattle.segment_file.specs.Front.{Extent, Front, extents_from, extents_of, file_end, front_bytes, front_size}
-use Rattle.segment_file.specs.Heads.{bounded}
 use Rattle.segment_file.specs.Image.{count_of, dictionary_of, file_of_rows, front_of, kind_at, section_of, sections_of_rows}
 use Rattle.segment_file.specs.Laws.{ImageKeeps}
 use Rattle.segment_file.specs.Ordered.{ordered}
@@ -29,11 +28,11 @@ use Rattle.segment_file.specs.Parts.{columns_of, head_sections, sections_of, tai
 use Rattle.segment_file.specs.Reading.{IsTailPart}
 use Rattle.segment_file.specs.Rules.{AreNodes, AreSpelled, HasFront, HasNodes, HaveNodes, IsSized, IsSpelled, KeepsAll, count_in, dictionary_in, heads_in, nodes_in, section_bytes, size_for, size_in, split_counts, star_size}
 use Rattle.segment_file.specs.Trees.{TreeFits, nodes_of, star_of}
-use Rattle.segment_file.proofs.Composed.{spelled_count, tail_parts}
+use Rattle.segment_file.proofs.Tails.{spelled_count, tail_parts}
 use Rattle.segment_file.proofs.Fronts.{front_bytes_size}
-use Rattle.segment_file.proofs.ImageRows.{and_first, and_second, column_dictionary, few_values, ordered_all, ordered_count, some_values}
+use Rattle.segment_file.proofs.ImageRows.{and_first, and_second, column_dictionary, few_values, ordered_all, ordered_count, some_values, if_some}
 use Rattle.segment_file.proofs.ImageSizes.{bounds_few, columns_all, image_small, raw_size, there}
-use Rattle.segment_file.proofs.Steps.{bounds_there, if_some}
+use Rattle.segment_file.proofs.BoundReads.{bounds_there}
 use Rattle.segment_file.proofs.TreeRows.{TreeThere}
 
 -- ---- the sections are cut out of the file

@@ -1,5 +1,5 @@
 -- The rows of an image in their order, their columns, and the ids of a column.
-use Rattle.std.proofs.Common.{◌≡◌, ◌∙◌, ◌<◌, ◌≤◌, ℕ, zero, suc, Bool, true, false, ◌||◌, ◌&&◌, All, List, [], ◌∷◌, length, get_or, Option, Some, None, refl, sym, ap, subst, arith}
+use Rattle.std.proofs.Common.{◌≡◌, ◌∙◌, ◌<◌, ◌≤◌, ℕ, zero, suc, Bool, true, false, ◌||◌, ◌&&◌, All, List, [], ◌∷◌, length, get_or, Option, Some, None, refl, sym, ap, subst, arith, IfSome}
 use Rattle.std.specs.Prelude.{if◌then◌else◌, slice_get, pos}
 use Rattle.std.proofs.lemmas.Bool.{false≢true}
 use Rattle.std.proofs.lemmas.List.{length-map}
@@ -19,6 +19,11 @@ use Rattle.table_schema.specs.declared.table.Table.{Table}
 use Rattle.table_schema.specs.ValidTable.{IsRow, is_row}
 use Rattle.segment_file.specs.Image.{count_of, dictionary_of, ids_of, kind_at, kind_or, place_of, values_in}
 use Rattle.segment_file.specs.Ordered.{ordered, placed, sorted_by, value_in}
+
+-- ---- small steps
+
+pub if_some : {X : Type 0} (o : Option X) (x : X) (P : X → Type 0) → o ≡ Some x → P x → IfSome o P
+if_some o x P e p = subst (λ q. IfSome q P) (sym e) p
 
 -- ---- the order
 

@@ -35,7 +35,7 @@ use Rattle.segment_file.specs.Trees.{TreeFits, nodes_of, star_of}
 use Rattle.segment_file.specs.Rules.{size_for}
 use Rattle.segment_file.proofs.BoundLemmas.{fits_short}
 use Rattle.segment_file.proofs.BoundReads.{length-short}
-use Rattle.segment_file.proofs.Composed.{tail_parts}
+use Rattle.segment_file.proofs.Tails.{tail_parts}
 use Rattle.segment_file.proofs.TreeRows.{TreeThere, tree_there}
 use Rattle.segment_file.proofs.Counts.{few_sections}
 use Rattle.segment_file.proofs.ImageRows.{column_dictionary, few_values, ids_below, ids_count}

@@ -1,20 +1,15 @@
 pub mod Counts
 pub mod Faults
 pub mod Fronts
+pub mod Tails
 pub mod BoundLemmas
-mod BoundReads
-pub mod HeadLemmas
-pub mod Composed
+pub mod BoundReads
+pub mod Openings
 pub mod RuleLaws
-mod Openings
-mod Steps
 pub mod ImageRows
-mod ImageSizes
+pub mod TreeRows
+pub mod ImageSizes
 pub mod ImageKeeps
 pub mod ImageTells
-pub mod TreeRows
 pub mod TreeChecks
-mod TreeSteps
-pub mod ImageTrees
-pub mod SectionBytes
-mod Loops
+pub mod Loops

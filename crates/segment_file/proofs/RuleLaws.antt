@@ -13,7 +13,7 @@ use Rattle.segment_file.specs.Image.{kind_at}
 use Rattle.segment_file.specs.Laws.{FailsNotAll}
 use Rattle.segment_file.specs.Parts.{columns_of}
 use Rattle.segment_file.specs.Rules.{AreSpelled, FailsAt, FailsBounds, FailsDictionary, FailsNodes, FailsSize, HasFront, HasNodes, IsSized, IsSpelled, KeepsAll, dictionary_in, heads_in, raw_extents}
-use Rattle.segment_file.proofs.Composed.{zip_at}
+use Rattle.segment_file.proofs.Tails.{zip_at}
 use Rattle.segment_file.proofs.Counts.{all_at}
 use Rattle.segment_file.proofs.Fronts.{is_said}
 

@@ -33,12 +33,12 @@ use Rattle.star_file.proofs.SectionLemmas.{section_back, section_count, section_
 use Rattle.star_file.proofs.TreeDocs.{Good, docs_long, tree_fine}
 use Rattle.star_file.proofs.TreeLaws.{no_documents, tree_keeps, tree_words}
 use Rattle.dictionary.specs.Dictionary.{distinct}
-use Rattle.segment_file.specs.Heads.{nodes_said}
+use Rattle.segment_file.specs.Reading.{nodes_said}
 use Rattle.segment_file.specs.Columns.{count_of, place_of, values_in}
 use Rattle.segment_file.specs.Ordered.{value_in}
 use Rattle.segment_file.specs.Rules.{AreNodes}
 use Rattle.segment_file.specs.Trees.{TreeFits, documents, id_in, nested, nodes_of, number_for, number_of, star_of, tree_row, written}
-use Rattle.segment_file.proofs.Composed.{unmapped}
+use Rattle.segment_file.proofs.Tails.{unmapped}
 use Rattle.segment_file.proofs.ImageRows.{and_first, and_second, few_values, ids_below}
 
 -- ---- the numbers of a row

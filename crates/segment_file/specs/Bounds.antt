@@ -1,5 +1,5 @@
 -- The bounds of columns, as a file has them: the least and the greatest value of each.
-use Rattle.std.specs.Prelude.{◌≡◌, ◌≤◌, ℕ, List, [], ◌∷◌, ◌++◌, length, slice_index_or}
+use Rattle.std.specs.Prelude.{◌≡◌, ◌≤◌, ℕ, List, [], ◌∷◌, ◌++◌, length, slice_index_or, zero, suc}
 use Rattle.std.specs.List.{AllZip, flat_map}
 use Rattle.values.specs.declared.kind.FieldKind.{FieldKind}
 use Rattle.values.specs.declared.value.Value.{Value}
@@ -61,3 +61,8 @@ MayEnd field ends = MayBound field.kind ends.least × MayBound field.kind ends.g
 pub record AreBounds (fields : List Field) (bytes : List ℕ) (bounds : List Ends) : Type 0 where
   pub each : AllZip MayEnd fields bounds
   pub spelled : bytes ≡ bounds_bytes bounds
+
+-- the fields that have bounds: none where there are no rows
+abbrev pub bounded : ℕ → List Field → List Field
+bounded zero fields = []
+bounded (suc rows) fields = fields

@@ -8,6 +8,4 @@ pub mod Trees
 pub mod Image
 pub mod Rules
 pub mod Reading
-pub mod Heads
 pub mod Laws
-pub mod Stored

@@ -1,7 +1,7 @@
--- What the reading of a head finds (inside the crate alone).
-use Rattle.std.specs.Prelude.{◌≡◌, ◌<◌, ◌+◌, ℕ, List, [], ◌∷◌, take, drop, map, length, slice_index_or, Option, Some, IfSome}
+-- What the reading of a front finds, what sections of nodes say, and which sizes the sections after a head have.
+use Rattle.std.specs.Prelude.{◌≡◌, ◌<◌, ℕ, List, [], ◌∷◌, take, drop, map, length, slice_index_or, Option, Some, IfSome}
 use Rattle.std.specs.Int.{w64, from_be_bytes}
-use Rattle.std.specs.List.{All, range_with_len}
+use Rattle.std.specs.List.{All}
 use Rattle.outside.specs.Files.{Files, bytes_of}
 use Rattle.table_schema.specs.declared.table.Table.{Table}
 use Rattle.dictionary.specs.Dictionary.{Distinct}
@@ -10,10 +10,18 @@ use Rattle.segment_file.specs.declared.part.Part.TheVariants as parts
 use Rattle.segment_file.specs.declared.section.Section.{Section}
 use Rattle.segment_file.specs.declared.trees.TreeNodes.{TreeNodes}
 use Rattle.segment_file.specs.Front.{Front, front_size}
-use Rattle.segment_file.specs.Heads.{trees_said}
-use Rattle.segment_file.specs.Parts.{columns_of}
-use Rattle.segment_file.specs.Columns.{kind_at}
-use Rattle.segment_file.specs.Rules.{AreSpelled, HasNodes, HaveNodes, IsFront, IsSpelled, dictionary_in, size_in}
+use Rattle.segment_file.specs.Parts.{columns_of, trees_of}
+use Rattle.segment_file.specs.Rules.{AreSpelled, IsFront, size_in, nodes_in}
+use Rattle.star_file.specs.Rules as nodes
+use Rattle.star_file.specs.Rules.{number_at}
+
+-- what a section of nodes says
+abbrev pub nodes_said : List ℕ → TreeNodes
+nodes_said bytes = record { documents = number_at 0 bytes; nodes = nodes.nodes_in (nodes.count_in bytes) (drop 4 bytes) }
+
+-- what the sections of the head say of each tree
+abbrev pub trees_said : Table → List (List ℕ) → List TreeNodes
+trees_said table heads = map (λ t. nodes_said (nodes_in table heads t)) (trees_of table)
 
 -- how long each of these sections is, as the last eight bytes of its entry say
 abbrev pub sizes_from : List Part → List ℕ → List ℕ
@@ -28,34 +36,9 @@ pub record IsFrontOf (table : Table) (name file : List ℕ) (held : Option Files
 
 -- ---- the sections of a head
 
--- the bytes of a section
-abbrev pub bytes_of_section : List ℕ → Section → List ℕ
-bytes_of_section bytes s = take s.place.length (drop s.place.offset bytes)
-
--- the bytes of the first so many sections
-abbrev pub heads_of : ℕ → List Section → List ℕ → List (List ℕ)
-heads_of count sections bytes = map (bytes_of_section bytes) (take count sections)
-
--- the dictionary of this field is the first that is none
-pub record StopsAt (table : Table) (rows : ℕ) (heads : List (List ℕ)) (column : ℕ) : Type 0 where
-  pub field : column < length table.schema.fields
-  pub before : List Distinct
-  pub spelled : AreSpelled table rows heads (range_with_len 0 column) before
-  pub none : (d : Distinct) → ¬ IsSpelled (kind_at table column) rows (dictionary_in heads column) d
-
--- the sections of the head, as its bytes say
-abbrev pub heads_read : Table → List Section → List ℕ → List (List ℕ)
-heads_read table sections bytes = heads_of (length table.schema.fields + 1 + length table.settings.trees) sections bytes
-
 -- how many values the dictionary of a field has
 abbrev pub count_at : List Distinct → ℕ → ℕ
 count_at dictionaries column = length (slice_index_or (map (λ d. d.values) dictionaries) column [])
-
--- the nodes of this tree are the first that are not in their section
-pub record NodesStop (table : Table) (rows : ℕ) (heads : List (List ℕ)) (t : ℕ) : Type 0 where
-  pub tree : t < length table.settings.trees
-  pub before : HaveNodes table rows heads t
-  pub none : ¬ HasNodes table rows heads t
 
 -- the dictionaries and the nodes are those in the sections of the head
 pub record AreRead (table : Table) (rows : ℕ) (heads : List (List ℕ)) (dictionaries : List Distinct) (trees : List TreeNodes) : Type 0 where

@@ -174,3 +174,7 @@ FailsAt table name bytes (parts.Dictionary column) = FailsDictionary table name 
 FailsAt table name bytes parts.Bounds = FailsBounds table name bytes
 FailsAt table name bytes (parts.Nodes t) = FailsNodes table name bytes t
 FailsAt table name bytes other = FailsSize table name bytes other
+
+-- all rules of a head hold on the bytes
+abbrev pub KeepsRules : Table → List ℕ → List ℕ → Type 0
+KeepsRules table name bytes = (front : Front) × (dictionaries : List Distinct) × KeepsAll table name bytes front dictionaries

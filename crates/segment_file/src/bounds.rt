@@ -1,33 +1,18 @@
 //! The bounds of columns: the least and the greatest value of each.
-ghost use Rattle.std.specs.Prelude.{◌≡◌, ◌≢◌, ◌<◌, ◌^◌, ◌++◌, List, true, length, IfOk, OnOk, MatchOption};
+ghost use Rattle.std.specs.Prelude.{◌≡◌, ◌<◌, ◌++◌, OnOk};
 ghost use Rattle.dictionary.specs.Spelling.{number_bytes};
-ghost use Rattle.values.specs.Numbers.{is_in_range};
-ghost use Rattle.segment_file.specs.Bounds.{AreBounds, IsBound, IsShort, NoBound, bound_bytes, bounds_bytes, bounds_of, ends_of};
-ghost use Rattle.segment_file.specs.Front.{short};
+ghost use Rattle.segment_file.specs.Bounds.{IsShort, bound_bytes, bounds_bytes, ends_of};
 
 use crate::NoMemory;
 use crate::numbers::push_two;
 use dictionary::Dictionary;
-use std::alloc::Global;
-use table_schema::Field;
-use values::{FieldKind, MOST_TEXT_BYTES, Name, Value};
+use values::Value;
 
 /// The least and the greatest value of a column.
 #[derive(Debug, Drop)]
 pub struct Ends {
     pub least: Value,
     pub greatest: Value,
-}
-
-/// Appends the bounds of columns with these dictionaries; a column without values has none.
-pub fn push_bounds(dictionaries: &[Dictionary], out: &mut Vec<u8>) -> Result<(), NoMemory>
-    ensures { OnOk result (out.new.items ≡
-        out.old.items ++ bounds_bytes (bounds_of dictionaries.now)) }
-{
-    for dictionary in dictionaries {
-        push_ends(dictionary, out)?;
-    }
-    Ok(())
 }
 
 /// Appends the least and the greatest value of one column, if it has values.
@@ -55,113 +40,4 @@ fn push_bound(value: &Value, out: &mut Vec<u8>) -> Result<(), NoMemory>
             out.extend_from_slice(text.as_slice())
         }
     }
-}
-
-/// The bounds of these fields that the bytes are, if they are.
-pub fn read_bounds(
-    alloc: Global,
-    fields: &[Field],
-    bytes: &[u8],
-) -> Result<Option<Vec<Ends>>, NoMemory>
-    ensures { IfOk result (λ read. MatchOption read
-        ((bounds : List Ends) → ¬ AreBounds fields.now bytes.now bounds)
-        (λ bounds. AreBounds fields.now bytes.now bounds.items)) }
-{
-    let mut bounds = Vec::with_capacity(alloc, fields.len())?;
-    let mut rest = bytes;
-    for field in fields {
-        let Some((least, following)) = read_bound(alloc, field.kind, rest)? else {
-            return Ok(None);
-        };
-        let Some((greatest, after)) = read_bound(alloc, field.kind, following)? else {
-            return Ok(None);
-        };
-        bounds.push(Ends { least, greatest })?;
-        rest = after;
-    }
-    if rest.is_empty() {
-        Ok(Some(bounds))
-    } else {
-        Ok(None)
-    }
-}
-
-// The value of the kind at the front, and the bytes after it.
-fn read_bound(
-    alloc: Global,
-    kind: FieldKind,
-    bytes: &[u8],
-) -> Result<Option<(Value, &[u8])>, NoMemory>
-    ensures { IfOk result (λ read. MatchOption read
-        (NoBound kind bytes.now)
-        (λ p. IsBound kind bytes.now p.0 p.1.now)) }
-{
-    match kind {
-        FieldKind::Int | FieldKind::Long => Ok(read_number(kind, bytes)),
-        FieldKind::Text => {
-            let Some((text, rest)) = split_text(bytes) else {
-                return Ok(None);
-            };
-            Ok(Some((Value::Text(Name::from_text(alloc, text)?), rest)))
-        }
-    }
-}
-
-fn read_number(kind: FieldKind, bytes: &[u8]) -> Option<(Value, &[u8])>
-    requires { kind ≢ FieldKind.Text }
-    ensures { MatchOption result
-        (NoBound kind bytes.now)
-        (λ p. IsBound kind bytes.now p.0 p.1.now) }
-{
-    let (number, rest) = bytes.split_first_chunk::<8>()?;
-    let number = number_of(number);
-    if is_in_range(kind, number) {
-        Some((Value::Whole(number), rest))
-    } else {
-        None
-    }
-}
-
-// The number that eight bytes spell.
-fn number_of(bytes: &[u8; 8]) -> i64
-    ensures spelled { number_bytes (Value.Whole result) ≡ bytes.now }
-    ensures within { is_in_range FieldKind.Long result ≡ true }
-{
-    u64::from_be_bytes(*bytes).cast_signed()
-}
-
-fn is_in_range(kind: FieldKind, number: i64) -> bool
-    ensures { result ≡ is_in_range kind number }
-{
-    match kind {
-        FieldKind::Int => i64::from(i32::MIN) <= number && number <= i64::from(i32::MAX),
-        FieldKind::Long | FieldKind::Text => true,
-    }
-}
-
-// The text after its length at the front, and the bytes after it.
-fn split_text(bytes: &[u8]) -> Option<(&str, &[u8])>
-    ensures { MatchOption result
-        (NoBound FieldKind.Text bytes.now)
-        (λ p. IsBound FieldKind.Text bytes.now (Value.Text p.0.now) p.1.now) }
-{
-    let (length, rest) = split_short(bytes)?;
-    if length > MOST_TEXT_BYTES {
-        return None;
-    }
-    let (text, following) = rest.split_at_checked(length)?;
-    let Ok(text) = str::from_utf8(text) else {
-        return None;
-    };
-    Some((text, following))
-}
-
-// The number that two bytes at the front spell, and the bytes after them.
-fn split_short(bytes: &[u8]) -> Option<(usize, &[u8])>
-    ensures { MatchOption result
-        (length bytes.now < 2)
-        (λ p. (p.0 < 2 ^ 16) × (bytes.now ≡ short p.0 ++ p.1.now)) }
-{
-    let (number, rest) = bytes.split_first_chunk::<2>()?;
-    Some((u16::from_be_bytes(*number) as usize, rest))
 }

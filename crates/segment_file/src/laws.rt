@@ -1,5 +1,5 @@
-//! Laws of heads and of images. Each is the contract of a function that does nothing.
-ghost use Rattle.segment_file.specs.Laws.{FailsNotAll, HeadTellsTrees, ImageKeeps, ImagesTell};
+//! Laws of the rules of heads, and of images. Each is the contract of a function that does nothing.
+ghost use Rattle.segment_file.specs.Laws.{FailsNotAll, ImageKeeps, ImagesTell};
 
 /// Where the rule of some part is the first that fails, not all rules hold.
 pub fn head_rules_law()
@@ -15,10 +15,4 @@ pub fn image_keeps_law()
 /// order.
 pub fn images_tell_law()
     ensures { ImagesTell }
-{}
-
-/// The head of the image of rows tells of each tree how many documents and which nodes the tree of
-/// the rows has, written flat.
-pub fn head_tells_trees_law()
-    ensures { HeadTellsTrees }
 {}

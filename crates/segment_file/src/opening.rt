@@ -1,4 +1,4 @@
-//! The head of a segment's file is read.
+//! The front of a segment's file and the rest of its head are read.
 ghost use Rattle.std.specs.Prelude.{◌≡◌, ◌++◌, IfOk, IfErr, IfSome, OnErr, IsErrOf, None, Some, take};
 ghost use Rattle.outside.specs.Files.{bytes_of};
 ghost use Rattle.outside.specs.Reads.{LogsThrough, LogsUpTo};
@@ -6,57 +6,18 @@ ghost use Rattle.outside.specs.Seen.{OnlyReads, seen};
 ghost use Rattle.table_schema.specs.ValidTable.{IsValidTable};
 ghost use Rattle.segment_file.specs.Front as spec;
 ghost use Rattle.segment_file.specs.Front.{front_size, head_end};
-ghost use Rattle.segment_file.specs.Heads.{IsHead, IsHeadOf, LogsHead};
 ghost use Rattle.segment_file.specs.Names.{IsSegmentName};
 ghost use Rattle.segment_file.specs.Parts.{sections_of};
 ghost use Rattle.segment_file.specs.Reading.{IsFrontOf};
-ghost use Rattle.segment_file.specs.Rules.{FailsAt, HasFront};
+ghost use Rattle.segment_file.specs.Rules.{HasFront};
 ghost use Rattle.segment_file.specs.declared.fault.HeadFault.TheVariants.{NotASegment};
 ghost use Rattle.segment_file.specs.declared.part.Part.{Part};
 ghost use Rattle.segment_file.specs.declared.part.Part.TheVariants as part;
 
-use crate::{
-    Front, Head, HeadFault, NoMemory, Part, check_head, file_length, front_size, read_exactly,
-    sections_of,
-};
+use crate::{Front, HeadFault, NoMemory, Part, file_length, front_size, read_exactly};
 use outside::Shelf;
 use std::alloc::Global;
 use table_schema::Table;
-
-/// The head of a file that is to be the segment's of this name, with all dictionaries and nodes, or
-/// the part of the first rule that fails. A file that is missing is an empty one. No byte past the head is read,
-/// and none twice.
-pub fn read_head<S: Shelf>(
-    alloc: Global,
-    shelf: &mut S,
-    file: &str,
-    name: &str,
-    table: &Table,
-) -> Result<Head, HeadFault>
-    requires valid { IsValidTable table.now }
-    requires name { IsSegmentName name.now }
-    ensures of { IfOk result (IsHeadOf table.now) }
-    ensures head { IfOk result (λ head. IfSome (S.held shelf.old) (λ files.
-        IsHead table.now name.now file.now (bytes_of (Some files) file.now) head)) }
-    ensures refused { IfErr result (λ fault. (p : Part) → fault ≡ NotASegment p →
-        IfSome (S.held shelf.old) (λ files.
-        FailsAt table.now name.now (bytes_of (Some files) file.now) p)) }
-    ensures only_reads { OnlyReads (IsErrOf result HeadFault.ReadFault)
-        (seen S.Shelf shelf.old) (seen S.Shelf shelf.new) }
-    ensures log { LogsHead table.now name.now file.now (S.held shelf.old)
-        (S.log shelf.old) (S.log shelf.new) }
-{
-    let parts = sections_of(alloc, table)?;
-    let read = match read_front(alloc, shelf, file, name, table, &parts) {
-        Ok(read) => read,
-        Err(fault) => return Err(fault),
-    };
-    let bytes = match read_rest(alloc, shelf, file, name, table, &read) {
-        Ok(bytes) => bytes,
-        Err(fault) => return Err(fault),
-    };
-    check_head(alloc, table, file, name, &read.front, &parts, &bytes)
-}
 
 /// The front of a file, and its bytes.
 #[derive(Drop)]
@@ -104,8 +65,8 @@ pub fn read_front<S: Shelf>(
     }
 }
 
-// The bytes of a file with this front up to the end of its head.
-fn read_rest<S: Shelf>(
+/// The bytes of a file with this front up to the end of its head.
+pub fn read_rest<S: Shelf>(
     alloc: Global,
     shelf: &mut S,
     file: &str,

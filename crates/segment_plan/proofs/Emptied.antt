@@ -12,7 +12,7 @@ use Rattle.table_schema.specs.declared.table.Table.{Table}
 use Rattle.table_schema.specs.Conditions.{all_hold, cell, conjunct_holds}
 use Rattle.dictionary.specs.Dictionary.{distinct}
 use Rattle.dictionary.proofs.Distinct.{distinct_members}
-use Rattle.segment_file.specs.Heads.{IsLoaded, Seen}
+use Rattle.segment_head.specs.Heads.{IsLoaded, Seen}
 use Rattle.segment_file.specs.Image.{values_in}
 use Rattle.segment_file.specs.Ordered.{value_in}
 use Rattle.segment_file.specs.Parts.{columns_of}

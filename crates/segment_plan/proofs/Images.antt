@@ -7,7 +7,7 @@ use Rattle.dictionary.specs.Dictionary.{Distinct}
 use Rattle.dictionary.proofs.Spells.{spells_one}
 use Rattle.segment_file.specs.Bounds.{bounds_of}
 use Rattle.segment_file.specs.Front.{Front}
-use Rattle.segment_file.specs.Heads.{IsSlotOf}
+use Rattle.segment_head.specs.Heads.{IsSlotOf}
 use Rattle.segment_file.specs.Image.{dictionary_of, front_of, image}
 use Rattle.segment_file.specs.Ordered.{ordered}
 use Rattle.segment_file.specs.Parts.{columns_of}

@@ -10,7 +10,7 @@ use Rattle.table_schema.specs.NeedIds.{is_set}
 use Rattle.dictionary.specs.Dictionary.{distinct}
 use Rattle.dictionary.specs.Ids.{matching}
 use Rattle.eligibility.specs.Rule.{picked}
-use Rattle.segment_file.specs.Heads.{Seen}
+use Rattle.segment_head.specs.Heads.{Seen}
 use Rattle.segment_file.specs.Image as image
 use Rattle.segment_file.specs.Parts.{columns_of}
 use Rattle.segment_plan.specs.declared.plans.IndexChoice.TheVariants.{Unindexed, Sorted, Inverted, Range}

@@ -12,7 +12,7 @@ use Rattle.table_schema.specs.declared.table.Table.{Table}
 use Rattle.table_schema.specs.ValidQuery.{IsValidQuery, conjunct_known}
 use Rattle.table_schema.specs.ValidSettings.{IsValidTree, is_number_of}
 use Rattle.table_schema.specs.ValidTable.{IsValidTable}
-use Rattle.segment_file.specs.Heads.{IsLoaded, Seen}
+use Rattle.segment_head.specs.Heads.{IsLoaded, Seen}
 use Rattle.segment_file.specs.Image.{dictionary_of}
 use Rattle.segment_plan.specs.declared.plans.SegmentPlan.{SegmentPlan}
 use Rattle.segment_plan.specs.declared.plans.SegmentPlan.TheVariants.{Pruned, Empty, StarTree, Scan}

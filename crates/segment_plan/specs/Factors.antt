@@ -5,7 +5,7 @@ use Rattle.agg_laws.specs.Tree.{skips}
 use Rattle.table_schema.specs.declared.query.BoundQuery.{BoundQuery}
 use Rattle.table_schema.specs.declared.settings.TreeSetting.{TreeSetting}
 use Rattle.table_schema.specs.Columns.{is_member}
-use Rattle.segment_file.specs.Heads.{IsLoaded, Seen}
+use Rattle.segment_head.specs.Heads.{IsLoaded, Seen}
 use Rattle.segment_plan.specs.Matched.{is_filtered, matched, values_in}
 
 -- a dimension is grouped, or no star child is made for it

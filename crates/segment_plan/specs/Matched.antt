@@ -8,7 +8,7 @@ use Rattle.table_schema.specs.declared.query.Conjunct.{Conjunct}
 use Rattle.table_schema.specs.declared.query.Conjunct.TheVariants.{One, Many}
 use Rattle.dictionary.specs.Dictionary.{Distinct}
 use Rattle.dictionary.specs.Ids.{has_id}
-use Rattle.segment_file.specs.Heads.{IsLoaded, Seen}
+use Rattle.segment_head.specs.Heads.{IsLoaded, Seen}
 
 -- the conjunct names this column alone
 abbrev pub is_on : ℕ → Conjunct → Bool

@@ -6,7 +6,7 @@ use Rattle.table_schema.specs.declared.settings.TreeSetting.{TreeSetting}
 use Rattle.table_schema.specs.declared.table.Table.{Table}
 use Rattle.dictionary.specs.Dictionary.{Distinct}
 use Rattle.segment_file.specs.Bounds.{bounds_of}
-use Rattle.segment_file.specs.Heads.{Seen}
+use Rattle.segment_head.specs.Heads.{Seen}
 use Rattle.segment_file.specs.Image.{dictionary_of}
 use Rattle.segment_file.specs.Parts.{columns_of}
 use Rattle.segment_plan.specs.declared.plans.SegmentPlan.{SegmentPlan}

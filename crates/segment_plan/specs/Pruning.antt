@@ -7,7 +7,7 @@ use Rattle.table_schema.specs.declared.query.BoundQuery.{BoundQuery}
 use Rattle.table_schema.specs.declared.query.Conjunct.{Conjunct}
 use Rattle.table_schema.specs.declared.query.Conjunct.TheVariants.{One, Many}
 use Rattle.segment_file.specs.declared.bounds.Ends.{Ends}
-use Rattle.segment_file.specs.Heads.{Seen}
+use Rattle.segment_head.specs.Heads.{Seen}
 
 -- a test may hold of no value between these bounds; where there are none, that is not known
 abbrev pub excludes : Option Ends → Test → Bool

@@ -6,7 +6,7 @@ ghost use Rattle.segment_plan.specs.Matched.{AreLoaded};
 
 use crate::{IndexChoice, NoMemory};
 use dictionary::IdSet;
-use segment_file::Head;
+use segment_head::Head;
 use std::alloc::Global;
 use table_schema::{Conjunct, Settings};
 use values::Seq;

@@ -6,7 +6,7 @@ ghost use Rattle.segment_plan.specs.Explained as spec;
 ghost use Rattle.segment_plan.specs.declared.plans.SegmentPlan.TheVariants.{StarTree};
 
 use crate::{IndexChoice, NoMemory, SegmentPlan, factors};
-use segment_file::Head;
+use segment_head::Head;
 use std::alloc::Global;
 use table_schema::{BoundQuery, Table};
 

@@ -8,7 +8,7 @@ use crate::choice::choices;
 use crate::matching::{is_filtered, matched};
 use crate::{NoMemory, ScanPlan, SegmentPlan, prune};
 use eligibility::pick;
-use segment_file::Head;
+use segment_head::Head;
 use std::alloc::Global;
 use table_schema::{BoundQuery, Conjunct, Table};
 

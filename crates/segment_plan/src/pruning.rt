@@ -3,7 +3,7 @@ ghost use Rattle.std.specs.Prelude.{◌≡◌};
 ghost use Rattle.std.specs.List.{list_any};
 ghost use Rattle.segment_plan.specs.Pruning as spec;
 
-use segment_file::Head;
+use segment_head::Head;
 use table_schema::{BoundQuery, Conjunct};
 use values::may_hold;
 

@@ -6,7 +6,7 @@ ghost use Rattle.segment_plan.specs.Matched.{AreLoaded};
 
 use crate::NoMemory;
 use crate::matching::{is_filtered, matched};
-use segment_file::Head;
+use segment_head::Head;
 use std::alloc::Global;
 use table_schema::{BoundQuery, Table};
 use values::Seq;

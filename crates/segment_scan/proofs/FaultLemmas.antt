@@ -8,7 +8,7 @@ use Rattle.bit_column.specs.Column.{width_of}
 use Rattle.bit_column.specs.Sections.{Readable, section}
 use Rattle.bit_column.specs.declared.fault.ColumnFault.{ColumnFault}
 use Rattle.bit_column.specs.declared.fault.ColumnFault.TheVariants as columns
-use Rattle.segment_file.specs.Heads as heads
+use Rattle.segment_head.specs.Heads as heads
 use Rattle.segment_file.specs.declared.part.Part.TheVariants.{Forward}
 use Rattle.segment_scan.specs.Faults.{fault_of}
 use Rattle.segment_scan.specs.Forward.{HasIds, IsFaultAt, IsFaultIn, count_in}

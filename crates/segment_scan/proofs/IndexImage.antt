@@ -30,7 +30,7 @@ use Rattle.segment_file.specs.declared.part.Part.{Part}
 use Rattle.segment_file.specs.declared.part.Part.TheVariants as parts
 use Rattle.segment_file.specs.declared.section.Section.{Section}
 use Rattle.segment_file.specs.Front.{Front, extents_of, front_bytes, front_size}
-use Rattle.segment_file.specs.Heads.{IsHeadOf, IsLoaded, Seen, bytes_in, place_in, placed}
+use Rattle.segment_head.specs.Heads.{IsHeadOf, IsLoaded, Seen, bytes_in, place_in, placed}
 use Rattle.segment_file.specs.Image.{count_of, dictionary_of, front_of, ids_of, image, place_of, section_of, sections_of_rows}
 use Rattle.segment_file.specs.Image as segment
 use Rattle.segment_file.specs.Ordered.{ordered, sorted_by, value_in}
@@ -39,7 +39,7 @@ use Rattle.segment_file.specs.Rules.{KeepsAll}
 use Rattle.segment_file.proofs.Fronts.{front_bytes_size}
 use Rattle.segment_file.proofs.ImageKeeps.{image_keeps}
 use Rattle.segment_file.proofs.RuleLaws.{fronts_one}
-use Rattle.segment_file.proofs.SectionBytes.{any_back, any_front, any_raw, cut_section, some_place}
+use Rattle.segment_head.proofs.SectionBytes.{any_back, any_front, any_raw, cut_section, some_place}
 use Rattle.segment_plan.specs.Choices.{are_consecutive, choice_of, is_sorted_on}
 use Rattle.segment_plan.specs.Laws.{HeadTells, TellsOf}
 use Rattle.segment_plan.specs.Matched.{values_in, values_of}

@@ -20,11 +20,11 @@ use Rattle.table_schema.specs.declared.table.Table.{Table}
 use Rattle.segment_file.specs.declared.part.Part.{Part}
 use Rattle.segment_file.specs.declared.part.Part.TheVariants as parts
 use Rattle.segment_file.specs.Front.{Extent, extents_from, front_size}
-use Rattle.segment_file.specs.Heads.{IsHead, IsHeadOf, IsLoaded, IsPartOf, IsSlotOf, Seen, place_in, placed}
+use Rattle.segment_head.specs.Heads.{IsHead, IsHeadOf, IsLoaded, IsPartOf, IsSlotOf, Seen, place_in, placed}
 use Rattle.segment_file.specs.Parts.{columns_of, head_sections, is_same, kind_of, owner_of, tail_sections, trees_of}
 use Rattle.segment_file.specs.Reading.{count_at}
 use Rattle.segment_file.specs.Rules.{IsSized, count_in, dictionary_in, heads_in, raw_extents, size_in}
-use Rattle.segment_file.proofs.Composed.{count_same}
+use Rattle.segment_file.proofs.Tails.{count_same}
 use Rattle.segment_plan.specs.Matched.{values_in, values_of}
 use Rattle.segment_plan.specs.Choices.{choice_of}
 use Rattle.segment_scan.specs.Forward.{LogsColumns, LogsNamed, width_in}

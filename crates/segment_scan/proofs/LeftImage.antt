@@ -32,7 +32,7 @@ use Rattle.scan_engine.proofs.AddLemmas.{adds_both, len_more}
 use Rattle.scan_engine.proofs.RunLemmas.{adds_as_more}
 use Rattle.segment_file.specs.declared.part.Part.{Part}
 use Rattle.segment_file.specs.declared.part.Part.TheVariants.{Forward}
-use Rattle.segment_file.specs.Heads.{IsHeadOf, Seen}
+use Rattle.segment_head.specs.Heads.{IsHeadOf, Seen}
 use Rattle.segment_file.specs.Columns as segment
 use Rattle.segment_file.specs.Ordered.{ordered, value_in}
 use Rattle.segment_plan.specs.declared.plans.IndexChoice.{IndexChoice}

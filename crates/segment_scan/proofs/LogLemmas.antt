@@ -2,7 +2,7 @@
 use Rattle.std.proofs.Common.{◌≡◌, ◌<◌, ℕ, suc, Bool, false, List, Option, Result, Ok, Err, inl, length, get_or, refl, subst, arith}
 use Rattle.std.specs.Prelude.{OnErr}
 use Rattle.outside.specs.Reads.{Entry}
-use Rattle.segment_file.specs.Heads.{Seen}
+use Rattle.segment_head.specs.Heads.{Seen}
 use Rattle.segment_scan.specs.Forward.{LogsColumns, LogsNamed, LogsPartly, LogsSome}
 
 -- nothing was read

@@ -17,7 +17,7 @@ use Rattle.dictionary.specs.Coding.{AreBelow}
 use Rattle.std.specs.List.Sorted.{IsStrictlyIncreasing}
 use Rattle.doc_lists.specs.Sets.{Up}
 use Rattle.table_schema.specs.declared.query.BoundQuery.{BoundQuery}
-use Rattle.segment_file.specs.Heads.{Seen}
+use Rattle.segment_head.specs.Heads.{Seen}
 use Rattle.segment_plan.specs.Matched.{values_in}
 use Rattle.segment_plan.specs.declared.plans.IndexChoice.{IndexChoice}
 use Rattle.group_table.specs.Kept.{KeptGroups}

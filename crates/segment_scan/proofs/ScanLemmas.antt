@@ -7,7 +7,7 @@ use Rattle.values.specs.declared.value.Value.{Value}
 use Rattle.values.specs.Columns.{is_text, rows_of}
 use Rattle.dictionary.specs.Coding.{AreBelow, values_at}
 use Rattle.table_schema.specs.declared.query.BoundQuery.{BoundQuery}
-use Rattle.segment_file.specs.Heads.{Seen}
+use Rattle.segment_head.specs.Heads.{Seen}
 use Rattle.group_table.specs.Kept.{KeptGroups}
 use Rattle.scan_engine.specs.Scanned.{IsOverfull, selected}
 use Rattle.coded_scan.specs.declared.coded.Coded.{Coded}

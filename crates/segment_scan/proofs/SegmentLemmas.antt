@@ -15,7 +15,7 @@ use Rattle.group_table.specs.Kept.{KeptGroups}
 use Rattle.scan_engine.specs.Scanned.{AddsRows, IsOverfull, selected}
 use Rattle.segment_file.specs.declared.part.Part.{Part}
 use Rattle.segment_file.specs.declared.part.Part.TheVariants.{Forward}
-use Rattle.segment_file.specs.Heads.{IsHeadOf, Seen}
+use Rattle.segment_head.specs.Heads.{IsHeadOf, Seen}
 use Rattle.segment_file.specs.Ordered.{ordered}
 use Rattle.segment_scan.specs.Forward.{HasIds, LogsColumns}
 use Rattle.segment_scan.specs.Images.{AddsWhole, AreNamedLoaded, ImagesRead, IsBadWhole, IsWholeOverfull, IsOfImage, names_in}

@@ -4,7 +4,7 @@ use Rattle.outside.specs.Files.{Files}
 use Rattle.outside.specs.Reads.{Entry, LogsOn, LogsUpTo}
 use Rattle.bit_column.specs.Column.{ids_between, width_of}
 use Rattle.bit_column.specs.Sections.{Readable, end_byte, first_byte}
-use Rattle.segment_file.specs.Heads.{IsLoaded, Seen, bytes_in, place_in}
+use Rattle.segment_head.specs.Heads.{IsLoaded, Seen, bytes_in, place_in}
 use Rattle.segment_file.specs.declared.part.Part.TheVariants.{Forward}
 use Rattle.segment_plan.specs.Matched.{values_in}
 use Rattle.segment_scan.specs.declared.fault.EngineFault.{EngineFault}

@@ -16,7 +16,7 @@ use Rattle.group_table.specs.Kept.{KeptGroups}
 use Rattle.scan_engine.specs.Scanned.{AddsRows, IsOverfull, selected}
 use Rattle.segment_file.specs.declared.part.Part.{Part}
 use Rattle.segment_file.specs.declared.part.Part.TheVariants.{Forward}
-use Rattle.segment_file.specs.Heads.{IsHeadOf, IsLoaded, Seen}
+use Rattle.segment_head.specs.Heads.{IsHeadOf, IsLoaded, Seen}
 use Rattle.segment_file.specs.Ordered.{ordered}
 pub use Rattle.segment_file.specs.Stored.{IsOfImage, IsNoImage}
 use Rattle.segment_plan.specs.Choices.{choice_of}

@@ -15,7 +15,7 @@ use Rattle.index_reading.specs.declared.kind.ListKind.{ListKind}
 use Rattle.index_reading.specs.declared.kind.ListKind.TheVariants as kinds
 use Rattle.table_schema.specs.declared.query.Conjunct.{Conjunct}
 use Rattle.table_schema.specs.declared.query.Conjunct.TheVariants.{One, Many}
-use Rattle.segment_file.specs.Heads.{IsLoaded, Seen, bytes_in, place_in}
+use Rattle.segment_head.specs.Heads.{IsLoaded, Seen, bytes_in, place_in}
 use Rattle.segment_file.specs.declared.part.Part.{Part}
 use Rattle.segment_file.specs.declared.part.Part.TheVariants as parts
 use Rattle.segment_plan.specs.Choices.{are_consecutive}

@@ -6,7 +6,7 @@ use Rattle.values.specs.declared.test.Test.{Test}
 use Rattle.table_schema.specs.declared.query.BoundQuery.{BoundQuery}
 use Rattle.table_schema.specs.declared.query.Conjunct.TheVariants.{One}
 use Rattle.table_schema.specs.declared.table.Table.{Table}
-use Rattle.segment_file.specs.Heads.{Seen, place_in}
+use Rattle.segment_head.specs.Heads.{Seen, place_in}
 use Rattle.segment_file.specs.declared.part.Part.TheVariants.{Forward}
 use Rattle.segment_plan.specs.Choices.{choice_of}
 use Rattle.segment_plan.specs.declared.plans.IndexChoice.TheVariants.{Unindexed}

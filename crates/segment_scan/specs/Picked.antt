@@ -6,7 +6,7 @@ use Rattle.bit_column.specs.Column.{id_at}
 use Rattle.bit_column.specs.Sections.{end_byte, first_byte}
 use Rattle.doc_lists.specs.declared.run.Run.{Run}
 use Rattle.index_reading.specs.Stretches.{LogsOver, LogsPartly, Stretch}
-use Rattle.segment_file.specs.Heads.{Seen, place_in}
+use Rattle.segment_head.specs.Heads.{Seen, place_in}
 use Rattle.segment_file.specs.declared.part.Part.TheVariants.{Forward}
 use Rattle.segment_scan.specs.Forward.{count_in, forward_in, width_in}
 

@@ -8,7 +8,7 @@ use Rattle.values.specs.Columns.{Listed, ListedColumns, is_text, rows_of}
 use Rattle.dictionary.specs.Coding.{values_at}
 use Rattle.bit_column.specs.Column.{ids_between}
 use Rattle.table_schema.specs.declared.query.BoundQuery.{BoundQuery}
-use Rattle.segment_file.specs.Heads.{Seen}
+use Rattle.segment_head.specs.Heads.{Seen}
 use Rattle.segment_plan.specs.Matched.{values_in}
 use Rattle.group_table.specs.Kept.{KeptGroups}
 use Rattle.scan_engine.specs.Scanned.{AddsRows, selected}

@@ -9,7 +9,7 @@ use crate::EngineFault;
 use crate::reading::read_column;
 use coded_scan::Ids;
 use outside::Shelf;
-use segment_file::Head;
+use segment_head::Head;
 use std::alloc::Global;
 
 /// The ids of the columns that are named, by the numbers of their fields: the forward section of

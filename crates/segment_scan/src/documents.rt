@@ -19,7 +19,7 @@ use coded_scan::{SegmentColumns, add_segment};
 use doc_lists::DocList;
 use group_table::{GroupTable, TableFault};
 use outside::Shelf;
-use segment_file::Head;
+use segment_head::Head;
 use segment_plan::IndexChoice;
 use std::alloc::Global;
 use table_schema::BoundQuery;

@@ -19,7 +19,8 @@ use bit_column::{append_range, width_for};
 use coded_scan::Ids;
 use doc_lists::Run;
 use outside::Shelf;
-use segment_file::{Head, Part};
+use segment_file::Part;
+use segment_head::Head;
 use std::alloc::Global;
 
 /// The ids of documents in the columns that are named, by the numbers of their fields: of the

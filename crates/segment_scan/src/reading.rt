@@ -14,7 +14,8 @@ use crate::EngineFault;
 use bit_column::{ColumnFault, append_range, width_for};
 use coded_scan::{IdRoom, Ids};
 use outside::{Place, Shelf};
-use segment_file::{Head, Part};
+use segment_file::Part;
+use segment_head::Head;
 use std::alloc::Global;
 
 /// Ids are read in blocks of so many, which are whole bytes in any width: beside the ids of a column

@@ -7,7 +7,7 @@ ghost use Rattle.values.specs.declared.value.Value.{Value};
 ghost use Rattle.table_schema.specs.declared.query.BoundQuery.{BoundQuery};
 ghost use Rattle.table_schema.specs.declared.table.Table.{Table};
 ghost use Rattle.scan_engine.specs.Scanned.{selected};
-ghost use Rattle.segment_file.specs.Heads.{IsHead, IsHeadOf, IsPartOf, Seen};
+ghost use Rattle.segment_head.specs.Heads.{IsHead, IsHeadOf, IsPartOf, Seen};
 ghost use Rattle.segment_plan.specs.declared.plans.IndexChoice.{IndexChoice};
 ghost use Rattle.segment_scan.specs.Images.{AreDocs, AreNamedLoaded, IsOfImage, LogsScan, choices_for};
 ghost use Rattle.segment_scan.specs.LeastReads.{IsLookedThrough, forward_bytes, forward_length};

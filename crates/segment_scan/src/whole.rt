@@ -6,7 +6,7 @@ ghost use Rattle.agg_laws.specs.Numbers.{most_values};
 ghost use Rattle.group_table.specs.Kept.{IsTableOf, groups_in};
 ghost use Rattle.table_schema.specs.ValidTable.{IsValidTable};
 ghost use Rattle.scan_engine.specs.Scanned.{HaveAtMost};
-ghost use Rattle.segment_file.specs.Heads.{IsHeadOf};
+ghost use Rattle.segment_head.specs.Heads.{IsHeadOf};
 ghost use Rattle.segment_file.specs.declared.part.Part.{Part};
 ghost use Rattle.segment_scan.specs.Forward.{LogsColumns, LogsSome};
 ghost use Rattle.segment_scan.specs.Images.{AddsWhole, AreNamedLoaded, IsBadWhole, IsWholeOverfull, names_in};
@@ -18,7 +18,7 @@ use crate::named::named_columns;
 use crate::scan::scan_columns;
 use group_table::GroupTable;
 use outside::Shelf;
-use segment_file::Head;
+use segment_head::Head;
 use std::alloc::Global;
 use table_schema::{BoundQuery, Table};
 

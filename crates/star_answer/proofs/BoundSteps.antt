@@ -29,7 +29,7 @@ use Rattle.table_schema.specs.Columns.{is_member}
 use Rattle.table_schema.specs.ValidSettings.{IsValidTree, is_number_of}
 use Rattle.dictionary.specs.Dictionary.{Distinct, distinct}
 use Rattle.segment_file.specs.Columns.{dictionary_of, values_in}
-use Rattle.segment_file.specs.Heads.{Seen}
+use Rattle.segment_head.specs.Heads.{Seen}
 use Rattle.segment_file.specs.Parts.{columns_of}
 use Rattle.segment_file.specs.Trees.{documents}
 use Rattle.segment_file.proofs.ImageRows.{some_values}

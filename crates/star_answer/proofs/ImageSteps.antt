@@ -26,16 +26,16 @@ use Rattle.star_file.specs.Rules.{KeepAll, widths}
 use Rattle.star_file.proofs.DocLaws as docs
 use Rattle.segment_file.specs.declared.part.Part.TheVariants.{Star}
 use Rattle.segment_file.specs.declared.trees.TreeNodes.{TreeNodes}
-use Rattle.segment_file.specs.Heads.{AreKept, HasCount, HaveCounts, IsHead, IsHeadOf, IsPartOf}
-use Rattle.segment_file.specs.Heads.{IsSlotOf, OfWhole, Seen, bytes_in, place_in, split_of}
+use Rattle.segment_head.specs.Heads.{AreKept, HasCount, HaveCounts, IsHead, IsHeadOf, IsPartOf}
+use Rattle.segment_head.specs.Heads.{IsSlotOf, OfWhole, Seen, bytes_in, place_in, split_of}
 use Rattle.segment_file.specs.Image.{count_of}
-use Rattle.segment_file.specs.Laws.{IsTold}
+use Rattle.segment_head.specs.Laws.{IsTold}
 use Rattle.segment_file.specs.Ordered.{ordered}
-use Rattle.segment_file.specs.Stored.{IsOfImage}
+use Rattle.segment_head.specs.Stored.{IsOfImage}
 use Rattle.segment_file.specs.Trees.{documents, star_of, written}
 use Rattle.segment_file.proofs.ImageRows.{ordered_all}
-use Rattle.segment_file.proofs.ImageTrees.{head_tells_trees, image_tree}
-use Rattle.segment_file.proofs.SectionBytes.{has_star, image_section, star_only}
+use Rattle.segment_head.proofs.ImageTrees.{head_tells_trees, image_tree}
+use Rattle.segment_head.proofs.SectionBytes.{has_star, image_section, star_only}
 use Rattle.segment_file.proofs.TreeChecks.{few_kinds, valid_at}
 use Rattle.segment_file.proofs.TreeRows.{TreeSections}
 use Rattle.segment_plan.specs.Laws.{HeadTells, TellsOf}

@@ -30,7 +30,7 @@ use Rattle.table_schema.specs.declared.settings.TreeSetting.{TreeSetting}
 use Rattle.segment_file.specs.Columns.{count_of, place_of, values_in}
 use Rattle.segment_file.specs.Ordered.{value_in}
 use Rattle.segment_file.specs.Trees.{documents, id_in}
-use Rattle.segment_file.proofs.Composed.{unmapped}
+use Rattle.segment_file.proofs.Tails.{unmapped}
 use Rattle.segment_file.proofs.ImageRows.{few_values, members_all, not_true}
 use Rattle.segment_file.proofs.TreeRows.{made}
 use Rattle.star_answer.specs.Served.{field_of}

@@ -30,12 +30,12 @@ use Rattle.table_schema.specs.declared.table.Table.{Table}
 use Rattle.table_schema.specs.Columns as columns
 use Rattle.table_schema.specs.ValidTable.{IsRow, is_row}
 use Rattle.group_table.specs.Groups as groups
-use Rattle.segment_file.specs.Heads.{IsLoaded, Seen}
+use Rattle.segment_head.specs.Heads.{IsLoaded, Seen}
 use Rattle.segment_file.specs.Image.{place_of, values_in}
-use Rattle.segment_file.specs.Laws.{HeadTellsTrees}
+use Rattle.segment_head.specs.Laws.{HeadTellsTrees}
 use Rattle.segment_file.specs.Ordered.{value_in}
 use Rattle.segment_file.specs.Trees.{id_in, number_for, number_of, tree_row, written}
-use Rattle.segment_file.proofs.Composed.{unmapped}
+use Rattle.segment_file.proofs.Tails.{unmapped}
 use Rattle.segment_file.proofs.ImageRows.{and_first, and_second, members_all, not_true}
 use Rattle.segment_plan.specs.Laws.{TellsOf}
 use Rattle.segment_plan.specs.Matched as head_values

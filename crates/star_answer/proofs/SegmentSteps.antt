@@ -21,10 +21,10 @@ use Rattle.eligibility.specs.Rule.{is_eligible, picked, picked_from}
 use Rattle.star_file.specs.Reading.{doc_width, section}
 use Rattle.segment_file.specs.declared.trees.TreeNodes.{TreeNodes}
 use Rattle.segment_file.specs.declared.part.Part.TheVariants.{Star}
-use Rattle.segment_file.specs.Heads.{AreKept, HaveCounts, IsHeadOf, LogsTree, OfWhole, Seen}
-use Rattle.segment_file.specs.Heads.{place_in, split_of}
+use Rattle.segment_head.specs.Heads.{AreKept, HaveCounts, IsHeadOf, LogsTree, OfWhole, Seen}
+use Rattle.segment_head.specs.Heads.{place_in, split_of}
 use Rattle.segment_file.specs.Ordered.{ordered}
-use Rattle.segment_file.specs.Stored.{IsNoImage, IsOfImage}
+use Rattle.segment_head.specs.Stored.{IsNoImage, IsOfImage}
 use Rattle.segment_file.specs.Trees.{written}
 use Rattle.segment_file.proofs.ImageRows.{ordered_count}
 use Rattle.segment_plan.specs.Laws.{HeadTells}

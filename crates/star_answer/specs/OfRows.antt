@@ -10,7 +10,7 @@ use Rattle.table_schema.specs.declared.settings.TreeSetting.{TreeSetting}
 use Rattle.table_schema.specs.declared.table.Table.{Table}
 use Rattle.table_schema.specs.ValidTable.{IsRow, IsValidTable}
 use Rattle.segment_file.specs.declared.trees.TreeNodes.{TreeNodes}
-use Rattle.segment_file.specs.Heads.{IsHead, IsPartOf, Seen}
+use Rattle.segment_head.specs.Heads.{IsHead, IsPartOf, Seen}
 use Rattle.segment_file.specs.Image.{CanHold, image, values_in}
 use Rattle.segment_file.specs.Names.{IsSegmentName}
 use Rattle.segment_file.specs.Ordered.{ordered}

@@ -12,9 +12,9 @@ use Rattle.table_schema.specs.declared.settings.TreeSetting.{TreeSetting}
 use Rattle.table_schema.specs.declared.table.Table.{Table}
 use Rattle.star_file.specs.Reading.{doc_width}
 use Rattle.segment_file.specs.declared.part.Part.TheVariants.{Star}
-use Rattle.segment_file.specs.Heads.{LogsTree, Seen, place_in}
+use Rattle.segment_head.specs.Heads.{LogsTree, Seen, place_in}
 use Rattle.segment_file.specs.Ordered.{ordered}
-use Rattle.segment_file.specs.Stored.{IsOfImage}
+use Rattle.segment_head.specs.Stored.{IsOfImage}
 use Rattle.index_reading.specs.Stretches.{LogsOver, LogsPartly, Stretch}
 use Rattle.star_walk.specs.declared.pick.Pick.{Pick}
 use Rattle.star_walk.specs.Images.{read_of}

@@ -7,7 +7,7 @@ use Rattle.values.specs.declared.value.Value.TheVariants.{Whole}
 use Rattle.table_schema.specs.declared.query.Agg.{Agg}
 use Rattle.table_schema.specs.declared.query.Conjunct.{Conjunct}
 use Rattle.table_schema.specs.Columns.{is_member}
-use Rattle.segment_file.specs.Heads.{IsLoaded, Seen}
+use Rattle.segment_head.specs.Heads.{IsLoaded, Seen}
 use Rattle.segment_plan.specs.Matched.{is_filtered, is_on, passes, values_in}
 use Rattle.star_walk.specs.Walking.{is_among, some_ids}
 use Rattle.star_answer.specs.declared.asked.GroupColumn.{GroupColumn}

@@ -19,7 +19,7 @@ ghost use Rattle.star_answer.specs.OfRows.{RowsAreProjected};
 ghost use Rattle.star_answer.specs.Served.{IsServed};
 
 use agg_laws::picks_law;
-use segment_file::head_tells_trees_law;
+use segment_head::head_tells_trees_law;
 use star_walk::walk_law;
 
 /// Where the tree is that of a segment's rows, and the query filters and groups by its dimensions

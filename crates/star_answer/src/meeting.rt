@@ -2,14 +2,14 @@
 
 ghost use Rattle.std.specs.Prelude.{◌≡◌, ℕ, ◌&&◌, true, IfOk};
 ghost use Rattle.dictionary.specs.Ids.{AreThose, has_id, is_in_both};
-ghost use Rattle.segment_file.specs.Heads.{IsLoaded};
+ghost use Rattle.segment_head.specs.Heads.{IsLoaded};
 ghost use Rattle.segment_plan.specs.Matched.{AreLoaded, is_on, values_in};
 ghost use Rattle.star_walk.specs.Walking.{is_among};
 ghost use Rattle.star_answer.specs.Tasks.{AreMet, Meets};
 
 use crate::NoMemory;
 use dictionary::IdSet;
-use segment_file::Head;
+use segment_head::Head;
 use std::alloc::Global;
 use table_schema::Conjunct;
 

@@ -12,7 +12,7 @@ use crate::NoMemory;
 use crate::meeting::met_ids;
 use dictionary::IdSet;
 use eligibility::eligible_law;
-use segment_file::Head;
+use segment_head::Head;
 use star_walk::Task;
 use std::alloc::Global;
 use table_schema::{BoundQuery, Conjunct, TreeSetting};

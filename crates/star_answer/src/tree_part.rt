@@ -4,7 +4,7 @@ ghost use Rattle.std.specs.Prelude.{◌≡◌};
 
 use agg_laws::TreeShape;
 use outside::Place;
-use segment_file::OpenTree;
+use segment_head::OpenTree;
 use star_file::Node;
 use table_schema::TreeSetting;
 

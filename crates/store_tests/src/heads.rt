@@ -2,7 +2,8 @@
 ghost use Rattle.table_schema.specs.ValidTable.{IsValidTable};
 
 use crate::counting::CountingShelf;
-use segment_file::{HeadFault, is_segment_name, open_head, read_head};
+use segment_file::{HeadFault, is_segment_name};
+use segment_head::{open_head, read_head};
 use std::alloc::{AllocError, Global};
 use table_schema::Table;
 

@@ -16,8 +16,7 @@ use Rattle.table_schema.specs.ValidTable.{IsValidTable}
 use Rattle.segment_file.specs.Image.{dictionary_of, file_of_rows, front_of, image}
 use Rattle.segment_file.specs.Ordered.{ordered}
 use Rattle.segment_file.specs.Parts.{columns_of}
-use Rattle.segment_file.specs.Rules.{HasFront}
-use Rattle.segment_file.specs.Heads.{KeepsRules}
+use Rattle.segment_file.specs.Rules.{HasFront, KeepsRules}
 use Rattle.segment_file.proofs.ImageKeeps.{image_keeps}
 use Rattle.segment_file.specs.Names.{IsSegmentName, file_of, is_segment_name}
 use Rattle.table_store.specs.State.{Segment, Segments, HasTable, Texts}

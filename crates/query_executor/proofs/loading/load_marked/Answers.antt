@@ -1,6 +1,6 @@
 use Rattle.std.proofs.Common.{◌<◌, false, IfSome, length, get_or, sym, subst, arith}
 use Rattle.outside.specs.Seen.{Seen, seen}
-use Rattle.segment_file.specs.Heads.{AreIn}
+use Rattle.segment_head.specs.Heads.{AreIn}
 use Rattle.query_executor.specs.Logs.{EndsBy}
 use Rattle.query_executor.specs.Segments.{HasNoImage}
 use Rattle.query_executor.specs.Steps.{Grows, IsHeadIn}

@@ -1,6 +1,6 @@
 use Rattle.std.proofs.Common.{◌≡◌, ◌<◌, ℕ, true, false, List, get_or}
 use Rattle.outside.specs.Seen.{OnlyReads, seen}
-use Rattle.segment_file.specs.Heads.{AreIn, IsLoaded}
+use Rattle.segment_head.specs.Heads.{AreIn, IsLoaded}
 use Rattle.query_executor.specs.Logs.{DictionariesEnd, EndsBy, LogsThat}
 use Rattle.query_executor.specs.Steps.{Grows}
 use Rattle.query_executor.proofs.loading.load_marked.Given as goal

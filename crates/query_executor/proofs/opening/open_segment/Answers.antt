@@ -1,6 +1,6 @@
 use Rattle.std.proofs.Common.{◌≡◌, ◌∙◌, Err, sym, ap, subst}
 use Rattle.outside.specs.Seen.{seen}
-use Rattle.segment_file.specs.Heads.{AreIn}
+use Rattle.segment_head.specs.Heads.{AreIn}
 use Rattle.segment_file.specs.declared.fault.HeadFault.TheVariants as head
 use Rattle.segment_scan.specs.declared.fault.EngineFault.TheVariants as engine
 use Rattle.query_executor.specs.Steps.{fault_of}

@@ -2,7 +2,7 @@ use Rattle.std.proofs.Common.{◌≡◌, ◌∙◌, true, false, ℕ, List, Err,
 use Rattle.outside.specs.Seen.{Seen, seen}
 use Rattle.eligibility.specs.Rule.{picked}
 use Rattle.std.specs.Prelude.{OnOk}
-use Rattle.segment_file.specs.Heads.{AreIn}
+use Rattle.segment_head.specs.Heads.{AreIn}
 use Rattle.segment_file.specs.Names.{file_of}
 use Rattle.segment_scan.specs.declared.fault.EngineFault.TheVariants as engine
 use Rattle.query_executor.specs.Segments.{HasNoImage}

@@ -1,7 +1,7 @@
 use Rattle.std.proofs.Common.{◌∙◌, sym, subst, arith, All}
 use Rattle.std.proofs.lemmas.List.{take_all}
 use Rattle.segment_file.specs.Reading.{FitsSize, IsTailPart}
-use Rattle.segment_file.proofs.HeadLemmas.{size_stops, sized_more}
+use Rattle.segment_file.proofs.TreeChecks.{size_stops, sized_more}
 use Rattle.segment_file.proofs.sizes.check_sizes.Goals as goal
 
 pub size_in-requires-clause-part : goal.size_in-requires-clause-part

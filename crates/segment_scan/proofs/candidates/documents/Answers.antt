@@ -3,7 +3,7 @@ use Rattle.outside.specs.Files.{Files}
 use Rattle.outside.specs.Seen.{seen}
 use Rattle.outside.proofs.SeenLemmas.{reads_none}
 use Rattle.table_schema.specs.declared.query.Conjunct.{Conjunct}
-use Rattle.segment_file.specs.Heads.{Seen}
+use Rattle.segment_head.specs.Heads.{Seen}
 use Rattle.segment_plan.specs.declared.plans.IndexChoice.{IndexChoice}
 use Rattle.segment_scan.specs.Indexes.{AddsUnsure, IsBadIndex, IsReady, Leaves, LeavesBy, LogsAt, LogsAtPartly, LogsIndexed, LogsIndexedPartly}
 use Rattle.segment_scan.specs.Series.{LogsTo}

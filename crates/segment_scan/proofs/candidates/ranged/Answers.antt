@@ -1,7 +1,7 @@
 use Rattle.std.proofs.Common.{◌≡◌, ◌∙◌, ◌<◌, ◌-◌, ℕ, List, ap, length, sym, arith}
 use Rattle.values.specs.declared.value.Value.{Value}
 use Rattle.dictionary.specs.Ids.{matching}
-use Rattle.segment_file.specs.Heads.{Seen}
+use Rattle.segment_head.specs.Heads.{Seen}
 use Rattle.segment_plan.specs.Matched.{values_in, values_of}
 use Rattle.segment_scan.specs.Forward.{count_in}
 use Rattle.segment_scan.specs.Served.{first_of, last_of}

@@ -7,7 +7,7 @@ use Rattle.index_reading.proofs.RunLemmas.{lasts_below}
 use Rattle.scan_engine.specs.Scanned.{selected}
 use Rattle.scan_engine.proofs.AddLemmas.{at_most_more}
 use Rattle.scan_engine.proofs.RunLemmas.{adds_as_more}
-use Rattle.segment_file.specs.Heads.{Seen}
+use Rattle.segment_head.specs.Heads.{Seen}
 use Rattle.coded_scan.specs.declared.coded.Coded.{Coded}
 use Rattle.coded_scan.specs.declared.coded.SegmentColumns.{SegmentColumns}
 use Rattle.coded_scan.specs.Coded.{table_of}

@@ -4,7 +4,7 @@ use Rattle.agg_laws.specs.Numbers.{most_values}
 use Rattle.group_table.specs.Kept.{groups_in}
 use Rattle.scan_engine.specs.Scanned.{IsOverfull}
 use Rattle.scan_engine.proofs.AddLemmas.{at_most_more}
-use Rattle.segment_file.specs.Heads.{Seen}
+use Rattle.segment_head.specs.Heads.{Seen}
 use Rattle.segment_scan.specs.Documents.{AddsDocs, LogsDocs, LogsDocsPartly, selected_docs}
 use Rattle.segment_scan.specs.Images.{AreDocs, AreParts, IsBadForward, IsNoImage, LogsPartsPartly, choices_for, names_in, rest_for, sure_for}
 use Rattle.coded_scan.specs.Served.{rest_of}

@@ -1,6 +1,6 @@
 use Rattle.std.proofs.Common.{◌≡◌, Bool, List, inl, refl, subst}
 use Rattle.std.specs.Prelude.{OnOk, OnErr, IfOk, IfSome}
-use Rattle.segment_file.specs.Heads.{Seen}
+use Rattle.segment_head.specs.Heads.{Seen}
 use Rattle.scan_engine.specs.Scanned.{IsOverfull}
 use Rattle.segment_scan.specs.Documents.{AddsDocs, LogsDocs, LogsDocsPartly, selected_docs}
 use Rattle.segment_scan.specs.Images.{names_in}

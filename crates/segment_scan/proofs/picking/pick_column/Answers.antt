@@ -5,7 +5,7 @@ use Rattle.outside.specs.Seen.{seen}
 use Rattle.outside.specs.declared.place.Place.{Place}
 use Rattle.doc_lists.specs.declared.run.Run.{Run}
 use Rattle.index_reading.specs.Stretches.{LogsPartly}
-use Rattle.segment_file.specs.Heads.{Seen, place_in}
+use Rattle.segment_head.specs.Heads.{Seen, place_in}
 use Rattle.segment_file.specs.declared.part.Part.TheVariants.{Forward}
 use Rattle.segment_plan.specs.Matched.{values_of}
 use Rattle.segment_scan.specs.Forward.{count_in, width_in}

@@ -3,7 +3,7 @@ use Rattle.values.specs.Columns.{rows_of}
 use Rattle.agg_laws.specs.Numbers.{most_values}
 use Rattle.group_table.specs.Kept.{groups_in}
 use Rattle.scan_engine.specs.Scanned.{AddsRows, HaveAtMost, selected}
-use Rattle.segment_file.specs.Heads.{Seen}
+use Rattle.segment_head.specs.Heads.{Seen}
 use Rattle.coded_scan.specs.declared.coded.Coded.{Coded}
 use Rattle.coded_scan.specs.declared.coded.SegmentColumns.{SegmentColumns}
 use Rattle.coded_scan.specs.Coded.{table_of}

@@ -5,7 +5,7 @@ use Rattle.doc_lists.proofs.Runs.{docs_increase}
 use Rattle.outside.specs.Files.{Files}
 use Rattle.outside.specs.Reads.{Entry}
 use Rattle.table_schema.specs.declared.query.Conjunct.{Conjunct}
-use Rattle.segment_file.specs.Heads.{Seen}
+use Rattle.segment_head.specs.Heads.{Seen}
 use Rattle.segment_plan.specs.declared.plans.IndexChoice.{IndexChoice}
 use Rattle.segment_scan.specs.Forward.{LogsColumns, LogsSome}
 use Rattle.segment_scan.specs.Images.{AddsImage, AddsWhole, IsBadWhole, IsWholeOverfull, LogsScanPartly, choices_for, indexed_for, names_in}

@@ -2,8 +2,8 @@ use Rattle.std.proofs.Common.{◌≡◌, ◌∙◌, None, sym, ap, subst}
 use Rattle.std.specs.Option.{IsSome, option_copied}
 use Rattle.std.proofs.lemmas.Bool.{false≢true}
 use Rattle.segment_file.specs.declared.part.Part.TheVariants.{Star}
-use Rattle.segment_file.specs.Heads.{place_in}
-use Rattle.segment_file.proofs.SectionBytes.{star_placed}
+use Rattle.segment_head.specs.Heads.{place_in}
+use Rattle.segment_head.proofs.SectionBytes.{star_placed}
 use Rattle.star_answer.proofs.segment.documents_of.Goals as goal
 
 pub unreachable-requires : goal.unreachable-requires

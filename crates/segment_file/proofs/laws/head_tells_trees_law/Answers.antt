@@ -1,5 +1,0 @@
-use Rattle.segment_file.proofs.ImageTrees.{head_tells_trees}
-use Rattle.segment_file.proofs.laws.head_tells_trees_law.Goals as goal
-
-pub returns : goal.returns
-returns c = head_tells_trees

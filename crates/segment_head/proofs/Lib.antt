@@ -1,0 +1,9 @@
+mod HeadLemmas
+pub mod Composed
+mod Openings
+mod Steps
+mod TreeChecks
+mod TreeSteps
+pub mod ImageTrees
+pub mod SectionBytes
+mod Loops

@@ -1,0 +1,4 @@
+pub mod Reading
+pub mod Heads
+pub mod Laws
+pub mod Stored

@@ -1,0 +1,25 @@
+//! The head of a segment's file, which is read without the rest: at once, or in steps.
+#![tactic(auto)]
+
+mod bounds;
+mod check;
+mod dictionaries;
+mod head;
+mod laws;
+mod loading;
+mod opening;
+mod stepwise;
+mod tree_reading;
+mod trees;
+
+pub use bounds::{push_bounds, read_bounds};
+pub use check::check_head;
+pub use dictionaries::check_dictionary;
+pub use head::Head;
+pub use laws::head_tells_trees_law;
+pub use opening::read_head;
+pub use stepwise::open_head;
+pub use tree_reading::OpenTree;
+
+/// A growth was refused.
+pub type NoMemory = std::alloc::AllocError;

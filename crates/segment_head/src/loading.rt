@@ -1,0 +1,183 @@
+//! The dictionaries of a head that is open are loaded.
+ghost use Rattle.std.specs.Prelude.{◌≡◌, ◌≤◌, ◌<◌, ◌+◌, IfOk, IfErr, IfSome, MatchOption, OnErr, IsErrOf, None, Some, length, slice_get};
+ghost use Rattle.outside.specs.Reads.{LogsUpTo};
+ghost use Rattle.outside.specs.Seen.{OnlyReads, seen};
+ghost use Rattle.segment_head.specs.Heads.{HasCount, IsHeadOf, IsLoaded, IsPartOf, Loads, OfWhole, dictionary_section, with_dictionary};
+ghost use Rattle.segment_file.specs.declared.fault.HeadFault.TheVariants.{NotASegment};
+ghost use Rattle.segment_file.specs.declared.part.Part.{Part};
+
+use crate::Head;
+use crate::dictionaries::{check_dictionary, of_dictionary};
+use dictionary::Dictionary;
+use outside::Shelf;
+use segment_file::{HeadFault, Part, Section, four_at, read_exactly};
+use std::alloc::Global;
+use table_schema::Table;
+
+impl Head {
+    /// Loads the dictionary of a column: its section alone is read, and nothing where it is loaded.
+    pub fn load_dictionary<S: Shelf>(
+        &mut self,
+        alloc: Global,
+        shelf: &mut S,
+        table: &Table,
+        column: u16,
+    ) -> Result<(), HeadFault>
+        requires opened { IsHeadOf table.now self.old }
+        requires column { column < length table.now.schema.fields }
+        ensures loads { IfOk result (λ _. Loads column self.old self.new) }
+        ensures same { OnErr result (self.new ≡ self.old) }
+        ensures of { IsHeadOf table.now self.new }
+        ensures part { IfOk result (λ _. OfWhole table.now (S.held shelf.old) self.old
+            (λ whole. IsPartOf whole self.new)) }
+        ensures refused { IfErr result (λ fault. (p : Part) → fault ≡ NotASegment p →
+            OfWhole table.now (S.held shelf.old) self.old (λ _. ⊥)) }
+        ensures only_reads { OnlyReads (IsErrOf result HeadFault.ReadFault)
+            (seen S.Shelf shelf.old) (seen S.Shelf shelf.new) }
+        ensures log { IfSome (dictionary_section self.old column) (λ s.
+            LogsUpTo s.place.file s.place.offset (s.place.offset + s.place.length)
+            (S.log shelf.old) (S.log shelf.new)) }
+        ensures loaded { IsLoaded self.old column →
+            (self.new ≡ self.old) × (S.log shelf.new ≡ S.log shelf.old) }
+    {
+        if self.loaded(column).is_some() {
+            return Ok(());
+        }
+        let dictionary = match self.read_dictionary(alloc, shelf, table, column) {
+            Ok(dictionary) => dictionary,
+            Err(fault) => return Err(fault),
+        };
+        self.keep(column, dictionary);
+        Ok(())
+    }
+
+    /// How many values the dictionary of a column has. Where it is not loaded, the first four bytes
+    /// of its section are read.
+    pub fn count<S: Shelf>(
+        &self,
+        alloc: Global,
+        shelf: &mut S,
+        table: &Table,
+        column: u16,
+    ) -> Result<u32, HeadFault>
+        requires opened { IsHeadOf table.now self.now }
+        requires column { column < length table.now.schema.fields }
+        ensures count { IfOk result (λ n. OfWhole table.now (S.held shelf.old) self.now
+            (HasCount column n)) }
+        ensures loaded { IfOk result (λ n. IsLoaded self.now column → HasCount column n self.now) }
+        ensures refused { IfErr result (λ fault. (p : Part) → fault ≡ NotASegment p →
+            OfWhole table.now (S.held shelf.old) self.now (λ _. ⊥)) }
+        ensures only_reads { OnlyReads (IsErrOf result HeadFault.ReadFault)
+            (seen S.Shelf shelf.old) (seen S.Shelf shelf.new) }
+        ensures log { IfSome (dictionary_section self.now column) (λ s.
+            LogsUpTo s.place.file s.place.offset (s.place.offset + 4)
+            (S.log shelf.old) (S.log shelf.new)) }
+        ensures still { IsLoaded self.now column → S.log shelf.new ≡ S.log shelf.old }
+    {
+        match self.loaded(column) {
+            Some(dictionary) => Ok(dictionary.count()),
+            None => self.read_count(alloc, shelf, table, column),
+        }
+    }
+
+    // How many values the dictionary of a column has, read from its section.
+    fn read_count<S: Shelf>(
+        &self,
+        alloc: Global,
+        shelf: &mut S,
+        table: &Table,
+        column: u16,
+    ) -> Result<u32, HeadFault>
+        requires opened { IsHeadOf table.now self.now }
+        requires column { column < length table.now.schema.fields }
+        ensures count { IfOk result (λ n. OfWhole table.now (S.held shelf.old) self.now
+            (HasCount column n)) }
+        ensures few { IfOk result (λ n. n ≤ self.now.rows) }
+        ensures refused { IfErr result (λ fault. (p : Part) → fault ≡ NotASegment p →
+            OfWhole table.now (S.held shelf.old) self.now (λ _. ⊥)) }
+        ensures only_reads { OnlyReads (IsErrOf result HeadFault.ReadFault)
+            (seen S.Shelf shelf.old) (seen S.Shelf shelf.new) }
+        ensures log { IfSome (dictionary_section self.now column) (λ s.
+            LogsUpTo s.place.file s.place.offset (s.place.offset + 4)
+            (S.log shelf.old) (S.log shelf.new)) }
+    {
+        let place = &self.dictionary_section(column).place;
+        if place.length < 4 {
+            return Err(HeadFault::NotASegment(Part::Dictionary(column)));
+        }
+        let bytes = match read_exactly(alloc, shelf, place.file.as_str(), place.offset, 4) {
+            Ok(bytes) => bytes,
+            Err(fault) => return Err(fault),
+        };
+        let count = four_at(bytes.as_slice(), 0);
+        if count > self.rows {
+            return Err(HeadFault::NotASegment(Part::Dictionary(column)));
+        }
+        if count == 0 && self.rows > 0 {
+            return Err(HeadFault::NotASegment(Part::Dictionary(column)));
+        }
+        Ok(count)
+    }
+
+    // The dictionary of a column, read from its section.
+    fn read_dictionary<S: Shelf>(
+        &self,
+        alloc: Global,
+        shelf: &mut S,
+        table: &Table,
+        column: u16,
+    ) -> Result<Dictionary, HeadFault>
+        requires opened { IsHeadOf table.now self.now }
+        requires column { column < length table.now.schema.fields }
+        ensures dictionary { IfOk result (λ d. OfWhole table.now (S.held shelf.old) self.now
+            (λ whole. slice_get whole.dictionaries column ≡ Some (Some d))) }
+        ensures refused { IfErr result (λ fault. (p : Part) → fault ≡ NotASegment p →
+            OfWhole table.now (S.held shelf.old) self.now (λ _. ⊥)) }
+        ensures only_reads { OnlyReads (IsErrOf result HeadFault.ReadFault)
+            (seen S.Shelf shelf.old) (seen S.Shelf shelf.new) }
+        ensures log { IfSome (dictionary_section self.now column) (λ s.
+            LogsUpTo s.place.file s.place.offset (s.place.offset + s.place.length)
+            (S.log shelf.old) (S.log shelf.new)) }
+    {
+        let place = &self.dictionary_section(column).place;
+        let file = place.file.as_str();
+        let bytes = match read_exactly(alloc, shelf, file, place.offset, place.length) {
+            Ok(bytes) => bytes,
+            Err(fault) => return Err(fault),
+        };
+        let kind = table.schema.fields.as_slice()[column as usize].kind;
+        match check_dictionary(alloc, kind, self.rows, bytes.as_slice()) {
+            Ok(dictionary) => Ok(dictionary),
+            Err(fault) => Err(of_dictionary(fault, column)),
+        }
+    }
+
+    // The dictionary of a column, if it was loaded.
+    fn loaded(&self, column: u16) -> Option<&Dictionary>
+        requires { column < length self.now.dictionaries }
+        ensures { MatchOption result
+            (slice_get self.now.dictionaries column ≡ Some None)
+            (λ d. slice_get self.now.dictionaries column ≡ Some (Some d.now)) }
+    {
+        match &self.dictionaries[column as usize] {
+            Some(dictionary) => Some(dictionary),
+            None => None,
+        }
+    }
+
+    // Keeps the dictionary of a column.
+    fn keep(&mut self, column: u16, dictionary: Dictionary)
+        requires { column < length self.old.dictionaries }
+        ensures { self.new ≡ with_dictionary column dictionary self.old }
+    {
+        self.dictionaries[column as usize] = Some(dictionary);
+    }
+
+    // The section of the dictionary of a column.
+    fn dictionary_section(&self, column: u16) -> &Section
+        requires { column + 1 < length self.now.sections }
+        ensures { dictionary_section self.now column ≡ Some result.now }
+    {
+        &self.sections[column as usize + 1]
+    }
+}
