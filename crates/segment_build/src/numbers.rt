@@ -1,9 +1,9 @@
 //! The numbers of a column.
 ghost use Rattle.std.specs.Prelude.{◌≡◌};
-ghost use Rattle.star_records.specs.Numbers.{numbers_of};
+ghost use Rattle.star_rows.specs.Numbers.{numbers_of};
 ghost use Rattle.segment_build.specs.Growing.{numbers_in};
 
-use star_records::PairNumbers;
+use star_rows::PairNumbers;
 use values::Column;
 
 /// The numbers of a column, where they are; those of texts are zeros.

@@ -1,5 +1,5 @@
 -- Rows of a block, gathered column by column.
-use Rattle.std.proofs.Common.{◌≡◌, ◌≢◌, ℕ, zero, suc, ◌+◌, ◌-◌, ◌<◌, ◌≤◌, List, [], ◌∷◌, ◌++◌, map, length}
+use Rattle.std.proofs.Common.{◌≡◌, ◌≢◌, ℕ, zero, suc, ◌+◌, ◌-◌, ◌^◌, ◌<◌, ◌≤◌, List, [], ◌∷◌, ◌++◌, map, length}
 use Rattle.std.proofs.Common.{take, drop, get_or, All, refl, sym, ap, subst, ◌∙◌, ◌⊎◌, inl, inr, arith}
 use Rattle.std.proofs.Common.{length-append, replicate, ℤ, pos, Bool, true, false}
 use Rattle.std.proofs.lemmas.Bool.{cases_lt}
@@ -9,14 +9,14 @@ use Rattle.std.proofs.lemmas.List.{get_or_default, get_or-replicate, length-repl
 use Rattle.std.proofs.lemmas.List.Elements.{All-append, All-cons, All-nil}
 use Rattle.std.specs.List.Sorted.{IsPermutation}
 use Rattle.agg_laws.specs.Region.{numbers}
-use Rattle.star_records.specs.Columns.{row_at}
+use Rattle.star_rows.specs.Columns.{row_at}
 use Rattle.star_records.specs.Folding.{picked, AllZero, AreHeads}
-use Rattle.star_records.specs.Numbers.{numbers_of}
-use Rattle.star_records.specs.Words.{key_in, row_in}
-use Rattle.star_records.specs.declared.numbers.PairNumbers.{PairNumbers}
-use Rattle.star_records.specs.declared.numbers.PairNumbers.TheVariants as pair
+use Rattle.star_rows.specs.Numbers.{numbers_of}
+use Rattle.star_rows.specs.Words.{key_in, row_in}
+use Rattle.star_rows.specs.declared.numbers.PairNumbers.{PairNumbers}
+use Rattle.star_rows.specs.declared.numbers.PairNumbers.TheVariants as pair
 use Rattle.star_records.proofs.FoldSteps.{row_below}
-use Rattle.star_records.proofs.WordSteps.{other_default}
+use Rattle.star_records.proofs.WordSteps.{other_default, word_row}
 
 -- what picked columns have in a row
 pub row_picked : {X : Type 0} (d : X) (k : ℕ) (words : List ℕ) (columns : List (List X))
@@ -38,6 +38,19 @@ long_picked d k words (c ∷ cs) lt (suc i) e h = long_picked d k words cs lt i 
 pub wide_picked : {X : Type 0} (d : X) (words : List ℕ) (columns : List (List X))
     → length (picked d words columns) ≡ length columns
 wide_picked d words columns = length-map columns (λ c. map (λ word. get_or c (row_in word) d) words)
+
+-- the number of a row is a word of it
+pub own_row : (row : ℕ) → row < 2 ^ 20 → row_in row ≡ row
+own_row row lt =
+    let same : row ≡ 0 + row = omega arith in
+    ap row_in same ∙ word_row 0 row lt
+
+pub own_rows : (n : ℕ) (rows : List ℕ) → n ≤ 2 ^ 20 → All (λ row. row < n) rows
+    → All (λ word. row_in word < n) rows
+own_rows n rows few below k d lt =
+    let row = get_or rows k d in
+    let b : row < n = below k d lt in
+    subst (λ r. r < n) (sym (own_row row (omega (arith, b, few)))) b
 
 -- a range of words
 module _ (words : List ℕ) (from to : ℕ) (le : from ≤ to) (within : to ≤ length words) where

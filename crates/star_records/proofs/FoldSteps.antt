@@ -26,10 +26,11 @@ use Rattle.agg_laws.proofs.FlatNodes.{as_true, merged_fewer}
 use Rattle.agg_laws.proofs.MergeSteps.{none_above, put_at_end}
 use Rattle.agg_laws.proofs.PlaceMerge.{put_at}
 use Rattle.agg_laws.proofs.StarSteps.{length_numbers}
-use Rattle.star_records.specs.Columns.{row_at, rows_of}
+use Rattle.star_rows.specs.Columns.{row_at, rows_of}
 use Rattle.star_records.specs.Folding.{Ends}
-use Rattle.star_records.specs.Words.{ids_at, row_in, key_in, states_at, InOrder}
-use Rattle.star_records.proofs.RowLemmas.{projected_more}
+use Rattle.star_rows.specs.Words.{ids_at, row_in, key_in, states_at}
+use Rattle.star_records.specs.Words.{InOrder}
+use Rattle.star_rows.proofs.RowLemmas.{projected_more}
 use Rattle.star_records.proofs.WordSteps.{more_numbers}
 
 -- some documents have a last one

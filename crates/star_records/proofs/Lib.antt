@@ -1,7 +1,5 @@
 pub mod BlockSteps
 pub mod FoldSteps
-pub mod Gathering
-pub mod RowLemmas
 pub mod SlotDocs
 pub mod SlotSteps
 pub mod SortSteps

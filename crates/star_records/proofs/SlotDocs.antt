@@ -32,12 +32,12 @@ use Rattle.agg_laws.proofs.MergedLemmas.{join_assoc, join_none, join_swap, Merge
 use Rattle.agg_laws.proofs.TreeLemmas.{same_dims}
 use Rattle.agg_laws.proofs.DocLemmas.{rows_join}
 use Rattle.agg_laws.proofs.WeightLemmas.{weights-append, weights-Merged}
-use Rattle.star_records.specs.Columns.{row_count, rows_of}
-use Rattle.star_records.specs.Columns as columns
+use Rattle.star_rows.specs.Columns.{rows_of}
+use Rattle.star_rows.specs.Columns as columns
 use Rattle.star_records.specs.Slots.{in_slot, slot_doc, values_of, AllHold, AreSlots, HoldsSlots}
-use Rattle.star_records.specs.Words.{ids_at, states_at}
+use Rattle.star_rows.specs.Words.{ids_at, states_at}
 use Rattle.star_records.proofs.FoldSteps.{docs_of, made, row_doc}
-use Rattle.star_records.proofs.RowLemmas.{projected_more}
+use Rattle.star_rows.proofs.RowLemmas.{projected_more}
 
 -- ---- those of a slot
 

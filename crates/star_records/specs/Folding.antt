@@ -7,7 +7,7 @@ use Rattle.agg_laws.specs.Docs.{Doc, Docs}
 use Rattle.agg_laws.specs.Merged.{weights}
 use Rattle.agg_laws.specs.Rows.{merged_rows, row_weight}
 use Rattle.agg_laws.specs.Tree.{merged_docs}
-use Rattle.star_records.specs.Words.{ids_at, key_in, row_in, states_at}
+use Rattle.star_rows.specs.Words.{ids_at, key_in, row_in, states_at}
 
 -- some rows as documents
 abbrev pub docs_of : List AggKind → List (List ℕ) → List (List ℤ) → List ℕ → List Doc

@@ -1,15 +1,14 @@
 //! What columns have in the rows of some words, gathered column by column.
 
-ghost use Rattle.std.specs.Prelude.{◌≡◌, ◌≢◌, ◌-◌, ◌<◌, ◌≤◌, ℤ, length, map, take, drop, get_or, All};
-ghost use Rattle.std.specs.Prelude.{pos, replicate, slice_index, true, false, IfOk};
+ghost use Rattle.std.specs.Prelude.{◌≡◌, ◌-◌, ◌<◌, ◌≤◌, ℤ, length, map, take, drop, get_or, All};
+ghost use Rattle.std.specs.Prelude.{pos, replicate, true, false, IfOk};
 ghost use Rattle.star_records.specs.Folding.{picked, AllZero, AreHeads, AreZero};
-ghost use Rattle.star_records.specs.Numbers.{numbers_of};
-ghost use Rattle.star_records.specs.Words.{key_in, row_in};
+ghost use Rattle.star_rows.specs.Numbers.{numbers_of};
+ghost use Rattle.star_rows.specs.Words.{row_in};
 
 use crate::NoMemory;
-use crate::numbers::{NumberColumns, PairNumbers};
-use crate::words::MOST_ROWS;
 use outside::Seq;
+use star_rows::{MOST_ROWS, NumberColumns, PairNumbers, repeats};
 use std::alloc::Global;
 
 /// The words that have not the key of the one before them, and for each word how many of these came
@@ -91,20 +90,6 @@ pub(crate) fn heads_of(
         words: heads,
         slots,
     })
-}
-
-/// Whether a word has the key of the one before it.
-pub(crate) fn repeats(words: &[u32], at: usize) -> bool
-    requires { at < length words.now }
-    ensures same { result ≡ true → (0 < at)
-        × (key_in (slice_index words.now (at - 1)) ≡ key_in (slice_index words.now at)) }
-    ensures other { result ≡ false → 0 < at
-        → key_in (slice_index words.now (at - 1)) ≢ key_in (slice_index words.now at) }
-{
-    if at == 0 {
-        return false;
-    }
-    words[at - 1] / MOST_ROWS == words[at] / MOST_ROWS
 }
 
 /// A range of words.

@@ -1,22 +1,22 @@
 //! Rows that are in the order of their ids, merged one by one.
 
-ghost use Rattle.std.specs.Prelude.{◌≡◌, ◌≢◌, ◌+◌, ◌-◌, ◌≤◌, ◌<◌, ◌++◌, ◌∷◌, [], List, length};
-ghost use Rattle.std.specs.Prelude.{slice_index, slice_index_or, true, false, All, IfOk, OnOk};
+ghost use Rattle.std.specs.Prelude.{◌≡◌, ◌+◌, ◌-◌, ◌≤◌, ◌<◌, ◌++◌, ◌∷◌, [], List, length};
+ghost use Rattle.std.specs.Prelude.{All, IfOk, OnOk};
 ghost use Rattle.agg_laws.specs.Numbers.{most_stored, AreWhole};
 ghost use Rattle.agg_laws.specs.Rows.{merged_rows, row_weight};
 ghost use Rattle.agg_laws.specs.Merged.{weights};
 ghost use Rattle.agg_laws.specs.Docs.{projected, Doc};
 ghost use Rattle.agg_laws.specs.Tree.{merged_docs};
-ghost use Rattle.star_records.specs.Columns.{row_count, rows_of};
+ghost use Rattle.star_rows.specs.Columns.{row_count, rows_of};
 ghost use Rattle.star_records.specs.Folding.{AreZero, HasMerged};
-ghost use Rattle.star_records.specs.Words.{ids_at, key_in, states_at, InOrder};
+ghost use Rattle.star_rows.specs.Words.{ids_at, states_at};
+ghost use Rattle.star_records.specs.Words.{InOrder};
 
 use crate::NoMemory;
-use crate::blocks::{columns_at, heads_of, numbers_at, part, repeats, zero_columns};
-use crate::numbers::NumberColumns;
-use crate::projection::read_row;
+use crate::blocks::{columns_at, heads_of, numbers_at, part, zero_columns};
 use agg_laws::{StarTable, TreeShape};
 use outside::Seq;
+use star_rows::{NumberColumns, read_row, repeats};
 use std::alloc::Global;
 
 // So many rows are gathered at once. Of fewer, each would be on a page of its own in its column.

@@ -1,6 +1,6 @@
 //! The documents of rows in slots, merged column by column.
 
-ghost use Rattle.std.specs.Prelude.{◌≡◌, ◌<◌, ◌≤◌, get_or, length, map, pos, replicate, All};
+ghost use Rattle.std.specs.Prelude.{◌≡◌, ◌<◌, ◌≤◌, length, pos, replicate, All};
 ghost use Rattle.std.specs.Prelude.{IfOk, OnOk};
 ghost use Rattle.agg_laws.specs.Columns.{row_at};
 ghost use Rattle.agg_laws.specs.Docs.{projected};
@@ -9,16 +9,16 @@ ghost use Rattle.agg_laws.specs.Numbers.{most_stored, AreWhole};
 ghost use Rattle.agg_laws.specs.Rows.{merged_rows, row_weight};
 ghost use Rattle.agg_laws.specs.States.{unit_of};
 ghost use Rattle.agg_laws.specs.Tree.{merged_docs};
-ghost use Rattle.star_records.specs.Columns.{row_count, rows_of};
-ghost use Rattle.star_records.specs.Numbers.{numbers_of};
-ghost use Rattle.star_records.specs.Slots.{gathered, AllHold, AreSlots, HoldsSlots};
+ghost use Rattle.star_rows.specs.Columns.{row_count, rows_of};
+ghost use Rattle.star_rows.specs.Numbers.{numbers_of};
+ghost use Rattle.star_records.specs.Slots.{AllHold, AreSlots, HoldsSlots};
 
 use crate::NoMemory;
-use crate::numbers::{NumberColumns, PairNumbers};
-use crate::projection::read_row;
+use crate::blocks::columns_at;
 use crate::slots::Slots;
 use agg_laws::{AggKind, AggState, StarTable, StateColumn, TreeShape};
 use outside::Seq;
+use star_rows::{NumberColumns, PairNumbers, read_row};
 use std::alloc::Global;
 
 /// The documents of the rows, merged: one for each slot. The numbers are added pair by pair, in the
@@ -46,7 +46,8 @@ pub(crate) fn merge_slots(
     let kinds = shape.kinds.as_slice();
     let Slots { slots, rows } = slots;
     let count = rows.len();
-    let slot_ids = ids_of(alloc, &dims, rows.as_slice())?;
+    // A row is below 2^20, so its number is a word of it.
+    let slot_ids = columns_at(alloc, &dims, rows.as_slice())?;
     drop(dims);
     let columns = fold_columns(alloc, kinds, metrics, slots.as_slice(), count)?;
     drop(slots);
@@ -61,32 +62,6 @@ pub(crate) fn merge_slots(
         table.append_parts(ids.as_slice(), states.as_slice());
     }
     Ok(table)
-}
-
-// The ids of some rows, column by column.
-fn ids_of(alloc: Global, dims: &Seq<Seq<u32>>, rows: &[u32]) -> Result<Seq<Seq<u32>>, NoMemory>
-    requires { All (λ c. All (λ row. row < length c) rows.now) dims.now }
-    ensures { IfOk result (λ ids. ids ≡ gathered rows.now dims.now) }
-{
-    let mut all = Vec::with_capacity(alloc, dims.len())?;
-    for at in 0..dims.len() {
-        let ids = column_ids(alloc, dims.at(at).as_slice(), rows)?;
-        all.push(Seq::from_vec(ids))?;
-    }
-    Ok(Seq::from_vec(all))
-}
-
-// Those of one column.
-fn column_ids(alloc: Global, column: &[u32], rows: &[u32]) -> Result<Vec<u32>, NoMemory>
-    requires { All (λ row. row < length column.now) rows.now }
-    ensures { IfOk result
-        (λ ids. ids.items ≡ map (λ row. get_or column.now row 0) rows.now) }
-{
-    let mut ids = Vec::with_capacity(alloc, rows.len())?;
-    for i in 0..rows.len() {
-        ids.push(column[rows[i] as usize])?;
-    }
-    Ok(ids)
 }
 
 // For each pair its states, slot by slot.

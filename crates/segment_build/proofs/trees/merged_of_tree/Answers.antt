@@ -1,6 +1,6 @@
 use Rattle.std.proofs.Common.{◌≡◌, ◌∙◌, All, length, map, refl, sym, ap, subst, arith}
-use Rattle.star_records.specs.Columns as records
-use Rattle.star_records.specs.Columns.{row_count}
+use Rattle.star_rows.specs.Columns as records
+use Rattle.star_rows.specs.Columns.{row_count}
 use Rattle.agg_laws.specs.Docs.{projected}
 use Rattle.agg_laws.specs.Rows.{merged_rows}
 use Rattle.agg_laws.specs.Tree.{merged_docs}

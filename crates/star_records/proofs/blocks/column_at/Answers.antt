@@ -1,6 +1,6 @@
 use Rattle.std.proofs.Common.{◌∙◌, get_or, map, ap, arith}
 use Rattle.std.proofs.lemmas.List.{take_all}
-use Rattle.star_records.specs.Words.{row_in}
+use Rattle.star_rows.specs.Words.{row_in}
 use Rattle.star_records.proofs.BlockSteps as steps
 use Rattle.star_records.proofs.blocks.column_at.Goals as goal
 

@@ -1,5 +1,5 @@
 use Rattle.std.proofs.Common.{◌≡◌, map, get_or, take}
-use Rattle.star_records.specs.Words.{row_in}
+use Rattle.star_rows.specs.Words.{row_in}
 use Rattle.star_records.proofs.blocks.column_at.Given as goal
 
 abbrev pub invariant-loop-word : goal.invariant-loop-word

@@ -1,7 +1,7 @@
 use Rattle.std.proofs.Common.{◌∙◌, ap, get_or, map, sym}
 use Rattle.std.proofs.lemmas.Result.{IfOk-weaker}
-use Rattle.star_records.specs.Numbers.{numbers_of}
-use Rattle.star_records.specs.Words.{row_in}
+use Rattle.star_rows.specs.Numbers.{numbers_of}
+use Rattle.star_rows.specs.Words.{row_in}
 use Rattle.star_records.proofs.BlockSteps as steps
 use Rattle.star_records.proofs.blocks.number_column.Goals as goal
 

@@ -2,7 +2,7 @@ use Rattle.std.proofs.Common.{◌∙◌, ◌++◌, ◌∷◌, ◌<◌, ◌≤◌
 use Rattle.std.proofs.lemmas.List.{take_all}
 use Rattle.agg_laws.proofs.RegionLemmas.{any_default}
 use Rattle.star_records.specs.Folding.{picked, AllZero}
-use Rattle.star_records.specs.Numbers.{numbers_of}
+use Rattle.star_rows.specs.Numbers.{numbers_of}
 use Rattle.star_records.proofs.BlockSteps as steps
 use Rattle.star_records.proofs.blocks.numbers_at.Goals as goal
 

@@ -2,8 +2,8 @@ use Rattle.std.proofs.Common.{◌≡◌, ◌≤◌, ◌++◌, ◌∷◌, [], Lis
 use Rattle.agg_laws.specs.declared.aggregate_kind.AggKind.{AggKind}
 use Rattle.agg_laws.specs.Docs.{Docs}
 use Rattle.agg_laws.specs.Rows.{row_of, row_weight}
-use Rattle.star_records.specs.Columns.{row_at}
-use Rattle.star_records.proofs.RowLemmas as rows
+use Rattle.star_rows.specs.Columns.{row_at}
+use Rattle.star_rows.proofs.RowLemmas as rows
 use Rattle.star_records.proofs.fold.append_row.Goals as goal
 
 pub returns-clause-appended : goal.returns-clause-appended

@@ -1,9 +1,9 @@
 use Rattle.std.proofs.Common.{◌≡◌, ℕ, ◌+◌, ◌-◌, ◌<◌, ◌≤◌, ◌++◌, ◌∷◌, [], List, All, get_or, length, pos, refl, sym, ap, subst, ◌∙◌, arith, length-append}
 use Rattle.agg_laws.specs.Docs.{Docs}
 use Rattle.agg_laws.specs.Rows.{merged_rows, row_of, row_weight}
-use Rattle.star_records.specs.Columns.{row_at, row_count}
+use Rattle.star_rows.specs.Columns.{row_at, row_count}
 use Rattle.star_records.specs.Folding.{picked}
-use Rattle.star_records.specs.Words.{ids_at, row_in, states_at}
+use Rattle.star_rows.specs.Words.{ids_at, row_in, states_at}
 use Rattle.star_records.proofs.BlockSteps as blocks
 use Rattle.star_records.proofs.FoldSteps as steps
 use Rattle.star_records.proofs.fold.merge_block.Goals as goal

@@ -4,9 +4,9 @@ use Rattle.std.proofs.lemmas.List.{length-map}
 use Rattle.agg_laws.specs.declared.aggregate_kind.AggKind.{AggKind}
 use Rattle.agg_laws.specs.Rows.{merged_rows}
 use Rattle.agg_laws.specs.Tree.{merged_docs}
-use Rattle.star_records.specs.Columns.{row_count}
+use Rattle.star_rows.specs.Columns.{row_count}
 use Rattle.star_records.specs.Folding.{AreZero, HasMerged}
-use Rattle.star_records.specs.Words.{row_in}
+use Rattle.star_rows.specs.Words.{row_in}
 use Rattle.star_records.proofs.FoldSteps as steps
 use Rattle.star_records.proofs.fold.merge_in_order.Goals as goal
 

@@ -6,8 +6,8 @@ use Rattle.agg_laws.specs.Rows.{merged_rows, row_of, row_weight}
 use Rattle.agg_laws.specs.laws.Rows.{row_weight_least}
 use Rattle.agg_laws.proofs.ValueSteps.{fits_row}
 use Rattle.agg_laws.proofs.WeightLemmas.{weights-append}
-use Rattle.star_records.specs.Columns.{row_at}
-use Rattle.star_records.proofs.RowLemmas as rows
+use Rattle.star_rows.specs.Columns.{row_at}
+use Rattle.star_rows.proofs.RowLemmas as rows
 use Rattle.star_records.proofs.FoldSteps.{parts}
 use Rattle.star_records.proofs.fold.merge_row.Goals as goal
 

@@ -1,6 +1,6 @@
 use Rattle.std.proofs.Common.{◌≡◌, ◌∙◌, ◌++◌, ◌∷◌, ◌<◌, [], ℕ, ℤ, List, length, get_or, take, ap, sym, arith}
 use Rattle.std.proofs.lemmas.List.{take_more}
-use Rattle.star_records.specs.Numbers.{numbers_of}
+use Rattle.star_rows.specs.Numbers.{numbers_of}
 use Rattle.star_records.proofs.SlotDocs as steps
 use Rattle.star_records.proofs.slot_docs.fold_columns.Goals as goal
 

@@ -8,21 +8,25 @@ use Rattle.agg_laws.specs.Docs.{projected, Doc, Docs}
 use Rattle.agg_laws.specs.Region.{numbers_from}
 use Rattle.agg_laws.specs.Rows.{kinds_of, merged_rows, row_of, RowStored}
 use Rattle.agg_laws.specs.Tree.{merged_docs}
-use Rattle.star_records.specs.Columns.{row_at, row_count, rows_of}
-use Rattle.star_records.specs.Slots.{gathered, in_slot, slot_doc, values_of, AreSlots}
-use Rattle.star_records.proofs.Gathering as gathering
-use Rattle.star_records.proofs.RowLemmas as rows
+use Rattle.star_rows.specs.Columns.{row_at, row_count, rows_of}
+use Rattle.star_records.specs.Folding.{picked}
+use Rattle.star_records.specs.Slots.{in_slot, slot_doc, values_of, AreSlots}
+use Rattle.star_records.proofs.BlockSteps as blocks
+use Rattle.star_rows.specs.Words.{row_in}
+use Rattle.star_rows.proofs.RowLemmas as rows
 use Rattle.star_records.proofs.SlotDocs as steps
 use Rattle.star_records.proofs.WordSteps.{more_numbers}
 use Rattle.star_records.proofs.slot_docs.merge_slots.Goals as goal
 
-pub ids_of-requires : goal.ids_of-requires
-ids_of-requires c =
+pub columns_at-requires : goal.columns_at-requires
+columns_at-requires c =
     let dims : List (List ℕ) = c.args.dims in
-    subst (λ (known : List ℕ). All (λ (l : List ℕ). All (λ row. row < length l) known) dims)
+    let n = row_count dims in
+    subst (λ (known : List ℕ). All (λ (l : List ℕ). All (λ word. row_in word < length l) known) dims)
     (sym c.as_slice.ensures.value)
-    (gathering.in_each (row_count dims) c.args.slots.rows.items dims c.requires.ids_long
-    c.requires.slots.rows_in)
+    (blocks.in_columns n c.args.slots.rows.items dims c.requires.ids_long
+    (blocks.own_rows n c.args.slots.rows.items (omega (arith, c.requires.few))
+    c.requires.slots.rows_in))
 
 pub read_row-requires : goal.read_row-requires
 read_row-requires c =
@@ -31,8 +35,8 @@ read_row-requires c =
     let slot : ℕ = c.loop-slot.slot in
     let lt : slot < length known = omega (arith, c.loop-slot-test.true, c.len-count.ensures) in
     subst (All (λ (l : List ℕ). slot < length l))
-    (sym (c.in_ok-slot_ids.ensures ∙ ap (λ (l : List ℕ). gathered l dims) c.as_slice.ensures.value))
-    (gathering.long_gathered slot known dims lt)
+    (sym (c.in_ok-slot_ids.ensures 0 ∙ ap (λ (l : List ℕ). picked 0 l dims) c.as_slice.ensures.value))
+    (blocks.long_picked 0 slot known dims lt)
 
 pub read_states-requires : goal.read_states-requires
 read_states-requires c =
@@ -48,6 +52,13 @@ read_states-requires c =
     subst (All (λ (d : Column). slot < length d.states)) (sym c.as_slice-in-loop-slot.ensures.value)
     (steps.long-columns N S K metrics columns slot c.in_ok-columns.ensures
     c.loop-slot-test.true)
+
+pub append_parts-requires-clause-dims : goal.append_parts-requires-clause-dims
+append_parts-requires-clause-dims c =
+    ap length c.as_slice-in-loop-slot-2.ensures.value ∙ c.in_ok-read_row.ensures.length
+    ∙ ap length (c.in_ok-slot_ids.ensures 0) ∙ blocks.wide_picked 0 c.as_slice.result.now c.args.dims
+    ∙ c.requires.dims ∙ sym c.loop-slot.invariant.dims
+    ∙ sym (ap (λ (d : Docs). d.dims) c.in_ok-reserve-2.ensures.ok)
 
 pub append_parts-requires-clause-kinds : goal.append_parts-requires-clause-kinds
 append_parts-requires-clause-kinds c =
@@ -117,15 +128,18 @@ loop-slot-preserved c =
     let is = c.append_parts.ensures in
     let f : ℕ → Doc = slot_doc kinds dims metrics all known in
     let lt : slot < length known = omega (arith, c.loop-slot-test.true, c.len-count.ensures) in
-    let gathered_is : c.in_ok-slot_ids.slot_ids ≡ gathered known dims = c.in_ok-slot_ids.ensures
-    ∙ ap (λ (l : List ℕ). gathered l dims) c.as_slice.ensures.value in
+    let picked_is : c.in_ok-slot_ids.slot_ids ≡ picked 0 known dims = c.in_ok-slot_ids.ensures 0
+    ∙ ap (λ (l : List ℕ). picked 0 l dims) c.as_slice.ensures.value in
+    let own_row = blocks.own_row (get_or known slot 0)
+    (omega (arith, c.requires.slots.rows_in slot 0 lt, c.requires.few)) in
     let ids : c.as_slice-in-loop-slot-2.result.now ≡ row_at 0 (get_or known slot 0) dims =
     c.as_slice-in-loop-slot-2.ensures.value
     ∙ rows.is_row 0 slot c.in_ok-slot_ids.slot_ids c.read_row.new.out.items
     c.in_ok-read_row.ensures.items
-    (subst (All (λ (l : List ℕ). slot < length l)) (sym gathered_is)
-    (gathering.long_gathered slot known dims lt))
-    ∙ ap (row_at 0 slot) gathered_is ∙ gathering.row_gathered slot known dims lt in
+    (subst (All (λ (l : List ℕ). slot < length l)) (sym picked_is)
+    (blocks.long_picked 0 slot known dims lt))
+    ∙ ap (row_at 0 slot) picked_is ∙ blocks.row_picked 0 slot known dims lt
+    ∙ ap (λ (r : ℕ). row_at 0 r dims) own_row in
     let own : c.as_slice-in-loop-slot-3.result.now
     ≡ row_of kinds (in_slot slot all (values_of (length all) metrics)) =
     states ∙ steps.slot-row N S K metrics columns slot c.in_ok-columns.ensures long

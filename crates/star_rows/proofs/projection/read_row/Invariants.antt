@@ -1,5 +1,5 @@
 use Rattle.std.proofs.Common.{◌≡◌, length, map, take, slice_get, Some}
-use Rattle.star_records.proofs.projection.read_row.Given as goal
+use Rattle.star_rows.proofs.projection.read_row.Given as goal
 
 abbrev pub invariant-loop-i : goal.invariant-loop-i
 invariant-loop-i g l = record {

@@ -1,7 +1,7 @@
 -- The numbers of a pair, one for each row.
 use Rattle.std.specs.Prelude.{ℤ, pos, List, replicate}
-use Rattle.star_records.specs.declared.numbers.PairNumbers.{PairNumbers}
-use Rattle.star_records.specs.declared.numbers.PairNumbers.TheVariants as pair
+use Rattle.star_rows.specs.declared.numbers.PairNumbers.{PairNumbers}
+use Rattle.star_rows.specs.declared.numbers.PairNumbers.TheVariants as pair
 
 -- those of a column, or so many zeros
 abbrev pub numbers_of : PairNumbers → List ℤ

@@ -4,9 +4,9 @@ use Rattle.std.specs.Int.{cast_signed, cast_unsigned}
 use Rattle.std.proofs.lemmas.Int.{to_z-of_z}
 use Rattle.std.proofs.lemmas.Option.{get_or_from_slice_get}
 use Rattle.agg_laws.proofs.RegionLemmas.{any_default}
-use Rattle.star_records.specs.Numbers.{numbers_of}
-use Rattle.star_records.proofs.RowLemmas as rows
-use Rattle.star_records.proofs.numbers.NumberColumns.read_row.Goals as goal
+use Rattle.star_rows.specs.Numbers.{numbers_of}
+use Rattle.star_rows.proofs.RowLemmas as rows
+use Rattle.star_rows.proofs.numbers.NumberColumns.read_row.Goals as goal
 
 pub loop-pair-preserved : goal.loop-pair-preserved
 loop-pair-preserved c =

@@ -1,5 +1,5 @@
 use Rattle.std.proofs.Common.{◌≡◌, length, map, take, slice_get, Some}
-use Rattle.star_records.proofs.numbers.NumberColumns.read_row.Given as goal
+use Rattle.star_rows.proofs.numbers.NumberColumns.read_row.Given as goal
 
 abbrev pub invariant-loop-pair : goal.invariant-loop-pair
 invariant-loop-pair l = record {

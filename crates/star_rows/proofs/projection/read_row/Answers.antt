@@ -1,8 +1,8 @@
 use Rattle.std.proofs.Common.{◌≡◌, ◌+◌, ◌<◌, ◌∷◌, [], suc, List, map, Some, take, slice_get, length}
 use Rattle.std.proofs.Common.{sym, ap, subst, ◌∙◌, arith, length-append}
 use Rattle.agg_laws.proofs.RegionLemmas.{any_default}
-use Rattle.star_records.proofs.RowLemmas as rows
-use Rattle.star_records.proofs.projection.read_row.Goals as goal
+use Rattle.star_rows.proofs.RowLemmas as rows
+use Rattle.star_rows.proofs.projection.read_row.Goals as goal
 
 pub loop-i-preserved : goal.loop-i-preserved
 loop-i-preserved g c =

@@ -2,8 +2,8 @@ use Rattle.std.proofs.Common.{◌≡◌, ◌≤◌, length}
 use Rattle.agg_laws.specs.Rows.{row_weight}
 use Rattle.agg_laws.specs.Merged.{weights}
 use Rattle.agg_laws.specs.Docs.{projected}
-use Rattle.star_records.specs.Columns.{rows_of}
-use Rattle.star_records.proofs.projection.project.Given as goal
+use Rattle.star_rows.specs.Columns.{rows_of}
+use Rattle.star_rows.proofs.projection.project.Given as goal
 
 abbrev pub invariant-loop-row : goal.invariant-loop-row
 invariant-loop-row l = record {

@@ -1,8 +1,8 @@
 //! The numbers of pairs, column by column.
 
 ghost use Rattle.std.specs.Prelude.{◌≡◌, ◌<◌, ◌++◌, ◌∷◌, [], length, map, slice_index_or};
-ghost use Rattle.std.specs.Prelude.{slice_get, All, IfOk, OnOk, Some};
-ghost use Rattle.star_records.specs.Numbers.{numbers_of};
+ghost use Rattle.std.specs.Prelude.{slice_get, All, OnOk, Some};
+ghost use Rattle.star_rows.specs.Numbers.{numbers_of};
 
 use crate::NoMemory;
 use std::alloc::Global;
@@ -38,7 +38,7 @@ pub struct NumberColumns<'a> {
 
 impl<'a> Model for NumberColumns<'a> {
     ghost use Rattle.std.specs.Prelude.{List, ℤ, map};
-    ghost use Rattle.star_records.specs.Numbers.{numbers_of};
+    ghost use Rattle.star_rows.specs.Numbers.{numbers_of};
 
     ghost Value = { List (List ℤ) };
 

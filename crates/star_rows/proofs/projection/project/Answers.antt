@@ -1,10 +1,10 @@
 use Rattle.std.proofs.Common.{◌<◌, ◌++◌, ◌∷◌, [], List, length, pos, refl, sym, ap, ◌∙◌}
 use Rattle.std.proofs.Common.{arith}
 use Rattle.agg_laws.specs.Docs.{Doc}
-use Rattle.star_records.specs.Columns.{row_count, row_at}
-use Rattle.star_records.specs.Words.{ids_at, states_at}
-use Rattle.star_records.proofs.RowLemmas as rows
-use Rattle.star_records.proofs.projection.project.Goals as goal
+use Rattle.star_rows.specs.Columns.{row_count, row_at}
+use Rattle.star_rows.specs.Words.{ids_at, states_at}
+use Rattle.star_rows.proofs.RowLemmas as rows
+use Rattle.star_rows.proofs.projection.project.Goals as goal
 
 pub project_row-requires-clause-dims : goal.project_row-requires-clause-dims
 project_row-requires-clause-dims c = c.requires.dims ∙ sym c.loop-row.invariant.dims
