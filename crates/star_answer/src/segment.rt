@@ -21,17 +21,16 @@ ghost use Rattle.star_answer.specs.Segments.{LogsAnswer, LogsAnswerPartly};
 ghost use Rattle.star_answer.specs.Tasks.{AreGroupsLoaded};
 
 use crate::answer::answer_tree;
-use crate::asked::Asked;
 use crate::asking::{group_columns, pair_numbers};
 use crate::doc_laws::docs_read_law;
 use crate::laws::served_law;
 use crate::segment_fault::{SegmentFault, of_head, of_tree};
 use crate::tasks::tree_task;
-use crate::tree_part::TreePart;
 use group_table::GroupTable;
 use outside::{Place, Shelf};
 use segment_file::{Head, Part};
 use segment_plan::head_tells_law;
+use star_taking::{Asked, TreePart};
 use star_walk::walkable_law;
 use std::alloc::Global;
 use table_schema::{BoundQuery, Table};
