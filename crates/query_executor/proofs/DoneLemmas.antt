@@ -16,7 +16,7 @@ use Rattle.segment_plan.specs.Plan.{plan_of}
 use Rattle.segment_plan.specs.Planned.{plan_over}
 use Rattle.segment_head.specs.Stored.{IsOfImage}
 use Rattle.segment_scan.specs.Images.{AreDocs, choices_for}
-use Rattle.segment_scan.specs.Served.{rows_left}
+use Rattle.document_reading.specs.Served.{rows_left}
 use Rattle.star_answer.specs.Docs.{docs_read}
 use Rattle.query_executor.specs.Explained.{line_by}
 use Rattle.query_executor.specs.Stated.{docs_by, stats_line, stats_text}

@@ -6,8 +6,8 @@ use Rattle.outside.specs.Seen.{OnlyReads}
 use Rattle.segment_file.specs.declared.fault.HeadFault.{HeadFault}
 use Rattle.segment_file.specs.declared.fault.HeadFault.TheVariants as head
 use Rattle.segment_file.specs.declared.part.Part.{Part}
-use Rattle.segment_scan.specs.declared.fault.EngineFault.{EngineFault}
-use Rattle.segment_scan.specs.declared.fault.EngineFault.TheVariants as engine
+use Rattle.document_reading.specs.declared.fault.EngineFault.{EngineFault}
+use Rattle.document_reading.specs.declared.fault.EngineFault.TheVariants as engine
 use Rattle.star_answer.specs.declared.segment_fault.SegmentFault.{SegmentFault}
 use Rattle.star_answer.specs.declared.segment_fault.SegmentFault.TheVariants as answer
 use Rattle.query_executor.specs.Steps.{fault_of, of_answer}

@@ -3,8 +3,8 @@ use Rattle.std.proofs.Common.{◌≡◌, ◌≢◌, ℕ, refl}
 use Rattle.segment_file.specs.declared.fault.HeadFault.{HeadFault}
 use Rattle.segment_file.specs.declared.fault.HeadFault.TheVariants as head
 use Rattle.segment_file.specs.declared.part.Part.{Part}
-use Rattle.segment_scan.specs.declared.fault.EngineFault.{EngineFault}
-use Rattle.segment_scan.specs.declared.fault.EngineFault.TheVariants as engine
+use Rattle.document_reading.specs.declared.fault.EngineFault.{EngineFault}
+use Rattle.document_reading.specs.declared.fault.EngineFault.TheVariants as engine
 use Rattle.sql_reply.specs.declared.fault.SqlFault.{SqlFault}
 use Rattle.sql_reply.specs.declared.fault.SqlFault.TheVariants as sql
 use Rattle.query_executor.specs.declared.fault.ExecutorFault.TheVariants.{NotASegment, ReadFault, Sql}

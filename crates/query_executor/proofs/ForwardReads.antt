@@ -23,12 +23,12 @@ use Rattle.segment_file.specs.Image as segment
 use Rattle.segment_file.specs.Names.{file_of}
 use Rattle.segment_file.specs.Ordered.{value_in}
 use Rattle.segment_plan.specs.Laws.{TellsOf}
-use Rattle.segment_scan.specs.Bytes.{GrowsBy}
+use Rattle.document_reading.specs.Bytes.{GrowsBy}
 use Rattle.segment_scan.specs.Documents.{LogsDocs, LogsDocsPartly}
-use Rattle.segment_scan.specs.Forward.{IsReadable, LogsColumns, LogsForward, LogsNamed, LogsPart, LogsPartly, LogsSome, count_in, width_in}
-use Rattle.segment_scan.specs.Picked.{LogsIf, LogsIfPartly, LogsPicked, LogsPickedPartly, LogsRuns, LogsRunsPartly, ids_of_run}
+use Rattle.document_reading.specs.Forward.{IsReadable, LogsColumns, LogsForward, LogsNamed, LogsPart, LogsPartly, LogsSome, count_in, width_in}
+use Rattle.document_reading.specs.Picked.{LogsIf, LogsIfPartly, LogsPicked, LogsPickedPartly, LogsRuns, LogsRunsPartly, ids_of_run}
 use Rattle.segment_scan.specs.Series.{LogsPartOf, LogsTo}
-use Rattle.segment_scan.proofs.ByteLemmas.{grows_on, grows_runs, grows_same}
+use Rattle.document_reading.proofs.ByteLemmas.{grows_on, grows_runs, grows_same}
 use Rattle.segment_scan.proofs.ImageLemmas.{distinct_few}
 use Rattle.query_executor.specs.Logs.{LogsThat}
 use Rattle.query_executor.specs.Reads.{marked_count, raw_span}

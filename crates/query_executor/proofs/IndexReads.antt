@@ -38,10 +38,10 @@ use Rattle.segment_plan.specs.Laws.{TellsOf}
 use Rattle.segment_plan.specs.Matched.{values_in, values_of}
 use Rattle.segment_plan.specs.declared.plans.IndexChoice.{IndexChoice}
 use Rattle.segment_plan.specs.declared.plans.IndexChoice.TheVariants as choices
-use Rattle.segment_scan.specs.Forward.{count_in}
-use Rattle.segment_scan.specs.Indexes.{IsReady, LogsIndexed, LogsIndexedPartly}
-use Rattle.segment_scan.specs.Served.{first_of, last_of}
-use Rattle.segment_scan.proofs.LeftLemmas.{matching_below}
+use Rattle.document_reading.specs.Forward.{count_in}
+use Rattle.document_reading.specs.Indexes.{IsReady, LogsIndexed, LogsIndexedPartly}
+use Rattle.document_reading.specs.Served.{first_of, last_of}
+use Rattle.document_reading.proofs.MatchLemmas.{matching_below}
 use Rattle.query_executor.specs.Logs.{LogsThat}
 use Rattle.query_executor.specs.Reads.{forward_span, raw_span}
 use Rattle.query_executor.proofs.LogLemmas.{entries_then}

@@ -32,13 +32,13 @@ use Rattle.segment_plan.specs.declared.plans.IndexChoice.{IndexChoice}
 use Rattle.segment_plan.specs.declared.plans.IndexChoice.TheVariants as choices
 use Rattle.segment_head.specs.Heads.{IsHeadOf}
 use Rattle.segment_scan.specs.Documents.{LogsDocs, LogsDocsPartly}
-use Rattle.segment_scan.specs.Forward.{IsReadable, LogsColumns, LogsForward, LogsNamed, LogsPart, LogsPartly, LogsSome, width_in}
+use Rattle.document_reading.specs.Forward.{IsReadable, LogsColumns, LogsForward, LogsNamed, LogsPart, LogsPartly, LogsSome, width_in}
 use Rattle.segment_scan.specs.Images.{AreNamedLoaded, LogsPartsPartly, LogsScan, LogsScanPartly, choices_for, names_in, rest_for, sure_for}
-use Rattle.segment_scan.specs.Indexes.{IsIndexed, IsRanged, IsReady, LogsAt, LogsAtPartly, LogsIndex, LogsIndexPartly, LogsIndexed, LogsIndexedPartly, LogsRange, LogsRangePartly, OfEach, part_of}
-use Rattle.segment_scan.specs.Picked.{LogsIf, LogsIfPartly, LogsPicked, LogsPickedPartly, LogsRuns, LogsRunsPartly, ids_of_run}
+use Rattle.document_reading.specs.Indexes.{IsIndexed, IsRanged, IsReady, LogsAt, LogsAtPartly, LogsIndex, LogsIndexPartly, LogsIndexed, LogsIndexedPartly, LogsRange, LogsRangePartly, OfEach, part_of}
+use Rattle.document_reading.specs.Picked.{LogsIf, LogsIfPartly, LogsPicked, LogsPickedPartly, LogsRuns, LogsRunsPartly, ids_of_run}
 use Rattle.segment_scan.specs.Series.{Logs, LogsPartOf, LogsTo}
 use Rattle.coded_scan.specs.Served.{choice_at}
-use Rattle.segment_scan.specs.Served.{sure_choices}
+use Rattle.document_reading.specs.Served.{sure_choices}
 use Rattle.segment_scan.proofs.ImageLemmas.{loaded_readable}
 use Rattle.segment_scan.proofs.IndexImage.{ready_for}
 use Rattle.segment_scan.proofs.LeftImage.{rest_loaded}

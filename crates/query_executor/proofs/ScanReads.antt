@@ -23,15 +23,15 @@ use Rattle.segment_plan.specs.declared.plans.IndexChoice.TheVariants as choices
 use Rattle.segment_plan.specs.declared.plans.ScanPlan.{ScanPlan}
 use Rattle.table_schema.specs.declared.query.Conjunct.TheVariants.{One, Many}
 use Rattle.std.proofs.lemmas.Nat.{mul-le}
-use Rattle.segment_scan.specs.Bytes.{GrowsBy}
+use Rattle.document_reading.specs.Bytes.{GrowsBy}
 use Rattle.segment_scan.specs.Documents.{LogsDocs, LogsDocsPartly}
-use Rattle.segment_scan.proofs.ByteLemmas.{grows_both}
-use Rattle.segment_scan.specs.Forward.{IsReadable}
+use Rattle.document_reading.proofs.ByteLemmas.{grows_both}
+use Rattle.document_reading.specs.Forward.{IsReadable}
 use Rattle.segment_scan.specs.Images.{AreLeftFor, AreNamedLoaded, ImagesLeave, ImagesRead, IsOfImage, LogsPartsPartly, LogsScan, LogsScanPartly, choices_for, indexed_for, names_in, rest_for, sure_for}
-use Rattle.segment_scan.specs.Indexes.{LogsAt, LogsAtPartly}
+use Rattle.document_reading.specs.Indexes.{LogsAt, LogsAtPartly}
 use Rattle.segment_scan.specs.Series.{LogsPartOf, LogsTo}
 use Rattle.coded_scan.specs.Served.{choice_at, is_served, rest_of, unserved}
-use Rattle.segment_scan.specs.Served.{indexed, is_indexed, rows_left, sure_choices}
+use Rattle.document_reading.specs.Served.{indexed, is_indexed, rows_left, sure_choices}
 use Rattle.segment_scan.proofs.ImageLemmas.{loaded_readable}
 use Rattle.segment_scan.proofs.IndexImage.{ready_for}
 use Rattle.segment_scan.proofs.LeftImage.{left_count, rest_loaded, sure_names, whole_docs}

@@ -21,7 +21,7 @@ use Rattle.star_file.specs.Reading.{doc_width}
 use Rattle.star_walk.specs.declared.pick.Pick.{Pick}
 use Rattle.star_walk.specs.Images.{read_of}
 use Rattle.outside.specs.declared.place.Place.{Place}
-use Rattle.star_answer.specs.Answers.{stretch_of}
+use Rattle.star_taking.specs.Answers.{stretch_of}
 use Rattle.star_answer.specs.Docs.{DocsAreBounded, docs_read, product}
 use Rattle.star_answer.specs.Segments.{IsInside}
 use Rattle.query_executor.specs.Logs.{EndsBy}

@@ -13,10 +13,10 @@ use Rattle.bit_column.specs.Sections.{end_byte, first_byte}
 use Rattle.doc_lists.specs.Docs.{Apart, docs_of, docs_of_run}
 use Rattle.doc_lists.specs.declared.run.Run.{Run}
 use Rattle.index_reading.specs.Stretches.{LogsOver, LogsPartly, Stretch}
-use Rattle.segment_scan.specs.Bytes.{GrowsBy, column_bytes, most_bytes}
-use Rattle.segment_scan.specs.Picked.{ids_of_run}
+use Rattle.document_reading.specs.Bytes.{GrowsBy, column_bytes, most_bytes}
+use Rattle.document_reading.specs.Picked.{ids_of_run}
 use Rattle.segment_scan.specs.Series.{Logs, LogsPartOf, LogsTo}
-use Rattle.segment_scan.proofs.ByteLemmas.{grows_both, grows_on, grows_same}
+use Rattle.document_reading.proofs.ByteLemmas.{grows_both, grows_on, grows_same}
 use Rattle.query_executor.specs.Logs.{EndsBy, LogsThat}
 use Rattle.query_executor.specs.Reads.{marked_count}
 use Rattle.query_executor.proofs.LogLemmas.{entries_as, entries_none, entries_then}

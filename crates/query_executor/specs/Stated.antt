@@ -10,7 +10,7 @@ use Rattle.segment_plan.specs.declared.plans.SegmentPlan.{SegmentPlan}
 use Rattle.segment_plan.specs.declared.plans.SegmentPlan.TheVariants.{Scan, StarTree}
 use Rattle.segment_plan.specs.Explained.{plan_word}
 use Rattle.segment_plan.specs.Planned.{plan_over}
-use Rattle.segment_scan.specs.Served.{rows_left}
+use Rattle.document_reading.specs.Served.{rows_left}
 use Rattle.star_answer.specs.Docs.{docs_read}
 use Rattle.sql_reply.specs.Asked.{Asked, asked}
 use Rattle.sql_reply.specs.SqlReply.{SqlReply, sql_reply}

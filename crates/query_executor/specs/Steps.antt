@@ -23,8 +23,8 @@ use Rattle.segment_plan.specs.Laws.{IsPlannable}
 use Rattle.segment_plan.specs.Plan.{plan_of}
 use Rattle.segment_plan.specs.Planned.{plan_over}
 use Rattle.segment_scan.specs.Images.{IsOfImage}
-use Rattle.segment_scan.specs.declared.fault.EngineFault.{EngineFault}
-use Rattle.segment_scan.specs.declared.fault.EngineFault.TheVariants as engine
+use Rattle.document_reading.specs.declared.fault.EngineFault.{EngineFault}
+use Rattle.document_reading.specs.declared.fault.EngineFault.TheVariants as engine
 use Rattle.star_answer.specs.declared.segment_fault.SegmentFault.{SegmentFault}
 use Rattle.star_answer.specs.declared.segment_fault.SegmentFault.TheVariants as answer
 use Rattle.sql_reply.specs.Reply.{conjuncts_reply, most_groups}

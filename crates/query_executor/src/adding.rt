@@ -7,7 +7,7 @@ ghost use Rattle.scan_engine.specs.Scanned.{HaveAtMost};
 ghost use Rattle.segment_head.specs.Heads.{AreIn, IsHeadOf};
 ghost use Rattle.segment_file.specs.declared.part.Part.{Part};
 ghost use Rattle.segment_scan.specs.Images.{AreNamedLoaded};
-ghost use Rattle.segment_scan.specs.declared.fault.EngineFault.TheVariants.{NotASegment, ReadFault, TooManyGroups};
+ghost use Rattle.document_reading.specs.declared.fault.EngineFault.TheVariants.{NotASegment, ReadFault, TooManyGroups};
 ghost use Rattle.segment_plan.specs.Matched.{AreLoaded};
 ghost use Rattle.eligibility.specs.Rule.{picked};
 ghost use Rattle.star_answer.specs.Tasks.{AreGroupsLoaded};
@@ -20,11 +20,12 @@ ghost use Rattle.query_executor.specs.Steps.{AddsStored, IsDoneIn, IsHeadIn, IsS
 ghost use Rattle.query_executor.specs.Steps as spec;
 
 use crate::scanned::{Scanned, nothing};
+use document_reading::EngineFault;
 use group_table::GroupTable;
 use outside::Shelf;
 use segment_head::Head;
 use segment_plan::{SegmentPlan, empty_law, head_tells_law, plan, plan_over_law, pruned_law};
-use segment_scan::{EngineFault, image_law, index_law, scan_segment};
+use segment_scan::{image_law, index_law, scan_segment};
 use star_answer::{SegmentFault, answer_segment, docs_bound_law};
 use std::alloc::Global;
 use table_schema::{BoundQuery, Table};

@@ -6,7 +6,7 @@ ghost use Rattle.segment_file.specs.declared.part.Part.{Part};
 ghost use Rattle.segment_plan.specs.Matched.{AreLoaded};
 ghost use Rattle.star_answer.specs.Tasks.{AreGroupsLoaded};
 ghost use Rattle.segment_scan.specs.Images.{AreNamedLoaded};
-ghost use Rattle.segment_scan.specs.declared.fault.EngineFault.TheVariants.{NotASegment, ReadFault, TooManyGroups};
+ghost use Rattle.document_reading.specs.declared.fault.EngineFault.TheVariants.{NotASegment, ReadFault, TooManyGroups};
 ghost use Rattle.table_schema.specs.ValidQuery.{IsValidQuery};
 ghost use Rattle.table_schema.specs.ValidTable.{IsValidTable};
 ghost use Rattle.query_executor.specs.Logs.{DictionariesEnd, EndsBy, LogsThat};
@@ -16,9 +16,11 @@ ghost use Rattle.query_executor.specs.Wanted.{AreFactorsLoaded};
 
 use crate::opening::engine_fault;
 use crate::wanted::{detailed_columns, wanted_columns};
+use document_reading::EngineFault;
 use outside::Shelf;
 use segment_head::Head;
 use segment_scan::EngineFault;
+use segment_file::Head;
 use std::alloc::Global;
 use table_schema::{BoundQuery, Table};
 

@@ -4,16 +4,18 @@ ghost use Rattle.outside.specs.Seen.{OnlyReads, seen};
 ghost use Rattle.segment_head.specs.Heads.{AreIn, IsHeadOf};
 ghost use Rattle.segment_file.specs.Names.{IsSegmentName, file_of};
 ghost use Rattle.segment_file.specs.declared.part.Part.{Part};
-ghost use Rattle.segment_scan.specs.declared.fault.EngineFault.TheVariants.{NotASegment, ReadFault, TooManyGroups};
+ghost use Rattle.document_reading.specs.declared.fault.EngineFault.TheVariants.{NotASegment, ReadFault, TooManyGroups};
 ghost use Rattle.table_schema.specs.ValidTable.{IsValidTable};
 ghost use Rattle.query_executor.specs.Logs.{EndsInHead, LogsHeadOf};
 ghost use Rattle.query_executor.specs.Segments.{HasNoImage};
 ghost use Rattle.query_executor.specs.Steps.{IsHeadIn, IsSpreadIn, fault_of};
 
+use document_reading::EngineFault;
 use outside::Shelf;
 use segment_file::{HeadFault, image_keeps_law};
 use segment_head::{Head, open_head};
 use segment_scan::EngineFault;
+use segment_file::{Head, HeadFault, image_keeps_law, open_head};
 use std::alloc::{AllocError, Global};
 use table_schema::Table;
 

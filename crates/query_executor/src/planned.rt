@@ -7,7 +7,7 @@ ghost use Rattle.segment_file.specs.Names.{IsSegmentName};
 ghost use Rattle.segment_file.specs.declared.part.Part.{Part};
 ghost use Rattle.segment_plan.specs.Explained.{IsDetailed, explained_by};
 ghost use Rattle.segment_plan.specs.Plan.{plan_of};
-ghost use Rattle.segment_scan.specs.declared.fault.EngineFault.TheVariants.{NotASegment, ReadFault, TooManyGroups};
+ghost use Rattle.document_reading.specs.declared.fault.EngineFault.TheVariants.{NotASegment, ReadFault, TooManyGroups};
 ghost use Rattle.query_executor.specs.Explained.{line_by, plan_line};
 ghost use Rattle.query_executor.specs.Logs.{LogsHeadOf};
 ghost use Rattle.query_executor.specs.Segments.{HasNoImage};
@@ -15,11 +15,11 @@ ghost use Rattle.query_executor.specs.Steps.{AddsLine, IsPlannedIn};
 
 use crate::loading::load_detailed;
 use crate::opening::open_segment;
+use document_reading::EngineFault;
 use eligibility::pick;
 use outside::Shelf;
 use segment_head::Head;
 use segment_plan::{SegmentPlan, explained_law, head_tells_law, plan, prune, push_plan};
-use segment_scan::EngineFault;
 use std::alloc::{AllocError, Global};
 use table_schema::{BoundQuery, Table};
 

@@ -3,7 +3,7 @@ ghost use Rattle.std.specs.Prelude.{◌≡◌};
 ghost use Rattle.query_executor.specs.Steps as spec;
 
 use crate::ExecutorFault;
-use segment_scan::EngineFault;
+use document_reading::EngineFault;
 use sql_reply::{MOST_GROUPS, SqlFault};
 
 /// What the fault of the scan of a segment, by its number, is for the query.

@@ -17,7 +17,7 @@ use Rattle.bit_column.specs.Sections.{AppendsRange, Readable, end_byte, first_by
 use Rattle.bit_column.proofs.ReadSteps.{LogsOn-append, LogsUpTo-after}
 use Rattle.coded_scan.specs.Ids.{HasRoom}
 use Rattle.coded_scan.specs.declared.ids.IdRoom.{IdRoom}
-use Rattle.segment_scan.proofs.PickSteps.{ids_of_range, part_readable}
+use Rattle.document_reading.proofs.PickSteps.{ids_of_range, part_readable}
 
 -- ---- ids by their places
 

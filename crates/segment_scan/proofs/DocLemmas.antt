@@ -1,5 +1,5 @@
 -- Ascending documents, and the rows in their places.
-use Rattle.std.proofs.Common.{◌≡◌, ◌∙◌, ◌<◌, ◌≤◌, ◌+◌, ◌&&◌, ◌||◌, ◌∷◌, [], ℕ, zero, suc, Bool, true, false, cond, nat_eq, All, List, length, map, get_or, refl, sym, ap, subst, arith, inl, inr, eq-eqb}
+use Rattle.std.proofs.Common.{◌≡◌, ◌∙◌, ◌<◌, ◌≤◌, ◌+◌, ◌&&◌, ◌||◌, ◌∷◌, [], ℕ, zero, suc, Bool, true, false, cond, All, List, length, map, get_or, refl, sym, ap, subst, arith, inl, inr, eq-eqb}
 use Rattle.std.proofs.lemmas.Bool.{cases_lt, ne_eqb}
 use Rattle.std.proofs.lemmas.List.Elements.{All-head, All-tail}
 use Rattle.std.proofs.lemmas.List.FromFn.{fill_by_all}
@@ -29,16 +29,6 @@ none_before : (from doc : ℕ) (docs : List ℕ) → Up from docs → doc < from
 none_before from doc [] up lt = refl
 none_before from doc (d ∷ ds) up lt =
     ap (λ b. b || has_doc ds doc) (ne_eqb doc d (λ e. omega (arith, e, lt, up.0))) ∙ none_before (d + 1) doc ds up.1 (omega (arith, lt, up.0))
-
--- a document of a list is in it
-pub has_own : (docs : List ℕ) (j : ℕ) → j < length docs → has_doc docs (get_or docs j 0) ≡ true
-has_own [] j lt = absurd (omega (arith, lt))
-has_own (d ∷ ds) zero lt = ap (λ b. b || has_doc ds d) (eq-eqb d d refl)
-has_own (d ∷ ds) (suc j) lt = or_second (nat_eq (get_or ds j 0) d) (has_doc ds (get_or ds j 0)) (has_own ds j (omega (arith, lt)))
-  where
-    or_second : (a b : Bool) → b ≡ true → a || b ≡ true
-    or_second true b e = refl
-    or_second false b e = e
 
 -- ---- the rows in the places of documents
 

@@ -46,7 +46,7 @@ use Rattle.segment_head.proofs.SectionBytes.{any_front, any_raw, cut_section, so
 use Rattle.segment_plan.specs.Laws.{HeadTells, TellsOf}
 use Rattle.segment_plan.specs.Matched.{values_in, values_of}
 use Rattle.segment_scan.specs.Agreement.{Agree, AgreeAll}
-use Rattle.segment_scan.specs.Forward.{HasIds, forward_in}
+use Rattle.document_reading.specs.Forward.{HasIds, forward_in}
 use Rattle.segment_scan.specs.Images.{AreNamedLoaded, ImagesRead, LoadedAreReadable, names_in}
 use Rattle.segment_scan.specs.Named.{query_names}
 use Rattle.segment_scan.specs.Scans.{column_read, columns_read, table_read, values_read}

@@ -45,16 +45,16 @@ use Rattle.segment_plan.specs.Laws.{HeadTells, TellsOf}
 use Rattle.segment_plan.specs.Matched.{values_in, values_of}
 use Rattle.segment_plan.specs.declared.plans.IndexChoice.{IndexChoice}
 use Rattle.segment_plan.specs.declared.plans.IndexChoice.TheVariants.{Unindexed, Sorted, Inverted, Range}
-use Rattle.segment_scan.specs.Forward.{count_in}
+use Rattle.document_reading.specs.Forward.{count_in}
 use Rattle.segment_scan.specs.Images.{AreNamedLoaded, ImagesLeave, choices_for}
-use Rattle.segment_scan.specs.Indexes.{IsIndexed, IsRanged, IsReady, OfEach, OfIndex, TellsBuckets, TellsIds, all_leave, is_doc_near, is_unsure, leaves, part_of}
+use Rattle.document_reading.specs.Indexes.{IsIndexed, IsRanged, IsReady, OfEach, OfIndex, TellsBuckets, TellsIds, all_leave, is_doc_near, is_unsure, leaves, part_of}
 use Rattle.segment_scan.specs.Named.{conjunct_names}
 use Rattle.coded_scan.specs.Served.{choice_at}
-use Rattle.segment_scan.specs.Served.{Chosen, all_left, indexed, is_indexed, is_near, is_row_left, is_value_near}
+use Rattle.document_reading.specs.Served.{Chosen, all_left, indexed, is_indexed, is_near, is_row_left, is_value_near}
 use Rattle.segment_scan.proofs.AgreementLemmas.{conjuncts_in_names, or_left, or_right}
 use Rattle.segment_scan.proofs.ImageLemmas.{IsPlace, ids-below, ids-count, item_there, ordered_count, places}
 use Rattle.segment_scan.proofs.OrderLemmas.{sorted_ids}
-use Rattle.segment_scan.proofs.RangeLemmas.{sure_has}
+use Rattle.segment_scan.proofs.NearLemmas.{sure_has}
 
 lt_true : (a b : ℕ) → a < b → nat_lt a b ≡ true
 lt_true a b lt = grind (arith, nat_tests)

@@ -39,22 +39,23 @@ use Rattle.segment_plan.specs.declared.plans.IndexChoice.{IndexChoice}
 use Rattle.segment_plan.specs.declared.plans.IndexChoice.TheVariants.{Unindexed, Sorted, Inverted, Range}
 use Rattle.segment_scan.specs.Agreement.{AgreeAll, AreSame}
 use Rattle.segment_scan.specs.Documents.{AddsDocs, selected_docs}
-use Rattle.segment_scan.specs.Forward.{HasIds}
+use Rattle.document_reading.specs.Forward.{HasIds}
 use Rattle.segment_scan.specs.Images.{AddsImage, AddsWhole, AreDocs, AreLeftFor, AreNamedLoaded, AreParts, HasUnsureFor, ImagesLeave, ImagesRead, IsBadForward, IsBadIn, IsBadWhole, IsImageOverfull, IsNoImage, IsOfImage, IsWholeOverfull, LogsPartsPartly, choices_for, indexed_for, names_in, rest_for, sure_for}
-use Rattle.segment_scan.specs.Indexes.{IsBadAny, IsBadIndex, LogsAt, LogsIndex, LogsRange, OfIndex, TellsIndexed, all_leave, is_unsure, leaves}
+use Rattle.document_reading.specs.Indexes.{IsBadAny, IsBadIndex, LogsAt, LogsIndex, LogsRange, OfIndex, TellsIndexed, all_leave, is_unsure, leaves}
 use Rattle.segment_scan.specs.Named.{agg_names, conjunct_names, is_in, query_names}
 use Rattle.segment_scan.specs.Scans.{columns_read}
 use Rattle.segment_scan.specs.Series.{LogsTo}
 use Rattle.coded_scan.specs.Served.{choice_at, is_served, rest_of, unserved}
-use Rattle.segment_scan.specs.Served.{Chosen, all_left, indexed, is_indexed, is_row_left, rows_left, sure_choices}
+use Rattle.document_reading.specs.Served.{Chosen, all_left, indexed, is_indexed, is_row_left, rows_left, sure_choices}
 use Rattle.segment_scan.proofs.AgreementLemmas.{agreeing_same}
 use Rattle.segment_scan.proofs.DocLemmas.{filter_both, rows_filtered}
 use Rattle.segment_scan.proofs.IndexImage.{again, place_at}
 use Rattle.segment_scan.proofs.ImageLemmas.{ordered_count}
-use Rattle.segment_scan.proofs.LeftLemmas.{all_has, one_chosen, part_all}
+use Rattle.document_reading.proofs.MatchLemmas.{all_has}
+use Rattle.segment_scan.proofs.LeftLemmas.{one_chosen, part_all}
 use Rattle.segment_scan.proofs.PickLemmas.{docs_few}
 use Rattle.segment_scan.proofs.PartLemmas.{left_at, parts_count, parts_permuted, sure_all}
-use Rattle.segment_scan.proofs.RangeLemmas.{value_near}
+use Rattle.segment_scan.proofs.NearLemmas.{value_near}
 use Rattle.segment_scan.proofs.SegmentLemmas.{mark_named, marks_are}
 use Rattle.segment_scan.proofs.ServedLemmas.{unserved_names}
 

@@ -1,15 +1,12 @@
 -- The documents that conjuncts leave, one conjunct after the other.
-use Rattle.std.proofs.Common.{◌≡◌, ◌∙◌, ◌<◌, ◌&&◌, ◌||◌, ◌∷◌, ◌++◌, [], ℕ, zero, suc, Bool, true, false, nat_eq, All, List, Option, Some, None, IfSome, length, take, get_or, slice_get, refl, sym, ap, subst, arith}
+use Rattle.std.proofs.Common.{◌≡◌, ◌∙◌, ◌<◌, ◌&&◌, ◌∷◌, ◌++◌, [], ℕ, zero, suc, Bool, true, false, All, List, Option, Some, None, IfSome, length, take, get_or, slice_get, refl, sym, ap, subst, arith}
 use Rattle.std.specs.Prelude.{if◌then◌else◌}
-use Rattle.std.proofs.lemmas.Bool.{eqb-true, false≢true}
+use Rattle.std.proofs.lemmas.Bool.{false≢true}
 use Rattle.std.proofs.lemmas.List.{length-append}
-use Rattle.std.proofs.lemmas.List.Elements.{All-from_get_or, All-head, All-tail}
+use Rattle.std.proofs.lemmas.List.Elements.{All-from_get_or}
 use Rattle.std.proofs.lemmas.List.Folds.{list_all-append}
 use Rattle.outside.specs.Files.{Files}
 use Rattle.outside.specs.Reads.{Entry}
-use Rattle.values.specs.declared.test.Test.{Test}
-use Rattle.values.specs.declared.value.Value.{Value}
-use Rattle.dictionary.specs.Ids.{has_id, satisfies}
 use Rattle.doc_lists.specs.Docs.{has_doc}
 use Rattle.doc_lists.specs.Sets.{AreThose}
 use Rattle.table_schema.specs.declared.query.Conjunct.{Conjunct}
@@ -17,10 +14,10 @@ use Rattle.table_schema.specs.declared.query.Conjunct.TheVariants.{One, Many}
 use Rattle.segment_head.specs.Heads.{Seen}
 use Rattle.segment_plan.specs.declared.plans.IndexChoice.{IndexChoice}
 use Rattle.segment_plan.specs.declared.plans.IndexChoice.TheVariants.{Unindexed, Sorted, Inverted, Range}
-use Rattle.segment_scan.specs.Indexes.{AreInBoth, AreLeft, Leaves, LeavesBy, LogsAt, LogsAtPartly, LogsIndexed, LogsIndexedPartly, OfEach, TellsIndexed, all_leave, leaves}
+use Rattle.document_reading.specs.Indexes.{AreInBoth, AreLeft, Leaves, LeavesBy, LogsAt, LogsAtPartly, LogsIndexed, LogsIndexedPartly, OfEach, TellsIndexed, all_leave, leaves}
 use Rattle.coded_scan.specs.Served.{choice_at}
-use Rattle.segment_scan.specs.Served.{Chosen, indexed, is_indexed}
-use Rattle.segment_scan.proofs.DocLemmas.{has_own}
+use Rattle.document_reading.specs.Served.{Chosen, indexed, is_indexed}
+use Rattle.document_reading.proofs.MatchLemmas.{all_has, has_own}
 
 and_true : (x : Bool) → (x && true) ≡ x
 and_true true = refl
@@ -77,14 +74,6 @@ own (Some files) head Inverted (One column test) docs by = record { has = refl; 
 own (Some files) head Range (One column test) docs by = record { has = refl; within = by.within; told = λ ids tells. by.told (ids column) tells }
 
 -- ---- both lists
-
-pub all_has : (P : ℕ → Type 0) (docs : List ℕ) (doc : ℕ) → has_doc docs doc ≡ true → All P docs → P doc
-all_has P [] doc has all = absurd (false≢true has)
-all_has P (d ∷ ds) doc has all = go (nat_eq doc d) refl has (all_has P ds doc)
-  where
-    go : (b : Bool) → nat_eq doc d ≡ b → b || has_doc ds doc ≡ true → (has_doc ds doc ≡ true → All P ds → P doc) → P doc
-    go true same has later = subst P (sym (eqb-true doc d same)) (All-head P d ds all)
-    go false same has later = later has (All-tail P d ds all)
 
 in_both_all : (P : ℕ → Type 0) (a b c : List ℕ) → AreThose (λ doc. has_doc a doc && has_doc b doc) c → All P a → All P c
 in_both_all P a b c those all = All-from_get_or P c 0 (λ j lt.
@@ -174,12 +163,3 @@ pub item_at : {X : Type 0} (xs : List X) (i : ℕ) (x : X) → i < length xs →
 item_at [] i x lt is = absurd (omega (arith, lt))
 item_at (y ∷ ys) zero x lt is = ap Some (sym is)
 item_at (y ∷ ys) (suc i) x lt is = item_at ys i x (omega (arith, lt)) is
-
--- the ids of the values that satisfy a test are below their number
-pub matching_below : (values : List Value) (test : Test) (ids : List ℕ) → ((id : ℕ) → has_id ids id ≡ satisfies test (slice_get values id)) → All (λ id. id < length values) ids
-matching_below values test ids each = All-from_get_or (λ id. id < length values) ids 0 (λ j lt. inside values (get_or ids j 0) (sym (each (get_or ids j 0)) ∙ has_own ids j lt))
-  where
-    inside : (vs : List Value) (id : ℕ) → satisfies test (slice_get vs id) ≡ true → id < length vs
-    inside [] id is = absurd (false≢true is)
-    inside (v ∷ vs) zero is = omega arith
-    inside (v ∷ vs) (suc id) is = let more = inside vs id is in omega (arith, more)

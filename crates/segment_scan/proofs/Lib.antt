@@ -1,6 +1,5 @@
 pub mod ServedLemmas
 pub mod DocLemmas
-pub mod PickSteps
 pub mod BlockSteps
 pub mod PickLemmas
 pub mod SeriesLemmas
@@ -10,12 +9,10 @@ pub mod ScanLemmas
 pub mod AgreementLemmas
 pub mod ImageLemmas
 pub mod IndexImage
-pub mod RangeLemmas
+pub mod NearLemmas
 pub mod LeftImage
 pub mod SegmentLemmas
 pub mod LogLemmas
-pub mod FaultLemmas
-pub mod ByteLemmas
 pub mod ServedRows
 pub mod LeastLemmas
 pub mod PartLemmas

@@ -4,6 +4,8 @@ use Rattle.std.specs.Prelude.{OnErr}
 use Rattle.outside.specs.Reads.{Entry}
 use Rattle.segment_head.specs.Heads.{Seen}
 use Rattle.segment_scan.specs.Forward.{LogsColumns, LogsNamed, LogsPartly, LogsSome}
+use Rattle.segment_file.specs.Heads.{Seen}
+use Rattle.document_reading.specs.Forward.{LogsColumns, LogsNamed, LogsPartly, LogsSome}
 
 -- nothing was read
 pub logs_none : (head : Seen) (named : List Bool) (log : Option (List Entry)) → LogsSome head named log log
@@ -25,11 +27,7 @@ logs_all head named old new first = record { upto = length named; within = omega
 pub logs_as : (head : Seen) (named others : List Bool) (old new : Option (List Entry)) → named ≡ others → LogsSome head named old new → LogsSome head others old new
 logs_as head named others old new is logs = subst (λ (l : List Bool). LogsSome head l old new) is logs
 
--- what holds whatever the call returned
-pub err_is : {T E : Type 0} (r : Result T E) (P : Type 0) → P → OnErr r P
-err_is (Ok x) P p = tt
-err_is (Err e) P p = p
-
+-- what follows from what holds of a fault
 pub err_so : {T E : Type 0} (r : Result T E) (A B : Type 0) → (A → B) → OnErr r A → OnErr r B
 err_so (Ok x) A B f h = tt
 err_so (Err e) A B f h = f h

@@ -14,9 +14,9 @@ use Rattle.table_schema.specs.declared.query.Conjunct.TheVariants.{One, Many}
 use Rattle.segment_head.specs.Heads.{Seen}
 use Rattle.segment_plan.specs.declared.plans.IndexChoice.{IndexChoice}
 use Rattle.segment_plan.specs.declared.plans.IndexChoice.TheVariants.{Unindexed, Sorted, Inverted, Range}
-use Rattle.segment_scan.specs.Indexes.{AddsUnsure, HasUnsure, is_unsure}
+use Rattle.document_reading.specs.Indexes.{AddsUnsure, HasUnsure, is_unsure}
 use Rattle.coded_scan.specs.Served.{choice_at, is_served, unserved}
-use Rattle.segment_scan.specs.Served.{indexed, is_indexed, sure_choices}
+use Rattle.document_reading.specs.Served.{indexed, is_indexed, sure_choices}
 use Rattle.segment_scan.proofs.DocLemmas.{filter_both, listed}
 use Rattle.segment_scan.proofs.LeftLemmas.{one_chosen}
 

@@ -27,13 +27,13 @@ use Rattle.coded_scan.specs.declared.coded.Coded.{Coded}
 use Rattle.coded_scan.specs.declared.coded.SegmentColumns.{SegmentColumns}
 use Rattle.coded_scan.specs.Coded.{AreCoded, IsCoded, listed, most_rows, table_of, values_of}
 use Rattle.segment_scan.specs.Documents.{selected_docs}
-use Rattle.segment_scan.specs.Forward.{forward_in, width_in}
-use Rattle.segment_scan.specs.Picked.{IsPicked}
+use Rattle.document_reading.specs.Forward.{forward_in, width_in}
+use Rattle.document_reading.specs.Picked.{IsPicked}
 use Rattle.segment_scan.specs.Scans.{IsCodedOf, columns_read, values_read}
 use Rattle.coded_scan.specs.Served.{rest_of}
 use Rattle.coded_scan.proofs.CodedLemmas.{counts, get_or-ids, zeros}
 use Rattle.segment_scan.proofs.DocLemmas.{increasing_up}
-use Rattle.segment_scan.proofs.PickSteps.{ids_of_range}
+use Rattle.document_reading.proofs.PickSteps.{ids_of_range}
 
 -- so many ascending documents below a number
 pub up_few : (from n : ℕ) (docs : List ℕ) → Up from docs → from ≤ n → ((j : ℕ) → j < length docs → get_or docs j 0 < n) → from + length docs ≤ n

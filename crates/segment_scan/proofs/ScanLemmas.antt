@@ -13,7 +13,7 @@ use Rattle.scan_engine.specs.Scanned.{IsOverfull, selected}
 use Rattle.coded_scan.specs.declared.coded.Coded.{Coded}
 use Rattle.coded_scan.specs.declared.coded.SegmentColumns.{SegmentColumns}
 use Rattle.coded_scan.specs.Coded.{AreCoded, IsCoded, listed, most_rows, table_of, values_of}
-use Rattle.segment_scan.specs.Forward.{IsRead}
+use Rattle.document_reading.specs.Forward.{IsRead}
 use Rattle.segment_scan.specs.Scans.{IsCodedOf, columns_read, selected_read, table_read, values_read}
 
 one-coded : (held : Option Files) (head : Seen) (column : ℕ) (named : Bool) (ids : Option (List ℕ)) (coded : Option Coded) → IsRead held head column named ids → IsCodedOf head column ids coded → IsCoded head.rows coded

@@ -17,7 +17,7 @@ use Rattle.segment_file.specs.declared.part.Part.{Part}
 use Rattle.segment_file.specs.declared.part.Part.TheVariants.{Forward}
 use Rattle.segment_head.specs.Heads.{IsHeadOf, Seen}
 use Rattle.segment_file.specs.Ordered.{ordered}
-use Rattle.segment_scan.specs.Forward.{HasIds, LogsColumns}
+use Rattle.document_reading.specs.Forward.{HasIds, LogsColumns}
 use Rattle.segment_scan.specs.Images.{AddsWhole, AreNamedLoaded, ImagesRead, IsBadWhole, IsWholeOverfull, IsOfImage, names_in}
 use Rattle.segment_scan.specs.Named.{query_names}
 use Rattle.segment_scan.specs.Scans.{AddsSegment, selected_read, table_read}

@@ -11,8 +11,8 @@ use Rattle.scan_engine.specs.Places.{rows_at}
 use Rattle.scan_engine.specs.Scanned.{AddsRows, selected}
 use Rattle.segment_head.specs.Heads.{Seen}
 use Rattle.segment_plan.specs.declared.plans.IndexChoice.{IndexChoice}
-use Rattle.segment_scan.specs.Bytes.{GrowsBy, most_bytes}
-use Rattle.segment_scan.specs.Picked.{LogsPicked, LogsPickedPartly}
+use Rattle.document_reading.specs.Bytes.{GrowsBy, most_bytes}
+use Rattle.document_reading.specs.Picked.{LogsPicked, LogsPickedPartly}
 use Rattle.segment_scan.specs.Scans.{columns_read}
 use Rattle.segment_scan.specs.Series.{LogsPartOf, LogsTo}
 use Rattle.coded_scan.specs.Served.{rest_of}

@@ -24,11 +24,11 @@ use Rattle.segment_plan.specs.declared.plans.IndexChoice.{IndexChoice}
 use Rattle.segment_plan.specs.declared.plans.IndexChoice.TheVariants.{Range}
 use Rattle.segment_scan.specs.Agreement.{Agree, AgreeAll}
 use Rattle.segment_scan.specs.Documents.{LogsDocs, LogsDocsPartly, selected_docs}
-use Rattle.segment_scan.specs.Forward.{HasIds, IsReadable, LogsColumns, LogsSome}
-use Rattle.segment_scan.specs.Indexes.{AreLeft, HasUnsure, IsBadAny, LogsAt, LogsAtPartly, OfEach, TellsIndexed, all_leave, is_unsure, leaves}
+use Rattle.document_reading.specs.Forward.{HasIds, IsReadable, LogsColumns, LogsSome}
+use Rattle.document_reading.specs.Indexes.{AreLeft, HasUnsure, IsBadAny, LogsAt, LogsAtPartly, OfEach, TellsIndexed, all_leave, is_unsure, leaves}
 use Rattle.segment_scan.specs.Series.{LogsPartOf, LogsTo}
 use Rattle.coded_scan.specs.Served.{choice_at, rest_of}
-use Rattle.segment_scan.specs.Served.{Chosen, all_left, indexed, is_indexed, rows_left, sure_choices}
+use Rattle.document_reading.specs.Served.{Chosen, all_left, indexed, is_indexed, rows_left, sure_choices}
 use Rattle.segment_scan.specs.Named.{query_names}
 use Rattle.segment_scan.specs.Scans.{columns_read, selected_read, table_read}
 

@@ -1,12 +1,6 @@
-pub mod Faults
-pub mod Forward
 pub mod Scans
 pub mod Named
-pub mod Served
-pub mod Indexes
 pub mod Series
-pub mod Picked
-pub mod Bytes
 pub mod Documents
 pub mod Agreement
 pub mod Images

@@ -13,7 +13,7 @@ use Rattle.segment_plan.specs.Matched.{values_in}
 use Rattle.group_table.specs.Kept.{KeptGroups}
 use Rattle.scan_engine.specs.Scanned.{AddsRows, selected}
 use Rattle.coded_scan.specs.declared.coded.Coded.{Coded}
-use Rattle.segment_scan.specs.Forward.{forward_in, width_in}
+use Rattle.document_reading.specs.Forward.{forward_in, width_in}
 
 -- the values of the rows in a column, by the ids of its forward section; in one that is not named
 -- each is the number 0

@@ -3,26 +3,23 @@
 ghost use Rattle.std.specs.Prelude.{◌≡◌, ◌≤◌, ℕ, List, Err, IfOk, IfSome, IsErrOf, OnErr, length};
 ghost use Rattle.outside.specs.Seen.{OnlyReads, seen};
 ghost use Rattle.segment_file.specs.declared.part.Part.{Part};
-ghost use Rattle.segment_file.specs.declared.part.Part.TheVariants.{Range};
 ghost use Rattle.coded_scan.specs.Coded.{most_rows};
-ghost use Rattle.segment_scan.specs.Faults.{list_fault};
-ghost use Rattle.segment_scan.specs.Indexes.{AddsUnsure, AreEndsOf, AreInBoth, HasUnsure, IsBadAny, IsBadIndex, IsFoundBy, IsFoundNear, IsIndexed, IsRanged, IsReady, Leaves, LeavesBy, LogsAt, LogsAtPartly, LogsIndex, LogsIndexPartly, LogsIndexed, LogsIndexedPartly, LogsRange, LogsRangePartly, OfEach, TellsBuckets, TellsIds, part_of};
+ghost use Rattle.document_reading.specs.Indexes.{AddsUnsure, HasUnsure, IsBadAny, IsBadIndex, IsFoundBy, IsIndexed, IsReady, Leaves, LeavesBy, LogsAt, LogsAtPartly, LogsIndex, LogsIndexPartly, LogsIndexed, LogsIndexedPartly, OfEach, TellsIds, part_of};
 ghost use Rattle.segment_scan.specs.Series.{LogsPartOf, LogsTo};
-ghost use Rattle.segment_scan.specs.Served.{indexed};
-ghost use Rattle.segment_scan.specs.declared.fault.EngineFault.TheVariants.{NotASegment, ReadFault, TooManyGroups};
+ghost use Rattle.document_reading.specs.Served.{indexed};
+ghost use Rattle.document_reading.specs.declared.fault.EngineFault.TheVariants.{NotASegment, ReadFault, TooManyGroups};
 
-use crate::EngineFault;
 use coded_scan::choice_at;
-use dictionary::IdSet;
-use doc_lists::{DocList, join};
-use index_reading::{ListFault, ListKind, docs_between, docs_of_ids};
+use doc_lists::DocList;
+use document_reading::{EngineFault, docs_by_range, in_both, of_list};
+use index_reading::{ListKind, docs_of_ids};
 use outside::Shelf;
 use segment_file::Part;
 use segment_head::Head;
 use segment_plan::IndexChoice;
 use std::alloc::Global;
 use table_schema::Conjunct;
-use values::{NoMemory, Test};
+use values::Test;
 
 /// The documents that the indexes of conjuncts leave, in ascending order; no list where no conjunct
 /// is indexed. Of the section of each index what it has of the matching ids, or of the buckets that
@@ -102,7 +99,7 @@ fn docs_by<S: Shelf>(
             indexed(alloc, shelf, head, ListKind::Inverted, *column, test)
         }
         (IndexChoice::Range, Conjunct::One(column, test)) => {
-            ranged(alloc, shelf, head, *column, test, unsure)
+            docs_by_range(alloc, shelf, head, *column, test, unsure)
         }
         (_, _) => Ok(None),
     }
@@ -153,69 +150,6 @@ fn indexed<S: Shelf>(
     }
 }
 
-// The documents in the buckets that overlap the ids of the values that satisfy a test, by the range
-// index of a column: those that are sure, and those whose ids are to be checked.
-fn ranged<S: Shelf>(
-    alloc: Global,
-    shelf: &mut S,
-    head: &Head,
-    column: u16,
-    test: &Test,
-    unsure: &mut DocList,
-) -> Result<Option<DocList>, EngineFault>
-    requires rows { head.now.rows ≤ most_rows }
-    requires ready { IsRanged head.now column test.now }
-    ensures docs { IfOk result (IsFoundNear (S.held shelf.old) head.now column test.now) }
-    ensures unsure { IfOk result (λ _. AddsUnsure (S.held shelf.old) head.now IndexChoice.Range
-        (Conjunct.One column test.now) unsure.old unsure.new) }
-    ensures bad { (part : Part) → result ≡ Err (NotASegment part) → (part ≡ Range column)
-        × IfSome (S.held shelf.old) (λ files. (ids : List ℕ) →
-        TellsBuckets files head.now column ids → ⊥) }
-    ensures full { ¬ IsErrOf result TooManyGroups }
-    ensures only_reads { OnlyReads (IsErrOf result ReadFault)
-        (seen S.Shelf shelf.old) (seen S.Shelf shelf.new) }
-    ensures log { IfOk result (λ _. LogsRange (S.held shelf.old) head.now column test.now
-        (S.log shelf.old) (S.log shelf.new)) }
-    ensures log_of_fault { OnErr result (LogsRangePartly (S.held shelf.old) head.now column
-        test.now (S.log shelf.old) (S.log shelf.new)) }
-{
-    let dictionary = head.dictionary(column);
-    let ids = match dictionary.ids_matching(alloc, test) {
-        Ok(ids) => ids,
-        Err(_) => return Err(EngineFault::NoMemory),
-    };
-    let Some((low, high)) = ends(&ids) else {
-        unreachable!();
-    };
-    let Some(place) = head.place(Part::Range(column)) else {
-        unreachable!();
-    };
-    let count = dictionary.count();
-    let (sure, check) = match docs_between(alloc, shelf, place, count, head.rows(), low, high) {
-        Ok(docs) => docs,
-        Err(fault) => return Err(of_list(fault, Part::Range(column))),
-    };
-    *unsure = match join(alloc, unsure, &check) {
-        Ok(more) => more,
-        Err(_) => return Err(EngineFault::NoMemory),
-    };
-    match join(alloc, &sure, &check) {
-        Ok(docs) => Ok(Some(docs)),
-        Err(_) => Err(EngineFault::NoMemory),
-    }
-}
-
-// The first and the last of some ids, if there are any.
-fn ends(ids: &IdSet) -> Option<(u32, u32)>
-    ensures { AreEndsOf ids.now result }
-{
-    let ids = ids.as_slice();
-    match ids {
-        [] => None,
-        [first, ..] => Some((*first, ids[ids.len() - 1])),
-    }
-}
-
 // The section of a column of a kind.
 fn part_of(kind: ListKind, column: u16) -> Part
     ensures { result ≡ part_of kind column }
@@ -223,31 +157,5 @@ fn part_of(kind: ListKind, column: u16) -> Part
     match kind {
         ListKind::Sorted => Part::Sorted(column),
         ListKind::Inverted => Part::Inverted(column),
-    }
-}
-
-// What the fault of an index is for a scan, by its section.
-fn of_list(fault: ListFault, part: Part) -> EngineFault
-    ensures { result ≡ list_fault fault part }
-{
-    match fault {
-        ListFault::ReadFault => EngineFault::ReadFault,
-        ListFault::BadList => EngineFault::NotASegment(part),
-        ListFault::NoMemory => EngineFault::NoMemory,
-    }
-}
-
-// The documents that are in both lists, or in the one that is there.
-fn in_both(
-    alloc: Global,
-    first: Option<DocList>,
-    second: Option<DocList>,
-) -> Result<Option<DocList>, NoMemory>
-    ensures { IfOk result (AreInBoth first second) }
-{
-    match (first, second) {
-        (None, second) => Ok(second),
-        (Some(first), None) => Ok(Some(first)),
-        (Some(first), Some(second)) => Ok(Some(doc_lists::meet(alloc, &first, &second)?)),
     }
 }

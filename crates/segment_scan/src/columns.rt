@@ -2,12 +2,12 @@
 
 ghost use Rattle.std.specs.Prelude.{◌≡◌, ◌<◌, ◌≤◌, ◌++◌, ◌∷◌, [], ℕ, IfErr, IfOk, IsErrOf, OnErr, OnOk, None, false, true, get_or, length};
 ghost use Rattle.outside.specs.Seen.{OnlyReads, seen};
-ghost use Rattle.segment_scan.specs.Forward.{IsFaultAt, IsFaultIn, IsRead, IsReadable, LogsColumns, LogsNamed, LogsPartly, LogsSome};
-ghost use Rattle.segment_scan.specs.declared.fault.EngineFault.TheVariants.{NoMemory, ReadFault};
+ghost use Rattle.document_reading.specs.Forward.{IsFaultAt, IsFaultIn, IsRead, IsReadable, LogsColumns, LogsNamed, LogsPartly, LogsSome};
+ghost use Rattle.document_reading.specs.declared.fault.EngineFault.TheVariants.{NoMemory, ReadFault};
 
-use crate::EngineFault;
 use crate::reading::read_column;
 use coded_scan::Ids;
+use document_reading::EngineFault;
 use outside::Shelf;
 use segment_head::Head;
 use std::alloc::Global;

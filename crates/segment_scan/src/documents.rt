@@ -8,15 +8,15 @@ ghost use Rattle.scan_engine.specs.Scanned.{HaveAtMost, IsOverfull};
 ghost use Rattle.segment_file.specs.declared.part.Part.{Part};
 ghost use Rattle.segment_file.specs.declared.part.Part.TheVariants.{Forward};
 ghost use Rattle.coded_scan.specs.Coded.{most_rows};
-ghost use Rattle.segment_scan.specs.Forward.{HasIds, IsReadable};
+ghost use Rattle.document_reading.specs.Forward.{HasIds, IsReadable};
 ghost use Rattle.segment_scan.specs.Documents.{AddsDocs, LogsDocs, LogsDocsPartly, selected_docs};
-ghost use Rattle.segment_scan.specs.declared.fault.EngineFault.TheVariants.{NotASegment, ReadFault, TooManyGroups};
+ghost use Rattle.document_reading.specs.declared.fault.EngineFault.TheVariants.{NotASegment, ReadFault, TooManyGroups};
 
-use crate::EngineFault;
 use crate::picking::pick_columns;
 use crate::scan::coded_columns;
 use coded_scan::{SegmentColumns, add_segment};
 use doc_lists::DocList;
+use document_reading::EngineFault;
 use group_table::{GroupTable, TableFault};
 use outside::Shelf;
 use segment_head::Head;

@@ -12,14 +12,14 @@ ghost use Rattle.segment_file.specs.declared.part.Part.{Part};
 ghost use Rattle.segment_scan.specs.Documents.{AddsDocs, LogsDocs, LogsDocsPartly, selected_docs};
 ghost use Rattle.segment_scan.specs.Images.{AddsImage, AreDocs, AreLeftFor, AreNamedLoaded, HasUnsureFor, IsBadForward, IsImageOverfull, IsNoImage, LogsParts, LogsPartsPartly, choices_for, names_in, rest_for, sure_for};
 ghost use Rattle.coded_scan.specs.Served.{rest_of};
-ghost use Rattle.segment_scan.specs.declared.fault.EngineFault.TheVariants.{NotASegment, ReadFault, TooManyGroups};
+ghost use Rattle.document_reading.specs.declared.fault.EngineFault.TheVariants.{NotASegment, ReadFault, TooManyGroups};
 
-use crate::EngineFault;
 use crate::documents::scan_documents;
 use crate::laws::{image_law, index_law};
 use crate::named::named_columns;
 use crate::serving::sure_choices;
 use doc_lists::{DocList, meet, without};
+use document_reading::EngineFault;
 use group_table::GroupTable;
 use outside::Shelf;
 use segment_head::Head;

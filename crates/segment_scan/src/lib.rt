@@ -5,7 +5,6 @@
 mod candidates;
 mod columns;
 mod documents;
-mod fault;
 mod laws;
 mod left;
 mod named;
@@ -18,7 +17,6 @@ mod serving;
 mod whole;
 
 pub use columns::read_columns;
-pub use fault::EngineFault;
 pub use laws::{agreement_law, image_law, index_law, readable_law};
 pub use named::named_columns;
 pub use reading::read_column;

@@ -1,26 +1,23 @@
 //! The ids of some documents in the columns of a segment, read from its file.
 
-ghost use Rattle.std.specs.Prelude.{◌≡◌, ◌≤◌, ◌<◌, ◌+◌, ◌*◌, ◌++◌, ◌∷◌, [], ℕ, All, Err, IfErr, IfOk, IfSome, IsErrOf, OnErr, OnOk, Some, None, false, true, get_or, length};
+ghost use Rattle.std.specs.Prelude.{◌≡◌, ◌≤◌, ◌<◌, [], ℕ, All, Err, IfErr, IfOk, IsErrOf, OnErr, Some, None, false, true, get_or, length};
 ghost use Rattle.outside.specs.Seen.{OnlyReads, seen};
 ghost use Rattle.doc_lists.specs.Docs.{Apart, docs_of};
-ghost use Rattle.segment_file.specs.declared.part.Part.TheVariants.{Forward};
-ghost use Rattle.segment_scan.specs.Bytes.{GrowsBy, column_bytes, most_bytes};
+ghost use Rattle.document_reading.specs.Bytes.{GrowsBy, column_bytes, most_bytes};
 ghost use Rattle.coded_scan.specs.Coded.{most_rows};
-ghost use Rattle.segment_scan.specs.Faults.{IsFaultOf};
-ghost use Rattle.segment_scan.specs.Forward.{HasIds, IsFaultAt, IsFaultIn, IsReadable};
-ghost use Rattle.segment_scan.specs.Picked.{AreIdsAt, IsPicked, LogsIf, LogsIfPartly, LogsPicked, LogsPickedPartly, LogsRuns, LogsRunsPartly};
+ghost use Rattle.document_reading.specs.Forward.{IsFaultAt, IsFaultIn, IsReadable};
+ghost use Rattle.document_reading.specs.Picked.{IsPicked, LogsIf, LogsIfPartly, LogsPicked, LogsPickedPartly};
 ghost use Rattle.segment_scan.specs.Series.{LogsPartOf, LogsTo};
-ghost use Rattle.segment_scan.specs.declared.fault.EngineFault.TheVariants.{NoMemory, NotASegment, ReadFault};
+ghost use Rattle.document_reading.specs.declared.fault.EngineFault.TheVariants.{ReadFault};
 
-use crate::EngineFault;
 use crate::columns::keep;
-use crate::reading::of_column;
-use bit_column::{append_range, width_for};
 use coded_scan::Ids;
 use doc_lists::Run;
+use document_reading::{EngineFault, pick_column};
 use outside::Shelf;
 use segment_file::Part;
 use segment_head::Head;
+use segment_file::Head;
 use std::alloc::Global;
 
 /// The ids of documents in the columns that are named, by the numbers of their fields: of the
@@ -107,57 +104,4 @@ fn pick_named<S: Shelf>(
         Ok(ids) => Ok(Some(ids)),
         Err(fault) => Err(fault),
     }
-}
-
-/// The ids of documents in a column: of its forward section the ids of the runs are read, one run
-/// after the other, and nothing else.
-pub fn pick_column<S: Shelf>(
-    alloc: Global,
-    shelf: &mut S,
-    head: &Head,
-    column: u16,
-    runs: &[Run],
-    count: usize,
-) -> Result<Ids, EngineFault>
-    requires readable { IsReadable head.now column }
-    requires few_rows { head.now.rows ≤ most_rows }
-    requires apart { Apart 0 runs.now }
-    requires within { All (λ run. run.last < head.now.rows) runs.now }
-    ensures ids { IfOk result (AreIdsAt (S.held shelf.old) head.now column (docs_of runs.now)) }
-    ensures bad { IsErrOf result (NotASegment (Forward column)) →
-        IfSome (S.held shelf.old) (λ files. ¬ HasIds files head.now column) }
-    ensures only { IfErr result (IsFaultOf column) }
-    ensures only_reads { OnlyReads (IsErrOf result ReadFault)
-        (seen S.Shelf shelf.old) (seen S.Shelf shelf.new) }
-    ensures log { IfOk result (λ _.
-        LogsRuns head.now runs.now column (S.log shelf.old) (S.log shelf.new)) }
-    ensures bytes { IfOk result (λ _. GrowsBy (4 * length (docs_of runs.now))
-        (S.log shelf.old) (S.log shelf.new)) }
-    ensures log_of_fault { OnErr result
-        (LogsRunsPartly head.now runs.now column (S.log shelf.old) (S.log shelf.new)) }
-{
-    let Some(place) = head.place(Part::Forward(column)) else {
-        unreachable!();
-    };
-    let values = head.dictionary(column).count();
-    let width = width_for(values);
-    let mut buffer = Vec::new(alloc);
-    let mut ids = Vec::with_capacity(alloc, count)?;
-    for run in runs {
-        match append_range(
-            alloc,
-            shelf,
-            place,
-            width,
-            values,
-            run.first,
-            run.last + 1,
-            &mut buffer,
-            &mut ids,
-        ) {
-            Ok(()) => {}
-            Err(fault) => return Err(of_column(fault, column)),
-        }
-    }
-    Ok(Ids::from_vec(ids))
 }

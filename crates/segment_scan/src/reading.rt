@@ -6,13 +6,13 @@ ghost use Rattle.outside.specs.Seen.{OnlyReads, seen};
 ghost use Rattle.bit_column.specs.Column.{ids_between, width_of};
 ghost use Rattle.bit_column.specs.Sections.{Readable, end_byte, first_byte, section};
 ghost use Rattle.segment_file.specs.declared.part.Part.TheVariants.{Forward};
-ghost use Rattle.segment_scan.specs.Faults.{IsFaultOf, fault_of};
-ghost use Rattle.segment_scan.specs.Forward.{AreIdsOf, HasIds, IsReadable, LogsForward, LogsPart};
-ghost use Rattle.segment_scan.specs.declared.fault.EngineFault.TheVariants.{NotASegment, ReadFault};
+ghost use Rattle.document_reading.specs.Faults.{IsFaultOf};
+ghost use Rattle.document_reading.specs.Forward.{AreIdsOf, HasIds, IsReadable, LogsForward, LogsPart};
+ghost use Rattle.document_reading.specs.declared.fault.EngineFault.TheVariants.{NotASegment, ReadFault};
 
-use crate::EngineFault;
-use bit_column::{ColumnFault, append_range, width_for};
+use bit_column::{append_range, width_for};
 use coded_scan::{IdRoom, Ids};
+use document_reading::{EngineFault, of_column};
 use outside::{Place, Shelf};
 use segment_file::Part;
 use segment_head::Head;
@@ -89,17 +89,6 @@ fn block_end(from: u32, rows: u32) -> u32
         return rows;
     }
     from + BLOCK
-}
-
-/// What the fault of a column is for a scan.
-pub fn of_column(fault: ColumnFault, column: u16) -> EngineFault
-    ensures { result ≡ fault_of fault column }
-{
-    match fault {
-        ColumnFault::ReadFault => EngineFault::ReadFault,
-        ColumnFault::BadId => EngineFault::NotASegment(Part::Forward(column)),
-        ColumnFault::NoMemory => EngineFault::NoMemory,
-    }
 }
 
 /// The ids of the rows in a column of a segment: its forward section is read, each byte once, and

@@ -9,13 +9,13 @@ ghost use Rattle.segment_head.specs.Heads.{IsLoaded};
 ghost use Rattle.segment_file.specs.declared.part.Part.{Part};
 ghost use Rattle.segment_file.specs.declared.part.Part.TheVariants.{Forward};
 ghost use Rattle.coded_scan.specs.Coded.{most_rows};
-ghost use Rattle.segment_scan.specs.Forward.{HasIds, IsReadable, LogsColumns, LogsSome};
+ghost use Rattle.document_reading.specs.Forward.{HasIds, IsReadable, LogsColumns, LogsSome};
 ghost use Rattle.segment_scan.specs.Scans.{AddsSegment, IsCodedOf, selected_read};
-ghost use Rattle.segment_scan.specs.declared.fault.EngineFault.TheVariants.{NotASegment, ReadFault, TooManyGroups};
+ghost use Rattle.document_reading.specs.declared.fault.EngineFault.TheVariants.{NotASegment, ReadFault, TooManyGroups};
 
-use crate::EngineFault;
 use crate::columns::read_columns;
 use coded_scan::{Coded, Ids, SegmentColumns, add_segment};
+use document_reading::EngineFault;
 use group_table::{GroupTable, TableFault};
 use outside::Shelf;
 use segment_head::Head;

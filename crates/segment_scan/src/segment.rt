@@ -9,14 +9,14 @@ ghost use Rattle.scan_engine.specs.Scanned.{HaveAtMost};
 ghost use Rattle.segment_head.specs.Heads.{IsHeadOf};
 ghost use Rattle.segment_file.specs.declared.part.Part.{Part};
 ghost use Rattle.segment_scan.specs.Images.{AddsImage, AreDocs, AreNamedLoaded, IsBadIn, IsImageOverfull, LogsScan, LogsScanPartly, choices_for};
-ghost use Rattle.segment_scan.specs.declared.fault.EngineFault.TheVariants.{NotASegment, ReadFault, TooManyGroups};
+ghost use Rattle.document_reading.specs.declared.fault.EngineFault.TheVariants.{NotASegment, ReadFault, TooManyGroups};
 
-use crate::EngineFault;
 use crate::candidates::documents;
 use crate::laws::{image_law, index_law};
 use crate::left::scan_left;
 use crate::whole::scan_whole;
 use doc_lists::DocList;
+use document_reading::EngineFault;
 use group_table::GroupTable;
 use outside::Shelf;
 use segment_head::Head;

@@ -1,7 +1,7 @@
 //! Of which conjuncts the documents are sure.
 
 ghost use Rattle.std.specs.Prelude.{◌≡◌, IfOk};
-ghost use Rattle.segment_scan.specs.Served as spec;
+ghost use Rattle.document_reading.specs.Served as spec;
 
 use segment_plan::IndexChoice;
 use std::alloc::Global;

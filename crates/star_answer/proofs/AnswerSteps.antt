@@ -12,8 +12,8 @@ use Rattle.star_walk.specs.Joins.{joined}
 use Rattle.star_walk.specs.Walking.{tree_picks}
 use Rattle.star_walk.proofs.JoinSteps.{joined_within}
 use Rattle.index_reading.proofs.PostingSteps.{over_partly}
-use Rattle.star_answer.specs.Answers.{IsTree, LogsPicks, LogsSome, stretches_of}
-use Rattle.star_answer.proofs.ReadSteps.{nothing_read}
+use Rattle.star_taking.specs.Answers.{IsTree, LogsPicks, LogsSome, stretches_of}
+use Rattle.star_taking.proofs.ReadSteps.{nothing_read}
 use Rattle.outside.specs.Reads.{Entry}
 use Rattle.agg_laws.specs.Docs.{Doc, Docs}
 use Rattle.agg_laws.specs.Merged.{weights}
@@ -24,17 +24,17 @@ use Rattle.star_walk.specs.declared.pick.Pick.{Pick}
 use Rattle.star_walk.specs.declared.task.Task.{Task}
 use Rattle.star_walk.specs.Images.{AreWithin, read_of}
 use Rattle.group_table.specs.Kept.{KeptGroups, groups_in}
-use Rattle.star_answer.specs.declared.asked.Asked.{Asked}
-use Rattle.star_answer.specs.declared.asked.GroupColumn.{GroupColumn}
-use Rattle.star_answer.specs.declared.tree_part.TreePart.{TreePart}
-use Rattle.star_answer.specs.Answers.{Answers, AreRead, IsBad, IsOverfull}
-use Rattle.star_answer.specs.Answers.{asked_of, passed, picks_of, reads_of, taken_of}
-use Rattle.star_answer.specs.Asked.{AreSound, HasKey, entries_of, key_of, value_of}
-use Rattle.star_answer.specs.Entries.{MergesEntries, with_entries}
-use Rattle.star_answer.specs.Taken.{AreKeyIds, ArePicked, MayBeTaken, key_ids, key_values, keyed}
-use Rattle.star_answer.specs.Taken.{taken_doc, taken_docs}
+use Rattle.star_taking.specs.declared.asked.Asked.{Asked}
+use Rattle.star_taking.specs.declared.asked.GroupColumn.{GroupColumn}
+use Rattle.star_taking.specs.declared.tree_part.TreePart.{TreePart}
+use Rattle.star_taking.specs.Answers.{Answers, AreRead, IsBad, IsOverfull}
+use Rattle.star_taking.specs.Answers.{asked_of, passed, picks_of, reads_of, taken_of}
+use Rattle.star_taking.specs.Asked.{AreSound, HasKey, entries_of, key_of, value_of}
+use Rattle.star_taking.specs.Entries.{MergesEntries, with_entries}
+use Rattle.star_taking.specs.Taken.{AreKeyIds, ArePicked, MayBeTaken, key_ids, key_values, keyed}
+use Rattle.star_taking.specs.Taken.{taken_doc, taken_docs}
 use Rattle.star_answer.proofs.EntryLemmas.{merges_so}
-use Rattle.star_answer.proofs.TakeSteps.{keyed_back, keyed_from}
+use Rattle.star_taking.proofs.TakeSteps.{keyed_back, keyed_from}
 
 -- ---- what documents that are taken give to groups
 

@@ -12,7 +12,7 @@ use Rattle.table_schema.specs.declared.query.Agg.{Agg}
 use Rattle.dictionary.specs.Dictionary.{Distinct}
 use Rattle.segment_head.specs.Heads.{Seen}
 use Rattle.segment_plan.specs.Matched.{values_in, values_of}
-use Rattle.star_answer.specs.declared.asked.GroupColumn.{GroupColumn}
+use Rattle.star_taking.specs.declared.asked.GroupColumn.{GroupColumn}
 use Rattle.star_answer.specs.Served.{field_of, pair_of}
 use Rattle.star_answer.specs.Tasks.{AreColumnsOf, ArePairsOf, split_values}
 

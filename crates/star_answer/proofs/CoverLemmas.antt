@@ -17,7 +17,7 @@ use Rattle.agg_laws.specs.Tree.{agrees, dims_order, rows_at, starred}
 use Rattle.agg_laws.proofs.WeightLemmas.{weights-Merged, weights-append, weights-filter}
 use Rattle.star_walk.specs.declared.pick.Pick.{Pick}
 use Rattle.star_walk.specs.Images.{bare, passing, shown}
-use Rattle.star_answer.specs.Asked.{states_of}
+use Rattle.star_taking.specs.Asked.{states_of}
 
 abbrev States : Type 0
 States = List AggState

@@ -43,11 +43,11 @@ use Rattle.segment_plan.specs.Matched.{AreLoaded}
 use Rattle.star_walk.specs.declared.task.Task.{Task}
 use Rattle.star_walk.specs.Images.{read_of}
 use Rattle.star_walk.specs.Walking.{HasEach, tree_picks}
-use Rattle.star_answer.specs.declared.asked.Asked.{Asked}
-use Rattle.star_answer.specs.declared.asked.GroupColumn.{GroupColumn}
-use Rattle.star_answer.specs.declared.tree_part.TreePart.{TreePart}
-use Rattle.star_answer.specs.Answers.{IsTree, asked_of, picks_of}
-use Rattle.star_answer.specs.Asked.{AreAsked, IsTableFor, kinds_for}
+use Rattle.star_taking.specs.declared.asked.Asked.{Asked}
+use Rattle.star_taking.specs.declared.asked.GroupColumn.{GroupColumn}
+use Rattle.star_taking.specs.declared.tree_part.TreePart.{TreePart}
+use Rattle.star_taking.specs.Answers.{IsTree, asked_of, picks_of}
+use Rattle.star_taking.specs.Asked.{AreAsked, IsTableFor, kinds_for}
 use Rattle.star_answer.specs.Docs.{WalkReadsDocs, docs_in, docs_read}
 use Rattle.star_answer.specs.OfRows.{entries_of, row_values}
 use Rattle.star_answer.specs.Served.{AsksFor, IsServed, IsTreeOf, field_of, flat_of, pair_of}

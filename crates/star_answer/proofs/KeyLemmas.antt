@@ -17,8 +17,8 @@ use Rattle.agg_laws.proofs.DocLemmas.{rows_join}
 use Rattle.agg_laws.proofs.MergedLemmas.{total-Merged, total-rekey, total_agree}
 use Rattle.agg_laws.proofs.TreeLemmas.{same_dims}
 use Rattle.table_schema.specs.Columns.{is_member}
-use Rattle.star_answer.specs.declared.asked.GroupColumn.{GroupColumn}
-use Rattle.star_answer.specs.Asked.{key_of, value_of}
+use Rattle.star_taking.specs.declared.asked.GroupColumn.{GroupColumn}
+use Rattle.star_taking.specs.Asked.{key_of, value_of}
 
 -- a combination that has a key: its ids in the dimensions that are grouped, and elsewhere the star
 abbrev first_id : List ℕ → ℕ

@@ -27,10 +27,10 @@ use Rattle.star_file.specs.Reading.{HasDocuments}
 use Rattle.star_walk.specs.declared.pick.Pick.{Pick}
 use Rattle.star_walk.specs.Images.{AreWithin}
 use Rattle.table_schema.specs.declared.query.Agg.{Agg}
-use Rattle.star_answer.specs.declared.asked.Asked.{Asked}
-use Rattle.star_answer.specs.declared.asked.GroupColumn.{GroupColumn}
-use Rattle.star_answer.specs.Answers.{AreRead}
-use Rattle.star_answer.specs.Asked.{HasKey, entries_of}
+use Rattle.star_taking.specs.declared.asked.Asked.{Asked}
+use Rattle.star_taking.specs.declared.asked.GroupColumn.{GroupColumn}
+use Rattle.star_taking.specs.Answers.{AreRead}
+use Rattle.star_taking.specs.Asked.{HasKey, entries_of}
 use Rattle.star_answer.specs.Served.{AreProjected, IsProjected}
 use Rattle.star_answer.proofs.CoverLemmas.{AreLight, picked_weight}
 use Rattle.star_answer.proofs.KeyLemmas.{AreGrouped, ids_total, spread, spread_dim}

@@ -1,8 +1,3 @@
-pub mod WeightSteps
-pub mod TakeSteps
-pub mod PassSteps
-pub mod FaultSteps
-pub mod ReadSteps
 pub mod EntryLemmas
 pub mod MergeSteps
 pub mod AnswerSteps

@@ -34,9 +34,9 @@ use Rattle.group_table.specs.Groups.{Group, Groups, key_order}
 use Rattle.group_table.specs.Kept.{HaveValues, IsNewKey, KeptGroups, Merges, groups_in}
 use Rattle.scan_engine.specs.Scanned.{HaveAtMost}
 use Rattle.scan_engine.proofs.AddLemmas.{at_most_more}
-use Rattle.star_answer.specs.declared.asked.GroupColumn.{GroupColumn}
-use Rattle.star_answer.specs.Entries.{MergesEntries, with_entries}
-use Rattle.star_answer.specs.Taken.{AreKeyIds, key_values, keyed}
+use Rattle.star_taking.specs.declared.asked.GroupColumn.{GroupColumn}
+use Rattle.star_taking.specs.Entries.{MergesEntries, with_entries}
+use Rattle.star_taking.specs.Taken.{AreKeyIds, key_values, keyed}
 use Rattle.star_answer.proofs.EntryLemmas.{merges_next, merges_none, merges_so, no_room, same_entries}
 use Rattle.star_answer.proofs.EntryLemmas.{states_at}
 

@@ -16,8 +16,8 @@ use Rattle.agg_laws.specs.States.{merged}
 use Rattle.agg_laws.proofs.Places.{length-kinds_of}
 use Rattle.agg_laws.proofs.RegionSteps.{kinds_merged}
 use Rattle.group_table.specs.Groups.{key_order}
-use Rattle.star_answer.specs.declared.asked.Asked.{Asked}
-use Rattle.star_answer.specs.Asked.{entries_of, key_of, states_of}
+use Rattle.star_taking.specs.declared.asked.Asked.{Asked}
+use Rattle.star_taking.specs.Asked.{entries_of, key_of, states_of}
 use Rattle.star_answer.proofs.EntryLemmas.{states_at}
 
 merged_at : (vs ws : List AggState) (i : ℕ) → length vs ≡ length ws → i < length vs

@@ -40,7 +40,7 @@ use Rattle.segment_file.proofs.ImageRows.{and_first, and_second, members_all, no
 use Rattle.segment_plan.specs.Laws.{TellsOf}
 use Rattle.segment_plan.specs.Matched as head_values
 use Rattle.segment_plan.specs.Matched.{passes, values_of}
-use Rattle.star_answer.specs.declared.asked.GroupColumn.{GroupColumn}
+use Rattle.star_taking.specs.declared.asked.GroupColumn.{GroupColumn}
 use Rattle.star_answer.specs.Served.{AreProjected, IsProjected, field_of}
 use Rattle.star_answer.specs.OfRows.{AsksOfRows, ColumnsOfRows, NodesOfRows}
 use Rattle.star_answer.specs.OfRows.{RowsAreProjected, row_values}

@@ -37,12 +37,12 @@ use Rattle.star_walk.specs.Images.{AreWithin, read_of}
 use Rattle.star_walk.specs.Joins.{joined}
 use Rattle.star_walk.specs.Walking.{HasEach}
 use Rattle.star_walk.proofs.JoinSteps.{joined_same, read_numbers}
-use Rattle.star_answer.specs.declared.asked.Asked.{Asked}
-use Rattle.star_answer.specs.declared.asked.GroupColumn.{GroupColumn}
-use Rattle.star_answer.specs.declared.tree_part.TreePart.{TreePart}
-use Rattle.star_answer.specs.Answers.{Answers, IsBad, IsOverfull, IsTree, asked_of, picks_of}
-use Rattle.star_answer.specs.Answers.{LogsPicks, LogsSome, reads_of, stretch_of, stretches_of}
-use Rattle.star_answer.specs.Asked.{AreAsked, IsTableFor}
+use Rattle.star_taking.specs.declared.asked.Asked.{Asked}
+use Rattle.star_taking.specs.declared.asked.GroupColumn.{GroupColumn}
+use Rattle.star_taking.specs.declared.tree_part.TreePart.{TreePart}
+use Rattle.star_taking.specs.Answers.{Answers, IsBad, IsOverfull, IsTree, asked_of, picks_of}
+use Rattle.star_taking.specs.Answers.{LogsPicks, LogsSome, reads_of, stretch_of, stretches_of}
+use Rattle.star_taking.specs.Asked.{AreAsked, IsTableFor}
 use Rattle.star_answer.specs.Docs.{WalkReadsDocs, docs_read}
 use Rattle.star_answer.specs.Segments.{AddsAnswer, AreDocsRead, IsAnswerOverfull, IsInside}
 use Rattle.star_answer.specs.Segments.{LogsAnswer, LogsAnswerPartly, LogsDocs, stretches_in}

@@ -49,18 +49,18 @@ use Rattle.group_table.specs.Shape.{shape_of}
 use Rattle.group_table.proofs.KeptLemmas.{key_same, key_total}
 use Rattle.scan_engine.specs.Scanned.{AddsRows, selected}
 use Rattle.scan_engine.specs.Scanned as scan
-use Rattle.star_answer.specs.declared.asked.Asked.{Asked}
-use Rattle.star_answer.specs.declared.asked.GroupColumn.{GroupColumn}
-use Rattle.star_answer.specs.declared.tree_part.TreePart.{TreePart}
-use Rattle.star_answer.specs.Answers.{Answers, AreRead, IsOverfull, IsTree, asked_of, left_of, passed}
-use Rattle.star_answer.specs.Answers.{picks_of, reads_of, taken_of}
-use Rattle.star_answer.specs.Asked.{AreAsked, entries_of, key_of, states_of, value_of}
-use Rattle.star_answer.specs.Entries.{with_entries}
+use Rattle.star_taking.specs.declared.asked.Asked.{Asked}
+use Rattle.star_taking.specs.declared.asked.GroupColumn.{GroupColumn}
+use Rattle.star_taking.specs.declared.tree_part.TreePart.{TreePart}
+use Rattle.star_taking.specs.Answers.{Answers, AreRead, IsOverfull, IsTree, asked_of, left_of, passed}
+use Rattle.star_taking.specs.Answers.{picks_of, reads_of, taken_of}
+use Rattle.star_taking.specs.Asked.{AreAsked, entries_of, key_of, states_of, value_of}
+use Rattle.star_taking.specs.Entries.{with_entries}
 use Rattle.star_answer.specs.Served.{AreProjected, IsProjected, IsServed, field_of}
 use Rattle.star_answer.specs.Served.{flat_of}
 use Rattle.star_answer.proofs.EntryLemmas.{entries_at, states_at}
-use Rattle.star_answer.specs.Answers.{IsBad}
-use Rattle.star_answer.specs.Asked.{AreSound}
+use Rattle.star_taking.specs.Answers.{IsBad}
+use Rattle.star_taking.specs.Asked.{AreSound}
 use Rattle.star_answer.proofs.CoverLemmas.{all_below, passing_below, read_ones}
 use Rattle.star_answer.proofs.KeyedSteps.{entries_weight, picks_read, rows_light, rows_many, rows_ones}
 use Rattle.star_answer.proofs.KeyedSteps.{taken_keyed}

@@ -1,7 +1,3 @@
-pub mod Entries
-pub mod Asked
-pub mod Answers
-pub mod Taken
 pub mod Served
 pub mod Tasks
 pub mod OfRows

@@ -17,7 +17,7 @@ use Rattle.segment_file.specs.Ordered.{ordered}
 use Rattle.segment_file.specs.Trees.{tree_row}
 use Rattle.segment_plan.specs.Laws.{TellsOf}
 use Rattle.segment_plan.specs.Matched.{AreLoaded}
-use Rattle.star_answer.specs.declared.asked.GroupColumn.{GroupColumn}
+use Rattle.star_taking.specs.declared.asked.GroupColumn.{GroupColumn}
 use Rattle.star_answer.specs.Served.{AreProjected, AsksFor, field_of, flat_of}
 use Rattle.star_answer.specs.Tasks.{AreColumnsOf, AreGroupsLoaded, split_values}
 

@@ -20,7 +20,7 @@ use Rattle.star_walk.specs.declared.pick.Pick.{Pick}
 use Rattle.star_walk.specs.Images.{read_of}
 use Rattle.group_table.specs.Kept.{IsTableOf, KeptGroups, groups_in}
 use Rattle.scan_engine.specs.Scanned.{AddsRows, HaveAtMost, IsOverfull, selected}
-use Rattle.star_answer.specs.Answers.{stretch_of}
+use Rattle.star_taking.specs.Answers.{stretch_of}
 use Rattle.star_answer.specs.Docs.{docs_read}
 
 -- the rows of an image that satisfy the filter, in their order

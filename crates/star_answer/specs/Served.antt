@@ -23,8 +23,8 @@ use Rattle.group_table.specs.Groups.{number_for}
 use Rattle.star_file.specs.Reading.{section, HasDocuments}
 use Rattle.eligibility.specs.Rule.{IsFiltered}
 use Rattle.segment_plan.specs.Matched.{is_filtered, passes}
-use Rattle.star_answer.specs.declared.asked.Asked.{Asked}
-use Rattle.star_answer.specs.declared.tree_part.TreePart.{TreePart}
+use Rattle.star_taking.specs.declared.asked.Asked.{Asked}
+use Rattle.star_taking.specs.declared.tree_part.TreePart.{TreePart}
 
 -- the field of a split dimension, and the pair of an aggregate
 abbrev pub field_of : List ℕ → ℕ → ℕ

@@ -10,7 +10,7 @@ use Rattle.table_schema.specs.Columns.{is_member}
 use Rattle.segment_head.specs.Heads.{IsLoaded, Seen}
 use Rattle.segment_plan.specs.Matched.{is_filtered, is_on, passes, values_in}
 use Rattle.star_walk.specs.Walking.{is_among, some_ids}
-use Rattle.star_answer.specs.declared.asked.GroupColumn.{GroupColumn}
+use Rattle.star_taking.specs.declared.asked.GroupColumn.{GroupColumn}
 use Rattle.star_answer.specs.Served.{field_of, pair_of}
 
 -- the values of a split dimension, which a head has where they were loaded

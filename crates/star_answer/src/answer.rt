@@ -1,6 +1,6 @@
 //! The answer of a segment from a star-tree.
 
-ghost use Rattle.std.specs.Prelude.{◌≡◌, ◌-◌, ◌<◌, ◌≤◌, Err, IfOk, IfSome, IsErrOf, MatchOption};
+ghost use Rattle.std.specs.Prelude.{◌≡◌, ◌-◌, ◌<◌, ◌≤◌, Err, IfOk, IsErrOf, MatchOption};
 ghost use Rattle.std.specs.Prelude.{OnErr, OnOk};
 ghost use Rattle.std.specs.FinMap as finite;
 ghost use Rattle.outside.specs.Seen.{OnlyReads, seen};
@@ -8,19 +8,16 @@ ghost use Rattle.agg_laws.specs.Numbers.{most_stored, most_values};
 ghost use Rattle.group_table.specs.Kept.{groups_in};
 ghost use Rattle.scan_engine.specs.Scanned.{HaveAtMost};
 ghost use Rattle.star_walk.specs.Images.{read_of};
-ghost use Rattle.star_answer.specs.declared.fault.AnswerFault.TheVariants.{BadDocs, ReadFault};
-ghost use Rattle.star_answer.specs.declared.fault.AnswerFault.TheVariants.{TooManyGroups};
-ghost use Rattle.star_answer.specs.Asked.{AreAsked, IsTableFor};
-ghost use Rattle.star_answer.specs.Answers.{Answers, IsBad, IsOverfull, IsTree, LogsPicks};
-ghost use Rattle.star_answer.specs.Answers.{LogsSome, picks_of, reads_of};
+ghost use Rattle.star_taking.specs.declared.fault.AnswerFault.TheVariants.{BadDocs, ReadFault};
+ghost use Rattle.star_taking.specs.declared.fault.AnswerFault.TheVariants.{TooManyGroups};
+ghost use Rattle.star_taking.specs.Asked.{AreAsked, IsTableFor};
+ghost use Rattle.star_taking.specs.Answers.{Answers, IsBad, IsOverfull, IsTree, LogsPicks};
+ghost use Rattle.star_taking.specs.Answers.{LogsSome, picks_of, reads_of};
 
-use crate::asked::Asked;
-use crate::fault::AnswerFault;
 use crate::merging::merge_documents;
-use crate::picked::take_picks;
-use crate::tree_part::TreePart;
 use group_table::{GroupTable, TableFault};
 use outside::Shelf;
+use star_taking::{AnswerFault, Asked, TreePart, take_picks};
 use star_walk::{Pick, Task, joined, joined_law, walk, walkable_law};
 use std::alloc::Global;
 

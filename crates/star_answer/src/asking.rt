@@ -11,6 +11,8 @@ ghost use Rattle.star_answer.specs.Tasks.{split_values};
 use crate::NoMemory;
 use crate::asked::GroupColumn;
 use segment_head::Head;
+use segment_file::Head;
+use star_taking::GroupColumn;
 use std::alloc::Global;
 use table_schema::{Agg, BoundQuery, TreeSetting};
 

@@ -4,32 +4,22 @@
 #![tactic(auto)]
 
 mod answer;
-mod asked;
 mod asking;
 mod doc_laws;
-mod fault;
 mod laws;
 mod meeting;
 mod merging;
-mod picked;
 mod segment;
 mod segment_fault;
-mod taking;
 mod tasks;
-mod tree_part;
-mod weighing;
 
 pub use answer::answer_tree;
-pub use asked::{Asked, GroupColumn};
 pub use asking::{group_columns, pair_numbers};
 pub use doc_laws::{docs_bound_law, docs_few_law, docs_read_law};
-pub use fault::AnswerFault;
 pub use laws::{covered_law, rows_law, served_law};
 pub use segment::answer_segment;
 pub use segment_fault::SegmentFault;
 pub use tasks::tree_task;
-pub use tree_part::TreePart;
-pub use weighing::weight_of;
 
 /// A growth was refused.
 pub type NoMemory = std::alloc::AllocError;

@@ -10,14 +10,14 @@ ghost use Rattle.agg_laws.specs.Merged.{weights};
 ghost use Rattle.group_table.specs.declared.fault.TableFault.TheVariants.{TooManyGroups};
 ghost use Rattle.group_table.specs.Kept.{groups_in};
 ghost use Rattle.scan_engine.specs.Scanned.{HaveAtMost};
-ghost use Rattle.star_answer.specs.Entries.{MergesEntries, with_entries};
-ghost use Rattle.star_answer.specs.Taken.{AreKeyIds, key_values, keyed};
+ghost use Rattle.star_taking.specs.Entries.{MergesEntries, with_entries};
+ghost use Rattle.star_taking.specs.Taken.{AreKeyIds, keyed};
 
-use crate::asked::GroupColumn;
 use agg_laws::{StarTable, StateRow};
 use group_table::{GroupTable, TableFault};
+use star_taking::{GroupColumn, key_at};
 use std::alloc::Global;
-use values::{NoMemory, Row, Seq};
+use values::NoMemory;
 
 /// Merges documents that were taken into the groups of their keys.
 pub fn merge_documents(
@@ -88,27 +88,6 @@ fn merge_last(
         }
     }
     Ok(())
-}
-
-// The key of a document.
-fn key_at(
-    alloc: Global,
-    columns: &[GroupColumn<'_>],
-    taken: &StarTable,
-    at: u32,
-) -> Result<Row, NoMemory>
-    requires at { at < length taken.now.docs }
-    requires few { length columns.now ≤ 16 }
-    requires dims { taken.now.dims ≡ length columns.now }
-    requires ids { AreKeyIds columns.now (doc_at taken.now.docs at).0 }
-    ensures { IfOk result (λ key. key ≡ key_values columns.now (doc_at taken.now.docs at).0) }
-{
-    let mut key = Seq::with_capacity(alloc, columns.len())?;
-    for i in 0..columns.len() {
-        let id = taken.dim(at, i as u8);
-        key.push(columns[i].values.value_at(id).copy(alloc)?)?;
-    }
-    Ok(key)
 }
 
 // The states of a document.

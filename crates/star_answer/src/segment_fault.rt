@@ -4,11 +4,11 @@ ghost use Rattle.std.specs.Prelude.{◌≡◌};
 ghost use Rattle.segment_file.specs.declared.fault.HeadFault.TheVariants as heads;
 ghost use Rattle.segment_file.specs.declared.part.Part.{Part};
 ghost use Rattle.segment_file.specs.declared.part.Part.TheVariants as parts;
-ghost use Rattle.star_answer.specs.declared.fault.AnswerFault.TheVariants as trees;
+ghost use Rattle.star_taking.specs.declared.fault.AnswerFault.TheVariants as trees;
 ghost use Rattle.star_answer.specs.declared.segment_fault.SegmentFault.TheVariants as segments;
 
-use crate::fault::AnswerFault;
 use segment_file::{HeadFault, Part};
+use star_taking::AnswerFault;
 use std::alloc::AllocError;
 
 /// Why a segment is not answered from a star-tree of its file.

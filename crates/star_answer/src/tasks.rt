@@ -3,7 +3,7 @@
 ghost use Rattle.std.specs.Prelude.{◌≡◌, true, IfOk, length};
 ghost use Rattle.eligibility.specs.Rule.{is_eligible};
 ghost use Rattle.segment_plan.specs.Matched.{AreLoaded};
-ghost use Rattle.star_answer.specs.Answers.{asked_of};
+ghost use Rattle.star_taking.specs.Answers.{asked_of};
 ghost use Rattle.star_answer.specs.Served.{AsksFor};
 ghost use Rattle.star_walk.specs.Walking.{HasEach};
 ghost use Rattle.star_answer.specs.Tasks.{AreGrouped, AreTested, split_values};

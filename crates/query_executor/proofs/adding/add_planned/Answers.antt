@@ -23,7 +23,7 @@ use Rattle.segment_plan.specs.declared.plans.SegmentPlan.TheVariants.{Empty, Pru
 use Rattle.query_executor.proofs.DoneLemmas.{done_so, none_done, scan_looked, tree_looked}
 use Rattle.query_executor.proofs.EndLemmas.{fault_if, fault_not, fault_ok, gives_fault, memory_not_bad, memory_not_full, memory_not_read, no_fault, own_fault, reads_answered, reads_done, reads_failed, reads_unread}
 use Rattle.query_executor.proofs.LogLemmas.{logs_none, reads_as}
-use Rattle.segment_scan.specs.declared.fault.EngineFault.TheVariants as engine
+use Rattle.document_reading.specs.declared.fault.EngineFault.TheVariants as engine
 use Rattle.query_executor.proofs.PlanLemmas.{is_empty_so, is_pruned_so, picked_within, planned_as, scan_planned, scan_unpicked, tree_planned}
 use Rattle.star_answer.specs.declared.segment_fault.SegmentFault.TheVariants as answer
 use Rattle.query_executor.proofs.FaultLemmas.{bad_answer, full_answer}

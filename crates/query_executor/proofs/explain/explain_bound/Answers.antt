@@ -1,7 +1,7 @@
 use Rattle.std.proofs.Common.{◌≡◌, ◌∙◌, ◌<◌, [], ℕ, List, IfSome, Err, length, get_or, sym, ap, subst, arith}
 use Rattle.std.specs.List.{Contains}
 use Rattle.outside.specs.Seen.{Seen, seen}
-use Rattle.segment_scan.specs.declared.fault.EngineFault.TheVariants as engine
+use Rattle.document_reading.specs.declared.fault.EngineFault.TheVariants as engine
 use Rattle.query_executor.specs.Explained.{plan_line}
 use Rattle.query_executor.specs.Logs.{IsHeadRead}
 use Rattle.query_executor.specs.Segments.{HasNoImage}

@@ -1,5 +1,5 @@
 use Rattle.std.proofs.Common.{◌≡◌, ◌∙◌, sym}
-use Rattle.segment_scan.specs.declared.fault.EngineFault.TheVariants as engine
+use Rattle.document_reading.specs.declared.fault.EngineFault.TheVariants as engine
 use Rattle.query_executor.proofs.FaultLemmas.{bad_head}
 use Rattle.query_executor.proofs.HeadLemmas.{dictionary_log, grows_one, unread_none}
 use Rattle.query_executor.proofs.loading.load_if.Goals as goal

@@ -2,7 +2,7 @@ use Rattle.std.proofs.Common.{◌≡◌, ◌∙◌, Err, sym, ap, subst}
 use Rattle.outside.specs.Seen.{seen}
 use Rattle.segment_head.specs.Heads.{AreIn}
 use Rattle.segment_file.specs.declared.fault.HeadFault.TheVariants as head
-use Rattle.segment_scan.specs.declared.fault.EngineFault.TheVariants as engine
+use Rattle.document_reading.specs.declared.fault.EngineFault.TheVariants as engine
 use Rattle.query_executor.specs.Steps.{fault_of}
 use Rattle.query_executor.proofs.FaultLemmas.{bad_head, never_full, read_head}
 use Rattle.query_executor.proofs.HeadLemmas.{broken_none, opened_image, opened_spread}

@@ -2,7 +2,7 @@ use Rattle.std.proofs.Common.{◌≡◌, ◌∙◌, ◌+◌, ◌*◌, ◌-◌, �
 use Rattle.outside.specs.Seen.{Seen, seen}
 use Rattle.agg_laws.specs.Numbers.{most_values}
 use Rattle.segment_file.specs.Names.{file_of}
-use Rattle.segment_scan.specs.declared.fault.EngineFault.TheVariants as engine
+use Rattle.document_reading.specs.declared.fault.EngineFault.TheVariants as engine
 use Rattle.group_table.specs.Groups.{Groups}
 use Rattle.group_table.specs.Kept.{groups_in}
 use Rattle.group_table.specs.Shape.{shape_of}

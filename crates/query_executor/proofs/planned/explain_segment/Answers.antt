@@ -1,6 +1,6 @@
 use Rattle.std.proofs.Common.{Err, ap}
 use Rattle.outside.specs.Seen.{Seen, seen}
-use Rattle.segment_scan.specs.declared.fault.EngineFault.TheVariants as engine
+use Rattle.document_reading.specs.declared.fault.EngineFault.TheVariants as engine
 use Rattle.query_executor.proofs.EndLemmas.{fault_not, fault_ok, gives_fault, memory_not_bad, memory_not_full, memory_not_read, no_fault, own_fault, reads_done, reads_failed, reads_lacking, reads_still}
 use Rattle.query_executor.proofs.LineLemmas.{line_added}
 use Rattle.query_executor.proofs.planned.explain_segment.Goals as goal

@@ -1,7 +1,7 @@
 use Rattle.std.proofs.Common.{◌∙◌, Err, IfSome, inl, inr, sym, ap, subst}
 use Rattle.outside.specs.Seen.{Seen, seen}
 use Rattle.eligibility.specs.Rule.{picked}
-use Rattle.segment_scan.specs.declared.fault.EngineFault.TheVariants as engine
+use Rattle.document_reading.specs.declared.fault.EngineFault.TheVariants as engine
 use Rattle.query_executor.specs.Logs.{IsHeadRead}
 use Rattle.query_executor.specs.Segments.{HasNoImage}
 use Rattle.query_executor.specs.Steps.{IsHeadIn}

@@ -4,7 +4,7 @@ use Rattle.eligibility.specs.Rule.{picked}
 use Rattle.std.specs.Prelude.{OnOk}
 use Rattle.segment_head.specs.Heads.{AreIn}
 use Rattle.segment_file.specs.Names.{file_of}
-use Rattle.segment_scan.specs.declared.fault.EngineFault.TheVariants as engine
+use Rattle.document_reading.specs.declared.fault.EngineFault.TheVariants as engine
 use Rattle.query_executor.specs.Segments.{HasNoImage}
 use Rattle.query_executor.specs.Steps.{AddsStored, IsDoneIn, IsHeadIn, IsSpreadIn, IsStoredOverfull}
 use Rattle.segment_plan.specs.declared.plans.SegmentPlan.TheVariants.{Pruned}

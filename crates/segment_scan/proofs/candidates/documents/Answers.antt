@@ -5,13 +5,13 @@ use Rattle.outside.proofs.SeenLemmas.{reads_none}
 use Rattle.table_schema.specs.declared.query.Conjunct.{Conjunct}
 use Rattle.segment_head.specs.Heads.{Seen}
 use Rattle.segment_plan.specs.declared.plans.IndexChoice.{IndexChoice}
-use Rattle.segment_scan.specs.Indexes.{AddsUnsure, IsBadIndex, IsReady, Leaves, LeavesBy, LogsAt, LogsAtPartly, LogsIndexed, LogsIndexedPartly}
+use Rattle.document_reading.specs.Indexes.{AddsUnsure, IsBadIndex, IsReady, Leaves, LeavesBy, LogsAt, LogsAtPartly, LogsIndexed, LogsIndexedPartly}
 use Rattle.segment_scan.specs.Series.{LogsTo}
 use Rattle.coded_scan.specs.Served.{choice_at}
-use Rattle.segment_scan.specs.Served.{indexed}
-use Rattle.segment_scan.specs.declared.fault.EngineFault.{EngineFault}
-use Rattle.segment_scan.specs.declared.fault.EngineFault.TheVariants.{ReadFault}
-use Rattle.segment_scan.proofs.FaultLemmas.{reads_next}
+use Rattle.document_reading.specs.Served.{indexed}
+use Rattle.document_reading.specs.declared.fault.EngineFault.{EngineFault}
+use Rattle.document_reading.specs.declared.fault.EngineFault.TheVariants.{ReadFault}
+use Rattle.document_reading.proofs.FaultLemmas.{reads_next}
 use Rattle.segment_scan.proofs.LeftLemmas.{item_at, left_next, logs_at, logs_at_partly, none_indexed}
 use Rattle.segment_scan.proofs.PartLemmas.{unsure_next, unsure_none}
 use Rattle.segment_scan.proofs.SeriesLemmas.{series_more, series_part}

@@ -1,8 +1,8 @@
 use Rattle.std.proofs.Common.{take}
 use Rattle.outside.specs.Seen.{OnlyReads, seen}
-use Rattle.segment_scan.specs.Indexes.{HasUnsure, Leaves, LogsAt}
+use Rattle.document_reading.specs.Indexes.{HasUnsure, Leaves, LogsAt}
 use Rattle.segment_scan.specs.Series.{LogsTo}
-use Rattle.segment_scan.specs.Served.{indexed}
+use Rattle.document_reading.specs.Served.{indexed}
 use Rattle.segment_scan.proofs.candidates.documents.Given as goal
 
 abbrev pub invariant-loop-at : goal.invariant-loop-at

@@ -1,5 +1,5 @@
 use Rattle.std.proofs.Common.{arith}
-use Rattle.segment_scan.proofs.LeftLemmas.{matching_below}
+use Rattle.document_reading.proofs.MatchLemmas.{matching_below}
 use Rattle.segment_scan.proofs.candidates.indexed.Goals as goal
 
 pub docs_of_ids-requires-clause-below : goal.docs_of_ids-requires-clause-below

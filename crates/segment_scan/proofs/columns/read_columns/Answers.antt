@@ -1,5 +1,6 @@
-use Rattle.segment_scan.specs.Forward.{LogsSome}
-use Rattle.segment_scan.proofs.LogLemmas.{err_is, logs_more, logs_none, logs_part}
+use Rattle.document_reading.specs.Forward.{LogsSome}
+use Rattle.document_reading.proofs.FaultLemmas.{err_is}
+use Rattle.segment_scan.proofs.LogLemmas.{logs_more, logs_none, logs_part}
 use Rattle.segment_scan.proofs.columns.read_columns.Goals as goal
 
 pub returns-in_err-all-clause-log_of_fault : goal.returns-in_err-all-clause-log_of_fault

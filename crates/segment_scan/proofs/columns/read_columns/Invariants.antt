@@ -1,6 +1,6 @@
 use Rattle.std.proofs.Common.{◌≡◌, ◌<◌, ℕ, None, false, get_or, length}
 use Rattle.outside.specs.Seen.{OnlyReads, seen}
-use Rattle.segment_scan.specs.Forward.{IsRead, LogsColumns}
+use Rattle.document_reading.specs.Forward.{IsRead, LogsColumns}
 use Rattle.segment_scan.proofs.columns.read_columns.Given as goal
 
 abbrev pub invariant-loop-column : goal.invariant-loop-column

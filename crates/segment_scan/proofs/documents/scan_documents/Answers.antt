@@ -12,10 +12,10 @@ use Rattle.coded_scan.specs.declared.coded.Coded.{Coded}
 use Rattle.coded_scan.specs.declared.coded.SegmentColumns.{SegmentColumns}
 use Rattle.coded_scan.specs.Coded.{table_of}
 use Rattle.segment_scan.specs.Documents.{LogsDocsPartly}
-use Rattle.segment_scan.specs.Picked.{IsPicked, LogsPicked, LogsPickedPartly}
+use Rattle.document_reading.specs.Picked.{IsPicked, LogsPicked, LogsPickedPartly}
 use Rattle.segment_scan.specs.Scans.{IsCodedOf}
 use Rattle.coded_scan.specs.Served.{rest_of}
-use Rattle.segment_scan.proofs.LogLemmas.{err_is}
+use Rattle.document_reading.proofs.FaultLemmas.{err_is}
 use Rattle.segment_scan.proofs.PickLemmas.{docs-coded, docs-overfull, docs-read, docs_few, picked-of}
 use Rattle.segment_scan.proofs.SeriesLemmas.{series_all}
 use Rattle.segment_scan.proofs.documents.scan_documents.Goals as goal

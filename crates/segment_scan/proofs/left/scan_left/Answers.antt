@@ -8,11 +8,11 @@ use Rattle.segment_head.specs.Heads.{Seen}
 use Rattle.segment_scan.specs.Documents.{AddsDocs, LogsDocs, LogsDocsPartly, selected_docs}
 use Rattle.segment_scan.specs.Images.{AreDocs, AreParts, IsBadForward, IsNoImage, LogsPartsPartly, choices_for, names_in, rest_for, sure_for}
 use Rattle.coded_scan.specs.Served.{rest_of}
-use Rattle.segment_scan.specs.Served.{sure_choices}
-use Rattle.segment_scan.specs.declared.fault.EngineFault.{EngineFault}
-use Rattle.segment_scan.specs.declared.fault.EngineFault.TheVariants.{NotASegment, TooManyGroups}
+use Rattle.document_reading.specs.Served.{sure_choices}
+use Rattle.document_reading.specs.declared.fault.EngineFault.{EngineFault}
+use Rattle.document_reading.specs.declared.fault.EngineFault.TheVariants.{NotASegment, TooManyGroups}
 use Rattle.segment_scan.proofs.LeftImage.{PartsFit, check_full, left_docs, left_image, no_parts, parts_fit, sure_full, sure_names}
-use Rattle.segment_scan.proofs.LogLemmas.{err_is}
+use Rattle.document_reading.proofs.FaultLemmas.{err_is}
 use Rattle.segment_scan.proofs.left.scan_left.Goals as goal
 
 -- a fault is the same beside answers of another type

@@ -7,7 +7,7 @@ use Rattle.segment_scan.specs.Images.{names_in}
 use Rattle.coded_scan.specs.Served.{rest_of}
 use Rattle.segment_scan.proofs.ImageLemmas.{loaded_readable}
 use Rattle.segment_scan.proofs.LeftImage.{bad_left, marks_left, rest_loaded}
-use Rattle.segment_scan.proofs.LogLemmas.{err_is}
+use Rattle.document_reading.proofs.FaultLemmas.{err_is}
 use Rattle.segment_scan.proofs.SegmentLemmas.{mark_named, marks_few}
 use Rattle.segment_scan.proofs.left.scan_part.Goals as goal
 

@@ -1,18 +1,18 @@
-use Rattle.segment_scan.specs.Picked.{LogsPicked, LogsPickedPartly}
+use Rattle.document_reading.specs.Picked.{LogsPicked, LogsPickedPartly}
 use Rattle.segment_scan.specs.Series.{LogsPartOf}
 use Rattle.std.proofs.Common.{◌≡◌, ◌+◌, ◌∷◌, [], ℕ, suc, ap, length-append, List, Option, None, false, refl, get_or, length, subst, take, arith}
 use Rattle.outside.specs.Seen.{seen}
 use Rattle.outside.proofs.SeenLemmas.{reads_none}
 use Rattle.doc_lists.specs.Docs.{docs_of}
-use Rattle.segment_scan.specs.Bytes.{GrowsBy, column_bytes, most_bytes}
-use Rattle.segment_scan.specs.Picked.{IsPicked}
-use Rattle.segment_scan.proofs.ByteLemmas.{bytes_more, grows_both, grows_none}
+use Rattle.document_reading.specs.Bytes.{GrowsBy, column_bytes, most_bytes}
+use Rattle.document_reading.specs.Picked.{IsPicked}
+use Rattle.document_reading.proofs.ByteLemmas.{bytes_more, grows_both, grows_none}
 use Rattle.segment_scan.specs.Series.{LogsTo}
-use Rattle.segment_scan.specs.declared.fault.EngineFault.{EngineFault}
-use Rattle.segment_scan.specs.declared.fault.EngineFault.TheVariants.{ReadFault}
-use Rattle.segment_scan.proofs.FaultLemmas.{fault_in, reads_next}
+use Rattle.document_reading.specs.declared.fault.EngineFault.{EngineFault}
+use Rattle.document_reading.specs.declared.fault.EngineFault.TheVariants.{ReadFault}
+use Rattle.document_reading.proofs.FaultLemmas.{fault_in, reads_next}
 use Rattle.segment_scan.proofs.PickLemmas.{grown_at}
-use Rattle.segment_scan.proofs.LogLemmas.{err_is}
+use Rattle.document_reading.proofs.FaultLemmas.{err_is}
 use Rattle.segment_scan.proofs.SeriesLemmas.{series_more, series_none, series_part}
 use Rattle.segment_scan.proofs.picking.pick_columns.Goals as goal
 

@@ -1,8 +1,8 @@
 use Rattle.std.proofs.Common.{◌≡◌, ◌<◌, ℕ, None, false, get_or, length, take}
 use Rattle.outside.specs.Seen.{OnlyReads, seen}
 use Rattle.doc_lists.specs.Docs.{docs_of}
-use Rattle.segment_scan.specs.Bytes.{GrowsBy, most_bytes}
-use Rattle.segment_scan.specs.Picked.{IsPicked, LogsPicked}
+use Rattle.document_reading.specs.Bytes.{GrowsBy, most_bytes}
+use Rattle.document_reading.specs.Picked.{IsPicked, LogsPicked}
 use Rattle.segment_scan.specs.Series.{LogsTo}
 use Rattle.segment_scan.proofs.picking.pick_columns.Given as goal
 

@@ -8,8 +8,8 @@ use Rattle.bit_column.specs.declared.fault.ColumnFault.{ColumnFault}
 use Rattle.bit_column.specs.declared.fault.ColumnFault.TheVariants as columns
 use Rattle.coded_scan.specs.Ids.{HasRoom, ids_in}
 use Rattle.segment_scan.proofs.BlockSteps.{block_fits, blocks_bad, blocks_end, blocks_next, blocks_none, blocks_partly, blocks_start, blocks_upto}
-use Rattle.segment_scan.proofs.FaultLemmas.{column_bad, reads_well}
-use Rattle.segment_scan.proofs.LogLemmas.{err_is}
+use Rattle.document_reading.proofs.FaultLemmas.{column_bad, reads_well}
+use Rattle.document_reading.proofs.FaultLemmas.{err_is}
 use Rattle.segment_scan.proofs.reading.read_ids.Goals as goal
 
 pub returns-in_err-room-clause-log_of_fault : goal.returns-in_err-room-clause-log_of_fault

@@ -7,10 +7,11 @@ use Rattle.segment_head.specs.Heads.{Seen}
 use Rattle.coded_scan.specs.declared.coded.Coded.{Coded}
 use Rattle.coded_scan.specs.declared.coded.SegmentColumns.{SegmentColumns}
 use Rattle.coded_scan.specs.Coded.{table_of}
-use Rattle.segment_scan.specs.Forward.{LogsSome}
+use Rattle.document_reading.specs.Forward.{LogsSome}
 use Rattle.segment_scan.specs.Scans.{IsCodedOf}
 use Rattle.segment_scan.proofs.ScanLemmas.{coded-all, named-of, overfull-read, rows-read}
-use Rattle.segment_scan.proofs.LogLemmas.{err_is, logs_all}
+use Rattle.document_reading.proofs.FaultLemmas.{err_is}
+use Rattle.segment_scan.proofs.LogLemmas.{logs_all}
 use Rattle.segment_scan.proofs.scan.scan_columns.Goals as goal
 
 pub coded_columns-requires-clause-loaded : goal.coded_columns-requires-clause-loaded

@@ -7,13 +7,13 @@ use Rattle.outside.specs.Reads.{Entry}
 use Rattle.table_schema.specs.declared.query.Conjunct.{Conjunct}
 use Rattle.segment_head.specs.Heads.{Seen}
 use Rattle.segment_plan.specs.declared.plans.IndexChoice.{IndexChoice}
-use Rattle.segment_scan.specs.Forward.{LogsColumns, LogsSome}
+use Rattle.document_reading.specs.Forward.{LogsColumns, LogsSome}
 use Rattle.segment_scan.specs.Images.{AddsImage, AddsWhole, IsBadWhole, IsWholeOverfull, LogsScanPartly, choices_for, indexed_for, names_in}
-use Rattle.segment_scan.specs.Indexes.{IsBadAny, IsReady, Leaves, LogsAt, OfEach}
+use Rattle.document_reading.specs.Indexes.{IsBadAny, IsReady, Leaves, LogsAt, OfEach}
 use Rattle.segment_scan.specs.Series.{LogsTo}
-use Rattle.segment_scan.specs.Served.{indexed}
-use Rattle.segment_scan.specs.declared.fault.EngineFault.{EngineFault}
-use Rattle.segment_scan.specs.declared.fault.EngineFault.TheVariants.{NotASegment}
+use Rattle.document_reading.specs.Served.{indexed}
+use Rattle.document_reading.specs.declared.fault.EngineFault.{EngineFault}
+use Rattle.document_reading.specs.declared.fault.EngineFault.TheVariants.{NotASegment}
 use Rattle.segment_scan.proofs.IndexImage.{ready_for}
 use Rattle.segment_scan.proofs.LeftImage.{bad_index, nothing_logged, whole_bad, whole_docs, whole_full, whole_image}
 use Rattle.segment_scan.proofs.LogLemmas.{err_so}

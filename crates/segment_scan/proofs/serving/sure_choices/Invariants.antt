@@ -1,5 +1,5 @@
 use Rattle.std.proofs.Common.{◌≡◌, map, take}
-use Rattle.segment_scan.specs.Served.{sure_choice}
+use Rattle.document_reading.specs.Served.{sure_choice}
 use Rattle.segment_scan.proofs.serving.sure_choices.Given as goal
 
 abbrev pub invariant-loop-choice : goal.invariant-loop-choice

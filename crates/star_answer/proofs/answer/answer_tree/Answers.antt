@@ -8,11 +8,11 @@ use Rattle.group_table.specs.Kept.{groups_in}
 use Rattle.scan_engine.proofs.AddLemmas.{at_most_more}
 use Rattle.star_walk.specs.Images.{AreWithin, read_of}
 use Rattle.star_walk.specs.Joins.{joined}
-use Rattle.star_answer.specs.Answers.{LogsSome, picks_of, reads_of}
-use Rattle.star_answer.specs.declared.fault.AnswerFault.{AnswerFault}
-use Rattle.star_answer.specs.declared.fault.AnswerFault.TheVariants.{BadDocs}
+use Rattle.star_taking.specs.Answers.{LogsSome, picks_of, reads_of}
+use Rattle.star_taking.specs.declared.fault.AnswerFault.{AnswerFault}
+use Rattle.star_taking.specs.declared.fault.AnswerFault.TheVariants.{BadDocs}
 use Rattle.star_answer.proofs.AnswerSteps as steps
-use Rattle.star_answer.proofs.FaultSteps.{same_fault}
+use Rattle.star_taking.proofs.FaultSteps.{same_fault}
 use Rattle.star_answer.proofs.answer.answer_tree.Goals as goal
 
 pub returns-in_err-picks-clause-log_of_fault : goal.returns-in_err-picks-clause-log_of_fault

@@ -6,7 +6,7 @@ use Rattle.agg_laws.proofs.RegionSteps.{shape_at, stored_at}
 use Rattle.group_table.specs.Kept.{HaveValues}
 use Rattle.scan_engine.proofs.AddLemmas.{merged_within}
 use Rattle.scan_engine.proofs.RunLemmas.{same_fault}
-use Rattle.star_answer.specs.Taken.{keyed}
+use Rattle.star_taking.specs.Taken.{keyed}
 use Rattle.star_answer.proofs.MergeSteps as steps
 use Rattle.star_answer.proofs.MergeSteps.{upto}
 use Rattle.star_answer.proofs.merging.merge_last.Goals as goal

@@ -1,7 +1,7 @@
 use Rattle.agg_laws.specs.Merged.{weights}
 use Rattle.agg_laws.specs.Rows.{row_weight}
-use Rattle.star_answer.specs.Entries.{MergesEntries}
-use Rattle.star_answer.specs.Taken.{keyed}
+use Rattle.star_taking.specs.Entries.{MergesEntries}
+use Rattle.star_taking.specs.Taken.{keyed}
 use Rattle.star_answer.proofs.MergeSteps.{upto}
 use Rattle.star_answer.proofs.merging.merge_last.Given as goal
 

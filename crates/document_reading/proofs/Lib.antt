@@ -1,0 +1,5 @@
+pub mod FaultLemmas
+pub mod PickSteps
+pub mod ByteLemmas
+pub mod MatchLemmas
+pub mod RangeLemmas

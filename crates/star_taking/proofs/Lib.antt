@@ -1,0 +1,5 @@
+pub mod WeightSteps
+pub mod TakeSteps
+pub mod PassSteps
+pub mod FaultSteps
+pub mod ReadSteps
