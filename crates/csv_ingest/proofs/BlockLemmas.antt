@@ -1,17 +1,25 @@
 -- The records of a text as rows, one more at a time, after rows that were read before.
 use Rattle.std.proofs.Common.{◌≡◌, ◌≢◌, ◌∙◌, ◌+◌, ◌-◌, ◌<◌, ◌≤◌, ◌++◌, ℕ, Bool, true, false, List, [], ◌∷◌, map, Result, Ok, Err, IfOk, IfErr, MatchBool, refl, ap, sym, subst, arith}
-use Rattle.std.specs.List.{enumerate_from}
+use Rattle.std.specs.List.{enumerate_from, All}
+use Rattle.std.proofs.lemmas.List.{nil_from_length}
 use Rattle.csv.specs.Reading.{records_from}
-use Rattle.values.specs.Columns.{ListedColumns, rows_of as rows_of_columns}
+use Rattle.values.specs.Columns.{ListedColumns, rows_of as rows_of_columns, Counts, Listed, rows_in_columns}
+use Rattle.values.proofs.RowLemmas.{length-rows}
 use Rattle.values.specs.declared.value.Value.{Value}
 use Rattle.table_schema.specs.declared.field.Field.{Field}
-use Rattle.csv_ingest.specs.declared.fault.CsvFault.{CsvFault}
-use Rattle.csv_ingest.specs.declared.fault.CsvFault.TheVariants.{NoMemory}
+use Rattle.csv_row.specs.declared.fault.CsvFault.{CsvFault}
+use Rattle.csv_row.specs.declared.fault.CsvFault.TheVariants.{NoMemory}
 use Rattle.csv_ingest.specs.declared.rows.Block.{Block}
-use Rattle.csv_ingest.specs.Blocks.{after, IsBlock, IsFullBlock, IsLastBlock, RowsOrFault, rows_from}
+use Rattle.csv_row.specs.InOrder.{after, all_or_first}
+use Rattle.csv_ingest.specs.Blocks.{IsBlock, IsFullBlock, IsLastBlock, RowsOrFault, rows_from}
 use Rattle.csv_ingest.specs.Reading.{Reads, TextReader, records_left}
-use Rattle.csv_ingest.specs.Rows.{all_or_first, csv_limits, row_at, rows_of}
-use Rattle.csv_ingest.proofs.InOrder.{after-none, after-one, after-fault, after-all}
+use Rattle.csv_row.specs.Row.{csv_limits, row_at}
+use Rattle.csv_ingest.specs.Rows.{rows_of}
+use Rattle.csv_row.proofs.InOrder.{after-none, after-one}
+use Rattle.csv_ingest.proofs.StepLemmas.{after-fault, after-all}
+
+pub no-rows : (columns : List Listed) → All (Counts 0) columns → rows_in_columns 0 columns ≡ []
+no-rows columns counts = nil_from_length (rows_in_columns 0 columns) (omega (arith, length-rows 0 columns counts))
 
 no_more : (n : ℕ) → n + 0 ≡ n
 no_more n = omega arith

@@ -5,11 +5,13 @@ use Rattle.values.specs.declared.value.Value.{Value}
 use Rattle.table_schema.specs.declared.field.Field.{Field}
 use Rattle.table_schema.specs.ValidTable.{most_rows}
 use Rattle.csv_ingest.specs.Names.{schema_name}
-use Rattle.csv_ingest.specs.declared.fault.CsvKind.{CsvKind}
-use Rattle.csv_ingest.specs.declared.fault.CsvKind.TheVariants.{WrongLength}
-use Rattle.csv_ingest.specs.declared.fault.CsvFault.{CsvFault}
-use Rattle.csv_ingest.specs.declared.fault.CsvFault.TheVariants.{At, TooManyColumns, TooManyRows}
-use Rattle.csv_ingest.specs.Rows.{all_or_first, cell_value, csv_limits, header_of, joined, name_at, placed, place_of, row_at, rows_in, rows_of, under, value_at, values_of}
+use Rattle.csv_row.specs.declared.fault.CsvKind.{CsvKind}
+use Rattle.csv_row.specs.declared.fault.CsvKind.TheVariants.{WrongLength}
+use Rattle.csv_row.specs.declared.fault.CsvFault.{CsvFault}
+use Rattle.csv_row.specs.declared.fault.CsvFault.TheVariants.{At, TooManyColumns, TooManyRows}
+use Rattle.csv_row.specs.InOrder.{all_or_first, joined}
+use Rattle.csv_row.specs.Row.{cell_value, csv_limits, placed, place_of, row_at, value_at, values_of}
+use Rattle.csv_ingest.specs.Rows.{header_of, name_at, rows_in, rows_of, under}
 
 -- a fault other than one of too many columns
 abbrev IsOther : CsvFault → Type 0

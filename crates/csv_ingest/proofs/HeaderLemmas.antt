@@ -2,11 +2,13 @@
 use Rattle.std.proofs.Common.{◌≡◌, ◌∙◌, ◌<◌, ◌≤◌, ◌+◌, ◌-◌, ◌++◌, ℕ, List, [], ◌∷◌, length, take, drop, map, get_or, Result, Ok, Err, ap, arith}
 use Rattle.std.specs.List.{enumerate_from}
 use Rattle.std.proofs.lemmas.List.{get_or-map, length-map, take-map}
-use Rattle.csv_ingest.specs.declared.fault.CsvFault.TheVariants.{At}
-use Rattle.csv_ingest.specs.declared.fault.CsvKind.{CsvKind}
-use Rattle.csv_ingest.specs.Rows.{all_or_first, header_of, name_at, placed}
-use Rattle.csv_ingest.specs.Blocks.{after}
-use Rattle.csv_ingest.proofs.InOrder.{after-none, step-one, step-fault, step-end}
+use Rattle.csv_row.specs.declared.fault.CsvFault.TheVariants.{At}
+use Rattle.csv_row.specs.declared.fault.CsvKind.{CsvKind}
+use Rattle.csv_row.specs.InOrder.{all_or_first, after}
+use Rattle.csv_ingest.specs.Rows.{header_of, name_at}
+use Rattle.csv_row.specs.Row.{placed}
+use Rattle.csv_row.proofs.InOrder.{after-none}
+use Rattle.csv_ingest.proofs.StepLemmas.{step-one, step-fault, step-end}
 
 -- the names of a header, read up to a place
 abbrev pub NamesTo : {A X : Type 0} → (List (List ℕ) → List ℕ → Result A CsvKind) → (X → List ℕ) → List X → ℕ → List A → Type 0

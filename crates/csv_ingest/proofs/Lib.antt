@@ -1,11 +1,7 @@
 mod BlockLemmas
-mod CellLemmas
-mod ColumnLemmas
 mod CountLemmas
-mod Fields
 mod HeaderLemmas
 mod HeaderLine
-mod InOrder
 mod LineBlocks
 mod LineLemmas
 mod LineRows
@@ -13,8 +9,8 @@ mod MarkLemmas
 mod NumberLemmas
 mod NumberTextLemmas
 mod ReadingLemmas
-mod RowLemmas
 mod SchemaLemmas
+mod StepLemmas
 pub mod ValidLemmas
 pub mod ValidRows
 pub mod UnicodeRows

@@ -6,7 +6,8 @@ use Rattle.values.specs.Columns.{ListedColumns, rows_of as rows_of_columns}
 use Rattle.table_schema.specs.declared.field.Field.{Field}
 use Rattle.csv_ingest.specs.declared.blocks.Source.{Source}
 use Rattle.csv_ingest.specs.declared.blocks.Source.TheVariants as source
-use Rattle.csv_ingest.specs.Blocks.{after, RowsOrFault, rows_from}
+use Rattle.csv_row.specs.InOrder.{after}
+use Rattle.csv_ingest.specs.Blocks.{RowsOrFault, rows_from}
 use Rattle.csv_ingest.specs.Lines.{AreLines}
 use Rattle.csv_ingest.specs.NumberBlocks.{HasLeft, HasLines, HasRows}
 use Rattle.csv_ingest.specs.Reading.{Reads, TextReader, records_left}

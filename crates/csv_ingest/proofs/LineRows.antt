@@ -1,5 +1,5 @@
 -- Lines of whole numbers as rows.
-use Rattle.std.proofs.Common.{◌≡◌, ◌∙◌, ◌<◌, ◌≤◌, ◌+◌, ◌++◌, inl, inr, ℕ, zero, suc, ℤ, pos, List, [], ◌∷◌, length, map, take, drop, set, get_or, Bool, false, not, ◌==◌, if◌then◌else◌, nat_lt, Option, Some, None, Result, Ok, Err, ◌-◌, refl, sym, ap, ap₂, subst, arith, add-one}
+use Rattle.std.proofs.Common.{◌≡◌, ◌∙◌, ◌<◌, ◌≤◌, ◌+◌, ◌++◌, inl, inr, ℕ, zero, suc, ℤ, pos, List, [], ◌∷◌, length, map, take, drop, set, get_or, Bool, false, not, ◌==◌, if◌then◌else◌, nat_lt, Option, Some, None, Result, Ok, Err, ◌-◌, refl, sym, ap, ap₂, subst, arith, add-one, IfSome}
 use Rattle.std.proofs.lemmas.List.{drop-drop, get_or-map, length-drop, length-map, length-set, length-take-le, map-append, take_all, take_more, take_more_set}
 use Rattle.std.proofs.lemmas.Bool.Decides.{nat_tests}
 use Rattle.std.specs.List.{All, enumerate_from}
@@ -10,22 +10,36 @@ use Rattle.csv.specs.declared.parser.State.{State}
 use Rattle.csv.specs.declared.parser.State.TheVariants as st
 use Rattle.values.proofs.RowLemmas.{length-push, rows-push, sorts-push}
 use Rattle.values.specs.Columns.{Counts, Listed, ListedColumns, pushed, row_pushed, rows_in_columns}
+use Rattle.values.specs.Numbers.{whole_of}
+use Rattle.values.specs.declared.kind.FieldKind.TheVariants.{Long}
 use Rattle.values.specs.declared.value.Value.{Value}
 use Rattle.values.specs.declared.value.Value.TheVariants.{Whole}
 use Rattle.values.specs.declared.whole.WholeFault.TheVariants.{NotANumber}
 use Rattle.table_schema.specs.declared.field.Field.{Field}
 use Rattle.table_schema.specs.ValidTable.{most_rows}
-use Rattle.csv_ingest.specs.declared.fault.CsvFault.{CsvFault}
-use Rattle.csv_ingest.specs.declared.layout.Layout.{Layout}
-use Rattle.csv_ingest.specs.Blocks.{RowsOrFault, after, rows_from}
-use Rattle.csv_ingest.specs.Columns.{OfSorts, is_text_kind}
-use Rattle.csv_ingest.specs.Layouts.{IsLayout, header_of}
+use Rattle.csv_row.specs.declared.fault.CsvFault.{CsvFault}
+use Rattle.csv_row.specs.declared.layout.Layout.{Layout}
+use Rattle.csv_ingest.specs.Blocks.{RowsOrFault, rows_from}
+use Rattle.csv_row.specs.InOrder.{after, all_or_first, joined}
+use Rattle.csv_row.specs.Columns.{OfSorts, is_text_kind}
+use Rattle.csv_row.specs.Layouts.{IsLayout, header_of}
 use Rattle.csv_ingest.specs.Lines.{AreLines, AtLineEnd, IsCell, IsLastCell, IsLine, IsPlain, IsStart, IsStraight, StartsCell, cell_number}
 use Rattle.csv_ingest.specs.Names.{number_field}
-use Rattle.csv_ingest.specs.Rows.{all_or_first, cell_value, csv_limits, joined, place_of, placed, row_at, value_at}
-use Rattle.csv_ingest.proofs.CellLemmas.{long-found}
-use Rattle.csv_ingest.proofs.ColumnLemmas.{column-set, no-rows, widths}
-use Rattle.csv_ingest.proofs.InOrder.{after-none, after-one}
+use Rattle.csv_row.specs.Row.{cell_value, csv_limits, place_of, placed, row_at, value_at, value_in}
+use Rattle.csv_row.proofs.CellLemmas.{number-found}
+use Rattle.csv_row.proofs.ColumnLemmas.{column-set, widths}
+use Rattle.csv_ingest.proofs.BlockLemmas.{no-rows}
+use Rattle.csv_row.proofs.InOrder.{after-none, after-one}
+
+long_by : (bytes : List ℕ) (found : Option ℤ) → IfSome found (λ n. value_in Long bytes ≡ Ok (Whole n)) → IfSome found (λ n. (field : Field) → field.kind ≡ Long → value_in field.kind bytes ≡ Ok (Whole n))
+long_by bytes None is = tt
+long_by bytes (Some n) is = λ field kind. subst (λ k. value_in k bytes ≡ Ok (Whole n)) (sym kind) is
+
+-- the number of a cell of a column of 64-bit numbers
+pub long-found : (bytes : List ℕ) (found : Option ℤ) → found ≡ result_ok (whole_of Long bytes) → IfSome found (λ n. (field : Field) → field.kind ≡ Long → cell_value field bytes ≡ Ok (Whole n))
+long-found [] found got =
+    subst (λ r. IfSome r (λ n. (field : Field) → field.kind ≡ Long → cell_value field [] ≡ Ok (Whole n))) (sym got) tt
+long-found (b ∷ bytes) found got = long_by (b ∷ bytes) found (number-found Long Long (b ∷ bytes) found refl refl got)
 
 -- the cells of a line that were read, in all columns before a place
 pub record LineSoFar (line : List ℕ) (numbers : List ℤ) (at i : ℕ) : Type 0 where

@@ -15,17 +15,19 @@ use Rattle.values.specs.declared.whole.WholeFault.{WholeFault}
 use Rattle.values.specs.declared.whole.WholeFault.TheVariants as whole
 use Rattle.table_schema.specs.declared.field.Field.{Field}
 use Rattle.table_schema.specs.declared.field.Schema.{Schema}
-use Rattle.csv_ingest.specs.declared.fault.CsvKind.{CsvKind}
-use Rattle.csv_ingest.specs.declared.fault.CsvKind.TheVariants.{NotUtf8, BadHeader, DuplicateHeader, WrongLength}
-use Rattle.csv_ingest.specs.declared.fault.CsvFault.{CsvFault}
-use Rattle.csv_ingest.specs.declared.fault.CsvFault.TheVariants.{At, TooManyRows, TooManyColumns}
-use Rattle.csv_ingest.specs.Columns.{DefaultFits, DefaultsFit, OfSorts, is_text_kind}
+use Rattle.csv_row.specs.declared.fault.CsvKind.{CsvKind}
+use Rattle.csv_row.specs.declared.fault.CsvKind.TheVariants.{NotUtf8, BadHeader, DuplicateHeader, WrongLength}
+use Rattle.csv_row.specs.declared.fault.CsvFault.{CsvFault}
+use Rattle.csv_row.specs.declared.fault.CsvFault.TheVariants.{At, TooManyRows, TooManyColumns}
+use Rattle.csv_row.specs.Columns.{DefaultFits, DefaultsFit, OfSorts, is_text_kind}
 use Rattle.csv_ingest.specs.NumberBlocks.{AreNumbers}
-use Rattle.csv_ingest.proofs.ColumnLemmas.{widths}
+use Rattle.csv_row.proofs.ColumnLemmas.{widths}
 use Rattle.values.specs.Columns.{Listed}
 use Rattle.csv_ingest.specs.Names.{is_among, number_field, number_name}
 use Rattle.table_schema.specs.Names.{is_column_name}
-use Rattle.csv_ingest.specs.Rows.{all_or_first, cell_value, csv_limits, header_of, is_number, IsNumbers, joined, kinded, Limits, name_at, placed, place_of, plain_in, row_at, rows_of, under, value_at, values_of, with_schema}
+use Rattle.csv_row.specs.InOrder.{all_or_first, joined}
+use Rattle.csv_row.specs.Row.{cell_value, csv_limits, kinded, Limits, placed, place_of, row_at, value_at, values_of}
+use Rattle.csv_ingest.specs.Rows.{header_of, is_number, IsNumbers, name_at, plain_in, rows_of, under, with_schema}
 
 -- what joins two results
 pub joins : {A E : Type 0} (r : Result A E) (rest : Result (List A) E) (all : List A) → joined r rest ≡ Ok all → (a : A) × (more : List A) × (r ≡ Ok a) × (rest ≡ Ok more) × (all ≡ a ∷ more)

@@ -2,11 +2,12 @@
 use Rattle.std.proofs.Common.{◌≡◌, ◌∙◌, ◌<◌, ◌≤◌, ℕ, List, [], ◌∷◌, length, nat_lt, true, false, Result, Ok, Err, IfOk, IfErr, refl, ap, arith}
 use Rattle.std.proofs.lemmas.Bool.Decides.{nat_tests}
 use Rattle.table_schema.specs.declared.field.Field.{Field}
-use Rattle.csv_ingest.specs.declared.fault.CsvKind.TheVariants.{NoHeader}
-use Rattle.csv_ingest.specs.declared.fault.CsvFault.{CsvFault}
-use Rattle.csv_ingest.specs.declared.fault.CsvFault.TheVariants.{At, TooManyColumns}
+use Rattle.csv_row.specs.declared.fault.CsvKind.TheVariants.{NoHeader}
+use Rattle.csv_row.specs.declared.fault.CsvFault.{CsvFault}
+use Rattle.csv_row.specs.declared.fault.CsvFault.TheVariants.{At, TooManyColumns}
 use Rattle.csv_ingest.specs.Names.{number_name}
-use Rattle.csv_ingest.specs.Rows.{csv_limits, header_of, plain_in, rows_of, under, with_schema}
+use Rattle.csv_row.specs.Row.{csv_limits}
+use Rattle.csv_ingest.specs.Rows.{header_of, plain_in, rows_of, under, with_schema}
 
 -- what follows of the value or the fault of a call
 pub ok-at : {T E : Type 0} (r : Result T E) (P Q : T → Type 0) → ((t : T) → P t → Q t) → IfOk r P → IfOk r Q

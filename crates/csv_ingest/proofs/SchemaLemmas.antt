@@ -1,11 +1,12 @@
 -- The rows of a list of records over the fields of a table.
 use Rattle.std.proofs.Common.{◌≡◌, ℕ, List, [], ◌∷◌, Result, Ok, Err, IsOk, refl, ap}
 use Rattle.table_schema.specs.declared.field.Field.{Field}
-use Rattle.csv_ingest.specs.declared.fault.CsvKind.TheVariants.{NoHeader}
-use Rattle.csv_ingest.specs.declared.fault.CsvFault.{CsvFault}
-use Rattle.csv_ingest.specs.declared.fault.CsvFault.TheVariants.{At}
+use Rattle.csv_row.specs.declared.fault.CsvKind.TheVariants.{NoHeader}
+use Rattle.csv_row.specs.declared.fault.CsvFault.{CsvFault}
+use Rattle.csv_row.specs.declared.fault.CsvFault.TheVariants.{At}
 use Rattle.csv_ingest.specs.Names.{schema_name}
-use Rattle.csv_ingest.specs.Rows.{csv_limits, header_of, rows_in, rows_of, under}
+use Rattle.csv_row.specs.Row.{csv_limits}
+use Rattle.csv_ingest.specs.Rows.{header_of, rows_in, rows_of, under}
 
 module _ (fields : List Field) where
   pub no-names : rows_in csv_limits fields [] ≡ Err (At NoHeader 0 0)

@@ -16,10 +16,11 @@ use Rattle.values.specs.declared.whole.WholeFault.TheVariants as whole
 use Rattle.table_schema.specs.declared.field.Field.{Field}
 use Rattle.table_schema.specs.ValidTable.{most_rows}
 use Rattle.csv_ingest.specs.Names.{schema_name}
-use Rattle.csv_ingest.specs.declared.fault.CsvKind.TheVariants.{NotUtf8, WrongLength}
-use Rattle.csv_ingest.specs.declared.fault.CsvFault.{CsvFault}
-use Rattle.csv_ingest.specs.declared.fault.CsvFault.TheVariants.{At, TooManyRows}
-use Rattle.csv_ingest.specs.Rows.{cell_value, csv_limits, header_of, kinded, place_of, row_at, rows_in, rows_of, under, value_at, values_of}
+use Rattle.csv_row.specs.declared.fault.CsvKind.TheVariants.{NotUtf8, WrongLength}
+use Rattle.csv_row.specs.declared.fault.CsvFault.{CsvFault}
+use Rattle.csv_row.specs.declared.fault.CsvFault.TheVariants.{At, TooManyRows}
+use Rattle.csv_row.specs.Row.{cell_value, csv_limits, kinded, place_of, row_at, value_at, values_of}
+use Rattle.csv_ingest.specs.Rows.{header_of, rows_in, rows_of, under}
 use Rattle.csv_ingest.specs.Unicode.{IsUnicode, RowsAreUnicode}
 use Rattle.csv_ingest.proofs.NumberLemmas.{anything, each, placed_ok}
 

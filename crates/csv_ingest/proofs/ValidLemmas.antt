@@ -13,7 +13,7 @@ use Rattle.table_schema.specs.declared.field.Schema.{Schema}
 use Rattle.table_schema.specs.Roles.{is_text_metric}
 use Rattle.table_schema.specs.Names.{is_column_name}
 use Rattle.table_schema.specs.Valid.{IsValidSchema, is_short, default_fits, is_valid_field}
-use Rattle.csv_ingest.specs.Columns.{DefaultFits, DefaultsFit, is_text_kind}
+use Rattle.csv_row.specs.Columns.{DefaultFits, DefaultsFit, is_text_kind}
 
 first_of_both : (a b : Bool) → (a && b) ≡ true → a ≡ true
 first_of_both true b e = refl

@@ -20,11 +20,13 @@ use Rattle.table_schema.specs.Roles.{is_text_metric}
 use Rattle.table_schema.specs.Names.{is_column_name}
 use Rattle.table_schema.specs.Valid.{is_short, default_fits, is_valid_field, IsValidSchema}
 use Rattle.table_schema.specs.ValidTable.{is_row, IsRow, most_rows, AreRows}
-use Rattle.csv_ingest.specs.declared.fault.CsvKind.TheVariants.{NotUtf8, WrongLength}
-use Rattle.csv_ingest.specs.declared.fault.CsvFault.{CsvFault}
-use Rattle.csv_ingest.specs.declared.fault.CsvFault.TheVariants.{At, TooManyRows, TooManyColumns}
+use Rattle.csv_row.specs.declared.fault.CsvKind.TheVariants.{NotUtf8, WrongLength}
+use Rattle.csv_row.specs.declared.fault.CsvFault.{CsvFault}
+use Rattle.csv_row.specs.declared.fault.CsvFault.TheVariants.{At, TooManyRows, TooManyColumns}
 use Rattle.csv_ingest.specs.Names.{schema_name, number_name}
-use Rattle.csv_ingest.specs.Rows.{all_or_first, cell_value, csv_limits, header_of, kinded, place_of, plain_in, row_at, rows_in, rows_of, under, value_at, values_of, with_schema}
+use Rattle.csv_row.specs.InOrder.{all_or_first}
+use Rattle.csv_row.specs.Row.{cell_value, csv_limits, kinded, place_of, row_at, value_at, values_of}
+use Rattle.csv_ingest.specs.Rows.{header_of, plain_in, rows_in, rows_of, under, with_schema}
 use Rattle.csv_ingest.proofs.NumberLemmas.{IsNumberField, joins, each, placed_ok, anything, header_plain}
 
 -- ---- values

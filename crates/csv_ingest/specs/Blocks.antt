@@ -1,17 +1,13 @@
 -- The rows of a text, read block by block.
-use Rattle.std.specs.Prelude.{◌≡◌, ◌<◌, ◌+◌, ◌++◌, ℕ, List, map, Result, Ok, Err}
+use Rattle.std.specs.Prelude.{◌≡◌, ◌<◌, ◌+◌, ℕ, List, map, Result, Ok}
 use Rattle.std.specs.List.{enumerate_from}
 use Rattle.values.specs.Columns.{ListedColumns, rows_of}
 use Rattle.values.specs.declared.value.Value.{Value}
 use Rattle.table_schema.specs.declared.field.Field.{Field}
-use Rattle.csv_ingest.specs.declared.fault.CsvFault.{CsvFault}
+use Rattle.csv_row.specs.declared.fault.CsvFault.{CsvFault}
 use Rattle.csv_ingest.specs.Reading.{Reads, TextReader, records_left}
-use Rattle.csv_ingest.specs.Rows.{all_or_first, csv_limits, row_at}
-
--- these, before what others give
-abbrev pub after : {A E : Type 0} → List A → Result (List A) E → Result (List A) E
-after front (Ok rest) = Ok (front ++ rest)
-after front (Err e) = Err e
+use Rattle.csv_row.specs.InOrder.{after, all_or_first}
+use Rattle.csv_row.specs.Row.{csv_limits, row_at}
 
 -- the rows of a text, or its first fault
 abbrev pub RowsOrFault : Type 0

@@ -1,10 +1,7 @@
 pub mod Blocks
-pub mod Columns
-pub mod Layouts
 pub mod Lines
 pub mod Names
 pub mod NumberBlocks
 pub mod Reading
 pub mod Rows
-pub mod FaultTexts
 pub mod Unicode

@@ -11,8 +11,9 @@ use Rattle.values.specs.declared.kind.FieldKind.TheVariants.{Long}
 use Rattle.values.specs.declared.value.Value.TheVariants.{Whole}
 use Rattle.values.specs.declared.whole.WholeFault.{WholeFault}
 use Rattle.table_schema.specs.declared.field.Field.{Field}
-use Rattle.csv_ingest.specs.Blocks.{after, rows_from}
-use Rattle.csv_ingest.specs.declared.layout.Layout.{Layout}
+use Rattle.csv_row.specs.InOrder.{after}
+use Rattle.csv_ingest.specs.Blocks.{rows_from}
+use Rattle.csv_row.specs.declared.layout.Layout.{Layout}
 
 -- so many digits at the start of a text spell a number below 10 ^ 18, and another byte comes after them
 pub record SpellsAt (text : List ℕ) (number len : ℕ) : Type 0 where

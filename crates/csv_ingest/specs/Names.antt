@@ -7,8 +7,8 @@ use Rattle.values.specs.declared.value.Value.TheVariants.{Whole}
 use Rattle.table_schema.specs.declared.field.Field.{Field}
 use Rattle.table_schema.specs.declared.field.Role.TheVariants.{Metric}
 use Rattle.table_schema.specs.Names.{is_column_name}
-use Rattle.csv_ingest.specs.declared.fault.CsvKind.{CsvKind}
-use Rattle.csv_ingest.specs.declared.fault.CsvKind.TheVariants.{NotUtf8, BadHeader, DuplicateHeader}
+use Rattle.csv_row.specs.declared.fault.CsvKind.{CsvKind}
+use Rattle.csv_row.specs.declared.fault.CsvKind.TheVariants.{NotUtf8, BadHeader, DuplicateHeader}
 
 -- whether one of these is that name
 abbrev pub is_among : List ℕ → List (List ℕ) → Bool

@@ -12,7 +12,7 @@ use Rattle.csv_ingest.specs.declared.blocks.NumberBlocks.{NumberBlocks}
 use Rattle.csv_ingest.specs.declared.blocks.NumberHeader.{NumberHeader}
 use Rattle.csv_ingest.specs.declared.blocks.Source.{Source}
 use Rattle.csv_ingest.specs.declared.blocks.Source.TheVariants as source
-use Rattle.csv_ingest.specs.declared.fault.CsvFault.{CsvFault}
+use Rattle.csv_row.specs.declared.fault.CsvFault.{CsvFault}
 use Rattle.csv_ingest.specs.Blocks.{RowsOrFault, rows_from}
 use Rattle.csv_ingest.specs.Lines.{AtLineEnd}
 use Rattle.csv_ingest.specs.Names.{number_name}

@@ -4,10 +4,8 @@ ghost use Rattle.csv.specs.Records.{fields_of};
 ghost use Rattle.csv_ingest.specs.Names.{is_among, schema_name, names_of, number_field, number_name};
 ghost use Rattle.csv_ingest.specs.Rows.{header_of};
 
-use crate::cells::text_of;
-use crate::records::field;
-use crate::{CsvFault, CsvKind};
 use csv::ByteRecord;
+use csv_row::{CsvFault, CsvKind, cell, text_of};
 use std::alloc::{AllocError, Global};
 use table_schema::{Field, Role, is_column_name};
 use values::{FieldKind, Name, Seq, Value};
@@ -29,7 +27,7 @@ pub fn names_in<'a>(alloc: Global, row: &'a ByteRecord) -> Result<Vec<&'a [u8]>,
 {
     let mut fields = Vec::with_capacity(alloc, row.len())?;
     for i in 0..row.len() {
-        fields.push(field(row, i))?;
+        fields.push(cell(row, i))?;
     }
     Ok(fields)
 }

@@ -1,13 +1,14 @@
 //! Laws of reading.
 ghost use Rattle.table_schema.specs.declared.field.Schema.{Schema};
 ghost use Rattle.table_schema.specs.Valid.{IsValidSchema};
-ghost use Rattle.csv_ingest.specs.Columns.{DefaultsFit};
-ghost use Rattle.csv_ingest.specs.Rows.{csv_limits, plain_in, rows_in};
+ghost use Rattle.csv_row.specs.Columns.{DefaultsFit};
+ghost use Rattle.csv_row.specs.Row.{csv_limits};
+ghost use Rattle.csv_ingest.specs.Rows.{plain_in, rows_in};
 ghost use Rattle.csv_ingest.specs.Unicode.{RowsAreUnicode};
 ghost use Rattle.std.specs.Prelude.{◌≡◌, ◌≢◌, ℕ, List, Ok, Err};
 ghost use Rattle.table_schema.specs.declared.field.Field.{Field};
-ghost use Rattle.csv_ingest.specs.declared.fault.CsvFault.{CsvFault};
-ghost use Rattle.csv_ingest.specs.declared.fault.CsvFault.TheVariants.{TooManyColumns};
+ghost use Rattle.csv_row.specs.declared.fault.CsvFault.{CsvFault};
+ghost use Rattle.csv_row.specs.declared.fault.CsvFault.TheVariants.{TooManyColumns};
 ghost use Rattle.table_schema.specs.ValidTable.{AreRows};
 ghost use Rattle.values.specs.declared.value.Value.{Value};
 

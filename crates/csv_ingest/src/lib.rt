@@ -2,22 +2,18 @@
 #![tactic(auto)]
 
 mod blocks;
-mod cells;
 mod defaults;
-mod fault;
 mod header;
 mod laws;
-mod layout;
 mod lines;
 mod numbers;
 mod records;
-mod row;
 mod rows;
 mod schema_rows;
 
 pub use blocks::{NumberBlocks, NumberHeader, number_blocks};
+pub use csv_row::{CsvFault, CsvKind};
 pub use defaults::defaults_fit;
-pub use fault::{CsvFault, CsvKind};
 pub use laws::{defaults_law, rows_law, unicode_law};
 pub use numbers::{read_plain, read_plain_columns};
 pub use schema_rows::{read_columns, read_rows};

@@ -4,13 +4,13 @@ ghost use Rattle.std.specs.List.{All};
 ghost use Rattle.values.specs.Columns.{Counts, row_pushed};
 ghost use Rattle.values.specs.Numbers.{is_digit, negative};
 ghost use Rattle.values.specs.declared.value.Value.TheVariants as value;
-ghost use Rattle.csv_ingest.specs.Columns.{OfSorts};
-ghost use Rattle.csv_ingest.specs.Layouts.{IsLayout, header_of};
+ghost use Rattle.csv_row.specs.Columns.{OfSorts};
+ghost use Rattle.csv_row.specs.Layouts.{IsLayout, header_of};
 ghost use Rattle.csv_ingest.specs.Lines.{AreLines, EndsCell, IsCell, IsLastCell, IsLine, IsPlain, IsStraight, SpellsAt, StartsCell};
 
-use crate::layout::Layout;
 use crate::records::from_place;
 use crate::rows::empty_columns;
+use csv_row::Layout;
 use std::alloc::{AllocError, Global};
 use table_schema::Field;
 use values::{Column, Columns, FieldKind, Value};

@@ -4,14 +4,15 @@ ghost use Rattle.std.specs.List.{All};
 ghost use Rattle.values.specs.Columns.{rows_of as rows_of_columns};
 ghost use Rattle.csv_ingest.specs.NumberBlocks.{AreNumbers};
 ghost use Rattle.csv_ingest.specs.Reading.{Reads, records_left};
-ghost use Rattle.csv_ingest.specs.Rows.{csv_limits, IsNumbers, plain_in, records_of};
+ghost use Rattle.csv_row.specs.Row.{csv_limits};
+ghost use Rattle.csv_ingest.specs.Rows.{IsNumbers, plain_in, records_of};
 ghost use Rattle.table_schema.specs.ValidTable.{AreRows};
 
 use crate::blocks::NumberHeader;
 use crate::records::{next_record, text_reader, unmarked_len};
 use crate::rows::Block;
-use crate::{CsvFault, CsvKind};
 use csv::{ByteRecord, Reader};
+use csv_row::{CsvFault, CsvKind};
 use std::alloc::Global;
 use table_schema::Schema;
 use values::{Columns, Rows};

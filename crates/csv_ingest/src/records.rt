@@ -1,5 +1,5 @@
 //! The records of a CSV text, one at a time.
-ghost use Rattle.std.specs.Prelude.{◌≡◌, ◌<◌, ◌≤◌, ◌∷◌, ◌+◌, ℕ, List, [], IfOk, MatchBool, drop, length, slice_index_or};
+ghost use Rattle.std.specs.Prelude.{◌≡◌, ◌<◌, ◌≤◌, ◌∷◌, ◌+◌, ℕ, List, [], IfOk, MatchBool, drop, length};
 ghost use Rattle.csv.specs.Records.{fields_of};
 ghost use Rattle.csv.specs.Reading.{is_bom, strip_bom, records_from, default_config};
 ghost use Rattle.csv.specs.declared.parser.State.TheVariants as st;
@@ -31,17 +31,6 @@ pub fn next_record(reader: &mut Reader<&[u8]>, row: &mut ByteRecord) -> Result<b
         return Err(AllocError);
     };
     Ok(found)
-}
-
-/// The field of a record at a place.
-pub fn field(row: &ByteRecord, at: usize) -> &[u8]
-    requires { at < length (fields_of row.now) }
-    ensures { result.now ≡ slice_index_or (fields_of row.now) at [] }
-{
-    match row.get(at) {
-        Some(field) => field,
-        None => unreachable!(),
-    }
 }
 
 fn is_mark(a: u8, b: u8, c: u8) -> bool

@@ -2,17 +2,18 @@
 ghost use Rattle.std.specs.Prelude.{◌≡◌, ◌≢◌, ◌≤◌, ◌<◌, ◌+◌, ◌^◌, ◌∷◌, ℕ, List, length, IfOk, IfErr, Ok, Err};
 ghost use Rattle.csv.specs.Records.{fields_of};
 ghost use Rattle.values.specs.Columns.{rows_of as rows_of_columns};
-ghost use Rattle.csv_ingest.specs.Columns.{DefaultsFit, OfSorts};
+ghost use Rattle.csv_row.specs.Columns.{DefaultsFit, OfSorts};
 ghost use Rattle.csv_ingest.specs.Reading.{Reads, records_left};
-ghost use Rattle.csv_ingest.specs.Rows.{csv_limits, records_of, rows_in};
+ghost use Rattle.csv_row.specs.Row.{csv_limits};
+ghost use Rattle.csv_ingest.specs.Rows.{records_of, rows_in};
 ghost use Rattle.table_schema.specs.Valid.{IsValidSchema};
 ghost use Rattle.table_schema.specs.ValidTable.{AreRows};
 
 use crate::header::{check_names, names_in};
 use crate::records::{next_record, text_reader, unmarked_len};
 use crate::rows::columns_below;
-use crate::{CsvFault, CsvKind};
 use csv::{ByteRecord, Reader};
+use csv_row::{CsvFault, CsvKind};
 use std::alloc::Global;
 use table_schema::{Field, Schema};
 use values::{Columns, Rows};

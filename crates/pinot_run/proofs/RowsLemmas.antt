@@ -14,10 +14,11 @@ use Rattle.table_schema.specs.declared.field.Field.{Field}
 use Rattle.table_schema.specs.declared.table.Table.{Table}
 use Rattle.dictionary.specs.Dictionary as dictionary
 use Rattle.csv_ingest.specs.Blocks.{RowsOrFault}
-use Rattle.csv_ingest.specs.Rows.{csv_limits, records_of, rows_in}
+use Rattle.csv_row.specs.Row.{csv_limits}
+use Rattle.csv_ingest.specs.Rows.{records_of, rows_in}
 use Rattle.csv_ingest.specs.Unicode.{IsUnicode}
-use Rattle.csv_ingest.specs.declared.fault.CsvFault.{CsvFault}
-use Rattle.csv_ingest.specs.declared.fault.CsvFault.TheVariants as csv
+use Rattle.csv_row.specs.declared.fault.CsvFault.{CsvFault}
+use Rattle.csv_row.specs.declared.fault.CsvFault.TheVariants as csv
 use Rattle.csv_ingest.proofs.FaultLemmas.{any_columns}
 use Rattle.csv_ingest.proofs.UnicodeRows.{rows_are_unicode}
 use Rattle.pinot_run.specs.Build.{csv_rows, fitting, noted, segment_rows}

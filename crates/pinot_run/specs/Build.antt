@@ -11,8 +11,9 @@ use Rattle.table_schema.specs.declared.field.Field.{Field}
 use Rattle.table_schema.specs.declared.field.Schema.{Schema}
 use Rattle.table_schema.specs.declared.settings.Settings.{Settings}
 use Rattle.table_schema.specs.declared.table.Table.{Table}
-use Rattle.csv_ingest.specs.Rows.{csv_limits, records_of, rows_in}
-use Rattle.csv_ingest.specs.declared.fault.CsvFault.{CsvFault}
+use Rattle.csv_row.specs.Row.{csv_limits}
+use Rattle.csv_ingest.specs.Rows.{records_of, rows_in}
+use Rattle.csv_row.specs.declared.fault.CsvFault.{CsvFault}
 use Rattle.segment_build.specs.Growing.{trees_fit}
 use Rattle.segment_file.specs.Image.{CanHold, image}
 use Rattle.segment_file.specs.Names.{IsSegmentName, file_of}

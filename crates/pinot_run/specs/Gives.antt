@@ -6,7 +6,7 @@ use Rattle.outside.specs.Files.{Files, Has, Lacks, with_file}
 use Rattle.outside.specs.Whole.{IsTooLong}
 use Rattle.values.specs.declared.value.Value.{Value}
 use Rattle.csv_ingest.specs.Blocks.{RowsOrFault}
-use Rattle.csv_ingest.specs.declared.fault.CsvFault.{CsvFault}
+use Rattle.csv_row.specs.declared.fault.CsvFault.{CsvFault}
 use Rattle.table_schema.specs.declared.table.Table.{Table}
 use Rattle.table_store.specs.State as state
 use Rattle.table_store.specs.TableFile.{table_file, table_name}

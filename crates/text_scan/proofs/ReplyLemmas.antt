@@ -2,9 +2,10 @@
 use Rattle.std.proofs.Common.{◌≡◌, ℕ, true, List, Result, Ok, Err, refl}
 use Rattle.values.specs.declared.value.Value.{Value}
 use Rattle.table_schema.specs.declared.field.Schema.{Schema}
-use Rattle.csv_ingest.specs.Rows.{csv_limits, plain_in, records_of}
-use Rattle.csv_ingest.specs.declared.fault.CsvFault.{CsvFault}
-use Rattle.csv_ingest.specs.declared.fault.CsvFault.TheVariants as csv
+use Rattle.csv_row.specs.Row.{csv_limits}
+use Rattle.csv_ingest.specs.Rows.{plain_in, records_of}
+use Rattle.csv_row.specs.declared.fault.CsvFault.{CsvFault}
+use Rattle.csv_row.specs.declared.fault.CsvFault.TheVariants as csv
 use Rattle.sql_reply.specs.Laws.{NeverForMemory as ReplyNever}
 use Rattle.sql_reply.specs.SqlReply.{SqlReply, sql_reply}
 use Rattle.sql_reply.specs.declared.fault.SqlFault.TheVariants as queries

@@ -3,12 +3,14 @@ use Rattle.std.proofs.Common.{◌≡◌, refl, ℕ, Bool, true, false, cond, not
 use Rattle.std.specs.List.{enumerate_from}
 use Rattle.values.specs.declared.value.Value.{Value}
 use Rattle.table_schema.specs.declared.field.Field.{Field}
-use Rattle.csv_ingest.specs.declared.fault.CsvKind.{CsvKind}
-use Rattle.csv_ingest.specs.declared.fault.CsvFault.{CsvFault}
-use Rattle.csv_ingest.specs.declared.fault.CsvFault.TheVariants.{At, NoMemory, TooManyRows}
-use Rattle.csv_ingest.specs.declared.fault.CsvKind.TheVariants.{WrongLength}
+use Rattle.csv_row.specs.declared.fault.CsvKind.{CsvKind}
+use Rattle.csv_row.specs.declared.fault.CsvFault.{CsvFault}
+use Rattle.csv_row.specs.declared.fault.CsvFault.TheVariants.{At, NoMemory, TooManyRows}
+use Rattle.csv_row.specs.declared.fault.CsvKind.TheVariants.{WrongLength}
 use Rattle.csv_ingest.specs.Names.{number_name}
-use Rattle.csv_ingest.specs.Rows.{Limits, all_or_first, header_of, joined, name_at, place_of, placed, plain_in, row_at, rows_of, under, value_at, values_of, with_schema}
+use Rattle.csv_row.specs.Row.{Limits, place_of, placed, row_at, value_at, values_of}
+use Rattle.csv_row.specs.InOrder.{all_or_first, joined}
+use Rattle.csv_ingest.specs.Rows.{header_of, name_at, plain_in, rows_of, under, with_schema}
 
 -- a result that is none of memory
 abbrev Told : {A : Type 0} → Result A CsvFault → Type 0

@@ -4,10 +4,12 @@ use Rattle.values.specs.declared.value.Value.{Value}
 use Rattle.table_schema.specs.declared.field.Field.{Field}
 use Rattle.table_schema.specs.declared.field.Schema.{Schema}
 use Rattle.table_schema.specs.declared.query.BoundQuery.{BoundQuery}
-use Rattle.csv_ingest.specs.Blocks.{RowsOrFault, after}
-use Rattle.csv_ingest.specs.Rows.{csv_limits, plain_in, records_of, with_schema}
-use Rattle.csv_ingest.specs.declared.fault.CsvFault.{CsvFault}
-use Rattle.csv_ingest.specs.declared.fault.CsvFault.TheVariants as csv
+use Rattle.csv_ingest.specs.Blocks.{RowsOrFault}
+use Rattle.csv_row.specs.InOrder.{after}
+use Rattle.csv_row.specs.Row.{csv_limits}
+use Rattle.csv_ingest.specs.Rows.{plain_in, records_of, with_schema}
+use Rattle.csv_row.specs.declared.fault.CsvFault.{CsvFault}
+use Rattle.csv_row.specs.declared.fault.CsvFault.TheVariants as csv
 use Rattle.sql_reply.specs.Reply.{conjuncts_reply}
 use Rattle.sql_reply.specs.SqlReply.{replied, sql_reply}
 use Rattle.text_scan.specs.Parts.{IsTextFault, RepliesOver}

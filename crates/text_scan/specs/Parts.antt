@@ -4,7 +4,7 @@ use Rattle.std.specs.FinMap as finite
 use Rattle.values.specs.declared.value.Value.{Value}
 use Rattle.table_schema.specs.declared.query.BoundQuery.{BoundQuery}
 use Rattle.csv_ingest.specs.Blocks.{RowsOrFault}
-use Rattle.csv_ingest.specs.declared.fault.CsvFault.{CsvFault}
+use Rattle.csv_row.specs.declared.fault.CsvFault.{CsvFault}
 use Rattle.group_table.specs.Groups.{groups_of}
 use Rattle.group_table.specs.Kept.{KeptGroups, groups_in}
 use Rattle.group_table.specs.Shape.{shape_of}

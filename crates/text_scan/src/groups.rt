@@ -2,7 +2,8 @@
 ghost use Rattle.std.specs.Prelude.{◌≡◌, ◌≤◌, ◌<◌, ◌+◌, true, List, [], Ok, IfOk, IfErr, IfSome, OnOk, MatchOption};
 ghost use Rattle.values.specs.Columns.{rows_of as rows_of_columns};
 ghost use Rattle.values.specs.declared.value.Value.{Value};
-ghost use Rattle.csv_ingest.specs.Blocks.{RowsOrFault, after};
+ghost use Rattle.csv_ingest.specs.Blocks.{RowsOrFault};
+ghost use Rattle.csv_row.specs.InOrder.{after};
 ghost use Rattle.csv_ingest.specs.NumberBlocks.{Gives, IsNumberBlocks};
 ghost use Rattle.group_table.specs.Kept.{IsNew, IsTableOf};
 ghost use Rattle.scan_engine.specs.Numbers.{AreNumbers};

@@ -4,7 +4,8 @@ use Rattle.csv.specs.Records.{fields_of}
 use Rattle.csv.specs.declared.parser.State.TheVariants as st
 use Rattle.csv_ingest.specs.Blocks.{rows_from}
 use Rattle.csv_ingest.specs.Lines.{AtLineEnd}
-use Rattle.csv_ingest.specs.Rows.{csv_limits, plain_in}
+use Rattle.csv_row.specs.Row.{csv_limits}
+use Rattle.csv_ingest.specs.Rows.{plain_in}
 use Rattle.csv_ingest.proofs.HeaderLine.{first-line}
 use Rattle.csv_ingest.proofs.LineBlocks.{no-lines}
 use Rattle.csv_ingest.proofs.NumberTextLemmas.{below-header}

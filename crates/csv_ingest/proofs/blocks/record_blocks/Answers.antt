@@ -3,7 +3,8 @@ use Rattle.csv.specs.Reading.{strip_bom}
 use Rattle.csv.specs.Records.{fields_of}
 use Rattle.csv_ingest.specs.Blocks.{rows_from}
 use Rattle.csv_ingest.specs.Reading.{records_left}
-use Rattle.csv_ingest.specs.Rows.{csv_limits, plain_in, rows_of, with_schema}
+use Rattle.csv_row.specs.Row.{csv_limits}
+use Rattle.csv_ingest.specs.Rows.{plain_in, rows_of, with_schema}
 use Rattle.csv_ingest.proofs.BlockLemmas.{nothing-left}
 use Rattle.csv_ingest.proofs.NumberTextLemmas.{below-header, no-record}
 use Rattle.csv_ingest.proofs.blocks.record_blocks.Goals as goal

@@ -1,7 +1,7 @@
 use Rattle.std.proofs.Common.{◌≡◌, ◌+◌, [], Bor, List, ℕ, Err, refl, IsOk, map, sym, subst, arith}
 use Rattle.csv_ingest.specs.Names.{schema_name}
 use Rattle.csv_ingest.specs.Rows.{header_of}
-use Rattle.csv_ingest.specs.declared.fault.CsvFault.TheVariants.{At}
+use Rattle.csv_row.specs.declared.fault.CsvFault.TheVariants.{At}
 use Rattle.csv_ingest.proofs.HeaderLemmas.{names-begin, names-end, names-fault, names-on}
 use Rattle.csv_ingest.proofs.header.check_names.Goals as goal
 

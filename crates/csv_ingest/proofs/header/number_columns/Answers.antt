@@ -1,7 +1,7 @@
 use Rattle.std.proofs.Common.{◌≡◌, ◌∙◌, ◌+◌, Bor, List, ℕ, Ok, Err, map, sym, ap, subst, arith}
 use Rattle.csv_ingest.specs.Names.{number_name}
 use Rattle.csv_ingest.specs.Rows.{header_of}
-use Rattle.csv_ingest.specs.declared.fault.CsvFault.TheVariants.{At}
+use Rattle.csv_row.specs.declared.fault.CsvFault.TheVariants.{At}
 use Rattle.csv_ingest.proofs.HeaderLemmas.{NamesTo, names-more, names-fault}
 use Rattle.csv_ingest.proofs.header.number_columns.Goals as goal
 

@@ -5,7 +5,7 @@ use Rattle.values.specs.Columns.{Counts}
 use Rattle.values.specs.declared.value.Value.TheVariants.{Whole}
 use Rattle.values.proofs.RowLemmas.{counts-push}
 use Rattle.csv_ingest.specs.Lines.{IsLine}
-use Rattle.csv_ingest.proofs.ColumnLemmas.{sorts-stay, widths}
+use Rattle.csv_row.proofs.ColumnLemmas.{sorts-stay, widths}
 use Rattle.csv_ingest.proofs.LineRows.{RowsSoFar, are-lines, line-row, no-rows-yet, number-columns, rows-more}
 use Rattle.csv_ingest.proofs.lines.push_lines.Goals as goal
 

@@ -4,7 +4,8 @@ use Rattle.values.specs.Columns.{rows_of as rows_of_columns}
 use Rattle.table_schema.specs.declared.field.Schema.{Schema}
 use Rattle.csv_ingest.specs.NumberBlocks.{AreNumbers}
 use Rattle.csv_ingest.specs.Reading.{records_left}
-use Rattle.csv_ingest.specs.Rows.{csv_limits, plain_in, with_schema}
+use Rattle.csv_row.specs.Row.{csv_limits}
+use Rattle.csv_ingest.specs.Rows.{plain_in, with_schema}
 use Rattle.csv_ingest.proofs.BlockLemmas.{whole-block}
 use Rattle.csv_ingest.proofs.NumberLemmas.{number-columns}
 use Rattle.csv_ingest.proofs.NumberTextLemmas.{below-header, no-record}

@@ -3,7 +3,8 @@ use Rattle.std.specs.List.{All}
 use Rattle.csv.specs.Reading.{strip_bom}
 use Rattle.values.specs.Columns.{rows_of as rows_of_columns}
 use Rattle.csv_ingest.specs.Reading.{Reads, records_left}
-use Rattle.csv_ingest.specs.Rows.{csv_limits, IsNumbers, plain_in}
+use Rattle.csv_row.specs.Row.{csv_limits}
+use Rattle.csv_ingest.specs.Rows.{IsNumbers, plain_in}
 use Rattle.csv_ingest.proofs.NumberLemmas.{few-plain, numbers-plain}
 use Rattle.csv_ingest.proofs.NumberTextLemmas.{ok-at}
 use Rattle.csv_ingest.proofs.ValidRows.{rows_by_header}

@@ -1,7 +1,7 @@
 use Rattle.std.proofs.Common.{◌≡◌, map, take}
 use Rattle.std.specs.List.{All}
 use Rattle.values.specs.Columns.{Counts}
-use Rattle.csv_ingest.specs.Columns.{is_text_kind}
+use Rattle.csv_row.specs.Columns.{is_text_kind}
 use Rattle.csv_ingest.proofs.rows.empty_columns.Given as goal
 
 abbrev pub invariant-loop-field : goal.invariant-loop-field

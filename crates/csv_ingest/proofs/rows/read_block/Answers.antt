@@ -4,9 +4,9 @@ use Rattle.csv.specs.Records.{fields_of}
 use Rattle.values.specs.Columns.{Counts, rows_in_columns}
 use Rattle.values.proofs.RowLemmas.{counts-push, rows-push}
 use Rattle.csv_ingest.specs.Blocks.{IsBlock, IsFullBlock, IsLastBlock}
-use Rattle.csv_ingest.specs.Rows.{csv_limits, row_at}
-use Rattle.csv_ingest.proofs.BlockLemmas.{begins, ends-all, one-fault, one-more}
-use Rattle.csv_ingest.proofs.ColumnLemmas.{no-rows, sorts-stay}
+use Rattle.csv_row.specs.Row.{csv_limits, row_at}
+use Rattle.csv_ingest.proofs.BlockLemmas.{begins, ends-all, one-fault, one-more, no-rows}
+use Rattle.csv_row.proofs.ColumnLemmas.{sorts-stay}
 use Rattle.csv_ingest.proofs.rows.read_block.Goals as goal
 
 pub rows-init : goal.rows-init

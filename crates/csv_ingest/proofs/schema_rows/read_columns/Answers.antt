@@ -3,7 +3,8 @@ use Rattle.csv.specs.Reading.{strip_bom}
 use Rattle.values.specs.Columns.{rows_of as rows_of_columns}
 use Rattle.table_schema.specs.ValidTable.{AreRows}
 use Rattle.csv_ingest.specs.Reading.{Reads, records_left}
-use Rattle.csv_ingest.specs.Rows.{csv_limits, rows_in}
+use Rattle.csv_row.specs.Row.{csv_limits}
+use Rattle.csv_ingest.specs.Rows.{rows_in}
 use Rattle.csv_ingest.proofs.NumberTextLemmas.{ok-at}
 use Rattle.csv_ingest.proofs.ValidRows.{rows_by_schema}
 use Rattle.csv_ingest.proofs.schema_rows.read_columns.Goals as goal

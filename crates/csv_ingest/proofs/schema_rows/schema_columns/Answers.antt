@@ -3,7 +3,8 @@ use Rattle.csv.specs.Records.{fields_of}
 use Rattle.csv_ingest.specs.Names.{schema_name}
 use Rattle.values.specs.Columns.{rows_of as rows_of_columns}
 use Rattle.csv_ingest.specs.Reading.{records_left}
-use Rattle.csv_ingest.specs.Rows.{csv_limits, header_of, rows_of}
+use Rattle.csv_row.specs.Row.{csv_limits}
+use Rattle.csv_ingest.specs.Rows.{header_of, rows_of}
 use Rattle.csv_ingest.proofs.SchemaLemmas.{bad-names, good-names}
 use Rattle.csv_ingest.proofs.NumberTextLemmas.{err-at, ok-at}
 use Rattle.csv_ingest.proofs.schema_rows.schema_columns.Goals as goal

@@ -1,7 +1,8 @@
 use Rattle.std.proofs.Common.{◌∙◌, ap, arith}
 use Rattle.csv.specs.Records.{fields_of}
 use Rattle.csv_ingest.specs.Reading.{records_left}
-use Rattle.csv_ingest.specs.Rows.{csv_limits, rows_in}
+use Rattle.csv_row.specs.Row.{csv_limits}
+use Rattle.csv_ingest.specs.Rows.{rows_in}
 use Rattle.csv_ingest.proofs.CountLemmas.{cells-count}
 use Rattle.csv_ingest.proofs.SchemaLemmas.{no-names}
 use Rattle.csv_ingest.proofs.NumberTextLemmas.{err-at, ok-at}

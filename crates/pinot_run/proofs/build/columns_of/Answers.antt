@@ -1,7 +1,8 @@
 use Rattle.std.proofs.Common.{◌∙◌, length, sym, ap, subst, All}
 use Rattle.std.proofs.lemmas.List.{length-map}
-use Rattle.csv_ingest.specs.Columns.{is_text_kind}
-use Rattle.csv_ingest.specs.Rows.{csv_limits, records_of, rows_in}
+use Rattle.csv_row.specs.Columns.{is_text_kind}
+use Rattle.csv_row.specs.Row.{csv_limits}
+use Rattle.csv_ingest.specs.Rows.{records_of, rows_in}
 use Rattle.csv_ingest.specs.Unicode.{IsUnicode}
 use Rattle.csv_ingest.proofs.FaultLemmas.{any_columns}
 use Rattle.csv_ingest.proofs.ValidLemmas.{valid-defaults}

@@ -1,6 +1,6 @@
 use Rattle.std.proofs.Common.{◌∙◌, length, sym, ap}
 use Rattle.std.proofs.lemmas.List.{length-map}
-use Rattle.csv_ingest.specs.Columns.{is_text_kind}
+use Rattle.csv_row.specs.Columns.{is_text_kind}
 use Rattle.csv_ingest.proofs.ValidLemmas.{valid-defaults}
 use Rattle.store_tests.proofs.built.compared.Goals as goal
 

@@ -1,5 +1,5 @@
 use Rattle.std.proofs.Common.{◌∙◌, ◌++◌, ◌+◌, ◌-◌, ◌≤◌, [], Err, sym, ap, subst, arith}
-use Rattle.csv_ingest.specs.Blocks.{after}
+use Rattle.csv_row.specs.InOrder.{after}
 use Rattle.values.specs.Columns.{rows_of}
 use Rattle.group_table.specs.Kept.{groups_in}
 use Rattle.group_table.specs.Groups.{Groups}

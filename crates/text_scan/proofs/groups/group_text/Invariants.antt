@@ -1,6 +1,7 @@
 use Rattle.std.proofs.Common.{◌≡◌, ◌+◌, ◌≤◌, ℕ, List}
 use Rattle.values.specs.declared.value.Value.{Value}
-use Rattle.csv_ingest.specs.Blocks.{RowsOrFault, after}
+use Rattle.csv_ingest.specs.Blocks.{RowsOrFault}
+use Rattle.csv_row.specs.InOrder.{after}
 use Rattle.csv_ingest.specs.NumberBlocks.{Gives, IsNumberBlocks}
 use Rattle.group_table.specs.Groups.{groups_of}
 use Rattle.group_table.specs.Kept.{IsTableOf, groups_in}

@@ -1,5 +1,6 @@
 use Rattle.std.proofs.Common.{◌∙◌, ◌++◌, [], ap}
-use Rattle.csv_ingest.specs.Blocks.{RowsOrFault, after}
+use Rattle.csv_ingest.specs.Blocks.{RowsOrFault}
+use Rattle.csv_row.specs.InOrder.{after}
 use Rattle.csv_ingest.specs.NumberBlocks.{Gives}
 use Rattle.values.specs.Columns.{rows_of}
 use Rattle.text_scan.specs.Parts.{IsTextFault}

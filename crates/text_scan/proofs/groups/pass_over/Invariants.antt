@@ -1,6 +1,7 @@
 use Rattle.std.proofs.Common.{◌≡◌, List}
 use Rattle.values.specs.declared.value.Value.{Value}
-use Rattle.csv_ingest.specs.Blocks.{RowsOrFault, after}
+use Rattle.csv_ingest.specs.Blocks.{RowsOrFault}
+use Rattle.csv_row.specs.InOrder.{after}
 use Rattle.csv_ingest.specs.NumberBlocks.{Gives, IsNumberBlocks}
 use Rattle.text_scan.proofs.groups.pass_over.Given as goal
 

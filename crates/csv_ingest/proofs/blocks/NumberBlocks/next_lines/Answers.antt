@@ -3,7 +3,8 @@ use Rattle.csv.specs.Reading.{default_config, records_from}
 use Rattle.csv.specs.Records.{fields_of}
 use Rattle.csv.specs.declared.parser.State.TheVariants as st
 use Rattle.values.specs.Columns.{rows_of as rows_of_columns}
-use Rattle.csv_ingest.specs.Blocks.{after, rows_from}
+use Rattle.csv_row.specs.InOrder.{after}
+use Rattle.csv_ingest.specs.Blocks.{rows_from}
 use Rattle.csv_ingest.specs.Lines.{AtLineEnd}
 use Rattle.csv_ingest.proofs.LineBlocks.{by-lines, lines-left, lines-next, no-lines}
 use Rattle.csv_ingest.proofs.NumberLemmas.{number-columns}

@@ -1,8 +1,8 @@
 use Rattle.std.proofs.Common.{◌≡◌, ◌∙◌, Bor, ℕ, List, IfOk, map, ap, subst, sym}
 use Rattle.csv.specs.Records.{fields_of}
 use Rattle.table_schema.specs.declared.field.Field.{Field}
-use Rattle.csv_ingest.specs.Columns.{DefaultsFit, OfSorts}
-use Rattle.csv_ingest.specs.Layouts.{header_of}
+use Rattle.csv_row.specs.Columns.{DefaultsFit, OfSorts}
+use Rattle.csv_row.specs.Layouts.{header_of}
 use Rattle.csv_ingest.proofs.NumberLemmas.{number-defaults}
 use Rattle.csv_ingest.proofs.BlockLemmas.{block-under, fault-under}
 use Rattle.csv_ingest.proofs.blocks.NumberHeader.next_block.Goals as goal

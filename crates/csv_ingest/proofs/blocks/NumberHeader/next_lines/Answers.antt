@@ -1,6 +1,6 @@
 use Rattle.std.proofs.Common.{subst, sym}
 use Rattle.csv.specs.Records.{fields_of}
-use Rattle.csv_ingest.specs.Columns.{DefaultsFit}
+use Rattle.csv_row.specs.Columns.{DefaultsFit}
 use Rattle.csv_ingest.proofs.NumberLemmas.{number-defaults}
 use Rattle.csv_ingest.proofs.blocks.NumberHeader.next_lines.Goals as goal
 

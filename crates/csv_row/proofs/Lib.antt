@@ -1,0 +1,5 @@
+pub mod CellLemmas
+pub mod ColumnLemmas
+mod Fields
+pub mod InOrder
+mod RowLemmas

@@ -1,0 +1,9 @@
+use Rattle.csv_row.proofs.layout.Layout.new.Goals as goal
+
+pub returns-clause-is : goal.returns-clause-is
+returns-clause-is c = record {
+  places = c.in_ok-places.ensures;
+  most = c.most_rows-most.ensures;
+  few = c.requires.few;
+  defaults = c.requires.defaults;
+}

@@ -1,0 +1,11 @@
+//! One record of a CSV text becomes a row at the ends of columns, or a fault.
+#![tactic(auto)]
+
+mod cells;
+mod fault;
+mod layout;
+mod row;
+
+pub use cells::{cell, text_of};
+pub use fault::{CsvFault, CsvKind};
+pub use layout::Layout;
