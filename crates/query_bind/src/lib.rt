@@ -2,18 +2,5 @@
 #![tactic(auto)]
 
 mod bound;
-mod checks;
-mod columns;
-mod condition;
-mod conjuncts;
-mod distinct;
-mod fault;
-mod items;
-mod labels;
-pub mod laws;
-mod lookups;
-mod normal;
-mod terms;
 
 pub use bound::bind;
-pub use fault::{BindFault, BindReason};

@@ -5,8 +5,8 @@ use Rattle.table_schema.specs.declared.table.Table.{Table}
 use Rattle.query_parser.specs.Query.{parsed}
 use Rattle.query_parser.specs.declared.tree.Query.{Query}
 use Rattle.query_parser.specs.declared.fault.QueryFault.{QueryFault}
-use Rattle.query_bind.specs.Bound.{Bound, bound, in_normal_form}
-use Rattle.query_bind.specs.declared.fault.BindFault.{BindFault}
+use Rattle.bound_parts.specs.Bound.{Bound, bound, in_normal_form}
+use Rattle.query_where.specs.declared.fault.BindFault.{BindFault}
 use Rattle.sql_reply.specs.SqlReply.{bind_fault, query_fault, sql_limit}
 use Rattle.sql_reply.specs.declared.fault.SqlFault.{SqlFault}
 use Rattle.sql_reply.specs.declared.fault.SqlFault.TheVariants.{LongQuery, NoMemory}

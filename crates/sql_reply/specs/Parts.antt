@@ -4,9 +4,9 @@ use Rattle.table_schema.specs.declared.query.BoundQuery.{BoundQuery}
 use Rattle.table_schema.specs.declared.table.Table.{Table}
 use Rattle.query_parser.specs.Query.{parsed}
 use Rattle.query_parser.specs.declared.tree.Query.{Query}
-use Rattle.query_bind.specs.Bound.{Bound, bound, in_normal_form}
-use Rattle.query_bind.specs.Conjuncts.{KeepRows}
-use Rattle.query_bind.specs.Written.{where_written}
+use Rattle.bound_parts.specs.Bound.{Bound, bound, in_normal_form}
+use Rattle.query_where.specs.Conjuncts.{KeepRows}
+use Rattle.query_where.specs.Written.{where_written}
 use Rattle.sql_reply.specs.SqlReply.{sql_limit}
 
 -- a text within the limit is this query

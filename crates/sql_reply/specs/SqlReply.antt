@@ -6,9 +6,9 @@ use Rattle.query_parser.specs.Query.{parsed}
 use Rattle.query_parser.specs.declared.tree.Query.{Query}
 use Rattle.query_parser.specs.declared.fault.QueryFault.{QueryFault}
 use Rattle.query_parser.specs.declared.fault.QueryFault.TheVariants as parse
-use Rattle.query_bind.specs.Bound.{Bound, bound}
-use Rattle.query_bind.specs.declared.fault.BindFault.{BindFault}
-use Rattle.query_bind.specs.declared.fault.BindFault.TheVariants as bind
+use Rattle.bound_parts.specs.Bound.{Bound, bound}
+use Rattle.query_where.specs.declared.fault.BindFault.{BindFault}
+use Rattle.query_where.specs.declared.fault.BindFault.TheVariants as bind
 use Rattle.broker_merge.specs.Reply as groups
 use Rattle.sql_reply.specs.Reply.{most_groups, reply_of}
 use Rattle.sql_reply.specs.declared.fault.SqlFault.{SqlFault}

@@ -1,8 +1,8 @@
 //! Why a query over a text has no reply.
 
 use csv_ingest::CsvKind;
-use query_bind::BindReason;
 use query_parser::Reason;
+use query_where::BindReason;
 use std::alloc::AllocError;
 
 /// Why a query over a text has no reply. What is wrong with the text comes before what is wrong with

@@ -1,9 +1,9 @@
 use Rattle.std.proofs.Common.{Ok, ap, ◌∙◌}
-use Rattle.query_bind.specs.Names.{where_finding}
-use Rattle.query_bind.specs.Written.{where_written}
-use Rattle.query_bind.specs.Conjuncts.{where_conjuncts}
+use Rattle.query_where.specs.Names.{where_finding}
+use Rattle.query_where.specs.Written.{where_written}
+use Rattle.query_where.specs.Conjuncts.{where_conjuncts}
 use Rattle.query_bind.proofs.BoundLemmas.{answers_bound, where_passes}
-use Rattle.query_bind.proofs.ValidLemmas.{binds_valid}
+use Rattle.bound_parts.proofs.ValidLemmas.{binds_valid}
 use Rattle.query_bind.proofs.bound.bind.Goals as goal
 
 pub returns-clause-bound : goal.returns-clause-bound

@@ -1,0 +1,5 @@
+pub mod Faults
+pub mod Written
+pub mod Conjuncts
+pub mod Names
+pub mod FaultTexts
