@@ -17,7 +17,6 @@ use Rattle.index_reading.specs.Entries.{entries_at}
 use Rattle.index_reading.specs.Stretches.{LogsOver, LogsPartly, Stretch}
 use Rattle.segment_file.specs.Columns.{place_of}
 use Rattle.segment_head.specs.Heads.{Seen, bytes_in, place_in}
-use Rattle.segment_file.specs.Heads.{Seen, bytes_in, place_in}
 use Rattle.segment_file.specs.declared.part.Part.TheVariants as parts
 use Rattle.segment_plan.specs.Matched.{values_in}
 use Rattle.document_reading.specs.Forward.{count_in}

@@ -16,7 +16,8 @@ use bit_column::{append_range, width_for};
 use coded_scan::Ids;
 use doc_lists::Run;
 use outside::Shelf;
-use segment_file::{Head, Part};
+use segment_file::Part;
+use segment_head::Head;
 use std::alloc::Global;
 
 /// The ids of documents in a column: of its forward section the ids of the runs are read, one run

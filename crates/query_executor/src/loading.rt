@@ -19,8 +19,6 @@ use crate::wanted::{detailed_columns, wanted_columns};
 use document_reading::EngineFault;
 use outside::Shelf;
 use segment_head::Head;
-use segment_scan::EngineFault;
-use segment_file::Head;
 use std::alloc::Global;
 use table_schema::{BoundQuery, Table};
 

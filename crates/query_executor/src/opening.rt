@@ -14,8 +14,6 @@ use document_reading::EngineFault;
 use outside::Shelf;
 use segment_file::{HeadFault, image_keeps_law};
 use segment_head::{Head, open_head};
-use segment_scan::EngineFault;
-use segment_file::{Head, HeadFault, image_keeps_law, open_head};
 use std::alloc::{AllocError, Global};
 use table_schema::Table;
 

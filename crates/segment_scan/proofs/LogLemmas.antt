@@ -3,8 +3,6 @@ use Rattle.std.proofs.Common.{◌≡◌, ◌<◌, ℕ, suc, Bool, false, List, O
 use Rattle.std.specs.Prelude.{OnErr}
 use Rattle.outside.specs.Reads.{Entry}
 use Rattle.segment_head.specs.Heads.{Seen}
-use Rattle.segment_scan.specs.Forward.{LogsColumns, LogsNamed, LogsPartly, LogsSome}
-use Rattle.segment_file.specs.Heads.{Seen}
 use Rattle.document_reading.specs.Forward.{LogsColumns, LogsNamed, LogsPartly, LogsSome}
 
 -- nothing was read

@@ -18,7 +18,7 @@ use Rattle.segment_file.specs.declared.part.Part.{Part}
 use Rattle.segment_file.specs.declared.part.Part.TheVariants.{Forward}
 use Rattle.segment_head.specs.Heads.{IsHeadOf, IsLoaded, Seen}
 use Rattle.segment_file.specs.Ordered.{ordered}
-pub use Rattle.segment_file.specs.Stored.{IsOfImage, IsNoImage}
+pub use Rattle.segment_head.specs.Stored.{IsOfImage, IsNoImage}
 use Rattle.segment_plan.specs.Choices.{choice_of}
 use Rattle.segment_plan.specs.declared.plans.IndexChoice.{IndexChoice}
 use Rattle.segment_plan.specs.declared.plans.IndexChoice.TheVariants.{Range}

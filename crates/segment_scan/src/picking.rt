@@ -15,9 +15,7 @@ use coded_scan::Ids;
 use doc_lists::Run;
 use document_reading::{EngineFault, pick_column};
 use outside::Shelf;
-use segment_file::Part;
 use segment_head::Head;
-use segment_file::Head;
 use std::alloc::Global;
 
 /// The ids of documents in the columns that are named, by the numbers of their fields: of the

@@ -3,15 +3,12 @@
 ghost use Rattle.std.specs.Prelude.{◌≡◌, ◌<◌, ◌≤◌, true, IfOk, length};
 ghost use Rattle.table_schema.specs.Columns.{is_member};
 ghost use Rattle.eligibility.specs.Rule.{is_eligible, is_kept};
-ghost use Rattle.segment_head.specs.Heads.{IsLoaded};
 ghost use Rattle.star_answer.specs.Served.{field_of, pair_of};
 ghost use Rattle.star_answer.specs.Tasks.{AreColumnsOf, AreGroupsLoaded, ArePairsOf};
 ghost use Rattle.star_answer.specs.Tasks.{split_values};
 
 use crate::NoMemory;
-use crate::asked::GroupColumn;
 use segment_head::Head;
-use segment_file::Head;
 use star_taking::GroupColumn;
 use std::alloc::Global;
 use table_schema::{Agg, BoundQuery, TreeSetting};

@@ -1,8 +1,6 @@
 use Rattle.std.proofs.Common.{◌≡◌, ℕ, Option, Err, ap}
 use Rattle.outside.specs.Files.{Files}
 use Rattle.segment_head.specs.Heads.{Seen}
-use Rattle.star_answer.specs.declared.asked.Asked.{Asked}
-use Rattle.segment_file.specs.Heads.{Seen}
 use Rattle.star_taking.specs.declared.asked.Asked.{Asked}
 use Rattle.star_answer.specs.declared.segment_fault.SegmentFault.TheVariants as segments
 use Rattle.star_answer.proofs.SegmentSteps as steps
