@@ -4,20 +4,20 @@ use Rattle.outside.specs.Counts.{Rose}
 use Rattle.outside.specs.Files.{Files}
 use Rattle.outside.specs.Sink.{appended, AppendsPrefix}
 use Rattle.table_store.specs.State.{State}
-use Rattle.pinot_run.specs.Command.{Command}
-use Rattle.pinot_run.specs.Notes.{is_fault, note_text, status_of, status_of_fault}
+use Rattle.command_words.specs.Command.{Command}
+use Rattle.command_words.specs.Notes.{is_fault, note_text, status_of, status_of_fault}
 use Rattle.pinot_run.specs.Promise.{Counted, IsAnswered, IsGiven, IsStep, Leaves, Noted, Promise}
-use Rattle.pinot_run.specs.Ran.{Acted, IsStepped, NoFaults, Ran, WhereStands}
-use Rattle.pinot_run.specs.Step.{Answer, Refuses, Replies, status_after, step_of}
+use Rattle.command_reads.specs.Ran.{Acted, IsStepped, NoFaults, Ran, WhereStands}
+use Rattle.command_reads.specs.Step.{Answer, Refuses, Replies, status_after, step_of}
 use Rattle.outside.specs.Seen.{Heard}
-use Rattle.pinot_run.specs.World.{Devices, World}
-use Rattle.pinot_run.specs.declared.fault.Fault.{Fault}
-use Rattle.pinot_run.specs.declared.fault.Fault.TheVariants as fault
-use Rattle.pinot_run.specs.declared.note.Note.{Note}
-use Rattle.pinot_run.specs.declared.note.Note.TheVariants as note
-use Rattle.pinot_run.specs.declared.stop.Stop.TheVariants as stop
-use Rattle.pinot_run.specs.declared.status.Status.{Status}
-use Rattle.pinot_run.specs.declared.status.Status.TheVariants as status
+use Rattle.command_reads.specs.World.{Devices, World}
+use Rattle.command_words.specs.declared.fault.Fault.{Fault}
+use Rattle.command_words.specs.declared.fault.Fault.TheVariants as fault
+use Rattle.command_words.specs.declared.note.Note.{Note}
+use Rattle.command_words.specs.declared.note.Note.TheVariants as note
+use Rattle.command_words.specs.declared.stop.Stop.TheVariants as stop
+use Rattle.command_words.specs.declared.status.Status.{Status}
+use Rattle.command_words.specs.declared.status.Status.TheVariants as status
 
 -- what holds of one thing wherever files are told and stand for a state holds of another that follows of it
 where_map : (held stored : Option Files) (P Q : State → Files → Type 0) → ((state : State) (files : Files) → P state files → Q state files) → WhereStands held stored P → WhereStands held stored Q

@@ -38,26 +38,26 @@ use Rattle.table_store.proofs.AcceptedLemmas.{accepted_valid}
 use Rattle.table_store.proofs.KeyLemmas.{keys_stand}
 use Rattle.table_store.proofs.SegmentLemmas.{is_name, tied_name}
 use Rattle.table_store.proofs.StandsLemmas.{table_there}
-use Rattle.pinot_run.specs.Command.{Ask, Build, Command, Create, Listing, Scan}
-use Rattle.pinot_run.specs.Consulted.{Consulted, IsFileAmong, ReadsAbout, ReadsAsked, ReadsEach, ReadsHeads, ReadsStored}
+use Rattle.command_words.specs.Command.{Ask, Build, Command, Create, Listing, Scan}
+use Rattle.command_reads.specs.Consulted.{Consulted, IsFileAmong, ReadsAbout, ReadsAsked, ReadsEach, ReadsHeads, ReadsStored}
 use Rattle.pinot_run.specs.Laws.{IsLiveFile, ReadsFor, ReadsSegment, ReadsState, SegmentsRead, is_done}
-use Rattle.pinot_run.specs.Notes.{status_of}
-use Rattle.pinot_run.specs.Profile.{TableFile}
+use Rattle.command_words.specs.Notes.{status_of}
+use Rattle.command_reads.specs.Profile.{TableFile}
 use Rattle.pinot_run.specs.Promise.{Promise}
-use Rattle.pinot_run.specs.Queried.{rows_in}
-use Rattle.pinot_run.specs.Ran.{IsAllowed}
-use Rattle.pinot_run.specs.Step.{Answer, Refuses, Replies, status_after}
-use Rattle.pinot_run.specs.Stored.{HasTableFile}
-use Rattle.pinot_run.specs.Touched.{LogsOpened}
-use Rattle.pinot_run.specs.World.{Devices, World}
-use Rattle.pinot_run.specs.declared.about.About.{About}
-use Rattle.pinot_run.specs.declared.about.About.TheVariants.{Plans, Rows, RowsAndPlans}
-use Rattle.pinot_run.specs.declared.note.Note.{Note}
-use Rattle.pinot_run.specs.declared.note.Note.TheVariants as note
-use Rattle.pinot_run.specs.declared.status.Status.{Status}
-use Rattle.pinot_run.specs.declared.status.Status.TheVariants as status
-use Rattle.pinot_run.proofs.MachineLemmas.{came, key_named, key_there}
-use Rattle.pinot_run.proofs.ReadLemmas.{not_table, stored_of, table_heads, unread}
+use Rattle.command_reads.specs.Queried.{rows_in}
+use Rattle.command_reads.specs.Ran.{IsAllowed}
+use Rattle.command_reads.specs.Step.{Answer, Refuses, Replies, status_after}
+use Rattle.command_reads.specs.Stored.{HasTableFile}
+use Rattle.command_reads.specs.Touched.{LogsOpened}
+use Rattle.command_reads.specs.World.{Devices, World}
+use Rattle.command_words.specs.declared.about.About.{About}
+use Rattle.command_words.specs.declared.about.About.TheVariants.{Plans, Rows, RowsAndPlans}
+use Rattle.command_words.specs.declared.note.Note.{Note}
+use Rattle.command_words.specs.declared.note.Note.TheVariants as note
+use Rattle.command_words.specs.declared.status.Status.{Status}
+use Rattle.command_words.specs.declared.status.Status.TheVariants as status
+use Rattle.command_reads.proofs.MachineLemmas.{came, key_named, key_there}
+use Rattle.command_reads.proofs.ReadLemmas.{not_table, stored_of, table_heads, unread}
 
 -- ---- places in lists
 

@@ -15,15 +15,15 @@ use Rattle.table_store.specs.Accepted.{IsAccepted}
 use Rattle.table_store.specs.Stands.{Stands}
 use Rattle.table_store.specs.State.{HasTable, Segment, Segments, Texts}
 use Rattle.table_store.specs.TableFile.{table_name}
-use Rattle.pinot_run.specs.Command.{Ask, Command}
-use Rattle.pinot_run.specs.Notes.{is_fault}
+use Rattle.command_words.specs.Command.{Ask, Command}
+use Rattle.command_words.specs.Notes.{is_fault}
 use Rattle.pinot_run.specs.Promise.{Promise}
-use Rattle.pinot_run.specs.Ran.{WhereStands}
-use Rattle.pinot_run.specs.Step.{step_of}
-use Rattle.pinot_run.specs.World.{World}
-use Rattle.pinot_run.specs.declared.about.About.TheVariants.{Rows, RowsAndPlans}
-use Rattle.pinot_run.specs.declared.status.Status.{Status}
-use Rattle.pinot_run.specs.declared.status.Status.TheVariants as status
+use Rattle.command_reads.specs.Ran.{WhereStands}
+use Rattle.command_reads.specs.Step.{step_of}
+use Rattle.command_reads.specs.World.{World}
+use Rattle.command_words.specs.declared.about.About.TheVariants.{Rows, RowsAndPlans}
+use Rattle.command_words.specs.declared.status.Status.{Status}
+use Rattle.command_words.specs.declared.status.Status.TheVariants as status
 
 -- two commands that end without a fault leave the store that their steps leave, one after the other
 abbrev pub PromisesCompose : Type 0

@@ -2,17 +2,17 @@
 use Rattle.std.specs.Prelude.{◌≡◌, ◌≢◌, ◌⊎◌, ◌≤◌, ℕ, true, false, List, Option}
 use Rattle.outside.specs.Counts.{Rose}
 use Rattle.outside.specs.Sink.{appended, AppendsPrefix}
-use Rattle.pinot_run.specs.Command.{Command}
-use Rattle.pinot_run.specs.Consulted.{AtMostRead}
-use Rattle.pinot_run.specs.Notes.{fault_line, is_fault}
-use Rattle.pinot_run.specs.Profile.{may_read, profile}
-use Rattle.pinot_run.specs.Ran.{Acted, IsStepped, WhereStands}
-use Rattle.pinot_run.specs.Step.{After, Answer, line_of, status_after, step_of, text_of}
-use Rattle.pinot_run.specs.Touched.{Touched}
+use Rattle.command_words.specs.Command.{Command}
+use Rattle.command_reads.specs.Consulted.{AtMostRead}
+use Rattle.command_words.specs.Notes.{fault_line, is_fault}
+use Rattle.command_reads.specs.Profile.{may_read, profile}
+use Rattle.command_reads.specs.Ran.{Acted, IsStepped, WhereStands}
+use Rattle.command_reads.specs.Step.{After, Answer, line_of, status_after, step_of, text_of}
+use Rattle.command_reads.specs.Touched.{Touched}
 use Rattle.outside.specs.Seen.{Heard}
-use Rattle.pinot_run.specs.World.{World}
-use Rattle.pinot_run.specs.declared.status.Status.{Status}
-use Rattle.pinot_run.specs.declared.status.Status.TheVariants as status
+use Rattle.command_reads.specs.World.{World}
+use Rattle.command_words.specs.declared.status.Status.{Status}
+use Rattle.command_words.specs.declared.status.Status.TheVariants as status
 
 -- an answer was given whole
 pub record IsGiven (answer : Answer) (ended : Status) (old new : World) : Type 0 where

@@ -2,14 +2,11 @@
 ghost use Rattle.std.specs.Prelude.{◌≡◌, ◌≢◌, ◌⊎◌, ◌≤◌, true, false};
 ghost use Rattle.outside.specs.Counts.{Rose};
 ghost use Rattle.outside.specs.Sink.{appended, AppendsPrefix};
-ghost use Rattle.pinot_run.specs.Notes.{fault_line, is_fault, note_text, status_of, status_of_fault};
+ghost use Rattle.command_words.specs.Notes.{fault_line, is_fault, note_text, status_of, status_of_fault};
 ghost use Rattle.pinot_run.specs.Promise.{Noted};
 ghost use Rattle.outside.specs.Seen.{heard};
 
-use crate::Status;
-use crate::fault::Fault;
-use crate::line::{note_line, status_of};
-use crate::note::Note;
+use command_words::{Fault, Note, Status, note_line, status_of};
 use outside::{Bytes, Sink};
 use std::alloc::Global;
 

@@ -1,25 +1,22 @@
 //! The top call.
 ghost use Rattle.std.specs.Prelude.{◌≡◌, ◌⊎◌, ◌≤◌, false, map, string_bytes};
-ghost use Rattle.pinot_run.specs.Command.{command_of};
-ghost use Rattle.pinot_run.specs.Consulted.{AtMostRead};
-ghost use Rattle.pinot_run.specs.Notes.{is_fault};
+ghost use Rattle.command_words.specs.Command.{command_of};
+ghost use Rattle.command_reads.specs.Consulted.{AtMostRead};
+ghost use Rattle.command_words.specs.Notes.{is_fault};
 ghost use Rattle.pinot_run.specs.Promise.{Counted, IsQuiet, IsStep, Leaves, Noted, Promise};
-ghost use Rattle.pinot_run.specs.Ran.{Ran, WhereStands};
-ghost use Rattle.pinot_run.specs.Step.{status_after, step};
-ghost use Rattle.pinot_run.specs.Touched.{Touched};
+ghost use Rattle.command_reads.specs.Ran.{Ran, WhereStands};
+ghost use Rattle.command_reads.specs.Step.{status_after, step};
+ghost use Rattle.command_reads.specs.Touched.{Touched};
 ghost use Rattle.outside.specs.Seen.{heard};
-ghost use Rattle.pinot_run.specs.World.{devices, world};
+ghost use Rattle.command_reads.specs.World.{devices, world};
 
-use crate::Status;
-use crate::build::build;
-use crate::command::{Command, read_command};
-use crate::create::create;
 use crate::finish::{give_note, give_text, note_fault, status_of_fault};
-use crate::list::list;
-use crate::note::Note;
-use crate::query::ask;
-use crate::scan::scan;
-use crate::stop::Stop;
+use command_reads::list::list;
+use command_reads::scan::scan;
+use command_steps::build::build;
+use command_steps::create::create;
+use command_steps::query::ask;
+use command_words::{Command, Note, Status, Stop, read_command};
 use outside::{Bytes, Depot, Shelf, Sink};
 use std::alloc::Global;
 

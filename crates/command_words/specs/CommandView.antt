@@ -1,0 +1,18 @@
+-- What the code's commands say.
+use Rattle.segment_file.specs.Names.{IsSegmentName}
+use Rattle.command_words.specs.Command as spec
+use Rattle.command_words.specs.declared.command.Command.{Command}
+use Rattle.command_words.specs.declared.command.Command.TheVariants as code
+
+-- the command that a value of the code stands for
+abbrev pub command_view : Command → spec.Command
+command_view (code.Scan file sql) = spec.Scan file.now sql.now
+command_view (code.Create schema settings) = spec.Create schema.now settings.now
+command_view (code.Build name csv) = spec.Build name.now csv.now
+command_view code.List = spec.Listing
+command_view (code.Ask about sql) = spec.Ask about sql.now
+
+-- the name of the segment that a command makes is one
+abbrev pub IsNamed : Command → Type 0
+IsNamed (code.Build name csv) = IsSegmentName name.now
+IsNamed other = Unit {0}

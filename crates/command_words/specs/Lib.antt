@@ -1,0 +1,3 @@
+pub mod Command
+pub mod CommandView
+pub mod Notes

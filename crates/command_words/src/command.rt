@@ -1,0 +1,57 @@
+//! The words of a command.
+ghost use Rattle.std.specs.Prelude.{◌≡◌, map, option_map, string_bytes, IfSome};
+ghost use Rattle.command_words.specs.Command.{command_of};
+ghost use Rattle.command_words.specs.CommandView.{IsNamed, command_view};
+
+use crate::about::About;
+use segment_file::is_segment_name;
+
+/// What the words of a command ask for.
+#[derive(Clone, Copy)]
+pub enum Command<'a> {
+    /// A query over a CSV file: the file's name and the query's text.
+    Scan(&'a str, &'a str),
+    /// A table from two files in JSON: the names of that of the schema and of that of the settings.
+    Create(&'a str, &'a str),
+    /// A segment from a CSV file: its name and the file's.
+    Build(&'a str, &'a str),
+    /// The segments.
+    List,
+    /// A query's text, and what it is asked for over the segments.
+    Ask(About, &'a str),
+}
+
+/// The command that these words spell, if they spell one.
+pub fn read_command(words: &[String]) -> Option<Command<'_>>
+    ensures spelled { option_map command_view result ≡ command_of (map string_bytes words.now) }
+    ensures named { IfSome result IsNamed }
+{
+    if let [verb] = words {
+        if verb.as_str().as_bytes() == b"list".as_slice() {
+            return Some(Command::List);
+        }
+    }
+    if let [verb, first] = words {
+        if verb.as_str().as_bytes() == b"query".as_slice() {
+            return Some(Command::Ask(About::Rows, first.as_str()));
+        }
+        if verb.as_str().as_bytes() == b"explain".as_slice() {
+            return Some(Command::Ask(About::Plans, first.as_str()));
+        }
+        if verb.as_str().as_bytes() == b"stats".as_slice() {
+            return Some(Command::Ask(About::RowsAndPlans, first.as_str()));
+        }
+    }
+    if let [verb, first, second] = words {
+        if verb.as_str().as_bytes() == b"scan".as_slice() {
+            return Some(Command::Scan(first.as_str(), second.as_str()));
+        }
+        if verb.as_str().as_bytes() == b"create".as_slice() {
+            return Some(Command::Create(first.as_str(), second.as_str()));
+        }
+        if verb.as_str().as_bytes() == b"build".as_slice() && is_segment_name(first.as_str()) {
+            return Some(Command::Build(first.as_str(), second.as_str()));
+        }
+    }
+    None
+}

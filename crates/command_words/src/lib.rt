@@ -1,0 +1,20 @@
+//! The words of a command, why it is refused, its note lines and how it ends.
+#![tactic(auto)]
+
+mod about;
+mod bad_query;
+mod command;
+mod fault;
+mod line;
+mod note;
+mod status;
+mod stop;
+
+pub use about::About;
+pub use bad_query::QueryReason;
+pub use command::{Command, read_command};
+pub use fault::Fault;
+pub use line::{note_line, status_of};
+pub use note::{Counted, Note};
+pub use status::Status;
+pub use stop::Stop;
