@@ -4,7 +4,7 @@
 #![tactic(auto)]
 
 ghost use Rattle.std.specs.Prelude.{IfOk, IfSome};
-ghost use Rattle.segment_build.specs.Fitting.{AreColumns};
+ghost use Rattle.segment_columns.specs.Fitting.{AreColumns};
 
 use csv_ingest::{number_blocks, read_columns};
 use dictionary::Dictionary;

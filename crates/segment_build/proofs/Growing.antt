@@ -8,7 +8,6 @@ use Rattle.std.proofs.lemmas.List.{get_or-map, length-map, map-append, take_all,
 use Rattle.std.proofs.lemmas.List.Elements.{All-head, All-map, All-nil, All-cons, All-push, All-tail}
 use Rattle.std.proofs.lemmas.Simd.{map-map}
 use Rattle.values.specs.declared.value.Value.{Value}
-use Rattle.values.specs.declared.value.Value.TheVariants.{Text, Whole}
 use Rattle.values.specs.Columns.{Listed, ListedColumns, rows_of}
 use Rattle.values.proofs.RowLemmas.{length-rows}
 use Rattle.agg_laws.specs.declared.aggregate_kind.AggKind.{AggKind}
@@ -25,10 +24,10 @@ use Rattle.star_rows.specs.Columns as records
 use Rattle.segment_file.specs.Columns.{ids_of, place_of, values_in}
 use Rattle.segment_file.specs.Ordered.{value_in}
 use Rattle.segment_file.specs.Trees.{TreeFits, documents, id_in, number_for, number_of, tree_row}
-use Rattle.segment_build.specs.Fitting.{AreColumns}
-use Rattle.segment_build.specs.Growing.{IsKnown, numbers_for}
-use Rattle.segment_build.proofs.ColumnLemmas.{column_values}
-use Rattle.segment_build.proofs.Stable.{ids_count}
+use Rattle.segment_columns.specs.Fitting.{AreColumns}
+use Rattle.segment_columns.specs.Numbers.{IsKnown, numbers_for}
+use Rattle.segment_columns.proofs.ColumnLemmas.{column_values}
+use Rattle.segment_columns.proofs.Stable.{ids_count}
 
 -- ---- rows by columns
 
@@ -84,14 +83,6 @@ metrics_long os pairs metrics n count are =
     subst (All (λ c. length c ≡ n)) (sym are) (All-map (λ (c : List ℤ). length c ≡ n) f pairs (λ k d lt. length-map os (λ row. number_for row (get_or pairs k d)) ∙ sym count))
 
 -- ---- the numbers of a column
-
-pub text_numbers : (texts : List (List ℕ)) → map number_of (map Text texts) ≡ replicate (length texts) (pos 0)
-text_numbers [] = refl
-text_numbers (t ∷ ts) = ap (λ xs. pos 0 ∷ xs) (text_numbers ts)
-
-pub whole_numbers : (numbers : List ℤ) → map number_of (map Whole numbers) ≡ numbers
-whole_numbers [] = refl
-whole_numbers (n ∷ ns) = ap (λ xs. n ∷ xs) (whole_numbers ns)
 
 map_same : {X : Type 0} (x : ℤ) (xs : List X) → map (λ y. x) xs ≡ replicate (length xs) x
 map_same x [] = refl

@@ -1,11 +1,7 @@
 pub mod FitTests
-pub mod Fits
-pub mod ColumnLemmas
-pub mod Stable
+pub mod SectionLemmas
 pub mod TreeMerging
-pub mod Arranged
 pub mod Sizes
 pub mod Built
 pub mod FilesLemmas
-pub mod RowLemmas
 pub mod Growing

@@ -1,16 +1,15 @@
 -- The star-trees of a segment, as they are made one after the other.
-use Rattle.std.specs.Prelude.{◌≡◌, ◌<◌, ◌↔◌, ℕ, ℤ, pos, Bool, true, false, nat_le, List, [], map, take, replicate, slice_get, get_or, Option, Some, None}
+use Rattle.std.specs.Prelude.{◌≡◌, ◌↔◌, ℕ, Bool, true, false, nat_le, List, map, take, slice_get, Some}
 use Rattle.std.specs.List.{All, list_all}
 use Rattle.agg_laws.specs.Flat.{tree_bytes}
 use Rattle.agg_laws.specs.Rows.{merged_rows}
 use Rattle.star_file.specs.Reading.{doc_width}
 use Rattle.star_file.specs.Rules.{most_bytes}
 use Rattle.values.specs.declared.value.Value.{Value}
-use Rattle.values.specs.Columns.{Listed, ListedColumns}
 use Rattle.table_schema.specs.declared.settings.TreeSetting.{TreeSetting}
 use Rattle.table_schema.specs.declared.table.Table.{Table}
 use Rattle.segment_file.specs.Ordered.{ordered}
-use Rattle.segment_file.specs.Trees.{TreeFits, nested, nodes_of, number_of, star_of}
+use Rattle.segment_file.specs.Trees.{TreeFits, nested, nodes_of, star_of}
 
 -- each of the trees takes no more bytes than one may, over the rows in their order
 abbrev pub TreesFit : Table → List (List Value) → Type 0
@@ -46,17 +45,3 @@ nodes_grown rows trees = map (λ tree. nodes_of rows (Some tree)) trees
 -- the sections of their documents
 abbrev pub stars_grown : List (List Value) → List TreeSetting → List (List ℕ)
 stars_grown rows trees = map (λ tree. star_of rows (Some tree)) trees
-
--- the numbers of a column, of which each is one; a text counts as 0
-abbrev pub numbers_in : Listed → List ℤ
-numbers_in column = map number_of column.values
-
--- a pair has no column, or one of so many
-abbrev pub IsKnown : ℕ → Option ℕ → Type 0
-IsKnown columns None = Unit {0}
-IsKnown columns (Some column) = column < columns
-
--- the numbers of a pair's column, and 0 for each row where they are counted
-abbrev pub numbers_for : ListedColumns → Option ℕ → List ℤ
-numbers_for t None = replicate t.count (pos 0)
-numbers_for t (Some column) = numbers_in (get_or t.columns column (record { are_texts = false; values = [] }))

@@ -1,5 +1,5 @@
 //! A segment's file is published.
-ghost use Rattle.std.specs.Prelude.{◌≡◌, ℕ, codes, length, IfErr, IfOk, OnOk, OnErr, IsErrOf, string_bytes};
+ghost use Rattle.std.specs.Prelude.{◌≡◌, ℕ, length, IfErr, IfOk, OnOk, OnErr, IsErrOf, string_bytes};
 ghost use Rattle.outside.specs.Files.{with_file, without_file};
 ghost use Rattle.outside.specs.Seen.{OnlyWrites, seen};
 ghost use Rattle.table_schema.specs.ValidTable.{AreRows, IsValidTable};
@@ -9,8 +9,9 @@ ghost use Rattle.segment_file.specs.Names.{IsSegmentName, file_of};
 ghost use Rattle.segment_build.specs.Publishing.{incoming};
 ghost use Rattle.segment_build.specs.Growing.{IsTooLarge, TreesFit};
 
-use crate::{BuildFault, build_columns, columns_of};
+use crate::{BuildFault, build_columns};
 use outside::{Depot, DepotFault, NoMemory};
+use segment_columns::columns_of;
 use std::alloc::Global;
 use table_schema::Table;
 use values::{Columns, Rows};

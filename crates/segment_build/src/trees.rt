@@ -1,5 +1,5 @@
 //! The star-trees of a segment are built, one after the other.
-ghost use Rattle.std.specs.Prelude.{◌≡◌, ◌<◌, ◌≤◌, ◌⊎◌, ◌^◌, ◌++◌, ◌∷◌, [], ℕ, length, map, Err, IfErr, IfOk, IsErrOf, OnErr, OnOk};
+ghost use Rattle.std.specs.Prelude.{◌≡◌, ◌<◌, ◌≤◌, ◌⊎◌, ℕ, length, map, Err, IfErr, IfOk, IsErrOf, OnErr, OnOk};
 ghost use Rattle.std.specs.List.{All};
 ghost use Rattle.values.specs.Columns.{rows_of};
 ghost use Rattle.table_schema.specs.ValidSettings.{IsValidTree};
@@ -9,34 +9,23 @@ ghost use Rattle.agg_laws.specs.Numbers.{most_stored};
 ghost use Rattle.agg_laws.specs.Rows.{merged_rows, row_weight};
 ghost use Rattle.agg_laws.specs.Tree.{merged_docs};
 ghost use Rattle.star_builder.specs.declared.fault.TreeFault.TheVariants as fault;
-ghost use Rattle.star_file.specs.Bytes.{doc_bytes, nodes_section};
-ghost use Rattle.star_rows.specs.Numbers.{numbers_of};
 ghost use Rattle.segment_file.specs.Columns.{ids_of};
 ghost use Rattle.segment_file.specs.Ordered.{ordered};
 ghost use Rattle.segment_file.specs.Trees.{TreeFits, documents, written};
-ghost use Rattle.segment_build.specs.Fitting.{AreColumns};
-ghost use Rattle.segment_build.specs.Growing.{IsKnown, IsTooLarge, TreesFit, nodes_grown, numbers_for, stars_grown};
+ghost use Rattle.segment_columns.specs.Fitting.{AreColumns};
+ghost use Rattle.segment_build.specs.Growing.{IsTooLarge, TreesFit, nodes_grown, stars_grown};
 ghost use Rattle.segment_build.specs.declared.fault.BuildFault.TheVariants.{NoMemory, TooLarge};
 
 use crate::BuildFault;
-use crate::numbers::column_numbers;
-use crate::order::ids_as_given;
-use agg_laws::{StarTable, TreeShape};
-use outside::{Bytes, NoMemory, Seq};
+use agg_laws::StarTable;
+use outside::{NoMemory, Seq};
+use segment_columns::{Grown, ids_as_given, pair_numbers, push_tree};
 use star_builder::{TreeFault, build_merged};
-use star_file::{StarTree, width_of, write_docs, write_nodes};
+use star_file::StarTree;
 use star_records::project_merged;
-use star_rows::{NumberColumns, PairNumbers};
 use std::alloc::Global;
-use table_schema::{Pair, Table, TreeSetting};
+use table_schema::{Table, TreeSetting};
 use values::Columns;
-
-/// The sections of star-trees: of each its nodes, and its documents.
-#[derive(Drop)]
-pub struct Grown {
-    pub nodes: Vec<Bytes>,
-    pub stars: Vec<Bytes>,
-}
 
 /// The sections of all star-trees of the columns' rows in their order, or the number of the first
 /// tree that takes more bytes than one may. What is made for a tree is let go before the next.
@@ -67,31 +56,6 @@ pub fn grow_trees(alloc: Global, table: &Table, columns: &Columns) -> Result<Gro
         push_tree(alloc, &trees[at].shape, &tree, &mut grown)?;
     }
     Ok(grown)
-}
-
-// Adds the sections of a tree of this shape.
-fn push_tree(
-    alloc: Global,
-    shape: &TreeShape,
-    tree: &StarTree,
-    grown: &mut Grown,
-) -> Result<(), NoMemory>
-    requires shape { length shape.now.kinds ≤ 16 }
-    requires few { length tree.now.docs.docs < 2 ^ 32 }
-    requires kinds { length tree.now.docs.kinds ≤ 16 }
-    ensures nodes { OnOk result (grown.new.nodes.items ≡ grown.old.nodes.items
-        ++ nodes_section (length tree.now.docs.docs) tree.now.nodes ∷ []) }
-    ensures stars { OnOk result (grown.new.stars.items ≡ grown.old.stars.items
-        ++ doc_bytes tree.now.docs.docs ∷ []) }
-{
-    let mut nodes = Vec::new(alloc);
-    write_nodes(tree, &mut nodes)?;
-    let room = tree.docs.len().saturating_mul(width_of(shape));
-    let mut stars = Vec::with_capacity(alloc, room)?;
-    write_docs(tree, &mut stars)?;
-    grown.nodes.push(Seq::from_vec(nodes))?;
-    grown.stars.push(Seq::from_vec(stars))?;
-    Ok(())
 }
 
 // A star-tree of the columns' rows in their order.
@@ -160,32 +124,4 @@ fn split_ids(
         all.push(Seq::from_vec(ids))?;
     }
     Ok(Seq::from_vec(all))
-}
-
-// The numbers of the rows for these pairs.
-fn pair_numbers<'a>(
-    alloc: Global,
-    columns: &'a Columns,
-    pairs: &[Pair],
-) -> Result<NumberColumns<'a>, NoMemory>
-    requires known { All (λ pair. IsKnown (length columns.now.columns) pair.column) pairs.now }
-    ensures { IfOk result (λ numbers. numbers
-        ≡ map (λ pair. numbers_for columns.now pair.column) pairs.now) }
-{
-    let mut all = NumberColumns::new(alloc);
-    for pair in pairs {
-        all.push(numbers_of_pair(columns, pair.column))?;
-    }
-    Ok(all)
-}
-
-// Those in the column of a pair, and zeros where rows are counted.
-fn numbers_of_pair<'a>(columns: &'a Columns, column: Option<u16>) -> PairNumbers<'a>
-    requires { IsKnown (length columns.now.columns) column }
-    ensures { numbers_of result ≡ numbers_for columns.now column }
-{
-    match column {
-        Some(column) => column_numbers(columns.column(column as usize)),
-        None => PairNumbers::Zeros(columns.len()),
-    }
 }

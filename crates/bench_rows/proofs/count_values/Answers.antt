@@ -1,8 +1,8 @@
 use Rattle.std.proofs.Common.{◌≡◌, sym, subst}
 use Rattle.std.proofs.lemmas.Option.{get_or_from_slice_get}
 use Rattle.table_schema.specs.declared.field.Field.{Field}
-use Rattle.segment_build.specs.Fitting.{FitsKind}
-use Rattle.segment_build.proofs.Fits.{columns_fit}
+use Rattle.segment_columns.specs.Fitting.{FitsKind}
+use Rattle.segment_columns.proofs.Fits.{columns_fit}
 use Rattle.bench_rows.proofs.count_values.Goals as goal
 
 pub of_column-requires-clause-few : goal.of_column-requires-clause-few

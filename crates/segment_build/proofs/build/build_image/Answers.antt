@@ -2,7 +2,7 @@ use Rattle.std.proofs.Common.{◌≡◌, ℕ, IfErr, ap, subst}
 use Rattle.segment_file.specs.Image.{image}
 use Rattle.segment_build.specs.Growing.{IsTooLarge}
 use Rattle.segment_build.specs.declared.fault.BuildFault.TheVariants.{TooLarge}
-use Rattle.segment_build.proofs.ColumnLemmas.{if_ok_same}
+use Rattle.segment_build.proofs.SectionLemmas.{if_ok_same}
 use Rattle.segment_build.proofs.build.build_image.Goals as goal
 
 pub returns-clause-image : goal.returns-clause-image

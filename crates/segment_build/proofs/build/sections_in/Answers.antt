@@ -1,7 +1,7 @@
 use Rattle.std.proofs.Common.{◌∙◌}
-use Rattle.segment_build.specs.Sections.{in_order}
-use Rattle.segment_build.proofs.Built.{in_rows}
-use Rattle.segment_build.proofs.ColumnLemmas.{made_all}
+use Rattle.segment_columns.specs.Sections.{in_order}
+use Rattle.segment_columns.proofs.CodedColumns.{in_rows}
+use Rattle.segment_build.proofs.SectionLemmas.{made_all}
 use Rattle.segment_build.proofs.build.sections_in.Goals as goal
 
 pub returns-clause-sections : goal.returns-clause-sections

@@ -7,7 +7,8 @@ use Rattle.star_file.specs.Reading.{doc_width}
 use Rattle.star_file.specs.Rules.{most_bytes}
 use Rattle.segment_file.specs.Trees.{documents, written}
 use Rattle.segment_file.proofs.TreeRows.{tree_no_star}
-use Rattle.segment_build.proofs.Built.{in_rows, rows_limit}
+use Rattle.segment_columns.proofs.CodedColumns.{in_rows}
+use Rattle.segment_build.proofs.Built.{rows_limit}
 use Rattle.segment_build.proofs.TreeMerging.{docs_are, merged_again, no_star_merged, same_tree}
 use Rattle.segment_build.proofs.trees.grow_tree.Goals as goal
 

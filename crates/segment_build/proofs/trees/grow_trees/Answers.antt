@@ -3,7 +3,8 @@ use Rattle.std.proofs.lemmas.Option.{slice_get-get_or}
 use Rattle.star_file.specs.Bytes.{doc_bytes, nodes_section}
 use Rattle.segment_file.specs.Trees.{nodes_of, star_of}
 use Rattle.segment_file.proofs.TreeChecks.{valid_at}
-use Rattle.segment_build.proofs.Built.{in_rows, tree_made}
+use Rattle.segment_columns.proofs.CodedColumns.{in_rows}
+use Rattle.segment_build.proofs.Built.{tree_made}
 use Rattle.segment_build.proofs.Growing.{fits_more, grown_more}
 use Rattle.segment_build.proofs.trees.grow_trees.Goals as goal
 

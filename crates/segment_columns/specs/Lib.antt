@@ -1,0 +1,5 @@
+pub mod Fitting
+pub mod Arranging
+pub mod Sections
+pub mod Numbers
+pub mod RowColumns

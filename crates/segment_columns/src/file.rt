@@ -1,0 +1,66 @@
+//! The file of sections.
+ghost use Rattle.std.specs.Prelude.{◌≡◌, ◌<◌, ◌++◌, ◌^◌, length, map, IfOk, OnOk};
+ghost use Rattle.std.specs.List.{concat};
+ghost use Rattle.table_schema.specs.ValidTable.{IsValidTable};
+ghost use Rattle.segment_file.specs.Front.{file_end, front_bytes};
+ghost use Rattle.segment_file.specs.Names.{IsSegmentName};
+ghost use Rattle.segment_file.specs.Parts.{sections_of};
+
+use outside::{Bytes, NoMemory};
+use segment_file::{Front, sections_of};
+use std::alloc::Global;
+use table_schema::Table;
+
+/// The file of these sections.
+pub fn file_of(
+    alloc: Global,
+    table: &Table,
+    name: &str,
+    rows: u32,
+    sections: &[Bytes],
+) -> Result<Vec<u8>, NoMemory>
+    requires valid { IsValidTable table.now }
+    requires name { IsSegmentName name.now }
+    requires each { length sections.now ≡ length (sections_of table.now) }
+    requires short { file_end table.now name.now
+        (record { format = 1; rows = rows; sizes = map length sections.now }) < 2 ^ 64 }
+    ensures { IfOk result (λ file. file.items ≡ front_bytes table.now name.now
+        (record { format = 1; rows = rows; sizes = map length sections.now })
+        ++ concat sections.now) }
+{
+    let parts = sections_of(alloc, table)?;
+    let front = Front::new(rows, sizes_of(alloc, sections)?);
+    let mut file = front.write(alloc, table, name, &parts)?;
+    push_all(sections, &mut file)?;
+    Ok(file)
+}
+
+// Appends sections. Memory is taken once.
+fn push_all(sections: &[Bytes], file: &mut Vec<u8>) -> Result<(), NoMemory>
+    ensures { OnOk result (file.new.items ≡ file.old.items ++ concat sections.now) }
+{
+    file.reserve(total(sections))?;
+    for section in sections {
+        file.extend_from_slice(section.as_slice())?;
+    }
+    Ok(())
+}
+
+// How long each of these sections is.
+fn sizes_of(alloc: Global, sections: &[Bytes]) -> Result<Vec<u64>, NoMemory>
+    ensures { IfOk result (λ sizes. sizes.items ≡ map length sections.now) }
+{
+    sections
+        .iter()
+        .map(|section| section.len() as u64)
+        .collect(alloc)
+}
+
+// How long they are together.
+fn total(sections: &[Bytes]) -> usize {
+    let mut size: usize = 0;
+    for section in sections {
+        size = size.saturating_add(section.len());
+    }
+    size
+}
