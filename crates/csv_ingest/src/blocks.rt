@@ -12,7 +12,7 @@ ghost use Rattle.csv_ingest.specs.Lines.{AreLines, IsFeedAfter, IsHeaderEnd, is_
 ghost use Rattle.csv_ingest.specs.NumberBlocks.{AreNumbers, Gives, GivesTable, IsByRecords, IsNumberBlocks, IsNumberHeader};
 ghost use Rattle.csv_ingest.specs.Reading.{Reads, records_left};
 ghost use Rattle.csv_row.specs.Row.{csv_limits};
-ghost use Rattle.csv_ingest.specs.Rows.{header_of, plain_in, records_of};
+ghost use Rattle.csv_ingest.specs.Rows.{header_of, plain_in, records_of, rows_of, with_schema};
 
 use crate::header::{names_in, number_columns};
 use crate::lines::{Lines, read_lines};
@@ -130,17 +130,16 @@ impl NumberHeader {
         text: &[u8],
         before: usize,
         room: usize,
-    ) -> Result<Lines, CsvFault>
+    ) -> Result<Lines, AllocError>
         requires { IsNumberHeader self.now }
         ensures lines { IfOk result (λ l. AreLines self.now.fields (fields_of self.now.names) before
             text.now l.columns l.taken) }
         ensures sorts { IfOk result (λ l. OfSorts self.now.fields l.columns.columns) }
         ensures most { IfOk result (λ l. l.columns.count ≤ room) }
-        ensures err { IfErr result (λ fault. fault ≡ CsvFault.NoMemory) }
     {
         let names = names_in(alloc, &self.names)?;
         let layout = Layout::new(alloc, self.fields.as_slice(), &names)?;
-        Ok(read_lines(alloc, text, &layout, before, room)?)
+        read_lines(alloc, text, &layout, before, room)
     }
 }
 
@@ -225,6 +224,24 @@ fn line_blocks<'a>(alloc: Global, text: &'a [u8], end: usize) -> Result<NumberBl
     }
 }
 
+/// Reads the header of a text, its first record.
+pub fn read_header(alloc: Global, reader: &mut Reader<&[u8]>) -> Result<NumberHeader, CsvFault>
+    ensures header { IfOk result IsNumberHeader }
+    ensures ok { IfOk result (λ header. (rest : List ℕ) → Reads reader.old rest → (left : List ℕ)
+        × Reads reader.new left × ((n : ℕ) → plain_in csv_limits (records_left (n + 1) reader.old rest)
+        ≡ with_schema header.fields (rows_of csv_limits header.fields (fields_of header.names)
+        (records_left n reader.new left)))) }
+    ensures err { IfErr result (λ fault. fault ≢ CsvFault.NoMemory → (rest : List ℕ)
+        → Reads reader.old rest → (n : ℕ) → plain_in csv_limits (records_left (n + 1) reader.old rest)
+        ≡ Err fault) }
+{
+    let mut names = ByteRecord::new(alloc);
+    if !next_record(reader, &mut names)? {
+        return Err(CsvFault::At(CsvKind::NoHeader, 0, 0));
+    }
+    NumberHeader::of_record(alloc, names)
+}
+
 // The text of whole numbers that some bytes are, by their records.
 fn record_blocks<'a>(alloc: Global, bytes: &'a [u8]) -> Result<NumberBlocks<'a>, CsvFault>
     requires { length bytes.now ≤ 134217728 }
@@ -235,12 +252,8 @@ fn record_blocks<'a>(alloc: Global, bytes: &'a [u8]) -> Result<NumberBlocks<'a>,
         → plain_in csv_limits (records_of bytes.now) ≡ Err fault) }
 {
     let mut reader = text_reader(alloc, bytes);
-    let mut names = ByteRecord::new(alloc);
-    if !next_record(&mut reader, &mut names)? {
-        return Err(CsvFault::At(CsvKind::NoHeader, 0, 0));
-    }
     let left = unmarked_len(bytes);
-    match NumberHeader::of_record(alloc, names) {
+    match read_header(alloc, &mut reader) {
         Ok(header) => Ok(NumberBlocks {
             header,
             source: Source::Records(reader),

@@ -8,11 +8,11 @@ ghost use Rattle.csv_row.specs.Row.{csv_limits};
 ghost use Rattle.csv_ingest.specs.Rows.{IsNumbers, plain_in, records_of};
 ghost use Rattle.table_schema.specs.ValidTable.{AreRows};
 
-use crate::blocks::NumberHeader;
-use crate::records::{next_record, text_reader, unmarked_len};
+use crate::blocks::read_header;
+use crate::records::{text_reader, unmarked_len};
 use crate::rows::Block;
-use csv::{ByteRecord, Reader};
-use csv_row::{CsvFault, CsvKind};
+use csv::Reader;
+use csv_row::CsvFault;
 use std::alloc::Global;
 use table_schema::Schema;
 use values::{Columns, Rows};
@@ -31,11 +31,7 @@ fn number_records(
         → Reads reader.old rest → plain_in csv_limits (records_left (most + 1) reader.old rest)
         ≡ Err fault) }
 {
-    let mut names = ByteRecord::new(alloc);
-    if !next_record(reader, &mut names)? {
-        return Err(CsvFault::At(CsvKind::NoHeader, 0, 0));
-    }
-    let header = match NumberHeader::of_record(alloc, names) {
+    let header = match read_header(alloc, reader) {
         Ok(header) => header,
         Err(fault) => return Err(fault),
     };
