@@ -8,10 +8,10 @@ use Rattle.outside.specs.Counts.{Rose}
 use Rattle.outside.specs.Reads.{Entry}
 use Rattle.outside.specs.Whole.{LogsFront}
 use Rattle.outside.specs.Files.{Files, Has, Lacks, SameBut, name_order, with_file}
-use Rattle.schema_json.specs.declared.fault.KeyKind.{KeyKind}
-use Rattle.schema_json.specs.declared.fault.KeyKind.TheVariants as key
-use Rattle.schema_json.specs.declared.fault.TextFault.{TextFault}
-use Rattle.schema_json.specs.declared.fault.TextFault.TheVariants as text
+use Rattle.json_keys.specs.declared.fault.KeyKind.{KeyKind}
+use Rattle.json_keys.specs.declared.fault.KeyKind.TheVariants as key
+use Rattle.json_keys.specs.declared.fault.TextFault.{TextFault}
+use Rattle.json_keys.specs.declared.fault.TextFault.TheVariants as text
 use Rattle.table_schema.specs.declared.field.Schema.{Schema}
 use Rattle.table_schema.specs.declared.settings.Settings.{Settings}
 use Rattle.table_schema.specs.declared.table.Table.{Table}

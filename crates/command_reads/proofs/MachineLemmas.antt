@@ -13,9 +13,9 @@ use Rattle.outside.specs.Files.{Files, Has, Lacks, OfFile, bytes_of, name_order}
 use Rattle.values.specs.declared.value.Value.{Value}
 use Rattle.schema_json.specs.Schemas.{schema_read}
 use Rattle.settings_json.specs.TableTexts.{settings_read}
-use Rattle.schema_json.specs.declared.fault.KeyKind.{KeyKind}
-use Rattle.schema_json.specs.declared.fault.TextFault.{TextFault}
-use Rattle.schema_json.specs.declared.fault.TextFault.TheVariants as fault
+use Rattle.json_keys.specs.declared.fault.KeyKind.{KeyKind}
+use Rattle.json_keys.specs.declared.fault.TextFault.{TextFault}
+use Rattle.json_keys.specs.declared.fault.TextFault.TheVariants as fault
 use Rattle.table_schema.specs.declared.field.Schema.{Schema}
 use Rattle.table_schema.specs.declared.settings.Settings.{Settings}
 use Rattle.table_schema.specs.declared.table.Table.{Table}

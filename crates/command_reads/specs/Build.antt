@@ -5,7 +5,7 @@ use Rattle.std.specs.FinMap as map
 use Rattle.outside.specs.Files.{Files, Has, Lacks, with_file}
 use Rattle.values.specs.declared.value.Value.{Value}
 use Rattle.schema_json.specs.Schemas.{schema_read}
-use Rattle.schema_json.specs.declared.fault.TextFault.{TextFault}
+use Rattle.json_keys.specs.declared.fault.TextFault.{TextFault}
 use Rattle.settings_json.specs.TableTexts.{settings_read}
 use Rattle.table_schema.specs.declared.field.Field.{Field}
 use Rattle.table_schema.specs.declared.field.Schema.{Schema}

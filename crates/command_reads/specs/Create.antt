@@ -4,10 +4,10 @@ use Rattle.std.specs.FinMap as map
 use Rattle.outside.specs.Files.{Files}
 use Rattle.schema_json.specs.Schemas.{schema_read}
 use Rattle.settings_json.specs.TableTexts.{settings_read}
-use Rattle.schema_json.specs.declared.fault.KeyKind.{KeyKind}
-use Rattle.schema_json.specs.declared.fault.KeyKind.TheVariants as key
-use Rattle.schema_json.specs.declared.fault.TextFault.{TextFault}
-use Rattle.schema_json.specs.declared.fault.TextFault.TheVariants as fault
+use Rattle.json_keys.specs.declared.fault.KeyKind.{KeyKind}
+use Rattle.json_keys.specs.declared.fault.KeyKind.TheVariants as key
+use Rattle.json_keys.specs.declared.fault.TextFault.{TextFault}
+use Rattle.json_keys.specs.declared.fault.TextFault.TheVariants as fault
 use Rattle.table_schema.specs.declared.field.Schema.{Schema}
 use Rattle.table_schema.specs.declared.settings.Settings.{Settings}
 use Rattle.table_schema.specs.declared.table.Table.{Table}

@@ -3,7 +3,7 @@ ghost use Rattle.std.specs.Prelude.{◌≡◌, ◌≤◌, ℕ, List, IfOk, IfErr
 ghost use Rattle.outside.specs.Counts.{Rose};
 ghost use Rattle.outside.specs.Seen.{seen};
 ghost use Rattle.outside.specs.Whole.{IsWhole};
-ghost use Rattle.schema_json.specs.declared.fault.KeyKind.{KeyKind};
+ghost use Rattle.json_keys.specs.declared.fault.KeyKind.{KeyKind};
 ghost use Rattle.command_reads.specs.Gives.{StopsRead};
 ghost use Rattle.command_reads.specs.Touched.{ReadsFront};
 

@@ -2,7 +2,7 @@
 ghost use Rattle.std.specs.Prelude.{◌≡◌, ◌≤◌, ℕ, List, [], ◌∷◌, Some, option_map, IfOk, IfErr, IfSome, IsErrOf, Ok, length};
 ghost use Rattle.outside.specs.Counts.{Rose};
 ghost use Rattle.schema_json.specs.Schemas.{schema_read};
-ghost use Rattle.schema_json.specs.declared.fault.KeyKind.{KeyKind};
+ghost use Rattle.json_keys.specs.declared.fault.KeyKind.{KeyKind};
 ghost use Rattle.settings_json.specs.TableTexts.{settings_read};
 ghost use Rattle.table_schema.specs.Valid.{IsValidSchema};
 ghost use Rattle.table_store.specs.TableFile.{FitsTable, text_limit};
@@ -13,8 +13,9 @@ ghost use Rattle.outside.specs.Seen.{seen};
 
 use crate::input::read_input;
 use command_words::{Counted, Fault, Note, Stop};
+use json_keys::TextFault;
 use outside::{Bytes, Shelf};
-use schema_json::{TextFault, read_schema};
+use schema_json::read_schema;
 use settings_json::read_settings;
 use std::alloc::Global;
 use table_schema::{Schema, Settings, Table};

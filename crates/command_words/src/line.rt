@@ -1,14 +1,14 @@
 //! The note lines of refusals.
 ghost use Rattle.std.specs.Prelude.{◌≡◌, ◌++◌, IfOk, OnOk, codes, string_bytes};
 ghost use Rattle.std.specs.Fmt.{decimal};
-ghost use Rattle.schema_json.specs.FaultTexts.{key_text};
+ghost use Rattle.json_keys.specs.FaultTexts.{key_text};
 ghost use Rattle.command_words.specs.Notes as spec;
 
 use crate::Status;
 use crate::bad_query::QueryReason;
 use crate::note::{Counted, Note};
 use csv_ingest::CsvKind;
-use schema_json::KeyKind;
+use json_keys::KeyKind;
 use std::alloc::{AllocError, Global};
 
 // The name of what passes its limit.

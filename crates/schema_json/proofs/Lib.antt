@@ -1,6 +1,3 @@
-pub mod Items
-pub mod Read
-pub mod Places
 pub mod FieldWalk
-pub mod Answered
+pub mod FieldSteps
 pub mod SchemaLaw

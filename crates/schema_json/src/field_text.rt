@@ -1,29 +1,23 @@
 //! One field of a schema.
 
-ghost use Rattle.std.specs.Prelude.{◌≡◌, IfOk, IfErr, map, codes, None};
-ghost use Rattle.schema_json.specs.Keys.{text_at};
+ghost use Rattle.std.specs.Prelude.{◌≡◌, ◌∷◌, [], map, codes};
 ghost use Rattle.serde_json.specs.View.{view};
-ghost use Rattle.schema_json.specs.Fields as spec;
+ghost use Rattle.field_json.specs.Defaults.{default_finding};
+ghost use Rattle.field_json.specs.Entries.{seen};
+ghost use Rattle.field_json.specs.Fields as spec;
+ghost use Rattle.json_keys.specs.declared.fault.KeyKind.TheVariants.{DuplicateColumn};
+ghost use Rattle.json_keys.specs.Faults.{Gives, below, fault_if};
+ghost use Rattle.table_schema.specs.Firsts.{first_of};
 ghost use Rattle.table_schema.specs.Names.{is_among as is_among_names};
-ghost use Rattle.schema_json.specs.Entries.{seen};
-ghost use Rattle.schema_json.specs.Faults.{Gives, Passes, Refuses};
 
-use crate::defaults::read_default;
-use crate::entry::{Entry, path_of};
-use crate::json::key_of;
-use crate::keys::{check_not, check_object, check_unused, required_text};
-use crate::path::{fault_at, key_fault};
-use crate::{KeyKind, TextFault};
-use serde_json::Value as Json;
+use field_json::{Entry, check_support, is_among, path_of, read_default, read_kind, read_name};
+use json_keys::{KeyKind, TextFault, check_object, fault_at, key_fault};
 use std::alloc::Global;
-use table_schema::{Field, Role, is_column_name};
-use values::{FieldKind, Name};
+use table_schema::Field;
+use values::Name;
 
 /// The most fields of a schema.
 pub(crate) const MOST_FIELDS: usize = 64;
-
-/// The least `maxLength` that is supported: the most bytes of a text value.
-const LEAST_MAX_LENGTH: i128 = 512;
 
 /// The field that a place describes, after these fields.
 pub(crate) fn read_field(
@@ -41,6 +35,26 @@ pub(crate) fn read_field(
     }
     check_object(alloc, base, entry.json)?;
     let name = read_name(alloc, base, entry.json)?;
+    named_field(alloc, fields, base, name, entry)
+}
+
+/// The field of that name.
+fn named_field(
+    alloc: Global,
+    fields: &[Field],
+    base: &str,
+    name: &str,
+    entry: &Entry<'_>,
+) -> Result<Field, TextFault>
+    requires { name.now ≡ spec.name_of (seen entry.now) }
+    ensures { Gives (first_of
+        (spec.type_finding base.now entry.now.role (view entry.now.json.now)
+        ∷ spec.support_finding base.now (view entry.now.json.now)
+        ∷ default_finding base.now (spec.kind_of (view entry.now.json.now)) (view entry.now.json.now)
+        ∷ fault_if (is_among_names (map (λ field. field.name) fields.now) name.now) DuplicateColumn
+        (below base.now (codes "name")) ∷ []))
+        (spec.field_of (seen entry.now)) result }
+{
     let kind = read_kind(alloc, base, entry.role, entry.json)?;
     check_support(alloc, base, entry.json)?;
     let default = read_default(alloc, base, entry.role, kind, entry.json)?;
@@ -53,93 +67,4 @@ pub(crate) fn read_field(
         role: entry.role,
         default,
     })
-}
-
-fn read_name<'v>(alloc: Global, base: &str, json: &'v Json) -> Result<&'v str, TextFault>
-    ensures ok { IfOk result (λ name. spec.name_finding base.now (view json.now) ≡ None) }
-    ensures name { IfOk result (λ name. name.now ≡ text_at (codes "name") (view json.now)) }
-    ensures err { IfErr result (Refuses (spec.name_finding base.now (view json.now))) }
-{
-    let name = required_text(alloc, base, "name", json)?;
-    if is_column_name(name.as_bytes()) {
-        Ok(name)
-    } else {
-        Err(key_fault(alloc, KeyKind::BadName, base, "name"))
-    }
-}
-
-/// Whether a field has that name.
-fn is_among(fields: &[Field], name: &str) -> bool
-    ensures { result ≡ is_among_names (map (λ field. field.name) fields.now) name.now }
-{
-    for field in fields {
-        if field.name.as_str() == name {
-            return true;
-        }
-    }
-    false
-}
-
-fn kind_named(name: &str) -> Option<FieldKind>
-    ensures { result ≡ spec.kind_named name.now }
-{
-    if name == "INT" {
-        Some(FieldKind::Int)
-    } else if name == "LONG" {
-        Some(FieldKind::Long)
-    } else if name == "STRING" {
-        Some(FieldKind::Text)
-    } else {
-        None
-    }
-}
-
-fn read_kind(alloc: Global, base: &str, role: Role, json: &Json) -> Result<FieldKind, TextFault>
-    ensures { Gives (spec.type_finding base.now role (view json.now))
-        (spec.kind_of (view json.now)) result }
-{
-    let name = required_text(alloc, base, "dataType", json)?;
-    let Some(kind) = kind_named(name) else {
-        return Err(key_fault(alloc, KeyKind::UnknownType, base, "dataType"));
-    };
-    match (role, kind) {
-        (Role::Metric, FieldKind::Text) => {
-            Err(key_fault(alloc, KeyKind::Unsupported, base, "dataType"))
-        }
-        _ => Ok(kind),
-    }
-}
-
-/// The keys of what is not supported say nothing.
-fn check_support(alloc: Global, base: &str, json: &Json) -> Result<(), TextFault>
-    ensures { Passes (spec.support_finding base.now (view json.now)) result }
-{
-    check_not(alloc, false, base, "singleValueField", json)?;
-    check_unused(alloc, base, "transformFunction", json)?;
-    check_unused(alloc, base, "virtualColumnProvider", json)?;
-    check_length(alloc, base, json)
-}
-
-fn check_length(alloc: Global, base: &str, json: &Json) -> Result<(), TextFault>
-    ensures { Passes (spec.length_finding base.now (view json.now)) result }
-{
-    match key_of(json, "maxLength") {
-        Some(length) if is_below(LEAST_MAX_LENGTH, length) => {
-            Err(key_fault(alloc, KeyKind::Unsupported, base, "maxLength"))
-        }
-        _ => Ok(()),
-    }
-}
-
-/// Whether it is a whole number below the limit.
-fn is_below(limit: i128, json: &Json) -> bool
-    ensures { result ≡ spec.is_below limit (spec.whole_number (view json.now)) }
-{
-    let Some(number) = json.as_number() else {
-        return false;
-    };
-    match number.as_i128() {
-        Some(whole) => whole < limit,
-        None => false,
-    }
 }

@@ -3,20 +3,17 @@
 ghost use Rattle.std.specs.Prelude.{◌≡◌, ◌≢◌, IfOk, IfErr, map};
 ghost use Rattle.serde_json.specs.View.{view};
 ghost use Rattle.schema_json.specs.Schemas as spec;
-ghost use Rattle.schema_json.specs.Entries.{seen};
-ghost use Rattle.schema_json.specs.Fields.{all_entries, field_of};
-ghost use Rattle.schema_json.specs.Faults.{Gives, Passes, Refuses};
+ghost use Rattle.field_json.specs.Entries.{seen};
+ghost use Rattle.field_json.specs.Fields.{field_of};
+ghost use Rattle.json_keys.specs.Faults.{Gives, Passes};
 ghost use Rattle.table_schema.specs.Valid.{IsValidSchema};
 
-use crate::entry::{Entry, list_key, push_entries};
 use crate::field_text::read_field;
-use crate::json::read_json;
-use crate::keys::{check_not, check_object, check_unused, optional_array, required_text};
-use crate::path::fault_at;
-use crate::{KeyKind, TextFault};
+use field_json::{Entry, read_lists};
+use json_keys::{TextFault, check_not, check_object, check_unused, read_json, required_text};
 use serde_json::Value as Json;
 use std::alloc::Global;
-use table_schema::{Field, Role, Schema};
+use table_schema::{Field, Schema};
 use values::Seq;
 
 /// The schema that a text in JSON is, with the keys of Pinot's schemas.
@@ -51,26 +48,6 @@ fn check_head(alloc: Global, json: &Json) -> Result<(), TextFault>
     check_unused(alloc, "", "timeFieldSpec", json)?;
     check_unused(alloc, "", "complexFieldSpecs", json)?;
     check_not(alloc, true, "", "enableColumnBasedNullHandling", json)
-}
-
-/// The places of the three lists, of which there is at least one.
-fn read_lists<'v>(alloc: Global, json: &'v Json) -> Result<Vec<Entry<'v>>, TextFault>
-    ensures ok { IfOk result (λ entries. spec.lists_finding (view json.now) ≡ None) }
-    ensures entries { IfOk result
-        (λ entries. map seen entries.items ≡ all_entries (view json.now)) }
-    ensures err { IfErr result (Refuses (spec.lists_finding (view json.now))) }
-{
-    let dimensions = optional_array(alloc, "", list_key(Role::Dimension), json)?;
-    let metrics = optional_array(alloc, "", list_key(Role::Metric), json)?;
-    let date_times = optional_array(alloc, "", list_key(Role::DateTime), json)?;
-    let mut entries = Vec::new(alloc);
-    push_entries(Role::Dimension, dimensions, &mut entries)?;
-    push_entries(Role::Metric, metrics, &mut entries)?;
-    push_entries(Role::DateTime, date_times, &mut entries)?;
-    if entries.is_empty() {
-        return Err(fault_at(alloc, KeyKind::MissingKey, list_key(Role::Dimension)));
-    }
-    Ok(entries)
 }
 
 fn read_fields(alloc: Global, entries: &[Entry<'_>]) -> Result<Seq<Field>, TextFault>

@@ -1,5 +1,1 @@
-pub mod Numbers
 pub mod SettingsLaw
-pub mod PairLaw
-pub mod TreeLaw
-pub mod RawLaw

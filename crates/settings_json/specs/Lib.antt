@@ -1,5 +1,1 @@
-pub mod NamedColumns
-pub mod Pairs
-pub mod Indexes
-pub mod Trees
 pub mod TableTexts

@@ -1,25 +1,18 @@
 //! Settings in JSON.
 
-ghost use Rattle.std.specs.Prelude.{◌≡◌, ◌≢◌, ◌≤◌, length, IfOk, IfErr, None};
+ghost use Rattle.std.specs.Prelude.{◌≡◌, ◌≢◌, ◌≤◌, length, IfOk, IfErr};
 ghost use Rattle.serde_json.specs.View.{view};
 ghost use Rattle.settings_json.specs.TableTexts as spec;
-ghost use Rattle.settings_json.specs.Indexes.{indexed};
-ghost use Rattle.serde_json.specs.Data.{null};
-ghost use Rattle.schema_json.specs.Faults.{Gives, Passes, Refuses};
+ghost use Rattle.json_keys.specs.Faults.{Gives};
 ghost use Rattle.table_schema.specs.Valid.{IsValidSchema};
 ghost use Rattle.table_schema.specs.ValidSettings.{IsValidSettings};
 
-use crate::columns::named;
-use crate::index_text::{INDEX_KEY, read_indexes};
-use schema_json::{
-    KeyKind, TextFault, check_object, check_unused, fault_at, key_of, read_json, required_text,
-};
+use json_keys::{TextFault, key_of, read_json};
 use serde_json::Value as Json;
+use settings_parts::{INDEX_KEY, plain, read_head, read_indexes};
 use std::alloc::Global;
-use table_schema::{Field, Schema, Settings, is_column_name};
-use values::{Name, NoMemory, Seq};
-
-const INGESTION_KEY: &str = "ingestionConfig";
+use table_schema::{Field, Schema, Settings};
+use values::Name;
 
 /// The settings that a text in JSON is, with the keys of Pinot's table configurations.
 ///
@@ -48,95 +41,4 @@ fn settings_of(alloc: Global, fields: &[Field], json: &Json) -> Result<Settings,
         return Ok(plain(alloc, fields, table)?);
     };
     read_indexes(alloc, fields, table, index)
-}
-
-/// The settings in which no index is named.
-fn plain(alloc: Global, fields: &[Field], table: Name) -> Result<Settings, NoMemory>
-    ensures { IfOk result (λ settings. settings ≡ indexed fields.now table null) }
-{
-    Ok(Settings {
-        table,
-        sorted: None,
-        inverted: named(alloc, fields, &[])?,
-        ranged: named(alloc, fields, &[])?,
-        raw: named(alloc, fields, &[])?,
-        trees: Seq::new(alloc),
-    })
-}
-
-/// The name of the table, where the checks outside of `tableIndexConfig` pass.
-fn read_head<'v>(alloc: Global, json: &'v Json) -> Result<&'v str, TextFault>
-    ensures ok { IfOk result (λ name. spec.head_finding (view json.now) ≡ None) }
-    ensures name { IfOk result (λ name. name.now ≡ spec.table_name (view json.now)) }
-    ensures err { IfErr result (Refuses (spec.head_finding (view json.now))) }
-{
-    check_object(alloc, "", json)?;
-    let name = read_table_name(alloc, json)?;
-    check_type(alloc, json)?;
-    check_unused(alloc, "", "upsertConfig", json)?;
-    check_unused(alloc, "", "dedupConfig", json)?;
-    check_ingestion(alloc, json)?;
-    Ok(name)
-}
-
-fn read_table_name<'v>(alloc: Global, json: &'v Json) -> Result<&'v str, TextFault>
-    ensures ok { IfOk result (λ name. spec.table_finding (view json.now) ≡ None) }
-    ensures name { IfOk result (λ name. name.now ≡ spec.table_name (view json.now)) }
-    ensures err { IfErr result (Refuses (spec.table_finding (view json.now))) }
-{
-    let name = bare_name(required_text(alloc, "", "tableName", json)?);
-    if is_column_name(name.as_bytes()) {
-        Ok(name)
-    } else {
-        Err(fault_at(alloc, KeyKind::BadName, "tableName"))
-    }
-}
-
-/// The name without `_OFFLINE` at its end.
-fn bare_name(name: &str) -> &str
-    ensures { result.now ≡ spec.bare_name name.now }
-{
-    if name.ends_with("_OFFLINE") {
-        &name[..name.len() - 8]
-    } else {
-        name
-    }
-}
-
-fn check_type(alloc: Global, json: &Json) -> Result<(), TextFault>
-    ensures { Passes (spec.type_finding (view json.now)) result }
-{
-    let name = required_text(alloc, "", "tableType", json)?;
-    if is_offline(name) {
-        Ok(())
-    } else {
-        Err(fault_at(alloc, KeyKind::Unsupported, "tableType"))
-    }
-}
-
-fn is_offline(name: &str) -> bool
-    ensures { result ≡ spec.is_offline name.now }
-{
-    name.eq_ignore_ascii_case("OFFLINE")
-}
-
-/// Rows are taken as they come.
-fn check_ingestion(alloc: Global, json: &Json) -> Result<(), TextFault>
-    ensures { Passes (spec.ingestion_finding (view json.now)) result }
-{
-    match key_of(json, INGESTION_KEY) {
-        Some(ingestion) => check_ingestion_form(alloc, ingestion),
-        None => Ok(()),
-    }
-}
-
-fn check_ingestion_form(alloc: Global, json: &Json) -> Result<(), TextFault>
-    ensures { Passes (spec.ingestion_form (view json.now)) result }
-{
-    check_object(alloc, INGESTION_KEY, json)?;
-    check_unused(alloc, INGESTION_KEY, "transformConfigs", json)?;
-    check_unused(alloc, INGESTION_KEY, "filterConfig", json)?;
-    check_unused(alloc, INGESTION_KEY, "complexTypeConfig", json)?;
-    check_unused(alloc, INGESTION_KEY, "aggregationConfigs", json)?;
-    check_unused(alloc, INGESTION_KEY, "enrichmentConfigs", json)
 }

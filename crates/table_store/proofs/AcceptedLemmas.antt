@@ -2,9 +2,10 @@
 use Rattle.std.proofs.Common.{◌≡◌, Option, Some, None, Ok, refl, sym, subst}
 use Rattle.serde_json.specs.Data.{Data}
 use Rattle.table_schema.specs.declared.table.Table as read
-use Rattle.schema_json.specs.Faults.{Finding}
-use Rattle.schema_json.specs.Json.{json_of}
-use Rattle.schema_json.specs.Schemas.{answer, read_by, schema_finding, schema_of, schema_read}
+use Rattle.json_keys.specs.Faults.{Finding}
+use Rattle.json_keys.specs.Json.{json_of}
+use Rattle.json_keys.specs.Readings.{answer, read_by}
+use Rattle.schema_json.specs.Schemas.{schema_finding, schema_of, schema_read}
 use Rattle.settings_json.specs.TableTexts.{settings_finding, settings_of, settings_read}
 use Rattle.table_schema.specs.Valid.{IsValidSchema}
 use Rattle.table_schema.specs.ValidSettings.{IsValidSettings}

@@ -4,8 +4,8 @@ use Rattle.outside.specs.Files.{Files, OfFile}
 use Rattle.outside.specs.Whole.{IsWhole}
 use Rattle.schema_json.specs.Schemas.{schema_read}
 use Rattle.settings_json.specs.TableTexts.{settings_read}
-use Rattle.schema_json.specs.declared.fault.TextFault.{TextFault}
-use Rattle.schema_json.specs.declared.fault.TextFault.TheVariants as text
+use Rattle.json_keys.specs.declared.fault.TextFault.{TextFault}
+use Rattle.json_keys.specs.declared.fault.TextFault.TheVariants as text
 use Rattle.table_schema.specs.declared.field.Schema.{Schema}
 use Rattle.table_schema.specs.declared.table.Table as read
 use Rattle.table_store.specs.State.{Texts}

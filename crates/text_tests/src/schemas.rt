@@ -1,7 +1,8 @@
 //! What comes of the text of a schema: its fields, or `Kind key` of the first fault.
 
 use crate::text::Text;
-use schema_json::{TextFault, read_schema};
+use json_keys::TextFault;
+use schema_json::read_schema;
 use std::alloc::Global;
 use table_schema::{Field, Role, Schema};
 use values::FieldKind;

@@ -3,7 +3,8 @@
 use crate::bindings::V;
 use crate::schemas::show_fault;
 use crate::text::Text;
-use schema_json::{TextFault, read_schema};
+use json_keys::TextFault;
+use schema_json::read_schema;
 use settings_json::read_settings;
 use std::alloc::Global;
 use table_schema::Settings;

@@ -1,6 +1,6 @@
 use Rattle.std.proofs.Common.{subst}
 use Rattle.serde_json.specs.View.{view}
-use Rattle.schema_json.specs.Faults.{Gives}
+use Rattle.json_keys.specs.Faults.{Gives}
 use Rattle.settings_json.specs.TableTexts.{settings_finding, settings_of}
 use Rattle.settings_json.proofs.SettingsLaw.{gives_valid}
 use Rattle.settings_json.proofs.settings_text.read_settings.Goals as goal

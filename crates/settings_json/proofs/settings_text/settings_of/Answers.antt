@@ -1,10 +1,10 @@
 use Rattle.std.proofs.Common.{unwrap_or, ap, ◌∙◌}
 use Rattle.serde_json.specs.Data.{null}
 use Rattle.serde_json.specs.View.{view}
-use Rattle.schema_json.specs.Keys.{optional}
-use Rattle.settings_json.specs.Indexes.{index_finding, indexed}
-use Rattle.settings_json.specs.TableTexts.{head_finding, table_name}
-use Rattle.schema_json.proofs.Answered.{Gives-same, second_of_two}
+use Rattle.json_keys.specs.Keys.{optional}
+use Rattle.settings_parts.specs.Indexes.{index_finding, indexed}
+use Rattle.settings_parts.specs.Heads.{head_finding, table_name}
+use Rattle.json_keys.proofs.Answered.{Gives-same, second_of_two}
 use Rattle.settings_json.proofs.settings_text.settings_of.Goals as goal
 
 pub returns : goal.returns

@@ -1,0 +1,5 @@
+pub mod Json
+pub mod Faults
+pub mod Keys
+pub mod Readings
+pub mod FaultTexts

@@ -1,9 +1,0 @@
-use Rattle.std.proofs.Common.{Some, map, option_map, sym, ap, ◌∙◌}
-use Rattle.serde_json.specs.View.{view}
-use Rattle.schema_json.specs.Json.{items}
-use Rattle.schema_json.proofs.Items.{items-items_view}
-use Rattle.schema_json.proofs.json.array_of.Goals as goal
-
-pub returns-in-Some : goal.returns-in-Some
-returns-in-Some c =
-    ap Some (ap (map view) c.as_slice.ensures.value ∙ sym (items-items_view c.in-Some.items.now.items)) ∙ ap (option_map items) c.in-Some.ensures

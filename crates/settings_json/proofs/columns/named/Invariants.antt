@@ -1,7 +1,0 @@
-use Rattle.std.proofs.Common.{◌≡◌, map, take}
-use Rattle.serde_json.specs.View.{view}
-use Rattle.settings_json.specs.NamedColumns.{named}
-use Rattle.settings_json.proofs.columns.named.Given as goal
-
-abbrev pub invariant-loop-field : goal.invariant-loop-field
-invariant-loop-field l = l.flags ≡ named (take l.field-index l.fields) (map view l.items)

@@ -1,0 +1,2 @@
+pub mod NamedColumns
+pub mod Leaf

@@ -1,0 +1,4 @@
+pub mod Pairs
+pub mod Indexes
+pub mod Trees
+pub mod Heads
