@@ -1,4 +1,4 @@
--- The bytes of bounds are read in one way.
+-- The bytes of bounds are read in one way, and those of dictionaries are bounds of their fields.
 use Rattle.std.proofs.Common.{◌≡◌, ◌≢◌, ◌∙◌, ◌<◌, ◌≤◌, ◌+◌, ◌^◌, ℕ, ℤ, true, false, List, [], ◌∷◌, ◌++◌, length, get_or, take, drop, refl, sym, ap, subst, arith, append_assoc, append-nil, length-take, Option, Some, None, MatchOption, zero, suc, All}
 use Rattle.std.proofs.Math.Seq.{take-append_seam}
 use Rattle.std.proofs.lemmas.Bool.{false≢true}
@@ -257,8 +257,6 @@ at_some r x P Q e all = subst (λ o. MatchOption o P Q) e all
 
 pub at_nothing : {X : Type 0} (r : Option X) (P : Type 0) (Q : X → Type 0) → r ≡ None → MatchOption r P Q → P
 at_nothing r P Q e all = subst (λ o. MatchOption o P Q) e all
-
--- ---- the bounds of dictionaries
 
 -- ---- the bounds of dictionaries
 

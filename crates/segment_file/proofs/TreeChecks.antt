@@ -1,4 +1,4 @@
--- How long the sections after the head are, by what was read.
+-- The trees of a table, and how long the sections after the head are, by what was read.
 use Rattle.std.proofs.Common.{◌≡◌, ◌∙◌, ◌<◌, ◌≤◌, ◌+◌, ◌*◌, ℕ, zero, suc, All, List, [], ◌∷◌, length, get_or, Some, refl, sym, ap, subst, arith, take}
 use Rattle.std.specs.List.{AllByRecursion}
 use Rattle.std.specs.Prelude.{slice_get}
@@ -82,7 +82,7 @@ field_sized table rows owner count size heads ds d p spelled is other owner_is a
     count_is ∙ sym (counted_at ds owner d within at) ∙ ap (count_at ds) owner_is ∙ sym (count_same table rows heads ds (owner_of p) spelled lt) in
     size_is ∙ by_count table rows count heads p is other counts
 
--- ---- sizes
+-- ---- the sizes of sections, one after the other
 
 pub size_stops : (table : Table) (rows : ℕ) (heads : List (List ℕ)) (sections : List Section) (i : ℕ) (s : Section) → i < length sections → s ≡ get_or sections i s → All (FitsSize table rows heads) (take i sections) → ¬ FitsSize table rows heads s → SizeFails table rows heads sections s.part
 size_stops table rows heads sections i s lt is sized other = record { at = i; within = lt; failing = s; is_at = is; sized = sized; other = other; is_of = refl }

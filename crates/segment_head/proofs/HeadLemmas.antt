@@ -1,4 +1,4 @@
--- The dictionaries of a head, and the sizes of the sections after it, one after the other.
+-- The sections of a head, its dictionaries and how many values they have, one after the other.
 use Rattle.std.proofs.Common.{◌≡◌, ◌∙◌, ◌<◌, ◌≤◌, ◌+◌, ℕ, zero, suc, List, [], ◌∷◌, ◌++◌, length, map, get_or, take, refl, sym, ap, subst, arith, length-take}
 use Rattle.std.proofs.lemmas.List.{get_or-map, get_or-take, map-append, take_more}
 use Rattle.std.proofs.lemmas.Option.{slice_get-get_or}
