@@ -5,7 +5,6 @@ use Rattle.json_keys.specs.declared.fault.KeyKind.TheVariants.{BadName}
 use Rattle.json_keys.specs.Keys.{object_finding, required_text, unused_key}
 use Rattle.json_keys.specs.Faults.{fault_unless}
 use Rattle.table_schema.specs.Names.{is_column_name}
-use Rattle.settings_keys.specs.NamedColumns.{named}
 use Rattle.settings_parts.specs.Heads.{table_name, table_finding, type_finding, ingestion_finding, head_finding}
 use Rattle.json_keys.proofs.Checks.{unless_none}
 use Rattle.table_schema.proofs.FirstLaws.{nones}
