@@ -13,7 +13,7 @@ use Rattle.bound_parts.specs.Limits.{aggs_finding, groups_finding, keys_finding,
 use Rattle.std.proofs.lemmas.Bool.{ltb-false, leb-false}
 use Rattle.std.proofs.lemmas.Option.{none-some}
 use Rattle.table_schema.specs.declared.table.Table.{Table}
-use Rattle.query_parser.specs.declared.tree.Query.{Query}
+use Rattle.query_tokens.specs.declared.tree.Query.{Query}
 use Rattle.bound_parts.specs.declared.terms.Terms.{Terms}
 use Rattle.query_where.specs.Names.{table_finding, names_finding}
 use Rattle.bound_parts.specs.Grouped.{aggregate_finding, grouped_finding}

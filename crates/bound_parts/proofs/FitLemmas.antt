@@ -21,13 +21,13 @@ use Rattle.table_schema.specs.declared.query.Wide.TheOpen.{Wide-F}
 use Rattle.table_schema.specs.declared.query.Wide.TheFolds.{fold-roll-Wide, ind-Wide, map-Wide}
 use Rattle.table_schema.specs.declared.query.Wide.TheViews.{out-Wide, roll-Wide, roll-out-Wide}
 use Rattle.table_schema.specs.Columns.{number_of}
-use Rattle.query_parser.specs.declared.tree.NameAt.{NameAt}
-use Rattle.query_parser.specs.declared.tree.LiteralAt.{LiteralAt}
-use Rattle.query_parser.specs.declared.tree.Cond.{Cond}
-use Rattle.query_parser.specs.declared.tree.Cond.TheOpen.{Cond-F}
-use Rattle.query_parser.specs.declared.tree.Cond.TheFolds.{fold-roll-Cond, ind-Cond, map-Cond}
-use Rattle.query_parser.specs.declared.tree.Cond.TheViews.{roll-Cond}
-use Rattle.query_parser.specs.declared.tree.Query.{Query}
+use Rattle.query_tokens.specs.declared.tree.NameAt.{NameAt}
+use Rattle.query_tokens.specs.declared.tree.LiteralAt.{LiteralAt}
+use Rattle.query_tokens.specs.declared.tree.Cond.{Cond}
+use Rattle.query_tokens.specs.declared.tree.Cond.TheOpen.{Cond-F}
+use Rattle.query_tokens.specs.declared.tree.Cond.TheFolds.{fold-roll-Cond, ind-Cond, map-Cond}
+use Rattle.query_tokens.specs.declared.tree.Cond.TheViews.{roll-Cond}
+use Rattle.query_tokens.specs.declared.tree.Query.{Query}
 use Rattle.query_where.specs.declared.fault.BindReason.{BindReason}
 use Rattle.query_where.specs.declared.fault.BindReason.TheVariants.{UnknownColumn, TypeMismatch}
 use Rattle.query_where.specs.declared.fault.BindFault.TheVariants.{At}

@@ -3,11 +3,11 @@ use Rattle.std.proofs.Common.{◌≡◌, Bool, true, false, List, [], ◌∷◌,
 use Rattle.std.proofs.lemmas.List.Folds.{flat_map-map}
 use Rattle.table_schema.specs.declared.field.Field.{Field}
 use Rattle.table_schema.specs.declared.query.Wide.TheVariants as wide
-use Rattle.query_parser.specs.declared.tree.Cond.{Cond}
-use Rattle.query_parser.specs.declared.tree.Cond.TheVariants as cond
-use Rattle.query_parser.specs.declared.tree.Cond.TheVariants.{rolls-All, rolls-Any}
-use Rattle.query_parser.specs.declared.tree.Cond.TheOpen.{Cond-F}
-use Rattle.query_parser.specs.declared.tree.Cond.TheFolds.{fold-roll-Cond}
+use Rattle.query_tokens.specs.declared.tree.Cond.{Cond}
+use Rattle.query_tokens.specs.declared.tree.Cond.TheVariants as cond
+use Rattle.query_tokens.specs.declared.tree.Cond.TheVariants.{rolls-All, rolls-Any}
+use Rattle.query_tokens.specs.declared.tree.Cond.TheOpen.{Cond-F}
+use Rattle.query_tokens.specs.declared.tree.Cond.TheFolds.{fold-roll-Cond}
 use Rattle.bound_parts.specs.declared.normal.Joint.{Joint}
 use Rattle.bound_parts.specs.declared.normal.Joint.TheVariants as joint
 use Rattle.query_where.specs.Written.{Written, All, Any, members_of, written_step, written}

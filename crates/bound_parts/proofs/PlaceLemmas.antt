@@ -10,12 +10,12 @@ use Rattle.agg_laws.specs.declared.aggregate_kind.AggKind.TheVariants.{Count, Su
 use Rattle.table_schema.specs.declared.field.Field.{Field}
 use Rattle.table_schema.specs.declared.table.Table.{Table}
 use Rattle.table_schema.specs.Columns.{number_of}
-use Rattle.query_parser.specs.declared.tree.NameAt.{NameAt}
-use Rattle.query_parser.specs.declared.tree.Term.{Term}
-use Rattle.query_parser.specs.declared.tree.Term.TheVariants as term
-use Rattle.query_parser.specs.declared.tree.QueryItem.{QueryItem}
-use Rattle.query_parser.specs.declared.tree.QueryKey.{QueryKey}
-use Rattle.query_parser.specs.declared.tree.Query.{Query}
+use Rattle.query_tokens.specs.declared.tree.NameAt.{NameAt}
+use Rattle.query_tokens.specs.declared.tree.Term.{Term}
+use Rattle.query_tokens.specs.declared.tree.Term.TheVariants as term
+use Rattle.query_tokens.specs.declared.tree.QueryItem.{QueryItem}
+use Rattle.query_tokens.specs.declared.tree.QueryKey.{QueryKey}
+use Rattle.query_tokens.specs.declared.tree.Query.{Query}
 use Rattle.query_where.specs.declared.fault.BindFault.TheVariants.{At}
 use Rattle.query_where.specs.declared.fault.BindReason.TheVariants.{NotGrouped}
 use Rattle.bound_parts.specs.declared.terms.Meaning.{Meaning}

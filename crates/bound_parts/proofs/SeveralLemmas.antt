@@ -10,7 +10,7 @@ use Rattle.values.specs.Tests.{negated_if}
 use Rattle.table_schema.specs.declared.table.Table.{Table}
 use Rattle.table_schema.specs.declared.query.Wide.{Wide}
 use Rattle.table_schema.specs.declared.query.Wide.TheVariants as wide
-use Rattle.query_parser.specs.declared.tree.Query.{Query}
+use Rattle.query_tokens.specs.declared.tree.Query.{Query}
 use Rattle.query_where.specs.Written.{Written, Compare, OneOf, Between, Not, All, Any, Members, no_members, member, where_written}
 use Rattle.query_where.specs.Conjuncts.{opposite_if, conjoined, disjoined, normal, normals, only_field, conjunct_by, conjunct, where_conjuncts}
 use Rattle.bound_parts.specs.Bound.{Bound, Spelled, bound_of, bound, query_finding}

@@ -3,27 +3,27 @@ use Rattle.std.proofs.Common.{◌≡◌, ℕ, zero, suc, Bool, true, false, ◌&
 use Rattle.std.specs.List.{list_all}
 use Rattle.table_schema.specs.declared.field.Field.{Field}
 use Rattle.values.specs.declared.test.CompareOp.{CompareOp}
-use Rattle.query_parser.specs.declared.token.Kind.{Kind}
-use Rattle.query_parser.specs.declared.token.Kind.TheVariants as k
-use Rattle.query_parser.specs.declared.tree.NameAt.{NameAt}
-use Rattle.query_parser.specs.declared.tree.LiteralAt.{LiteralAt}
-use Rattle.query_parser.specs.declared.tree.Func.{Func}
-use Rattle.query_parser.specs.declared.tree.Argument.{Argument}
-use Rattle.query_parser.specs.declared.tree.Argument.TheVariants as argument
-use Rattle.query_parser.specs.declared.tree.Term.{Term}
-use Rattle.query_parser.specs.declared.tree.Term.TheVariants as term
-use Rattle.query_parser.specs.declared.tree.QueryKey.{QueryKey}
-use Rattle.query_parser.specs.declared.tree.Query.{Query}
-use Rattle.query_parser.specs.declared.tree.Cond.{Cond}
-use Rattle.query_parser.specs.declared.tree.Cond.TheVariants as cond
-use Rattle.query_parser.specs.declared.tree.Cond.TheVariants.{rolls-Compare, rolls-OneOf, rolls-Between, rolls-Not}
-use Rattle.query_parser.specs.declared.tree.Cond.TheOpen.{Cond-F}
-use Rattle.query_parser.specs.declared.tree.Cond.TheFolds.{fold-roll-Cond}
-use Rattle.query_parser.specs.Stream.{Stream}
-use Rattle.query_parser.specs.Cond.{joined, row_joints, deepest}
-use Rattle.query_parser.specs.Query.{is_count}
-use Rattle.query_parser.specs.Spells.{Rule, SpellsList, SpellsTest, SpellsConjunction, SpellsCond, SpellsFactor, SpellsCondition}
-use Rattle.query_parser.specs.SpellsQuery.{SpellsArgument, SpellsTerm, SpellsItem, SpellsKey, SpellsBy, SpellsListed, SpellsOptional, SpellsQuery}
+use Rattle.query_tokens.specs.declared.token.Kind.{Kind}
+use Rattle.query_tokens.specs.declared.token.Kind.TheVariants as k
+use Rattle.query_tokens.specs.declared.tree.NameAt.{NameAt}
+use Rattle.query_tokens.specs.declared.tree.LiteralAt.{LiteralAt}
+use Rattle.query_tokens.specs.declared.tree.Func.{Func}
+use Rattle.query_tokens.specs.declared.tree.Argument.{Argument}
+use Rattle.query_tokens.specs.declared.tree.Argument.TheVariants as argument
+use Rattle.query_tokens.specs.declared.tree.Term.{Term}
+use Rattle.query_tokens.specs.declared.tree.Term.TheVariants as term
+use Rattle.query_tokens.specs.declared.tree.QueryKey.{QueryKey}
+use Rattle.query_tokens.specs.declared.tree.Query.{Query}
+use Rattle.query_tokens.specs.declared.tree.Cond.{Cond}
+use Rattle.query_tokens.specs.declared.tree.Cond.TheVariants as cond
+use Rattle.query_tokens.specs.declared.tree.Cond.TheVariants.{rolls-Compare, rolls-OneOf, rolls-Between, rolls-Not}
+use Rattle.query_tokens.specs.declared.tree.Cond.TheOpen.{Cond-F}
+use Rattle.query_tokens.specs.declared.tree.Cond.TheFolds.{fold-roll-Cond}
+use Rattle.query_tokens.specs.Stream.{Stream}
+use Rattle.query_grammar.specs.Cond.{joined, row_joints, deepest}
+use Rattle.query_grammar.specs.Query.{is_count}
+use Rattle.query_grammar.specs.Spells.{Rule, SpellsList, SpellsTest, SpellsConjunction, SpellsCond, SpellsFactor, SpellsCondition}
+use Rattle.query_grammar.specs.SpellsQuery.{SpellsArgument, SpellsTerm, SpellsItem, SpellsKey, SpellsBy, SpellsListed, SpellsOptional, SpellsQuery}
 use Rattle.query_where.specs.Written.{Written, Compare, OneOf, Between, Not, All, Any, Members, no_members, member, members_of, written_step, written, where_written}
 use Rattle.bound_parts.proofs.Truth.{and_of}
 use Rattle.bound_parts.proofs.JointLemmas.{written-All, written-Any}

@@ -11,10 +11,10 @@ use Rattle.table_schema.specs.declared.query.Item.TheVariants as item
 use Rattle.table_schema.specs.declared.query.BoundQuery.{BoundQuery}
 use Rattle.table_schema.specs.Aggs.{same_agg}
 use Rattle.table_schema.specs.ValidQuery.{is_item, IsValidQuery}
-use Rattle.query_parser.specs.declared.tree.Term.{Term}
-use Rattle.query_parser.specs.declared.tree.Term.TheVariants as term
-use Rattle.query_parser.specs.declared.tree.QueryItem.{QueryItem}
-use Rattle.query_parser.specs.declared.tree.Query.{Query}
+use Rattle.query_tokens.specs.declared.tree.Term.{Term}
+use Rattle.query_tokens.specs.declared.tree.Term.TheVariants as term
+use Rattle.query_tokens.specs.declared.tree.QueryItem.{QueryItem}
+use Rattle.query_tokens.specs.declared.tree.Query.{Query}
 use Rattle.query_where.specs.declared.fault.BindFault.{BindFault}
 use Rattle.query_where.specs.declared.fault.BindReason.TheVariants.{NoAggregate}
 use Rattle.query_where.specs.declared.fault.BindFault.TheVariants.{At}

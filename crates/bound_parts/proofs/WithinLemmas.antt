@@ -14,18 +14,18 @@ use Rattle.table_schema.specs.declared.query.Wide.TheViews.{out-Wide, roll-Wide,
 use Rattle.table_schema.specs.Columns.{number_of}
 use Rattle.values.specs.declared.test.Test.TheVariants as test
 use Rattle.values.specs.Tests.{negated_if}
-use Rattle.query_parser.specs.declared.tree.NameAt.{NameAt}
-use Rattle.query_parser.specs.declared.tree.Func.{Func}
-use Rattle.query_parser.specs.declared.tree.Func.TheVariants as func
-use Rattle.query_parser.specs.declared.tree.Argument.{Argument}
-use Rattle.query_parser.specs.declared.tree.Argument.TheVariants as argument
-use Rattle.query_parser.specs.declared.tree.Term.{Term}
-use Rattle.query_parser.specs.declared.tree.Term.TheVariants as term
-use Rattle.query_parser.specs.declared.tree.Cond.{Cond}
-use Rattle.query_parser.specs.declared.tree.Cond.TheOpen.{Cond-F}
-use Rattle.query_parser.specs.declared.tree.Cond.TheFolds.{fold-roll-Cond, ind-Cond, map-Cond}
-use Rattle.query_parser.specs.declared.tree.Cond.TheViews.{roll-Cond}
-use Rattle.query_parser.specs.declared.tree.Query.{Query}
+use Rattle.query_tokens.specs.declared.tree.NameAt.{NameAt}
+use Rattle.query_tokens.specs.declared.tree.Func.{Func}
+use Rattle.query_tokens.specs.declared.tree.Func.TheVariants as func
+use Rattle.query_tokens.specs.declared.tree.Argument.{Argument}
+use Rattle.query_tokens.specs.declared.tree.Argument.TheVariants as argument
+use Rattle.query_tokens.specs.declared.tree.Term.{Term}
+use Rattle.query_tokens.specs.declared.tree.Term.TheVariants as term
+use Rattle.query_tokens.specs.declared.tree.Cond.{Cond}
+use Rattle.query_tokens.specs.declared.tree.Cond.TheOpen.{Cond-F}
+use Rattle.query_tokens.specs.declared.tree.Cond.TheFolds.{fold-roll-Cond, ind-Cond, map-Cond}
+use Rattle.query_tokens.specs.declared.tree.Cond.TheViews.{roll-Cond}
+use Rattle.query_tokens.specs.declared.tree.Query.{Query}
 use Rattle.query_where.specs.declared.fault.BindReason.TheVariants.{UnknownColumn}
 use Rattle.query_where.specs.declared.fault.BindFault.TheVariants.{At}
 use Rattle.query_where.specs.Faults.{Finding, fault_unless}

@@ -8,18 +8,18 @@ use Rattle.table_schema.specs.declared.query.Item.TheVariants as item
 use Rattle.table_schema.specs.declared.query.OrderKey.{OrderKey}
 use Rattle.table_schema.specs.declared.query.BoundQuery.{BoundQuery}
 use Rattle.table_schema.specs.Names.{Text}
-use Rattle.query_parser.specs.declared.tree.NameAt.{NameAt}
-use Rattle.query_parser.specs.declared.tree.Func.{Func}
-use Rattle.query_parser.specs.declared.tree.Func.TheVariants as func
-use Rattle.query_parser.specs.declared.tree.Argument.{Argument}
-use Rattle.query_parser.specs.declared.tree.Argument.TheVariants as argument
-use Rattle.query_parser.specs.declared.tree.Term.{Term}
-use Rattle.query_parser.specs.declared.tree.Term.TheVariants as term
-use Rattle.query_parser.specs.declared.tree.QueryItem.{QueryItem}
-use Rattle.query_parser.specs.declared.tree.Query.{Query}
-use Rattle.query_parser.specs.Lex.{Bytes}
-use Rattle.query_parser.specs.Stream.{tokens}
-use Rattle.query_parser.specs.SpellsQuery.{SpellsQuery}
+use Rattle.query_tokens.specs.declared.tree.NameAt.{NameAt}
+use Rattle.query_tokens.specs.declared.tree.Func.{Func}
+use Rattle.query_tokens.specs.declared.tree.Func.TheVariants as func
+use Rattle.query_tokens.specs.declared.tree.Argument.{Argument}
+use Rattle.query_tokens.specs.declared.tree.Argument.TheVariants as argument
+use Rattle.query_tokens.specs.declared.tree.Term.{Term}
+use Rattle.query_tokens.specs.declared.tree.Term.TheVariants as term
+use Rattle.query_tokens.specs.declared.tree.QueryItem.{QueryItem}
+use Rattle.query_tokens.specs.declared.tree.Query.{Query}
+use Rattle.query_tokens.specs.Lex.{Bytes}
+use Rattle.query_tokens.specs.Stream.{tokens}
+use Rattle.query_grammar.specs.SpellsQuery.{SpellsQuery}
 use Rattle.query_where.specs.declared.fault.BindFault.{BindFault}
 use Rattle.query_where.specs.declared.fault.BindFault.TheVariants.{NoMemory}
 use Rattle.query_where.specs.Written.{Written, where_written}

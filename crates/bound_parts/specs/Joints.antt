@@ -3,7 +3,7 @@ use Rattle.std.specs.Prelude.{Bool, List, flat_map, if◌then◌else◌}
 use Rattle.table_schema.specs.declared.field.Field.{Field}
 use Rattle.table_schema.specs.declared.query.Wide.{Wide}
 use Rattle.table_schema.specs.declared.query.Wide.TheVariants as wide
-use Rattle.query_parser.specs.declared.tree.Cond.{Cond}
+use Rattle.query_tokens.specs.declared.tree.Cond.{Cond}
 use Rattle.bound_parts.specs.declared.normal.Joint.{Joint}
 use Rattle.bound_parts.specs.declared.normal.Joint.TheVariants.{All, Any}
 use Rattle.query_where.specs.Written.{written}

@@ -2,8 +2,8 @@
 use Rattle.std.specs.Prelude.{ℕ, ℤ, pos, negsuc, ◌+◌, Bool, true, false, ◌||◌, nat_lt, nat_le, List, [], ◌∷◌, length, Option, Some, None}
 use Rattle.values.specs.declared.value.Value.{Value}
 use Rattle.values.specs.declared.value.Value.TheVariants as value
-use Rattle.query_parser.specs.declared.tree.LiteralAt.{LiteralAt}
-use Rattle.query_parser.specs.Query.{is_natural}
+use Rattle.query_tokens.specs.declared.tree.LiteralAt.{LiteralAt}
+use Rattle.query_grammar.specs.Query.{is_natural}
 use Rattle.query_where.specs.declared.fault.BindReason.TheVariants.{TooMany}
 use Rattle.bound_parts.specs.declared.terms.TermAt.{TermAt}
 use Rattle.bound_parts.specs.declared.terms.KeyAt.{KeyAt}

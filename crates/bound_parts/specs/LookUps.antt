@@ -4,9 +4,9 @@ use Rattle.std.specs.List.{list_any}
 use Rattle.std.specs.Str.{bytes_eq}
 use Rattle.std.specs.Borrow.{Bor}
 use Rattle.std.specs.HashMap as hash
-use Rattle.query_parser.specs.declared.tree.NameAt.{NameAt}
-use Rattle.query_parser.specs.declared.tree.QueryItem.{QueryItem}
-use Rattle.query_parser.specs.declared.tree.Term.{Term}
+use Rattle.query_tokens.specs.declared.tree.NameAt.{NameAt}
+use Rattle.query_tokens.specs.declared.tree.QueryItem.{QueryItem}
+use Rattle.query_tokens.specs.declared.tree.Term.{Term}
 use Rattle.query_where.specs.Names.{labelled}
 
 -- the map has the term of the first item with each AS name

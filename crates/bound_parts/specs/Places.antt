@@ -4,7 +4,7 @@ use Rattle.std.specs.List.{slice_get}
 use Rattle.table_schema.specs.declared.table.Table.{Table}
 use Rattle.table_schema.specs.declared.query.Item.{Item}
 use Rattle.table_schema.specs.declared.query.Item.TheVariants as item
-use Rattle.query_parser.specs.declared.tree.Query.{Query}
+use Rattle.query_tokens.specs.declared.tree.Query.{Query}
 use Rattle.bound_parts.specs.declared.terms.Meaning.{Meaning}
 use Rattle.bound_parts.specs.declared.terms.Meaning.TheVariants as meaning
 use Rattle.query_where.specs.Names.{term_of}

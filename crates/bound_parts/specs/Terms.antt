@@ -4,16 +4,16 @@ use Rattle.std.specs.List.{list_any}
 use Rattle.agg_laws.specs.declared.aggregate_kind.AggKind.{AggKind}
 use Rattle.agg_laws.specs.declared.aggregate_kind.AggKind.TheVariants.{Count, Sum, Least, Greatest, Average}
 use Rattle.table_schema.specs.declared.field.Field.{Field}
-use Rattle.query_parser.specs.declared.tree.NameAt.{NameAt}
-use Rattle.query_parser.specs.declared.tree.Func.{Func}
-use Rattle.query_parser.specs.declared.tree.Func.TheVariants as func
-use Rattle.query_parser.specs.declared.tree.Argument.{Argument}
-use Rattle.query_parser.specs.declared.tree.Argument.TheVariants as argument
-use Rattle.query_parser.specs.declared.tree.Term.{Term}
-use Rattle.query_parser.specs.declared.tree.Term.TheVariants as term
-use Rattle.query_parser.specs.declared.tree.QueryItem.{QueryItem}
-use Rattle.query_parser.specs.declared.tree.QueryKey.{QueryKey}
-use Rattle.query_parser.specs.declared.tree.Query.{Query}
+use Rattle.query_tokens.specs.declared.tree.NameAt.{NameAt}
+use Rattle.query_tokens.specs.declared.tree.Func.{Func}
+use Rattle.query_tokens.specs.declared.tree.Func.TheVariants as func
+use Rattle.query_tokens.specs.declared.tree.Argument.{Argument}
+use Rattle.query_tokens.specs.declared.tree.Argument.TheVariants as argument
+use Rattle.query_tokens.specs.declared.tree.Term.{Term}
+use Rattle.query_tokens.specs.declared.tree.Term.TheVariants as term
+use Rattle.query_tokens.specs.declared.tree.QueryItem.{QueryItem}
+use Rattle.query_tokens.specs.declared.tree.QueryKey.{QueryKey}
+use Rattle.query_tokens.specs.declared.tree.Query.{Query}
 use Rattle.bound_parts.specs.declared.terms.Meaning.{Meaning}
 use Rattle.bound_parts.specs.declared.terms.Meaning.TheVariants as meaning
 use Rattle.bound_parts.specs.declared.terms.TermAt.{TermAt}

@@ -12,7 +12,7 @@ use crate::distinct::Lists;
 use crate::items::{items_of, keys_of};
 use crate::labels::labels;
 use crate::terms::Terms;
-use query_parser::{LiteralAt, Query};
+use query_tokens::{LiteralAt, Query};
 use std::alloc::Global;
 use table_schema::{BoundQuery, Field, Item, OrderKey};
 use values::{Name, NoMemory, Seq, Value};

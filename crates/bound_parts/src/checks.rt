@@ -9,7 +9,7 @@ ghost use Rattle.query_where.specs.Faults.{Passes};
 ghost use Rattle.table_schema.specs.Firsts.{first_in};
 
 use crate::lookups::QueryNames;
-use query_parser::{Cond, Query, QueryItem, QueryKey, Term};
+use query_tokens::{Cond, Query, QueryItem, QueryKey, Term};
 use query_where::{BindFault, BindReason, check_condition};
 use table_schema::{Field, Table};
 

@@ -7,7 +7,7 @@ ghost use Rattle.query_where.specs.Conjuncts as spec;
 ghost use Rattle.query_where.specs.Conjuncts.{KeepRows};
 
 use crate::normal::{Joint, Scope};
-use query_parser::Cond;
+use query_tokens::Cond;
 use query_where::only_field;
 use std::alloc::Global;
 use table_schema::{Conjunct, Field, Wide};

@@ -3,7 +3,7 @@
 ghost use Rattle.std.specs.Prelude.{◌≡◌, map, IfOk};
 ghost use Rattle.bound_parts.specs.Bound as spec;
 
-use query_parser::{Argument, Call, Func, QueryItem, Term};
+use query_tokens::{Argument, Call, Func, QueryItem, Term};
 use std::alloc::Global;
 use values::{Name, NoMemory, Seq};
 

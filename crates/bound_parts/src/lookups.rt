@@ -5,7 +5,7 @@ ghost use Rattle.bound_parts.specs.Grouped.{is_grouped};
 ghost use Rattle.query_where.specs.Names as names;
 ghost use Rattle.std.specs.Prelude.{◌≡◌, IfOk};
 
-use query_parser::{NameAt, Query, QueryItem, Term};
+use query_tokens::{NameAt, Query, QueryItem, Term};
 use std::alloc::Global;
 use std::collections::HashMap;
 use values::NoMemory;

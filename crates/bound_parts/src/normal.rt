@@ -9,7 +9,7 @@ ghost use Rattle.query_where.specs.Names.{column_finding, condition_finding};
 ghost use Rattle.bound_parts.specs.Joints as spec;
 ghost use Rattle.table_schema.specs.Firsts.{first_of};
 
-use query_parser::{Cond, LiteralAt, NameAt};
+use query_tokens::{Cond, LiteralAt, NameAt};
 use query_where::opposite_if;
 use std::alloc::Global;
 use table_schema::{Field, Wide};

@@ -9,7 +9,7 @@ ghost use Rattle.table_schema.specs.Firsts.{first_in};
 use crate::checks::check_where;
 use crate::lookups::QueryNames;
 use agg_laws::AggKind;
-use query_parser::{Argument, Func, NameAt, QueryItem, QueryKey, Term};
+use query_tokens::{Argument, Func, NameAt, QueryItem, QueryKey, Term};
 use query_where::{BindFault, BindReason, column, kind_of};
 use std::alloc::Global;
 use table_schema::{Agg, Field};

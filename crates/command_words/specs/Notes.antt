@@ -7,7 +7,7 @@ use Rattle.csv_row.specs.declared.fault.CsvFault.{CsvFault}
 use Rattle.csv_row.specs.declared.fault.CsvFault.TheVariants as csv
 use Rattle.csv_row.specs.FaultTexts.{kind_text}
 use Rattle.json_keys.specs.FaultTexts.{key_text}
-use Rattle.query_parser.specs.FaultTexts.{parse_text}
+use Rattle.query_tokens.specs.FaultTexts.{parse_text}
 use Rattle.query_where.specs.FaultTexts.{bind_text}
 use Rattle.sql_reply.specs.declared.fault.SqlFault.{SqlFault}
 use Rattle.sql_reply.specs.declared.fault.SqlFault.TheVariants as query

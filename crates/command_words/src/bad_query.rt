@@ -1,6 +1,6 @@
 //! Why a query is refused.
 
-use query_parser::Reason;
+use query_tokens::Reason;
 use query_where::BindReason;
 
 /// What is wrong with a query.

@@ -3,7 +3,7 @@ use Rattle.std.proofs.Common.{◌≡◌, ◌≢◌, Bool, List, Some, None, Ok, 
 use Rattle.table_schema.specs.declared.table.Table.{Table}
 use Rattle.table_schema.specs.declared.query.BoundQuery.{BoundQuery}
 use Rattle.table_schema.specs.declared.query.Conjunct.{Conjunct}
-use Rattle.query_parser.specs.declared.tree.Query.{Query}
+use Rattle.query_tokens.specs.declared.tree.Query.{Query}
 use Rattle.bound_parts.specs.declared.terms.Terms.{Terms}
 use Rattle.bound_parts.specs.declared.distinct.Lists.{Lists}
 use Rattle.query_where.specs.declared.fault.BindFault.{BindFault}

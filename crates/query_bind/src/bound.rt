@@ -11,7 +11,7 @@ use bound_parts::{
     Lists, QueryNames, Terms, assemble, check_aggregate, check_grouped, check_table, resolve,
     without_repeats,
 };
-use query_parser::Query;
+use query_tokens::Query;
 use query_where::BindFault;
 use std::alloc::Global;
 use table_schema::{BoundQuery, Table};

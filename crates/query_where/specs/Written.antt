@@ -7,11 +7,11 @@ use Rattle.values.specs.Tests.{op_holds, negated_if, is_member, is_between}
 use Rattle.table_schema.specs.declared.field.Field.{Field}
 use Rattle.table_schema.specs.Columns.{number_of}
 use Rattle.table_schema.specs.Conditions.{cell}
-use Rattle.query_parser.specs.declared.tree.NameAt.{NameAt}
-use Rattle.query_parser.specs.declared.tree.LiteralAt.{LiteralAt}
-use Rattle.query_parser.specs.declared.tree.Cond.{Cond}
-use Rattle.query_parser.specs.declared.tree.Cond.TheOpen.{Cond-F}
-use Rattle.query_parser.specs.declared.tree.Cond.TheFolds.{fold-Cond}
+use Rattle.query_tokens.specs.declared.tree.NameAt.{NameAt}
+use Rattle.query_tokens.specs.declared.tree.LiteralAt.{LiteralAt}
+use Rattle.query_tokens.specs.declared.tree.Cond.{Cond}
+use Rattle.query_tokens.specs.declared.tree.Cond.TheOpen.{Cond-F}
+use Rattle.query_tokens.specs.declared.tree.Cond.TheFolds.{fold-Cond}
 
 -- A condition with numbers of fields in place of names. The `Bool` says negated.
 mutual

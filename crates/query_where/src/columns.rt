@@ -6,7 +6,7 @@ ghost use Rattle.query_where.specs.Written.{field_number};
 ghost use Rattle.query_where.specs.Faults.{Resolves};
 
 use crate::{BindFault, BindReason};
-use query_parser::NameAt;
+use query_tokens::NameAt;
 use table_schema::Field;
 use values::FieldKind;
 

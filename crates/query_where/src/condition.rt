@@ -8,7 +8,7 @@ ghost use Rattle.values.specs.Kinds.{is_of};
 
 use crate::columns::kind_of;
 use crate::{BindFault, BindReason};
-use query_parser::{Cond, LiteralAt};
+use query_tokens::{Cond, LiteralAt};
 use table_schema::Field;
 use values::{FieldKind, Value};
 

@@ -1,24 +1,25 @@
 -- The reading of a query never ends for want of memory.
 use Rattle.std.proofs.Common.{◌≡◌, ℕ, zero, suc, Bool, true, false, cond, not, ◌&&◌, List, [], ◌∷◌, ◌++◌, length, Option, Some, None, Result, Ok, Err, codes, refl}
 use Rattle.std.specs.Str.{str_eq_ignore_ascii_case}
-use Rattle.query_parser.specs.declared.token.Kind.{Kind}
-use Rattle.query_parser.specs.declared.token.Kind.TheVariants as k
-use Rattle.query_parser.specs.declared.fault.QueryFault.{QueryFault}
-use Rattle.query_parser.specs.declared.fault.QueryFault.TheVariants.{At, NoMemory}
-use Rattle.query_parser.specs.declared.tree.NameAt.{NameAt}
-use Rattle.query_parser.specs.declared.tree.LiteralAt.{LiteralAt}
-use Rattle.query_parser.specs.declared.fault.Reason.TheVariants.{UnsupportedOption}
-use Rattle.query_parser.specs.declared.tree.Argument.TheVariants as argument
-use Rattle.query_parser.specs.declared.tree.Cond.TheVariants.{Compare}
-use Rattle.query_parser.specs.declared.tree.Term.TheVariants as term
+use Rattle.query_tokens.specs.declared.token.Kind.{Kind}
+use Rattle.query_tokens.specs.declared.token.Kind.TheVariants as k
+use Rattle.query_tokens.specs.declared.fault.QueryFault.{QueryFault}
+use Rattle.query_tokens.specs.declared.fault.QueryFault.TheVariants.{At, NoMemory}
+use Rattle.query_tokens.specs.declared.tree.NameAt.{NameAt}
+use Rattle.query_tokens.specs.declared.tree.LiteralAt.{LiteralAt}
+use Rattle.query_tokens.specs.declared.fault.Reason.TheVariants.{UnsupportedOption}
+use Rattle.query_tokens.specs.declared.tree.Argument.TheVariants as argument
+use Rattle.query_tokens.specs.declared.tree.Cond.TheVariants.{Compare}
+use Rattle.query_tokens.specs.declared.tree.Term.TheVariants as term
 use Rattle.values.specs.declared.test.CompareOp.{CompareOp}
-use Rattle.query_parser.specs.declared.tree.Func.{Func}
-use Rattle.query_parser.specs.declared.tree.Query.{Query}
-use Rattle.query_parser.specs.Lex.{Bytes}
-use Rattle.query_parser.specs.Stream.{Stream, kind, number, tokens}
-use Rattle.query_parser.specs.Reading.{Outcome, Parser, and_then, ◌>>=◌, ◌>>◌, ◌<$>◌, pure, refusal, refuse, too_deep, peek, take_token, sees, eat, expect, name, literal_by, literal, separated_from, separated}
-use Rattle.query_parser.specs.Cond as c
-use Rattle.query_parser.specs.Query as q
+use Rattle.query_tokens.specs.declared.tree.Func.{Func}
+use Rattle.query_tokens.specs.declared.tree.Query.{Query}
+use Rattle.query_tokens.specs.Lex.{Bytes}
+use Rattle.query_tokens.specs.Stream.{Stream, kind, number, tokens}
+use Rattle.token_cursor.specs.Reading.{Outcome, Parser, and_then, ◌>>=◌, ◌>>◌, ◌<$>◌, pure, refusal, refuse, too_deep, peek, take_token, sees, eat, expect, name, literal_by, literal, separated_from, separated}
+use Rattle.token_cursor.specs.Operators.{operator}
+use Rattle.query_grammar.specs.Cond as c
+use Rattle.query_grammar.specs.Query as q
 
 -- what a rule of the grammar reads is no want of memory
 abbrev Tells : {A : Type 0} → Parser A → Type 0
@@ -112,7 +113,7 @@ test_tells : (column : NameAt) (kd : Kind) → Tells (c.test_by column kd)
 test_tells column k.In = bind take_token _ take_tells (λ _. one_of_tells column false)
 test_tells column k.Between = bind take_token _ take_tells (λ _. between_tells column false)
 test_tells column k.Not = bind take_token _ take_tells (λ _. bind peek _ peek_tells (negated_by_tells column))
-test_tells column kind = compared_tells column (c.operator kind)
+test_tells column kind = compared_tells column (operator kind)
 
 predicate_tells : Tells c.predicate
 unfolding c.predicate

@@ -2,9 +2,9 @@
 use Rattle.std.specs.Prelude.{◌≡◌, ◌≢◌, ℕ, Bool, nat_lt, List, length, Result, Ok, Err, if◌then◌else◌}
 use Rattle.table_schema.specs.declared.query.BoundQuery.{BoundQuery}
 use Rattle.table_schema.specs.declared.table.Table.{Table}
-use Rattle.query_parser.specs.Query.{parsed}
-use Rattle.query_parser.specs.declared.tree.Query.{Query}
-use Rattle.query_parser.specs.declared.fault.QueryFault.{QueryFault}
+use Rattle.query_grammar.specs.Query.{parsed}
+use Rattle.query_tokens.specs.declared.tree.Query.{Query}
+use Rattle.query_tokens.specs.declared.fault.QueryFault.{QueryFault}
 use Rattle.bound_parts.specs.Bound.{Bound, bound, in_normal_form}
 use Rattle.query_where.specs.declared.fault.BindFault.{BindFault}
 use Rattle.sql_reply.specs.SqlReply.{bind_fault, query_fault, sql_limit}

@@ -2,8 +2,8 @@
 use Rattle.std.specs.Prelude.{◌≡◌, ◌≤◌, Bool, ℕ, List, length, Ok}
 use Rattle.table_schema.specs.declared.query.BoundQuery.{BoundQuery}
 use Rattle.table_schema.specs.declared.table.Table.{Table}
-use Rattle.query_parser.specs.Query.{parsed}
-use Rattle.query_parser.specs.declared.tree.Query.{Query}
+use Rattle.query_grammar.specs.Query.{parsed}
+use Rattle.query_tokens.specs.declared.tree.Query.{Query}
 use Rattle.bound_parts.specs.Bound.{Bound, bound, in_normal_form}
 use Rattle.query_where.specs.Conjuncts.{KeepRows}
 use Rattle.query_where.specs.Written.{where_written}

@@ -2,10 +2,10 @@
 use Rattle.std.specs.Prelude.{◌≡◌, ◌≢◌, ℕ, Bool, nat_lt, List, length, Result, Ok, Err, if◌then◌else◌}
 use Rattle.values.specs.declared.value.Value.{Value}
 use Rattle.table_schema.specs.declared.table.Table.{Table}
-use Rattle.query_parser.specs.Query.{parsed}
-use Rattle.query_parser.specs.declared.tree.Query.{Query}
-use Rattle.query_parser.specs.declared.fault.QueryFault.{QueryFault}
-use Rattle.query_parser.specs.declared.fault.QueryFault.TheVariants as parse
+use Rattle.query_grammar.specs.Query.{parsed}
+use Rattle.query_tokens.specs.declared.tree.Query.{Query}
+use Rattle.query_tokens.specs.declared.fault.QueryFault.{QueryFault}
+use Rattle.query_tokens.specs.declared.fault.QueryFault.TheVariants as parse
 use Rattle.bound_parts.specs.Bound.{Bound, bound}
 use Rattle.query_where.specs.declared.fault.BindFault.{BindFault}
 use Rattle.query_where.specs.declared.fault.BindFault.TheVariants as bind

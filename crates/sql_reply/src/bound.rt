@@ -11,7 +11,8 @@ ghost use Rattle.sql_reply.specs.SqlReply as spec;
 
 use crate::SqlFault;
 use query_bind::bind;
-use query_parser::{Query, QueryFault, parse};
+use query_parser::parse;
+use query_tokens::{Query, QueryFault};
 use query_where::BindFault;
 use std::alloc::Global;
 use table_schema::{BoundQuery, Table};

@@ -1,6 +1,6 @@
 //! Why a query's text has no reply.
 
-use query_parser::Reason;
+use query_tokens::Reason;
 use query_where::BindReason;
 use std::alloc::AllocError;
 

@@ -1,7 +1,7 @@
 //! Why a query over a text has no reply.
 
 use csv_ingest::CsvKind;
-use query_parser::Reason;
+use query_tokens::Reason;
 use query_where::BindReason;
 use std::alloc::AllocError;
 

@@ -2,7 +2,8 @@
 
 use crate::text::{Text, number, parted};
 use crate::trees::show_query;
-use query_parser::{Query, QueryFault, parse};
+use query_parser::parse;
+use query_tokens::{Query, QueryFault};
 use std::alloc::Global;
 
 const MOST_BYTES: usize = 65536;

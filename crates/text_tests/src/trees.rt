@@ -1,7 +1,7 @@
 //! The syntax tree of a query on one line, with the byte of each token.
 
 use crate::text::Text;
-use query_parser::{Argument, Call, Cond, Func, LiteralAt, NameAt, Query, Term};
+use query_tokens::{Argument, Call, Cond, Func, LiteralAt, NameAt, Query, Term};
 use values::CompareOp;
 
 fn show_name(name: &NameAt, out: &Text) {

@@ -1,11 +1,11 @@
 use Rattle.std.proofs.Common.{Result, Ok, Err, IfOk, sym, ◌∙◌}
-use Rattle.query_parser.specs.declared.fault.QueryFault.{QueryFault}
-use Rattle.query_parser.specs.declared.tree.Query.{Query}
-use Rattle.query_parser.specs.Lex.{Bytes}
-use Rattle.query_parser.specs.Stream.{tokens}
-use Rattle.query_parser.specs.Query as q
-use Rattle.query_parser.specs.SpellsQuery.{SpellsQuery}
-use Rattle.query_parser.proofs.Whole.{spelled, parsed_is}
+use Rattle.query_tokens.specs.declared.fault.QueryFault.{QueryFault}
+use Rattle.query_tokens.specs.declared.tree.Query.{Query}
+use Rattle.query_tokens.specs.Lex.{Bytes}
+use Rattle.query_tokens.specs.Stream.{tokens}
+use Rattle.query_grammar.specs.Query as q
+use Rattle.query_grammar.specs.SpellsQuery.{SpellsQuery}
+use Rattle.query_grammar.proofs.Whole.{spelled, parsed_is}
 use Rattle.query_parser.proofs.query.parse.Goals as goal
 
 all_spelled : (text : Bytes) (r : Result Query QueryFault) → q.Parses (q.parsed text) r → IfOk r (SpellsQuery (tokens text))

@@ -1,6 +1,6 @@
 use Rattle.std.proofs.Common.{◌≡◌, Some, None, option_map, unwrap_or, sym, ap, ◌∙◌}
 use Rattle.std.specs.Option.{option_copied}
-use Rattle.query_parser.specs.declared.tree.Term.TheVariants.{Column}
+use Rattle.query_tokens.specs.declared.tree.Term.TheVariants.{Column}
 use Rattle.query_where.specs.Names.{labelled, term_of}
 use Rattle.bound_parts.proofs.lookups.QueryNames.term_of.Goals as goal
 

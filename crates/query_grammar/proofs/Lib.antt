@@ -1,0 +1,12 @@
+pub mod Again
+pub mod AgainQuery
+pub mod Found
+pub mod FoundQuery
+pub mod Factors
+pub mod Takes
+pub mod Turns
+pub mod Whole
+pub mod Seen
+pub mod SeenQuery
+pub mod FinalLaws
+pub mod QueryParts

@@ -1,6 +1,0 @@
-use Rattle.query_parser.specs.Cond.{condition}
-use Rattle.query_parser.proofs.where_clause.condition.Goals as goal
-
-pub returns : goal.returns
-unfolding condition
-returns c = c.cond.ensures
