@@ -22,7 +22,7 @@ use Rattle.command_words.specs.declared.stop.Stop.TheVariants as stop
 use Rattle.command_reads.proofs.MachineLemmas.{steps_over}
 use Rattle.command_reads.proofs.ReadLemmas.{heads_read, stored_heads_after, stored_of, table_then}
 use Rattle.command_reads.proofs.StoredLemmas.{same_found, told_all}
-use Rattle.query_executor.specs.Logs.{LogsHeadsOf}
+use Rattle.segment_opening.specs.Logs.{LogsHeadsOf}
 
 -- ---- what was found
 

@@ -29,8 +29,9 @@ use Rattle.sql_reply.specs.declared.fault.SqlFault.{SqlFault}
 use Rattle.sql_reply.specs.declared.fault.SqlFault.TheVariants as query
 use Rattle.sql_reply.proofs.AskedLemmas.{unasked_none}
 use Rattle.query_executor.specs.Answers.{IsReply}
-use Rattle.query_executor.specs.Explained.{IsExplained, explained, in_order, lines_or}
-use Rattle.query_executor.specs.Segments.{HasImage, stored_rows}
+use Rattle.query_executor.specs.Explained.{IsExplained, explained, lines_or}
+use Rattle.segment_pass.specs.Lines.{in_order}
+use Rattle.segment_opening.specs.Segments.{HasImage, stored_rows}
 use Rattle.query_executor.specs.Stated.{IsStated, stated, stated_by}
 use Rattle.table_store.specs.Accepted.{IsAccepted, IsNoTableFile}
 use Rattle.table_store.specs.Segments.{AreFirstNames, IsFull, has_segment}

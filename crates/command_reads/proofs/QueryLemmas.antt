@@ -12,12 +12,13 @@ use Rattle.sql_reply.specs.SqlReply.{IsOfText}
 use Rattle.sql_reply.specs.declared.fault.SqlFault.{SqlFault}
 use Rattle.sql_reply.specs.declared.fault.SqlFault.TheVariants as query
 use Rattle.star_answer.specs.Docs.{DocsAreBounded}
-use Rattle.query_executor.specs.Explained.{in_order, lines_or}
-use Rattle.query_executor.specs.Logs.{IsFileOf, IsHeadRead, LogsHeadsOf, LogsOf}
+use Rattle.query_executor.specs.Explained.{lines_or}
+use Rattle.segment_pass.specs.Lines.{in_order}
+use Rattle.segment_opening.specs.Logs.{IsFileOf, IsHeadRead, LogsHeadsOf, LogsOf}
 use Rattle.std.specs.List.{Contains}
-use Rattle.query_executor.specs.Segments.{HasNoImage}
-use Rattle.query_executor.specs.declared.fault.ExecutorFault.{ExecutorFault}
-use Rattle.query_executor.specs.declared.fault.ExecutorFault.TheVariants as executor
+use Rattle.segment_opening.specs.Segments.{HasNoImage}
+use Rattle.segment_pass.specs.declared.fault.ExecutorFault.{ExecutorFault}
+use Rattle.segment_pass.specs.declared.fault.ExecutorFault.TheVariants as executor
 use Rattle.table_store.specs.Segments.{AreFirstNames}
 use Rattle.command_words.specs.Command.{Ask}
 use Rattle.command_reads.specs.Consulted.{HasRead, ReadsAbout, ReadsStored}

@@ -20,14 +20,14 @@ use Rattle.segment_file.specs.Ordered.{ordered}
 use Rattle.sql_reply.specs.Asked.{asked}
 use Rattle.sql_reply.specs.declared.fault.SqlFault.{SqlFault}
 use Rattle.star_answer.specs.Docs.{DocsAreBounded}
-use Rattle.query_executor.specs.Logs.{IsFileOf, IsHeadRead, LogsHeadsOf, LogsOf, LogsWhere}
-use Rattle.query_executor.specs.Reads.{AreApart, LogsEach, ReadsPlanned}
-use Rattle.query_executor.specs.Segments.{HasImage}
-use Rattle.query_executor.proofs.GroupLemmas.{zip_at}
-use Rattle.query_executor.proofs.GrownLemmas.{IsOfFile, grown_so, grown_then}
-use Rattle.query_executor.proofs.LogLemmas.{entries_as, entries_then, same_log}
-use Rattle.query_executor.proofs.SpanLemmas.{planned_less, planned_of_file}
-use Rattle.query_executor.proofs.Unread.{nothing_read}
+use Rattle.segment_opening.specs.Logs.{IsFileOf, IsHeadRead, LogsHeadsOf, LogsOf, LogsWhere}
+use Rattle.segment_opening.specs.Reads.{AreApart, LogsEach, ReadsPlanned}
+use Rattle.segment_opening.specs.Segments.{HasImage}
+use Rattle.segment_opening.proofs.GrownLemmas.{zip_at}
+use Rattle.segment_opening.proofs.GrownLemmas.{IsOfFile, grown_so, grown_then}
+use Rattle.segment_opening.proofs.LogLemmas.{entries_as, entries_then, same_log}
+use Rattle.segment_opening.proofs.SpanLemmas.{planned_less, planned_of_file}
+use Rattle.segment_pass.proofs.Unread.{nothing_read}
 use Rattle.table_store.specs.Accepted.{IsAccepted}
 use Rattle.table_store.specs.Segments.{AreFirstNames}
 use Rattle.table_store.specs.Stands.{most_segments}

@@ -9,9 +9,9 @@ use Rattle.table_schema.specs.declared.table.Table.{Table}
 use Rattle.segment_file.specs.Ordered.{ordered}
 use Rattle.sql_reply.specs.Asked.{asked}
 use Rattle.sql_reply.specs.declared.fault.SqlFault.{SqlFault}
-use Rattle.query_executor.specs.Logs.{IsFileOf, IsHeadRead, LogsThat, LogsWhere}
-use Rattle.query_executor.specs.Reads.{Grown, ReadsPlanned}
-use Rattle.query_executor.specs.Segments.{HasImage}
+use Rattle.segment_opening.specs.Logs.{IsFileOf, IsHeadRead, LogsThat, LogsWhere}
+use Rattle.segment_opening.specs.Reads.{Grown, ReadsPlanned}
+use Rattle.segment_opening.specs.Segments.{HasImage}
 use Rattle.table_store.specs.Segments.{AreFirstNames}
 use Rattle.table_store.specs.TableFile.{table_name}
 use Rattle.command_words.specs.Command.{Ask, Command, Listing}

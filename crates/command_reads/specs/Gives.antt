@@ -24,8 +24,8 @@ use Rattle.segment_file.specs.declared.fault.HeadFault.TheVariants as head
 use Rattle.table_schema.specs.declared.field.Field.{Field}
 use Rattle.table_store.specs.declared.fault.StoreFault.{StoreFault}
 use Rattle.table_store.specs.declared.fault.StoreFault.TheVariants as store
-use Rattle.query_executor.specs.declared.fault.ExecutorFault.{ExecutorFault}
-use Rattle.query_executor.specs.declared.fault.ExecutorFault.TheVariants as executor
+use Rattle.segment_pass.specs.declared.fault.ExecutorFault.{ExecutorFault}
+use Rattle.segment_pass.specs.declared.fault.ExecutorFault.TheVariants as executor
 use Rattle.segment_file.specs.declared.part.Part.{Part}
 use Rattle.sql_reply.specs.declared.fault.SqlFault.{SqlFault}
 use Rattle.sql_reply.specs.declared.fault.SqlFault.TheVariants as query

@@ -11,7 +11,7 @@ use Rattle.sql_reply.specs.declared.fault.SqlFault.{SqlFault}
 use Rattle.sql_reply.specs.declared.fault.SqlFault.TheVariants as fault
 use Rattle.query_executor.specs.Answers.{IsReply}
 use Rattle.query_executor.specs.Explained.{IsExplained, explained}
-use Rattle.query_executor.specs.Segments.{HasNoImage}
+use Rattle.segment_opening.specs.Segments.{HasNoImage}
 use Rattle.query_executor.specs.Stated.{IsStated, stated}
 use Rattle.table_store.specs.Segments.{AreFirstNames, has_segment}
 use Rattle.table_store.specs.State.{Segment, Segments}

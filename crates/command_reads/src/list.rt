@@ -4,7 +4,7 @@ ghost use Rattle.std.specs.Fmt.{decimal};
 ghost use Rattle.std.specs.List.{All, AllZip};
 ghost use Rattle.outside.specs.Seen.{Seen, seen};
 ghost use Rattle.segment_file.specs.Names.{IsSegmentName};
-ghost use Rattle.query_executor.specs.Logs.{LogsHeadOf, LogsHeadsOf};
+ghost use Rattle.segment_opening.specs.Logs.{LogsHeadOf, LogsHeadsOf};
 ghost use Rattle.table_schema.specs.ValidTable.{IsValidTable};
 ghost use Rattle.table_store.specs.Segments.{AreFirstNames, has_segment};
 ghost use Rattle.command_words.specs.Command.{Listing};

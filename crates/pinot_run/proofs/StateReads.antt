@@ -22,12 +22,12 @@ use Rattle.segment_file.specs.Ordered.{ordered}
 use Rattle.segment_file.specs.Parts.{head_sections, raw_sections}
 use Rattle.sql_reply.specs.Asked.{asked}
 use Rattle.sql_reply.specs.declared.fault.SqlFault.{SqlFault}
-use Rattle.query_executor.specs.Logs.{EndsBy, IsHeadRead, LogsWhere}
-use Rattle.query_executor.specs.Reads.{Grown, ReadsNone, ReadsPlanned, raw_span, star_span}
-use Rattle.query_executor.specs.Segments.{HasImage}
-use Rattle.query_executor.proofs.GrownLemmas.{grown_so, same_name}
-use Rattle.query_executor.proofs.HeadReads.{opened_entry}
-use Rattle.query_executor.proofs.LogLemmas.{entries_as, fewer_summed}
+use Rattle.segment_opening.specs.Logs.{EndsBy, IsHeadRead, LogsWhere}
+use Rattle.segment_opening.specs.Reads.{Grown, ReadsNone, ReadsPlanned, raw_span, star_span}
+use Rattle.segment_opening.specs.Segments.{HasImage}
+use Rattle.segment_opening.proofs.GrownLemmas.{grown_so, same_name}
+use Rattle.segment_opening.proofs.HeadReads.{opened_entry}
+use Rattle.segment_opening.proofs.LogLemmas.{entries_as, fewer_summed}
 use Rattle.table_store.specs.Accepted.{IsAccepted}
 use Rattle.table_store.specs.Segments.{AreFirstNames, has_segment}
 use Rattle.table_store.specs.Stands.{Stands}

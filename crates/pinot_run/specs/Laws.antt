@@ -9,8 +9,8 @@ use Rattle.table_schema.specs.declared.table.Table.{Table}
 use Rattle.segment_file.specs.Names.{file_of}
 use Rattle.sql_reply.specs.Asked.{asked}
 use Rattle.sql_reply.specs.declared.fault.SqlFault.{SqlFault}
-use Rattle.query_executor.specs.Logs.{LogsWhere}
-use Rattle.query_executor.specs.Reads.{Grown, ReadsNone, ReadsPlanned}
+use Rattle.segment_opening.specs.Logs.{LogsWhere}
+use Rattle.segment_opening.specs.Reads.{Grown, ReadsNone, ReadsPlanned}
 use Rattle.table_store.specs.Accepted.{IsAccepted}
 use Rattle.table_store.specs.Stands.{Stands}
 use Rattle.table_store.specs.State.{HasTable, Segment, Segments, Texts}

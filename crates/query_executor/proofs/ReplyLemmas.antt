@@ -1,18 +1,30 @@
 -- The reply to a query's text over segments is that of its normal form.
-use Rattle.std.proofs.Common.{◌≡◌, ◌≢◌, ◌∙◌, ℕ, false, List, Option, Some, None, Result, Ok, Err, IfOk, IfSome, subst}
+use Rattle.std.proofs.Common.{◌≡◌, ◌≢◌, ◌∙◌, ℕ, false, List, Option, Some, None, Ok, Err, IfSome, subst, true, cond, nat_lt, [], length, take, sym, ap, arith, refl}
 use Rattle.outside.specs.Files.{Files}
 use Rattle.values.specs.declared.value.Value.{Value}
 use Rattle.table_schema.specs.declared.query.BoundQuery.{BoundQuery}
 use Rattle.table_schema.specs.declared.table.Table.{Table}
-use Rattle.sql_reply.specs.Reply.{conjuncts_reply}
+use Rattle.sql_reply.specs.Reply.{conjuncts_reply, most_groups}
 use Rattle.sql_reply.specs.SqlReply.{IsOfText, SqlReply, replied, sql_reply}
 use Rattle.sql_reply.specs.declared.fault.SqlFault.{SqlFault}
 use Rattle.sql_reply.specs.declared.fault.SqlFault.TheVariants.{NoMemory, TooManyGroups}
 use Rattle.query_executor.specs.Answers.{IsBoundReply, IsReply}
-
-pub found_so : {T E : Type 0} (r : Result T E) (P Q : T → Type 0) → ((t : T) → P t → Q t) → IfOk r P → IfOk r Q
-found_so (Ok t) P Q f h = f t h
-found_so (Err e) P Q f h = tt
+use Rattle.std.specs.FinMap as finite
+use Rattle.std.proofs.lemmas.Bool.{lt-ltb}
+use Rattle.std.proofs.lemmas.List.{take_all}
+use Rattle.std.proofs.lemmas.Slice.Zip.{AllZip-long}
+use Rattle.group_table.specs.Groups.{Groups, groups_of}
+use Rattle.group_table.specs.Kept.{KeptGroups, groups_in}
+use Rattle.group_table.specs.Shape.{Shape, shape_of}
+use Rattle.broker_merge.specs.Answer.{answer_of, answer_text}
+use Rattle.broker_merge.specs.Reply.{Reply, reply_over}
+use Rattle.scan_engine.specs.Scanned.{selected}
+use Rattle.segment_opening.specs.Segments.{HasImage, stored_rows}
+use Rattle.segment_pass.specs.Steps.{HasGroups, HaveTooMany, HasLines}
+use Rattle.sql_reply.specs.Asked.{asked}
+use Rattle.query_executor.specs.Explained.{IsExplained, lines_or}
+use Rattle.segment_pass.specs.Lines.{in_order, plan_line}
+use Rattle.segment_pass.proofs.LineLemmas.{lines_all}
 
 -- what is wrong with a text is no want of memory
 pub text_real : (fault : SqlFault) → IsOfText fault → fault ≢ NoMemory
@@ -30,3 +42,32 @@ module _ (table : Table) (names : List (List ℕ)) (sql : List ℕ) where
   pub fault_so : (fault : SqlFault) → ((rows : List (List Value)) → sql_reply table false sql rows ≡ Err fault) → (held : Option Files) → IfSome held (λ files. IsReply table files names sql (Err fault))
   fault_so fault is None = tt
   fault_so fault is (Some files) = λ segments all. is _
+
+-- ---- over the groups of all segments
+
+module _ (query : BoundQuery) (table : Table) (names : List (List ℕ)) where
+  pub all_answered : (held : Option Files) (groups : KeptGroups) (text : List ℕ) → HasGroups query table held names (length names) groups → replied (reply_over most_groups (shape_of query) (groups_in groups)) ≡ Ok text
+      → IfSome held (λ files. IsBoundReply table files names query (Ok text))
+  all_answered None groups text so is = tt
+  all_answered (Some files) groups text so is = λ segments all.
+      let whole : take (length names) segments ≡ segments = take_all (length names) segments (omega (arith, AllZip-long (HasImage table files) names segments all)) in
+      let groups_are : groups_in groups ≡ groups_of (shape_of query) (selected query (stored_rows table segments)) = so segments all ∙ ap (λ l. groups_of (shape_of query) (selected query (stored_rows table l))) whole in
+      ap (λ g. replied (reply_over most_groups (shape_of query) g)) (sym groups_are) ∙ is
+
+  pub too_many_refused : (held : Option Files) → HaveTooMany query table held names most_groups → IfSome held (λ files. IsBoundReply table files names query (Err (TooManyGroups most_groups)))
+  too_many_refused None over = tt
+  too_many_refused (Some files) over = λ segments all.
+      let rows : List (List Value) = selected query (stored_rows table segments) in
+      let test : nat_lt 100000 (finite.len (groups_of (shape_of query) rows)) ≡ true = lt-ltb 100000 (finite.len (groups_of (shape_of query) rows)) (over segments all) in
+      ap replied (reply_by (shape_of query) (groups_of (shape_of query) rows) test)
+    where
+      reply_by : (shape : Shape) (groups : Groups) → nat_lt 100000 (finite.len groups) ≡ true → reply_over 100000 shape groups ≡ Reply.TooManyGroups
+      reply_by shape groups is = ap (λ b. cond b Reply.TooManyGroups (Reply.Answers (answer_text (answer_of shape groups)))) is
+
+-- ---- over the lines of all segments
+
+pub all_explained : (query : BoundQuery) (table : Table) (names : List (List ℕ)) (sql : List ℕ) → asked table false sql ≡ Ok query → (held : Option Files) (text : List ℕ) → HasLines (plan_line query table) table held names (length names) text
+    → IfSome held (λ files. IsExplained table files names sql (Ok text))
+all_explained query table names sql is None text so = tt
+all_explained query table names sql is (Some files) text so = λ segments all.
+    ap (lines_or table names (in_order table segments)) is ∙ ap Ok (lines_all (plan_line query table) table names files text so segments all)

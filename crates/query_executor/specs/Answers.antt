@@ -7,7 +7,7 @@ use Rattle.table_schema.specs.declared.query.BoundQuery.{BoundQuery}
 use Rattle.table_schema.specs.declared.table.Table.{Table}
 use Rattle.sql_reply.specs.Reply.{conjuncts_reply}
 use Rattle.sql_reply.specs.SqlReply.{SqlReply, replied, sql_reply}
-use Rattle.query_executor.specs.Segments.{HasImage, stored_rows}
+use Rattle.segment_opening.specs.Segments.{HasImage, stored_rows}
 
 -- where the files of the segments of these names are images, this is the reply over the rows of all
 abbrev pub IsReply : Table → Files → List (List ℕ) → List ℕ → SqlReply → Type 0

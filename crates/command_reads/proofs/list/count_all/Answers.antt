@@ -5,8 +5,8 @@ use Rattle.command_reads.specs.Profile.{StoreFiles}
 use Rattle.command_reads.specs.Touched.{IsStoreFile}
 use Rattle.command_reads.specs.Stored.{HasRows, SegmentsRefuse}
 use Rattle.std.specs.List.{Contains}
-use Rattle.query_executor.specs.Logs.{IsHeadRead}
-use Rattle.query_executor.proofs.LogLemmas.{entries_none, heads_more}
+use Rattle.segment_opening.specs.Logs.{IsHeadRead}
+use Rattle.segment_opening.proofs.LogLemmas.{entries_none, heads_more}
 use Rattle.outside.proofs.SeenLemmas.{reads_none}
 use Rattle.command_reads.proofs.StoredLemmas.{CountsOn, any_default, counts_all, counts_more, counts_none, err_after, handed, logs_then, no_memory, reads_then}
 use Rattle.command_reads.proofs.list.count_all.Goals as goal

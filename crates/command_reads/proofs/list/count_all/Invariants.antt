@@ -1,6 +1,6 @@
 use Rattle.std.proofs.Common.{◌≡◌, IfSome, length}
 use Rattle.outside.specs.Seen.{OnlyReads, seen}
-use Rattle.query_executor.specs.Logs.{LogsHeadsOf}
+use Rattle.segment_opening.specs.Logs.{LogsHeadsOf}
 use Rattle.command_reads.specs.Profile.{StoreFiles}
 use Rattle.command_reads.specs.Touched.{LogsOpened}
 use Rattle.command_reads.proofs.StoredLemmas.{CountsOn}

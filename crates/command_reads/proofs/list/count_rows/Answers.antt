@@ -1,8 +1,8 @@
 use Rattle.std.proofs.Common.{◌≡◌, ◌∙◌}
 use Rattle.outside.specs.Seen.{seen}
 use Rattle.segment_file.specs.Names.{file_of}
-use Rattle.query_executor.specs.Logs.{IsHeadRead}
-use Rattle.query_executor.proofs.LogLemmas.{entries_none, opened_log}
+use Rattle.segment_opening.specs.Logs.{IsHeadRead}
+use Rattle.segment_opening.proofs.LogLemmas.{entries_none, opened_log}
 use Rattle.command_reads.proofs.StoredLemmas.{counted, uncounted}
 use Rattle.command_reads.proofs.list.count_rows.Goals as goal
 

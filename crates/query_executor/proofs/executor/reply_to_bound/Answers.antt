@@ -2,13 +2,13 @@ use Rattle.std.proofs.Common.{false, length}
 use Rattle.outside.specs.Seen.{Seen, seen}
 use Rattle.outside.proofs.ReadLemmas.{on-err}
 use Rattle.sql_reply.specs.declared.fault.SqlFault.TheVariants.{NoMemory}
-use Rattle.query_executor.specs.Logs.{IsFileOf}
-use Rattle.query_executor.specs.Reads.{LogsEach, ReadsPlanned}
-use Rattle.query_executor.specs.declared.fault.ExecutorFault.TheVariants.{NotASegment, ReadFault, Sql}
-use Rattle.query_executor.proofs.EndLemmas.{fault_if, fault_not, fault_ok, gives_fault, memory_refused, reads_unread}
-use Rattle.query_executor.proofs.FaultLemmas.{memory_not_bad_at, memory_not_read_at}
-use Rattle.query_executor.proofs.LogLemmas.{logs_none}
-use Rattle.query_executor.proofs.Unread.{unread}
+use Rattle.segment_opening.specs.Logs.{IsFileOf}
+use Rattle.segment_opening.specs.Reads.{LogsEach, ReadsPlanned}
+use Rattle.segment_pass.specs.declared.fault.ExecutorFault.TheVariants.{NotASegment, ReadFault, Sql}
+use Rattle.segment_pass.proofs.EndLemmas.{fault_if, fault_not, fault_ok, gives_fault, memory_refused, reads_unread}
+use Rattle.segment_pass.proofs.FaultLemmas.{memory_not_bad_at, memory_not_read_at}
+use Rattle.segment_opening.proofs.LogLemmas.{logs_none}
+use Rattle.segment_pass.proofs.Unread.{unread}
 use Rattle.query_executor.proofs.executor.reply_to_bound.Goals as goal
 
 pub reply_over-reply-requires : goal.reply_over-reply-requires

@@ -1,9 +1,10 @@
 use Rattle.std.proofs.Common.{true, false, length, ◌≡◌, ◌∙◌, ℕ, List, Ok, Err, IfSome, sym, ap}
 use Rattle.query_executor.specs.Answers.{IsBoundReply, IsReply}
-use Rattle.query_executor.proofs.ReplyLemmas.{fault_so, found_so, reply_so, text_real}
-use Rattle.query_executor.specs.Reads.{LogsEach, ReadsPlanned}
+use Rattle.query_executor.proofs.ReplyLemmas.{fault_so, reply_so, text_real}
+use Rattle.segment_pass.proofs.EndLemmas.{found_so}
+use Rattle.segment_opening.specs.Reads.{LogsEach, ReadsPlanned}
 use Rattle.sql_reply.specs.Asked.{asked}
-use Rattle.query_executor.proofs.Unread.{asked_err, asked_ok, unread}
+use Rattle.segment_pass.proofs.Unread.{asked_err, asked_ok, unread}
 use Rattle.query_executor.proofs.executor.reply_to_query.Goals as goal
 
 pub returns-in-Ok-clause-reply : goal.returns-in-Ok-clause-reply

@@ -2,15 +2,15 @@ use Rattle.std.proofs.Common.{◌≡◌, ◌∙◌, ◌<◌, [], ℕ, List, IfSo
 use Rattle.std.specs.List.{Contains}
 use Rattle.outside.specs.Seen.{Seen, seen}
 use Rattle.document_reading.specs.declared.fault.EngineFault.TheVariants as engine
-use Rattle.query_executor.specs.Explained.{plan_line}
-use Rattle.query_executor.specs.Logs.{IsHeadRead}
-use Rattle.query_executor.specs.Segments.{HasNoImage}
-use Rattle.query_executor.specs.Steps.{AddsLine, HasLines, fault_at}
-use Rattle.query_executor.specs.declared.fault.ExecutorFault.TheVariants.{ReadFault}
-use Rattle.query_executor.proofs.FaultLemmas.{bad_so, read_so, wrong_so}
-use Rattle.query_executor.proofs.NameLemmas.{is_named}
-use Rattle.query_executor.proofs.LineLemmas.{lines_more, no_lines}
-use Rattle.query_executor.proofs.LogLemmas.{entries_none, heads_more, reads_as, reads_none, reads_then}
+use Rattle.segment_pass.specs.Lines.{plan_line}
+use Rattle.segment_opening.specs.Logs.{IsHeadRead}
+use Rattle.segment_opening.specs.Segments.{HasNoImage}
+use Rattle.segment_pass.specs.Steps.{AddsLine, HasLines, fault_at}
+use Rattle.segment_pass.specs.declared.fault.ExecutorFault.TheVariants.{ReadFault}
+use Rattle.segment_pass.proofs.FaultLemmas.{bad_so, read_so, wrong_so}
+use Rattle.segment_opening.proofs.NameLemmas.{is_named}
+use Rattle.segment_pass.proofs.LineLemmas.{lines_more, no_lines}
+use Rattle.segment_opening.proofs.LogLemmas.{entries_none, heads_more, reads_as, reads_none, reads_then}
 use Rattle.query_executor.proofs.explain.explain_bound.Goals as goal
 
 pub names-init : goal.names-init

@@ -1,9 +1,10 @@
 use Rattle.std.proofs.Common.{◌≡◌, ◌∙◌, false, ℕ, List, Ok, Err, IfSome, length, refl, sym, ap}
 use Rattle.sql_reply.proofs.AskedLemmas.{unasked_text}
-use Rattle.query_executor.specs.Explained.{IsExplained, plan_line}
-use Rattle.query_executor.specs.Steps.{HasLines}
-use Rattle.query_executor.proofs.LineLemmas.{all_explained}
-use Rattle.query_executor.proofs.ReplyLemmas.{found_so}
+use Rattle.query_executor.specs.Explained.{IsExplained}
+use Rattle.segment_pass.specs.Lines.{plan_line}
+use Rattle.segment_pass.specs.Steps.{HasLines}
+use Rattle.query_executor.proofs.ReplyLemmas.{all_explained}
+use Rattle.segment_pass.proofs.EndLemmas.{found_so}
 use Rattle.query_executor.proofs.explain.explain_query.Goals as goal
 
 pub returns-in-Ok-clause-reply : goal.returns-in-Ok-clause-reply

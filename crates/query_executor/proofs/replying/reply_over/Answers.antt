@@ -3,14 +3,13 @@ use Rattle.outside.specs.Seen.{Seen, seen}
 use Rattle.outside.proofs.ReadLemmas.{on-err}
 use Rattle.sql_reply.specs.declared.fault.SqlFault.TheVariants.{NoMemory}
 use Rattle.query_executor.specs.Answers.{IsBoundReply}
-use Rattle.query_executor.specs.Reads.{LogsEach, ReadsPlanned}
-use Rattle.query_executor.specs.declared.fault.ExecutorFault.TheVariants.{NotASegment, ReadFault, Sql}
-use Rattle.query_executor.proofs.EndLemmas.{fault_if, fault_not, fault_ok, gives_fault, memory_refused, no_fault, own_fault, reads_done, reads_failed, reads_lacking, reads_still}
-use Rattle.query_executor.proofs.FaultLemmas.{memory_not_bad_at, memory_not_read_at}
-use Rattle.query_executor.proofs.GroupLemmas.{all_answered, too_many_refused}
-use Rattle.query_executor.proofs.GrownLemmas.{each_as}
-use Rattle.query_executor.proofs.ReplyLemmas.{groups_no_text}
-use Rattle.query_executor.proofs.SpanLemmas.{planned_less}
+use Rattle.segment_opening.specs.Reads.{LogsEach, ReadsPlanned}
+use Rattle.segment_pass.specs.declared.fault.ExecutorFault.TheVariants.{NotASegment, ReadFault, Sql}
+use Rattle.segment_pass.proofs.EndLemmas.{fault_if, fault_not, fault_ok, gives_fault, memory_refused, no_fault, own_fault, reads_done, reads_failed, reads_lacking, reads_still}
+use Rattle.segment_pass.proofs.FaultLemmas.{memory_not_bad_at, memory_not_read_at}
+use Rattle.query_executor.proofs.ReplyLemmas.{all_answered, too_many_refused, groups_no_text}
+use Rattle.segment_opening.proofs.GrownLemmas.{each_as}
+use Rattle.segment_opening.proofs.SpanLemmas.{planned_less}
 use Rattle.query_executor.proofs.replying.reply_over.Goals as goal
 
 pub pass_over-requires : goal.pass_over-requires

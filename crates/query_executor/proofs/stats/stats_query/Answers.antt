@@ -1,11 +1,11 @@
 use Rattle.std.proofs.Common.{true, false, length, ◌≡◌, ◌∙◌, ℕ, List, Ok, Err, IfSome, sym, ap}
-use Rattle.query_executor.specs.Stated.{IsStated}
-use Rattle.query_executor.specs.Steps.{IsBoundStated}
-use Rattle.query_executor.proofs.ReplyLemmas.{found_so, text_real}
+use Rattle.query_executor.specs.Stated.{IsStated, IsBoundStated}
+use Rattle.query_executor.proofs.ReplyLemmas.{text_real}
+use Rattle.segment_pass.proofs.EndLemmas.{found_so}
 use Rattle.query_executor.proofs.StatedLemmas.{stated_fault, stated_so, unasked_stated}
-use Rattle.query_executor.specs.Reads.{LogsEach, ReadsPlanned}
+use Rattle.segment_opening.specs.Reads.{LogsEach, ReadsPlanned}
 use Rattle.sql_reply.specs.Asked.{asked}
-use Rattle.query_executor.proofs.Unread.{asked_err, asked_ok, unread}
+use Rattle.segment_pass.proofs.Unread.{asked_err, asked_ok, unread}
 use Rattle.query_executor.proofs.stats.stats_query.Goals as goal
 
 pub returns-in-Ok-clause-reply : goal.returns-in-Ok-clause-reply

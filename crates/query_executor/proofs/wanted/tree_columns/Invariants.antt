@@ -1,9 +1,0 @@
-use Rattle.std.proofs.Common.{◌≡◌, ◌<◌, ℕ, false, Some, get_or, length}
-use Rattle.query_executor.specs.Wanted.{is_detailed}
-use Rattle.query_executor.proofs.wanted.tree_columns.Given as goal
-
-abbrev pub invariant-loop-column : goal.invariant-loop-column
-invariant-loop-column l = record {
-  count : length l.marks.items ≡ l.column;
-  each : (column : ℕ) → column < l.column → get_or l.marks.items column false ≡ is_detailed l.query (Some l.tree) column;
-}

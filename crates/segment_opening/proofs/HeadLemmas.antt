@@ -1,0 +1,183 @@
+-- The head of a segment's file, and dictionaries that are loaded into it.
+use Rattle.std.proofs.Common.{◌≡◌, ◌≢◌, ◌∙◌, ◌≤◌, ◌<◌, ◌+◌, ◌==◌, ℕ, zero, suc, Bool, true, false, List, [], ◌∷◌, length, map, get_or, slice_get, Option, Some, None, IfSome, refl, sym, ap, subst, arith, ◌-◌, Result, Ok, Err}
+use Rattle.std.proofs.lemmas.Bool.{eq-eqb, eqb-true, false≢true}
+use Rattle.std.proofs.lemmas.Option.{get_or_from_slice_get}
+use Rattle.outside.specs.Files.{Files, bytes_of}
+use Rattle.outside.specs.Reads.{Entry, LogsUpTo}
+use Rattle.values.specs.declared.value.Value.{Value}
+use Rattle.table_schema.specs.declared.table.Table.{Table}
+use Rattle.table_schema.specs.ValidTable.{IsValidTable}
+use Rattle.dictionary.specs.Dictionary.{Distinct}
+use Rattle.segment_file.specs.declared.section.Section.{Section}
+use Rattle.segment_file.specs.Bounds.{bounds_of}
+use Rattle.segment_file.specs.Front.{extents_of}
+use Rattle.segment_head.specs.Heads.{AreIn, IsHead, IsHeadOf, IsLoaded, IsPartOf, Loads, OfWhole, Seen, dictionary_section, placed}
+use Rattle.segment_file.specs.Rules.{KeepsRules, heads_in}
+use Rattle.segment_file.specs.Reading.{trees_said}
+use Rattle.segment_file.specs.Image.{CanHold, dictionary_of, front_of, image}
+use Rattle.segment_file.specs.Laws.{ImageKeeps}
+use Rattle.segment_file.specs.Names.{IsSegmentName, file_of}
+use Rattle.segment_file.specs.Ordered.{ordered}
+use Rattle.segment_file.specs.Parts.{columns_of, sections_of}
+use Rattle.segment_head.proofs.Composed.{made_count}
+use Rattle.segment_opening.specs.Logs.{DictionariesEnd, EndsBy, LogsThat}
+use Rattle.segment_opening.specs.Segments.{HasNoImage}
+use Rattle.segment_opening.specs.Opened.{Grows, IsHeadIn, IsSpreadIn}
+use Rattle.segment_opening.proofs.LogLemmas.{through_ends}
+use Rattle.std.specs.Prelude.{OnOk}
+
+pub rows_few : (table : Table) (head : Seen) → IsHeadOf table head → head.rows ≤ 1048576
+rows_few table head of = let few = of.few in let rows = of.has.rows_are in omega (arith, few, rows)
+
+pub ok_so : {T E : Type 0} (r : Result T E) (A B : Type 0) → (A → B) → OnOk r A → OnOk r B
+ok_so (Ok t) A B f h = f h
+ok_so (Err e) A B f h = tt
+
+-- ---- a head that is opened
+
+-- the head of the image of rows, with all dictionaries
+abbrev image_head : Table → List ℕ → List ℕ → List (List Value) → Seen
+image_head table name file rows =
+    let os : List (List Value) = ordered table.settings.sorted rows in
+    let ds : List Distinct = map (dictionary_of table os) (columns_of table) in
+    record { rows = (front_of 1 table os).rows; sections = map (placed file) (extents_of table name (front_of 1 table os)); bounds = bounds_of ds; dictionaries = map Some ds; trees = map Some (trees_said table (heads_in table name (front_of 1 table os) (image 1 table name rows))) }
+
+module _ (law : ImageKeeps) (table : Table) (valid : IsValidTable table) (name : List ℕ) (named : IsSegmentName name) where
+  image_is : (file : List ℕ) (rows : List (List Value)) → CanHold table rows → IsHead table name file (image 1 table name rows) (image_head table name file rows)
+  image_is file rows can =
+      let os : List (List Value) = ordered table.settings.sorted rows in
+      let ds : List Distinct = map (dictionary_of table os) (columns_of table) in
+      record { front = front_of 1 table os; dictionaries = ds; keeps = law table name rows valid named can; rows_are = refl; sections_are = refl; dictionaries_are = refl; bounds_are = refl; trees_are = refl }
+
+  -- an open head is that of the image that its file is
+  pub opened_image : (held : Option Files) (file : List ℕ) (head : Seen) → file ≡ file_of name → IfSome held (λ files. (whole : Seen) → IsHead table name file (bytes_of (Some files) file) whole → IsPartOf whole head)
+      → IsHeadIn table held name head
+  opened_image None file head is part = tt
+  opened_image (Some files) file head is part = λ rows has.
+      let stored : bytes_of (Some files) file ≡ image 1 table name rows = ap (bytes_of (Some files)) is ∙ has.stored in
+      let full = image_is file rows has.can in
+      record {
+        name = name;
+        file = file;
+        whole = image_head table name file rows;
+        named = named;
+        can = has.can;
+        stored = stored;
+        is_head = full;
+        part = part (image_head table name file rows) (subst (λ bytes. IsHead table name file bytes (image_head table name file rows)) (sym stored) full);
+      }
+
+  -- it says where the sections of the image are
+  pub opened_spread : (held : Option Files) (file : List ℕ) (head : Seen) → file ≡ file_of name → IfSome held (λ files. (whole : Seen) → IsHead table name file (bytes_of (Some files) file) whole → IsPartOf whole head)
+      → IsSpreadIn table held name head
+  opened_spread None file head is part = tt
+  opened_spread (Some files) file head is part = λ rows has.
+      let stored : bytes_of (Some files) file ≡ image 1 table name rows = ap (bytes_of (Some files)) is ∙ has.stored in
+      let own = part (image_head table name file rows) (subst (λ bytes. IsHead table name file bytes (image_head table name file rows)) (sym stored) (image_is file rows has.can)) in
+      own.sections_same ∙ ap (λ f. map (placed f) (extents_of table name (front_of 1 table (ordered table.settings.sorted rows)))) is
+
+  -- a file that breaks a rule is no image
+  pub broken_none : (held : Option Files) (file : List ℕ) → file ≡ file_of name → IfSome held (λ files. ¬ KeepsRules table name (bytes_of (Some files) file)) → IfSome held (λ files. HasNoImage table files name)
+  broken_none None file is breaks = tt
+  broken_none (Some files) file is breaks = λ rows has.
+      let os : List (List Value) = ordered table.settings.sorted rows in
+      let keeps : KeepsRules table name (image 1 table name rows) = (front_of 1 table os, map (dictionary_of table os) (columns_of table), law table name rows valid named has.can) in
+      breaks (subst (KeepsRules table name) (sym (ap (bytes_of (Some files)) is ∙ has.stored)) keeps)
+
+-- ---- a dictionary that is loaded
+
+not_same : (a b : ℕ) → a == b ≡ false → a ≢ b
+not_same a b is = λ same. false≢true (sym is ∙ eq-eqb a b same)
+
+still_loaded : (column : ℕ) (old new : Seen) → Loads column old new → (other : ℕ) → IsLoaded old other → IsLoaded new other
+still_loaded column old new loads other was = by (other == column) refl
+  where
+    by : (b : Bool) → other == column ≡ b → IsLoaded new other
+    by true is = subst (IsLoaded new) (sym (eqb-true other column is)) loads.loaded
+    by false is = (was.0, loads.others other (not_same other column is) ∙ was.1)
+
+still_image : (table : Table) (held : Option Files) (old new : Seen) → OfWhole table held old (λ whole. IsPartOf whole new) → (name : List ℕ) → IsHeadIn table held name old → IsHeadIn table held name new
+still_image table None old new part name was = tt
+still_image table (Some files) old new part name was = λ rows has.
+    let i = was rows has in
+    record {
+      name = i.name;
+      file = i.file;
+      whole = i.whole;
+      named = i.named;
+      can = i.can;
+      stored = i.stored;
+      is_head = i.is_head;
+      part = part i.name i.file i.whole (subst (λ bytes. IsHead table i.name i.file bytes i.whole) (sym i.stored) i.is_head) i.part;
+    }
+
+pub grows_one : (table : Table) (held : Option Files) (column : ℕ) (old new : Seen) → IsHeadOf table new → Loads column old new → OfWhole table held old (λ whole. IsPartOf whole new) → Grows table held old new
+grows_one table held column old new of loads part = record {
+  of_table = of;
+  sections_same = loads.sections_same;
+  loaded = still_loaded column old new loads;
+  image = still_image table held old new part;
+}
+
+pub grows_none : (table : Table) (held : Option Files) (head : Seen) → IsHeadOf table head → Grows table held head head
+grows_none table held head of = record { of_table = of; sections_same = refl; loaded = λ column is. is; image = λ name is. is }
+
+pub grows_then : (table : Table) (held : Option Files) (a b c : Seen) → Grows table held a b → Grows table held b c → Grows table held a c
+grows_then table held a b c m n = record {
+  of_table = n.of_table;
+  sections_same = n.sections_same ∙ m.sections_same;
+  loaded = λ column is. n.loaded column (m.loaded column is);
+  image = λ name is. n.image name (m.image name is);
+}
+
+-- the head of a segment stays that of its image, while the shelf tells the same files
+pub image_later : (table : Table) (name : List ℕ) (first then last : Option Files) (old new : Seen) → then ≡ first → last ≡ then → Grows table then old new → IsHeadIn table first name old → IsHeadIn table last name new
+image_later table name first then last old new is_then is_last grows was =
+    subst (λ held. IsHeadIn table held name new) (sym is_last) (grows.image name (subst (λ held. IsHeadIn table held name old) (sym is_then) was))
+
+-- the same by what the shelf told at first
+pub image_grown : (table : Table) (name : List ℕ) (first then : Option Files) (old new : Seen) → then ≡ first → Grows table then old new → IsHeadIn table first name old → IsHeadIn table first name new
+image_grown table name first then old new is_then grows was =
+    subst (λ held. IsHeadIn table held name new) is_then (grows.image name (subst (λ held. IsHeadIn table held name old) (sym is_then) was))
+
+-- a dictionary that is none is not that of an image
+pub unread_none : (table : Table) (held : Option Files) (head : Seen) → OfWhole table held head (λ whole. ⊥) → (name : List ℕ) → IsHeadIn table held name head → IfSome held (λ files. HasNoImage table files name)
+unread_none table None head none name was = tt
+unread_none table (Some files) head none name was = λ rows has.
+    let i = was rows has in
+    none i.name i.file i.whole (subst (λ bytes. IsHead table i.name i.file bytes i.whole) (sym i.stored) i.is_head) i.part
+
+-- ---- what is read of it
+
+pub section_at : (xs : List Section) (k : ℕ) → k < length xs → (s : Section) × (slice_get xs k ≡ Some s)
+section_at [] k lt = absurd (omega (arith, lt))
+section_at (x ∷ xs) zero lt = (x, refl)
+section_at (x ∷ xs) (suc k) lt = section_at xs k (omega (arith, lt))
+
+pub if_some : {X : Type 0} (o : Option X) (x : X) (P : X → Type 0) → o ≡ Some x → IfSome o P → P x
+if_some None x P is h = absurd cc
+if_some (Some y) x P is h = subst (λ o. IfSome o P) is h
+
+pub dictionary_log : (table : Table) (head : Seen) (column : ℕ) (file : List ℕ) (end : ℕ) (old new : Option (List Entry)) → IsHeadOf table head → column < length table.schema.fields → AreIn file head.sections → DictionariesEnd table head end
+    → IfSome (dictionary_section head column) (λ s. LogsUpTo s.place.file s.place.offset (s.place.offset + s.place.length) old new) → LogsThat (EndsBy file end) old new
+dictionary_log table head column file end old new of lt within ends logs =
+    let few : column + 1 < length head.sections = omega (arith, lt, made_count table of.name of.file of.front (sections_of table) head.sections refl of.each of.has.sections_are) in
+    let (s, at) = section_at head.sections (column + 1) few in
+    let (to, le, through) = if_some (dictionary_section head column) s (λ s. LogsUpTo s.place.file s.place.offset (s.place.offset + s.place.length) old new) at logs in
+    let before : s.place.offset + s.place.length ≤ end = if_some (dictionary_section head column) s (λ s. s.place.offset + s.place.length ≤ end) at (ends column lt) in
+    let here : get_or head.sections (column + 1) s ≡ s = get_or_from_slice_get head.sections (column + 1) s s at in
+    let own : s.place.file ≡ file = subst (λ (x : Section). x.place.file ≡ file) here (within (column + 1) s few) in
+    subst (λ f. LogsThat (EndsBy f end) old new) own (through_ends s.place.file s.place.offset to end old new (omega (arith, le, before)) through)
+
+-- ---- one column after the other
+
+-- those before a column, and this one
+pub loaded_more : (names : ℕ → Bool) (old new : Seen) (n : ℕ) → ((k : ℕ) → IsLoaded old k → IsLoaded new k) → ((k : ℕ) → k < n → names k ≡ true → IsLoaded old k) → (names n ≡ true → IsLoaded new n)
+    → (k : ℕ) → k < n + 1 → names k ≡ true → IsLoaded new k
+loaded_more names old new n still before now k lt named = by (k == n) refl
+  where
+    by : (b : Bool) → k == n ≡ b → IsLoaded new k
+    by true is =
+        let same : k ≡ n = eqb-true k n is in
+        subst (IsLoaded new) (sym same) (now (ap names (sym same) ∙ named))
+    by false is = let other = not_same k n is in still k (before k (omega (arith, lt, other)) named)

@@ -1,0 +1,10 @@
+//! A segment of a table is opened for a query: its head, and the dictionaries that the query wants;
+//! what a query reads of the file of a segment.
+#![tactic(auto)]
+
+mod loading;
+mod opening;
+mod wanted;
+
+pub use loading::{load_detailed, load_wanted};
+pub use opening::open_segment;
