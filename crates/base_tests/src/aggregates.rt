@@ -8,8 +8,9 @@ ghost use Rattle.agg_laws.specs.States.{kind_of, IsStored};
 use crate::expect::Expectations;
 use agg_laws::{
     AggKind, AggState, Aggregator, Average, AverageState, BadState, Count, Greatest, Kinds, Least,
-    StateRow, Sum, compare_states,
+    Sum, compare_states,
 };
+use state_columns::StateRow;
 use std::alloc::{AllocError, Global};
 use std::cmp::Ordering;
 

@@ -3,15 +3,18 @@
 ghost use Rattle.std.specs.Prelude.{◌≡◌, ◌-◌, ◌≤◌, ◌<◌, ◌∷◌, ◌++◌, [], OnOk, IfOk, pos, slice_index};
 ghost use Rattle.agg_laws.specs.declared.aggregate_kind.AggKind.TheVariants as kind;
 ghost use Rattle.agg_laws.specs.declared.states.AggState.TheVariants as state;
-ghost use Rattle.agg_laws.specs.Worked.{doc};
+ghost use Rattle.tree_laws.specs.Worked.{doc};
 
 use crate::aggregates::sums_and_counts;
 use crate::expect::Expectations;
-use agg_laws::{
-    AggState, Ids, STAR, StarRow, StarTable, StateRow, TreeShape, aggregated_law, answer_law,
-    children_law, covers_law, flat_law, node_rules_law, picks_law, reads_law, worked_law,
-};
+use agg_laws::{AggState, TreeShape};
+use document_table::StarTable;
+use state_columns::{Ids, STAR, StarRow, StateRow};
 use std::alloc::{AllocError, Global};
+use tree_laws::{
+    aggregated_law, answer_law, children_law, covers_law, flat_law, node_rules_law, picks_law,
+    reads_law, worked_law,
+};
 
 fn ids_of(alloc: Global, ids: [u32; 3]) -> Result<Ids, AllocError>
     ensures { IfOk result (λ dims. dims

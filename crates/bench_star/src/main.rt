@@ -7,7 +7,8 @@ ghost use Rattle.std.specs.Prelude.{◌≡◌, ◌≤◌, [], length, IfOk};
 ghost use Rattle.agg_laws.specs.Rows.{row_weight};
 ghost use Rattle.agg_laws.specs.Merged.{weights};
 
-use agg_laws::{AggKind, Kinds, NoMemory, StarTable, TreeShape};
+use agg_laws::{AggKind, Kinds, NoMemory, TreeShape};
+use document_table::StarTable;
 use std::process::ExitCode;
 use std::time::Instant;
 use std::{env, io};

@@ -12,7 +12,7 @@ use Rattle.values.specs.declared.value.Value.TheVariants.{Whole}
 use Rattle.values.specs.Columns.{row_of}
 use Rattle.agg_laws.specs.declared.aggregate_kind.AggKind.{AggKind}
 use Rattle.agg_laws.specs.declared.states.AggState.{AggState}
-use Rattle.agg_laws.specs.Columns.{Column, replaced, row_at, state_at}
+use Rattle.state_columns.specs.Columns.{Column, replaced, row_at, state_at}
 use Rattle.agg_laws.specs.Numbers.{AreWhole, IsWhole, most_values}
 use Rattle.agg_laws.specs.Rows.{RowFits}
 use Rattle.agg_laws.specs.States.{Fits, merged, state_of, unit_of}

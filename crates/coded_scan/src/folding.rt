@@ -3,7 +3,7 @@
 ghost use Rattle.std.specs.Prelude.{◌≡◌, ◌≤◌, ◌<◌, ℕ, [], IfOk, MatchOption, get_or, length, map, pos, replicate};
 ghost use Rattle.std.specs.List.{All};
 ghost use Rattle.values.specs.declared.value.Value.TheVariants as value;
-ghost use Rattle.agg_laws.specs.Columns.{row_at, state_at};
+ghost use Rattle.state_columns.specs.Columns.{row_at, state_at};
 ghost use Rattle.agg_laws.specs.Numbers.{AreWhole, IsWhole};
 ghost use Rattle.agg_laws.specs.Rows.{RowFits};
 ghost use Rattle.agg_laws.specs.States.{state_of, unit_of};
@@ -15,8 +15,9 @@ ghost use Rattle.coded_scan.specs.Slots.{HoldsSlots, in_slot, number_at};
 
 use crate::coded::{Coded, SegmentColumns};
 use crate::ids::Ids;
-use agg_laws::{AggKind, StateColumn, StateRow};
+use agg_laws::AggKind;
 use dictionary::Dictionary;
+use state_columns::{StateColumn, StateRow};
 use std::alloc::Global;
 use table_schema::Agg;
 use values::{NoMemory, Value};

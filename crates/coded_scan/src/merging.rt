@@ -3,7 +3,7 @@
 ghost use Rattle.std.specs.Prelude.{◌≡◌, ◌≤◌, ◌<◌, ◌-◌, ℕ, Err, IfOk, OnOk, length};
 ghost use Rattle.std.specs.List.{All};
 ghost use Rattle.values.specs.Columns.{row_of};
-ghost use Rattle.agg_laws.specs.Columns.{row_at};
+ghost use Rattle.state_columns.specs.Columns.{row_at};
 ghost use Rattle.agg_laws.specs.Numbers.{most_values};
 ghost use Rattle.agg_laws.specs.Rows.{RowFits};
 ghost use Rattle.dictionary.specs.Coding.{AreBelow};
@@ -19,8 +19,8 @@ ghost use Rattle.coded_scan.specs.Slots.{AreSlots, in_slot};
 use crate::coded::SegmentColumns;
 use crate::folding::fold_slots;
 use crate::slots::{Slots, slots_of};
-use agg_laws::{StateColumn, StateRow};
 use group_table::{GroupTable, TableFault};
+use state_columns::{StateColumn, StateRow};
 use std::alloc::Global;
 use table_schema::BoundQuery;
 use values::{NoMemory, Row, Value};

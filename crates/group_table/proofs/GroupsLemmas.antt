@@ -18,7 +18,7 @@ use Rattle.agg_laws.specs.Merged.{IsJoin, join_some}
 use Rattle.agg_laws.specs.laws.Rows as rows
 use Rattle.agg_laws.specs.laws.States as states
 use Rattle.agg_laws.specs.laws.Permuted.{permuted}
-use Rattle.agg_laws.proofs.MergedLemmas.{join_none, join_assoc, join_comm}
+use Rattle.state_columns.proofs.MergedLemmas.{join_none, join_assoc, join_comm}
 use Rattle.group_table.specs.Groups.{Groups, groups_of, is_key, has_key, key_of, keys_of, key_order, states_of, number_for, Adds, merged_in, with_states}
 use Rattle.group_table.specs.Shape.{Shape}
 use Rattle.group_table.proofs.KeptLemmas.{key_total, key_same}

@@ -9,7 +9,8 @@ use Rattle.values.specs.declared.value.Value.{Value}
 use Rattle.agg_laws.specs.declared.aggregate_kind.AggKind.{AggKind}
 use Rattle.agg_laws.specs.declared.aggregate_kind.AggKind.TheVariants as kinds
 use Rattle.agg_laws.specs.declared.states.AggState.{AggState}
-use Rattle.agg_laws.specs.declared.states.AggState.TheVariants.{Count, Sum, Least, Greatest, Average}
+use Rattle.agg_laws.specs.declared.states.AggState.TheVariants.{Count, Sum, Least, Greatest}
+use Rattle.agg_laws.specs.declared.states.AggState.TheVariants.{Average}
 use Rattle.agg_laws.specs.Numbers.{most_values}
 use Rattle.agg_laws.specs.States.{kind_of, rank_of, state_of, unit_of, merged, Fits}
 use Rattle.agg_laws.specs.Rows.{head_of, tail_of, row_of, units_of, kinds_of, merged_rows, RowFits}
@@ -22,9 +23,9 @@ use Rattle.table_schema.specs.declared.query.BoundQuery.{BoundQuery}
 use Rattle.group_table.specs.Groups as of_rows
 use Rattle.std.proofs.lemmas.Bool.{false≢true}
 use Rattle.group_table.specs.Shape.{Shape, shape_of}
-use Rattle.agg_laws.proofs.ValueSteps.{kinds_row}
-use Rattle.agg_laws.proofs.RegionSteps.{kinds_merged}
-use Rattle.agg_laws.proofs.Places.{length-kinds_of}
+use Rattle.state_columns.proofs.ValueSteps.{kinds_row}
+use Rattle.state_columns.proofs.RegionSteps.{kinds_merged}
+use Rattle.state_columns.proofs.RowPlaces.{length-kinds_of}
 use Rattle.group_table.specs.Groups.{Group, Groups, groups_of, states_of, key_order, with_states, merged_in}
 use Rattle.group_table.specs.Kept.{KeptGroups, groups_in, key_eq, HaveValues, IsGroup, IsTable, Merges, IsNew, IsNewKey, group_at}
 use Rattle.group_table.proofs.KeptLemmas.{get_lookup, inserted, len_once, each_set, each_push, each_found}

@@ -11,8 +11,9 @@ ghost use Rattle.group_table.specs.Kept.{IsGroup, IsTable, IsNew, IsNewKey, Merg
 ghost use Rattle.group_table.specs.Kept.{groups_in, group_at, HaveValues};
 
 use crate::fault::TableFault;
-use agg_laws::{AggState, Kinds, StateRow};
+use agg_laws::{AggState, Kinds};
 use indexmap::IndexMap;
+use state_columns::StateRow;
 use std::alloc::Global;
 use std::marker::Model;
 use table_schema::{Agg, BoundQuery};

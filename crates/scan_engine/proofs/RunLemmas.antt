@@ -22,7 +22,7 @@ use Rattle.agg_laws.specs.Rows.{kinds_of, merged_rows, RowFits}
 use Rattle.agg_laws.specs.States.{kind_of, state_of}
 use Rattle.agg_laws.specs.declared.states.AggState.TheVariants.{Least, Greatest}
 use Rattle.agg_laws.specs.laws.Rows as rows
-use Rattle.agg_laws.proofs.MergedLemmas.{join_none}
+use Rattle.state_columns.proofs.MergedLemmas.{join_none}
 use Rattle.table_schema.specs.declared.query.Agg.{Agg}
 use Rattle.table_schema.specs.declared.query.BoundQuery.{BoundQuery}
 use Rattle.group_table.specs.Groups.{Groups, groups_of, has_key, is_key, key_of, key_order, merged_in, number_for, states_of, with_states}

@@ -10,7 +10,8 @@ ghost use Rattle.scan_engine.specs.Numbers.{AreNumbers};
 ghost use Rattle.scan_engine.specs.Places.{rows_at};
 
 use crate::holds::numbers_of;
-use agg_laws::{AggKind, AggState, Aggregator, Average, Count, Greatest, Least, StateRow, Sum};
+use agg_laws::{AggKind, AggState, Aggregator, Average, Count, Greatest, Least, Sum};
+use state_columns::StateRow;
 use std::alloc::Global;
 use table_schema::Agg;
 use values::{Columns, NoMemory};

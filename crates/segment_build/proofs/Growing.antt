@@ -12,7 +12,7 @@ use Rattle.values.specs.Columns.{Listed, ListedColumns, rows_of}
 use Rattle.values.proofs.RowLemmas.{length-rows}
 use Rattle.agg_laws.specs.declared.aggregate_kind.AggKind.{AggKind}
 use Rattle.agg_laws.specs.declared.aggregate_kind.AggKind.TheVariants as kinds
-use Rattle.agg_laws.specs.Docs.{Doc, projected}
+use Rattle.state_columns.specs.Docs.{Doc, projected}
 use Rattle.table_schema.specs.declared.field.Field.{Field}
 use Rattle.table_schema.specs.declared.query.Agg.{Agg}
 use Rattle.table_schema.specs.declared.settings.TreeSetting.{TreeSetting}

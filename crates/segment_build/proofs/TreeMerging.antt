@@ -9,13 +9,14 @@ use Rattle.values.specs.Order.{value_order}
 use Rattle.agg_laws.specs.declared.aggregate_kind.AggKind.{AggKind}
 use Rattle.agg_laws.specs.declared.states.AggState.{AggState}
 use Rattle.agg_laws.specs.declared.tree_shape.TreeShape.{TreeShape}
-use Rattle.agg_laws.specs.Docs.{Doc, projected}
+use Rattle.state_columns.specs.Docs.{Doc, projected}
 use Rattle.agg_laws.specs.Merged.{add, join_some, part, total}
 use Rattle.agg_laws.specs.Rows.{merged_rows, row_of}
 use Rattle.agg_laws.specs.Tree.{star, dim, dims_order, merged_docs, root_of, tree_of, HaveNoStar}
-use Rattle.agg_laws.proofs.DocLemmas.{rows_join}
-use Rattle.agg_laws.proofs.MergedLemmas.{Merged_same, Merged-sorted, is_sorted-Merged, join_swap}
-use Rattle.agg_laws.proofs.TreeLemmas.{same_dims}
+use Rattle.state_columns.proofs.DocLemmas.{rows_join}
+use Rattle.state_columns.proofs.MergedLemmas.{Merged_same, Merged-sorted, is_sorted-Merged}
+use Rattle.state_columns.proofs.MergedLemmas.{join_swap}
+use Rattle.state_columns.proofs.ListLemmas.{same_dims}
 use Rattle.table_schema.specs.declared.settings.TreeSetting.{TreeSetting}
 use Rattle.segment_file.specs.Columns.{place_of}
 use Rattle.segment_file.specs.Ordered.{ordered, placed, sorted_by, value_in}

@@ -1,7 +1,7 @@
 -- The star-trees of a segment, as they are made one after the other.
 use Rattle.std.specs.Prelude.{◌≡◌, ◌↔◌, ℕ, Bool, true, false, nat_le, List, map, take, slice_get, Some}
 use Rattle.std.specs.List.{All, list_all}
-use Rattle.agg_laws.specs.Flat.{tree_bytes}
+use Rattle.tree_laws.specs.Flat.{tree_bytes}
 use Rattle.agg_laws.specs.Rows.{merged_rows}
 use Rattle.star_file.specs.Reading.{doc_width}
 use Rattle.star_file.specs.Rules.{most_bytes}

@@ -17,7 +17,7 @@ ghost use Rattle.segment_build.specs.Growing.{IsTooLarge, TreesFit, nodes_grown,
 ghost use Rattle.segment_build.specs.declared.fault.BuildFault.TheVariants.{NoMemory, TooLarge};
 
 use crate::BuildFault;
-use agg_laws::StarTable;
+use document_table::StarTable;
 use outside::{NoMemory, Seq};
 use segment_columns::{Grown, ids_as_given, pair_numbers, push_tree};
 use star_builder::{TreeFault, build_merged};

@@ -12,15 +12,15 @@ use Rattle.values.specs.declared.kind.FieldKind.TheVariants as kind
 use Rattle.values.specs.declared.value.Value.{Value}
 use Rattle.values.specs.declared.value.Value.TheVariants.{Whole, Text}
 use Rattle.values.specs.Kinds.{fits}
-use Rattle.agg_laws.specs.Docs.{Doc, AreStored, HaveIds, HaveShape, projected}
-use Rattle.agg_laws.specs.Flat.{flat}
-use Rattle.agg_laws.specs.NodeRules.{AreCounted, count_at}
+use Rattle.state_columns.specs.Docs.{Doc, AreStored, HaveIds, HaveShape, projected}
+use Rattle.tree_laws.specs.Flat.{flat}
+use Rattle.tree_laws.specs.NodeRules.{AreCounted, count_at}
 use Rattle.agg_laws.specs.Numbers.{AreWhole, IsWhole}
 use Rattle.agg_laws.specs.Merged.{weights}
 use Rattle.agg_laws.specs.Rows.{merged_rows, row_of, row_weight}
 use Rattle.agg_laws.specs.Tree.{HaveNoStar, dim, star}
 use Rattle.agg_laws.specs.laws.Rows as rows
-use Rattle.agg_laws.proofs.ValueSteps.{fits_row, kinds_row, stored_row}
+use Rattle.state_columns.proofs.ValueSteps.{fits_row, kinds_row, stored_row}
 use Rattle.table_schema.specs.declared.field.Field.{Field}
 use Rattle.table_schema.specs.declared.query.Agg.{Agg}
 use Rattle.table_schema.specs.declared.settings.TreeSetting.{TreeSetting}

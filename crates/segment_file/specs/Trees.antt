@@ -4,8 +4,8 @@ use Rattle.std.specs.Option.{option_map_or}
 use Rattle.values.specs.declared.value.Value.{Value}
 use Rattle.values.specs.declared.value.Value.TheVariants.{Whole, Text}
 use Rattle.agg_laws.specs.declared.states.AggState.{AggState}
-use Rattle.agg_laws.specs.Docs.{Doc, projected}
-use Rattle.agg_laws.specs.Flat.{Flat, flat, tree_bytes}
+use Rattle.state_columns.specs.Docs.{Doc, projected}
+use Rattle.tree_laws.specs.Flat.{Flat, flat, tree_bytes}
 use Rattle.agg_laws.specs.Rows.{merged_rows}
 use Rattle.agg_laws.specs.Tree.{Nodes, tree_of}
 use Rattle.table_schema.specs.declared.query.Agg.{Agg}

@@ -4,10 +4,10 @@ use Rattle.std.proofs.Common.{◌∷◌, Option, Some, None, IfSome, length, ref
 use Rattle.std.specs.FinMap as finite
 use Rattle.std.proofs.lemmas.List.Elements.{All-cons, All-head, All-nil, All-tail}
 use Rattle.outside.specs.Files.{Files}
-use Rattle.agg_laws.specs.declared.node.Node.{Node}
+use Rattle.tree_laws.specs.declared.node.Node.{Node}
 use Rattle.agg_laws.specs.declared.tree_shape.TreeShape.{TreeShape}
-use Rattle.agg_laws.specs.NodeRules.{KeepsRules}
-use Rattle.agg_laws.specs.Picks as asks
+use Rattle.tree_laws.specs.NodeRules.{KeepsRules}
+use Rattle.tree_laws.specs.Picks as asks
 use Rattle.star_walk.specs.Joins.{joined}
 use Rattle.star_walk.specs.Walking.{tree_picks}
 use Rattle.star_walk.proofs.JoinSteps.{joined_within}
@@ -15,7 +15,7 @@ use Rattle.index_reading.proofs.PostingSteps.{over_partly}
 use Rattle.star_taking.specs.Answers.{IsTree, LogsPicks, LogsSome, stretches_of}
 use Rattle.star_taking.proofs.ReadSteps.{nothing_read}
 use Rattle.outside.specs.Reads.{Entry}
-use Rattle.agg_laws.specs.Docs.{Doc, Docs}
+use Rattle.state_columns.specs.Docs.{Doc, Docs}
 use Rattle.agg_laws.specs.Merged.{weights}
 use Rattle.agg_laws.specs.Rows.{row_weight}
 use Rattle.agg_laws.specs.Tree.{dim}

@@ -13,12 +13,12 @@ use Rattle.std.proofs.lemmas.Option.{slice_get-get_or}
 use Rattle.values.specs.declared.value.Value.{Value}
 use Rattle.values.specs.declared.value.Value.TheVariants.{Whole}
 use Rattle.agg_laws.specs.declared.tree_shape.TreeShape.{TreeShape}
-use Rattle.agg_laws.specs.Docs.{Doc, HaveIds}
-use Rattle.agg_laws.proofs.DocLemmas.{rows_join}
-use Rattle.agg_laws.specs.Picks as asks
-use Rattle.agg_laws.specs.Picks.{picks, read_of}
-use Rattle.agg_laws.specs.Reads as reads
-use Rattle.agg_laws.specs.Reads.{bound}
+use Rattle.state_columns.specs.Docs.{Doc, HaveIds}
+use Rattle.state_columns.proofs.DocLemmas.{rows_join}
+use Rattle.tree_laws.specs.Picks as asks
+use Rattle.tree_laws.specs.Picks.{picks, read_of}
+use Rattle.tree_laws.specs.Reads as reads
+use Rattle.tree_laws.specs.Reads.{bound}
 use Rattle.agg_laws.specs.Rows.{merged_rows}
 use Rattle.agg_laws.specs.Tree.{HaveNoStar, ids_at, skips, tree_of}
 use Rattle.table_schema.specs.declared.field.Field.{Field}

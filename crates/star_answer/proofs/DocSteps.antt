@@ -3,11 +3,11 @@ use Rattle.std.proofs.Common.{◌≡◌, ◌∙◌, ◌<◌, ◌≤◌, ℕ, Lis
 use Rattle.std.proofs.lemmas.List.{get_or-map}
 use Rattle.values.specs.declared.value.Value.{Value}
 use Rattle.agg_laws.specs.declared.tree_shape.TreeShape.{TreeShape}
-use Rattle.agg_laws.specs.Docs.{Doc, HaveIds}
-use Rattle.agg_laws.specs.Flat.{flat, node_at}
-use Rattle.agg_laws.specs.NodeRules.{AreCounted, IsRoot, KeepsRules, count_at}
-use Rattle.agg_laws.specs.Picks as asks
-use Rattle.agg_laws.specs.Picks.{picks}
+use Rattle.state_columns.specs.Docs.{Doc, HaveIds}
+use Rattle.tree_laws.specs.Flat.{flat, node_at}
+use Rattle.tree_laws.specs.NodeRules.{AreCounted, IsRoot, KeepsRules, count_at}
+use Rattle.tree_laws.specs.Picks as asks
+use Rattle.tree_laws.specs.Picks.{picks}
 use Rattle.agg_laws.specs.Rows.{merged_rows}
 use Rattle.agg_laws.specs.Tree.{HaveNoStar, star, tree_of}
 use Rattle.table_schema.specs.declared.field.Field.{Field}

@@ -9,8 +9,8 @@ use Rattle.values.specs.declared.value.Value.{Value}
 use Rattle.agg_laws.specs.declared.states.AggState.{AggState}
 use Rattle.agg_laws.specs.Rows.{RowFits, merged_rows}
 use Rattle.agg_laws.specs.Merged.{join_some, total}
-use Rattle.agg_laws.proofs.DocLemmas.{rows_join}
-use Rattle.agg_laws.proofs.MergedLemmas.{join_assoc, join_none}
+use Rattle.state_columns.proofs.DocLemmas.{rows_join}
+use Rattle.state_columns.proofs.MergedLemmas.{join_assoc, join_none}
 use Rattle.group_table.specs.Groups.{Group, Groups, key_order, merged_in, with_states}
 use Rattle.group_table.specs.Kept.{IsNewKey, KeptGroups, Merges, groups_in}
 use Rattle.group_table.proofs.KeptLemmas.{key_same, key_total}

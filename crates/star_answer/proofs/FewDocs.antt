@@ -5,20 +5,20 @@ use Rattle.std.proofs.Common.{true, false, cond, not, nat_le, nat_lt, List, [], 
 use Rattle.std.proofs.Common.{sym, ap, subst, arith}
 use Rattle.std.proofs.lemmas.Bool.{eqb-true}
 use Rattle.agg_laws.specs.declared.tree_shape.TreeShape.{TreeShape}
-use Rattle.agg_laws.specs.Docs.{HaveIds}
-use Rattle.agg_laws.specs.Documents.{total_doc}
+use Rattle.state_columns.specs.Docs.{HaveIds}
+use Rattle.state_columns.specs.Documents.{total_doc}
 use Rattle.agg_laws.specs.Merged.{IsJoin, rekey}
-use Rattle.agg_laws.specs.Picks.{Pick, Task, is_taken, picks, picks_here, picks_of, quiet, read_of}
+use Rattle.tree_laws.specs.Picks.{Pick, Task, is_taken, picks, picks_here, picks_of, quiet, read_of}
 use Rattle.agg_laws.specs.Tree.{HaveNoStar, Nodes, dim, docs_with, has_star, ids_at, kids_of}
 use Rattle.agg_laws.specs.Tree.{merged_docs, node, none, root_of, rows_at, set_star, skips, star}
 use Rattle.agg_laws.specs.Tree.{star_kid, starred, tree_of, under}
-use Rattle.agg_laws.proofs.FlatNodes.{length-rekey, merged_fewer, merged_some}
-use Rattle.agg_laws.proofs.NodeLemmas.{total_is}
-use Rattle.agg_laws.proofs.PickLemmas.{has_star-kids, star_flag}
-use Rattle.agg_laws.proofs.ReadLemmas.{Above, Ascending, ids_ascend, one_whole}
-use Rattle.agg_laws.proofs.Runs.{Filled, all_filled}
-use Rattle.agg_laws.proofs.TreeLemmas.{Avoids, Avoids-ids, all_rows, length_more, own_docs}
-use Rattle.agg_laws.proofs.TreeLemmas.{star_docs}
+use Rattle.state_columns.proofs.ListLemmas.{length-rekey, merged_fewer, merged_some}
+use Rattle.tree_laws.proofs.NodeLemmas.{total_is}
+use Rattle.tree_laws.proofs.PickLemmas.{has_star-kids, star_flag}
+use Rattle.tree_laws.proofs.ReadLemmas.{Above, Ascending, ids_ascend, one_whole}
+use Rattle.tree_laws.proofs.Runs.{Filled, all_filled}
+use Rattle.tree_laws.proofs.TreeLemmas.{Avoids, Avoids-ids, all_rows, length_more, own_docs}
+use Rattle.tree_laws.proofs.TreeLemmas.{star_docs}
 
 -- ---- documents of some ids are no more than all
 

@@ -9,9 +9,9 @@ use Rattle.std.proofs.lemmas.List.{get_or-map, length-map}
 use Rattle.outside.specs.Files.{Files}
 use Rattle.values.specs.declared.value.Value.{Value}
 use Rattle.agg_laws.specs.declared.aggregate_kind.AggKind.TheVariants as kinds
-use Rattle.agg_laws.specs.Docs.{Doc}
-use Rattle.agg_laws.specs.Flat.{range}
-use Rattle.agg_laws.specs.NodeRules.{count_at}
+use Rattle.state_columns.specs.Docs.{Doc}
+use Rattle.state_columns.specs.Region.{range}
+use Rattle.tree_laws.specs.NodeRules.{count_at}
 use Rattle.table_schema.specs.declared.query.Agg.{Agg}
 use Rattle.table_schema.specs.declared.query.BoundQuery.{BoundQuery}
 use Rattle.table_schema.specs.declared.settings.TreeSetting.{TreeSetting}

@@ -7,15 +7,15 @@ use Rattle.std.proofs.lemmas.List.Elements.{All-head, All-tail}
 use Rattle.std.specs.List.{list_any}
 use Rattle.std.proofs.lemmas.Bool.{eq-eqb, or_left, or_right}
 use Rattle.values.specs.declared.value.Value.{Value}
-use Rattle.agg_laws.specs.Docs.{Doc}
-use Rattle.agg_laws.specs.Groups.{groups_of, key_from}
+use Rattle.state_columns.specs.Docs.{Doc}
+use Rattle.tree_laws.specs.Groups.{groups_of, key_from}
 use Rattle.agg_laws.specs.Merged.{rekey, total}
-use Rattle.agg_laws.specs.Picks.{Task}
+use Rattle.tree_laws.specs.Picks.{Task}
 use Rattle.agg_laws.specs.Rows.{merged_rows}
 use Rattle.agg_laws.specs.Tree.{dim, dims_order, star}
-use Rattle.agg_laws.proofs.DocLemmas.{rows_join}
-use Rattle.agg_laws.proofs.MergedLemmas.{total-Merged, total-rekey, total_agree}
-use Rattle.agg_laws.proofs.TreeLemmas.{same_dims}
+use Rattle.state_columns.proofs.DocLemmas.{rows_join}
+use Rattle.state_columns.proofs.MergedLemmas.{total-Merged, total-rekey, total_agree}
+use Rattle.state_columns.proofs.ListLemmas.{same_dims}
 use Rattle.table_schema.specs.Columns.{is_member}
 use Rattle.star_taking.specs.declared.asked.GroupColumn.{GroupColumn}
 use Rattle.star_taking.specs.Asked.{key_of, value_of}

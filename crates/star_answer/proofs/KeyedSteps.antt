@@ -11,17 +11,17 @@ use Rattle.values.specs.declared.value.Value.{Value}
 use Rattle.agg_laws.specs.declared.aggregate_kind.AggKind.{AggKind}
 use Rattle.agg_laws.specs.declared.states.AggState.{AggState}
 use Rattle.agg_laws.specs.declared.tree_shape.TreeShape.{TreeShape}
-use Rattle.agg_laws.specs.Docs.{Doc, projected}
-use Rattle.agg_laws.specs.Flat.{range}
-use Rattle.agg_laws.specs.Groups.{groups_of, key_from, rows_that_hold}
+use Rattle.state_columns.specs.Docs.{Doc, projected}
+use Rattle.state_columns.specs.Region.{range}
+use Rattle.tree_laws.specs.Groups.{groups_of, key_from, rows_that_hold}
 use Rattle.agg_laws.specs.Merged.{join_some, total, weights}
-use Rattle.agg_laws.specs.Picks as asks
-use Rattle.agg_laws.specs.Picks.{holds_from}
+use Rattle.tree_laws.specs.Picks as asks
+use Rattle.tree_laws.specs.Picks.{holds_from}
 use Rattle.agg_laws.specs.Rows.{merged_rows, row_of, row_weight}
 use Rattle.agg_laws.specs.Tree.{dim}
 use Rattle.agg_laws.specs.laws.Rows as rows_law
-use Rattle.agg_laws.proofs.DocLemmas.{rows_join}
-use Rattle.agg_laws.proofs.MergedLemmas.{total-filter}
+use Rattle.state_columns.proofs.DocLemmas.{rows_join}
+use Rattle.state_columns.proofs.MergedLemmas.{total-filter}
 use Rattle.scan_engine.proofs.AddLemmas.{row_fits}
 use Rattle.star_file.specs.Reading.{HasDocuments}
 use Rattle.star_walk.specs.declared.pick.Pick.{Pick}

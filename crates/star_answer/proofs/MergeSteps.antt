@@ -5,7 +5,7 @@ use Rattle.std.proofs.lemmas.List.{drop-drop, drop_more, get_or-drop, map-append
 use Rattle.std.proofs.lemmas.List.{take_all, take_more}
 use Rattle.std.proofs.Common.{◌*◌, length-append, length-drop}
 use Rattle.std.proofs.Math.Seq.{drop-append_seam}
-use Rattle.agg_laws.specs.Flat.{range}
+use Rattle.state_columns.specs.Region.{range}
 use Rattle.std.proofs.lemmas.List.Elements.{All-cons, All-head, All-nil, All-tail}
 use Rattle.std.specs.FinMap as finite
 use Rattle.std.specs.FinMap.Entries.{by_order}
@@ -21,15 +21,15 @@ use Rattle.agg_laws.specs.Rows.{RowFits, RowStored, merged_rows, row_weight}
 use Rattle.agg_laws.specs.States.{IsStored}
 use Rattle.agg_laws.specs.laws.Rows as rows
 use Rattle.agg_laws.specs.laws.States as states
-use Rattle.agg_laws.specs.Docs.{Doc, Docs, doc_at}
+use Rattle.state_columns.specs.Docs.{Doc, Docs, doc_at}
 use Rattle.agg_laws.specs.Merged.{add, weights}
 use Rattle.agg_laws.specs.Order.{HasValues}
 use Rattle.agg_laws.specs.Tree.{dims_order, merged_docs}
-use Rattle.agg_laws.proofs.DocLemmas.{rows_join}
-use Rattle.agg_laws.proofs.TreeLemmas.{same_dims}
+use Rattle.state_columns.proofs.DocLemmas.{rows_join}
+use Rattle.state_columns.proofs.ListLemmas.{same_dims}
 use Rattle.std.proofs.lemmas.Cmp.{nat_list_cmp_total}
-use Rattle.agg_laws.proofs.MergedLemmas.{total-Merged, total-rekey}
-use Rattle.agg_laws.proofs.WeightLemmas.{weights-append, weights-Merged}
+use Rattle.state_columns.proofs.MergedLemmas.{total-Merged, total-rekey}
+use Rattle.state_columns.proofs.WeightLemmas.{weights-append, weights-Merged}
 use Rattle.group_table.specs.Groups.{Group, Groups, key_order}
 use Rattle.group_table.specs.Kept.{HaveValues, IsNewKey, KeptGroups, Merges, groups_in}
 use Rattle.scan_engine.specs.Scanned.{HaveAtMost}

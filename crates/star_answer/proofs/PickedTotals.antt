@@ -9,12 +9,12 @@ use Rattle.values.specs.declared.value.Value.{Value}
 use Rattle.agg_laws.specs.declared.aggregate_kind.AggKind.{AggKind}
 use Rattle.agg_laws.specs.declared.states.AggState.{AggState}
 use Rattle.agg_laws.specs.declared.states.AggState.TheVariants.{Count}
-use Rattle.agg_laws.specs.Docs.{Doc}
+use Rattle.state_columns.specs.Docs.{Doc}
 use Rattle.agg_laws.specs.Merged.{join_some, total}
 use Rattle.agg_laws.specs.Rows.{kinds_of, merged_rows}
 use Rattle.agg_laws.specs.States.{merged}
-use Rattle.agg_laws.proofs.Places.{length-kinds_of}
-use Rattle.agg_laws.proofs.RegionSteps.{kinds_merged}
+use Rattle.state_columns.proofs.RowPlaces.{length-kinds_of}
+use Rattle.state_columns.proofs.RegionSteps.{kinds_merged}
 use Rattle.group_table.specs.Groups.{key_order}
 use Rattle.star_taking.specs.declared.asked.Asked.{Asked}
 use Rattle.star_taking.specs.Asked.{entries_of, key_of, states_of}

@@ -11,12 +11,12 @@ use Rattle.std.proofs.lemmas.List.Elements.{All-head, All-tail, filter-append}
 use Rattle.values.specs.declared.value.Value.{Value}
 use Rattle.agg_laws.specs.declared.states.AggState.{AggState}
 use Rattle.agg_laws.specs.declared.states.AggState.TheVariants.{Count}
-use Rattle.agg_laws.specs.Docs as docs
+use Rattle.state_columns.specs.Docs as docs
 use Rattle.agg_laws.specs.Merged.{join_some}
 use Rattle.agg_laws.specs.Rows.{head_of, merged_rows, row_of, tail_of}
 use Rattle.agg_laws.specs.States.{state_of}
-use Rattle.agg_laws.proofs.DocLemmas.{rows_join}
-use Rattle.agg_laws.proofs.MergedLemmas.{join_none}
+use Rattle.state_columns.proofs.DocLemmas.{rows_join}
+use Rattle.state_columns.proofs.MergedLemmas.{join_none}
 use Rattle.table_schema.specs.declared.query.Agg.{Agg}
 use Rattle.group_table.specs.Groups.{groups_of, has_key, is_key, key_order, number_for, states_of}
 use Rattle.group_table.specs.Shape.{Shape}

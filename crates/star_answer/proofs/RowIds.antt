@@ -19,9 +19,9 @@ use Rattle.values.specs.Order.Laws.{value_eq-equiv, value_order-total}
 use Rattle.values.specs.Tests.{is_member}
 use Rattle.values.proofs.Bounds.{same_value}
 use Rattle.agg_laws.specs.declared.states.AggState.{AggState}
-use Rattle.agg_laws.specs.Docs.{HaveIds}
+use Rattle.state_columns.specs.Docs.{HaveIds}
 use Rattle.agg_laws.specs.Merged.{Merged, add, rekey}
-use Rattle.agg_laws.specs.NodeRules.{AreCounted, count_at}
+use Rattle.tree_laws.specs.NodeRules.{AreCounted, count_at}
 use Rattle.agg_laws.specs.Rows.{merged_rows}
 use Rattle.agg_laws.specs.Tree.{dim, ids_at, star}
 use Rattle.dictionary.specs.Dictionary.{Ascends, distinct, put_in}

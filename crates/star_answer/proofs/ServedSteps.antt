@@ -17,18 +17,19 @@ use Rattle.agg_laws.specs.declared.aggregate_kind.AggKind.{AggKind}
 use Rattle.agg_laws.specs.declared.aggregate_kind.AggKind.TheVariants as kinds
 use Rattle.agg_laws.specs.declared.states.AggState.{AggState}
 use Rattle.agg_laws.specs.declared.tree_shape.TreeShape.{TreeShape}
-use Rattle.agg_laws.specs.Docs.{Doc, HaveIds, projected}
-use Rattle.agg_laws.specs.Docs as docs
-use Rattle.agg_laws.specs.Flat.{Flat, range}
-use Rattle.agg_laws.specs.Groups.{groups_of, rows_that_hold}
+use Rattle.state_columns.specs.Docs.{Doc, HaveIds, projected}
+use Rattle.state_columns.specs.Docs as docs
+use Rattle.tree_laws.specs.Flat.{Flat}
+use Rattle.state_columns.specs.Region.{range}
+use Rattle.tree_laws.specs.Groups.{groups_of, rows_that_hold}
 use Rattle.agg_laws.specs.Merged.{join_some, total}
-use Rattle.agg_laws.specs.Picks as asks
-use Rattle.agg_laws.specs.Picks.{ArePartedBy, HaveDocs, holds_from}
+use Rattle.tree_laws.specs.Picks as asks
+use Rattle.tree_laws.specs.Picks.{ArePartedBy, HaveDocs, holds_from}
 use Rattle.agg_laws.specs.laws.Rows as rows_law
 use Rattle.agg_laws.specs.Rows.{merged_rows, row_weight}
 use Rattle.agg_laws.specs.Tree.{HaveNoStar, dim, star}
-use Rattle.agg_laws.proofs.DocLemmas.{rows_join, total-projected}
-use Rattle.agg_laws.proofs.MergedLemmas.{total-filter}
+use Rattle.state_columns.proofs.DocLemmas.{rows_join, total-projected}
+use Rattle.state_columns.proofs.MergedLemmas.{total-filter}
 use Rattle.star_file.specs.Reading.{HasDocuments, SpellDocs, doc_width, section}
 use Rattle.star_file.proofs.DocLaws.{only}
 use Rattle.star_walk.specs.declared.pick.Pick.{Pick}

@@ -7,17 +7,17 @@ use Rattle.std.specs.declared.cmp.Ordering.TheVariants.{Less, Equal, Greater}
 use Rattle.std.specs.FinMap.Entries.{by_order}
 use Rattle.agg_laws.specs.declared.states.AggState.{AggState}
 use Rattle.agg_laws.specs.declared.tree_shape.TreeShape.{TreeShape}
-use Rattle.agg_laws.specs.Docs.{Doc, HaveIds}
-use Rattle.agg_laws.specs.Documents.{aggregated, documents_of, star_docs, star_from, visit_of}
-use Rattle.agg_laws.specs.Documents.{visits_of}
-use Rattle.agg_laws.specs.Flat.{flat}
+use Rattle.state_columns.specs.Docs.{Doc, HaveIds}
+use Rattle.state_columns.specs.Documents.{aggregated, documents_of, star_docs, star_from, visit_of}
+use Rattle.state_columns.specs.Documents.{visits_of}
+use Rattle.tree_laws.specs.Flat.{flat}
 use Rattle.agg_laws.specs.Merged.{add, rekey}
-use Rattle.agg_laws.specs.NodeRules.{AreCounted, count_at}
+use Rattle.tree_laws.specs.NodeRules.{AreCounted, count_at}
 use Rattle.agg_laws.specs.Rows.{merged_rows}
 use Rattle.agg_laws.specs.Tree.{Nodes, dim, dims_order, docs_with, has_star, ids_at, kids_of}
 use Rattle.agg_laws.specs.Tree.{merged_docs, node, none, root_of, set_star, skips, star, star_kid}
 use Rattle.agg_laws.specs.Tree.{tree_of, under}
-use Rattle.agg_laws.proofs.FlatLemmas.{flat_docs}
+use Rattle.tree_laws.proofs.FlatLemmas.{flat_docs}
 use Rattle.star_file.specs.Reading.{AreIds, DocsHaveIds, IsId}
 
 -- ---- ids

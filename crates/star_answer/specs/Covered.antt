@@ -3,8 +3,8 @@ use Rattle.std.specs.Prelude.{◌≡◌, ℕ, ◌<◌, ◌≤◌, ℤ, true, Lis
 use Rattle.std.specs.Prelude.{count_by, slice_get, slice_index_or, Some}
 use Rattle.values.specs.declared.value.Value.{Value}
 use Rattle.agg_laws.specs.declared.tree_shape.TreeShape.{TreeShape}
-use Rattle.agg_laws.specs.Docs.{Doc}
-use Rattle.agg_laws.specs.Picks as asks
+use Rattle.state_columns.specs.Docs.{Doc}
+use Rattle.tree_laws.specs.Picks as asks
 use Rattle.agg_laws.specs.Tree.{dim, star}
 use Rattle.table_schema.specs.declared.query.Agg.{Agg}
 use Rattle.table_schema.specs.declared.query.BoundQuery.{BoundQuery}

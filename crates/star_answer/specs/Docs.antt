@@ -5,8 +5,8 @@ use Rattle.std.specs.Prelude.{slice_get, slice_index_or}
 use Rattle.std.specs.List.{list_all}
 use Rattle.values.specs.declared.value.Value.{Value}
 use Rattle.values.specs.declared.value.Value.TheVariants.{Whole}
-use Rattle.agg_laws.specs.Picks as asks
-use Rattle.agg_laws.specs.Picks.{picks, read_of}
+use Rattle.tree_laws.specs.Picks as asks
+use Rattle.tree_laws.specs.Picks.{picks, read_of}
 use Rattle.agg_laws.specs.Rows.{merged_rows}
 use Rattle.table_schema.specs.declared.field.Field.{Field}
 use Rattle.table_schema.specs.declared.query.BoundQuery.{BoundQuery}

@@ -10,11 +10,12 @@ use Rattle.agg_laws.specs.declared.states.AggState.{AggState}
 use Rattle.agg_laws.specs.declared.tree_shape.TreeShape.{TreeShape}
 use Rattle.agg_laws.specs.Numbers.{AreWhole}
 use Rattle.agg_laws.specs.Rows.{merged_rows}
-use Rattle.agg_laws.specs.Docs.{projected}
+use Rattle.state_columns.specs.Docs.{projected}
 use Rattle.agg_laws.specs.Tree.{dim, tree_of}
 use Rattle.agg_laws.specs.Tree as trees
-use Rattle.agg_laws.specs.Flat.{Flat, flat, range}
-use Rattle.agg_laws.specs.Picks as asks
+use Rattle.tree_laws.specs.Flat.{Flat, flat}
+use Rattle.state_columns.specs.Region.{range}
+use Rattle.tree_laws.specs.Picks as asks
 use Rattle.table_schema.specs.declared.query.Agg.{Agg}
 use Rattle.table_schema.specs.declared.query.BoundQuery.{BoundQuery}
 use Rattle.table_schema.specs.Columns.{is_member}

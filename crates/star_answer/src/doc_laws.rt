@@ -3,8 +3,8 @@
 
 ghost use Rattle.star_answer.specs.Docs.{DocsAreBounded, DocsAreFew, WalkReadsDocs};
 
-use agg_laws::{node_rules_law, reads_law};
 use star_walk::walk_law;
+use tree_laws::{node_rules_law, reads_law};
 
 /// A walk of the flat tree of a segment's rows reads just as many documents as the query reads of
 /// the nested tree, where the walk asks of ids what the query asks of their values.

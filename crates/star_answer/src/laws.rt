@@ -18,9 +18,9 @@ ghost use Rattle.star_answer.specs.OfRows.{AsksOfRows, ColumnsOfRows, NodesOfRow
 ghost use Rattle.star_answer.specs.OfRows.{RowsAreProjected};
 ghost use Rattle.star_answer.specs.Served.{IsServed};
 
-use agg_laws::picks_law;
 use segment_head::head_tells_trees_law;
 use star_walk::walk_law;
+use tree_laws::picks_law;
 
 /// Where the tree is that of a segment's rows, and the query filters and groups by its dimensions
 /// alone and asks for its pairs, the answer adds the rows that satisfy the filter to the groups.

@@ -5,7 +5,7 @@ ghost use Rattle.std.specs.List.{All};
 ghost use Rattle.std.specs.FinMap as finite;
 ghost use Rattle.agg_laws.specs.Numbers.{most_stored, most_values};
 ghost use Rattle.agg_laws.specs.Rows.{row_weight};
-ghost use Rattle.agg_laws.specs.Docs.{HaveShape, doc_at};
+ghost use Rattle.state_columns.specs.Docs.{HaveShape, doc_at};
 ghost use Rattle.agg_laws.specs.Merged.{weights};
 ghost use Rattle.group_table.specs.declared.fault.TableFault.TheVariants.{TooManyGroups};
 ghost use Rattle.group_table.specs.Kept.{groups_in};
@@ -13,9 +13,10 @@ ghost use Rattle.scan_engine.specs.Scanned.{HaveAtMost};
 ghost use Rattle.star_taking.specs.Entries.{MergesEntries, with_entries};
 ghost use Rattle.star_taking.specs.Taken.{AreKeyIds, keyed};
 
-use agg_laws::{StarTable, StateRow};
+use document_table::StarTable;
 use group_table::{GroupTable, TableFault};
 use star_taking::{GroupColumn, key_at};
+use state_columns::StateRow;
 use std::alloc::Global;
 use values::NoMemory;
 

@@ -1,9 +1,9 @@
 -- The documents of the children of a node.
 use Rattle.agg_laws.specs.declared.states.AggState.{AggState}
 use Rattle.agg_laws.specs.Rows.{merged_rows, row_weight}
-use Rattle.agg_laws.specs.Docs.{Doc, HaveIds, HaveShape}
+use Rattle.state_columns.specs.Docs.{Doc, HaveIds, HaveShape}
 use Rattle.agg_laws.specs.declared.aggregate_kind.AggKind.{AggKind}
-use Rattle.agg_laws.specs.Tree.{HaveNoStar}
+use Rattle.agg_laws.specs.Tree.{HaveNoStar, star, dims_order, dim, set_star, merged_docs, docs_with}
 use Rattle.std.proofs.Common.{◌≡◌, ◌≢◌, ℕ, zero, suc, ◌+◌, ◌<◌, ◌≤◌, Bool, true, false, cond, ◌==◌}
 use Rattle.std.proofs.Common.{◌&&◌, T, List, [], ◌∷◌, ◌++◌, length, take, refl, sym, ap, subst, ◌∙◌}
 use Rattle.std.proofs.Common.{arith, inl, inr}
@@ -21,13 +21,12 @@ use Rattle.std.proofs.Math.ListN.{length-set}
 use Rattle.agg_laws.specs.Merged.{rekey, add, weights}
 use Rattle.agg_laws.specs.Numbers.{most_stored}
 use Rattle.agg_laws.specs.laws.Rows as rows
-use Rattle.agg_laws.specs.Documents.{BeginWith, AreAlike}
-use Rattle.agg_laws.proofs.WeightLemmas.{weights-filter, weights-Merged}
-use Rattle.agg_laws.proofs.DocLemmas.{rows_join}
-use Rattle.agg_laws.specs.Tree.{star, dims_order, dim, set_star, merged_docs, docs_with}
-use Rattle.agg_laws.proofs.MergedLemmas.{is_sorted-Merged}
+use Rattle.state_columns.specs.Documents.{BeginWith, AreAlike}
+use Rattle.state_columns.proofs.WeightLemmas.{weights-filter, weights-Merged}
+use Rattle.state_columns.proofs.DocLemmas.{rows_join}
+use Rattle.state_columns.proofs.MergedLemmas.{is_sorted-Merged}
 use Rattle.star_builder.specs.Building.{DocsAt, AtLeast, Rising, Ordinary, Proper}
-use Rattle.agg_laws.proofs.Runs.{equal_is, greater_is}
+use Rattle.tree_laws.proofs.Runs.{equal_is, greater_is}
 
 pub as_T : (b : Bool) → b ≡ true → T b
 as_T b e = subst T (sym e) tt

@@ -1,16 +1,17 @@
 -- What the code that opens a node makes is `opened`.
 use Rattle.agg_laws.specs.declared.states.AggState.{AggState}
 use Rattle.agg_laws.specs.Rows.{merged_rows}
-use Rattle.agg_laws.specs.Docs.{Doc}
+use Rattle.state_columns.specs.Docs.{Doc}
 use Rattle.std.proofs.Common.{◌≡◌, ℕ, suc, ◌+◌, ◌-◌, ◌<◌, Bool, true, false, ◌&&◌, not, nat_lt}
 use Rattle.std.proofs.Common.{List, [], ◌∷◌, ◌++◌, length, refl, sym, ap, subst, ◌∙◌, arith}
 use Rattle.std.proofs.Common.{length-append, append_assoc}
-use Rattle.agg_laws.specs.declared.node.Node.{Node}
+use Rattle.tree_laws.specs.declared.node.Node.{Node}
 use Rattle.agg_laws.specs.declared.tree_shape.TreeShape.{TreeShape}
 use Rattle.agg_laws.specs.Tree.{star, set_star, merged_docs, ids_at, skips, has_star}
 use Rattle.agg_laws.specs.Merged.{rekey}
-use Rattle.agg_laws.specs.Flat.{Flat, blank, node_at, range, opened}
-use Rattle.agg_laws.proofs.FlatLemmas.{append_none}
+use Rattle.tree_laws.specs.Flat.{Flat, blank, node_at, opened}
+use Rattle.state_columns.specs.Region.{range}
+use Rattle.state_columns.proofs.ListLemmas.{append_none}
 use Rattle.star_builder.specs.Building.{Proper, Rising, Ordinary, Standing, group_nodes, docs_at}
 use Rattle.star_builder.specs.Building.{kids_at, NodeStands}
 use Rattle.star_builder.proofs.Children.{rising_of, ordinary_of}

@@ -2,9 +2,9 @@
 use Rattle.std.proofs.Common.{◌≡◌, ℕ, suc, List, [], ◌∷◌, take, drop, length, refl, arith}
 use Rattle.agg_laws.specs.declared.states.AggState.{AggState}
 use Rattle.agg_laws.specs.Tree.{dim, node, ids_at, docs_with, kids_of}
-use Rattle.agg_laws.specs.Docs.{Doc}
-use Rattle.agg_laws.proofs.Runs as runs
-use Rattle.agg_laws.proofs.Runs.{RunOf, NoneBelow, other_docs}
+use Rattle.state_columns.specs.Docs.{Doc}
+use Rattle.tree_laws.proofs.Runs as runs
+use Rattle.tree_laws.proofs.Runs.{RunOf, NoneBelow, other_docs}
 use Rattle.star_builder.specs.Building.{AtLeast, Rising, Tree}
 
 abbrev Join : Type 0

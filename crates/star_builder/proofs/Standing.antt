@@ -1,14 +1,15 @@
 -- Nodes that stand unvisited, and their visits one by one.
 use Rattle.agg_laws.specs.declared.states.AggState.{AggState}
 use Rattle.agg_laws.specs.Rows.{merged_rows}
-use Rattle.agg_laws.specs.Docs.{Doc}
+use Rattle.state_columns.specs.Docs.{Doc}
 use Rattle.std.proofs.Common.{◌≡◌, ℕ, zero, suc, ◌+◌, ◌<◌, ◌≤◌, List, length, refl, sym, ap, subst}
 use Rattle.std.proofs.Common.{◌∙◌, arith, inr, length-append}
 use Rattle.agg_laws.specs.Tree.{Nodes, none, node, under}
 use Rattle.agg_laws.specs.declared.tree_shape.TreeShape.{TreeShape}
-use Rattle.agg_laws.specs.Flat.{Flat, node_at, count, range, visited, visited_one}
+use Rattle.tree_laws.specs.Flat.{Flat, node_at, count, visited, visited_one}
+use Rattle.state_columns.specs.Region.{range}
 use Rattle.star_builder.specs.Building.{bytes_of, Proper, StandsAt, Standing, visit_at, drop_kids}
-use Rattle.agg_laws.proofs.FlatLemmas.{Grows, Outside, visit_grows, visited_grows, range-append}
+use Rattle.tree_laws.proofs.FlatLemmas.{Grows, Outside, visit_grows, visited_grows, range-append}
 use Rattle.star_builder.proofs.Bytes.{bytes_grow}
 
 pub StandsAt-grows : (at i : ℕ) (docs : List Doc) (f g : Flat (List AggState))

@@ -1,15 +1,15 @@
 -- The visit of the root.
 use Rattle.agg_laws.specs.declared.states.AggState.{AggState}
 use Rattle.agg_laws.specs.Rows.{merged_rows}
-use Rattle.agg_laws.specs.Docs.{Doc}
+use Rattle.state_columns.specs.Docs.{Doc}
 use Rattle.std.proofs.Common.{◌≡◌, ◌-◌, ◌<◌, ◌≤◌, List, [], ◌∷◌, length, take, refl, sym, ap, subst}
 use Rattle.std.proofs.Common.{◌∙◌, arith}
 use Rattle.std.proofs.Math.Seq.{take-length}
 use Rattle.agg_laws.specs.declared.tree_shape.TreeShape.{TreeShape}
 use Rattle.agg_laws.specs.Tree.{star, under, root_of}
-use Rattle.agg_laws.specs.Flat.{Flat, blank, flat, visited_one}
+use Rattle.tree_laws.specs.Flat.{Flat, blank, flat, visited_one}
 use Rattle.star_builder.specs.Building.{bytes_of, Proper, docs_at, NodeStands, visit_node}
-use Rattle.agg_laws.proofs.FlatLemmas.{visit_grows}
+use Rattle.tree_laws.proofs.FlatLemmas.{visit_grows}
 use Rattle.star_builder.proofs.Bytes.{bytes_grow}
 
 pub record Root (s : TreeShape) (docs : List Doc) (f : Flat (List AggState)) : Type 0 where

@@ -5,8 +5,8 @@ ghost use Rattle.agg_laws.specs.Numbers.{most_stored};
 ghost use Rattle.agg_laws.specs.Rows.{merged_rows, row_weight};
 ghost use Rattle.agg_laws.specs.Merged.{weights};
 ghost use Rattle.agg_laws.specs.Tree.{star, merged_docs, root_of, tree_of, CoversTree, HaveNoStar};
-ghost use Rattle.agg_laws.specs.Shares.{ShareTree};
-ghost use Rattle.agg_laws.specs.Flat.{blank, flat, tree_bytes, FlatAt};
+ghost use Rattle.tree_laws.specs.Shares.{ShareTree};
+ghost use Rattle.tree_laws.specs.Flat.{blank, flat, tree_bytes, FlatAt};
 ghost use Rattle.star_file.specs.Rules.{most_bytes, widths};
 ghost use Rattle.star_builder.specs.Building.{bytes_of, Proper};
 ghost use Rattle.star_builder.specs.declared.fault.TreeFault.TheVariants as TreeFault;
@@ -15,10 +15,13 @@ use crate::NoMemory;
 use crate::fault::TreeFault;
 use crate::growth::they_fit;
 use crate::visit::visit;
-use agg_laws::{Node, STAR, StarTable, TreeShape};
+use agg_laws::TreeShape;
+use document_table::StarTable;
 use star_file::{Nodes, StarTree};
 use star_records::merge_equal;
+use state_columns::STAR;
 use std::alloc::Global;
+use tree_laws::Node;
 
 /// The tree of some rows, written flat: the nodes and documents of the nested tree, whose nodes
 /// cover the rows, and whose split nodes share theirs among their children. It is too large exactly

@@ -1,11 +1,12 @@
 //! The children of a node, one for each id.
 
 ghost use Rattle.std.specs.Prelude.{◌≡◌, ◌≢◌, ℕ, ◌<◌, ◌≤◌, ◌++◌, length, OnOk};
-ghost use Rattle.agg_laws.specs.Flat.{range};
+ghost use Rattle.state_columns.specs.Region.{range};
 ghost use Rattle.star_builder.specs.Building.{id_of, Rising, Ordinary, group_nodes};
 
 use crate::NoMemory;
-use agg_laws::{Node, StarTable};
+use document_table::StarTable;
+use tree_laws::Node;
 
 /// Nodes of level `level + 1`, one for each id that the documents of a range have in a dimension.
 pub fn push_groups(

@@ -6,12 +6,13 @@ ghost use Rattle.agg_laws.specs.Numbers.{most_stored};
 ghost use Rattle.agg_laws.specs.Rows.{merged_rows, row_weight};
 ghost use Rattle.agg_laws.specs.Merged.{rekey, weights};
 ghost use Rattle.agg_laws.specs.Tree.{merged_docs, set_star};
-ghost use Rattle.agg_laws.specs.Documents.{aggregated, AreAlike};
-ghost use Rattle.agg_laws.specs.Flat.{range};
+ghost use Rattle.state_columns.specs.Documents.{aggregated, AreAlike};
+ghost use Rattle.state_columns.specs.Region.{range};
 ghost use Rattle.star_file.specs.Rules.{widths, most_bytes};
 
 use crate::NoMemory;
-use agg_laws::{StarTable, TreeShape};
+use agg_laws::TreeShape;
+use document_table::StarTable;
 use star_file::few_bytes;
 
 /// Adds the documents of a range with a dimension starred, merged, and answers how many they are.

@@ -4,7 +4,7 @@ ghost use Rattle.std.specs.Prelude.{◌≡◌, ◌≢◌, ◌<◌, ◌≤◌, �
 ghost use Rattle.std.specs.Prelude.{not, nat_lt, ◌&&◌, vec_len};
 ghost use Rattle.agg_laws.specs.Rows.{merged_rows};
 ghost use Rattle.agg_laws.specs.Tree.{skips, has_star};
-ghost use Rattle.agg_laws.specs.Flat.{node_at, opened, filled, with_total, count, visited};
+ghost use Rattle.tree_laws.specs.Flat.{node_at, opened, filled, with_total, count, visited};
 ghost use Rattle.star_file.specs.Rules.{most_bytes};
 ghost use Rattle.star_builder.specs.Building.{bytes_of, docs_at, kids_at, kids_in, is_leaf};
 ghost use Rattle.star_builder.specs.Building.{leaf_closed, split_closed, visit_node, NodeStands};
@@ -15,7 +15,10 @@ use crate::NoMemory;
 use crate::fault::TreeFault;
 use crate::groups::push_groups;
 use crate::growth::{add_starred, add_total, count_of, they_fit};
-use agg_laws::{Node, STAR, StarTable, TreeShape};
+use agg_laws::TreeShape;
+use document_table::StarTable;
+use state_columns::STAR;
+use tree_laws::Node;
 
 /// The range of a node.
 fn bounds(nodes: &Vec<Node>, at: usize) -> (u32, u32)

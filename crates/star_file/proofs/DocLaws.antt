@@ -10,8 +10,8 @@ use Rattle.agg_laws.specs.Kind.{width_of}
 use Rattle.agg_laws.specs.States.{kind_of, spelling}
 use Rattle.agg_laws.specs.Rows.{kinds_of, RowStored}
 use Rattle.agg_laws.specs.laws.States.{spelled, one_spelling}
-use Rattle.agg_laws.specs.Docs.{Doc, HaveShape, AreStored}
-use Rattle.agg_laws.specs.Flat.{range}
+use Rattle.state_columns.specs.Docs.{Doc, HaveShape, AreStored}
+use Rattle.state_columns.specs.Region.{range}
 use Rattle.star_file.specs.Bytes.{words, state_bytes, doc_bytes}
 use Rattle.star_file.specs.Rules.{widths}
 use Rattle.star_file.specs.Reading.{doc_width, AreIds, DocsHaveIds, SpellsDoc, SpellDocs}

@@ -17,7 +17,7 @@ use Rattle.star_file.specs.Bytes.{words, state_bytes}
 use Rattle.star_file.specs.Rules.{widths, number_at}
 use Rattle.star_file.specs.Reading.{doc_width, IsId, AreIds, SpellsDoc, SpellDocs}
 use Rattle.agg_laws.specs.declared.tree_shape.TreeShape.{TreeShape}
-use Rattle.agg_laws.specs.Docs.{Doc}
+use Rattle.state_columns.specs.Docs.{Doc}
 use Rattle.star_file.proofs.SectionLemmas.{word_back}
 
 append_none : {X : Type 0} (xs : List X) → xs ++ [] ≡ xs

@@ -7,7 +7,7 @@ use Rattle.std.proofs.lemmas.List.{drop-take, drop-drop, take-take}
 use Rattle.outside.specs.Files.{Files, bytes_of}
 use Rattle.outside.specs.declared.place.Place.{Place}
 use Rattle.agg_laws.specs.declared.tree_shape.TreeShape.{TreeShape}
-use Rattle.agg_laws.specs.Docs.{Doc}
+use Rattle.state_columns.specs.Docs.{Doc}
 use Rattle.star_file.specs.Reading.{doc_width, section, SpellDocs, HasDocuments, IsPart}
 use Rattle.star_file.proofs.DocSteps.{in_part, of_part}
 

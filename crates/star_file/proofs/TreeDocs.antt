@@ -11,14 +11,17 @@ use Rattle.agg_laws.specs.Numbers.{most_stored}
 use Rattle.agg_laws.specs.Rows.{kinds_of, merged_rows, row_weight, RowStored}
 use Rattle.agg_laws.specs.laws.Rows as rows
 use Rattle.agg_laws.specs.Merged.{add, rekey, weights}
-use Rattle.agg_laws.specs.Tree.{star, dims_order, dim, set_star, merged_docs, Nodes, none, node, has_star, skips, docs_with, kids_of, ids_at, star_kid, under, root_of, tree_of}
-use Rattle.agg_laws.specs.Docs.{Doc, HaveShape, AreStored}
-use Rattle.agg_laws.specs.Documents.{aggregated, documents_of, star_docs, star_from, visit_of, visits_of}
-use Rattle.agg_laws.specs.Flat.{flat}
-use Rattle.agg_laws.proofs.DocLemmas.{stored-merged}
-use Rattle.agg_laws.proofs.FlatLemmas.{flat_docs}
-use Rattle.agg_laws.proofs.RegionSteps.{kinds_merged}
-use Rattle.agg_laws.proofs.WeightLemmas.{weights-Merged, weights-filter}
+use Rattle.agg_laws.specs.Tree.{star, dims_order, dim, set_star, merged_docs, Nodes, none, node}
+use Rattle.agg_laws.specs.Tree.{has_star, skips, docs_with, kids_of, ids_at, star_kid, under}
+use Rattle.agg_laws.specs.Tree.{root_of, tree_of}
+use Rattle.state_columns.specs.Docs.{Doc, HaveShape, AreStored}
+use Rattle.state_columns.specs.Documents.{aggregated, documents_of, star_docs, star_from, visit_of}
+use Rattle.state_columns.specs.Documents.{visits_of}
+use Rattle.tree_laws.specs.Flat.{flat}
+use Rattle.state_columns.proofs.DocLemmas.{stored-merged}
+use Rattle.tree_laws.proofs.FlatLemmas.{flat_docs}
+use Rattle.state_columns.proofs.RegionSteps.{kinds_merged}
+use Rattle.state_columns.proofs.WeightLemmas.{weights-Merged, weights-filter}
 use Rattle.star_file.specs.Bytes.{doc_bytes, state_bytes, words}
 use Rattle.star_file.specs.Reading.{doc_width}
 use Rattle.star_file.proofs.DocLaws.{length_states}

@@ -4,21 +4,23 @@ use Rattle.std.proofs.lemmas.Bool.Decides.{nat_tests}
 use Rattle.std.proofs.lemmas.List.{length-take-le}
 use Rattle.std.proofs.Math.Nat.{mul_comm}
 use Rattle.std.specs.Prelude.{◌↔◌}
-use Rattle.agg_laws.specs.declared.node.Node.{Node}
+use Rattle.tree_laws.specs.declared.node.Node.{Node}
 use Rattle.agg_laws.specs.declared.states.AggState.{AggState}
 use Rattle.agg_laws.specs.declared.tree_shape.TreeShape.{TreeShape}
 use Rattle.agg_laws.specs.Rows.{merged_rows}
 use Rattle.agg_laws.specs.Merged.{rekey}
-use Rattle.agg_laws.specs.Tree.{star, agrees, dim, merged_docs, root_of, rows_at, starred, tree_of, under, HaveNoStar}
-use Rattle.agg_laws.specs.Docs.{Doc, HaveIds}
-use Rattle.agg_laws.specs.Flat.{Flat, blank, flat, node_at, range, tree_bytes}
-use Rattle.agg_laws.specs.FlatNodes.{IsOfTree}
-use Rattle.agg_laws.specs.NodeRules.{AreCounted, IsRoot, count_at}
-use Rattle.agg_laws.proofs.DocLemmas.{rows_join}
-use Rattle.agg_laws.proofs.FlatLemmas.{Outside, same_unvisited, more_docs, visit_grows}
-use Rattle.agg_laws.proofs.FlatTrees.{nodes_of_tree}
-use Rattle.agg_laws.proofs.RuleLemmas.{rules_kept}
-use Rattle.agg_laws.proofs.TreeLemmas.{none_merged}
+use Rattle.agg_laws.specs.Tree.{star, agrees, dim, merged_docs, root_of, rows_at, starred, tree_of}
+use Rattle.agg_laws.specs.Tree.{under, HaveNoStar}
+use Rattle.state_columns.specs.Docs.{Doc, HaveIds}
+use Rattle.tree_laws.specs.Flat.{Flat, blank, flat, node_at, tree_bytes}
+use Rattle.state_columns.specs.Region.{range}
+use Rattle.tree_laws.specs.FlatNodes.{IsOfTree}
+use Rattle.tree_laws.specs.NodeRules.{AreCounted, IsRoot, count_at}
+use Rattle.state_columns.proofs.DocLemmas.{rows_join}
+use Rattle.tree_laws.proofs.FlatLemmas.{Outside, same_unvisited, more_docs, visit_grows}
+use Rattle.tree_laws.proofs.FlatTrees.{nodes_of_tree}
+use Rattle.tree_laws.proofs.RuleLemmas.{rules_kept}
+use Rattle.tree_laws.proofs.TreeLemmas.{none_merged}
 use Rattle.star_file.specs.Rules.{AreWords, KeepAll, most_bytes, widths}
 
 -- ---- the root, and where there are no rows

@@ -6,11 +6,11 @@ use Rattle.std.specs.Int.{w32, to_be_bytes}
 use Rattle.agg_laws.specs.declared.aggregate_kind.AggKind.{AggKind}
 use Rattle.agg_laws.specs.declared.aggregate_kind.AggKind.TheVariants as kinds
 use Rattle.agg_laws.specs.declared.states.AggState.{AggState}
-use Rattle.agg_laws.specs.declared.node.Node.{Node}
+use Rattle.tree_laws.specs.declared.node.Node.{Node}
 use Rattle.agg_laws.specs.Kind.{width_of}
 use Rattle.agg_laws.specs.States.{spelling, IsStored}
 use Rattle.agg_laws.specs.Rows.{RowStored}
-use Rattle.agg_laws.specs.Docs.{Doc}
+use Rattle.state_columns.specs.Docs.{Doc}
 use Rattle.std.proofs.Common.{◌-◌, ◌*◌, ◌%◌, drop, length-drop}
 use Rattle.std.proofs.lemmas.List.{drop-drop}
 use Rattle.std.proofs.Math.Nat.{mod-add-div}

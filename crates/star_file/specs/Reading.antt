@@ -7,7 +7,7 @@ use Rattle.outside.specs.declared.place.Place.{Place}
 use Rattle.agg_laws.specs.declared.tree_shape.TreeShape.{TreeShape}
 use Rattle.agg_laws.specs.Rows.{kinds_of, RowStored}
 use Rattle.agg_laws.specs.Tree.{star}
-use Rattle.agg_laws.specs.Docs.{Doc}
+use Rattle.state_columns.specs.Docs.{Doc}
 use Rattle.star_file.specs.Bytes.{words, state_bytes}
 use Rattle.star_file.specs.Rules.{widths}
 

@@ -3,11 +3,11 @@ use Rattle.std.specs.Prelude.{◌≡◌, ℕ, zero, suc, ◌+◌, ◌-◌, ◌*�
 use Rattle.std.specs.Prelude.{drop}
 use Rattle.std.specs.Int.{w32, from_be_bytes}
 use Rattle.agg_laws.specs.declared.aggregate_kind.AggKind.{AggKind}
-use Rattle.agg_laws.specs.declared.node.Node.{Node}
+use Rattle.tree_laws.specs.declared.node.Node.{Node}
 use Rattle.agg_laws.specs.declared.tree_shape.TreeShape.{TreeShape}
 use Rattle.agg_laws.specs.Kind.{width_of}
-use Rattle.agg_laws.specs.Flat.{node_at}
-use Rattle.agg_laws.specs.NodeRules.{KeepsRules, IsRoot}
+use Rattle.tree_laws.specs.Flat.{node_at}
+use Rattle.tree_laws.specs.NodeRules.{KeepsRules, IsRoot}
 
 -- the bytes of states of some kinds
 abbrev pub widths : List AggKind → ℕ

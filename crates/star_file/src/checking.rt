@@ -6,8 +6,9 @@ ghost use Rattle.star_file.specs.Rules.{number_at, node_in, nodes_in, count_in, 
 use crate::NoMemory;
 use crate::node_list::Nodes;
 use crate::rules::nodes_keep;
-use agg_laws::{Node, TreeShape};
+use agg_laws::TreeShape;
 use std::alloc::{AllocError, Global};
+use tree_laws::Node;
 
 /// Why bytes are no nodes of a tree.
 #[derive(Clone, Copy, Debug, PartialEq, Eq)]

@@ -4,7 +4,7 @@ ghost use Rattle.std.specs.Prelude.{◌≡◌, ◌+◌, ◌-◌, ◌*◌, ◌≤
 ghost use Rattle.std.specs.Prelude.{IfOk, OnOk, IsErrOf, IsTrue, ◌↔◌, List, ℕ};
 ghost use Rattle.agg_laws.specs.declared.states.AggState.{AggState};
 ghost use Rattle.agg_laws.specs.Rows.{kinds_of, RowStored};
-ghost use Rattle.agg_laws.specs.Docs.{Doc};
+ghost use Rattle.state_columns.specs.Docs.{Doc};
 ghost use Rattle.star_file.specs.Bytes.{words, state_bytes};
 ghost use Rattle.star_file.specs.Rules.{widths};
 ghost use Rattle.star_file.specs.Reading.{doc_width, IsId, AreIds, SpellsDoc, SpellDocs};
@@ -13,7 +13,9 @@ ghost use Rattle.star_file.specs.declared.docs_fault.DocsFault.TheVariants as Do
 use crate::checking::number;
 use crate::docs_fault::DocsFault;
 use crate::rules::widths;
-use agg_laws::{AggKind, AggState, STAR, StarTable, TreeShape};
+use agg_laws::{AggKind, AggState, TreeShape};
+use document_table::StarTable;
+use state_columns::STAR;
 use std::alloc::Global;
 
 /// Whether a number is an id of a dimension of so many, or the star.

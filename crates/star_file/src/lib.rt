@@ -14,7 +14,6 @@ mod tree;
 mod words;
 mod writing;
 
-pub use agg_laws::Node;
 pub use checking::{NodesFault, check_nodes};
 pub use doc_reading::width_of;
 pub use docs_fault::DocsFault;
@@ -23,6 +22,7 @@ pub use node_list::Nodes;
 pub use reading::read_docs;
 pub use rules::few_bytes;
 pub use tree::StarTree;
+pub use tree_laws::Node;
 pub use writing::{write_docs, write_nodes};
 
 /// A growth was refused.

@@ -4,14 +4,15 @@ ghost use Rattle.std.specs.Prelude.{◌≡◌, ◌≤◌, ◌<◌, ◌+◌, ◌-
 ghost use Rattle.std.specs.Prelude.{length, List};
 ghost use Rattle.outside.specs.Reads.{LogsOn, LogsUpTo};
 ghost use Rattle.outside.specs.Seen.{OnlyReads, seen};
-ghost use Rattle.agg_laws.specs.Docs.{Doc};
+ghost use Rattle.state_columns.specs.Docs.{Doc};
 ghost use Rattle.star_file.specs.Reading.{doc_width, section, HasDocuments};
 ghost use Rattle.star_file.specs.declared.docs_fault.DocsFault.TheVariants as DocsFault;
 
 use crate::doc_reading::{docs_from, width_of};
 use crate::docs_fault::DocsFault;
 use crate::part::read_part;
-use agg_laws::{StarTable, TreeShape};
+use agg_laws::TreeShape;
+use document_table::StarTable;
 use outside::{Place, Shelf};
 use std::alloc::Global;
 

@@ -2,12 +2,15 @@
 
 ghost use Rattle.std.specs.Prelude.{◌≡◌, ◌≤◌, ◌<◌, ◌+◌, ◌-◌, ◌*◌, ◌↔◌, ◌⊎◌, IsTrue, length, List, ℕ};
 ghost use Rattle.std.specs.Prelude.{IfOk, [], take};
-ghost use Rattle.agg_laws.specs.Flat.{range, node_at};
-ghost use Rattle.agg_laws.specs.NodeRules.{KeepKidsRules, KeepsRules, IsRoot};
+ghost use Rattle.state_columns.specs.Region.{range};
+ghost use Rattle.tree_laws.specs.Flat.{node_at};
+ghost use Rattle.tree_laws.specs.NodeRules.{KeepKidsRules, KeepsRules, IsRoot};
 ghost use Rattle.star_file.specs.Rules.{widths, KeepAll};
 
 use crate::kids::kids_keep;
-use agg_laws::{AggKind, Node, STAR, TreeShape};
+use agg_laws::{AggKind, TreeShape};
+use state_columns::STAR;
+use tree_laws::Node;
 
 const MOST_BYTES: u64 = 134217728;
 

@@ -1,14 +1,15 @@
 //! Star-trees are written.
 
 ghost use Rattle.std.specs.Prelude.{◌≡◌, ◌<◌, ◌≤◌, ◌^◌, ◌++◌, ◌∷◌, [], OnOk, OnErr, length, drop};
-ghost use Rattle.agg_laws.specs.Docs.{doc_at, HaveShape, AreStored};
+ghost use Rattle.state_columns.specs.Docs.{doc_at, HaveShape, AreStored};
 ghost use Rattle.star_file.specs.Bytes.{words, node_words, node_bytes, nodes_section, state_bytes};
 ghost use Rattle.star_file.specs.Bytes.{doc_bytes, IsExtended};
 
 use crate::NoMemory;
 use crate::tree::StarTree;
 use crate::words::{push_state, push_word, push_words};
-use agg_laws::{Node, StarTable};
+use document_table::StarTable;
+use tree_laws::Node;
 
 /// Appends how many documents a tree has, and its nodes.
 pub fn write_nodes(tree: &StarTree, out: &mut Vec<u8>) -> Result<(), NoMemory>

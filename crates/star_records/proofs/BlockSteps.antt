@@ -8,7 +8,7 @@ use Rattle.std.proofs.lemmas.List.{get_or_append_left, length-take-le, length-dr
 use Rattle.std.proofs.lemmas.List.{get_or_default, get_or-replicate, length-replicate}
 use Rattle.std.proofs.lemmas.List.Elements.{All-append, All-cons, All-nil}
 use Rattle.std.specs.List.Sorted.{IsPermutation}
-use Rattle.agg_laws.specs.Region.{numbers}
+use Rattle.state_columns.specs.Region.{numbers}
 use Rattle.star_rows.specs.Columns.{row_at}
 use Rattle.star_records.specs.Folding.{picked, AllZero, AreHeads}
 use Rattle.star_rows.specs.Numbers.{numbers_of}

@@ -15,17 +15,16 @@ use Rattle.agg_laws.specs.Rows.{merged_rows, row_weight}
 use Rattle.agg_laws.specs.laws.Rows as rows
 use Rattle.agg_laws.specs.Merged.{total, add, weights}
 use Rattle.agg_laws.specs.Tree.{dims_order, merged_docs}
-use Rattle.agg_laws.specs.Docs.{Doc, projected}
-use Rattle.agg_laws.specs.Region.{numbers_from, numbers}
-use Rattle.agg_laws.proofs.MergedLemmas.{Merged-permutation, Merged_push, total-Merged}
-use Rattle.agg_laws.proofs.MergedLemmas.{is_sorted-Merged}
-use Rattle.agg_laws.proofs.TreeLemmas.{same_dims}
-use Rattle.agg_laws.proofs.WeightLemmas.{weights-add}
-use Rattle.agg_laws.proofs.DocLemmas.{rows_join}
-use Rattle.agg_laws.proofs.FlatNodes.{as_true, merged_fewer}
-use Rattle.agg_laws.proofs.MergeSteps.{none_above, put_at_end}
-use Rattle.agg_laws.proofs.PlaceMerge.{put_at}
-use Rattle.agg_laws.proofs.StarSteps.{length_numbers}
+use Rattle.state_columns.specs.Docs.{Doc, projected}
+use Rattle.state_columns.specs.Region.{numbers_from, numbers}
+use Rattle.state_columns.proofs.MergedLemmas.{Merged-permutation, Merged_push, total-Merged}
+use Rattle.state_columns.proofs.MergedLemmas.{is_sorted-Merged}
+use Rattle.state_columns.proofs.ListLemmas.{same_dims, as_true, merged_fewer}
+use Rattle.state_columns.proofs.WeightLemmas.{weights-add}
+use Rattle.state_columns.proofs.DocLemmas.{rows_join}
+use Rattle.state_columns.proofs.MergeSteps.{none_above, put_at_end}
+use Rattle.state_columns.proofs.PlaceMerge.{put_at}
+use Rattle.document_table.proofs.StarSteps.{length_numbers}
 use Rattle.star_rows.specs.Columns.{row_at, rows_of}
 use Rattle.star_records.specs.Folding.{Ends}
 use Rattle.star_rows.specs.Words.{ids_at, row_in, key_in, states_at}

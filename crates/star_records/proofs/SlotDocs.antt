@@ -16,22 +16,23 @@ use Rattle.std.specs.FinMap.Entries.{below_all}
 use Rattle.agg_laws.specs.declared.aggregate_kind.AggKind.{AggKind}
 use Rattle.agg_laws.specs.declared.aggregate_kind.AggKind.TheVariants as kinds
 use Rattle.agg_laws.specs.declared.states.AggState.{AggState}
-use Rattle.agg_laws.specs.Columns.{Column, replaced, row_at, state_at}
-use Rattle.agg_laws.specs.Docs.{Doc, projected}
+use Rattle.state_columns.specs.Columns.{Column, replaced, row_at, state_at}
+use Rattle.state_columns.specs.Docs.{Doc, projected}
 use Rattle.agg_laws.specs.Merged.{join_some, part, total, weights}
 use Rattle.agg_laws.specs.Numbers.{least_of, greatest_of, lesser, greater, most_stored, most_values}
 use Rattle.agg_laws.specs.Numbers.{AreWhole, IsWhole, NumberFits, NumberStored}
-use Rattle.agg_laws.specs.Region.{numbers_from}
-use Rattle.agg_laws.specs.Rows.{head_of, tail_of, kinds_of, merged_rows, row_of, row_weight, RowFits, RowStored}
+use Rattle.state_columns.specs.Region.{numbers_from}
+use Rattle.agg_laws.specs.Rows.{head_of, tail_of, kinds_of, merged_rows, row_of, row_weight}
+use Rattle.agg_laws.specs.Rows.{RowFits, RowStored}
 use Rattle.agg_laws.specs.States.{kind_of, state_of, unit_of, merged, Fits, IsStored}
 use Rattle.agg_laws.specs.laws.NumberBytes.{whole_64}
 use Rattle.agg_laws.specs.laws.Rows as rows
 use Rattle.agg_laws.specs.laws.States as states
 use Rattle.agg_laws.specs.Tree.{dims_order, merged_docs}
-use Rattle.agg_laws.proofs.MergedLemmas.{join_assoc, join_none, join_swap, Merged_only}
-use Rattle.agg_laws.proofs.TreeLemmas.{same_dims}
-use Rattle.agg_laws.proofs.DocLemmas.{rows_join}
-use Rattle.agg_laws.proofs.WeightLemmas.{weights-append, weights-Merged}
+use Rattle.state_columns.proofs.MergedLemmas.{join_assoc, join_none, join_swap, Merged_only}
+use Rattle.state_columns.proofs.ListLemmas.{same_dims}
+use Rattle.state_columns.proofs.DocLemmas.{rows_join}
+use Rattle.state_columns.proofs.WeightLemmas.{weights-append, weights-Merged}
 use Rattle.star_rows.specs.Columns.{rows_of}
 use Rattle.star_rows.specs.Columns as columns
 use Rattle.star_records.specs.Slots.{in_slot, slot_doc, values_of, AllHold, AreSlots, HoldsSlots}

@@ -5,7 +5,7 @@ ghost use Rattle.std.specs.Prelude.{All, IfOk, OnOk};
 ghost use Rattle.agg_laws.specs.Numbers.{most_stored, AreWhole};
 ghost use Rattle.agg_laws.specs.Rows.{merged_rows, row_weight};
 ghost use Rattle.agg_laws.specs.Merged.{weights};
-ghost use Rattle.agg_laws.specs.Docs.{projected, Doc};
+ghost use Rattle.state_columns.specs.Docs.{projected, Doc};
 ghost use Rattle.agg_laws.specs.Tree.{merged_docs};
 ghost use Rattle.star_rows.specs.Columns.{row_count, rows_of};
 ghost use Rattle.star_records.specs.Folding.{AreZero, HasMerged};
@@ -14,7 +14,8 @@ ghost use Rattle.star_records.specs.Words.{InOrder};
 
 use crate::NoMemory;
 use crate::blocks::{columns_at, heads_of, numbers_at, part, zero_columns};
-use agg_laws::{StarTable, TreeShape};
+use agg_laws::TreeShape;
+use document_table::StarTable;
 use outside::Seq;
 use star_rows::{NumberColumns, read_row, repeats};
 use std::alloc::Global;

@@ -7,7 +7,7 @@ ghost use Rattle.agg_laws.specs.Merged.{weights};
 ghost use Rattle.agg_laws.specs.Tree.{merged_docs};
 
 use crate::NoMemory;
-use agg_laws::StarTable;
+use document_table::StarTable;
 
 /// The documents sorted by their ids, those of equal ids merged.
 pub fn merge_equal(rows: StarTable) -> Result<StarTable, NoMemory>

@@ -4,7 +4,7 @@ ghost use Rattle.std.specs.Prelude.{◌≡◌, ◌≤◌, ◌<◌, length, Some,
 ghost use Rattle.agg_laws.specs.Numbers.{most_stored};
 ghost use Rattle.agg_laws.specs.Rows.{merged_rows, row_weight};
 ghost use Rattle.agg_laws.specs.Merged.{weights};
-ghost use Rattle.agg_laws.specs.Docs.{projected};
+ghost use Rattle.state_columns.specs.Docs.{projected};
 ghost use Rattle.agg_laws.specs.Tree.{merged_docs};
 ghost use Rattle.star_rows.specs.Columns.{row_count, rows_of};
 
@@ -14,7 +14,8 @@ use crate::merging::merge_equal;
 use crate::slot_docs::merge_slots;
 use crate::slots::slots_of;
 use crate::words::words_in_order;
-use agg_laws::{StarTable, TreeShape};
+use agg_laws::TreeShape;
+use document_table::StarTable;
 use outside::Seq;
 use star_rows::{NumberColumns, project};
 use std::alloc::Global;

@@ -2,8 +2,8 @@
 
 ghost use Rattle.std.specs.Prelude.{◌≡◌, ◌<◌, ◌≤◌, length, pos, replicate, All};
 ghost use Rattle.std.specs.Prelude.{IfOk, OnOk};
-ghost use Rattle.agg_laws.specs.Columns.{row_at};
-ghost use Rattle.agg_laws.specs.Docs.{projected};
+ghost use Rattle.state_columns.specs.Columns.{row_at};
+ghost use Rattle.state_columns.specs.Docs.{projected};
 ghost use Rattle.agg_laws.specs.Merged.{weights};
 ghost use Rattle.agg_laws.specs.Numbers.{most_stored, AreWhole};
 ghost use Rattle.agg_laws.specs.Rows.{merged_rows, row_weight};
@@ -16,9 +16,11 @@ ghost use Rattle.star_records.specs.Slots.{AllHold, AreSlots, HoldsSlots};
 use crate::NoMemory;
 use crate::blocks::columns_at;
 use crate::slots::Slots;
-use agg_laws::{AggKind, AggState, StarTable, StateColumn, TreeShape};
+use agg_laws::{AggKind, AggState, TreeShape};
+use document_table::StarTable;
 use outside::Seq;
 use star_rows::{NumberColumns, PairNumbers, read_row};
+use state_columns::StateColumn;
 use std::alloc::Global;
 
 /// The documents of the rows, merged: one for each slot. The numbers are added pair by pair, in the

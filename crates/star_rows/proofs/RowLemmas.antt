@@ -7,8 +7,8 @@ use Rattle.std.proofs.Math.Seq.{take-suc}
 use Rattle.agg_laws.specs.declared.aggregate_kind.AggKind.{AggKind}
 use Rattle.agg_laws.specs.Rows.{row_of, row_weight}
 use Rattle.agg_laws.specs.Merged.{weights}
-use Rattle.agg_laws.specs.Docs.{Doc, projected}
-use Rattle.agg_laws.proofs.WeightLemmas.{weights-append}
+use Rattle.state_columns.specs.Docs.{Doc, projected}
+use Rattle.state_columns.proofs.WeightLemmas.{weights-append}
 use Rattle.star_rows.specs.Columns.{row_count, row_at, rows_of}
 
 got : {X : Type 0} (xs : List X) (i : ℕ) (d : X) → i < length xs → slice_get xs i

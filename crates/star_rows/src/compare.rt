@@ -3,7 +3,7 @@
 ghost use Rattle.std.specs.Prelude.{◌≡◌};
 ghost use Rattle.agg_laws.specs.Tree.{dims_order};
 
-use agg_laws::StarRow;
+use state_columns::StarRow;
 use std::cmp::Ordering;
 
 /// Compares two documents by their ids in order, of which the star is the greatest. It takes no

@@ -4,13 +4,14 @@ ghost use Rattle.std.specs.Prelude.{◌≡◌, ◌≤◌, ◌<◌, ◌++◌, ◌
 ghost use Rattle.std.specs.Prelude.{IfOk, OnOk, All};
 ghost use Rattle.agg_laws.specs.Rows.{row_weight};
 ghost use Rattle.agg_laws.specs.Merged.{weights};
-ghost use Rattle.agg_laws.specs.Docs.{projected};
+ghost use Rattle.state_columns.specs.Docs.{projected};
 ghost use Rattle.star_rows.specs.Columns.{row_count, rows_of};
 ghost use Rattle.star_rows.specs.Words.{ids_at, states_at};
 
 use crate::NoMemory;
 use crate::numbers::NumberColumns;
-use agg_laws::{StarTable, TreeShape};
+use agg_laws::TreeShape;
+use document_table::StarTable;
 use outside::Seq;
 use std::alloc::Global;
 

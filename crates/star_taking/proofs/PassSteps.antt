@@ -5,9 +5,9 @@ use Rattle.std.proofs.Common.{append_assoc}
 use Rattle.std.proofs.lemmas.List.{map-append, take-append-drop}
 use Rattle.std.proofs.lemmas.List.{take_more}
 use Rattle.std.proofs.lemmas.List.Elements.{filter-append}
-use Rattle.agg_laws.specs.Docs.{Doc, doc_at}
-use Rattle.agg_laws.specs.Picks as asks
-use Rattle.agg_laws.specs.Picks.{holds_from}
+use Rattle.state_columns.specs.Docs.{Doc, doc_at}
+use Rattle.tree_laws.specs.Picks as asks
+use Rattle.tree_laws.specs.Picks.{holds_from}
 use Rattle.star_taking.specs.declared.asked.Asked.{Asked}
 use Rattle.star_taking.specs.Answers.{left_of}
 use Rattle.star_taking.specs.Taken.{MayBeTaken, taken_doc, taken_docs}

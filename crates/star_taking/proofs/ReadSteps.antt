@@ -13,9 +13,9 @@ use Rattle.outside.specs.Seen.{OnlyReads, Seen}
 use Rattle.outside.proofs.ReadLemmas.{logs-none, logs-up}
 use Rattle.outside.proofs.SeenLemmas.{reads_after, reads_none}
 use Rattle.agg_laws.specs.declared.tree_shape.TreeShape.{TreeShape}
-use Rattle.agg_laws.specs.Docs.{Doc, Docs}
-use Rattle.agg_laws.specs.Picks as asks
-use Rattle.agg_laws.specs.Picks.{holds_from}
+use Rattle.state_columns.specs.Docs.{Doc, Docs}
+use Rattle.tree_laws.specs.Picks as asks
+use Rattle.tree_laws.specs.Picks.{holds_from}
 use Rattle.star_file.specs.Reading.{doc_width, section, HasDocuments}
 use Rattle.star_file.proofs.DocLaws.{only}
 use Rattle.star_walk.specs.declared.pick.Pick.{Pick}

@@ -7,14 +7,14 @@ use Rattle.agg_laws.specs.declared.aggregate_kind.AggKind.TheVariants as kinds
 use Rattle.agg_laws.specs.declared.states.AggState.{AggState}
 use Rattle.agg_laws.specs.declared.states.AggState.TheVariants.{Count}
 use Rattle.agg_laws.specs.declared.tree_shape.TreeShape.{TreeShape}
-use Rattle.agg_laws.specs.Docs.{AreStored, Doc, Docs, HaveShape, doc_at}
+use Rattle.state_columns.specs.Docs.{AreStored, Doc, Docs, HaveShape, doc_at}
 use Rattle.agg_laws.specs.Rows.{RowStored, kinds_of, row_weight}
 use Rattle.agg_laws.specs.States.{kind_of}
 use Rattle.agg_laws.specs.Merged.{weights}
 use Rattle.agg_laws.specs.Tree.{dim}
-use Rattle.agg_laws.proofs.Places.{length-kinds_of}
-use Rattle.agg_laws.proofs.RegionSteps.{shape_at, stored_at}
-use Rattle.agg_laws.proofs.WeightLemmas.{weights-append}
+use Rattle.state_columns.proofs.RowPlaces.{length-kinds_of}
+use Rattle.state_columns.proofs.RegionSteps.{shape_at, stored_at}
+use Rattle.state_columns.proofs.WeightLemmas.{weights-append}
 use Rattle.star_taking.specs.declared.asked.Asked.{Asked}
 use Rattle.star_taking.specs.declared.asked.GroupColumn.{GroupColumn}
 use Rattle.star_taking.specs.Asked.{AreAsked, HasKey, kinds_for, states_of, value_of}

@@ -7,9 +7,9 @@ use Rattle.std.specs.FinMap as finite
 use Rattle.outside.specs.Files.{Files}
 use Rattle.outside.specs.Reads.{Entry}
 use Rattle.agg_laws.specs.declared.tree_shape.TreeShape.{TreeShape}
-use Rattle.agg_laws.specs.Docs.{Doc}
-use Rattle.agg_laws.specs.Picks as asks
-use Rattle.agg_laws.specs.Picks.{holds_from}
+use Rattle.state_columns.specs.Docs.{Doc}
+use Rattle.tree_laws.specs.Picks as asks
+use Rattle.tree_laws.specs.Picks.{holds_from}
 use Rattle.star_file.specs.Reading.{doc_width, section, HasDocuments}
 use Rattle.star_file.specs.Rules.{KeepAll}
 use Rattle.star_walk.specs.declared.pick.Pick.{Pick}

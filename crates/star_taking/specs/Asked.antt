@@ -9,7 +9,7 @@ use Rattle.agg_laws.specs.declared.states.AggState.{AggState}
 use Rattle.agg_laws.specs.declared.states.AggState.TheVariants.{Count}
 use Rattle.agg_laws.specs.declared.tree_shape.TreeShape.{TreeShape}
 use Rattle.agg_laws.specs.Rows.{row_weight}
-use Rattle.agg_laws.specs.Docs.{Doc}
+use Rattle.state_columns.specs.Docs.{Doc}
 use Rattle.agg_laws.specs.Merged.{weights}
 use Rattle.agg_laws.specs.Tree.{dim}
 use Rattle.group_table.specs.Groups.{Group}

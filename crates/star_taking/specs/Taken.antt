@@ -5,7 +5,7 @@ use Rattle.values.specs.declared.value.Value.{Value}
 use Rattle.outside.specs.Files.{Files}
 use Rattle.agg_laws.specs.declared.tree_shape.TreeShape.{TreeShape}
 use Rattle.agg_laws.specs.Rows.{row_weight}
-use Rattle.agg_laws.specs.Docs.{Doc, Docs}
+use Rattle.state_columns.specs.Docs.{Doc, Docs}
 use Rattle.agg_laws.specs.Merged.{rekey, weights}
 use Rattle.agg_laws.specs.Tree.{dim}
 use Rattle.star_file.specs.declared.docs_fault.DocsFault.{DocsFault}

@@ -1,11 +1,11 @@
 //! The keys of documents that were taken.
 
 ghost use Rattle.std.specs.Prelude.{◌≡◌, ◌<◌, ◌≤◌, IfOk, length};
-ghost use Rattle.agg_laws.specs.Docs.{doc_at};
+ghost use Rattle.state_columns.specs.Docs.{doc_at};
 ghost use Rattle.star_taking.specs.Taken.{AreKeyIds, key_values};
 
 use crate::asked::GroupColumn;
-use agg_laws::StarTable;
+use document_table::StarTable;
 use std::alloc::Global;
 use values::{NoMemory, Row, Seq};
 

@@ -3,7 +3,7 @@
 ghost use Rattle.std.specs.Prelude.{◌≡◌, ◌<◌, ◌≤◌, ℕ, IfOk, IfSome, IsErrOf, List, OnErr, length};
 ghost use Rattle.outside.specs.Seen.{OnlyReads, seen};
 ghost use Rattle.agg_laws.specs.Numbers.{most_stored};
-ghost use Rattle.agg_laws.specs.Docs.{Doc};
+ghost use Rattle.state_columns.specs.Docs.{Doc};
 ghost use Rattle.star_file.specs.Reading.{section};
 ghost use Rattle.star_walk.specs.Images.{AreWithin, read_of};
 ghost use Rattle.star_taking.specs.declared.fault.AnswerFault.TheVariants.{BadDocs, ReadFault};
@@ -16,7 +16,7 @@ use crate::asked::Asked;
 use crate::fault::AnswerFault;
 use crate::taking::Taken;
 use crate::tree_part::TreePart;
-use agg_laws::StarTable;
+use document_table::StarTable;
 use outside::Shelf;
 use star_file::{DocsFault, read_docs};
 use star_walk::{Pick, Task};

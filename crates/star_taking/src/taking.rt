@@ -5,7 +5,7 @@ ghost use Rattle.std.specs.Prelude.{◌≡◌, ◌+◌, ◌^◌, ◌<◌, ◌≤
 ghost use Rattle.std.specs.Prelude.{IfOk, MatchBool, OnOk};
 ghost use Rattle.std.specs.List.{All};
 ghost use Rattle.agg_laws.specs.Rows.{row_weight};
-ghost use Rattle.agg_laws.specs.Docs.{AreStored, HaveShape, doc_at};
+ghost use Rattle.state_columns.specs.Docs.{AreStored, HaveShape, doc_at};
 ghost use Rattle.agg_laws.specs.Merged.{weights};
 ghost use Rattle.star_walk.specs.Walking.{HasEach};
 ghost use Rattle.star_taking.specs.Answers.{asked_of, left_of};
@@ -15,7 +15,8 @@ ghost use Rattle.star_taking.specs.Taken.{taken_docs};
 
 use crate::asked::{Asked, GroupColumn};
 use crate::weighing::weight_of;
-use agg_laws::{AggKind, AggState, Kinds, StarTable, TreeShape};
+use agg_laws::{AggKind, AggState, Kinds, TreeShape};
+use document_table::StarTable;
 use star_walk::{Task, passes_from};
 use std::alloc::{AllocError, Global};
 

@@ -9,10 +9,11 @@ use Rattle.std.proofs.lemmas.Bool.{eq-eqb, eqb-true, ne_eqb}
 use Rattle.agg_laws.specs.Merged.{rekey, add}
 use Rattle.agg_laws.specs.Tree.{star, dims_order, dim, merged_docs, agrees, starred, rows_at}
 use Rattle.agg_laws.specs.Tree.{CoversRows, HaveNoStar}
-use Rattle.agg_laws.specs.Docs.{HaveIds}
-use Rattle.agg_laws.specs.Documents.{star_from, aggregated}
-use Rattle.agg_laws.proofs.TreeLemmas.{same_dims, agrees_star}
-use Rattle.agg_laws.proofs.NodeLemmas.{dim-after}
+use Rattle.state_columns.specs.Docs.{HaveIds}
+use Rattle.state_columns.specs.Documents.{star_from, aggregated}
+use Rattle.state_columns.proofs.ListLemmas.{same_dims}
+use Rattle.tree_laws.proofs.TreeLemmas.{agrees_star}
+use Rattle.tree_laws.proofs.NodeLemmas.{dim-after}
 
 -- these ids are those of one of the entries
 abbrev pub Among : {S : Type 0} → List ℕ → List (List ℕ × S) → Type 0

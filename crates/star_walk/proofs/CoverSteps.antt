@@ -10,15 +10,15 @@ use Rattle.std.proofs.lemmas.List.{get_or-take, get_or-drop}
 use Rattle.std.proofs.lemmas.List.Sums.{sum_by-cons}
 use Rattle.agg_laws.specs.declared.states.AggState.{AggState}
 use Rattle.agg_laws.specs.Rows.{merged_rows}
-use Rattle.agg_laws.specs.Docs.{Doc, HaveIds}
-use Rattle.agg_laws.specs.Documents.{total_below, total_doc}
+use Rattle.state_columns.specs.Docs.{Doc, HaveIds}
+use Rattle.state_columns.specs.Documents.{total_below, total_doc}
 use Rattle.agg_laws.specs.Tree.{star, dim, Nodes, none, node, has_star, agrees, CoversRows, Covers}
 use Rattle.agg_laws.specs.Tree.{CoversTree, HaveNoStar}
-use Rattle.agg_laws.specs.Flat.{range}
-use Rattle.agg_laws.specs.Picks.{Task, quiet, is_taken, holds_from, picks_here, picks_of, picks, times}
-use Rattle.agg_laws.specs.Picks.{KeepGroups, IsPartedBy, ArePartedBy}
-use Rattle.agg_laws.specs.Picks as nested
-use Rattle.agg_laws.proofs.TreeLemmas.{length_more}
+use Rattle.state_columns.specs.Region.{range}
+use Rattle.tree_laws.specs.Picks.{Task, quiet, is_taken, holds_from, picks_here, picks_of, picks}
+use Rattle.tree_laws.specs.Picks.{times, KeepGroups, IsPartedBy, ArePartedBy}
+use Rattle.tree_laws.specs.Picks as nested
+use Rattle.tree_laws.proofs.TreeLemmas.{length_more}
 use Rattle.star_walk.specs.declared.pick.Pick.{Pick}
 use Rattle.star_walk.specs.Images.{bare, shown, AreWithin}
 use Rattle.star_walk.specs.Covering.{covers, counts, IsCovered, AreCovered, HaveValues, has_number}

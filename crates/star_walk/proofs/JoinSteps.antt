@@ -4,8 +4,8 @@ use Rattle.std.proofs.Common.{List, [], ◌∷◌, ◌++◌, length, take, drop,
 use Rattle.std.proofs.Common.{arith, append_assoc, length-append, drop-cons}
 use Rattle.std.specs.List.{filter}
 use Rattle.std.proofs.lemmas.Bool.{and_parts, eqb-true}
-use Rattle.agg_laws.specs.Docs.{Doc}
-use Rattle.agg_laws.specs.Picks.{Task, holds_from}
+use Rattle.state_columns.specs.Docs.{Doc}
+use Rattle.tree_laws.specs.Picks.{Task, holds_from}
 use Rattle.star_walk.specs.declared.pick.Pick.{Pick}
 use Rattle.star_walk.specs.Images.{read_of, passing, AreWithin}
 use Rattle.star_walk.specs.Joins.{touches, reaching, joined_from, joined, numbers_from, numbers_of}

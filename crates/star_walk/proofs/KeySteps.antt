@@ -2,9 +2,9 @@
 use Rattle.std.proofs.Common.{◌≡◌, ℕ, suc, ◌+◌, ◌-◌, ◌<◌, true, false, cond, List, [], ◌∷◌}
 use Rattle.std.proofs.Common.{◌++◌, sym, ap, ◌∙◌, arith, append_assoc}
 use Rattle.agg_laws.specs.Tree.{dim}
-use Rattle.agg_laws.specs.Picks.{Task}
-use Rattle.agg_laws.specs.Groups.{key_from}
-use Rattle.agg_laws.proofs.FlatLemmas.{append_none}
+use Rattle.tree_laws.specs.Picks.{Task}
+use Rattle.tree_laws.specs.Groups.{key_from}
+use Rattle.state_columns.proofs.ListLemmas.{append_none}
 
 pub key_whole : (t : Task) (k : ℕ) (x : List ℕ) → [] ++ key_from t (k - 0) 0 x ≡ key_from t k 0 x
 key_whole t k x = let z : k - 0 ≡ k = omega arith in ap (λ m. key_from t m 0 x) z

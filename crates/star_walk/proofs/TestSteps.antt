@@ -5,10 +5,10 @@ use Rattle.std.proofs.Common.{sym, ap, ◌∙◌, arith}
 use Rattle.std.specs.List.{filter}
 use Rattle.std.proofs.Math.Seq.{take-suc}
 use Rattle.std.proofs.lemmas.List.{map-append}
-use Rattle.agg_laws.specs.Docs.{Doc, doc_at}
+use Rattle.state_columns.specs.Docs.{Doc, doc_at}
 use Rattle.agg_laws.specs.Tree.{dim}
-use Rattle.agg_laws.specs.Picks.{holds_from}
-use Rattle.agg_laws.proofs.FlatLemmas.{append_none}
+use Rattle.tree_laws.specs.Picks.{holds_from}
+use Rattle.state_columns.proofs.ListLemmas.{append_none}
 use Rattle.star_walk.specs.Walking.{task_of, some_ids, is_among, passes}
 
 as_tested : (o : Option (List ℕ)) (id : ℕ) → cond (some_ids o) (is_among o id) true ≡ is_among o id

@@ -3,13 +3,13 @@ use Rattle.std.proofs.Common.{◌≡◌, ℕ, List, [], length, map, ap, arith}
 use Rattle.agg_laws.specs.declared.states.AggState.{AggState}
 use Rattle.agg_laws.specs.declared.tree_shape.TreeShape.{TreeShape}
 use Rattle.agg_laws.specs.Rows.{merged_rows}
-use Rattle.agg_laws.specs.Docs.{Doc, HaveIds}
+use Rattle.state_columns.specs.Docs.{Doc, HaveIds}
 use Rattle.agg_laws.specs.Tree.{HaveNoStar, Nodes, none, merged_docs, root_of, tree_of}
-use Rattle.agg_laws.specs.Flat.{Flat, flat, node_at}
-use Rattle.agg_laws.specs.FlatNodes.{IsOfTree}
-use Rattle.agg_laws.specs.Picks.{Task, picks}
-use Rattle.agg_laws.proofs.DocLemmas.{rows_join}
-use Rattle.agg_laws.proofs.FlatTrees.{nodes_of_tree, tree_flat}
+use Rattle.tree_laws.specs.Flat.{Flat, flat, node_at}
+use Rattle.tree_laws.specs.FlatNodes.{IsOfTree}
+use Rattle.tree_laws.specs.Picks.{Task, picks}
+use Rattle.state_columns.proofs.DocLemmas.{rows_join}
+use Rattle.tree_laws.proofs.FlatTrees.{nodes_of_tree, tree_flat}
 use Rattle.star_walk.specs.Walking.{tree_picks}
 use Rattle.star_walk.specs.Images.{bare, shown, AreWithin}
 use Rattle.star_walk.proofs.ImageSteps.{tree_same}

@@ -1,13 +1,14 @@
 //! The keys of documents, by which a query groups them.
 
 ghost use Rattle.std.specs.Prelude.{◌≡◌, ◌<◌, ◌≤◌, IfOk, length};
-ghost use Rattle.agg_laws.specs.Docs.{doc_at};
-ghost use Rattle.agg_laws.specs.Groups.{key_from};
+ghost use Rattle.state_columns.specs.Docs.{doc_at};
+ghost use Rattle.tree_laws.specs.Groups.{key_from};
 ghost use Rattle.star_walk.specs.Walking.{task_of, HasEach};
 
 use crate::NoMemory;
 use crate::task::Task;
-use agg_laws::{Ids, StarTable};
+use document_table::StarTable;
+use state_columns::Ids;
 use std::alloc::Global;
 
 /// The ids of a document in the dimensions that are grouped, in their order.

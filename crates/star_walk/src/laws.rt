@@ -2,18 +2,18 @@
 
 ghost use Rattle.std.specs.Prelude.{◌≡◌, ℕ, ◌^◌, ◌<◌, ◌≤◌, [], List, length, map};
 ghost use Rattle.std.specs.Prelude.{All, count_by};
-ghost use Rattle.agg_laws.specs.declared.node.Node.{Node};
+ghost use Rattle.tree_laws.specs.declared.node.Node.{Node};
 ghost use Rattle.agg_laws.specs.declared.states.AggState.{AggState};
 ghost use Rattle.agg_laws.specs.declared.tree_shape.TreeShape.{TreeShape};
 ghost use Rattle.agg_laws.specs.Rows.{merged_rows};
-ghost use Rattle.agg_laws.specs.Docs.{Doc, HaveIds};
+ghost use Rattle.state_columns.specs.Docs.{Doc, HaveIds};
 ghost use Rattle.agg_laws.specs.Tree.{Nodes, none, agrees, tree_of, HaveNoStar};
-ghost use Rattle.agg_laws.specs.Flat.{Flat, FlatAt, flat};
-ghost use Rattle.agg_laws.specs.Picks.{Task, picks};
-ghost use Rattle.agg_laws.specs.Picks as nested;
-ghost use Rattle.agg_laws.specs.Reads.{factor, bound};
-ghost use Rattle.agg_laws.specs.Groups.{groups_of, rows_that_hold};
-ghost use Rattle.agg_laws.specs.NodeRules.{KeepsRules};
+ghost use Rattle.tree_laws.specs.Flat.{Flat, FlatAt, flat};
+ghost use Rattle.tree_laws.specs.Picks.{Task, picks};
+ghost use Rattle.tree_laws.specs.Picks as nested;
+ghost use Rattle.tree_laws.specs.Reads.{factor, bound};
+ghost use Rattle.tree_laws.specs.Groups.{groups_of, rows_that_hold};
+ghost use Rattle.tree_laws.specs.NodeRules.{KeepsRules};
 ghost use Rattle.star_walk.specs.declared.pick.Pick.{Pick};
 ghost use Rattle.star_walk.specs.Walking.{AreWalkable, tree_picks};
 ghost use Rattle.star_walk.specs.Images.{bare, shown, read_of, passing, AreWithin};

@@ -1,11 +1,11 @@
 //! What a query asks of each split dimension of a star-tree.
 
 ghost use Rattle.std.specs.Prelude.{◌≡◌, ◌<◌, ◌≤◌, ◌-◌, ◌||◌, length};
-ghost use Rattle.agg_laws.specs.Picks.{quiet, is_taken};
+ghost use Rattle.tree_laws.specs.Picks.{quiet, is_taken};
 ghost use Rattle.star_walk.specs.Walking.{task_of, is_tested, passes, is_grouped, HasEach};
 
-use agg_laws::STAR;
 use dictionary::IdSet;
+use state_columns::STAR;
 use values::Seq;
 
 /// The ids that pass the tests of each split dimension, where it is tested, and whether the

@@ -2,13 +2,13 @@
 
 ghost use Rattle.std.specs.Prelude.{◌≡◌, ◌<◌, ◌≤◌, ◌-◌, ◌^◌, IfOk, length, map};
 ghost use Rattle.std.specs.List.{filter};
-ghost use Rattle.agg_laws.specs.Docs.{doc_at};
-ghost use Rattle.agg_laws.specs.Picks.{holds_from};
+ghost use Rattle.state_columns.specs.Docs.{doc_at};
+ghost use Rattle.tree_laws.specs.Picks.{holds_from};
 ghost use Rattle.star_walk.specs.Walking.{task_of, HasEach};
 
 use crate::NoMemory;
 use crate::task::Task;
-use agg_laws::StarTable;
+use document_table::StarTable;
 use std::alloc::Global;
 use values::Seq;
 

@@ -1,16 +1,18 @@
 //! The walk through the nodes of a star-tree.
 
 ghost use Rattle.std.specs.Prelude.{◌≡◌, ◌≢◌, ◌<◌, ◌≤◌, ◌+◌, ◌-◌, ◌++◌, length, IfOk, OnOk, false};
-ghost use Rattle.agg_laws.specs.Flat.{range, node_at};
-ghost use Rattle.agg_laws.specs.Picks.{quiet};
+ghost use Rattle.state_columns.specs.Region.{range};
+ghost use Rattle.tree_laws.specs.Flat.{node_at};
+ghost use Rattle.tree_laws.specs.Picks.{quiet};
 ghost use Rattle.star_walk.specs.Walking.{task_of, HasEach, AreWalkable, has_star_among, kids_of};
 ghost use Rattle.star_walk.specs.Walking.{taken, node_picks, tree_picks, whole_pick, leaf_pick};
 
 use crate::NoMemory;
 use crate::pick::{Pick, Picks};
 use crate::task::Task;
-use agg_laws::{Node, STAR};
+use state_columns::STAR;
 use std::alloc::Global;
+use tree_laws::Node;
 
 /// The documents that a query reads of a tree, where there are as many dimensions as the task has
 /// entries.

@@ -3,8 +3,8 @@ use Rattle.std.proofs.Common.{length-append}
 use Rattle.agg_laws.specs.declared.aggregate_kind.AggKind.{AggKind}
 use Rattle.agg_laws.specs.Rows.{row_weight}
 use Rattle.agg_laws.specs.Merged.{weights}
-use Rattle.agg_laws.specs.Docs.{Doc, Docs}
-use Rattle.agg_laws.proofs.WeightLemmas.{weights-append}
+use Rattle.state_columns.specs.Docs.{Doc, Docs}
+use Rattle.state_columns.proofs.WeightLemmas.{weights-append}
 use Rattle.bench_star.proofs.fill.Goals as goal
 
 -- one more document, of one value

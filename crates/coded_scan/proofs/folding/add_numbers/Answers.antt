@@ -2,7 +2,7 @@ use Rattle.std.proofs.Common.{◌≡◌, ◌∙◌, ◌<◌, ◌+◌, ◌++◌, 
 use Rattle.std.proofs.lemmas.Int.{to_z-of_z}
 use Rattle.std.proofs.lemmas.List.{length-map, length-take-le, take_all, take_more}
 use Rattle.agg_laws.specs.declared.aggregate_kind.AggKind.{AggKind}
-use Rattle.agg_laws.specs.Columns.{Column}
+use Rattle.state_columns.specs.Columns.{Column}
 use Rattle.agg_laws.specs.Numbers.{AreWhole, IsWhole}
 use Rattle.coded_scan.specs.Slots.{HoldsSlots, number_at}
 use Rattle.coded_scan.proofs.FoldSteps.{holds-more, holds-none, map-next, one-fits, whole-push}

@@ -1,7 +1,7 @@
 use Rattle.std.proofs.Common.{◌≡◌, ℕ, List, length, take, ◌+◌, sym, subst, rules}
 use Rattle.std.specs.List.{All}
 use Rattle.std.proofs.lemmas.List.Elements.{All-push}
-use Rattle.agg_laws.specs.Columns.{Column, row_at}
+use Rattle.state_columns.specs.Columns.{Column, row_at}
 use Rattle.agg_laws.specs.Rows.{RowFits}
 use Rattle.group_table.specs.Groups.{states_of}
 use Rattle.scan_engine.specs.Places.{rows_at}

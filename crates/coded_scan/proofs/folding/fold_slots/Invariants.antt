@@ -1,6 +1,6 @@
 use Rattle.std.proofs.Common.{◌≡◌, ◌<◌, ℕ, length, take}
 use Rattle.std.specs.List.{All}
-use Rattle.agg_laws.specs.Columns.{row_at}
+use Rattle.state_columns.specs.Columns.{row_at}
 use Rattle.agg_laws.specs.Rows.{RowFits}
 use Rattle.group_table.specs.Groups.{states_of}
 use Rattle.scan_engine.specs.Places.{rows_at}

@@ -1,7 +1,7 @@
 use Rattle.std.proofs.Common.{◌≡◌, ◌∙◌, All, length, map, refl, sym, ap, subst, arith}
 use Rattle.star_rows.specs.Columns as records
 use Rattle.star_rows.specs.Columns.{row_count}
-use Rattle.agg_laws.specs.Docs.{projected}
+use Rattle.state_columns.specs.Docs.{projected}
 use Rattle.agg_laws.specs.Rows.{merged_rows}
 use Rattle.agg_laws.specs.Tree.{merged_docs}
 use Rattle.table_schema.specs.declared.query.Agg.{Agg}

@@ -3,7 +3,7 @@ use Rattle.outside.proofs.ReadLemmas.{on-err}
 use Rattle.agg_laws.specs.Numbers.{most_values}
 use Rattle.agg_laws.specs.Merged.{weights}
 use Rattle.agg_laws.specs.Rows.{row_weight}
-use Rattle.agg_laws.specs.declared.star_table.StarTable.{StarTable}
+use Rattle.document_table.specs.declared.star_table.StarTable.{StarTable}
 use Rattle.group_table.specs.Kept.{groups_in}
 use Rattle.scan_engine.proofs.AddLemmas.{at_most_more}
 use Rattle.star_walk.specs.Images.{AreWithin, read_of}

@@ -1,5 +1,5 @@
 use Rattle.star_answer.proofs.CoveredRows.{covered_row, own_ids, own_no_star, values_row}
-use Rattle.agg_laws.specs.Docs.{projected}
+use Rattle.state_columns.specs.Docs.{projected}
 use Rattle.star_answer.proofs.laws.covered_law.Goals as goal
 
 pub returns-clause-rows : goal.returns-clause-rows

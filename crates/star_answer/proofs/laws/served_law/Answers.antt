@@ -1,7 +1,7 @@
-use Rattle.agg_laws.specs.Picks.{picks}
+use Rattle.tree_laws.specs.Picks.{picks}
 use Rattle.agg_laws.specs.Rows.{merged_rows}
 use Rattle.agg_laws.specs.Tree.{tree_of}
-use Rattle.agg_laws.specs.Docs.{projected}
+use Rattle.state_columns.specs.Docs.{projected}
 use Rattle.star_walk.proofs.TreePicks.{same}
 use Rattle.star_taking.specs.Answers.{asked_of}
 use Rattle.star_answer.proofs.ServedSteps.{own_ids, own_no_star, served_adds, served_fine, served_over}

@@ -1,8 +1,8 @@
 use Rattle.std.proofs.Common.{◌∙◌, ◌<◌, ◌≤◌, List, length, ap, sym, subst, arith}
 use Rattle.agg_laws.specs.declared.states.AggState.{AggState}
 use Rattle.agg_laws.specs.Rows.{RowFits, kinds_of, row_weight}
-use Rattle.agg_laws.specs.Docs.{doc_at}
-use Rattle.agg_laws.proofs.RegionSteps.{shape_at, stored_at}
+use Rattle.state_columns.specs.Docs.{doc_at}
+use Rattle.state_columns.proofs.RegionSteps.{shape_at, stored_at}
 use Rattle.group_table.specs.Kept.{HaveValues}
 use Rattle.scan_engine.proofs.AddLemmas.{merged_within}
 use Rattle.scan_engine.proofs.RunLemmas.{same_fault}

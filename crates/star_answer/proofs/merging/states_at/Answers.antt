@@ -3,9 +3,9 @@ use Rattle.std.proofs.Math.Seq.{take-length}
 use Rattle.std.proofs.lemmas.List.{take_more}
 use Rattle.std.proofs.lemmas.Option.{get_or_from_slice_get}
 use Rattle.agg_laws.specs.declared.states.AggState.{AggState}
-use Rattle.agg_laws.specs.Docs.{doc_at}
-use Rattle.agg_laws.proofs.Places.{length-kinds_of}
-use Rattle.agg_laws.proofs.RegionSteps.{shape_at}
+use Rattle.state_columns.specs.Docs.{doc_at}
+use Rattle.state_columns.proofs.RowPlaces.{length-kinds_of}
+use Rattle.state_columns.proofs.RegionSteps.{shape_at}
 use Rattle.star_answer.proofs.merging.states_at.Goals as goal
 
 pub overflow_cast-pair : goal.overflow_cast-pair

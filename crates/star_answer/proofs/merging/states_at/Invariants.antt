@@ -1,5 +1,5 @@
 use Rattle.std.proofs.Common.{◌≡◌, take}
-use Rattle.agg_laws.specs.Docs.{doc_at}
+use Rattle.state_columns.specs.Docs.{doc_at}
 use Rattle.star_answer.proofs.merging.states_at.Given as goal
 
 abbrev pub invariant-loop-pair : goal.invariant-loop-pair

@@ -5,14 +5,14 @@ use Rattle.std.specs.declared.result.Result.TheVariants.{Ok, Err}
 use Rattle.std.proofs.lemmas.Result.{IfOk-weaker}
 use Rattle.agg_laws.specs.Rows.{merged_rows}
 use Rattle.agg_laws.specs.Tree.{root_of, tree_of}
-use Rattle.agg_laws.specs.Docs.{Doc, HaveIds, HaveShape}
-use Rattle.agg_laws.specs.Flat.{flat, FlatAt}
+use Rattle.state_columns.specs.Docs.{Doc, HaveIds, HaveShape}
+use Rattle.tree_laws.specs.Flat.{flat, FlatAt}
 use Rattle.star_file.specs.Rules.{most_bytes}
-use Rattle.agg_laws.proofs.DocLemmas.{rows_join}
-use Rattle.agg_laws.proofs.TreeLemmas.{tree_covers}
-use Rattle.agg_laws.proofs.ShareLemmas.{tree_shares}
-use Rattle.agg_laws.proofs.FlatTrees.{tree_flat}
-use Rattle.agg_laws.proofs.FlatNodes.{merged_some, merged_fewer}
+use Rattle.state_columns.proofs.DocLemmas.{rows_join}
+use Rattle.tree_laws.proofs.TreeLemmas.{tree_covers}
+use Rattle.tree_laws.proofs.ShareLemmas.{tree_shares}
+use Rattle.tree_laws.proofs.FlatTrees.{tree_flat}
+use Rattle.state_columns.proofs.ListLemmas.{merged_some, merged_fewer}
 use Rattle.star_builder.specs.Building.{Written, Proper, bytes_of}
 use Rattle.star_builder.proofs.Children.{merged_proper, have_ids}
 use Rattle.star_builder.proofs.build.build_tree.Goals as goal

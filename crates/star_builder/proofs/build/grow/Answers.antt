@@ -1,8 +1,8 @@
 use Rattle.std.proofs.Common.{◌≡◌, ◌+◌, ◌*◌, ◌<◌, ◌≤◌, ◌∷◌, [], List, length, ap, subst, ◌∙◌, arith}
 use Rattle.std.proofs.Common.{rules, Err}
-use Rattle.agg_laws.specs.declared.node.Node.{Node}
+use Rattle.tree_laws.specs.declared.node.Node.{Node}
 use Rattle.agg_laws.specs.Tree.{star}
-use Rattle.agg_laws.specs.Flat.{blank}
+use Rattle.tree_laws.specs.Flat.{blank}
 use Rattle.star_file.specs.Rules.{most_bytes, widths}
 use Rattle.star_builder.specs.declared.fault.TreeFault.TheVariants.{TooLarge}
 use Rattle.star_builder.specs.Building.{Written, bytes_of}

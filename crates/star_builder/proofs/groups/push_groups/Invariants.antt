@@ -1,5 +1,5 @@
 use Rattle.std.proofs.Common.{◌-◌, ◌≡◌, ◌≤◌, ◌++◌}
-use Rattle.agg_laws.specs.Flat.{range}
+use Rattle.state_columns.specs.Region.{range}
 use Rattle.star_builder.specs.Building.{Rising, Ordinary, group_nodes}
 use Rattle.star_builder.proofs.groups.push_groups.Given as goal
 

@@ -3,8 +3,8 @@ use Rattle.std.proofs.lemmas.Result.{IfOk-weaker}
 use Rattle.agg_laws.specs.Rows.{merged_rows}
 use Rattle.agg_laws.specs.Merged.{rekey}
 use Rattle.agg_laws.specs.Tree.{set_star}
-use Rattle.agg_laws.specs.Flat.{range}
-use Rattle.agg_laws.proofs.FlatNodes.{length-rekey, merged_fewer}
+use Rattle.state_columns.specs.Region.{range}
+use Rattle.state_columns.proofs.ListLemmas.{length-rekey, merged_fewer}
 use Rattle.star_builder.proofs.Steps.{length-range}
 use Rattle.star_builder.proofs.growth.add_starred.Goals as goal
 

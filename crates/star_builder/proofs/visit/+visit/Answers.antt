@@ -1,7 +1,7 @@
 use Rattle.std.proofs.Common.{rules, ◌≡◌, ◌<◌, ◌≤◌, ◌+◌, ◌-◌, ◌*◌, OnOk, length, vec_len, sym, ◌∙◌}
 use Rattle.std.proofs.Common.{subst, arith}
 use Rattle.agg_laws.specs.Rows.{merged_rows}
-use Rattle.agg_laws.specs.Flat.{visited}
+use Rattle.tree_laws.specs.Flat.{visited}
 use Rattle.star_file.specs.Rules.{widths, most_bytes}
 use Rattle.star_builder.specs.Building.{Written, bytes_of, kids_in, visit_node}
 use Rattle.star_builder.proofs.Visits.{leaf_visit, Split, After, facts, over_limit, below_dims}

@@ -1,6 +1,6 @@
 use Rattle.std.proofs.Common.{◌≡◌, ◌+◌, ◌-◌, ◌*◌, ◌≤◌, length}
 use Rattle.agg_laws.specs.Rows.{merged_rows}
-use Rattle.agg_laws.specs.Flat.{visited}
+use Rattle.tree_laws.specs.Flat.{visited}
 use Rattle.star_file.specs.Rules.{most_bytes}
 use Rattle.star_builder.specs.Building.{Written, bytes_of, kids_in, drop_kids, Standing}
 use Rattle.star_builder.proofs.visit.+visit.Given as goal

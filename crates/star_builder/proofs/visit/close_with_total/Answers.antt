@@ -1,7 +1,7 @@
 use Rattle.std.proofs.Common.{subst, sym, List}
-use Rattle.agg_laws.specs.Docs.{Doc}
-use Rattle.agg_laws.specs.Flat.{range}
-use Rattle.agg_laws.specs.Documents.{AreAlike}
+use Rattle.state_columns.specs.Docs.{Doc}
+use Rattle.state_columns.specs.Region.{range}
+use Rattle.state_columns.specs.Documents.{AreAlike}
 use Rattle.star_builder.proofs.Children.{alike_docs}
 use Rattle.star_builder.proofs.visit.close_with_total.Goals as goal
 

@@ -1,8 +1,8 @@
 use Rattle.std.proofs.Common.{◌≡◌, ◌+◌, ◌-◌, ◌*◌, ◌≤◌, ◌++◌, ◌∷◌, [], List, ℕ, length, take, drop}
 use Rattle.std.proofs.Common.{ap, sym, subst, ◌∙◌, arith, Err}
 use Rattle.star_file.specs.declared.docs_fault.DocsFault.TheVariants.{BadDocs}
-use Rattle.agg_laws.specs.Docs.{Doc}
-use Rattle.agg_laws.proofs.RegionLemmas.{room_in}
+use Rattle.state_columns.specs.Docs.{Doc}
+use Rattle.state_columns.proofs.RegionLemmas.{room_in}
 use Rattle.star_file.specs.Reading.{doc_width, SpellsDoc}
 use Rattle.star_file.proofs.DocSteps as steps
 use Rattle.star_file.proofs.doc_reading.docs_from.Goals as goal

@@ -1,5 +1,5 @@
 use Rattle.std.proofs.Common.{ℕ, ◌<◌}
-use Rattle.agg_laws.specs.NodeRules.{KeepsRules}
+use Rattle.tree_laws.specs.NodeRules.{KeepsRules}
 use Rattle.star_file.proofs.rules.each_keeps.Given as goal
 
 abbrev pub invariant-loop-at : goal.invariant-loop-at

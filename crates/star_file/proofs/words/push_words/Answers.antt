@@ -1,5 +1,5 @@
 use Rattle.std.proofs.Common.{◌∷◌, [], get_or}
-use Rattle.agg_laws.proofs.RegionLemmas.{any_default}
+use Rattle.state_columns.proofs.RegionLemmas.{any_default}
 use Rattle.star_file.specs.Bytes.{words}
 use Rattle.star_file.proofs.Written as steps
 use Rattle.star_file.proofs.words.push_words.Goals as goal

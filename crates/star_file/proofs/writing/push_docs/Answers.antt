@@ -1,6 +1,6 @@
 use Rattle.std.proofs.Common.{◌<◌, ◌++◌, [], length, arith, refl}
-use Rattle.agg_laws.specs.Docs.{Doc, doc_at}
-use Rattle.agg_laws.proofs.RegionLemmas.{any_default}
+use Rattle.state_columns.specs.Docs.{Doc, doc_at}
+use Rattle.state_columns.proofs.RegionLemmas.{any_default}
 use Rattle.star_file.specs.Bytes.{words, state_bytes, doc_bytes}
 use Rattle.star_file.proofs.Written as steps
 use Rattle.star_file.proofs.writing.push_docs.Goals as goal

@@ -1,8 +1,8 @@
 use Rattle.std.proofs.Common.{◌≡◌, ◌<◌, ◌∷◌, [], length, ◌∙◌, arith}
 use Rattle.agg_laws.specs.Tree.{star}
-use Rattle.agg_laws.specs.Docs.{doc_at}
-use Rattle.agg_laws.proofs.RegionLemmas.{any_default}
-use Rattle.agg_laws.proofs.RegionSteps.{shape_at}
+use Rattle.state_columns.specs.Docs.{doc_at}
+use Rattle.state_columns.proofs.RegionLemmas.{any_default}
+use Rattle.state_columns.proofs.RegionSteps.{shape_at}
 use Rattle.star_file.specs.Bytes.{words}
 use Rattle.star_file.proofs.Written as steps
 use Rattle.star_file.proofs.writing.push_ids.Goals as goal

@@ -1,5 +1,5 @@
 use Rattle.std.proofs.Common.{◌≡◌, ◌++◌, take}
-use Rattle.agg_laws.specs.Docs.{doc_at}
+use Rattle.state_columns.specs.Docs.{doc_at}
 use Rattle.star_file.specs.Bytes.{words}
 use Rattle.star_file.proofs.writing.push_ids.Given as goal
 

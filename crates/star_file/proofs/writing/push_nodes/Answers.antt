@@ -1,6 +1,6 @@
 use Rattle.std.proofs.Common.{◌<◌, ◌++◌, ◌∷◌, [], length, refl}
-use Rattle.agg_laws.specs.declared.node.Node.{Node}
-use Rattle.agg_laws.proofs.RegionLemmas.{any_default}
+use Rattle.tree_laws.specs.declared.node.Node.{Node}
+use Rattle.state_columns.proofs.RegionLemmas.{any_default}
 use Rattle.star_file.specs.Bytes.{words, node_words, node_bytes}
 use Rattle.star_file.proofs.Written as steps
 use Rattle.star_file.proofs.writing.push_nodes.Goals as goal

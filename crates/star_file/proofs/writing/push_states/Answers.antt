@@ -1,9 +1,9 @@
 use Rattle.std.proofs.Common.{◌≡◌, ◌<◌, length, sym, ap, ◌∙◌, arith, refl}
 use Rattle.std.proofs.lemmas.Option.{get_or_from_slice_get}
 use Rattle.agg_laws.specs.States.{spelling}
-use Rattle.agg_laws.specs.Docs.{doc_at}
-use Rattle.agg_laws.proofs.Places.{length-kinds_of}
-use Rattle.agg_laws.proofs.RegionSteps.{shape_at, stored_at}
+use Rattle.state_columns.specs.Docs.{doc_at}
+use Rattle.state_columns.proofs.RowPlaces.{length-kinds_of}
+use Rattle.state_columns.proofs.RegionSteps.{shape_at, stored_at}
 use Rattle.star_file.specs.Bytes.{state_bytes}
 use Rattle.star_file.proofs.Written as steps
 use Rattle.star_file.proofs.writing.push_states.Goals as goal

@@ -1,5 +1,5 @@
 use Rattle.std.proofs.Common.{◌≡◌, ◌++◌, take}
-use Rattle.agg_laws.specs.Docs.{doc_at}
+use Rattle.state_columns.specs.Docs.{doc_at}
 use Rattle.star_file.specs.Bytes.{state_bytes}
 use Rattle.star_file.proofs.writing.push_states.Given as goal
 

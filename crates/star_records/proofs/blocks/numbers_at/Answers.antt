@@ -1,6 +1,6 @@
 use Rattle.std.proofs.Common.{◌∙◌, ◌++◌, ◌∷◌, ◌<◌, ◌≤◌, [], List, ℤ, length, sym, subst, ap, arith}
 use Rattle.std.proofs.lemmas.List.{take_all}
-use Rattle.agg_laws.proofs.RegionLemmas.{any_default}
+use Rattle.state_columns.proofs.RegionLemmas.{any_default}
 use Rattle.star_records.specs.Folding.{picked, AllZero}
 use Rattle.star_rows.specs.Numbers.{numbers_of}
 use Rattle.star_records.proofs.BlockSteps as steps

@@ -1,5 +1,5 @@
 use Rattle.std.proofs.Common.{◌≡◌, ◌∙◌, ◌+◌, ◌<◌, ◌∷◌, [], length, ap, arith, length-append}
-use Rattle.agg_laws.proofs.RegionLemmas.{any_default}
+use Rattle.state_columns.proofs.RegionLemmas.{any_default}
 use Rattle.star_rows.specs.Numbers.{numbers_of}
 use Rattle.star_records.proofs.BlockSteps as steps
 use Rattle.star_records.proofs.blocks.zero_columns.Goals as goal

@@ -1,6 +1,6 @@
 use Rattle.std.proofs.Common.{◌≡◌, ◌≤◌, ◌++◌, ◌∷◌, [], List, pos, ap, subst, ◌∙◌}
 use Rattle.agg_laws.specs.declared.aggregate_kind.AggKind.{AggKind}
-use Rattle.agg_laws.specs.Docs.{Docs}
+use Rattle.state_columns.specs.Docs.{Docs}
 use Rattle.agg_laws.specs.Rows.{row_of, row_weight}
 use Rattle.star_rows.specs.Columns.{row_at}
 use Rattle.star_rows.proofs.RowLemmas as rows

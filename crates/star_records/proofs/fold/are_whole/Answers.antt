@@ -2,7 +2,7 @@ use Rattle.std.proofs.Common.{◌≡◌, ◌+◌, suc, take, get_or, length, sub
 use Rattle.std.proofs.Common.{FitsSigned, w64, pos}
 use Rattle.std.proofs.Math.Seq.{take-length}
 use Rattle.agg_laws.specs.Numbers.{AreWhole}
-use Rattle.agg_laws.proofs.ValueSteps.{whole_more}
+use Rattle.state_columns.proofs.ValueSteps.{whole_more}
 use Rattle.star_records.proofs.fold.are_whole.Goals as goal
 
 pub loop-i-preserved : goal.loop-i-preserved

@@ -1,5 +1,5 @@
 use Rattle.std.proofs.Common.{◌≡◌, ℕ, ◌+◌, ◌-◌, ◌<◌, ◌≤◌, ◌++◌, ◌∷◌, [], List, All, get_or, length, pos, refl, sym, ap, subst, ◌∙◌, arith, length-append}
-use Rattle.agg_laws.specs.Docs.{Docs}
+use Rattle.state_columns.specs.Docs.{Docs}
 use Rattle.agg_laws.specs.Rows.{merged_rows, row_of, row_weight}
 use Rattle.star_rows.specs.Columns.{row_at, row_count}
 use Rattle.star_records.specs.Folding.{picked}

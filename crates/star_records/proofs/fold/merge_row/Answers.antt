@@ -1,11 +1,11 @@
 use Rattle.std.proofs.Common.{◌≡◌, ◌++◌, ◌∷◌, [], length, pos, sym, ap, subst, ◌∙◌, arith}
-use Rattle.agg_laws.specs.Docs.{Docs}
+use Rattle.state_columns.specs.Docs.{Docs}
 use Rattle.agg_laws.specs.Merged.{weights}
 use Rattle.agg_laws.specs.Numbers.{AreWhole}
 use Rattle.agg_laws.specs.Rows.{merged_rows, row_of, row_weight}
 use Rattle.agg_laws.specs.laws.Rows.{row_weight_least}
-use Rattle.agg_laws.proofs.ValueSteps.{fits_row}
-use Rattle.agg_laws.proofs.WeightLemmas.{weights-append}
+use Rattle.state_columns.proofs.ValueSteps.{fits_row}
+use Rattle.state_columns.proofs.WeightLemmas.{weights-append}
 use Rattle.star_rows.specs.Columns.{row_at}
 use Rattle.star_rows.proofs.RowLemmas as rows
 use Rattle.star_records.proofs.FoldSteps.{parts}

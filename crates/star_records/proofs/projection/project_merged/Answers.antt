@@ -1,11 +1,11 @@
 use Rattle.std.proofs.Common.{length, ap, ◌∙◌, arith}
 use Rattle.std.proofs.lemmas.Result.{IfOk-weaker}
-use Rattle.agg_laws.specs.Docs.{Docs}
+use Rattle.state_columns.specs.Docs.{Docs}
 use Rattle.agg_laws.specs.Merged.{weights}
 use Rattle.agg_laws.specs.Rows.{merged_rows, row_weight}
 use Rattle.agg_laws.specs.laws.Rows.{row_weight_both}
 use Rattle.agg_laws.specs.Tree.{dims_order, merged_docs}
-use Rattle.agg_laws.proofs.WeightLemmas.{weights-Merged}
+use Rattle.state_columns.proofs.WeightLemmas.{weights-Merged}
 use Rattle.star_rows.specs.Columns.{row_count}
 use Rattle.star_records.proofs.FoldSteps.{fewer}
 use Rattle.star_records.proofs.projection.project_merged.Goals as goal

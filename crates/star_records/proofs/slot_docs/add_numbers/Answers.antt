@@ -4,7 +4,7 @@ use Rattle.std.specs.Int.{cast_signed, cast_unsigned}
 use Rattle.std.proofs.lemmas.Int.{to_z-of_z}
 use Rattle.std.proofs.lemmas.List.{length-take-le, take_more}
 use Rattle.agg_laws.specs.declared.aggregate_kind.AggKind.{AggKind}
-use Rattle.agg_laws.specs.Columns.{Column}
+use Rattle.state_columns.specs.Columns.{Column}
 use Rattle.agg_laws.specs.Numbers.{AreWhole, IsWhole}
 use Rattle.agg_laws.specs.laws.NumberBytes.{whole_64}
 use Rattle.star_records.specs.Slots.{HoldsSlots}

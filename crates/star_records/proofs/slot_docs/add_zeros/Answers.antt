@@ -2,7 +2,7 @@ use Rattle.std.proofs.Common.{◌≡◌, ◌∙◌, ◌<◌, ◌+◌, ◌++◌, 
 use Rattle.std.proofs.Common.{sym, subst, arith, pos, replicate}
 use Rattle.std.proofs.lemmas.List.{length-replicate, length-take-le, take_more}
 use Rattle.agg_laws.specs.declared.aggregate_kind.AggKind.{AggKind}
-use Rattle.agg_laws.specs.Columns.{Column}
+use Rattle.state_columns.specs.Columns.{Column}
 use Rattle.star_records.specs.Slots.{HoldsSlots}
 use Rattle.star_records.proofs.SlotDocs as steps
 use Rattle.star_records.proofs.slot_docs.add_zeros.Goals as goal

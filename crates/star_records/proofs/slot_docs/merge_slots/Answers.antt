@@ -2,10 +2,9 @@ use Rattle.std.proofs.Common.{◌≡◌, ◌∙◌, ◌+◌, ◌++◌, ◌∷◌
 use Rattle.std.proofs.Common.{suc, sym, subst, arith}
 use Rattle.std.proofs.lemmas.List.{map-append}
 use Rattle.agg_laws.specs.declared.aggregate_kind.AggKind.{AggKind}
-use Rattle.agg_laws.specs.Columns.{Column}
-use Rattle.agg_laws.specs.Columns.{row_at as columns_row}
-use Rattle.agg_laws.specs.Docs.{projected, Doc, Docs}
-use Rattle.agg_laws.specs.Region.{numbers_from}
+use Rattle.state_columns.specs.Columns.{Column, row_at as columns_row}
+use Rattle.state_columns.specs.Docs.{projected, Doc, Docs}
+use Rattle.state_columns.specs.Region.{numbers_from}
 use Rattle.agg_laws.specs.Rows.{kinds_of, merged_rows, row_of, RowStored}
 use Rattle.agg_laws.specs.Tree.{merged_docs}
 use Rattle.star_rows.specs.Columns.{row_at, row_count, rows_of}

@@ -1,5 +1,5 @@
 use Rattle.std.proofs.Common.{◌≡◌, map}
-use Rattle.agg_laws.specs.Region.{numbers_from}
+use Rattle.state_columns.specs.Region.{numbers_from}
 use Rattle.star_records.specs.Slots.{slot_doc}
 use Rattle.star_records.proofs.slot_docs.merge_slots.Given as goal
 

@@ -1,5 +1,5 @@
 use Rattle.std.proofs.Common.{◌≡◌, take}
-use Rattle.agg_laws.specs.Columns.{row_at}
+use Rattle.state_columns.specs.Columns.{row_at}
 use Rattle.star_records.proofs.slot_docs.read_states.Given as goal
 
 abbrev pub invariant-loop-column : goal.invariant-loop-column

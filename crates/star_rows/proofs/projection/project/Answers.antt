@@ -1,6 +1,6 @@
 use Rattle.std.proofs.Common.{◌<◌, ◌++◌, ◌∷◌, [], List, length, pos, refl, sym, ap, ◌∙◌}
 use Rattle.std.proofs.Common.{arith}
-use Rattle.agg_laws.specs.Docs.{Doc}
+use Rattle.state_columns.specs.Docs.{Doc}
 use Rattle.star_rows.specs.Columns.{row_count, row_at}
 use Rattle.star_rows.specs.Words.{ids_at, states_at}
 use Rattle.star_rows.proofs.RowLemmas as rows

@@ -1,7 +1,7 @@
 use Rattle.std.proofs.Common.{◌≡◌, ◌≤◌, length}
 use Rattle.agg_laws.specs.Rows.{row_weight}
 use Rattle.agg_laws.specs.Merged.{weights}
-use Rattle.agg_laws.specs.Docs.{projected}
+use Rattle.state_columns.specs.Docs.{projected}
 use Rattle.star_rows.specs.Columns.{rows_of}
 use Rattle.star_rows.proofs.projection.project.Given as goal
 

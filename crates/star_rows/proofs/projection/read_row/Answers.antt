@@ -1,6 +1,6 @@
 use Rattle.std.proofs.Common.{◌≡◌, ◌+◌, ◌<◌, ◌∷◌, [], suc, List, map, Some, take, slice_get, length}
 use Rattle.std.proofs.Common.{sym, ap, subst, ◌∙◌, arith, length-append}
-use Rattle.agg_laws.proofs.RegionLemmas.{any_default}
+use Rattle.state_columns.proofs.RegionLemmas.{any_default}
 use Rattle.star_rows.proofs.RowLemmas as rows
 use Rattle.star_rows.proofs.projection.read_row.Goals as goal
 

@@ -1,7 +1,7 @@
 use Rattle.std.proofs.Common.{◌≡◌, ◌∙◌, ◌+◌, ◌++◌, ◌∷◌, [], suc, pos, get_or, take, ap, sym, arith}
 use Rattle.std.proofs.lemmas.Option.{get_or_from_slice_get}
 use Rattle.values.specs.declared.value.Value.TheVariants.{Whole}
-use Rattle.agg_laws.specs.Docs.{doc_at}
+use Rattle.state_columns.specs.Docs.{doc_at}
 use Rattle.agg_laws.specs.Tree.{star}
 use Rattle.star_taking.specs.declared.asked.GroupColumn.{GroupColumn}
 use Rattle.star_taking.specs.Asked.{value_of}

@@ -1,5 +1,5 @@
 use Rattle.std.proofs.Common.{◌≡◌, take}
-use Rattle.agg_laws.specs.Docs.{doc_at}
+use Rattle.state_columns.specs.Docs.{doc_at}
 use Rattle.star_taking.specs.Taken.{key_values}
 use Rattle.star_taking.proofs.key.key_at.Given as goal
 

@@ -2,7 +2,7 @@ use Rattle.std.proofs.Common.{length}
 use Rattle.outside.specs.Seen.{seen}
 use Rattle.outside.proofs.ReadLemmas.{on-err}
 use Rattle.outside.proofs.SeenLemmas.{reads_after}
-use Rattle.agg_laws.specs.declared.star_table.StarTable.{StarTable}
+use Rattle.document_table.specs.declared.star_table.StarTable.{StarTable}
 use Rattle.star_file.specs.declared.docs_fault.DocsFault.{DocsFault}
 use Rattle.star_file.specs.declared.docs_fault.DocsFault.TheVariants as docs
 use Rattle.star_walk.specs.declared.pick.Pick.{Pick}

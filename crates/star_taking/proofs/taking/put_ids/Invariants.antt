@@ -1,5 +1,5 @@
 use Rattle.std.proofs.Common.{◌≡◌, ◌<◌, ℕ, get_or, length, take}
-use Rattle.agg_laws.specs.Docs.{doc_at}
+use Rattle.state_columns.specs.Docs.{doc_at}
 use Rattle.agg_laws.specs.Tree.{dim}
 use Rattle.star_taking.specs.declared.asked.GroupColumn.{GroupColumn}
 use Rattle.star_taking.specs.Taken.{key_ids}

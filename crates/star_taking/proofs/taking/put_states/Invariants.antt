@@ -1,5 +1,5 @@
 use Rattle.std.proofs.Common.{◌≡◌, take}
-use Rattle.agg_laws.specs.Docs.{doc_at}
+use Rattle.state_columns.specs.Docs.{doc_at}
 use Rattle.star_taking.specs.Asked.{states_of}
 use Rattle.star_taking.proofs.taking.put_states.Given as goal
 

@@ -1,6 +1,6 @@
 use Rattle.std.proofs.Common.{◌≡◌, ◌<◌, ◌-◌, ◌+◌, ◌++◌, length, sym, ap, ◌∙◌, arith}
-use Rattle.agg_laws.specs.Docs.{doc_at}
-use Rattle.agg_laws.specs.Groups.{key_from}
+use Rattle.state_columns.specs.Docs.{doc_at}
+use Rattle.tree_laws.specs.Groups.{key_from}
 use Rattle.star_walk.specs.Walking.{task_of}
 use Rattle.star_walk.proofs.KeySteps.{key_passed, key_put, key_done, key_whole}
 use Rattle.star_walk.proofs.keys.key_of.Goals as goal

@@ -1,6 +1,6 @@
 use Rattle.std.proofs.Common.{◌<◌, ◌-◌, Bool, length, map, ap, sym, ◌∙◌, arith}
-use Rattle.agg_laws.specs.Docs.{Doc, doc_at}
-use Rattle.agg_laws.specs.Picks.{holds_from}
+use Rattle.state_columns.specs.Docs.{Doc, doc_at}
+use Rattle.tree_laws.specs.Picks.{holds_from}
 use Rattle.star_walk.specs.Walking.{task_of}
 use Rattle.star_walk.proofs.TestSteps.{doc_passed, doc_kept}
 use Rattle.star_walk.proofs.testing.passing.Goals as goal

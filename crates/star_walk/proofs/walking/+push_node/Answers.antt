@@ -1,8 +1,9 @@
 use Rattle.std.proofs.Common.{◌≡◌, ◌<◌, ◌≤◌, ◌+◌, ◌-◌, ◌++◌, OnOk, length, false, sym, ap, subst}
 use Rattle.std.proofs.Common.{◌∙◌, arith, append_assoc}
 use Rattle.std.proofs.lemmas.Bool.{ne_eqb}
-use Rattle.agg_laws.specs.Flat.{range, node_at}
-use Rattle.agg_laws.specs.Picks.{is_taken}
+use Rattle.state_columns.specs.Region.{range}
+use Rattle.tree_laws.specs.Flat.{node_at}
+use Rattle.tree_laws.specs.Picks.{is_taken}
 use Rattle.star_walk.specs.Walking.{task_of, has_star_among, kids_of, taken, node_picks}
 use Rattle.star_walk.proofs.WalkSteps.{picks_split, kid_passed, kid_taken}
 use Rattle.star_walk.proofs.walking.+push_node.Goals as goal

@@ -1,5 +1,6 @@
 use Rattle.std.proofs.Common.{◌≡◌, ◌+◌, ◌-◌, ◌*◌, ◌++◌, length}
-use Rattle.agg_laws.specs.Flat.{range, node_at}
+use Rattle.state_columns.specs.Region.{range}
+use Rattle.tree_laws.specs.Flat.{node_at}
 use Rattle.star_walk.specs.Walking.{task_of, taken, node_picks, has_star_among, kids_of}
 use Rattle.star_walk.proofs.walking.+push_node.Given as goal
 

@@ -1,6 +1,6 @@
 use Rattle.std.proofs.Common.{◌≡◌, ◌∙◌, [], ◌∷◌, ap}
 use Rattle.agg_laws.specs.Rows.{row_of}
-use Rattle.agg_laws.proofs.ValueSteps.{kinds_row}
+use Rattle.state_columns.proofs.ValueSteps.{kinds_row}
 use Rattle.group_table.specs.Kept.{KeptGroups}
 use Rattle.group_table.proofs.KeptSteps as steps
 use Rattle.group_table.proofs.table.GroupTable.add_row.Goals as goal

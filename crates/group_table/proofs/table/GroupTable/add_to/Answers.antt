@@ -3,8 +3,8 @@ use Rattle.std.specs.FinMap as finite
 use Rattle.std.specs.Map.{lookup}
 use Rattle.agg_laws.specs.Numbers.{most_values}
 use Rattle.agg_laws.specs.Rows.{row_of, merged_rows, RowFits}
-use Rattle.agg_laws.proofs.ValueSteps.{kinds_row}
-use Rattle.agg_laws.proofs.Places.{length-kinds_of}
+use Rattle.state_columns.proofs.ValueSteps.{kinds_row}
+use Rattle.state_columns.proofs.RowPlaces.{length-kinds_of}
 use Rattle.group_table.specs.Groups.{with_states}
 use Rattle.group_table.specs.Kept.{KeptGroups, groups_in, key_eq, Merges}
 use Rattle.group_table.specs.contracts.table.GroupTable.{the_view}

@@ -3,7 +3,7 @@ use Rattle.std.proofs.Common.{get_or, pos, rules, FitsSigned, w64, sym, ap, subs
 use Rattle.std.specs.Int.{cast_signed, cast_unsigned}
 use Rattle.std.proofs.lemmas.Int.{to_z-of_z}
 use Rattle.std.proofs.lemmas.Option.{get_or_from_slice_get}
-use Rattle.agg_laws.proofs.RegionLemmas.{any_default}
+use Rattle.state_columns.proofs.RegionLemmas.{any_default}
 use Rattle.star_rows.specs.Numbers.{numbers_of}
 use Rattle.star_rows.proofs.RowLemmas as rows
 use Rattle.star_rows.proofs.numbers.NumberColumns.read_row.Goals as goal

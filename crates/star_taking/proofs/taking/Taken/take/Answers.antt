@@ -1,5 +1,5 @@
 use Rattle.std.proofs.Common.{◌≡◌, ◌∙◌, sym, ap, subst, arith}
-use Rattle.agg_laws.specs.Docs.{doc_at}
+use Rattle.state_columns.specs.Docs.{doc_at}
 use Rattle.agg_laws.specs.Rows.{RowStored, kinds_of, row_weight}
 use Rattle.star_taking.specs.Asked.{states_of}
 use Rattle.star_taking.specs.Taken.{key_ids}

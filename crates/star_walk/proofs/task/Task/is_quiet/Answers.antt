@@ -1,5 +1,5 @@
 use Rattle.std.proofs.Common.{◌≡◌, ◌<◌, length, sym, ap, ◌∙◌, ◌-◌, arith}
-use Rattle.agg_laws.specs.Picks.{quiet}
+use Rattle.tree_laws.specs.Picks.{quiet}
 use Rattle.star_walk.specs.Walking.{task_of}
 use Rattle.star_walk.proofs.WalkSteps.{quiet_step, quiet_ends, quiet_none}
 use Rattle.star_walk.proofs.task.Task.is_quiet.Goals as goal

@@ -1,7 +1,0 @@
-use Rattle.std.proofs.Common.{◌≡◌}
-use Rattle.agg_laws.specs.Columns.{pushed}
-use Rattle.agg_laws.proofs.EachSteps.{stepped}
-use Rattle.agg_laws.proofs.column_list.push_states.Given as goal
-
-abbrev pub invariant-loop-i : goal.invariant-loop-i
-invariant-loop-i l = l.columns ≡ stepped pushed l.i l.initial.columns l.states

@@ -1,6 +1,0 @@
-use Rattle.std.proofs.Common.{◌≡◌, map, take}
-use Rattle.agg_laws.specs.Packing.{place}
-use Rattle.agg_laws.proofs.packing.places.Given as goal
-
-abbrev pub invariant-loop-word : goal.invariant-loop-word
-invariant-loop-word l = l.order.items ≡ map (place l.start) (take l.word-index l.words)

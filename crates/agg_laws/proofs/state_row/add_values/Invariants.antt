@@ -1,8 +1,0 @@
-use Rattle.std.proofs.Common.{◌≡◌, ◌∷◌, []}
-use Rattle.agg_laws.specs.Rows.{row_of, kinds_of}
-use Rattle.agg_laws.proofs.Places.{mixed}
-use Rattle.agg_laws.proofs.state_row.add_values.Given as goal
-
-abbrev pub invariant-loop-i : goal.invariant-loop-i
-invariant-loop-i l = l.states
-    ≡ mixed l.i l.initial.states (row_of (kinds_of l.initial.states) (l.values ∷ []))

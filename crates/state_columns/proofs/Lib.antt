@@ -1,0 +1,17 @@
+pub mod RowPlaces
+pub mod ListLemmas
+pub mod MergedLemmas
+pub mod WeightLemmas
+pub mod DocLemmas
+pub mod AggregatedLemmas
+pub mod RegionLemmas
+pub mod RegionSteps
+pub mod MergeSteps
+pub mod CompareSteps
+pub mod PackSteps
+pub mod PlaceMerge
+pub mod GroupSteps
+pub mod ValueSteps
+pub mod ColumnSteps
+pub mod EachSteps
+pub mod CopySteps

@@ -1,0 +1,13 @@
+pub mod TreeLemmas
+pub mod PickLemmas
+pub mod ReadLemmas
+pub mod GroupLemmas
+pub mod NodeLemmas
+pub mod PickDocs
+pub mod ShareLemmas
+pub mod AnswerLemmas
+pub mod Runs
+pub mod FlatLemmas
+pub mod FlatNodes
+pub mod FlatTrees
+pub mod RuleLemmas
