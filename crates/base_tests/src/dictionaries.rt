@@ -7,9 +7,11 @@ ghost use Rattle.dictionary.specs.Dictionary.{Fits, most_values};
 
 use crate::expect::Expectations;
 use crate::values_in_order::{many, text};
+use data_types::{FieldKind, Seq};
 use dictionary::{DictFault, Dictionary, IdSet};
 use std::alloc::{AllocError, Global};
-use values::{CompareOp, FieldKind, Seq, Test, Value, read_value};
+use value_columns::read_value;
+use values::{CompareOp, Test, Value};
 
 // A kind, the cells of a column, and the dictionary's bytes.
 type Spelled = (FieldKind, &'static [&'static str], &'static [u8]);

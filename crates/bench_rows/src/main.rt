@@ -12,10 +12,10 @@ use host_devices::FolderShelf;
 use outside::read_all;
 use schema_json::read_schema;
 use std::alloc::{AllocError, Global};
-use std::process::ExitCode;
 use std::{env, io};
+use std::process::ExitCode;
 use table_schema::{Field, Schema};
-use values::Columns;
+use value_columns::Columns;
 
 const SCHEMA_LIMIT: u64 = 1_048_576;
 

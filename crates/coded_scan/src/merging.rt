@@ -2,7 +2,7 @@
 
 ghost use Rattle.std.specs.Prelude.{◌≡◌, ◌≤◌, ◌<◌, ◌-◌, ℕ, Err, IfOk, OnOk, length};
 ghost use Rattle.std.specs.List.{All};
-ghost use Rattle.values.specs.Columns.{row_of};
+ghost use Rattle.value_columns.specs.Columns.{row_of};
 ghost use Rattle.agg_laws.specs.Columns.{row_at};
 ghost use Rattle.agg_laws.specs.Numbers.{most_values};
 ghost use Rattle.agg_laws.specs.Rows.{RowFits};
@@ -16,14 +16,15 @@ ghost use Rattle.scan_engine.specs.Scanned.{AddsRows, HaveAtMost, IsOverfull};
 ghost use Rattle.coded_scan.specs.Coded.{AreCoded, table_of};
 ghost use Rattle.coded_scan.specs.Slots.{AreSlots, in_slot};
 
+use agg_laws::{StateColumn, StateRow};
 use crate::coded::SegmentColumns;
 use crate::folding::fold_slots;
 use crate::slots::{Slots, slots_of};
-use agg_laws::{StateColumn, StateRow};
 use group_table::{GroupTable, TableFault};
 use std::alloc::Global;
 use table_schema::BoundQuery;
-use values::{NoMemory, Row, Value};
+use value_columns::Row;
+use values::{NoMemory, Value};
 
 /// Adds the rows in these places, of which there are some.
 pub fn add_places(

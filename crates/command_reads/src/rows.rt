@@ -4,7 +4,7 @@ ghost use Rattle.std.specs.FinMap as map;
 ghost use Rattle.std.specs.List.{All};
 ghost use Rattle.outside.specs.Counts.{Rose};
 ghost use Rattle.outside.specs.Seen.{seen};
-ghost use Rattle.values.specs.Columns.{rows_of};
+ghost use Rattle.value_columns.specs.Columns.{rows_of};
 ghost use Rattle.csv_row.specs.Row.{csv_limits};
 ghost use Rattle.csv_ingest.specs.Rows.{records_of, rows_in};
 ghost use Rattle.csv_ingest.specs.Unicode.{IsUnicode};
@@ -16,13 +16,14 @@ ghost use Rattle.command_words.specs.Notes.{csv_note};
 ghost use Rattle.command_reads.specs.Profile.{csv_limit};
 ghost use Rattle.command_reads.specs.Touched.{ReadsFront};
 
-use crate::input::{CSV_LIMIT, read_input};
 use command_words::{Counted, Fault, Note, Stop};
+use crate::input::{CSV_LIMIT, read_input};
 use csv_ingest::{CsvFault, read_columns};
 use outside::Shelf;
 use std::alloc::Global;
 use table_schema::{Field, Table};
-use values::{Columns, Value};
+use value_columns::Columns;
+use values::Value;
 
 /// The rows of a CSV file over the fields of a table, column by column.
 pub fn read_rows<I: Shelf>(

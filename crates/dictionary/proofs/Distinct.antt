@@ -20,7 +20,7 @@ use Rattle.values.specs.Order.{value_order, value_eq}
 use Rattle.values.specs.Order.Laws.{value_order-total, value_eq-ties, value_eq-equiv}
 use Rattle.values.proofs.Bounds.{same_value}
 use Rattle.values.specs.Tests.{is_member}
-use Rattle.values.specs.declared.kind.FieldKind.{FieldKind}
+use Rattle.data_types.specs.declared.kind.FieldKind.{FieldKind}
 use Rattle.dictionary.specs.Dictionary.{Ascends, Fits, IsDictionary, IsUnicode, most_values, put_in, distinct}
 
 pub cons_ascends : (v : Value) (vs : List Value) → AllByRecursion (λ w. value_order v w ≡ order.Less) vs → Ascends vs → Ascends (v ∷ vs)

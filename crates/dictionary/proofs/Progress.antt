@@ -9,7 +9,7 @@ use Rattle.std.specs.Option.{IfSome}
 use Rattle.std.specs.Ordering.{is_lt}
 use Rattle.std.specs.declared.cmp.Ordering.{Ordering}
 use Rattle.std.specs.declared.cmp.Ordering.TheVariants as order
-use Rattle.values.specs.declared.kind.FieldKind.{FieldKind}
+use Rattle.data_types.specs.declared.kind.FieldKind.{FieldKind}
 use Rattle.values.specs.declared.value.Value.{Value}
 use Rattle.values.specs.Order.{value_order}
 use Rattle.values.specs.Order.Laws.{value_order-total}

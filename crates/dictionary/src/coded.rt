@@ -5,8 +5,10 @@ ghost use Rattle.dictionary.specs.Coding.{AreAmong, AreBelow, Codes, Sees, renum
 ghost use Rattle.dictionary.specs.Dictionary.{Ascends, most_values};
 
 use crate::number_index::code_numbers;
+use data_types::{Name, TextPool};
 use std::alloc::{AllocError, Global};
-use values::{Column, Name, NoMemory, TextPool, Texts, Value};
+use value_columns::{Column, Texts};
+use values::{NoMemory, Value};
 
 /// Values of a column, as a rule each once, and for each row the place of its own among them.
 #[derive(Drop)]

@@ -11,10 +11,12 @@ ghost use Rattle.dictionary.specs.Ids.{has_id, matching, satisfies};
 use crate::IdSet;
 use crate::coded::{Coded, code_column, rank_places, ranks};
 use crate::matching::matching_ids;
+use data_types::{FieldKind, Seq};
 use indexmap::IndexSet;
 use std::alloc::Global;
 use std::marker::Model;
-use values::{Column, FieldKind, NoMemory, Seq, Test, Value, holds_value};
+use value_columns::Column;
+use values::{NoMemory, Test, Value, holds_value};
 
 /// The most values that a column has.
 pub const MOST_VALUES: usize = 1_048_576;

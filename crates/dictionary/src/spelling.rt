@@ -7,7 +7,8 @@ ghost use Rattle.dictionary.specs.Dictionary.{Distinct, Fits, IsDictionary, most
 ghost use Rattle.dictionary.specs.Spelling.{IsExtended, numbers, number_bytes, offsets, spelling, text_bytes, texts};
 
 use crate::Dictionary;
-use values::{FieldKind, NoMemory, Value};
+use data_types::FieldKind;
+use values::{NoMemory, Value};
 
 impl Dictionary {
     /// Appends the spelling.

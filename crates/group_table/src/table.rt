@@ -10,13 +10,14 @@ ghost use Rattle.group_table.specs.Groups.{with_states};
 ghost use Rattle.group_table.specs.Kept.{IsGroup, IsTable, IsNew, IsNewKey, Merges};
 ghost use Rattle.group_table.specs.Kept.{groups_in, group_at, HaveValues};
 
-use crate::fault::TableFault;
 use agg_laws::{AggState, Kinds, StateRow};
+use crate::fault::TableFault;
 use indexmap::IndexMap;
 use std::alloc::Global;
 use std::marker::Model;
 use table_schema::{Agg, BoundQuery};
-use values::{NoMemory, Row, copy_row};
+use value_columns::{Row, copy_row};
+use values::NoMemory;
 
 /// The groups of a query: to each key the aggregates of its rows. Each group has a place.
 #[derive(Drop)]

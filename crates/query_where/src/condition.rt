@@ -6,11 +6,12 @@ ghost use Rattle.query_where.specs.Faults.{Passes};
 ghost use Rattle.table_schema.specs.Firsts.{first_in};
 ghost use Rattle.values.specs.Kinds.{is_of};
 
-use crate::columns::kind_of;
 use crate::{BindFault, BindReason};
+use crate::columns::kind_of;
+use data_types::FieldKind;
 use query_tokens::{Cond, LiteralAt};
 use table_schema::Field;
-use values::{FieldKind, Value};
+use values::Value;
 
 /// The column of a test comes before its literals, and members of AND and OR as they are written.
 pub fn check_condition(fields: &[Field], condition: &Cond) -> Result<(), BindFault>

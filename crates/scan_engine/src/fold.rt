@@ -1,7 +1,7 @@
 //! The aggregates of some rows of a table of numbers, column by column.
 
 ghost use Rattle.std.specs.Prelude.{◌≡◌, ◌≤◌, ℕ, IfOk, get_or, length, map, pos};
-ghost use Rattle.values.specs.Columns.{row_of};
+ghost use Rattle.value_columns.specs.Columns.{row_of};
 ghost use Rattle.agg_laws.specs.Numbers.{IsWhole, most_values};
 ghost use Rattle.agg_laws.specs.Rows.{RowFits};
 ghost use Rattle.agg_laws.specs.States.{Fits, state_of};
@@ -9,11 +9,12 @@ ghost use Rattle.group_table.specs.Groups.{number_for, states_of};
 ghost use Rattle.scan_engine.specs.Numbers.{AreNumbers};
 ghost use Rattle.scan_engine.specs.Places.{rows_at};
 
-use crate::holds::numbers_of;
 use agg_laws::{AggKind, AggState, Aggregator, Average, Count, Greatest, Least, StateRow, Sum};
+use crate::holds::numbers_of;
 use std::alloc::Global;
 use table_schema::Agg;
-use values::{Columns, NoMemory};
+use value_columns::Columns;
+use values::NoMemory;
 
 /// The aggregates of the rows in these places.
 pub fn states_at(

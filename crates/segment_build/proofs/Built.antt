@@ -2,8 +2,8 @@
 use Rattle.std.proofs.Common.{◌≡◌, ◌<◌, ◌≤◌, ◌+◌, ◌^◌, ◌∙◌, ◌∷◌, ◌++◌, [], true, false, ℕ, List, Option, Some, Result, Ok, Err, IfOk, length, map, get_or, slice_get, sym, ap, subst, arith}
 use Rattle.std.specs.List.{All, concat}
 use Rattle.values.specs.declared.value.Value.{Value}
-use Rattle.values.specs.Columns.{Counts, Listed, ListedColumns, rows_of}
-use Rattle.values.proofs.RowLemmas.{length-rows}
+use Rattle.value_columns.specs.Columns.{Counts, Listed, ListedColumns, rows_of}
+use Rattle.value_columns.proofs.RowLemmas.{length-rows}
 use Rattle.table_schema.specs.ValidTable.{AreRows, IsRow, IsValidTable}
 use Rattle.table_schema.specs.declared.field.Field.{Field}
 use Rattle.table_schema.specs.declared.table.Table.{Table}

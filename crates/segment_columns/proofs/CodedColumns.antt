@@ -1,8 +1,8 @@
 -- The ids of the columns of a table, and their sections.
 use Rattle.std.proofs.Common.{◌≡◌, ◌<◌, ◌≤◌, ◌+◌, ◌∙◌, Bool, true, false, ℕ, List, Some, length, get_or, slice_get, sym, ap, subst, arith}
 use Rattle.values.specs.declared.value.Value.{Value}
-use Rattle.values.specs.Columns.{Counts, Listed, ListedColumns, rows_of}
-use Rattle.values.proofs.RowLemmas.{length-rows}
+use Rattle.value_columns.specs.Columns.{Counts, Listed, ListedColumns, rows_of}
+use Rattle.value_columns.proofs.RowLemmas.{length-rows}
 use Rattle.table_schema.specs.ValidTable.{IsValidTable}
 use Rattle.table_schema.specs.declared.field.Field.{Field}
 use Rattle.table_schema.specs.declared.table.Table.{Table}

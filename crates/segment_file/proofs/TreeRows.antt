@@ -7,8 +7,8 @@ use Rattle.std.proofs.lemmas.Bool.{false≢true}
 use Rattle.std.proofs.lemmas.Int.{ints}
 use Rattle.std.proofs.lemmas.List.{get_or-map, length-map}
 use Rattle.std.proofs.lemmas.List.Elements.{All-head, All-tail}
-use Rattle.values.specs.declared.kind.FieldKind.{FieldKind}
-use Rattle.values.specs.declared.kind.FieldKind.TheVariants as kind
+use Rattle.data_types.specs.declared.kind.FieldKind.{FieldKind}
+use Rattle.data_types.specs.declared.kind.FieldKind.TheVariants as kind
 use Rattle.values.specs.declared.value.Value.{Value}
 use Rattle.values.specs.declared.value.Value.TheVariants.{Whole, Text}
 use Rattle.values.specs.Kinds.{fits}

@@ -1,7 +1,7 @@
 -- The bounds of columns, as a file has them: the least and the greatest value of each.
 use Rattle.std.specs.Prelude.{◌≡◌, ◌≤◌, ℕ, List, [], ◌∷◌, ◌++◌, length, slice_index_or, zero, suc}
 use Rattle.std.specs.List.{AllZip, flat_map}
-use Rattle.values.specs.declared.kind.FieldKind.{FieldKind}
+use Rattle.data_types.specs.declared.kind.FieldKind.{FieldKind}
 use Rattle.values.specs.declared.value.Value.{Value}
 use Rattle.values.specs.declared.value.Value.TheVariants.{Whole, Text}
 use Rattle.table_schema.specs.declared.field.Field.{Field}

@@ -1,7 +1,7 @@
 -- The columns of a segment's rows: their values, and the number of each value among the distinct ones.
 use Rattle.std.specs.Prelude.{ℕ, suc, List, [], ◌∷◌, map, length, slice_get, Option, Some, None, if◌then◌else◌}
-use Rattle.values.specs.declared.kind.FieldKind.{FieldKind}
-use Rattle.values.specs.declared.kind.FieldKind.TheVariants.{Long}
+use Rattle.data_types.specs.declared.kind.FieldKind.{FieldKind}
+use Rattle.data_types.specs.declared.kind.FieldKind.TheVariants.{Long}
 use Rattle.values.specs.declared.value.Value.{Value}
 use Rattle.values.specs.Order.{value_eq}
 use Rattle.table_schema.specs.declared.field.Field.{Field}

@@ -4,10 +4,12 @@ ghost use Rattle.std.specs.Prelude.{◌≡◌, ◌<◌, ◌≤◌, IfOk, length}
 ghost use Rattle.agg_laws.specs.Docs.{doc_at};
 ghost use Rattle.star_taking.specs.Taken.{AreKeyIds, key_values};
 
-use crate::asked::GroupColumn;
 use agg_laws::StarTable;
+use crate::asked::GroupColumn;
+use data_types::Seq;
 use std::alloc::Global;
-use values::{NoMemory, Row, Seq};
+use value_columns::Row;
+use values::NoMemory;
 
 /// The key of a document that was taken: the values that its ids in the group columns stand for.
 pub fn key_at(

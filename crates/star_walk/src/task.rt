@@ -5,8 +5,8 @@ ghost use Rattle.agg_laws.specs.Picks.{quiet, is_taken};
 ghost use Rattle.star_walk.specs.Walking.{task_of, is_tested, passes, is_grouped, HasEach};
 
 use agg_laws::STAR;
+use data_types::Seq;
 use dictionary::IdSet;
-use values::Seq;
 
 /// The ids that pass the tests of each split dimension, where it is tested, and whether the
 /// dimension is grouped.

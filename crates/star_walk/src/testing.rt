@@ -6,11 +6,11 @@ ghost use Rattle.agg_laws.specs.Docs.{doc_at};
 ghost use Rattle.agg_laws.specs.Picks.{holds_from};
 ghost use Rattle.star_walk.specs.Walking.{task_of, HasEach};
 
+use agg_laws::StarTable;
 use crate::NoMemory;
 use crate::task::Task;
-use agg_laws::StarTable;
+use data_types::Seq;
 use std::alloc::Global;
-use values::Seq;
 
 /// The numbers of the documents of a table that pass the tests of their dimensions from a level on,
 /// ascending.

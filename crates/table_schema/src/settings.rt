@@ -1,8 +1,8 @@
 //! The settings of a table.
 
-use crate::Agg;
 use agg_laws::TreeShape;
-use values::{Name, Seq};
+use crate::Agg;
+use data_types::{Name, Seq};
 
 /// What a star-tree keeps of a group of rows.
 pub type Pair = Agg;

@@ -1,6 +1,6 @@
 use Rattle.std.proofs.Common.{◌≡◌, ◌∙◌, ◌<◌, ◌≤◌, ℕ, List, length, sym, ap, subst, arith}
 use Rattle.std.specs.List.Sorted.{IsNonDecreasing}
-use Rattle.values.specs.Columns.{rows_of}
+use Rattle.value_columns.specs.Columns.{rows_of}
 use Rattle.dictionary.specs.Coding.{AreBelow}
 use Rattle.segment_file.specs.Ordered.{ordered}
 use Rattle.segment_columns.specs.Sections.{made_of, with_column}
