@@ -12,8 +12,8 @@ use host_devices::FolderShelf;
 use outside::read_all;
 use schema_json::read_schema;
 use std::alloc::{AllocError, Global};
-use std::{env, io};
 use std::process::ExitCode;
+use std::{env, io};
 use table_schema::{Field, Schema};
 use value_columns::Columns;
 

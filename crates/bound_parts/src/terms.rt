@@ -6,9 +6,9 @@ ghost use Rattle.bound_parts.specs.Terms as spec;
 ghost use Rattle.query_where.specs.Faults.{Resolves, Gives};
 ghost use Rattle.table_schema.specs.Firsts.{first_in};
 
-use agg_laws::AggKind;
 use crate::checks::check_where;
 use crate::lookups::QueryNames;
+use agg_laws::AggKind;
 use data_types::{FieldKind, Seq};
 use query_tokens::{Argument, Func, NameAt, QueryItem, QueryKey, Term};
 use query_where::{BindFault, BindReason, column, kind_of};

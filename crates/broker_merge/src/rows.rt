@@ -10,9 +10,9 @@ ghost use Rattle.broker_merge.specs.Answer.{NamesPlaces};
 ghost use Rattle.broker_merge.specs.Rank.{IsItem};
 ghost use Rattle.broker_merge.specs.Ranked.{BeginInOrder};
 
-use agg_laws::AggState;
 use crate::answer::{Answer, Cell};
 use crate::order::ordered;
+use agg_laws::AggState;
 use data_types::{Name, Seq};
 use group_table::GroupTable;
 use std::alloc::Global;

@@ -5,7 +5,7 @@ use Rattle.std.proofs.lemmas.List.Elements.{All-nil}
 use Rattle.values.specs.declared.value.Value.{Value}
 use Rattle.value_columns.specs.Columns.{Listed, ListedColumns, row_of, rows_of}
 use Rattle.value_columns.proofs.RowLemmas.{row-at}
-use Rattle.dictionary.specs.Coding.{AreBelow}
+use Rattle.value_ids.specs.Coding.{AreBelow}
 use Rattle.table_schema.specs.Conditions.{all_hold}
 use Rattle.table_schema.specs.declared.query.BoundQuery.{BoundQuery}
 use Rattle.group_table.specs.Kept.{IsTableOf, KeptGroups}

@@ -9,7 +9,7 @@ ghost use Rattle.scan_engine.specs.Scanned.{AddsRows, HaveAtMost, IsOverfull, se
 ghost use Rattle.coded_scan.specs.Coded.{AreCoded, table_of};
 ghost use Rattle.coded_scan.specs.Served.{rest_of};
 ghost use Rattle.coded_scan.specs.RowFilters.{AllCover, all_let, passing};
-ghost use Rattle.dictionary.specs.Coding.{AreBelow};
+ghost use Rattle.value_ids.specs.Coding.{AreBelow};
 ghost use Rattle.scan_engine.specs.Places.{rows_at};
 
 use crate::coded::SegmentColumns;

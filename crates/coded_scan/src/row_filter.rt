@@ -13,10 +13,10 @@ use crate::coded::SegmentColumns;
 use crate::ids::Ids;
 use crate::serving::{choice_at, is_served};
 use data_types::Seq;
-use dictionary::IdSet;
 use segment_plan::IndexChoice;
 use std::alloc::Global;
 use table_schema::{Conjunct, Wide};
+use value_ids::IdSet;
 use values::{NoMemory, Test, Value, holds_value};
 
 /// A condition on the rows of a segment, by their ids.

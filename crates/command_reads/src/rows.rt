@@ -8,7 +8,7 @@ ghost use Rattle.value_columns.specs.Columns.{rows_of};
 ghost use Rattle.csv_row.specs.Row.{csv_limits};
 ghost use Rattle.csv_ingest.specs.Rows.{records_of, rows_in};
 ghost use Rattle.csv_ingest.specs.Unicode.{IsUnicode};
-ghost use Rattle.dictionary.specs.Dictionary as dictionary;
+ghost use Rattle.value_ids.specs.Dictionary as dictionary;
 ghost use Rattle.table_schema.specs.ValidTable.{AreRows, IsValidTable};
 ghost use Rattle.command_reads.specs.Build.{csv_rows};
 ghost use Rattle.command_reads.specs.Gives.{StopsRows, StopsText};
@@ -16,8 +16,8 @@ ghost use Rattle.command_words.specs.Notes.{csv_note};
 ghost use Rattle.command_reads.specs.Profile.{csv_limit};
 ghost use Rattle.command_reads.specs.Touched.{ReadsFront};
 
-use command_words::{Counted, Fault, Note, Stop};
 use crate::input::{CSV_LIMIT, read_input};
+use command_words::{Counted, Fault, Note, Stop};
 use csv_ingest::{CsvFault, read_columns};
 use outside::Shelf;
 use std::alloc::Global;

@@ -7,14 +7,14 @@ ghost use Rattle.csv_row.specs.Row.{csv_limits, row_at, value_at, value_in, valu
 ghost use Rattle.csv_row.specs.Columns.{DefaultFits, OfSorts, Pushes, PushesCell, PushesRow, is_text_kind};
 ghost use Rattle.csv_row.specs.Layouts.{IsLayout, header_of};
 
-use crate::{CsvFault, CsvKind};
 use crate::cells::{cell, number_in, read_field};
 use crate::layout::Layout;
+use crate::{CsvFault, CsvKind};
 use csv::ByteRecord;
 use data_types::FieldKind;
 use std::alloc::{AllocError, Global};
 use table_schema::Field;
-use value_columns::{MOST_TEXT_BYTES, Column};
+use value_columns::{Column, MOST_TEXT_BYTES};
 
 // Whether some bytes are few enough for a text.
 #[inline(always)]

@@ -11,7 +11,7 @@ use Rattle.data_types.specs.declared.kind.FieldKind.{FieldKind}
 use Rattle.data_types.specs.declared.kind.FieldKind.TheVariants as kind
 use Rattle.values.specs.declared.value.Value.{Value}
 use Rattle.values.specs.declared.value.Value.TheVariants as value
-use Rattle.dictionary.specs.Dictionary.{Fits, most_values}
+use Rattle.value_ids.specs.Dictionary.{Fits, most_values}
 use Rattle.dictionary.specs.Reading.{is_above_last, IsBody, NoBody}
 use Rattle.dictionary.proofs.Progress.{IsRead, Whole, none_read, read_more, not_whole, body_read}
 use Rattle.dictionary.specs.Spelling.{number_bytes, numbers, body}

@@ -7,7 +7,7 @@ use Rattle.std.specs.List.{All}
 use Rattle.data_types.specs.declared.kind.FieldKind.TheVariants as kind
 use Rattle.values.specs.declared.value.Value.{Value}
 use Rattle.values.specs.declared.value.Value.TheVariants as value
-use Rattle.dictionary.specs.Dictionary.{Fits}
+use Rattle.value_ids.specs.Dictionary.{Fits}
 use Rattle.dictionary.specs.Spelling.{IsExtended, counted, numbers, number_bytes, offsets, spelling, body, texts, text_bytes}
 use Rattle.std.specs.Int.{w32, to_be_bytes}
 use Rattle.std.specs.Prelude.{Result, Ok, Err, OnOk, is_ok, if◌then◌else◌}

@@ -6,7 +6,7 @@ use Rattle.data_types.specs.declared.kind.FieldKind.{FieldKind}
 use Rattle.values.specs.declared.value.Value.{Value}
 use Rattle.values.specs.declared.value.Value.TheVariants.{Text}
 use Rattle.values.specs.Order.{value_order}
-use Rattle.dictionary.specs.Dictionary.{IsDictionary}
+use Rattle.value_ids.specs.Dictionary.{IsDictionary}
 use Rattle.dictionary.specs.Spelling.{body, counted, offsets, texts}
 
 -- the bytes are the body of these values, which are a dictionary

@@ -5,7 +5,7 @@ use Rattle.data_types.specs.declared.kind.FieldKind.{FieldKind}
 use Rattle.data_types.specs.declared.kind.FieldKind.TheVariants as kind
 use Rattle.values.specs.declared.value.Value.{Value}
 use Rattle.values.specs.declared.value.Value.TheVariants.{Whole, Text}
-use Rattle.dictionary.specs.Dictionary.{Distinct, IsDictionary}
+use Rattle.value_ids.specs.Dictionary.{Distinct, IsDictionary}
 
 -- four bytes
 unfoldable pub counted : ℕ → List ℕ

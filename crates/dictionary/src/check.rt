@@ -2,7 +2,7 @@
 
 ghost use Rattle.std.specs.Prelude.{◌≡◌, ◌≢◌, ◌<◌, ◌≤◌, ◌*◌, ◌^◌, ◌++◌, ◌∷◌, [], List, ℕ, true, length, IfOk, IfErr, OnOk, MatchOption};
 ghost use Rattle.data_types.specs.Numbers.{is_in_range};
-ghost use Rattle.dictionary.specs.Dictionary.{Distinct, IsDictionary, most_values};
+ghost use Rattle.value_ids.specs.Dictionary.{Distinct, IsDictionary, most_values};
 ghost use Rattle.dictionary.specs.Spelling.{spelling, counted, number_bytes};
 ghost use Rattle.dictionary.specs.Reading.{IsBody, NoBody, is_above_last, Left, IsNext, NoNext};
 

@@ -3,7 +3,7 @@
 
 ghost use Rattle.std.specs.Prelude.{◌≡◌, ◌≤◌, ◌*◌, ◌++◌, List, ℕ, OnOk, OnErr, length};
 ghost use Rattle.std.specs.List.{All};
-ghost use Rattle.dictionary.specs.Dictionary.{Distinct, Fits, IsDictionary, most_values};
+ghost use Rattle.value_ids.specs.Dictionary.{Distinct, Fits, IsDictionary, most_values};
 ghost use Rattle.dictionary.specs.Spelling.{IsExtended, numbers, number_bytes, offsets, spelling, text_bytes, texts};
 
 use crate::Dictionary;

@@ -10,8 +10,8 @@ ghost use Rattle.group_table.specs.Groups.{with_states};
 ghost use Rattle.group_table.specs.Kept.{IsGroup, IsTable, IsNew, IsNewKey, Merges};
 ghost use Rattle.group_table.specs.Kept.{groups_in, group_at, HaveValues};
 
-use agg_laws::{AggState, Kinds, StateRow};
 use crate::fault::TableFault;
+use agg_laws::{AggState, Kinds, StateRow};
 use indexmap::IndexMap;
 use std::alloc::Global;
 use std::marker::Model;

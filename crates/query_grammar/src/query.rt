@@ -8,10 +8,10 @@ ghost use Rattle.token_cursor.specs.Reading.{Reads};
 use crate::lists::{Member, list};
 use crate::terms::name;
 use data_types::{Name, Seq};
+use query_tokens::lex::same_word;
 use query_tokens::{
     Argument, Call, Func, Kind, LiteralAt, NameAt, QueryFault, QueryItem, QueryKey, Reason, Term,
 };
-use query_tokens::lex::same_word;
 use std::alloc::Global;
 use token_cursor::Tokens;
 use values::Value;

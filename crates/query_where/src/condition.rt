@@ -6,8 +6,8 @@ ghost use Rattle.query_where.specs.Faults.{Passes};
 ghost use Rattle.table_schema.specs.Firsts.{first_in};
 ghost use Rattle.values.specs.Kinds.{is_of};
 
-use crate::{BindFault, BindReason};
 use crate::columns::kind_of;
+use crate::{BindFault, BindReason};
 use data_types::FieldKind;
 use query_tokens::{Cond, LiteralAt};
 use table_schema::Field;

@@ -9,8 +9,8 @@ ghost use Rattle.group_table.specs.Groups.{number_for, states_of};
 ghost use Rattle.scan_engine.specs.Numbers.{AreNumbers};
 ghost use Rattle.scan_engine.specs.Places.{rows_at};
 
-use agg_laws::{AggKind, AggState, Aggregator, Average, Count, Greatest, Least, StateRow, Sum};
 use crate::holds::numbers_of;
+use agg_laws::{AggKind, AggState, Aggregator, Average, Count, Greatest, Least, StateRow, Sum};
 use std::alloc::Global;
 use table_schema::Agg;
 use value_columns::Columns;

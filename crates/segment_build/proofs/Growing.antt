@@ -19,7 +19,7 @@ use Rattle.table_schema.specs.declared.settings.TreeSetting.{TreeSetting}
 use Rattle.table_schema.specs.Roles.{is_numeric}
 use Rattle.table_schema.specs.ValidSettings.{pair_fits}
 use Rattle.segment_file.proofs.ImageRows.{and_first, and_second}
-use Rattle.dictionary.specs.Dictionary.{distinct}
+use Rattle.value_ids.specs.Dictionary.{distinct}
 use Rattle.star_rows.specs.Columns as records
 use Rattle.segment_file.specs.Columns.{ids_of, place_of, values_in}
 use Rattle.segment_file.specs.Ordered.{value_in}

@@ -14,7 +14,7 @@ use Rattle.data_types.specs.declared.kind.FieldKind.TheVariants as kind
 use Rattle.values.specs.declared.value.Value.{Value}
 use Rattle.values.specs.declared.value.Value.TheVariants.{Whole, Text}
 use Rattle.values.specs.Order.{value_order}
-use Rattle.dictionary.specs.Dictionary.{Distinct, Fits, distinct, most_values, put_in}
+use Rattle.value_ids.specs.Dictionary.{Distinct, Fits, distinct, most_values, put_in}
 use Rattle.dictionary.specs.Spelling.{body, counted, number_bytes, numbers, offsets, spelling, text_bytes, texts}
 use Rattle.dictionary.proofs.Bytes.{length-counted}
 use Rattle.dictionary.proofs.Numbers.{length-number}

@@ -9,8 +9,8 @@ ghost use Rattle.segment_columns.specs.Arranging.{Orders};
 ghost use Rattle.segment_columns.specs.Fitting.{AreColumns};
 ghost use Rattle.segment_build.specs.Growing.{IsTooLarge, TreesFit};
 
-use crate::{BuildFault, row_order};
 use crate::trees::grow_trees;
+use crate::{BuildFault, row_order};
 use outside::{Bytes, Seq};
 use segment_columns::{RowOrder, column_sections, columns_of, file_of};
 use std::alloc::Global;

@@ -16,8 +16,8 @@ ghost use Rattle.segment_columns.specs.Fitting.{AreColumns};
 ghost use Rattle.segment_build.specs.Growing.{IsTooLarge, TreesFit, nodes_grown, stars_grown};
 ghost use Rattle.segment_build.specs.declared.fault.BuildFault.TheVariants.{NoMemory, TooLarge};
 
-use agg_laws::StarTable;
 use crate::BuildFault;
+use agg_laws::StarTable;
 use outside::{NoMemory, Seq};
 use segment_columns::{Grown, ids_as_given, pair_numbers, push_tree};
 use star_builder::{TreeFault, build_merged};

@@ -8,7 +8,7 @@ use Rattle.values.specs.Kinds.{fits}
 use Rattle.value_columns.proofs.RowLemmas.{length-rows}
 use Rattle.table_schema.specs.declared.field.Field.{Field}
 use Rattle.table_schema.specs.ValidTable.{IsRow, is_row, most_rows}
-use Rattle.dictionary.specs.Dictionary.{Fits}
+use Rattle.value_ids.specs.Dictionary.{Fits}
 use Rattle.segment_columns.specs.Fitting.{AreColumns, ColumnsFit, FitsKind}
 
 pub both_first : (a b : Bool) → (a && b) ≡ true → a ≡ true

@@ -1,8 +1,8 @@
 //! The ids of columns, in the order in which a segment has its rows.
 ghost use Rattle.std.specs.Prelude.{◌≡◌, ◌<◌, length, map, get_or, IfOk};
 ghost use Rattle.value_columns.specs.Columns.{rows_of};
-ghost use Rattle.dictionary.specs.Coding.{AreBelow};
-ghost use Rattle.dictionary.specs.Dictionary.{distinct};
+ghost use Rattle.value_ids.specs.Coding.{AreBelow};
+ghost use Rattle.value_ids.specs.Dictionary.{distinct};
 ghost use Rattle.segment_file.specs.Columns.{ids_of};
 ghost use Rattle.segment_columns.specs.Arranging.{IsCoded, Orders, arranged, places_in};
 ghost use Rattle.segment_columns.specs.Fitting.{AreColumns, FitsKind};

@@ -1,7 +1,7 @@
 //! The sections of a segment's file are made, a column after the other.
 ghost use Rattle.std.specs.Prelude.{◌≡◌, ◌<◌, ◌≤◌, ◌++◌, true, [], length, IfOk, OnOk};
 ghost use Rattle.std.specs.List.Sorted.{IsNonDecreasing};
-ghost use Rattle.dictionary.specs.Coding.{AreBelow};
+ghost use Rattle.value_ids.specs.Coding.{AreBelow};
 ghost use Rattle.dictionary.specs.Spelling.{spelling};
 ghost use Rattle.bit_column.specs.Column.{spelled, width_of};
 ghost use Rattle.bit_column.specs.Postings.{inverted, ranged};
@@ -13,10 +13,10 @@ ghost use Rattle.segment_file.specs.Ordered.{ordered};
 ghost use Rattle.segment_columns.specs.Arranging.{Orders};
 ghost use Rattle.segment_columns.specs.Fitting.{AreColumns};
 
-use bit_column::width_for;
 use crate::coding::{RowOrder, coded_column};
 use crate::grown::Grown;
 use crate::indexes::{Indexes, indexes_at};
+use bit_column::width_for;
 use dictionary::Dictionary;
 use inverted_lists::{write_inverted, write_ranged, write_sorted};
 use outside::{Bytes, NoMemory, Seq};

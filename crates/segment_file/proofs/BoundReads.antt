@@ -25,7 +25,7 @@ use Rattle.segment_file.proofs.BoundLemmas.{fits_short}
 use Rattle.std.proofs.lemmas.List.Elements.{All-get_or}
 use Rattle.std.proofs.lemmas.Option.{slice_get-get_or}
 use Rattle.table_schema.specs.declared.table.Table.{Table}
-use Rattle.dictionary.specs.Dictionary.{Distinct, Fits, IsUnicode}
+use Rattle.value_ids.specs.Dictionary.{Distinct, Fits, IsUnicode}
 use Rattle.segment_file.specs.Image.{kind_at, kind_or}
 use Rattle.segment_file.specs.Rules.{AreSpelled}
 use Rattle.data_types.specs.declared.kind.FieldKind.TheVariants.{Long}

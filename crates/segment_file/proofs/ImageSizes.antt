@@ -15,7 +15,7 @@ use Rattle.bit_column.proofs.SortedLaws.{sorted_length}
 use Rattle.bit_column.proofs.Spelling.{length-spelled}
 use Rattle.bit_column.specs.Column.{bytes_for, width_of}
 use Rattle.bit_column.specs.Postings.{bucket_of, buckets_for}
-use Rattle.dictionary.specs.Dictionary.{Distinct, Fits, IsDictionary, IsUnicode}
+use Rattle.value_ids.specs.Dictionary.{Distinct, Fits, IsDictionary, IsUnicode}
 use Rattle.dictionary.specs.Spelling.{body, counted, offsets, spelling, text_bytes, texts}
 use Rattle.dictionary.proofs.Bytes.{length-counted}
 use Rattle.dictionary.proofs.Numbers.{length-number, length-numbers}

@@ -5,7 +5,7 @@ use Rattle.data_types.specs.declared.kind.FieldKind.{FieldKind}
 use Rattle.values.specs.declared.value.Value.{Value}
 use Rattle.values.specs.declared.value.Value.TheVariants.{Whole, Text}
 use Rattle.table_schema.specs.declared.field.Field.{Field}
-use Rattle.dictionary.specs.Dictionary.{Distinct, Fits, IsUnicode}
+use Rattle.value_ids.specs.Dictionary.{Distinct, Fits, IsUnicode}
 use Rattle.dictionary.specs.Spelling.{number_bytes}
 use Rattle.segment_file.specs.Front.{short}
 use Rattle.segment_file.specs.declared.bounds.Ends.{Ends}

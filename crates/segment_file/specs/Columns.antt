@@ -6,7 +6,7 @@ use Rattle.values.specs.declared.value.Value.{Value}
 use Rattle.values.specs.Order.{value_eq}
 use Rattle.table_schema.specs.declared.field.Field.{Field}
 use Rattle.table_schema.specs.declared.table.Table.{Table}
-use Rattle.dictionary.specs.Dictionary.{Distinct, distinct}
+use Rattle.value_ids.specs.Dictionary.{Distinct, distinct}
 use Rattle.segment_file.specs.Ordered.{value_in}
 
 -- the kind of a field, if there is one

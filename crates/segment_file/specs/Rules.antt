@@ -7,7 +7,7 @@ use Rattle.agg_laws.specs.declared.tree_shape.TreeShape.{TreeShape}
 use Rattle.table_schema.specs.declared.settings.TreeSetting.{TreeSetting}
 use Rattle.table_schema.specs.declared.table.Table.{Table}
 use Rattle.table_schema.specs.ValidTable.{most_rows}
-use Rattle.dictionary.specs.Dictionary.{Distinct, IsDictionary}
+use Rattle.value_ids.specs.Dictionary.{Distinct, IsDictionary}
 use Rattle.dictionary.specs.Spelling.{spelling}
 use Rattle.bit_column.specs.Column.{bytes_for, width_of}
 use Rattle.bit_column.specs.Postings.{buckets_for}

@@ -14,7 +14,7 @@ use Rattle.data_types.specs.declared.kind.FieldKind.TheVariants.{Long}
 use Rattle.outside.specs.Files.{Files, bytes_at, bytes_of}
 use Rattle.outside.specs.Reads.{Entry, LogsUpTo}
 use Rattle.outside.proofs.ReadLemmas.{LogsThrough-none}
-use Rattle.dictionary.specs.Dictionary.{Distinct}
+use Rattle.value_ids.specs.Dictionary.{Distinct}
 use Rattle.dictionary.specs.Spelling.{body, counted, spelling}
 use Rattle.dictionary.proofs.Bytes.{length-counted}
 use Rattle.dictionary.proofs.Spells.{spells_one}

@@ -12,7 +12,7 @@ use Rattle.outside.specs.Reads.{Entry}
 use Rattle.outside.specs.Seen as shelf
 use Rattle.outside.specs.Seen.{OnlyReads}
 use Rattle.outside.proofs.SeenLemmas.{reads_after, reads_so}
-use Rattle.dictionary.specs.Dictionary.{Distinct}
+use Rattle.value_ids.specs.Dictionary.{Distinct}
 use Rattle.agg_laws.specs.declared.tree_shape.TreeShape.{TreeShape}
 use Rattle.table_schema.specs.declared.settings.TreeSetting.{TreeSetting}
 use Rattle.table_schema.specs.declared.table.Table.{Table}

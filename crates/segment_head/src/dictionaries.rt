@@ -1,6 +1,6 @@
 //! The dictionaries of a segment's file.
 ghost use Rattle.std.specs.Prelude.{◌≡◌, ◌≤◌, ◌+◌, ◌++◌, ◌∷◌, [], length, IfOk, IfErr, OnOk, IsErrOf, ℕ};
-ghost use Rattle.dictionary.specs.Dictionary.{Distinct};
+ghost use Rattle.value_ids.specs.Dictionary.{Distinct};
 ghost use Rattle.segment_file.specs.Parts.{columns_of};
 ghost use Rattle.segment_head.specs.Reading.{StopsAt, bytes_of_section, heads_read};
 ghost use Rattle.segment_file.specs.Rules.{AreSpelled, IsSpelled};

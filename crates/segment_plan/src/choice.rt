@@ -6,10 +6,10 @@ ghost use Rattle.segment_plan.specs.Matched.{AreLoaded};
 
 use crate::{IndexChoice, NoMemory};
 use data_types::Seq;
-use dictionary::IdSet;
 use segment_head::Head;
 use std::alloc::Global;
 use table_schema::{Conjunct, Settings};
+use value_ids::IdSet;
 
 /// A choice for each conjunct.
 pub fn choices(

@@ -8,8 +8,8 @@ ghost use Rattle.json_keys.specs.Keys.{items_at};
 ghost use Rattle.settings_parts.specs.Trees as spec;
 ghost use Rattle.json_keys.specs.Faults.{Gives, Refuses, at_place};
 
-use agg_laws::{Kinds, TreeShape};
 use crate::pairs::read_pairs;
+use agg_laws::{Kinds, TreeShape};
 use data_types::Seq;
 use json_keys::{
     KeyKind, TextFault, array_of, at_place, below, check_object, check_unused, fault_at, key_fault,

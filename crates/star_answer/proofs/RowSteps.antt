@@ -21,8 +21,8 @@ use Rattle.values.specs.Tests.{is_member}
 use Rattle.values.proofs.Bounds.{same_value}
 use Rattle.agg_laws.specs.Numbers.{AreWhole, IsWhole}
 use Rattle.agg_laws.specs.Tree.{star}
-use Rattle.dictionary.specs.Dictionary.{distinct}
-use Rattle.dictionary.proofs.Distinct.{distinct_members}
+use Rattle.value_ids.specs.Dictionary.{distinct}
+use Rattle.value_ids.proofs.Distinct.{distinct_members}
 use Rattle.table_schema.specs.declared.field.Field.{Field}
 use Rattle.table_schema.specs.declared.query.Agg.{Agg}
 use Rattle.table_schema.specs.declared.settings.TreeSetting.{TreeSetting}

@@ -4,8 +4,8 @@ ghost use Rattle.std.specs.Prelude.{◌≡◌, ◌<◌, ◌≤◌, IfOk, length}
 ghost use Rattle.agg_laws.specs.Docs.{doc_at};
 ghost use Rattle.star_taking.specs.Taken.{AreKeyIds, key_values};
 
-use agg_laws::StarTable;
 use crate::asked::GroupColumn;
+use agg_laws::StarTable;
 use data_types::Seq;
 use std::alloc::Global;
 use value_columns::Row;

@@ -5,7 +5,7 @@ use Rattle.agg_laws.specs.declared.node.Node.{Node}
 use Rattle.agg_laws.specs.Tree.{star}
 use Rattle.agg_laws.specs.Flat.{range, node_at}
 use Rattle.agg_laws.specs.Picks.{Task, quiet, is_taken}
-use Rattle.dictionary.specs.Ids.{has_id}
+use Rattle.value_ids.specs.Ids.{has_id}
 use Rattle.star_walk.specs.declared.pick.Pick.{Pick}
 
 -- there is an entry of both kinds for each dimension

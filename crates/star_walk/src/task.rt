@@ -6,7 +6,7 @@ ghost use Rattle.star_walk.specs.Walking.{task_of, is_tested, passes, is_grouped
 
 use agg_laws::STAR;
 use data_types::Seq;
-use dictionary::IdSet;
+use value_ids::IdSet;
 
 /// The ids that pass the tests of each split dimension, where it is tested, and whether the
 /// dimension is grouped.

@@ -6,9 +6,9 @@ ghost use Rattle.agg_laws.specs.Docs.{doc_at};
 ghost use Rattle.agg_laws.specs.Picks.{holds_from};
 ghost use Rattle.star_walk.specs.Walking.{task_of, HasEach};
 
-use agg_laws::StarTable;
 use crate::NoMemory;
 use crate::task::Task;
+use agg_laws::StarTable;
 use data_types::Seq;
 use std::alloc::Global;
 

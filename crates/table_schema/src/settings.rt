@@ -1,7 +1,7 @@
 //! The settings of a table.
 
-use agg_laws::TreeShape;
 use crate::Agg;
+use agg_laws::TreeShape;
 use data_types::{Name, Seq};
 
 /// What a star-tree keeps of a group of rows.

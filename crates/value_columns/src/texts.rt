@@ -1,5 +1,5 @@
 //! A column of texts.
-ghost use Rattle.std.specs.Prelude.{◌≡◌, ◌<◌, true, false, MatchBool, MatchOption, ◌++◌, ◌∷◌, [], length, OnOk, OnErr, IfOk, Some, slice_get};
+ghost use Rattle.std.specs.Prelude.{◌≡◌, ◌<◌, true, false, MatchBool, ◌++◌, ◌∷◌, [], length, OnOk, OnErr, IfOk, Some, slice_get};
 ghost use Rattle.std.specs.Str.{is_utf8};
 ghost use Rattle.data_types.specs.Texts.{IsCoding, texts_of};
 
