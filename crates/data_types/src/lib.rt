@@ -1,5 +1,5 @@
-//! What values are made of: the types of fields, whole numbers in texts, texts and lists that contracts
-//! see as such, and texts in one block of bytes.
+//! What values are made of: the types of fields, whole numbers in texts, texts and lists that
+//! contracts see as such, and texts in one block of bytes.
 #![tactic(auto)]
 
 mod boxed;

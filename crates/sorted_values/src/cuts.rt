@@ -1,4 +1,5 @@
-//! Values that ascend, cut by a bound, and the ids of those that stand in one way to it. None is tested.
+//! Values that ascend, cut by a bound, and the ids of those that stand in one way to it. None is
+//! tested.
 
 ghost use Rattle.std.specs.Prelude.{◌≤◌, length, IfOk};
 ghost use Rattle.values.specs.Order.{value_order};
@@ -10,8 +11,8 @@ use std::alloc::Global;
 use value_ids::{IdSet, others, run};
 use values::{CompareOp, NoMemory, Value};
 
-/// Where ascending values are cut by a bound: at the first that is not less, and at the first that is
-/// greater.
+/// Where ascending values are cut by a bound: at the first that is not less, and at the first that
+/// is greater.
 #[derive(Clone, Copy)]
 pub struct Cut {
     pub from: u32,

@@ -1,4 +1,4 @@
-//! Values in ascending order: the distinct ones of a column, ids by their ranks, and cuts by a bound.
+//! Values in ascending order: the distinct ones of a column, ids by their ranks, cuts by a bound.
 #![tactic(auto)]
 
 mod cuts;

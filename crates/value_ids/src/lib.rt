@@ -1,4 +1,5 @@
-//! The ids of a column's distinct values, which are the places of these in ascending order, and sets of ids.
+//! The ids of a column's distinct values, which are the places of these in ascending order, and
+//! sets of ids.
 #![tactic(auto)]
 
 mod id_set;

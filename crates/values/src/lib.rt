@@ -1,5 +1,5 @@
-//! Values, which are whole numbers or texts: their order, tests on one value, and the places of texts
-//! among those that are kept.
+//! Values, which are whole numbers or texts: their order, tests on one value, and the places of
+//! texts among those that are kept.
 #![tactic(auto)]
 
 mod places;
