@@ -3,13 +3,16 @@
 ghost use Rattle.std.specs.Prelude.{◌≡◌, ◌≤◌, [], length, IfOk};
 ghost use Rattle.std.specs.List.{All};
 ghost use Rattle.values.specs.Kinds.{fits};
-ghost use Rattle.dictionary.specs.Dictionary.{Fits, most_values};
+ghost use Rattle.value_ids.specs.Dictionary.{Fits, most_values};
 
 use crate::expect::Expectations;
 use crate::values_in_order::{many, text};
-use dictionary::{DictFault, Dictionary, IdSet};
+use data_types::{FieldKind, Seq};
+use dictionary::{DictFault, Dictionary};
 use std::alloc::{AllocError, Global};
-use values::{CompareOp, FieldKind, Seq, Test, Value, read_value};
+use value_columns::read_value;
+use value_ids::IdSet;
+use values::{CompareOp, Test, Value};
 
 // A kind, the cells of a column, and the dictionary's bytes.
 type Spelled = (FieldKind, &'static [&'static str], &'static [u8]);

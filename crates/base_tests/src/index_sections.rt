@@ -4,11 +4,11 @@ ghost use Rattle.std.specs.Prelude.{◌≡◌, ◌<◌, [], ◌∷◌, All, IfOk
 
 use crate::expect::Expectations;
 use crate::fixtures::{name, shelf_of};
-use dictionary::IdSet;
 use doc_lists::DocList;
 use index_reading::{ListFault, ListKind, docs_between, docs_of_ids};
 use outside::{MemoryShelf, NoMemory, Place};
 use std::alloc::Global;
+use value_ids::IdSet;
 
 // How many ids the column of the range index has, and how many rows.
 const COUNT: u32 = 20;

@@ -1,8 +1,9 @@
 //! Tests on a value: which of the values 1 to 9 satisfy one, and whether it may hold from 3 to 5.
 
 use crate::expect::Expectations;
+use data_types::Seq;
 use std::alloc::{AllocError, Global};
-use values::{CompareOp, Seq, Test, Value, holds_value, may_hold};
+use values::{CompareOp, Test, Value, holds_value, may_hold};
 
 fn number(number: i64) -> Value {
     Value::Whole(number)

@@ -2,11 +2,11 @@
 
 use crate::expect::Expectations;
 use crate::fixtures::string;
+use data_types::{Boxed, FieldKind, Name, Seq};
 use std::alloc::{AllocError, Global};
 use std::collections::{BTreeMap, HashMap};
-use values::{
-    Boxed, FieldKind, Name, Row, Seq, Value, ValueFault, compare, copy_row, push_text, read_value,
-};
+use value_columns::{Row, ValueFault, copy_row, read_value};
+use values::{Value, compare, push_text};
 
 pub fn text(alloc: Global, text: &str) -> Value {
     Value::Text(Name::from_text(alloc, text).unwrap_or(Name::new(alloc)))

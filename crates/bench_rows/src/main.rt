@@ -15,7 +15,7 @@ use std::alloc::{AllocError, Global};
 use std::process::ExitCode;
 use std::{env, io};
 use table_schema::{Field, Schema};
-use values::Columns;
+use value_columns::Columns;
 
 const SCHEMA_LIMIT: u64 = 1_048_576;
 

@@ -12,10 +12,11 @@ use crate::distinct::Lists;
 use crate::items::{items_of, keys_of};
 use crate::labels::labels;
 use crate::terms::Terms;
+use data_types::{Name, Seq};
 use query_tokens::{LiteralAt, Query};
 use std::alloc::Global;
 use table_schema::{BoundQuery, Field, Item, OrderKey};
-use values::{Name, NoMemory, Seq, Value};
+use values::{NoMemory, Value};
 
 /// How many groups are answered where the query does not say.
 const USUAL_LIMIT: u64 = 10;

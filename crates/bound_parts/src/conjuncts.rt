@@ -7,11 +7,12 @@ ghost use Rattle.query_where.specs.Conjuncts as spec;
 ghost use Rattle.query_where.specs.Conjuncts.{KeepRows};
 
 use crate::normal::{Joint, Scope};
+use data_types::Seq;
 use query_tokens::Cond;
 use query_where::only_field;
 use std::alloc::Global;
 use table_schema::{Conjunct, Field, Wide};
-use values::{NoMemory, Seq, Test};
+use values::{NoMemory, Test};
 
 /// The same condition on the value of one field.
 #[cycle(test_of)]

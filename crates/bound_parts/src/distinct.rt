@@ -8,10 +8,10 @@ ghost use Rattle.query_where.specs.Faults.{Gives, fault_if};
 ghost use Rattle.table_schema.specs.Aggs.{same_agg};
 
 use crate::terms::{ColumnAt, KeyAt, Meaning, TermAt, Terms};
+use data_types::Seq;
 use query_where::{BindFault, BindReason};
 use std::alloc::Global;
 use table_schema::Agg;
-use values::Seq;
 
 /// The most group columns.
 const MOST_GROUPS: usize = 8;

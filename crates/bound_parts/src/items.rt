@@ -7,9 +7,10 @@ ghost use Rattle.bound_parts.specs.Bound as spec;
 ghost use Rattle.table_schema.specs.Aggs.{same_agg};
 
 use crate::terms::{KeyAt, Meaning, TermAt};
+use data_types::Seq;
 use std::alloc::Global;
 use table_schema::{Agg, Item, OrderKey};
-use values::{NoMemory, Seq};
+use values::NoMemory;
 
 /// The place of a column among the group columns; their number where it is none of them.
 fn column_place(groups: &[u16], column: u16) -> u16

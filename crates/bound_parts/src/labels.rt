@@ -3,9 +3,10 @@
 ghost use Rattle.std.specs.Prelude.{◌≡◌, map, IfOk};
 ghost use Rattle.bound_parts.specs.Bound as spec;
 
+use data_types::{Name, Seq};
 use query_tokens::{Argument, Call, Func, QueryItem, Term};
 use std::alloc::Global;
-use values::{Name, NoMemory, Seq};
+use values::NoMemory;
 
 /// The labels of the items.
 pub(crate) fn labels(alloc: Global, items: &[QueryItem]) -> Result<Seq<Name>, NoMemory>

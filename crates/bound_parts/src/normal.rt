@@ -9,11 +9,12 @@ ghost use Rattle.query_where.specs.Names.{column_finding, condition_finding};
 ghost use Rattle.bound_parts.specs.Joints as spec;
 ghost use Rattle.table_schema.specs.Firsts.{first_of};
 
+use data_types::Seq;
 use query_tokens::{Cond, LiteralAt, NameAt};
 use query_where::opposite_if;
 use std::alloc::Global;
 use table_schema::{Field, Wide};
-use values::{CompareOp, NoMemory, Seq, Test};
+use values::{CompareOp, NoMemory, Test};
 
 /// How the members of a condition are joined.
 #[derive(Clone, Copy, PartialEq, Eq)]

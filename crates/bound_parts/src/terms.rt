@@ -9,11 +9,11 @@ ghost use Rattle.table_schema.specs.Firsts.{first_in};
 use crate::checks::check_where;
 use crate::lookups::QueryNames;
 use agg_laws::AggKind;
+use data_types::{FieldKind, Seq};
 use query_tokens::{Argument, Func, NameAt, QueryItem, QueryKey, Term};
 use query_where::{BindFault, BindReason, column, kind_of};
 use std::alloc::Global;
 use table_schema::{Agg, Field};
-use values::{FieldKind, Seq};
 
 /// What a term is: the number of a field, or an aggregate.
 #[derive(Clone, Copy)]

@@ -1,6 +1,7 @@
 //! Answers of queries.
 
-use values::{Name, Seq, Value};
+use data_types::{Name, Seq};
+use values::Value;
 
 /// What is written of a group in one column.
 #[derive(Debug, Drop)]

@@ -11,7 +11,8 @@ ghost use Rattle.broker_merge.specs.Rank.Laws as laws;
 use agg_laws::{AggKind, AggState, compare_states};
 use std::cmp::Ordering;
 use std::marker::Model;
-use values::{Row, Value};
+use value_columns::Row;
+use values::Value;
 
 /// What a group shows in one place: a value of its key, an aggregate, or its key.
 #[derive(Clone, Copy)]

@@ -13,10 +13,11 @@ ghost use Rattle.broker_merge.specs.Ranked.{BeginInOrder};
 use crate::answer::{Answer, Cell};
 use crate::order::ordered;
 use agg_laws::AggState;
+use data_types::{Name, Seq};
 use group_table::GroupTable;
 use std::alloc::Global;
 use table_schema::{BoundQuery, Item};
-use values::{Name, NoMemory, Seq};
+use values::NoMemory;
 
 /// The answer of a query over the groups of its table: in order, those that are passed over left
 /// out, and no more than the query asks for.

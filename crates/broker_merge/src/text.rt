@@ -11,10 +11,11 @@ ghost use Rattle.broker_merge.specs.Written.{IsBetween};
 
 use crate::answer::{Answer, Cell};
 use csv::{ByteRecord, Writer, WriterBuilder};
+use data_types::{Name, Seq};
 use itoa::Buffer;
 use std::alloc::{AllocError, Global};
 use std::io::Write;
-use values::{Name, NoMemory, Seq, Value};
+use values::{NoMemory, Value};
 
 /// The CSV text of an answer: a record of its labels, and one for each row.
 pub fn answer_text(alloc: Global, answer: &Answer) -> Result<Vec<u8>, NoMemory>

@@ -3,9 +3,9 @@ use Rattle.std.proofs.Common.{◌≡◌, ◌∙◌, ◌<◌, ◌≤◌, ◌+◌,
 use Rattle.std.proofs.lemmas.List.{map-append}
 use Rattle.std.proofs.lemmas.List.Elements.{All-nil}
 use Rattle.values.specs.declared.value.Value.{Value}
-use Rattle.values.specs.Columns.{Listed, ListedColumns, row_of, rows_of}
-use Rattle.values.proofs.RowLemmas.{row-at}
-use Rattle.dictionary.specs.Coding.{AreBelow}
+use Rattle.value_columns.specs.Columns.{Listed, ListedColumns, row_of, rows_of}
+use Rattle.value_columns.proofs.RowLemmas.{row-at}
+use Rattle.value_ids.specs.Coding.{AreBelow}
 use Rattle.table_schema.specs.Conditions.{all_hold}
 use Rattle.table_schema.specs.declared.query.BoundQuery.{BoundQuery}
 use Rattle.group_table.specs.Kept.{IsTableOf, KeptGroups}

@@ -10,9 +10,9 @@ use Rattle.values.specs.declared.value.Value.{Value}
 use Rattle.values.specs.declared.value.Value.TheVariants.{Whole}
 use Rattle.values.specs.declared.test.Test.{Test}
 use Rattle.values.specs.Tests.{holds}
-use Rattle.values.specs.Columns.{Counts, row_of}
-use Rattle.dictionary.specs.Coding.{AreBelow, values_at}
-use Rattle.dictionary.specs.Ids.{has_id, satisfies}
+use Rattle.value_columns.specs.Columns.{Counts, row_of}
+use Rattle.value_ids.specs.Coding.{AreBelow, values_at}
+use Rattle.value_ids.specs.Ids.{has_id, satisfies}
 use Rattle.table_schema.specs.Conditions.{cell}
 use Rattle.coded_scan.specs.declared.coded.Coded.{Coded}
 use Rattle.coded_scan.specs.declared.coded.SegmentColumns.{SegmentColumns}

@@ -9,7 +9,7 @@ use Rattle.std.proofs.Math.ListN.{get_or-map, length-set}
 use Rattle.std.proofs.lemmas.List.Elements.{All-head, All-tail}
 use Rattle.values.specs.declared.value.Value.{Value}
 use Rattle.values.specs.declared.value.Value.TheVariants.{Whole}
-use Rattle.values.specs.Columns.{row_of}
+use Rattle.value_columns.specs.Columns.{row_of}
 use Rattle.agg_laws.specs.declared.aggregate_kind.AggKind.{AggKind}
 use Rattle.agg_laws.specs.declared.states.AggState.{AggState}
 use Rattle.state_columns.specs.Columns.{Column, replaced, row_at, state_at}
@@ -17,7 +17,7 @@ use Rattle.agg_laws.specs.Numbers.{AreWhole, IsWhole, most_values}
 use Rattle.agg_laws.specs.Rows.{RowFits}
 use Rattle.agg_laws.specs.States.{Fits, merged, state_of, unit_of}
 use Rattle.agg_laws.specs.laws.States as states
-use Rattle.dictionary.specs.Coding.{AreBelow}
+use Rattle.value_ids.specs.Coding.{AreBelow}
 use Rattle.group_table.specs.Groups.{number_for, number_of, states_of}
 use Rattle.scan_engine.specs.Places.{rows_at}
 use Rattle.table_schema.specs.declared.query.Agg.{Agg}

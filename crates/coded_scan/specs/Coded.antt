@@ -3,8 +3,8 @@ use Rattle.std.specs.Prelude.{◌≡◌, ◌≤◌, ◌<◌, ◌||◌, ℕ, Bool
 use Rattle.std.specs.List.{All, list_any}
 use Rattle.values.specs.declared.value.Value.{Value}
 use Rattle.values.specs.declared.value.Value.TheVariants.{Whole}
-use Rattle.values.specs.Columns.{Listed, ListedColumns, is_text, row_of}
-use Rattle.dictionary.specs.Coding.{AreBelow, values_at}
+use Rattle.value_columns.specs.Columns.{Listed, ListedColumns, is_text, row_of}
+use Rattle.value_ids.specs.Coding.{AreBelow, values_at}
 use Rattle.table_schema.specs.Conditions.{cell}
 use Rattle.table_schema.specs.declared.query.Agg.{Agg}
 use Rattle.group_table.specs.Groups.{number_for, number_of}

@@ -2,7 +2,7 @@
 use Rattle.std.specs.Prelude.{ℕ, zero, suc, ◌+◌, ◌≡◌, Bool, true, List, [], ◌∷◌, ◌++◌, cond, length, get_or, nat_eq}
 use Rattle.std.specs.List.{list_all}
 use Rattle.values.specs.Tests.{all_true, any_true}
-use Rattle.dictionary.specs.Ids.{has_id}
+use Rattle.value_ids.specs.Ids.{has_id}
 use Rattle.coded_scan.specs.declared.row_filter.RowFilter.{RowFilter}
 use Rattle.coded_scan.specs.declared.row_filter.RowFilter.TheOpen.{RowFilter-F}
 use Rattle.coded_scan.specs.declared.row_filter.RowFilter.TheFolds.{fold-RowFilter}

@@ -1,6 +1,6 @@
 -- Rows in slots: those of one key have one slot.
 use Rattle.std.specs.Prelude.{◌≡◌, ◌≢◌, ◌⊎◌, ◌≤◌, ◌<◌, ◌+◌, ◌*◌, ◌++◌, ℕ, ℤ, pos, Option, Some, None, List, [], ◌∷◌, length, get_or, nat_lt, if◌then◌else◌, ◌==◌}
-use Rattle.values.specs.Columns.{Listed, row_of}
+use Rattle.value_columns.specs.Columns.{Listed, row_of}
 use Rattle.group_table.specs.Groups.{key_of}
 use Rattle.state_columns.specs.Columns.{Column, state_at}
 use Rattle.agg_laws.specs.declared.aggregate_kind.AggKind.{AggKind}

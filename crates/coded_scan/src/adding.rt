@@ -2,14 +2,14 @@
 
 ghost use Rattle.std.specs.Prelude.{◌≡◌, ◌-◌, ◌+◌, ◌≤◌, Err, IfOk, OnOk, length};
 ghost use Rattle.agg_laws.specs.Numbers.{most_values};
-ghost use Rattle.values.specs.Columns.{rows_of};
+ghost use Rattle.value_columns.specs.Columns.{rows_of};
 ghost use Rattle.group_table.specs.declared.fault.TableFault.TheVariants.{TooManyGroups};
 ghost use Rattle.group_table.specs.Kept.{IsTableOf, groups_in};
 ghost use Rattle.scan_engine.specs.Scanned.{AddsRows, HaveAtMost, IsOverfull, selected};
 ghost use Rattle.coded_scan.specs.Coded.{AreCoded, table_of};
 ghost use Rattle.coded_scan.specs.Served.{rest_of};
 ghost use Rattle.coded_scan.specs.RowFilters.{AllCover, all_let, passing};
-ghost use Rattle.dictionary.specs.Coding.{AreBelow};
+ghost use Rattle.value_ids.specs.Coding.{AreBelow};
 ghost use Rattle.scan_engine.specs.Places.{rows_at};
 
 use crate::coded::SegmentColumns;

@@ -7,7 +7,7 @@ ghost use Rattle.state_columns.specs.Columns.{row_at, state_at};
 ghost use Rattle.agg_laws.specs.Numbers.{AreWhole, IsWhole};
 ghost use Rattle.agg_laws.specs.Rows.{RowFits};
 ghost use Rattle.agg_laws.specs.States.{state_of, unit_of};
-ghost use Rattle.dictionary.specs.Coding.{AreBelow};
+ghost use Rattle.value_ids.specs.Coding.{AreBelow};
 ghost use Rattle.group_table.specs.Groups.{number_for, number_of, states_of};
 ghost use Rattle.scan_engine.specs.Places.{rows_at};
 ghost use Rattle.coded_scan.specs.Coded.{AreCoded, IsForAgg, IsUnnumbered, most_rows, table_of};

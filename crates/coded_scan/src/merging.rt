@@ -2,11 +2,13 @@
 
 ghost use Rattle.std.specs.Prelude.{◌≡◌, ◌≤◌, ◌<◌, ◌-◌, ℕ, Err, IfOk, OnOk, length};
 ghost use Rattle.std.specs.List.{All};
-ghost use Rattle.values.specs.Columns.{row_of};
+ghost use Rattle.value_columns.specs.Columns.{row_of};
+ghost use Rattle.state_columns.specs.Columns.{row_at};
+ghost use Rattle.value_columns.specs.Columns.{row_of};
 ghost use Rattle.state_columns.specs.Columns.{row_at};
 ghost use Rattle.agg_laws.specs.Numbers.{most_values};
 ghost use Rattle.agg_laws.specs.Rows.{RowFits};
-ghost use Rattle.dictionary.specs.Coding.{AreBelow};
+ghost use Rattle.value_ids.specs.Coding.{AreBelow};
 ghost use Rattle.group_table.specs.declared.fault.TableFault.TheVariants.{TooManyGroups};
 ghost use Rattle.group_table.specs.Groups.{key_of, states_of};
 ghost use Rattle.group_table.specs.Kept.{IsTableOf, groups_in};
@@ -23,7 +25,8 @@ use group_table::{GroupTable, TableFault};
 use state_columns::{StateColumn, StateRow};
 use std::alloc::Global;
 use table_schema::BoundQuery;
-use values::{NoMemory, Row, Value};
+use value_columns::Row;
+use values::{NoMemory, Value};
 
 /// Adds the rows in these places, of which there are some.
 pub fn add_places(

@@ -3,7 +3,7 @@
 ghost use Rattle.std.specs.Prelude.{◌≡◌, ◌≤◌, ◌<◌, ◌*◌, ◌+◌, ◌^◌, ◌++◌, ◌∷◌, [], length, get_or};
 ghost use Rattle.std.specs.Prelude.{IfOk, nat_eq, slice_index};
 ghost use Rattle.std.specs.HashMap.{get};
-ghost use Rattle.dictionary.specs.Coding.{AreBelow};
+ghost use Rattle.value_ids.specs.Coding.{AreBelow};
 ghost use Rattle.coded_scan.specs.Coded.{most_rows};
 ghost use Rattle.coded_scan.specs.Slots.{AreRanked, GivesSlot, led_by, packed};
 

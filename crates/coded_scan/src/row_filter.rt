@@ -2,7 +2,7 @@
 //! its column, and looked up by id from then on.
 
 ghost use Rattle.std.specs.Prelude.{◌≡◌, ◌&&◌, ◌||◌, ◌<◌, ℕ, IfOk, OnOk, true};
-ghost use Rattle.values.specs.Columns.{row_of};
+ghost use Rattle.value_columns.specs.Columns.{row_of};
 ghost use Rattle.values.specs.Tests.{holds};
 ghost use Rattle.table_schema.specs.Conditions as spec;
 ghost use Rattle.coded_scan.specs.Coded.{AreCoded, table_of};
@@ -12,11 +12,12 @@ ghost use Rattle.coded_scan.specs.RowFilters.{AllCover, all_let, covers, lets};
 use crate::coded::SegmentColumns;
 use crate::ids::Ids;
 use crate::serving::{choice_at, is_served};
-use dictionary::IdSet;
+use data_types::Seq;
 use segment_plan::IndexChoice;
 use std::alloc::Global;
 use table_schema::{Conjunct, Wide};
-use values::{NoMemory, Seq, Test, Value, holds_value};
+use value_ids::IdSet;
+use values::{NoMemory, Test, Value, holds_value};
 
 /// A condition on the rows of a segment, by their ids.
 #[derive(Drop)]

@@ -1,14 +1,14 @@
 //! The places of the rows of a block that conditions let through.
 
 ghost use Rattle.std.specs.Prelude.{◌≡◌, ◌&&◌, ◌||◌, ◌+◌, ◌<◌, ◌≤◌, ◌++◌, ◌∷◌, [], ℕ, IfOk, OnOk, cond, get_or, false, true, length, nat_eq};
-ghost use Rattle.dictionary.specs.Ids.{has_id};
+ghost use Rattle.value_ids.specs.Ids.{has_id};
 ghost use Rattle.scan_engine.specs.Selection.{Keeps};
 ghost use Rattle.coded_scan.specs.Coded.{Widens, most_rows};
 ghost use Rattle.coded_scan.specs.RowFilters.{AllCover, all_let, covers, lets, passing};
 
 use crate::row_filter::RowFilter;
-use dictionary::IdSet;
 use std::alloc::Global;
+use value_ids::IdSet;
 use values::NoMemory;
 
 /// Some rows of a segment, one after the other.

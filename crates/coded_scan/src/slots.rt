@@ -1,7 +1,7 @@
 //! The slots of rows: rows of one key in the group columns have one slot.
 
 ghost use Rattle.std.specs.Prelude.{◌≡◌, ◌≤◌, ◌<◌, ◌∷◌, ◌++◌, [], List, ℕ, length, IfOk};
-ghost use Rattle.dictionary.specs.Coding.{AreBelow};
+ghost use Rattle.value_ids.specs.Coding.{AreBelow};
 ghost use Rattle.coded_scan.specs.Coded.{AreCoded, table_of};
 ghost use Rattle.coded_scan.specs.Slots.{AreSlots};
 

@@ -4,11 +4,11 @@ ghost use Rattle.std.specs.FinMap as map;
 ghost use Rattle.std.specs.List.{All};
 ghost use Rattle.outside.specs.Counts.{Rose};
 ghost use Rattle.outside.specs.Seen.{seen};
-ghost use Rattle.values.specs.Columns.{rows_of};
+ghost use Rattle.value_columns.specs.Columns.{rows_of};
 ghost use Rattle.csv_row.specs.Row.{csv_limits};
 ghost use Rattle.csv_ingest.specs.Rows.{records_of, rows_in};
 ghost use Rattle.csv_ingest.specs.Unicode.{IsUnicode};
-ghost use Rattle.dictionary.specs.Dictionary as dictionary;
+ghost use Rattle.value_ids.specs.Dictionary as dictionary;
 ghost use Rattle.table_schema.specs.ValidTable.{AreRows, IsValidTable};
 ghost use Rattle.command_reads.specs.Build.{csv_rows};
 ghost use Rattle.command_reads.specs.Gives.{StopsRows, StopsText};
@@ -22,7 +22,8 @@ use csv_ingest::{CsvFault, read_columns};
 use outside::Shelf;
 use std::alloc::Global;
 use table_schema::{Field, Table};
-use values::{Columns, Value};
+use value_columns::Columns;
+use values::Value;
 
 /// The rows of a CSV file over the fields of a table, column by column.
 pub fn read_rows<I: Shelf>(

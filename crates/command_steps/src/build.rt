@@ -2,7 +2,7 @@
 ghost use Rattle.std.specs.Prelude.{◌≡◌, ◌∷◌, [], ◌++◌, length, codes, Some, Ok, IfOk, IsErrOf};
 ghost use Rattle.std.specs.Fmt.{decimal};
 ghost use Rattle.outside.specs.Seen.{Seen, seen};
-ghost use Rattle.values.specs.Columns.{rows_of};
+ghost use Rattle.value_columns.specs.Columns.{rows_of};
 ghost use Rattle.segment_file.specs.Names.{IsSegmentName, file_of};
 ghost use Rattle.table_schema.specs.ValidTable.{AreRows, IsValidTable};
 ghost use Rattle.command_words.specs.Command.{Build};
@@ -18,7 +18,7 @@ use outside::{Bytes, Depot, Seq, Shelf};
 use segment_build::{BuildFault, write_columns};
 use std::alloc::{AllocError, Global};
 use table_schema::Table;
-use values::Columns;
+use value_columns::Columns;
 
 // The most bytes that the nodes and documents of a star-tree may take.
 const TREE_LIMIT: u64 = 134_217_728;

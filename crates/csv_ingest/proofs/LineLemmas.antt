@@ -9,9 +9,9 @@ use Rattle.csv.specs.Machine.{next_record}
 use Rattle.csv.specs.Reading.{default_config}
 use Rattle.csv.specs.declared.parser.State.{State}
 use Rattle.csv.specs.declared.parser.State.TheVariants as st
-use Rattle.values.proofs.Digits.{few}
-use Rattle.values.specs.Numbers.{is_digit, negative, place_value, ranged, spelled_number, unsigned_number, whole_of}
-use Rattle.values.specs.declared.kind.FieldKind.TheVariants.{Long}
+use Rattle.data_types.proofs.Digits.{few}
+use Rattle.data_types.specs.Numbers.{is_digit, negative, place_value, ranged, spelled_number, unsigned_number, whole_of}
+use Rattle.data_types.specs.declared.kind.FieldKind.TheVariants.{Long}
 use Rattle.csv_ingest.specs.Lines.{EndsCell, IsCell, IsStart, SpellsAt}
 
 -- ---- the number

@@ -6,13 +6,13 @@ use Rattle.std.specs.Str.{is_utf8}
 use Rattle.std.proofs.lemmas.Bool.Decides.{nat_tests}
 use Rattle.std.proofs.lemmas.List.Elements.{All-from_recursion}
 use Rattle.std.proofs.lemmas.List.FromFn.{length-enumerate_from}
-use Rattle.values.specs.Numbers.{whole_of}
-use Rattle.values.specs.Reading.{number_value, value_of}
-use Rattle.values.specs.declared.kind.FieldKind.TheVariants.{Long}
+use Rattle.data_types.specs.Numbers.{whole_of}
+use Rattle.value_columns.specs.Reading.{number_value, value_of}
+use Rattle.data_types.specs.declared.kind.FieldKind.TheVariants.{Long}
 use Rattle.values.specs.declared.value.Value.{Value}
 use Rattle.values.specs.declared.value.Value.TheVariants.{Whole}
-use Rattle.values.specs.declared.whole.WholeFault.{WholeFault}
-use Rattle.values.specs.declared.whole.WholeFault.TheVariants as whole
+use Rattle.data_types.specs.declared.whole.WholeFault.{WholeFault}
+use Rattle.data_types.specs.declared.whole.WholeFault.TheVariants as whole
 use Rattle.table_schema.specs.declared.field.Field.{Field}
 use Rattle.table_schema.specs.declared.field.Schema.{Schema}
 use Rattle.csv_row.specs.declared.fault.CsvKind.{CsvKind}
@@ -22,7 +22,7 @@ use Rattle.csv_row.specs.declared.fault.CsvFault.TheVariants.{At, TooManyRows, T
 use Rattle.csv_row.specs.Columns.{DefaultFits, DefaultsFit, OfSorts, is_text_kind}
 use Rattle.csv_ingest.specs.NumberBlocks.{AreNumbers}
 use Rattle.csv_row.proofs.ColumnLemmas.{widths}
-use Rattle.values.specs.Columns.{Listed}
+use Rattle.value_columns.specs.Columns.{Listed}
 use Rattle.csv_ingest.specs.Names.{is_among, number_field, number_name}
 use Rattle.table_schema.specs.Names.{is_column_name}
 use Rattle.csv_row.specs.InOrder.{all_or_first, joined}

@@ -1,7 +1,7 @@
 -- The rows of a text, read block by block.
 use Rattle.std.specs.Prelude.{◌≡◌, ◌<◌, ◌+◌, ℕ, List, map, Result, Ok}
 use Rattle.std.specs.List.{enumerate_from}
-use Rattle.values.specs.Columns.{ListedColumns, rows_of}
+use Rattle.value_columns.specs.Columns.{ListedColumns, rows_of}
 use Rattle.values.specs.declared.value.Value.{Value}
 use Rattle.table_schema.specs.declared.field.Field.{Field}
 use Rattle.csv_row.specs.declared.fault.CsvFault.{CsvFault}

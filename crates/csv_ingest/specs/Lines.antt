@@ -5,11 +5,11 @@ use Rattle.csv.specs.Machine.{next_record}
 use Rattle.csv.specs.Reading.{default_config, records_from, records_next}
 use Rattle.csv.specs.declared.parser.State.{State}
 use Rattle.csv.specs.declared.parser.State.TheVariants as st
-use Rattle.values.specs.Columns.{ListedColumns, rows_of}
-use Rattle.values.specs.Numbers.{is_digit, place_value, whole_of}
-use Rattle.values.specs.declared.kind.FieldKind.TheVariants.{Long}
+use Rattle.value_columns.specs.Columns.{ListedColumns, rows_of}
+use Rattle.data_types.specs.Numbers.{is_digit, place_value, whole_of}
+use Rattle.data_types.specs.declared.kind.FieldKind.TheVariants.{Long}
 use Rattle.values.specs.declared.value.Value.TheVariants.{Whole}
-use Rattle.values.specs.declared.whole.WholeFault.{WholeFault}
+use Rattle.data_types.specs.declared.whole.WholeFault.{WholeFault}
 use Rattle.table_schema.specs.declared.field.Field.{Field}
 use Rattle.csv_row.specs.InOrder.{after}
 use Rattle.csv_ingest.specs.Blocks.{rows_from}

@@ -4,7 +4,7 @@ use Rattle.std.specs.List.{All}
 use Rattle.csv.specs.Reading.{default_config, records_from}
 use Rattle.csv.specs.Records.{fields_of}
 use Rattle.csv.specs.declared.parser.State.TheVariants as st
-use Rattle.values.specs.Columns.{Listed}
+use Rattle.value_columns.specs.Columns.{Listed}
 use Rattle.values.specs.declared.value.Value.{Value}
 use Rattle.table_schema.specs.declared.field.Field.{Field}
 use Rattle.table_schema.specs.declared.field.Schema.{Schema}

@@ -3,7 +3,7 @@ ghost use Rattle.std.specs.Prelude.{◌≡◌, ◌≢◌, ◌≤◌, ◌<◌, �
 ghost use Rattle.csv.specs.Reading.{default_config, records, records_from};
 ghost use Rattle.csv.specs.Records.{fields_of};
 ghost use Rattle.csv.specs.declared.parser.State.TheVariants as st;
-ghost use Rattle.values.specs.Columns.{rows_of as rows_of_columns};
+ghost use Rattle.value_columns.specs.Columns.{rows_of as rows_of_columns};
 ghost use Rattle.csv_ingest.specs.Blocks.{IsFullBlock, IsLastBlock, RowsOrFault, rows_from};
 ghost use Rattle.csv_row.specs.InOrder.{after};
 ghost use Rattle.csv_row.specs.Columns.{OfSorts};
@@ -20,9 +20,10 @@ use crate::records::{from_place, next_record, text_reader, unmarked, unmarked_le
 use crate::rows::{Block, read_block};
 use csv::{ByteRecord, Reader};
 use csv_row::{CsvFault, CsvKind, Layout};
+use data_types::Seq;
 use std::alloc::{AllocError, Global};
 use table_schema::{Field, Schema};
-use values::{Columns, Seq};
+use value_columns::Columns;
 
 // How many rows a block has.
 const BLOCK_ROWS: usize = 4_096;

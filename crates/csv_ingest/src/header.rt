@@ -6,9 +6,10 @@ ghost use Rattle.csv_ingest.specs.Rows.{header_of};
 
 use csv::ByteRecord;
 use csv_row::{CsvFault, CsvKind, cell, text_of};
+use data_types::{FieldKind, Name, Seq};
 use std::alloc::{AllocError, Global};
 use table_schema::{Field, Role, is_column_name};
-use values::{FieldKind, Name, Seq, Value};
+use values::Value;
 
 fn is_among(name: &[u8], names: &[&[u8]]) -> bool
     ensures { result ≡ is_among name.now (map (λ f. f.now) names.now) }

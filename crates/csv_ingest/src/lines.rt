@@ -1,8 +1,8 @@
 //! Lines of whole numbers, read straight from a text.
 ghost use Rattle.std.specs.Prelude.{◌≡◌, ◌<◌, ◌≤◌, ◌+◌, ◌-◌, ◌^◌, ◌∷◌, pos, Some, true, false, drop, get_or, map, length, OnOk, IfOk, IfSome};
 ghost use Rattle.std.specs.List.{All};
-ghost use Rattle.values.specs.Columns.{Counts, row_pushed};
-ghost use Rattle.values.specs.Numbers.{is_digit, negative};
+ghost use Rattle.value_columns.specs.Columns.{Counts, row_pushed};
+ghost use Rattle.data_types.specs.Numbers.{is_digit, negative};
 ghost use Rattle.values.specs.declared.value.Value.TheVariants as value;
 ghost use Rattle.csv_row.specs.Columns.{OfSorts};
 ghost use Rattle.csv_row.specs.Layouts.{IsLayout, header_of};
@@ -11,9 +11,11 @@ ghost use Rattle.csv_ingest.specs.Lines.{AreLines, EndsCell, IsCell, IsLastCell,
 use crate::records::from_place;
 use crate::rows::empty_columns;
 use csv_row::Layout;
+use data_types::FieldKind;
 use std::alloc::{AllocError, Global};
 use table_schema::Field;
-use values::{Column, Columns, FieldKind, Value};
+use value_columns::{Column, Columns};
+use values::Value;
 
 // So many digits spell a number within 64 bits, and one more still fits in them.
 const FEW_DIGITS: usize = 18;

@@ -1,7 +1,7 @@
 //! The rows of a CSV text of whole numbers.
 ghost use Rattle.std.specs.Prelude.{◌≡◌, ◌≢◌, ◌≤◌, ◌<◌, ◌+◌, ◌^◌, ℕ, List, length, IfOk, IfErr, Ok, Err};
 ghost use Rattle.std.specs.List.{All};
-ghost use Rattle.values.specs.Columns.{rows_of as rows_of_columns};
+ghost use Rattle.value_columns.specs.Columns.{rows_of as rows_of_columns};
 ghost use Rattle.csv_ingest.specs.NumberBlocks.{AreNumbers};
 ghost use Rattle.csv_ingest.specs.Reading.{Reads, records_left};
 ghost use Rattle.csv_row.specs.Row.{csv_limits};
@@ -15,7 +15,7 @@ use csv::Reader;
 use csv_row::CsvFault;
 use std::alloc::Global;
 use table_schema::Schema;
-use values::{Columns, Rows};
+use value_columns::{Columns, Rows};
 
 // The columns of a header, and the rows of at most `most` records that are left.
 fn number_records(

@@ -1,7 +1,7 @@
 //! The records of a CSV text as columns of a table.
 ghost use Rattle.std.specs.Prelude.{◌≡◌, ◌≢◌, ◌≤◌, ◌<◌, ◌+◌, ◌^◌, ℕ, List, map, length, IfOk, IfErr, MatchBool, Ok, Err, []};
 ghost use Rattle.std.specs.List.{All};
-ghost use Rattle.values.specs.Columns.{Counts, rows_of as rows_of_columns};
+ghost use Rattle.value_columns.specs.Columns.{Counts, rows_of as rows_of_columns};
 ghost use Rattle.csv_ingest.specs.Blocks.{IsFullBlock, IsLastBlock, rows_from};
 ghost use Rattle.csv_ingest.specs.Reading.{Reads, records_left};
 ghost use Rattle.csv_row.specs.Row.{csv_limits};
@@ -12,9 +12,10 @@ ghost use Rattle.csv_row.specs.Layouts.{IsLayout, header_of};
 use crate::records::next_record;
 use csv::{ByteRecord, Reader};
 use csv_row::{CsvFault, Layout};
+use data_types::FieldKind;
 use std::alloc::{AllocError, Global};
 use table_schema::Field;
-use values::{Column, Columns, FieldKind};
+use value_columns::{Column, Columns};
 
 fn empty_column(alloc: Global, kind: FieldKind) -> Column
     ensures { result ≡ record { are_texts = is_text_kind kind; values = [] } }

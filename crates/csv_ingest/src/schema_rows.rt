@@ -1,7 +1,7 @@
 //! The rows of a CSV text over the fields of a table.
 ghost use Rattle.std.specs.Prelude.{◌≡◌, ◌≢◌, ◌≤◌, ◌<◌, ◌+◌, ◌^◌, ◌∷◌, ℕ, List, length, IfOk, IfErr, Ok, Err};
 ghost use Rattle.csv.specs.Records.{fields_of};
-ghost use Rattle.values.specs.Columns.{rows_of as rows_of_columns};
+ghost use Rattle.value_columns.specs.Columns.{rows_of as rows_of_columns};
 ghost use Rattle.csv_row.specs.Columns.{DefaultsFit, OfSorts};
 ghost use Rattle.csv_ingest.specs.Reading.{Reads, records_left};
 ghost use Rattle.csv_row.specs.Row.{csv_limits};
@@ -16,7 +16,7 @@ use csv::{ByteRecord, Reader};
 use csv_row::{CsvFault, CsvKind};
 use std::alloc::Global;
 use table_schema::{Field, Schema};
-use values::{Columns, Rows};
+use value_columns::{Columns, Rows};
 
 // The rows of at most `most` records that are left, below this header.
 fn schema_columns(

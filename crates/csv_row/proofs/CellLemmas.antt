@@ -8,16 +8,16 @@ use Rattle.std.proofs.lemmas.Bool.Decides.{nat_tests}
 use Rattle.std.proofs.lemmas.List.Sums.{AllPass-from_list_all}
 use Rattle.std.proofs.lemmas.Str.{IsUtf8-from_ascii, IsUtf8-from_is_utf8, is_utf8-from_IsUtf8}
 use Rattle.std.proofs.lemmas.Str.Ascii.{IsAscii-from_all}
-use Rattle.values.specs.Numbers.{is_digit, negative, place_value, ranged, spelled_number, unsigned_number, whole_of}
-use Rattle.values.specs.declared.kind.FieldKind.{FieldKind}
-use Rattle.values.specs.declared.kind.FieldKind.TheVariants as named
-use Rattle.values.specs.declared.whole.WholeFault.{WholeFault}
-use Rattle.values.specs.declared.whole.WholeFault.TheVariants.{NotANumber, OutOfRange}
-use Rattle.values.specs.declared.read.ValueFault.{ValueFault}
-use Rattle.values.specs.declared.read.ValueFault.TheVariants.{TooLong}
+use Rattle.data_types.specs.Numbers.{is_digit, negative, place_value, ranged, spelled_number, unsigned_number, whole_of}
+use Rattle.data_types.specs.declared.kind.FieldKind.{FieldKind}
+use Rattle.data_types.specs.declared.kind.FieldKind.TheVariants as named
+use Rattle.data_types.specs.declared.whole.WholeFault.{WholeFault}
+use Rattle.data_types.specs.declared.whole.WholeFault.TheVariants.{NotANumber, OutOfRange}
+use Rattle.value_columns.specs.declared.read.ValueFault.{ValueFault}
+use Rattle.value_columns.specs.declared.read.ValueFault.TheVariants.{TooLong}
 use Rattle.values.specs.declared.value.Value.{Value}
 use Rattle.values.specs.declared.value.Value.TheVariants.{Whole, Text}
-use Rattle.values.specs.Reading.{number_value, value_of}
+use Rattle.value_columns.specs.Reading.{number_value, value_of}
 use Rattle.csv_row.specs.declared.fault.CsvKind.TheVariants.{NotUtf8}
 use Rattle.csv_row.specs.Row.{kinded, value_in}
 

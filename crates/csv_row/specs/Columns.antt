@@ -1,11 +1,11 @@
 -- What a record adds to the columns of a table.
 use Rattle.std.specs.Prelude.{◌≡◌, ℕ, Bool, true, false, List, length, map, Result, Ok}
 use Rattle.std.specs.List.{All}
-use Rattle.values.specs.declared.kind.FieldKind.{FieldKind}
-use Rattle.values.specs.declared.kind.FieldKind.TheVariants as kind
+use Rattle.data_types.specs.declared.kind.FieldKind.{FieldKind}
+use Rattle.data_types.specs.declared.kind.FieldKind.TheVariants as kind
 use Rattle.values.specs.declared.value.Value.{Value}
 use Rattle.table_schema.specs.declared.field.Field.{Field}
-use Rattle.values.specs.Columns.{Listed, is_text, pushed, row_pushed}
+use Rattle.value_columns.specs.Columns.{Listed, is_text, pushed, row_pushed}
 use Rattle.csv_row.specs.declared.fault.CsvFault.{CsvFault}
 use Rattle.csv_row.specs.Row.{cell_value}
 

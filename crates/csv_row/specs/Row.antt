@@ -2,11 +2,11 @@
 use Rattle.std.specs.Prelude.{ℕ, ◌-◌, nat_lt, Bool, not, ◌==◌, List, [], ◌∷◌, length, map, slice_index_or, Option, Some, None, Result, Ok, Err, if◌then◌else◌}
 use Rattle.std.specs.List.{position_from}
 use Rattle.std.specs.Str.{bytes_eq, is_utf8}
-use Rattle.values.specs.Reading.{value_of}
-use Rattle.values.specs.declared.kind.FieldKind.{FieldKind}
+use Rattle.value_columns.specs.Reading.{value_of}
+use Rattle.data_types.specs.declared.kind.FieldKind.{FieldKind}
 use Rattle.values.specs.declared.value.Value.{Value}
-use Rattle.values.specs.declared.read.ValueFault.{ValueFault}
-use Rattle.values.specs.declared.read.ValueFault.TheVariants as refused
+use Rattle.value_columns.specs.declared.read.ValueFault.{ValueFault}
+use Rattle.value_columns.specs.declared.read.ValueFault.TheVariants as refused
 use Rattle.table_schema.specs.declared.field.Field.{Field}
 use Rattle.table_schema.specs.ValidTable.{most_rows}
 use Rattle.csv_row.specs.declared.fault.CsvKind.{CsvKind}

@@ -6,9 +6,11 @@ ghost use Rattle.csv_row.specs.Row.{cell_value, placed, value_at, value_in};
 
 use crate::{CsvFault, CsvKind};
 use csv::ByteRecord;
+use data_types::{FieldKind, read_whole};
 use std::alloc::Global;
 use table_schema::Field;
-use values::{FieldKind, MOST_TEXT_BYTES, Value, ValueFault, read_value, read_whole};
+use value_columns::{MOST_TEXT_BYTES, ValueFault, read_value};
+use values::Value;
 
 /// The cell of a record at a place.
 pub fn cell(cells: &ByteRecord, at: usize) -> &[u8]

@@ -11,9 +11,10 @@ use crate::cells::{cell, number_in, read_field};
 use crate::layout::Layout;
 use crate::{CsvFault, CsvKind};
 use csv::ByteRecord;
+use data_types::FieldKind;
 use std::alloc::{AllocError, Global};
 use table_schema::Field;
-use values::{Column, FieldKind, MOST_TEXT_BYTES};
+use value_columns::{Column, MOST_TEXT_BYTES};
 
 // Whether some bytes are few enough for a text.
 #[inline(always)]

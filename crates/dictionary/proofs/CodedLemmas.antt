@@ -11,9 +11,9 @@ use Rattle.values.specs.declared.value.Value.TheVariants.{Whole}
 use Rattle.values.specs.Order.Laws.{value_eq-equiv}
 use Rattle.values.specs.Tests.{is_member}
 use Rattle.values.proofs.Bounds.{same_value}
-use Rattle.dictionary.specs.Coding.{AreAmong, AreBelow, Codes, Sees, renumbered, values_at}
-use Rattle.dictionary.specs.Dictionary.{distinct}
-use Rattle.dictionary.proofs.Distinct.{distinct_members, distinct_so}
+use Rattle.value_ids.specs.Coding.{AreAmong, AreBelow, Codes, Sees, renumbered, values_at}
+use Rattle.value_ids.specs.Dictionary.{distinct}
+use Rattle.value_ids.proofs.Distinct.{distinct_members, distinct_so}
 
 -- ---- values of one form
 

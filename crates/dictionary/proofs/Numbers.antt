@@ -6,12 +6,12 @@ use Rattle.std.proofs.lemmas.List.{length-append, take-append-drop}
 use Rattle.std.proofs.lemmas.Nat.{be_bytes_8, from_be_bytes-to_be_bytes_8}
 use Rattle.std.specs.Int.{w64, from_be_bytes, cast_signed, cast_unsigned}
 use Rattle.std.specs.Int.RustNames.{FitsSigned}
-use Rattle.values.specs.Numbers.{is_in_range}
-use Rattle.values.specs.declared.kind.FieldKind.{FieldKind}
-use Rattle.values.specs.declared.kind.FieldKind.TheVariants as kind
+use Rattle.data_types.specs.Numbers.{is_in_range}
+use Rattle.data_types.specs.declared.kind.FieldKind.{FieldKind}
+use Rattle.data_types.specs.declared.kind.FieldKind.TheVariants as kind
 use Rattle.values.specs.declared.value.Value.{Value}
 use Rattle.values.specs.declared.value.Value.TheVariants as value
-use Rattle.dictionary.specs.Dictionary.{Fits, most_values}
+use Rattle.value_ids.specs.Dictionary.{Fits, most_values}
 use Rattle.dictionary.specs.Reading.{is_above_last, IsBody, NoBody}
 use Rattle.dictionary.proofs.Progress.{IsRead, Whole, none_read, read_more, not_whole, body_read}
 use Rattle.dictionary.specs.Spelling.{number_bytes, numbers, body}

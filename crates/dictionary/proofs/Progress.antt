@@ -9,15 +9,15 @@ use Rattle.std.specs.Option.{IfSome}
 use Rattle.std.specs.Ordering.{is_lt}
 use Rattle.std.specs.declared.cmp.Ordering.{Ordering}
 use Rattle.std.specs.declared.cmp.Ordering.TheVariants as order
-use Rattle.values.specs.declared.kind.FieldKind.{FieldKind}
+use Rattle.data_types.specs.declared.kind.FieldKind.{FieldKind}
 use Rattle.values.specs.declared.value.Value.{Value}
 use Rattle.values.specs.Order.{value_order}
 use Rattle.values.specs.Order.Laws.{value_order-total}
-use Rattle.dictionary.specs.Dictionary.{Ascends, Fits, IsDictionary, IsUnicode, most_values}
+use Rattle.value_ids.specs.Dictionary.{Ascends, Fits, IsDictionary, IsUnicode, most_values}
 use Rattle.dictionary.specs.Reading.{is_above, is_above_last, IsBody}
 use Rattle.dictionary.specs.Spelling.{body}
-use Rattle.dictionary.proofs.Ascending.{push_ascends, follows_above}
-use Rattle.dictionary.proofs.Distinct.{nil_ascends}
+use Rattle.value_ids.proofs.Ascending.{push_ascends, follows_above}
+use Rattle.value_ids.proofs.Distinct.{nil_ascends}
 
 -- ---- above the last value
 

@@ -4,11 +4,11 @@ use Rattle.std.proofs.lemmas.Bool.{false≢true}
 use Rattle.std.proofs.lemmas.List.{append_cancel_left, length-append}
 use Rattle.std.proofs.lemmas.List.Elements.{All-head, All-tail}
 use Rattle.std.specs.List.{All}
-use Rattle.values.specs.declared.kind.FieldKind.{FieldKind}
-use Rattle.values.specs.declared.kind.FieldKind.TheVariants as kind
+use Rattle.data_types.specs.declared.kind.FieldKind.{FieldKind}
+use Rattle.data_types.specs.declared.kind.FieldKind.TheVariants as kind
 use Rattle.values.specs.declared.value.Value.{Value}
 use Rattle.values.specs.declared.value.Value.TheVariants as value
-use Rattle.dictionary.specs.Dictionary.{Distinct, Fits, IsDictionary, most_values}
+use Rattle.value_ids.specs.Dictionary.{Distinct, Fits, IsDictionary, most_values}
 use Rattle.dictionary.specs.Reading.{IsBody, NoBody}
 use Rattle.dictionary.specs.Spelling.{SpellsOne, body, counted, numbers, offsets, spelling, texts}
 use Rattle.dictionary.proofs.Bytes.{counted_following, counted_once, length-counted, same_fronts, same_rests}

@@ -4,10 +4,10 @@ use Rattle.std.proofs.Math.Seq.{take-append_seam}
 use Rattle.std.proofs.lemmas.Bool.{false≢true}
 use Rattle.std.proofs.lemmas.List.{append_cancel_left, length-append, take-append-drop}
 use Rattle.std.specs.Str.{IsUtf8}
-use Rattle.values.specs.declared.kind.FieldKind.TheVariants as kind
+use Rattle.data_types.specs.declared.kind.FieldKind.TheVariants as kind
 use Rattle.values.specs.declared.value.Value.{Value}
 use Rattle.values.specs.declared.value.Value.TheVariants as value
-use Rattle.dictionary.specs.Dictionary.{Fits, IsUnicode, most_values}
+use Rattle.value_ids.specs.Dictionary.{Fits, IsUnicode, most_values}
 use Rattle.dictionary.specs.Reading.{is_above_last, IsBody, IsNext, Left, NoBody, NoNext, Spells}
 use Rattle.dictionary.specs.Spelling.{counted, offsets, texts, text_bytes, body}
 use Rattle.dictionary.proofs.Bytes.{length-counted, counted_once, same_fronts, same_rests}

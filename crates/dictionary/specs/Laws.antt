@@ -2,7 +2,7 @@
 use Rattle.std.specs.Prelude.{◌≡◌, List}
 use Rattle.values.specs.declared.value.Value.{Value}
 use Rattle.values.specs.Tests.{is_member}
-use Rattle.dictionary.specs.Dictionary.{Ascends, distinct}
+use Rattle.value_ids.specs.Dictionary.{Ascends, distinct}
 
 -- each is before all those after it
 abbrev pub DistinctAscend : Type 0

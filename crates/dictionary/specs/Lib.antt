@@ -1,6 +1,3 @@
-pub mod Coding
-pub mod Dictionary
-pub mod Ids
-pub mod Spelling
-pub mod Reading
 pub mod Laws
+pub mod Reading
+pub mod Spelling

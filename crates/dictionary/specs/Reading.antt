@@ -2,11 +2,11 @@
 use Rattle.std.specs.Prelude.{◌≡◌, ◌≢◌, ◌≤◌, ◌+◌, ◌-◌, ◌++◌, ℕ, Bool, true, List, ◌∷◌, length, Option, Some, None, slice_get}
 use Rattle.std.specs.Ordering.{is_lt}
 use Rattle.std.specs.Str.{IsUtf8}
-use Rattle.values.specs.declared.kind.FieldKind.{FieldKind}
+use Rattle.data_types.specs.declared.kind.FieldKind.{FieldKind}
 use Rattle.values.specs.declared.value.Value.{Value}
 use Rattle.values.specs.declared.value.Value.TheVariants.{Text}
 use Rattle.values.specs.Order.{value_order}
-use Rattle.dictionary.specs.Dictionary.{IsDictionary}
+use Rattle.value_ids.specs.Dictionary.{IsDictionary}
 use Rattle.dictionary.specs.Spelling.{body, counted, offsets, texts}
 
 -- the bytes are the body of these values, which are a dictionary

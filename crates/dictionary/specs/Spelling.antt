@@ -1,11 +1,11 @@
 -- How a dictionary is spelled in a segment's file. Numbers have the most significant byte first.
 use Rattle.std.specs.Prelude.{◌≡◌, ◌+◌, ◌++◌, ℕ, List, [], ◌∷◌, length}
 use Rattle.std.specs.Int.{w32, w64, to_be_bytes, cast_unsigned}
-use Rattle.values.specs.declared.kind.FieldKind.{FieldKind}
-use Rattle.values.specs.declared.kind.FieldKind.TheVariants as kind
+use Rattle.data_types.specs.declared.kind.FieldKind.{FieldKind}
+use Rattle.data_types.specs.declared.kind.FieldKind.TheVariants as kind
 use Rattle.values.specs.declared.value.Value.{Value}
 use Rattle.values.specs.declared.value.Value.TheVariants.{Whole, Text}
-use Rattle.dictionary.specs.Dictionary.{Distinct, IsDictionary}
+use Rattle.value_ids.specs.Dictionary.{Distinct, IsDictionary}
 
 -- four bytes
 unfoldable pub counted : ℕ → List ℕ

@@ -1,14 +1,16 @@
 //! Bytes read as a dictionary.
 
 ghost use Rattle.std.specs.Prelude.{◌≡◌, ◌≢◌, ◌<◌, ◌≤◌, ◌*◌, ◌^◌, ◌++◌, ◌∷◌, [], List, ℕ, true, length, IfOk, IfErr, OnOk, MatchOption};
-ghost use Rattle.values.specs.Numbers.{is_in_range};
-ghost use Rattle.dictionary.specs.Dictionary.{Distinct, IsDictionary, most_values};
+ghost use Rattle.data_types.specs.Numbers.{is_in_range};
+ghost use Rattle.value_ids.specs.Dictionary.{Distinct, IsDictionary, most_values};
 ghost use Rattle.dictionary.specs.Spelling.{spelling, counted, number_bytes};
 ghost use Rattle.dictionary.specs.Reading.{IsBody, NoBody, is_above_last, Left, IsNext, NoNext};
 
 use crate::{DictFault, Dictionary, MOST_VALUES};
+use data_types::{FieldKind, Name};
 use std::alloc::Global;
-use values::{FieldKind, MOST_TEXT_BYTES, Name, Value};
+use value_columns::MOST_TEXT_BYTES;
+use values::Value;
 
 impl Dictionary {
     /// The dictionary of that kind whose spelling the bytes are.

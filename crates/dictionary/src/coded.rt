@@ -1,12 +1,14 @@
 //! The values of a column at first sight, and the ids of its rows.
 ghost use Rattle.std.specs.Prelude.{◌≡◌, ◌≤◌, map, length, IfOk};
 ghost use Rattle.values.specs.declared.value.Value.TheVariants as value;
-ghost use Rattle.dictionary.specs.Coding.{AreAmong, AreBelow, Codes, Sees, renumbered, values_at};
-ghost use Rattle.dictionary.specs.Dictionary.{Ascends, most_values};
+ghost use Rattle.value_ids.specs.Coding.{AreAmong, Codes, Sees};
+ghost use Rattle.value_ids.specs.Dictionary.{Ascends, most_values};
 
 use crate::number_index::code_numbers;
+use data_types::{Name, TextPool};
 use std::alloc::{AllocError, Global};
-use values::{Column, Name, NoMemory, TextPool, Texts, Value};
+use value_columns::{Column, Texts};
+use values::{NoMemory, Value};
 
 /// Values of a column, as a rule each once, and for each row the place of its own among them.
 #[derive(Drop)]
@@ -85,17 +87,6 @@ pub fn ranks(alloc: Global, values: &[Value], seen: &[Value]) -> Result<Vec<u32>
         }
     }
     Ok(ranks)
-}
-
-/// Puts the rank of each of these places where it is.
-pub fn rank_places(ids: &mut [u32], ranks: &[u32])
-    requires { AreBelow (length ranks.now) ids.old }
-    ensures { ids.new ≡ renumbered ranks.now ids.old }
-{
-    'places: for at in 0..ids.len() {
-        let id = ids[at] as usize;
-        ids[at] = ranks[id];
-    }
 }
 
 fn copied(alloc: Global, ids: &[u32]) -> Result<Vec<u32>, NoMemory>

@@ -1,20 +1,21 @@
 //! A dictionary, made of a column, and its look-ups.
 
 ghost use Rattle.std.specs.Prelude.{◌≡◌, ◌<◌, ◌≤◌, ℕ, false, length, slice_get, Some, IfOk, MatchOption};
-ghost use Rattle.std.specs.List.{All, IsDistinct};
-ghost use Rattle.values.specs.Order.{value_eq};
+ghost use Rattle.std.specs.List.{All};
 ghost use Rattle.values.specs.Tests.{is_member};
-ghost use Rattle.dictionary.specs.Coding.{Codes};
-ghost use Rattle.dictionary.specs.Dictionary.{Fits, Distinct, IsDictionary, IsUnicode, distinct, most_values};
-ghost use Rattle.dictionary.specs.Ids.{has_id, matching, satisfies};
+ghost use Rattle.value_ids.specs.Coding.{Codes};
+ghost use Rattle.value_ids.specs.Dictionary.{Fits, Distinct, IsDictionary, distinct, most_values};
+ghost use Rattle.value_ids.specs.Ids.{has_id, matching, satisfies};
 
-use crate::IdSet;
-use crate::coded::{Coded, code_column, rank_places, ranks};
+use crate::coded::{Coded, code_column, ranks};
 use crate::matching::matching_ids;
-use indexmap::IndexSet;
+use data_types::{FieldKind, Seq};
+use sorted_values::{distinct_values, rank_places};
 use std::alloc::Global;
 use std::marker::Model;
-use values::{Column, FieldKind, NoMemory, Seq, Test, Value, holds_value};
+use value_columns::Column;
+use value_ids::IdSet;
+use values::{NoMemory, Test, Value};
 
 /// The most values that a column has.
 pub const MOST_VALUES: usize = 1_048_576;
@@ -27,7 +28,7 @@ pub struct Dictionary {
 }
 
 impl Model for Dictionary {
-    ghost use Rattle.dictionary.specs.Dictionary.{Distinct, IsDictionary};
+    ghost use Rattle.value_ids.specs.Dictionary.{Distinct, IsDictionary};
 
     ghost Value = { Distinct };
 
@@ -122,50 +123,4 @@ impl Dictionary {
         let _list = ids.as_slice();
         Ok(ids)
     }
-}
-
-// The distinct values: those at first sight, put in order.
-fn distinct_values(alloc: Global, column: &[Value]) -> Result<Vec<Value>, NoMemory>
-    ensures distinct { IfOk result (λ values. values.items ≡ distinct column.now) }
-    ensures unicode { IfOk result (λ values. All IsUnicode values.items) }
-{
-    let mut values = first_sights(alloc, column)?;
-    values.sort_unstable();
-    Ok(values)
-}
-
-// Each value where it is first seen.
-fn first_sights(alloc: Global, column: &[Value]) -> Result<Vec<Value>, NoMemory>
-    ensures few { IfOk result (λ values. length values.items ≤ length column.now) }
-    ensures members { IfOk result (λ values. (value : _) →
-        is_member values.items value ≡ is_member column.now value) }
-    ensures unicode { IfOk result (λ values. All IsUnicode values.items) }
-    ensures apart { IfOk result (λ values. IsDistinct value_eq values.items) }
-{
-    let mut seen = IndexSet::new(alloc);
-    for value in column {
-        if seen.contains(value) {
-            continue;
-        }
-        seen.insert(shared(alloc, value)?)?;
-    }
-    listed(alloc, seen)
-}
-
-fn listed(alloc: Global, seen: IndexSet<Value>) -> Result<Vec<Value>, NoMemory>
-    ensures same { IfOk result (λ values. values.items ≡ seen.keys) }
-    ensures apart { IfOk result (λ values. IsDistinct value_eq values.items) }
-{
-    seen.into_iter().collect(alloc)
-}
-
-// An equal value, whose text is shared. To look at a text tells that it is UTF-8.
-fn shared(alloc: Global, value: &Value) -> Result<Value, NoMemory>
-    ensures same { IfOk result (λ copy. copy ≡ value.now) }
-    ensures unicode { IfOk result IsUnicode }
-{
-    if let Value::Text(text) = value {
-        let _text = text.as_str();
-    }
-    value.copy(alloc)
 }

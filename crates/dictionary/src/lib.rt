@@ -5,15 +5,11 @@ mod check;
 mod coded;
 mod dictionary;
 mod fault;
-mod id_set;
-mod id_sets;
 mod laws;
-mod mask;
 mod matching;
 mod number_index;
 mod spelling;
 
 pub use dictionary::{Dictionary, MOST_VALUES};
 pub use fault::DictFault;
-pub use id_set::IdSet;
 pub use laws::{distinct_law, spells_one_law};

@@ -1,39 +1,13 @@
 //! The ids of the values that satisfy a test. Values that ascend are cut by a bound, and none is tested.
-ghost use Rattle.std.specs.Prelude.{◌≡◌, ◌≤◌, length, IfOk};
-ghost use Rattle.values.specs.Order.{value_order};
-ghost use Rattle.values.specs.Tests.{is_between, is_member, negated_if, op_holds, holds};
-ghost use Rattle.dictionary.specs.Dictionary.{Ascends, most_values};
-ghost use Rattle.dictionary.specs.Ids.{AreThose, Cuts, Picks, negated_ids};
+ghost use Rattle.std.specs.Prelude.{◌≤◌, length, IfOk};
+ghost use Rattle.values.specs.Tests.{is_between, is_member, negated_if, holds};
+ghost use Rattle.value_ids.specs.Dictionary.{Ascends, most_values};
+ghost use Rattle.value_ids.specs.Ids.{AreThose, Picks, negated_ids};
 
-use crate::IdSet;
-use crate::id_sets::{both, either, others, run, set_of};
+use sorted_values::{Cut, compared, cut_at};
 use std::alloc::Global;
-use values::{CompareOp, NoMemory, Test, Value};
-
-// Where ascending values are cut by a bound: at the first that is not less, and at the first that is
-// greater.
-#[derive(Clone, Copy)]
-struct Cut {
-    from: u32,
-    to: u32,
-}
-
-fn cut_at(values: &[Value], bound: &Value) -> Cut
-    requires few { length values.now ≤ most_values }
-    requires ascends { Ascends values.now }
-    ensures { Cuts values.now bound.now result.from result.to }
-{
-    match values.binary_search(bound) {
-        Ok(id) => Cut {
-            from: id as u32,
-            to: id as u32 + 1,
-        },
-        Err(id) => Cut {
-            from: id as u32,
-            to: id as u32,
-        },
-    }
-}
+use value_ids::{IdSet, both, either, others, run, set_of};
+use values::{NoMemory, Test, Value};
 
 // The ids, or those of all other values.
 fn negated_set(alloc: Global, negated: bool, count: u32, ids: IdSet) -> Result<IdSet, NoMemory>
@@ -43,28 +17,6 @@ fn negated_set(alloc: Global, negated: bool, count: u32, ids: IdSet) -> Result<I
         others(alloc, count, &ids)
     } else {
         Ok(ids)
-    }
-}
-
-fn compared(
-    alloc: Global,
-    op: CompareOp,
-    bound: &Value,
-    values: &[Value],
-) -> Result<IdSet, NoMemory>
-    requires few { length values.now ≤ most_values }
-    requires ascends { Ascends values.now }
-    ensures { IfOk result (Picks (λ value. op_holds op (value_order value bound.now)) values.now) }
-{
-    let count = values.len() as u32;
-    let Cut { from, to } = cut_at(values, bound);
-    match op {
-        CompareOp::Equal => run(alloc, from, to),
-        CompareOp::Unequal => others(alloc, count, &run(alloc, from, to)?),
-        CompareOp::Less => run(alloc, 0, from),
-        CompareOp::AtMost => run(alloc, 0, to),
-        CompareOp::More => run(alloc, to, count),
-        CompareOp::AtLeast => run(alloc, from, count),
     }
 }
 

@@ -3,11 +3,12 @@
 
 ghost use Rattle.std.specs.Prelude.{◌≡◌, ◌≤◌, ◌*◌, ◌++◌, List, ℕ, OnOk, OnErr, length};
 ghost use Rattle.std.specs.List.{All};
-ghost use Rattle.dictionary.specs.Dictionary.{Distinct, Fits, IsDictionary, most_values};
+ghost use Rattle.value_ids.specs.Dictionary.{Distinct, Fits, IsDictionary, most_values};
 ghost use Rattle.dictionary.specs.Spelling.{IsExtended, numbers, number_bytes, offsets, spelling, text_bytes, texts};
 
 use crate::Dictionary;
-use values::{FieldKind, NoMemory, Value};
+use data_types::FieldKind;
+use values::{NoMemory, Value};
 
 impl Dictionary {
     /// Appends the spelling.

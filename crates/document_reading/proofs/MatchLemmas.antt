@@ -4,7 +4,7 @@ use Rattle.std.proofs.lemmas.Bool.{eqb-true, false≢true}
 use Rattle.std.proofs.lemmas.List.Elements.{All-from_get_or, All-head, All-tail}
 use Rattle.values.specs.declared.test.Test.{Test}
 use Rattle.values.specs.declared.value.Value.{Value}
-use Rattle.dictionary.specs.Ids.{has_id, satisfies}
+use Rattle.value_ids.specs.Ids.{has_id, satisfies}
 use Rattle.doc_lists.specs.Docs.{has_doc}
 
 -- a document of a list is in it

@@ -6,7 +6,7 @@ use Rattle.outside.specs.Files.{Files}
 use Rattle.outside.specs.Reads.{Entry}
 use Rattle.outside.specs.declared.place.Place.{Place}
 use Rattle.values.specs.declared.test.Test.{Test}
-use Rattle.dictionary.specs.Ids.{matching}
+use Rattle.value_ids.specs.Ids.{matching}
 use Rattle.bit_column.specs.Postings.{bucket_of, buckets_for}
 use Rattle.bit_column.specs.Sections.{section}
 use Rattle.doc_lists.specs.Docs.{has_doc}

@@ -5,7 +5,7 @@ use Rattle.std.specs.Option.{IsSome}
 use Rattle.outside.specs.Files.{Files}
 use Rattle.outside.specs.Reads.{Entry}
 use Rattle.values.specs.declared.test.Test.{Test}
-use Rattle.dictionary.specs.Ids.{matching}
+use Rattle.value_ids.specs.Ids.{matching}
 use Rattle.doc_lists.specs.Docs.{has_doc}
 use Rattle.doc_lists.specs.Sets.{AreThose}
 use Rattle.index_reading.specs.Buckets.{LogsBuckets, LogsBucketsPartly, is_to_check}

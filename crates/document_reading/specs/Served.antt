@@ -3,8 +3,8 @@ use Rattle.std.specs.Prelude.{ℕ, Bool, true, false, ◌-◌, List, [], ◌∷�
 use Rattle.std.specs.List.{filter, list_all}
 use Rattle.values.specs.declared.test.Test.{Test}
 use Rattle.values.specs.declared.value.Value.{Value}
-use Rattle.dictionary.specs.Dictionary.{distinct}
-use Rattle.dictionary.specs.Ids.{matching}
+use Rattle.value_ids.specs.Dictionary.{distinct}
+use Rattle.value_ids.specs.Ids.{matching}
 use Rattle.bit_column.specs.Postings.{bucket_of}
 use Rattle.index_reading.specs.Buckets.{overlaps}
 use Rattle.table_schema.specs.declared.query.BoundQuery.{BoundQuery}

@@ -12,7 +12,6 @@ ghost use Rattle.document_reading.specs.Indexes.{AddsUnsure, AreEndsOf, AreInBot
 ghost use Rattle.document_reading.specs.declared.fault.EngineFault.TheVariants.{NotASegment, ReadFault, TooManyGroups};
 
 use crate::fault::EngineFault;
-use dictionary::IdSet;
 use doc_lists::{DocList, join};
 use index_reading::{ListFault, docs_between};
 use outside::Shelf;
@@ -21,6 +20,7 @@ use segment_head::Head;
 use segment_plan::IndexChoice;
 use std::alloc::Global;
 use table_schema::Conjunct;
+use value_ids::IdSet;
 use values::{NoMemory, Test};
 
 /// The documents in the buckets that overlap the ids of the values that satisfy a test, by the range

@@ -4,13 +4,13 @@ use Rattle.std.specs.Result.{result_ok}
 use Rattle.std.proofs.lemmas.Option.{cond_some, same_Some}
 use Rattle.serde_json.specs.Data.{Num, Data, null, boolean, number, string, array, object}
 use Rattle.serde_json.specs.Find.{as_i64}
-use Rattle.values.specs.declared.kind.FieldKind.{FieldKind}
-use Rattle.values.specs.declared.kind.FieldKind.TheVariants as kind
+use Rattle.data_types.specs.declared.kind.FieldKind.{FieldKind}
+use Rattle.data_types.specs.declared.kind.FieldKind.TheVariants as kind
 use Rattle.values.specs.declared.value.Value.{Value}
 use Rattle.values.specs.declared.value.Value.TheVariants as value
-use Rattle.values.specs.Numbers.{is_in_range, ranged, spelled_number}
-use Rattle.values.specs.Reading.{number_value}
-use Rattle.values.specs.declared.whole.WholeFault.TheVariants.{OutOfRange}
+use Rattle.data_types.specs.Numbers.{is_in_range, ranged, spelled_number}
+use Rattle.value_columns.specs.Reading.{number_value}
+use Rattle.data_types.specs.declared.whole.WholeFault.TheVariants.{OutOfRange}
 use Rattle.table_schema.specs.declared.field.Role.{Role}
 use Rattle.table_schema.specs.declared.field.Role.TheVariants.{Dimension, Metric, DateTime}
 use Rattle.json_keys.specs.declared.fault.KeyKind.TheVariants.{WrongKind, TooMany, BadName, UnknownType, Unsupported, DuplicateColumn}

@@ -3,12 +3,12 @@ use Rattle.std.specs.Prelude.{ℤ, pos, neg_ℤ, nat_le, length, codes, Option, 
 use Rattle.std.specs.Result.{result_ok}
 use Rattle.serde_json.specs.Data.{Num, Data, number, string}
 use Rattle.serde_json.specs.Find.{as_i64}
-use Rattle.values.specs.declared.kind.FieldKind.{FieldKind}
-use Rattle.values.specs.declared.kind.FieldKind.TheVariants as kind
+use Rattle.data_types.specs.declared.kind.FieldKind.{FieldKind}
+use Rattle.data_types.specs.declared.kind.FieldKind.TheVariants as kind
 use Rattle.values.specs.declared.value.Value.{Value}
 use Rattle.values.specs.declared.value.Value.TheVariants as value
-use Rattle.values.specs.Numbers.{is_in_range, range_of}
-use Rattle.values.specs.Reading.{value_of}
+use Rattle.data_types.specs.Numbers.{is_in_range, range_of}
+use Rattle.value_columns.specs.Reading.{value_of}
 use Rattle.table_schema.specs.declared.field.Role.{Role}
 use Rattle.table_schema.specs.declared.field.Role.TheVariants.{Dimension, Metric, DateTime}
 use Rattle.json_keys.specs.declared.fault.KeyKind.TheVariants.{WrongKind}

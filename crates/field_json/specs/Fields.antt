@@ -3,8 +3,8 @@ use Rattle.std.specs.Prelude.{ℕ, ◌+◌, ℤ, pos, int_lt, nat_lt, Bool, true
 use Rattle.std.specs.Str.{bytes_eq}
 use Rattle.serde_json.specs.Data.{Data}
 use Rattle.serde_json.specs.Find.{as_number, as_integer}
-use Rattle.values.specs.declared.kind.FieldKind.{FieldKind}
-use Rattle.values.specs.declared.kind.FieldKind.TheVariants as kind
+use Rattle.data_types.specs.declared.kind.FieldKind.{FieldKind}
+use Rattle.data_types.specs.declared.kind.FieldKind.TheVariants as kind
 use Rattle.table_schema.specs.declared.field.Role.{Role}
 use Rattle.table_schema.specs.declared.field.Role.TheVariants.{Dimension, Metric, DateTime}
 use Rattle.table_schema.specs.declared.field.Field.{Field}

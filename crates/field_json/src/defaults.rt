@@ -5,11 +5,12 @@ ghost use Rattle.serde_json.specs.View.{view, number_view};
 ghost use Rattle.field_json.specs.Defaults as spec;
 ghost use Rattle.json_keys.specs.Faults.{Gives};
 
+use data_types::{FieldKind, Name, read_whole};
 use json_keys::{KeyKind, TextFault, key_fault, key_of};
 use serde_json::{Number, Value as Json};
 use std::alloc::Global;
 use table_schema::Role;
-use values::{FieldKind, Name, NoMemory, Value, read_whole};
+use values::{NoMemory, Value};
 
 /// The most bytes of a text that is a default.
 const MOST_DEFAULT_BYTES: usize = 64;

@@ -6,11 +6,12 @@ ghost use Rattle.field_json.specs.Fields as spec;
 ghost use Rattle.field_json.specs.Entries.{seen};
 ghost use Rattle.json_keys.specs.Faults.{Refuses};
 
+use data_types::Name;
 use json_keys::{KeyKind, TextFault, at_place, fault_at, optional_array};
 use serde_json::Value;
 use std::alloc::Global;
 use table_schema::Role;
-use values::{Name, NoMemory};
+use values::NoMemory;
 
 /// A place of one of the lists, from 0, with what is there.
 #[derive(Clone, Copy)]

@@ -7,11 +7,11 @@ ghost use Rattle.field_json.specs.Fields as spec;
 ghost use Rattle.table_schema.specs.Names.{is_among as is_among_names};
 ghost use Rattle.json_keys.specs.Faults.{Gives, Passes, Refuses};
 
+use data_types::FieldKind;
 use json_keys::{KeyKind, TextFault, check_not, check_unused, key_fault, key_of, required_text};
 use serde_json::Value as Json;
 use std::alloc::Global;
 use table_schema::{Field, Role, is_column_name};
-use values::FieldKind;
 
 /// The least `maxLength` that is supported: the most bytes of a text value.
 const LEAST_MAX_LENGTH: i128 = 512;

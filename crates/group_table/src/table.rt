@@ -17,7 +17,8 @@ use state_columns::StateRow;
 use std::alloc::Global;
 use std::marker::Model;
 use table_schema::{Agg, BoundQuery};
-use values::{NoMemory, Row, copy_row};
+use value_columns::{Row, copy_row};
+use values::NoMemory;
 
 /// The groups of a query: to each key the aggregates of its rows. Each group has a place.
 #[derive(Drop)]

@@ -3,7 +3,7 @@ use Rattle.std.specs.Prelude.{◌≡◌, ◌<◌, ℕ, Bool, ◌&&◌, nat_lt, L
 use Rattle.std.specs.List.Sorted.{IsNonDecreasing}
 use Rattle.bit_column.specs.Postings.{inverted, ranged}
 use Rattle.bit_column.specs.SortedRuns.{sorted_runs}
-use Rattle.dictionary.specs.Ids.{has_id}
+use Rattle.value_ids.specs.Ids.{has_id}
 use Rattle.index_reading.specs.declared.kind.ListKind.{ListKind}
 use Rattle.index_reading.specs.declared.kind.ListKind.TheVariants.{Sorted, Inverted}
 

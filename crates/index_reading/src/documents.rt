@@ -9,10 +9,10 @@ ghost use Rattle.index_reading.specs.Logs.{LogsIds, LogsIdsPartly};
 use crate::inverted::inverted_docs;
 use crate::sorted::sorted_docs;
 use crate::{ListFault, ListKind};
-use dictionary::IdSet;
 use doc_lists::DocList;
 use outside::{Place, Shelf};
 use std::alloc::Global;
+use value_ids::IdSet;
 
 /// The documents whose ids are in a set, ascending, by the section of a sorted column or of an
 /// inverted index. Of the section what it has of these ids is read, each byte once, and nothing

@@ -9,10 +9,10 @@ ghost use Rattle.index_reading.specs.Entries.{LogsPostings, LogsPostingsPartly};
 use crate::ListFault;
 use crate::postings::{docs_of_parts, read_parts};
 use crate::runs::runs_of;
-use dictionary::IdSet;
 use doc_lists::DocList;
 use outside::{Place, Shelf};
 use std::alloc::Global;
+use value_ids::IdSet;
 
 /// The documents whose ids are in a set, ascending, by the section of an inverted index. Of the
 /// section the offsets of these ids are read, and then their entries, both in one read a run of ids

@@ -1,9 +1,9 @@
 //! Ids as runs of ids that follow one another.
 ghost use Rattle.std.specs.Prelude.{◌≡◌, IfOk};
 
-use dictionary::IdSet;
 use doc_lists::{DocList, NoMemory};
 use std::alloc::Global;
+use value_ids::IdSet;
 
 /// The ids of a set, as runs.
 pub fn runs_of(alloc: Global, ids: &IdSet) -> Result<DocList, NoMemory>

@@ -11,10 +11,10 @@ ghost use Rattle.index_reading.specs.Stretches.{LogsOver, LogsPartly};
 use crate::ListFault;
 use crate::ends::read_ends;
 use crate::runs::runs_of;
-use dictionary::IdSet;
 use doc_lists::{DocList, Run};
 use outside::{Place, Shelf};
 use std::alloc::Global;
+use value_ids::IdSet;
 
 /// The documents whose ids are in a set, ascending, by the section of a sorted column: those of a run
 /// of ids that follow one another are one range. Of the section the places of these ids are read, in

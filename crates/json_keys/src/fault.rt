@@ -1,7 +1,7 @@
 //! Why a text in JSON is not what it has to be.
 
+use data_types::Name;
 use std::alloc::AllocError;
-use values::Name;
 
 /// What is wrong at a key.
 #[derive(Clone, Copy, Debug, PartialEq, Eq)]

@@ -5,8 +5,9 @@ ghost use Rattle.json_keys.specs.declared.fault.TextFault.TheVariants.{At, NoMem
 ghost use Rattle.json_keys.specs.Faults as spec;
 
 use crate::{KeyKind, KeyPath, TextFault};
+use data_types::Name;
 use std::alloc::Global;
-use values::{Name, NoMemory};
+use values::NoMemory;
 
 /// The path of a key of the object at `base`.
 pub fn below(alloc: Global, base: &str, key: &str) -> Result<KeyPath, NoMemory>

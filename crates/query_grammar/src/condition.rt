@@ -6,10 +6,10 @@ ghost use Rattle.query_grammar.specs.Cond.{Joints};
 ghost use Rattle.query_tokens.specs.Stream.{Stream};
 ghost use Rattle.token_cursor.specs.Reading.{Parser, Reads};
 
+use data_types::Seq;
 use query_tokens::{Kind, QueryFault};
 use std::alloc::{AllocError, Global};
 use token_cursor::Tokens;
-use values::Seq;
 
 /// A tree of conditions over some sort of test.
 pub trait Condition: Drop + Sized {

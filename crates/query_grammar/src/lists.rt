@@ -3,10 +3,10 @@
 ghost use Rattle.token_cursor.specs.Reading.{Parser, Reads, separated};
 ghost use Rattle.std.specs.Prelude.{◌<◌, length, OnOk};
 
+use data_types::Seq;
 use query_tokens::{Kind, QueryFault};
 use std::alloc::Global;
 use token_cursor::Tokens;
-use values::Seq;
 
 /// What can stand in a list.
 pub trait Member: Drop + Sized {

@@ -7,13 +7,14 @@ ghost use Rattle.token_cursor.specs.Reading.{Reads};
 
 use crate::lists::{Member, list};
 use crate::terms::name;
+use data_types::{Name, Seq};
 use query_tokens::lex::same_word;
 use query_tokens::{
     Argument, Call, Func, Kind, LiteralAt, NameAt, QueryFault, QueryItem, QueryKey, Reason, Term,
 };
 use std::alloc::Global;
 use token_cursor::Tokens;
-use values::{Name, Seq, Value};
+use values::Value;
 
 #[tactic(auto, unfolding(crate::specs::Query::func_of))]
 fn func_of(name: &Name) -> Option<Func>

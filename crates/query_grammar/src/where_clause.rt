@@ -8,10 +8,11 @@ ghost use Rattle.query_grammar.specs.Shrinks.{test_shrinks};
 use crate::condition::Condition;
 use crate::lists::list;
 use crate::terms::{literal, name};
+use data_types::{Boxed, Seq};
 use query_tokens::{Cond, Kind, LiteralAt, NameAt, QueryFault};
 use std::alloc::{AllocError, Global};
 use token_cursor::{Tokens, operator};
-use values::{Boxed, CompareOp, Seq};
+use values::CompareOp;
 
 #[tactic(auto, unfolding(crate::specs::Cond::one_of))]
 fn one_of(

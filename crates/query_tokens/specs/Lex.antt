@@ -4,9 +4,9 @@ use Rattle.std.specs.Char.{is_ascii_digit, is_ascii_alphanumeric}
 use Rattle.std.specs.List.{prefix_len}
 use Rattle.std.specs.Str.{str_eq_ignore_ascii_case}
 use denote.Enum.Bare.{sameb}
-use Rattle.values.specs.declared.kind.FieldKind.TheVariants.{Long}
-use Rattle.values.specs.declared.whole.WholeFault.{WholeFault}
-use Rattle.values.specs.Numbers.{whole_of}
+use Rattle.data_types.specs.declared.kind.FieldKind.TheVariants.{Long}
+use Rattle.data_types.specs.declared.whole.WholeFault.{WholeFault}
+use Rattle.data_types.specs.Numbers.{whole_of}
 use Rattle.query_tokens.specs.contracts.token.Kind.{the_type}
 use Rattle.query_tokens.specs.declared.lex.Class.{Class}
 use Rattle.query_tokens.specs.declared.lex.Class.TheVariants as class

@@ -7,8 +7,8 @@ ghost use Rattle.std.specs.List.{prefix_len};
 ghost use Rattle.query_tokens.specs.Lex as spec;
 
 use crate::token::{KEYWORDS, Kind, Token};
+use data_types::{FieldKind, Name, WholeFault, read_whole};
 use std::alloc::{AllocError, Global};
-use values::{FieldKind, Name, WholeFault, read_whole};
 
 #[derive(Clone, Copy, Debug)]
 enum Class {

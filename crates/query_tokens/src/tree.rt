@@ -1,6 +1,7 @@
 //! A query as it is written. Each offset is the byte of the text where the token begins.
 
-use values::{Boxed, CompareOp, Name, Seq, Value};
+use data_types::{Boxed, Name, Seq};
+use values::{CompareOp, Value};
 
 /// A name: its text without quotes, and its place.
 #[derive(Drop)]

@@ -6,9 +6,9 @@ ghost use Rattle.query_where.specs.Written.{field_number};
 ghost use Rattle.query_where.specs.Faults.{Resolves};
 
 use crate::{BindFault, BindReason};
+use data_types::FieldKind;
 use query_tokens::NameAt;
 use table_schema::Field;
-use values::FieldKind;
 
 /// The number of the field that a column is.
 pub fn column(fields: &[Field], name: &NameAt) -> Result<u16, BindFault>

@@ -8,9 +8,10 @@ ghost use Rattle.values.specs.Kinds.{is_of};
 
 use crate::columns::kind_of;
 use crate::{BindFault, BindReason};
+use data_types::FieldKind;
 use query_tokens::{Cond, LiteralAt};
 use table_schema::Field;
-use values::{FieldKind, Value};
+use values::Value;
 
 /// The column of a test comes before its literals, and members of AND and OR as they are written.
 pub fn check_condition(fields: &[Field], condition: &Cond) -> Result<(), BindFault>

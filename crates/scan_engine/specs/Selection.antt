@@ -1,6 +1,6 @@
 -- Marks for the rows of a table that are selected.
 use Rattle.std.specs.Prelude.{◌≡◌, ◌<◌, ◌&&◌, ℕ, ℤ, Bool, false, pos, List, length, get_or}
-use Rattle.values.specs.Columns.{ListedColumns, row_of}
+use Rattle.value_columns.specs.Columns.{ListedColumns, row_of}
 use Rattle.values.specs.declared.value.Value.{Value}
 use Rattle.values.specs.declared.value.Value.TheVariants.{Whole}
 use Rattle.table_schema.specs.Conditions.{cell}

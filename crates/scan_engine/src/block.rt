@@ -2,7 +2,7 @@
 
 ghost use Rattle.std.specs.Prelude.{◌≡◌, ◌≤◌, ◌-◌, Err, OnOk};
 ghost use Rattle.agg_laws.specs.Numbers.{most_values};
-ghost use Rattle.values.specs.Columns.{rows_of};
+ghost use Rattle.value_columns.specs.Columns.{rows_of};
 ghost use Rattle.group_table.specs.declared.fault.TableFault.TheVariants.{TooManyGroups};
 ghost use Rattle.group_table.specs.Kept.{IsTableOf, groups_in};
 ghost use Rattle.scan_engine.specs.Numbers.{AreNumbers};
@@ -13,7 +13,7 @@ use crate::run::add_places;
 use group_table::{GroupTable, TableFault};
 use std::alloc::Global;
 use table_schema::BoundQuery;
-use values::Columns;
+use value_columns::Columns;
 
 /// Adds the rows of a block of whole numbers that satisfy the filter of a query to its groups.
 pub fn add_block(

@@ -1,7 +1,7 @@
 //! The aggregates of some rows of a table of numbers, column by column.
 
 ghost use Rattle.std.specs.Prelude.{◌≡◌, ◌≤◌, ℕ, IfOk, get_or, length, map, pos};
-ghost use Rattle.values.specs.Columns.{row_of};
+ghost use Rattle.value_columns.specs.Columns.{row_of};
 ghost use Rattle.agg_laws.specs.Numbers.{IsWhole, most_values};
 ghost use Rattle.agg_laws.specs.Rows.{RowFits};
 ghost use Rattle.agg_laws.specs.States.{Fits, state_of};
@@ -14,7 +14,8 @@ use agg_laws::{AggKind, AggState, Aggregator, Average, Count, Greatest, Least, S
 use state_columns::StateRow;
 use std::alloc::Global;
 use table_schema::Agg;
-use values::{Columns, NoMemory};
+use value_columns::Columns;
+use values::NoMemory;
 
 /// The aggregates of the rows in these places.
 pub fn states_at(

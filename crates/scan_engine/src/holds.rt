@@ -1,7 +1,7 @@
 //! Whether a row of a table of numbers satisfies a conjunct of a query.
 
 ghost use Rattle.std.specs.Prelude.{◌≡◌, ◌≤◌, MatchOption, length};
-ghost use Rattle.values.specs.Columns.{row_of};
+ghost use Rattle.value_columns.specs.Columns.{row_of};
 ghost use Rattle.values.specs.Tests.{holds};
 ghost use Rattle.values.specs.declared.value.Value.TheVariants as value;
 ghost use Rattle.table_schema.specs.Conditions as spec;
@@ -9,7 +9,8 @@ ghost use Rattle.scan_engine.specs.Numbers.{AreNumbers};
 ghost use Rattle.scan_engine.specs.Selection.{AreNumbersOf};
 
 use table_schema::{Conjunct, Wide};
-use values::{Columns, Test, Value, holds_value};
+use value_columns::Columns;
+use values::{Test, Value, holds_value};
 
 /// The numbers of a field, a row each, unless the rows end before it.
 #[inline(always)]

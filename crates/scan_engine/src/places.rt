@@ -2,7 +2,7 @@
 
 ghost use Rattle.std.specs.Prelude.{◌≡◌, ◌≤◌, ◌++◌, [], ◌∷◌, cond, IfOk, OnOk, length};
 ghost use Rattle.agg_laws.specs.Numbers.{most_values};
-ghost use Rattle.values.specs.Columns.{rows_of};
+ghost use Rattle.value_columns.specs.Columns.{rows_of};
 ghost use Rattle.scan_engine.specs.Numbers.{AreNumbers};
 ghost use Rattle.scan_engine.specs.Places.{rows_at};
 ghost use Rattle.scan_engine.specs.Scanned.{selected};
@@ -10,7 +10,8 @@ ghost use Rattle.scan_engine.specs.Scanned.{selected};
 use crate::selection::mark_rows;
 use std::alloc::Global;
 use table_schema::BoundQuery;
-use values::{Columns, NoMemory};
+use value_columns::Columns;
+use values::NoMemory;
 
 /// The places of the rows that satisfy the filter of a query.
 pub fn selected_places(

@@ -13,7 +13,7 @@ use crate::single::add_singly;
 use group_table::{GroupTable, TableFault};
 use std::alloc::Global;
 use table_schema::BoundQuery;
-use values::{Columns, Row};
+use value_columns::{Columns, Row};
 
 /// Adds the rows in these places.
 pub fn add_places(

@@ -1,6 +1,6 @@
 //! Which rows of a table satisfy conjuncts: each condition is tested over whole columns.
 ghost use Rattle.std.specs.Prelude.{◌≡◌, ◌&&◌, IfOk, get_or, length, pos};
-ghost use Rattle.values.specs.Columns.{row_of};
+ghost use Rattle.value_columns.specs.Columns.{row_of};
 ghost use Rattle.values.specs.Order.{value_order};
 ghost use Rattle.values.specs.Tests.{op_holds};
 ghost use Rattle.values.specs.declared.value.Value.TheVariants as value;
@@ -11,7 +11,8 @@ ghost use Rattle.scan_engine.specs.Selection.{Keeps, Marks};
 use crate::holds::{conjunct_holds, numbers_of};
 use std::alloc::{AllocError, Global};
 use table_schema::Conjunct;
-use values::{Columns, CompareOp, Test, Value, op_holds};
+use value_columns::Columns;
+use values::{CompareOp, Test, Value, op_holds};
 
 /// A mark for each row of a table of numbers, whether it satisfies all of these.
 pub fn mark_rows(

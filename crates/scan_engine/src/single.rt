@@ -2,7 +2,7 @@
 
 ghost use Rattle.std.specs.Prelude.{◌≡◌, ◌≤◌, ◌-◌, ◌∷◌, [], Err, IfOk, OnOk, length, map};
 ghost use Rattle.agg_laws.specs.Numbers.{AreWhole, IsWhole, most_values};
-ghost use Rattle.values.specs.Columns.{row_of};
+ghost use Rattle.value_columns.specs.Columns.{row_of};
 ghost use Rattle.group_table.specs.declared.fault.TableFault.TheVariants.{TooManyGroups};
 ghost use Rattle.group_table.specs.Groups.{key_of, number_for};
 ghost use Rattle.group_table.specs.Kept.{IsTableOf, groups_in};
@@ -14,7 +14,8 @@ use crate::holds::number_in;
 use group_table::{GroupTable, TableFault};
 use std::alloc::Global;
 use table_schema::{Agg, BoundQuery};
-use values::{Columns, NoMemory, Row, Value};
+use value_columns::{Columns, Row};
+use values::{NoMemory, Value};
 
 /// Adds the rows in these places one by one.
 pub fn add_singly(

@@ -10,11 +10,11 @@ ghost use Rattle.json_keys.specs.Faults.{Gives, below, fault_if};
 ghost use Rattle.table_schema.specs.Firsts.{first_of};
 ghost use Rattle.table_schema.specs.Names.{is_among as is_among_names};
 
+use data_types::Name;
 use field_json::{Entry, check_support, is_among, path_of, read_default, read_kind, read_name};
 use json_keys::{KeyKind, TextFault, check_object, fault_at, key_fault};
 use std::alloc::Global;
 use table_schema::Field;
-use values::Name;
 
 /// The most fields of a schema.
 pub(crate) const MOST_FIELDS: usize = 64;

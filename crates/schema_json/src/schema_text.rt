@@ -9,12 +9,12 @@ ghost use Rattle.json_keys.specs.Faults.{Gives, Passes};
 ghost use Rattle.table_schema.specs.Valid.{IsValidSchema};
 
 use crate::field_text::read_field;
+use data_types::Seq;
 use field_json::{Entry, read_lists};
 use json_keys::{TextFault, check_not, check_object, check_unused, read_json, required_text};
 use serde_json::Value as Json;
 use std::alloc::Global;
 use table_schema::{Field, Schema};
-use values::Seq;
 
 /// The schema that a text in JSON is, with the keys of Pinot's schemas.
 ///

@@ -2,12 +2,12 @@
 use Rattle.std.proofs.Common.{◌≡◌, ◌<◌, ◌≤◌, ◌+◌, ◌^◌, ◌∙◌, ◌∷◌, ◌++◌, [], true, false, ℕ, List, Option, Some, Result, Ok, Err, IfOk, length, map, get_or, slice_get, sym, ap, subst, arith}
 use Rattle.std.specs.List.{All, concat}
 use Rattle.values.specs.declared.value.Value.{Value}
-use Rattle.values.specs.Columns.{Counts, Listed, ListedColumns, rows_of}
-use Rattle.values.proofs.RowLemmas.{length-rows}
+use Rattle.value_columns.specs.Columns.{Counts, Listed, ListedColumns, rows_of}
+use Rattle.value_columns.proofs.RowLemmas.{length-rows}
 use Rattle.table_schema.specs.ValidTable.{AreRows, IsRow, IsValidTable}
 use Rattle.table_schema.specs.declared.field.Field.{Field}
 use Rattle.table_schema.specs.declared.table.Table.{Table}
-use Rattle.dictionary.specs.Dictionary.{distinct, most_values}
+use Rattle.value_ids.specs.Dictionary.{distinct, most_values}
 use Rattle.segment_file.specs.Bounds.{IsShort}
 use Rattle.segment_file.specs.Front.{Front, file_end, front_bytes}
 use Rattle.segment_file.specs.Image.{front_of, image, sections_of_rows, values_in}

@@ -9,12 +9,12 @@ use Rattle.std.proofs.lemmas.List.Sums.{sum-map, sum_by-cons}
 use Rattle.std.specs.List.{All, AllByRecursion, range_with_len, sum_by}
 use Rattle.std.specs.Ordering.{match_ordering}
 use Rattle.std.specs.declared.cmp.Ordering.TheVariants as order
-use Rattle.values.specs.declared.kind.FieldKind.{FieldKind}
-use Rattle.values.specs.declared.kind.FieldKind.TheVariants as kind
+use Rattle.data_types.specs.declared.kind.FieldKind.{FieldKind}
+use Rattle.data_types.specs.declared.kind.FieldKind.TheVariants as kind
 use Rattle.values.specs.declared.value.Value.{Value}
 use Rattle.values.specs.declared.value.Value.TheVariants.{Whole, Text}
 use Rattle.values.specs.Order.{value_order}
-use Rattle.dictionary.specs.Dictionary.{Distinct, Fits, distinct, most_values, put_in}
+use Rattle.value_ids.specs.Dictionary.{Distinct, Fits, distinct, most_values, put_in}
 use Rattle.dictionary.specs.Spelling.{body, counted, number_bytes, numbers, offsets, spelling, text_bytes, texts}
 use Rattle.dictionary.proofs.Bytes.{length-counted}
 use Rattle.dictionary.proofs.Numbers.{length-number}

@@ -1,7 +1,7 @@
 //! The file of a segment is made.
 ghost use Rattle.std.specs.Prelude.{◌≡◌, ◌<◌, ◌⊎◌, ℕ, length, Err, IfErr, IfOk, OnErr, OnOk, IsErrOf};
 ghost use Rattle.table_schema.specs.ValidTable.{AreRows, IsValidTable};
-ghost use Rattle.values.specs.Columns.{rows_of};
+ghost use Rattle.value_columns.specs.Columns.{rows_of};
 ghost use Rattle.segment_file.specs.Image.{image, sections_of_rows};
 ghost use Rattle.segment_file.specs.Names.{IsSegmentName};
 ghost use Rattle.segment_file.specs.Ordered.{ordered};
@@ -15,7 +15,7 @@ use outside::{Bytes, Seq};
 use segment_columns::{RowOrder, column_sections, columns_of, file_of};
 use std::alloc::Global;
 use table_schema::Table;
-use values::{Columns, Rows};
+use value_columns::{Columns, Rows};
 
 /// The file of a segment of these rows, which are kept column by column.
 ///

@@ -1,17 +1,18 @@
 //! The order in which a segment has its rows.
 ghost use Rattle.std.specs.Prelude.{◌<◌, IfOk};
-ghost use Rattle.values.specs.Columns.{rows_of};
+ghost use Rattle.value_columns.specs.Columns.{rows_of};
 ghost use Rattle.table_schema.specs.ValidTable.{IsValidTable};
 ghost use Rattle.segment_columns.specs.Arranging.{Orders, OrdersBy};
 ghost use Rattle.segment_columns.specs.Fitting.{AreColumns, FitsKind};
 
+use data_types::FieldKind;
 use dictionary::Dictionary;
 use inverted_lists::places_by_id;
 use outside::NoMemory;
 use segment_columns::RowOrder;
 use std::alloc::Global;
 use table_schema::Table;
-use values::{Column, Columns, FieldKind};
+use value_columns::{Column, Columns};
 
 /// The order of the rows of a table: the stable one of its sorted column, where it has one.
 pub fn row_order(alloc: Global, table: &Table, columns: &Columns) -> Result<RowOrder, NoMemory>

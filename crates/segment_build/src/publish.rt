@@ -3,7 +3,7 @@ ghost use Rattle.std.specs.Prelude.{◌≡◌, ℕ, length, IfErr, IfOk, OnOk, O
 ghost use Rattle.outside.specs.Files.{with_file, without_file};
 ghost use Rattle.outside.specs.Seen.{OnlyWrites, seen};
 ghost use Rattle.table_schema.specs.ValidTable.{AreRows, IsValidTable};
-ghost use Rattle.values.specs.Columns.{rows_of};
+ghost use Rattle.value_columns.specs.Columns.{rows_of};
 ghost use Rattle.segment_file.specs.Image.{image};
 ghost use Rattle.segment_file.specs.Names.{IsSegmentName, file_of};
 ghost use Rattle.segment_build.specs.Publishing.{incoming};
@@ -14,7 +14,7 @@ use outside::{Depot, DepotFault, NoMemory};
 use segment_columns::columns_of;
 use std::alloc::Global;
 use table_schema::Table;
-use values::{Columns, Rows};
+use value_columns::{Columns, Rows};
 
 /// The part that each file is written as before it is published.
 pub const INCOMING: &str = "incoming";

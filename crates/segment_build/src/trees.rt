@@ -1,7 +1,7 @@
 //! The star-trees of a segment are built, one after the other.
 ghost use Rattle.std.specs.Prelude.{◌≡◌, ◌<◌, ◌≤◌, ◌⊎◌, ℕ, length, map, Err, IfErr, IfOk, IsErrOf, OnErr, OnOk};
 ghost use Rattle.std.specs.List.{All};
-ghost use Rattle.values.specs.Columns.{rows_of};
+ghost use Rattle.value_columns.specs.Columns.{rows_of};
 ghost use Rattle.table_schema.specs.ValidSettings.{IsValidTree};
 ghost use Rattle.table_schema.specs.ValidTable.{IsValidTable};
 ghost use Rattle.agg_laws.specs.Merged.{weights};
@@ -25,7 +25,7 @@ use star_file::StarTree;
 use star_records::project_merged;
 use std::alloc::Global;
 use table_schema::{Table, TreeSetting};
-use values::Columns;
+use value_columns::Columns;
 
 /// The sections of all star-trees of the columns' rows in their order, or the number of the first
 /// tree that takes more bytes than one may. What is made for a tree is let go before the next.

@@ -8,9 +8,9 @@ use Rattle.std.specs.List.{All}
 use Rattle.std.specs.List.Sorted.{IsNonDecreasing}
 use Rattle.values.specs.declared.value.Value.{Value}
 use Rattle.values.specs.declared.value.Value.TheVariants.{Whole}
-use Rattle.dictionary.specs.Coding.{AreBelow, Codes}
-use Rattle.dictionary.specs.Dictionary.{Ascends, distinct}
-use Rattle.dictionary.proofs.Distinct.{distinct_ascends}
+use Rattle.value_ids.specs.Coding.{AreBelow, Codes}
+use Rattle.value_ids.specs.Dictionary.{Ascends, distinct}
+use Rattle.value_ids.proofs.Distinct.{distinct_ascends}
 use Rattle.bit_column.specs.Postings.{entries, places_from, places_of}
 use Rattle.inverted_lists.proofs.CountLemmas.{places_cons}
 use Rattle.table_schema.specs.NeedIds.{is_the_number}

@@ -1,12 +1,12 @@
 -- The ids of the columns of a table, and their sections.
 use Rattle.std.proofs.Common.{◌≡◌, ◌<◌, ◌≤◌, ◌+◌, ◌∙◌, Bool, true, false, ℕ, List, Some, length, get_or, slice_get, sym, ap, subst, arith}
 use Rattle.values.specs.declared.value.Value.{Value}
-use Rattle.values.specs.Columns.{Counts, Listed, ListedColumns, rows_of}
-use Rattle.values.proofs.RowLemmas.{length-rows}
+use Rattle.value_columns.specs.Columns.{Counts, Listed, ListedColumns, rows_of}
+use Rattle.value_columns.proofs.RowLemmas.{length-rows}
 use Rattle.table_schema.specs.ValidTable.{IsValidTable}
 use Rattle.table_schema.specs.declared.field.Field.{Field}
 use Rattle.table_schema.specs.declared.table.Table.{Table}
-use Rattle.dictionary.specs.Dictionary.{Distinct, distinct, most_values}
+use Rattle.value_ids.specs.Dictionary.{Distinct, distinct, most_values}
 use Rattle.segment_file.specs.Image.{count_of, kind_or, values_in}
 use Rattle.segment_file.specs.Ordered.{ordered}
 use Rattle.segment_columns.specs.Fitting.{AreColumns}
@@ -18,7 +18,7 @@ use Rattle.segment_columns.proofs.Arranged.{ids_arranged, sorted_up}
 use Rattle.segment_columns.proofs.ColumnLemmas.{column_values, made_more}
 use Rattle.segment_columns.proofs.Stable.{ids_below, ids_count, ordered_count, same_distinct}
 use Rattle.table_schema.specs.NeedIds.{is_the_number}
-use Rattle.dictionary.specs.Coding.{AreBelow}
+use Rattle.value_ids.specs.Coding.{AreBelow}
 use Rattle.std.proofs.lemmas.Option.{slice_get-get_or}
 use Rattle.std.specs.List.Sorted.{IsNonDecreasing}
 

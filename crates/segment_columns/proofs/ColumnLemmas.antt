@@ -12,16 +12,16 @@ use Rattle.std.specs.Ordering.{is_eq}
 use Rattle.std.specs.declared.cmp.Ordering.TheVariants.{Less}
 use Rattle.values.specs.declared.value.Value.{Value}
 use Rattle.values.specs.declared.value.Value.TheVariants.{Whole}
-use Rattle.values.specs.Columns.{Counts, Listed, fronted, rows_in_columns}
+use Rattle.value_columns.specs.Columns.{Counts, Listed, fronted, rows_in_columns}
 use Rattle.values.specs.Order.{value_eq, value_order}
 use Rattle.values.specs.Order.Laws.{value_eq-equiv, value_eq-ties}
-use Rattle.values.proofs.RowLemmas.{length-rows}
+use Rattle.value_columns.proofs.RowLemmas.{length-rows}
 use Rattle.table_schema.specs.declared.field.Field.{Field}
 use Rattle.table_schema.specs.declared.table.Table.{Table}
-use Rattle.dictionary.specs.Coding.{AreBelow, Codes, values_at}
-use Rattle.dictionary.specs.Dictionary.{Ascends, Distinct, distinct}
+use Rattle.value_ids.specs.Coding.{AreBelow, Codes, values_at}
+use Rattle.value_ids.specs.Dictionary.{Ascends, Distinct, distinct}
 use Rattle.dictionary.specs.Spelling.{spelling}
-use Rattle.dictionary.proofs.Distinct.{distinct_ascends}
+use Rattle.value_ids.proofs.Distinct.{distinct_ascends}
 use Rattle.bit_column.specs.Column.{spelled, width_of}
 use Rattle.segment_file.specs.declared.bounds.Ends.{Ends}
 use Rattle.segment_file.specs.declared.part.Part.TheVariants as parts

@@ -3,12 +3,12 @@ use Rattle.std.proofs.Common.{◌≡◌, ◌≤◌, ◌<◌, ◌∙◌, ◌∷�
 use Rattle.std.proofs.lemmas.List.Elements.{All-head, All-tail, All-cons, All-nil}
 use Rattle.std.specs.List.{All}
 use Rattle.values.specs.declared.value.Value.{Value}
-use Rattle.values.specs.Columns.{Counts, Listed, ListedColumns, fronted, rows_in_columns, rows_of}
+use Rattle.value_columns.specs.Columns.{Counts, Listed, ListedColumns, fronted, rows_in_columns, rows_of}
 use Rattle.values.specs.Kinds.{fits}
-use Rattle.values.proofs.RowLemmas.{length-rows}
+use Rattle.value_columns.proofs.RowLemmas.{length-rows}
 use Rattle.table_schema.specs.declared.field.Field.{Field}
 use Rattle.table_schema.specs.ValidTable.{IsRow, is_row, most_rows}
-use Rattle.dictionary.specs.Dictionary.{Fits}
+use Rattle.value_ids.specs.Dictionary.{Fits}
 use Rattle.segment_columns.specs.Fitting.{AreColumns, ColumnsFit, FitsKind}
 
 pub both_first : (a b : Bool) → (a && b) ≡ true → a ≡ true

@@ -3,13 +3,13 @@ use Rattle.std.proofs.Common.{◌≡◌, ◌∙◌, ◌<◌, ◌+◌, ◌++◌, 
 use Rattle.std.proofs.lemmas.List.{get_or-map, length-map, length-take, map-append, nil_from_length, take_more, length-append}
 use Rattle.std.proofs.lemmas.List.Elements.{All-get_or, All-push}
 use Rattle.std.specs.List.{All}
-use Rattle.values.specs.declared.kind.FieldKind.{FieldKind}
-use Rattle.values.specs.declared.kind.FieldKind.TheVariants as kind
+use Rattle.data_types.specs.declared.kind.FieldKind.{FieldKind}
+use Rattle.data_types.specs.declared.kind.FieldKind.TheVariants as kind
 use Rattle.values.specs.declared.value.Value.{Value}
 use Rattle.values.specs.declared.value.Value.TheVariants.{Whole, Text}
-use Rattle.values.specs.Columns.{Counts, Listed, is_text, pushed, row_pushed, rows_in_columns}
+use Rattle.value_columns.specs.Columns.{Counts, Listed, is_text, pushed, row_pushed, rows_in_columns}
 use Rattle.values.specs.Kinds.{fits, is_of}
-use Rattle.values.proofs.RowLemmas.{counts-push, length-push, length-rows, push-one, rows-push, sorts-push}
+use Rattle.value_columns.proofs.RowLemmas.{counts-push, length-push, length-rows, push-one, rows-push, sorts-push}
 use Rattle.table_schema.specs.declared.field.Field.{Field}
 use Rattle.table_schema.specs.ValidTable.{AreRows, IsRow, is_row}
 use Rattle.segment_columns.proofs.Fits.{both_first, both_second}

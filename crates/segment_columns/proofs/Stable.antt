@@ -15,9 +15,9 @@ use Rattle.values.specs.declared.value.Value.TheVariants.{Whole}
 use Rattle.values.specs.Order.{value_eq, value_order}
 use Rattle.values.specs.Order.Laws.{value_eq-equiv, value_order-total}
 use Rattle.values.specs.Tests.{is_member}
-use Rattle.dictionary.specs.Coding.{AreBelow, Codes, values_at}
-use Rattle.dictionary.specs.Dictionary.{Ascends, distinct}
-use Rattle.dictionary.proofs.Distinct.{distinct_ascends, distinct_members, same_ascending}
+use Rattle.value_ids.specs.Coding.{AreBelow, Codes, values_at}
+use Rattle.value_ids.specs.Dictionary.{Ascends, distinct}
+use Rattle.value_ids.proofs.Distinct.{distinct_ascends, distinct_members, same_ascending}
 use Rattle.bit_column.specs.Postings.{entries, places_from, places_of}
 use Rattle.inverted_lists.proofs.CountLemmas.{places_cons}
 use Rattle.segment_file.specs.Image.{count_of, ids_of, place_of, values_in}

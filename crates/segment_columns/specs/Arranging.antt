@@ -3,10 +3,10 @@ use Rattle.std.specs.Prelude.{◌≡◌, ℕ, List, [], length, map, get_or, Opt
 use Rattle.std.specs.List.{All}
 use Rattle.std.specs.List.Sorted.{IsNonDecreasing}
 use Rattle.values.specs.declared.value.Value.{Value}
-use Rattle.dictionary.specs.Coding.{AreBelow}
-use Rattle.values.specs.Columns.{ListedColumns, rows_of}
+use Rattle.value_ids.specs.Coding.{AreBelow}
+use Rattle.value_columns.specs.Columns.{ListedColumns, rows_of}
 use Rattle.table_schema.specs.declared.table.Table.{Table}
-use Rattle.dictionary.specs.Dictionary.{Distinct}
+use Rattle.value_ids.specs.Dictionary.{Distinct}
 use Rattle.segment_file.specs.Image.{dictionary_of, ids_of, values_in}
 use Rattle.segment_file.specs.Ordered.{ordered}
 use Rattle.segment_columns.specs.declared.coding.RowOrder.{RowOrder}

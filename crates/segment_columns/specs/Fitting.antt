@@ -1,11 +1,11 @@
 -- Columns of a table, as its dictionaries take them.
 use Rattle.std.specs.Prelude.{◌≡◌, ◌≤◌, ◌<◌, ℕ, List, length, get_or}
 use Rattle.std.specs.List.{All}
-use Rattle.values.specs.declared.kind.FieldKind.{FieldKind}
-use Rattle.values.specs.Columns.{Counts, Listed, ListedColumns, rows_of}
+use Rattle.data_types.specs.declared.kind.FieldKind.{FieldKind}
+use Rattle.value_columns.specs.Columns.{Counts, Listed, ListedColumns, rows_of}
 use Rattle.table_schema.specs.declared.field.Field.{Field}
 use Rattle.table_schema.specs.ValidTable.{AreRows}
-use Rattle.dictionary.specs.Dictionary.{Fits, most_values}
+use Rattle.value_ids.specs.Dictionary.{Fits, most_values}
 
 -- columns of one length, one a field, whose rows are rows of a table of these fields
 pub record AreColumns (columns : List Field) (t : ListedColumns) : Type 0 where

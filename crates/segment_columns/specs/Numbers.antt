@@ -1,6 +1,6 @@
 -- The numbers of columns.
 use Rattle.std.specs.Prelude.{◌<◌, ℕ, ℤ, pos, false, List, [], map, replicate, get_or, Option, Some, None}
-use Rattle.values.specs.Columns.{Listed, ListedColumns}
+use Rattle.value_columns.specs.Columns.{Listed, ListedColumns}
 use Rattle.segment_file.specs.Trees.{number_of}
 
 -- the numbers of a column, of which each is one; a text counts as 0

@@ -3,7 +3,7 @@ use Rattle.std.specs.Prelude.{◌≡◌, Bool, List, [], length, map}
 use Rattle.std.specs.List.{All}
 use Rattle.values.specs.declared.value.Value.{Value}
 use Rattle.values.specs.declared.value.Value.TheVariants.{Text}
-use Rattle.values.specs.Columns.{Counts, Listed, is_text, rows_in_columns}
+use Rattle.value_columns.specs.Columns.{Counts, Listed, is_text, rows_in_columns}
 use Rattle.values.specs.Kinds.{is_of}
 use Rattle.table_schema.specs.declared.field.Field.{Field}
 

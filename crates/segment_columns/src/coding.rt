@@ -1,18 +1,19 @@
 //! The ids of columns, in the order in which a segment has its rows.
 ghost use Rattle.std.specs.Prelude.{◌≡◌, ◌<◌, length, map, get_or, IfOk};
-ghost use Rattle.values.specs.Columns.{rows_of};
-ghost use Rattle.dictionary.specs.Coding.{AreBelow};
-ghost use Rattle.dictionary.specs.Dictionary.{distinct};
+ghost use Rattle.value_columns.specs.Columns.{rows_of};
+ghost use Rattle.value_ids.specs.Coding.{AreBelow};
+ghost use Rattle.value_ids.specs.Dictionary.{distinct};
 ghost use Rattle.segment_file.specs.Columns.{ids_of};
 ghost use Rattle.segment_columns.specs.Arranging.{IsCoded, Orders, arranged, places_in};
 ghost use Rattle.segment_columns.specs.Fitting.{AreColumns, FitsKind};
 ghost use Rattle.segment_columns.specs.Sections.{ids_in};
 
+use data_types::FieldKind;
 use dictionary::Dictionary;
 use outside::NoMemory;
 use std::alloc::Global;
 use table_schema::Table;
-use values::{Column, Columns, FieldKind};
+use value_columns::{Column, Columns};
 
 /// How the rows of a segment are put in their order.
 #[derive(Drop)]

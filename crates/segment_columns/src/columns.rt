@@ -1,14 +1,15 @@
 //! Rows are put into columns.
 ghost use Rattle.std.specs.Prelude.{◌≡◌, [], length, IfOk, OnOk};
 ghost use Rattle.std.specs.List.{All};
-ghost use Rattle.values.specs.Columns.{Counts, row_pushed, rows_of};
+ghost use Rattle.value_columns.specs.Columns.{Counts, row_pushed, rows_of};
 ghost use Rattle.table_schema.specs.ValidTable.{AreRows};
 ghost use Rattle.segment_columns.specs.RowColumns.{AreThose, OfFields, SuitsRow, is_of_texts};
 
+use data_types::FieldKind;
 use outside::NoMemory;
 use std::alloc::Global;
 use table_schema::Field;
-use values::{Column, Columns, FieldKind, Row, Rows};
+use value_columns::{Column, Columns, Row, Rows};
 
 /// The columns of rows, one a field.
 pub fn columns_of(alloc: Global, fields: &[Field], rows: &Rows) -> Result<Columns, NoMemory>

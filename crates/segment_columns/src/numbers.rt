@@ -8,7 +8,7 @@ use outside::NoMemory;
 use star_rows::{NumberColumns, PairNumbers};
 use std::alloc::Global;
 use table_schema::Pair;
-use values::{Column, Columns};
+use value_columns::{Column, Columns};
 
 /// The numbers of the rows for these pairs.
 pub fn pair_numbers<'a>(

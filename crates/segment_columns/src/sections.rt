@@ -1,14 +1,14 @@
 //! The sections of a segment's file are made, a column after the other.
 ghost use Rattle.std.specs.Prelude.{◌≡◌, ◌<◌, ◌≤◌, ◌++◌, true, [], length, IfOk, OnOk};
 ghost use Rattle.std.specs.List.Sorted.{IsNonDecreasing};
-ghost use Rattle.dictionary.specs.Coding.{AreBelow};
+ghost use Rattle.value_ids.specs.Coding.{AreBelow};
 ghost use Rattle.dictionary.specs.Spelling.{spelling};
 ghost use Rattle.bit_column.specs.Column.{spelled, width_of};
 ghost use Rattle.bit_column.specs.Postings.{inverted, ranged};
 ghost use Rattle.bit_column.specs.SortedRuns.{sorted_runs};
 ghost use Rattle.segment_columns.specs.Sections.{in_order, made_of, only, with_column};
 ghost use Rattle.table_schema.specs.ValidTable.{IsValidTable};
-ghost use Rattle.values.specs.Columns.{rows_of};
+ghost use Rattle.value_columns.specs.Columns.{rows_of};
 ghost use Rattle.segment_file.specs.Ordered.{ordered};
 ghost use Rattle.segment_columns.specs.Arranging.{Orders};
 ghost use Rattle.segment_columns.specs.Fitting.{AreColumns};
@@ -25,7 +25,7 @@ use std::alloc::Global;
 use std::marker::Model;
 use std::mem::replace;
 use table_schema::Table;
-use values::Columns;
+use value_columns::Columns;
 
 /// The sections of the columns that were taken so far. The bounds are of all columns, and each column
 /// has a dictionary and a forward index; the sorted one has runs of places, inverted ones have lists

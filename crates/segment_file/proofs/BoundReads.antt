@@ -8,12 +8,12 @@ use Rattle.std.proofs.lemmas.Nat.{be_bytes_2, from_be_bytes-to_be_bytes_2}
 use Rattle.std.specs.Int.{w16, from_be_bytes}
 use Rattle.std.specs.List.{AllZip, range_with_len}
 use Rattle.std.specs.Str.{IsUtf8}
-use Rattle.values.specs.declared.kind.FieldKind.{FieldKind}
-use Rattle.values.specs.declared.kind.FieldKind.TheVariants as kind
+use Rattle.data_types.specs.declared.kind.FieldKind.{FieldKind}
+use Rattle.data_types.specs.declared.kind.FieldKind.TheVariants as kind
 use Rattle.values.specs.declared.value.Value.{Value}
 use Rattle.values.specs.declared.value.Value.TheVariants.{Whole, Text}
 use Rattle.values.specs.Kinds.{fits}
-use Rattle.values.specs.Numbers.{is_in_range}
+use Rattle.data_types.specs.Numbers.{is_in_range}
 use Rattle.dictionary.specs.Spelling.{number_bytes}
 use Rattle.dictionary.proofs.Bytes.{AreBytes, same_fronts, same_rests, take_small}
 use Rattle.dictionary.proofs.Numbers.{fits_long, length-number, no_text, number_once}
@@ -25,10 +25,10 @@ use Rattle.segment_file.proofs.BoundLemmas.{fits_short}
 use Rattle.std.proofs.lemmas.List.Elements.{All-get_or}
 use Rattle.std.proofs.lemmas.Option.{slice_get-get_or}
 use Rattle.table_schema.specs.declared.table.Table.{Table}
-use Rattle.dictionary.specs.Dictionary.{Distinct, Fits, IsUnicode}
+use Rattle.value_ids.specs.Dictionary.{Distinct, Fits, IsUnicode}
 use Rattle.segment_file.specs.Image.{kind_at, kind_or}
 use Rattle.segment_file.specs.Rules.{AreSpelled}
-use Rattle.values.specs.declared.kind.FieldKind.TheVariants.{Long}
+use Rattle.data_types.specs.declared.kind.FieldKind.TheVariants.{Long}
 use Rattle.segment_file.specs.Parts.{columns_of}
 
 pub zip_push : {A B : Type 0} (R : A → B → Type 0) (xs : List A) (ys : List B) (x : A) (y : B) → AllZip R xs ys → R x y → AllZip R (xs ++ x ∷ []) (ys ++ y ∷ [])

@@ -12,7 +12,7 @@ use borrow.Author.Tests.{leb-true, ltb-true}
 use Rattle.star_file.specs.Reading.{doc_width}
 use Rattle.table_schema.specs.ValidSettings.{is_number_of}
 use Rattle.values.specs.declared.value.Value.{Value}
-use Rattle.dictionary.specs.Dictionary.{Distinct, IsUnicode}
+use Rattle.value_ids.specs.Dictionary.{Distinct, IsUnicode}
 use Rattle.dictionary.specs.Spelling.{spelling}
 use Rattle.table_schema.specs.declared.field.Field.{Field}
 use Rattle.table_schema.specs.declared.table.Table.{Table}

@@ -6,8 +6,8 @@ use Rattle.std.proofs.lemmas.List.Elements.{All-append, All-cons, All-head, All-
 use Rattle.std.proofs.lemmas.List.Sums.{sum_by-cons}
 use Rattle.std.proofs.lemmas.Nat.{mul-le}
 use Rattle.std.specs.List.{AllZip, range_with_len}
-use Rattle.values.specs.declared.kind.FieldKind.{FieldKind}
-use Rattle.values.specs.declared.kind.FieldKind.TheVariants as kind
+use Rattle.data_types.specs.declared.kind.FieldKind.{FieldKind}
+use Rattle.data_types.specs.declared.kind.FieldKind.TheVariants as kind
 use Rattle.values.specs.declared.value.Value.{Value}
 use Rattle.values.specs.declared.value.Value.TheVariants.{Whole, Text}
 use Rattle.bit_column.proofs.PostingLaws.{buckets_in, posting_length}
@@ -15,7 +15,7 @@ use Rattle.bit_column.proofs.SortedLaws.{sorted_length}
 use Rattle.bit_column.proofs.Spelling.{length-spelled}
 use Rattle.bit_column.specs.Column.{bytes_for, width_of}
 use Rattle.bit_column.specs.Postings.{bucket_of, buckets_for}
-use Rattle.dictionary.specs.Dictionary.{Distinct, Fits, IsDictionary, IsUnicode}
+use Rattle.value_ids.specs.Dictionary.{Distinct, Fits, IsDictionary, IsUnicode}
 use Rattle.dictionary.specs.Spelling.{body, counted, offsets, spelling, text_bytes, texts}
 use Rattle.dictionary.proofs.Bytes.{length-counted}
 use Rattle.dictionary.proofs.Numbers.{length-number, length-numbers}

@@ -14,9 +14,9 @@ use Rattle.values.specs.Order.{value_eq}
 use Rattle.values.specs.Order.Laws.{value_eq-equiv}
 use Rattle.values.specs.Tests.{is_member}
 use Rattle.values.proofs.Bounds.{same_value}
-use Rattle.dictionary.specs.Dictionary.{IsUnicode, distinct}
+use Rattle.value_ids.specs.Dictionary.{IsUnicode, distinct}
 use Rattle.dictionary.proofs.Bytes.{same_fronts, same_rests}
-use Rattle.dictionary.proofs.Distinct.{distinct_members}
+use Rattle.value_ids.proofs.Distinct.{distinct_members}
 use Rattle.dictionary.proofs.Spells.{spells_one}
 use Rattle.bit_column.proofs.Spelling.{ids-written}
 use Rattle.bit_column.proofs.Widths.{width-least}

@@ -7,10 +7,10 @@ use Rattle.std.proofs.lemmas.List.FromFn.{length-range_with_len}
 use Rattle.std.specs.Int.{w32, from_be_bytes}
 use Rattle.std.specs.List.{AllZip, range_with_len}
 use Rattle.std.specs.Prelude.{option_to_list}
-use Rattle.values.specs.declared.kind.FieldKind.TheVariants.{Long}
+use Rattle.data_types.specs.declared.kind.FieldKind.TheVariants.{Long}
 use Rattle.table_schema.specs.ValidSettings.{is_known_number}
 use borrow.Author.Tests.{ltb-true}
-use Rattle.dictionary.specs.Dictionary.{Distinct}
+use Rattle.value_ids.specs.Dictionary.{Distinct}
 use Rattle.dictionary.specs.Spelling.{body, counted, spelling}
 use Rattle.dictionary.proofs.Bytes.{counted_back, length-counted}
 use Rattle.table_schema.specs.declared.table.Table.{Table}

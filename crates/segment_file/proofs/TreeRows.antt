@@ -7,8 +7,8 @@ use Rattle.std.proofs.lemmas.Bool.{false≢true}
 use Rattle.std.proofs.lemmas.Int.{ints}
 use Rattle.std.proofs.lemmas.List.{get_or-map, length-map}
 use Rattle.std.proofs.lemmas.List.Elements.{All-head, All-tail}
-use Rattle.values.specs.declared.kind.FieldKind.{FieldKind}
-use Rattle.values.specs.declared.kind.FieldKind.TheVariants as kind
+use Rattle.data_types.specs.declared.kind.FieldKind.{FieldKind}
+use Rattle.data_types.specs.declared.kind.FieldKind.TheVariants as kind
 use Rattle.values.specs.declared.value.Value.{Value}
 use Rattle.values.specs.declared.value.Value.TheVariants.{Whole, Text}
 use Rattle.values.specs.Kinds.{fits}
@@ -32,7 +32,7 @@ use Rattle.star_file.specs.Rules.{AreWords, KeepAll, most_bytes, number_at}
 use Rattle.star_file.proofs.SectionLemmas.{section_back, section_count, section_nodes, word_back}
 use Rattle.star_file.proofs.TreeDocs.{Good, docs_long, tree_fine}
 use Rattle.star_file.proofs.TreeLaws.{no_documents, tree_keeps, tree_words}
-use Rattle.dictionary.specs.Dictionary.{distinct}
+use Rattle.value_ids.specs.Dictionary.{distinct}
 use Rattle.segment_file.specs.Reading.{nodes_said}
 use Rattle.segment_file.specs.Columns.{count_of, place_of, values_in}
 use Rattle.segment_file.specs.Ordered.{value_in}

@@ -1,11 +1,11 @@
 -- The bounds of columns, as a file has them: the least and the greatest value of each.
 use Rattle.std.specs.Prelude.{◌≡◌, ◌≤◌, ℕ, List, [], ◌∷◌, ◌++◌, length, slice_index_or, zero, suc}
 use Rattle.std.specs.List.{AllZip, flat_map}
-use Rattle.values.specs.declared.kind.FieldKind.{FieldKind}
+use Rattle.data_types.specs.declared.kind.FieldKind.{FieldKind}
 use Rattle.values.specs.declared.value.Value.{Value}
 use Rattle.values.specs.declared.value.Value.TheVariants.{Whole, Text}
 use Rattle.table_schema.specs.declared.field.Field.{Field}
-use Rattle.dictionary.specs.Dictionary.{Distinct, Fits, IsUnicode}
+use Rattle.value_ids.specs.Dictionary.{Distinct, Fits, IsUnicode}
 use Rattle.dictionary.specs.Spelling.{number_bytes}
 use Rattle.segment_file.specs.Front.{short}
 use Rattle.segment_file.specs.declared.bounds.Ends.{Ends}

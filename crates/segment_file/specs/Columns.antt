@@ -1,12 +1,12 @@
 -- The columns of a segment's rows: their values, and the number of each value among the distinct ones.
 use Rattle.std.specs.Prelude.{ℕ, suc, List, [], ◌∷◌, map, length, slice_get, Option, Some, None, if◌then◌else◌}
-use Rattle.values.specs.declared.kind.FieldKind.{FieldKind}
-use Rattle.values.specs.declared.kind.FieldKind.TheVariants.{Long}
+use Rattle.data_types.specs.declared.kind.FieldKind.{FieldKind}
+use Rattle.data_types.specs.declared.kind.FieldKind.TheVariants.{Long}
 use Rattle.values.specs.declared.value.Value.{Value}
 use Rattle.values.specs.Order.{value_eq}
 use Rattle.table_schema.specs.declared.field.Field.{Field}
 use Rattle.table_schema.specs.declared.table.Table.{Table}
-use Rattle.dictionary.specs.Dictionary.{Distinct, distinct}
+use Rattle.value_ids.specs.Dictionary.{Distinct, distinct}
 use Rattle.segment_file.specs.Ordered.{value_in}
 
 -- the kind of a field, if there is one

@@ -4,7 +4,7 @@ use Rattle.std.specs.List.{All, concat}
 use Rattle.values.specs.declared.value.Value.{Value}
 use Rattle.table_schema.specs.declared.table.Table.{Table}
 use Rattle.table_schema.specs.ValidTable.{AreRows}
-use Rattle.dictionary.specs.Dictionary.{IsUnicode}
+use Rattle.value_ids.specs.Dictionary.{IsUnicode}
 use Rattle.dictionary.specs.Spelling.{spelling}
 use Rattle.bit_column.specs.Column.{spelled, width_of}
 use Rattle.bit_column.specs.Postings.{inverted, ranged}

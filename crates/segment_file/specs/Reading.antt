@@ -4,7 +4,7 @@ use Rattle.std.specs.Int.{w64, from_be_bytes}
 use Rattle.std.specs.List.{All}
 use Rattle.outside.specs.Files.{Files, bytes_of}
 use Rattle.table_schema.specs.declared.table.Table.{Table}
-use Rattle.dictionary.specs.Dictionary.{Distinct}
+use Rattle.value_ids.specs.Dictionary.{Distinct}
 use Rattle.segment_file.specs.declared.part.Part.{Part}
 use Rattle.segment_file.specs.declared.part.Part.TheVariants as parts
 use Rattle.segment_file.specs.declared.section.Section.{Section}

@@ -2,12 +2,12 @@
 use Rattle.std.specs.Prelude.{◌≡◌, ◌≢◌, ◌≤◌, ◌<◌, ◌^◌, ◌↔◌, ℕ, ◌+◌, ◌*◌, List, [], ◌∷◌, ◌++◌, take, drop, map, length, slice_get, slice_index_or, Option, Some, None, IfSome}
 use Rattle.std.specs.Int.{w32, from_be_bytes}
 use Rattle.std.specs.List.{All, AllZip, range_with_len}
-use Rattle.values.specs.declared.kind.FieldKind.{FieldKind}
+use Rattle.data_types.specs.declared.kind.FieldKind.{FieldKind}
 use Rattle.agg_laws.specs.declared.tree_shape.TreeShape.{TreeShape}
 use Rattle.table_schema.specs.declared.settings.TreeSetting.{TreeSetting}
 use Rattle.table_schema.specs.declared.table.Table.{Table}
 use Rattle.table_schema.specs.ValidTable.{most_rows}
-use Rattle.dictionary.specs.Dictionary.{Distinct, IsDictionary}
+use Rattle.value_ids.specs.Dictionary.{Distinct, IsDictionary}
 use Rattle.dictionary.specs.Spelling.{spelling}
 use Rattle.bit_column.specs.Column.{bytes_for, width_of}
 use Rattle.bit_column.specs.Postings.{buckets_for}

@@ -10,7 +10,7 @@ use Rattle.agg_laws.specs.Rows.{merged_rows}
 use Rattle.agg_laws.specs.Tree.{Nodes, tree_of}
 use Rattle.table_schema.specs.declared.query.Agg.{Agg}
 use Rattle.table_schema.specs.declared.settings.TreeSetting.{TreeSetting}
-use Rattle.dictionary.specs.Dictionary.{distinct}
+use Rattle.value_ids.specs.Dictionary.{distinct}
 use Rattle.star_file.specs.Bytes.{doc_bytes, nodes_section}
 use Rattle.star_file.specs.Reading.{doc_width}
 use Rattle.star_file.specs.Rules.{most_bytes}

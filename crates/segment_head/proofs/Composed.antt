@@ -4,7 +4,7 @@ use Rattle.std.proofs.lemmas.List.{drop-take, take-take, drop_more, get_or-map, 
 use Rattle.std.proofs.lemmas.List.Elements.{All-get_or, All-map}
 use Rattle.std.proofs.lemmas.List.Sums.{sum_by-cons}
 use Rattle.std.specs.List.{take-map, drop-map}
-use Rattle.dictionary.specs.Dictionary.{Distinct}
+use Rattle.value_ids.specs.Dictionary.{Distinct}
 use Rattle.table_schema.specs.declared.table.Table.{Table}
 use Rattle.table_schema.specs.ValidTable.{IsValidTable}
 use Rattle.segment_file.specs.declared.part.Part.{Part}

@@ -4,7 +4,7 @@ use Rattle.std.specs.Prelude.{slice_get}
 use Rattle.std.proofs.lemmas.Option.{get_or_from_slice_get, slice_get_within}
 use Rattle.std.proofs.lemmas.List.{get_or-map}
 use Rattle.values.specs.declared.value.Value.{Value}
-use Rattle.dictionary.specs.Dictionary.{IsUnicode}
+use Rattle.value_ids.specs.Dictionary.{IsUnicode}
 use Rattle.outside.specs.Files.{Files}
 use Rattle.table_schema.specs.declared.settings.TreeSetting.{TreeSetting}
 use Rattle.table_schema.specs.declared.table.Table.{Table}

@@ -9,12 +9,12 @@ use Rattle.std.proofs.lemmas.List.Sums.{sum_by-cons, sum_by-take-le}
 use Rattle.std.proofs.lemmas.Option.{get_or_from_slice_get, slice_get-get_or, slice_get-map, slice_get_within}
 use Rattle.std.specs.Int.{w32, from_be_bytes}
 use Rattle.std.specs.List.{AllZip}
-use Rattle.values.specs.declared.kind.FieldKind.{FieldKind}
-use Rattle.values.specs.declared.kind.FieldKind.TheVariants.{Long}
+use Rattle.data_types.specs.declared.kind.FieldKind.{FieldKind}
+use Rattle.data_types.specs.declared.kind.FieldKind.TheVariants.{Long}
 use Rattle.outside.specs.Files.{Files, bytes_at, bytes_of}
 use Rattle.outside.specs.Reads.{Entry, LogsUpTo}
 use Rattle.outside.proofs.ReadLemmas.{LogsThrough-none}
-use Rattle.dictionary.specs.Dictionary.{Distinct}
+use Rattle.value_ids.specs.Dictionary.{Distinct}
 use Rattle.dictionary.specs.Spelling.{body, counted, spelling}
 use Rattle.dictionary.proofs.Bytes.{length-counted}
 use Rattle.dictionary.proofs.Spells.{spells_one}

@@ -9,7 +9,7 @@ use Rattle.table_schema.specs.declared.settings.TreeSetting.{TreeSetting}
 use Rattle.table_schema.specs.declared.table.Table.{Table}
 use Rattle.table_schema.specs.ValidSettings.{IsValidTree, is_number_of}
 use Rattle.table_schema.specs.ValidTable.{IsValidTable}
-use Rattle.dictionary.specs.Dictionary.{Distinct}
+use Rattle.value_ids.specs.Dictionary.{Distinct}
 use Rattle.star_file.specs.declared.checking.NodesFault.{NodesFault}
 use Rattle.star_file.specs.declared.checking.NodesFault.TheVariants as reasons
 use Rattle.segment_file.specs.declared.fault.HeadFault.{HeadFault}

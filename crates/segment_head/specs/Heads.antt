@@ -8,7 +8,7 @@ use Rattle.outside.specs.declared.place.Place.{Place}
 use Rattle.agg_laws.specs.declared.tree_shape.TreeShape.{TreeShape}
 use Rattle.table_schema.specs.declared.table.Table.{Table}
 use Rattle.table_schema.specs.ValidTable.{most_rows}
-use Rattle.dictionary.specs.Dictionary.{Distinct}
+use Rattle.value_ids.specs.Dictionary.{Distinct}
 use Rattle.bit_column.specs.Sections.{section}
 use Rattle.star_file.specs.Rules.{KeepAll}
 use Rattle.segment_file.specs.declared.bounds.Ends.{Ends}

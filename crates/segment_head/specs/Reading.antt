@@ -2,7 +2,7 @@
 use Rattle.std.specs.Prelude.{◌<◌, ◌+◌, ℕ, List, take, drop, map, length}
 use Rattle.std.specs.List.{range_with_len}
 use Rattle.table_schema.specs.declared.table.Table.{Table}
-use Rattle.dictionary.specs.Dictionary.{Distinct}
+use Rattle.value_ids.specs.Dictionary.{Distinct}
 use Rattle.segment_file.specs.declared.section.Section.{Section}
 use Rattle.segment_file.specs.Columns.{kind_at}
 use Rattle.segment_file.specs.Rules.{AreSpelled, HasNodes, HaveNodes, IsSpelled, dictionary_in}

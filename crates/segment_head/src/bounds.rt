@@ -1,16 +1,18 @@
 //! The bounds of columns are written, and read.
 ghost use Rattle.std.specs.Prelude.{◌≡◌, ◌≢◌, ◌<◌, ◌^◌, ◌++◌, List, true, length, IfOk, OnOk, MatchOption};
 ghost use Rattle.dictionary.specs.Spelling.{number_bytes};
-ghost use Rattle.values.specs.Numbers.{is_in_range};
+ghost use Rattle.data_types.specs.Numbers.{is_in_range};
 ghost use Rattle.segment_file.specs.Bounds.{AreBounds, IsBound, NoBound, bounds_bytes, bounds_of};
 ghost use Rattle.segment_file.specs.Front.{short};
 
 use crate::NoMemory;
+use data_types::{FieldKind, Name};
 use dictionary::Dictionary;
 use segment_file::{Ends, push_ends};
 use std::alloc::Global;
 use table_schema::Field;
-use values::{FieldKind, MOST_TEXT_BYTES, Name, Value};
+use value_columns::MOST_TEXT_BYTES;
+use values::Value;
 
 /// Appends the bounds of columns with these dictionaries; a column without values has none.
 pub fn push_bounds(dictionaries: &[Dictionary], out: &mut Vec<u8>) -> Result<(), NoMemory>

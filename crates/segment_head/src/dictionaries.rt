@@ -1,6 +1,6 @@
 //! The dictionaries of a segment's file.
 ghost use Rattle.std.specs.Prelude.{◌≡◌, ◌≤◌, ◌+◌, ◌++◌, ◌∷◌, [], length, IfOk, IfErr, OnOk, IsErrOf, ℕ};
-ghost use Rattle.dictionary.specs.Dictionary.{Distinct};
+ghost use Rattle.value_ids.specs.Dictionary.{Distinct};
 ghost use Rattle.segment_file.specs.Parts.{columns_of};
 ghost use Rattle.segment_head.specs.Reading.{StopsAt, bytes_of_section, heads_read};
 ghost use Rattle.segment_file.specs.Rules.{AreSpelled, IsSpelled};
@@ -9,11 +9,11 @@ ghost use Rattle.segment_file.specs.declared.part.Part.TheVariants as part;
 ghost use Rattle.segment_file.specs.declared.fault.HeadFault.TheVariants.{NotASegment};
 
 use crate::NoMemory;
+use data_types::FieldKind;
 use dictionary::{DictFault, Dictionary};
 use segment_file::{HeadFault, Part, Section};
 use std::alloc::Global;
 use table_schema::Table;
-use values::FieldKind;
 
 /// The dictionary that the bytes are, of a column of that kind in a file of so many rows.
 pub fn check_dictionary(

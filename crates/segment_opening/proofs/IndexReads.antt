@@ -9,9 +9,9 @@ use Rattle.outside.specs.Reads.{Entry}
 use Rattle.outside.specs.declared.place.Place.{Place}
 use Rattle.values.specs.declared.test.Test.{Test}
 use Rattle.values.specs.declared.value.Value.{Value}
-use Rattle.dictionary.specs.Dictionary.{distinct}
-use Rattle.dictionary.specs.Ids.{matching}
-use Rattle.dictionary.proofs.IdLemmas.{each_matching}
+use Rattle.value_ids.specs.Dictionary.{distinct}
+use Rattle.value_ids.specs.Ids.{matching}
+use Rattle.value_ids.proofs.IdLemmas.{each_matching}
 use Rattle.bit_column.specs.Postings.{buckets_for}
 use Rattle.doc_lists.specs.Docs.{Apart}
 use Rattle.doc_lists.specs.declared.run.Run.{Run}

@@ -10,7 +10,7 @@ use Rattle.table_schema.specs.declared.query.BoundQuery.{BoundQuery}
 use Rattle.table_schema.specs.declared.settings.TreeSetting.{TreeSetting}
 use Rattle.table_schema.specs.declared.table.Table.{Table}
 use Rattle.table_schema.specs.ValidTable.{IsValidTable}
-use Rattle.dictionary.specs.Dictionary.{most_values}
+use Rattle.value_ids.specs.Dictionary.{most_values}
 use Rattle.index_reading.specs.Stretches.{LogsOver, LogsPartly, Stretch}
 use Rattle.segment_file.specs.Names.{file_of}
 use Rattle.segment_plan.specs.declared.plans.ScanPlan.{ScanPlan}

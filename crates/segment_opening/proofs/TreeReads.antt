@@ -6,7 +6,7 @@ use Rattle.outside.specs.Files.{Files}
 use Rattle.outside.specs.Reads.{Entry, read_in}
 use Rattle.outside.specs.declared.place.Place.{Place}
 use Rattle.values.specs.declared.value.Value.{Value}
-use Rattle.dictionary.specs.Dictionary.{most_values}
+use Rattle.value_ids.specs.Dictionary.{most_values}
 use Rattle.index_reading.specs.Stretches.{LogsOver, LogsPartly}
 use Rattle.table_schema.specs.declared.query.BoundQuery.{BoundQuery}
 use Rattle.table_schema.specs.declared.settings.TreeSetting.{TreeSetting}

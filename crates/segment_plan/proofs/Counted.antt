@@ -7,8 +7,8 @@ use Rattle.values.specs.declared.test.Test.{Test}
 use Rattle.values.specs.Tests.{holds}
 use Rattle.table_schema.specs.declared.query.Conjunct.{Conjunct}
 use Rattle.table_schema.specs.declared.query.Conjunct.TheVariants.{One, Many}
-use Rattle.dictionary.specs.Ids.{has_id, matching, matching_from, satisfies}
-use Rattle.dictionary.proofs.IdLemmas.{each_matching}
+use Rattle.value_ids.specs.Ids.{has_id, matching, matching_from, satisfies}
+use Rattle.value_ids.proofs.IdLemmas.{each_matching}
 use Rattle.segment_plan.specs.Matched.{conditions_on, is_in_all, matched, passes}
 
 -- ---- a count is no more than its items

@@ -3,7 +3,7 @@ use Rattle.std.proofs.Common.{◌≡◌, ◌∙◌, ◌+◌, ℕ, zero, suc, Lis
 use Rattle.std.specs.List.{AllZip, range_with_len, slice_get}
 use Rattle.values.specs.declared.value.Value.{Value}
 use Rattle.table_schema.specs.declared.table.Table.{Table}
-use Rattle.dictionary.specs.Dictionary.{Distinct}
+use Rattle.value_ids.specs.Dictionary.{Distinct}
 use Rattle.dictionary.proofs.Spells.{spells_one}
 use Rattle.segment_file.specs.Bounds.{bounds_of}
 use Rattle.segment_file.specs.Front.{Front}

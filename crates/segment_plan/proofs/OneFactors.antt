@@ -6,7 +6,7 @@ use Rattle.agg_laws.specs.declared.tree_shape.TreeShape.{TreeShape}
 use Rattle.agg_laws.specs.Tree.{skips}
 use Rattle.table_schema.specs.declared.query.BoundQuery.{BoundQuery}
 use Rattle.table_schema.specs.declared.table.Table.{Table}
-use Rattle.dictionary.specs.Dictionary.{distinct}
+use Rattle.value_ids.specs.Dictionary.{distinct}
 use Rattle.segment_head.specs.Heads.{IsLoaded, Seen}
 use Rattle.segment_file.specs.Image as image
 use Rattle.segment_plan.specs.Factors.{IsWholeLoaded, factor, factors_from, is_whole}

@@ -7,8 +7,8 @@ use Rattle.table_schema.specs.declared.query.Conjunct.TheVariants.{One, Many}
 use Rattle.table_schema.specs.declared.settings.Settings.{Settings}
 use Rattle.table_schema.specs.declared.table.Table.{Table}
 use Rattle.table_schema.specs.NeedIds.{is_set}
-use Rattle.dictionary.specs.Dictionary.{distinct}
-use Rattle.dictionary.specs.Ids.{matching}
+use Rattle.value_ids.specs.Dictionary.{distinct}
+use Rattle.value_ids.specs.Ids.{matching}
 use Rattle.eligibility.specs.Rule.{picked}
 use Rattle.segment_head.specs.Heads.{Seen}
 use Rattle.segment_file.specs.Image as image

@@ -10,7 +10,7 @@ use Rattle.table_schema.specs.ValidQuery.{IsValidQuery}
 use Rattle.table_schema.specs.ValidSettings.{IsValidTree}
 use Rattle.table_schema.specs.ValidTable.{IsValidTable}
 use Rattle.table_schema.specs.Conditions.{all_hold}
-use Rattle.dictionary.specs.Dictionary.{Distinct}
+use Rattle.value_ids.specs.Dictionary.{Distinct}
 use Rattle.segment_file.specs.Bounds.{bounds_of}
 use Rattle.segment_head.specs.Heads.{IsHead, IsPartOf, Seen}
 use Rattle.segment_file.specs.Image.{CanHold, dictionary_of, image}

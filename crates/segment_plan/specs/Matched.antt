@@ -6,8 +6,8 @@ use Rattle.values.specs.declared.test.Test.{Test}
 use Rattle.values.specs.Tests.{holds}
 use Rattle.table_schema.specs.declared.query.Conjunct.{Conjunct}
 use Rattle.table_schema.specs.declared.query.Conjunct.TheVariants.{One, Many}
-use Rattle.dictionary.specs.Dictionary.{Distinct}
-use Rattle.dictionary.specs.Ids.{has_id}
+use Rattle.value_ids.specs.Dictionary.{Distinct}
+use Rattle.value_ids.specs.Ids.{has_id}
 use Rattle.segment_head.specs.Heads.{IsLoaded, Seen}
 
 -- the conjunct names this column alone

@@ -5,11 +5,11 @@ ghost use Rattle.segment_plan.specs.Choices as spec;
 ghost use Rattle.segment_plan.specs.Matched.{AreLoaded};
 
 use crate::{IndexChoice, NoMemory};
-use dictionary::IdSet;
+use data_types::Seq;
 use segment_head::Head;
 use std::alloc::Global;
 use table_schema::{Conjunct, Settings};
-use values::Seq;
+use value_ids::IdSet;
 
 /// A choice for each conjunct.
 pub fn choices(

@@ -1,13 +1,14 @@
 //! The values of a column that satisfy the conjuncts on it.
 ghost use Rattle.std.specs.Prelude.{◌≡◌, ◌≤◌, [], IfOk, drop, length, map, slice_index_or};
 ghost use Rattle.std.specs.List.{filter};
-ghost use Rattle.dictionary.specs.Ids.{matching};
+ghost use Rattle.value_ids.specs.Ids.{matching};
 ghost use Rattle.segment_plan.specs.Matched as spec;
 
 use crate::NoMemory;
-use dictionary::{Dictionary, IdSet};
+use dictionary::Dictionary;
 use std::alloc::Global;
 use table_schema::Conjunct;
+use value_ids::IdSet;
 
 /// How many values of the dictionary of a column satisfy each conjunct that names it alone. Bounds
 /// are looked up, and no value is tested.

@@ -1,6 +1,6 @@
 //! What is to be done with a segment.
 
-use values::Seq;
+use data_types::Seq;
 
 /// How the rows that satisfy a conjunct are found.
 #[derive(Clone, Copy, Debug, PartialEq, Eq)]

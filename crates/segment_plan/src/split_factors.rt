@@ -6,10 +6,10 @@ ghost use Rattle.segment_plan.specs.Matched.{AreLoaded};
 
 use crate::NoMemory;
 use crate::matching::{is_filtered, matched};
+use data_types::Seq;
 use segment_head::Head;
 use std::alloc::Global;
 use table_schema::{BoundQuery, Table};
-use values::Seq;
 
 /// For each split dimension of a tree: how many of its values satisfy the conjuncts on it, if it is
 /// filtered; else how many values it has, if it is grouped or no star child is made for it; else 1.

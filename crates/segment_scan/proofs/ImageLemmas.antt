@@ -12,15 +12,15 @@ use Rattle.std.proofs.lemmas.List.FromFn.{get_or-map-range_with_len}
 use Rattle.outside.specs.Files.{Files}
 use Rattle.values.specs.declared.value.Value.{Value}
 use Rattle.values.specs.declared.value.Value.TheVariants.{Whole}
-use Rattle.values.specs.Columns.{Counts, row_of, rows_of}
+use Rattle.value_columns.specs.Columns.{Counts, row_of, rows_of}
 use Rattle.values.specs.Order.{value_eq, value_order}
 use Rattle.values.specs.Order.Laws.{value_eq-equiv}
 use Rattle.values.specs.Tests.{is_member}
 use Rattle.values.proofs.Bounds.{same_value}
-use Rattle.values.proofs.RowLemmas.{length-rows, row-at}
-use Rattle.dictionary.specs.Coding.{values_at}
-use Rattle.dictionary.specs.Dictionary.{distinct, put_in}
-use Rattle.dictionary.proofs.Distinct.{distinct_members}
+use Rattle.value_columns.proofs.RowLemmas.{length-rows, row-at}
+use Rattle.value_ids.specs.Coding.{values_at}
+use Rattle.value_ids.specs.Dictionary.{distinct, put_in}
+use Rattle.value_ids.proofs.Distinct.{distinct_members}
 use Rattle.bit_column.specs.Column.{ids_between, spelled, width_of}
 use Rattle.bit_column.specs.Sections.{Readable}
 use Rattle.bit_column.proofs.Spelling.{ids-written, readable-written}

@@ -11,10 +11,10 @@ use Rattle.values.specs.declared.value.Value.{Value}
 use Rattle.values.specs.declared.value.Value.TheVariants.{Whole}
 use Rattle.values.specs.declared.test.Test.{Test}
 use Rattle.values.specs.Tests.{holds}
-use Rattle.dictionary.specs.Dictionary.{distinct}
-use Rattle.dictionary.specs.Ids.{has_id, matching, satisfies}
-use Rattle.dictionary.proofs.Distinct.{distinct_ascends}
-use Rattle.dictionary.proofs.IdLemmas.{each_matching}
+use Rattle.value_ids.specs.Dictionary.{distinct}
+use Rattle.value_ids.specs.Ids.{has_id, matching, satisfies}
+use Rattle.value_ids.proofs.Distinct.{distinct_ascends}
+use Rattle.value_ids.proofs.IdLemmas.{each_matching}
 use Rattle.std.specs.List.Sorted.{IsNonDecreasing}
 use Rattle.index_reading.specs.Documents.{Tells, TellsRanged, is_doc_of}
 use Rattle.index_reading.specs.declared.kind.ListKind.{ListKind}

@@ -11,7 +11,7 @@ use Rattle.outside.specs.Files.{Files}
 use Rattle.outside.specs.Reads.{Consecutive, Entry, LogsOn, read_in}
 use Rattle.outside.specs.declared.place.Place.{Place}
 use Rattle.outside.proofs.ReadLemmas.{LogsOn-through, read_in-append, read_in-through}
-use Rattle.dictionary.specs.Dictionary.{Distinct}
+use Rattle.value_ids.specs.Dictionary.{Distinct}
 use Rattle.bit_column.specs.Column.{bytes_for, width_of}
 use Rattle.bit_column.specs.Sections.{end_byte, first_byte}
 use Rattle.table_schema.specs.declared.query.BoundQuery.{BoundQuery}

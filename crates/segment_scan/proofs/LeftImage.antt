@@ -11,9 +11,9 @@ use Rattle.std.specs.FinMap as finite
 use Rattle.outside.specs.Files.{Files}
 use Rattle.outside.specs.Reads.{Entry}
 use Rattle.values.specs.declared.value.Value.{Value}
-use Rattle.values.specs.Columns.{Listed}
+use Rattle.value_columns.specs.Columns.{Listed}
 use Rattle.values.specs.declared.test.Test.{Test}
-use Rattle.dictionary.specs.Dictionary.{distinct}
+use Rattle.value_ids.specs.Dictionary.{distinct}
 use Rattle.index_reading.specs.declared.kind.ListKind.{ListKind}
 use Rattle.table_schema.specs.declared.query.BoundQuery.{BoundQuery}
 use Rattle.table_schema.specs.declared.query.Conjunct.{Conjunct}

@@ -5,8 +5,8 @@ use Rattle.values.specs.declared.test.Test.{Test}
 use Rattle.values.specs.declared.value.Value.{Value}
 use Rattle.values.specs.declared.value.Value.TheVariants.{Whole}
 use Rattle.values.specs.Tests.{holds}
-use Rattle.dictionary.specs.Ids.{has_id, matching, matching_from, satisfies}
-use Rattle.dictionary.proofs.IdLemmas.{each_matching}
+use Rattle.value_ids.specs.Ids.{has_id, matching, matching_from, satisfies}
+use Rattle.value_ids.proofs.IdLemmas.{each_matching}
 use Rattle.bit_column.specs.Postings.{bucket_of}
 use Rattle.doc_lists.specs.Sets.{Up}
 use Rattle.index_reading.specs.Buckets.{is_to_check, lies_within, overlaps}

@@ -12,7 +12,7 @@ use Rattle.values.specs.declared.value.Value.{Value}
 use Rattle.values.specs.declared.value.Value.TheVariants.{Whole}
 use Rattle.values.specs.Order.{value_order}
 use Rattle.values.specs.Order.Laws.{value_order-total}
-use Rattle.dictionary.specs.Dictionary.{Ascends}
+use Rattle.value_ids.specs.Dictionary.{Ascends}
 use Rattle.segment_file.specs.Ordered.{placed, sorted_by, value_in}
 
 -- ---- lists that do not fall

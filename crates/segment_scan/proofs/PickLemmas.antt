@@ -10,10 +10,10 @@ use Rattle.std.specs.List.{range_with_len}
 use Rattle.outside.specs.Files.{Files}
 use Rattle.values.specs.declared.value.Value.{Value}
 use Rattle.values.specs.declared.value.Value.TheVariants.{Whole}
-use Rattle.values.specs.Columns.{row_of, rows_of}
-use Rattle.values.proofs.RowLemmas.{length-rows, row-at}
+use Rattle.value_columns.specs.Columns.{row_of, rows_of}
+use Rattle.value_columns.proofs.RowLemmas.{length-rows, row-at}
 use Rattle.bit_column.specs.Column.{id_at, ids_between}
-use Rattle.dictionary.specs.Coding.{AreBelow}
+use Rattle.value_ids.specs.Coding.{AreBelow}
 use Rattle.std.specs.List.Sorted.{IsStrictlyIncreasing}
 use Rattle.doc_lists.specs.Sets.{Up}
 use Rattle.table_schema.specs.declared.query.BoundQuery.{BoundQuery}

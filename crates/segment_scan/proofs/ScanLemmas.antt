@@ -4,8 +4,8 @@ use Rattle.std.proofs.lemmas.List.Elements.{All-from_get_or}
 use Rattle.std.specs.List.{All, list_any}
 use Rattle.outside.specs.Files.{Files}
 use Rattle.values.specs.declared.value.Value.{Value}
-use Rattle.values.specs.Columns.{is_text, rows_of}
-use Rattle.dictionary.specs.Coding.{AreBelow, values_at}
+use Rattle.value_columns.specs.Columns.{is_text, rows_of}
+use Rattle.value_ids.specs.Coding.{AreBelow, values_at}
 use Rattle.table_schema.specs.declared.query.BoundQuery.{BoundQuery}
 use Rattle.segment_head.specs.Heads.{Seen}
 use Rattle.group_table.specs.Kept.{KeptGroups}

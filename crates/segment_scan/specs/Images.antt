@@ -4,7 +4,7 @@ use Rattle.std.specs.List.{range_with_len}
 use Rattle.outside.specs.Files.{Files}
 use Rattle.outside.specs.Reads.{Entry}
 use Rattle.values.specs.declared.value.Value.{Value}
-use Rattle.values.specs.Columns.{row_of, rows_of}
+use Rattle.value_columns.specs.Columns.{row_of, rows_of}
 use Rattle.doc_lists.specs.Docs.{has_doc}
 use Rattle.doc_lists.specs.Sets.{AreThose}
 use Rattle.table_schema.specs.Conditions.{conjunct_holds}

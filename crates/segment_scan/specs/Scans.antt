@@ -4,8 +4,8 @@ use Rattle.std.specs.List.{list_any}
 use Rattle.outside.specs.Files.{Files}
 use Rattle.values.specs.declared.value.Value.{Value}
 use Rattle.values.specs.declared.value.Value.TheVariants.{Whole}
-use Rattle.values.specs.Columns.{Listed, ListedColumns, is_text, rows_of}
-use Rattle.dictionary.specs.Coding.{values_at}
+use Rattle.value_columns.specs.Columns.{Listed, ListedColumns, is_text, rows_of}
+use Rattle.value_ids.specs.Coding.{values_at}
 use Rattle.bit_column.specs.Column.{ids_between}
 use Rattle.table_schema.specs.declared.query.BoundQuery.{BoundQuery}
 use Rattle.segment_head.specs.Heads.{Seen}

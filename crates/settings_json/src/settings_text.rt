@@ -7,12 +7,12 @@ ghost use Rattle.json_keys.specs.Faults.{Gives};
 ghost use Rattle.table_schema.specs.Valid.{IsValidSchema};
 ghost use Rattle.table_schema.specs.ValidSettings.{IsValidSettings};
 
+use data_types::Name;
 use json_keys::{TextFault, key_of, read_json};
 use serde_json::Value as Json;
 use settings_parts::{INDEX_KEY, plain, read_head, read_indexes};
 use std::alloc::Global;
 use table_schema::{Field, Schema, Settings};
-use values::Name;
 
 /// The settings that a text in JSON is, with the keys of Pinot's table configurations.
 ///

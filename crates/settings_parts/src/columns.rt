@@ -7,12 +7,13 @@ ghost use Rattle.settings_keys.specs.NamedColumns as spec;
 ghost use Rattle.json_keys.specs.Keys.{items_at};
 ghost use Rattle.json_keys.specs.Faults.{Passes, Refuses};
 
+use data_types::Seq;
 use json_keys::{TextFault, below, optional_array};
 use serde_json::Value as Json;
 use settings_keys::column_at;
 use std::alloc::Global;
 use table_schema::Field;
-use values::{NoMemory, Seq};
+use values::NoMemory;
 
 /// The array of a key, each place of which has the name of a field.
 pub(crate) fn columns<'v>(

@@ -15,12 +15,13 @@ ghost use Rattle.json_keys.specs.Faults.{Gives, Passes, Refuses, at_place};
 use crate::columns::{columns, named};
 use crate::sorted::read_sorted;
 use crate::trees::read_trees;
+use data_types::{Name, Seq};
 use json_keys::{KeyKind, TextFault, below, check_not, check_object, fault_at, place_fault};
 use serde_json::Value as Json;
 use settings_keys::is_member;
 use std::alloc::Global;
 use table_schema::{Field, Role, Settings, TreeSetting};
-use values::{Name, NoMemory, Seq};
+use values::NoMemory;
 
 /// The key of the object that names the indexes.
 pub const INDEX_KEY: &str = "tableIndexConfig";

@@ -7,12 +7,13 @@ ghost use Rattle.settings_parts.specs.Pairs as spec;
 ghost use Rattle.json_keys.specs.Faults.{Gives, Refuses, at_place};
 
 use agg_laws::AggKind;
+use data_types::{FieldKind, Seq};
 use json_keys::{KeyKind, TextFault, fault_at, place_fault};
 use serde_json::Value as Json;
 use settings_keys::text_at;
 use std::alloc::Global;
 use table_schema::{Field, Pair};
-use values::{FieldKind, NoMemory, Seq};
+use values::NoMemory;
 
 /// The most pairs of a star-tree.
 pub(crate) const MOST_PAIRS: usize = 16;

@@ -10,6 +10,7 @@ ghost use Rattle.json_keys.specs.Faults.{Gives, Refuses, at_place};
 
 use crate::pairs::read_pairs;
 use agg_laws::{Kinds, TreeShape};
+use data_types::Seq;
 use json_keys::{
     KeyKind, TextFault, array_of, at_place, below, check_object, check_unused, fault_at, key_fault,
     key_of, optional_array, place_fault,
@@ -18,7 +19,7 @@ use serde_json::Value as Json;
 use settings_keys::{column_at, is_member, read_leaf, text_at};
 use std::alloc::Global;
 use table_schema::{Field, Pair, TreeSetting};
-use values::{NoMemory, Seq};
+use values::NoMemory;
 
 /// The most split dimensions of a star-tree.
 const MOST_SPLITS: usize = 16;

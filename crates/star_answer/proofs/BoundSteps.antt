@@ -27,7 +27,7 @@ use Rattle.table_schema.specs.declared.settings.TreeSetting.{TreeSetting}
 use Rattle.table_schema.specs.declared.table.Table.{Table}
 use Rattle.table_schema.specs.Columns.{is_member}
 use Rattle.table_schema.specs.ValidSettings.{IsValidTree, is_number_of}
-use Rattle.dictionary.specs.Dictionary.{Distinct, distinct}
+use Rattle.value_ids.specs.Dictionary.{Distinct, distinct}
 use Rattle.segment_file.specs.Columns.{dictionary_of, values_in}
 use Rattle.segment_head.specs.Heads.{Seen}
 use Rattle.segment_file.specs.Parts.{columns_of}

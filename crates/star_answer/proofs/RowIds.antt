@@ -24,8 +24,8 @@ use Rattle.agg_laws.specs.Merged.{Merged, add, rekey}
 use Rattle.tree_laws.specs.NodeRules.{AreCounted, count_at}
 use Rattle.agg_laws.specs.Rows.{merged_rows}
 use Rattle.agg_laws.specs.Tree.{dim, ids_at, star}
-use Rattle.dictionary.specs.Dictionary.{Ascends, distinct, put_in}
-use Rattle.dictionary.proofs.Distinct.{distinct_ascends, distinct_members}
+use Rattle.value_ids.specs.Dictionary.{Ascends, distinct, put_in}
+use Rattle.value_ids.proofs.Distinct.{distinct_ascends, distinct_members}
 use Rattle.table_schema.specs.declared.settings.TreeSetting.{TreeSetting}
 use Rattle.segment_file.specs.Columns.{count_of, place_of, values_in}
 use Rattle.segment_file.specs.Ordered.{value_in}

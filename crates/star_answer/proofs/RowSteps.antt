@@ -10,8 +10,8 @@ use Rattle.std.proofs.lemmas.Int.{ints}
 use Rattle.std.proofs.lemmas.List.{get_or-map, length-map}
 use Rattle.std.proofs.lemmas.List.Elements.{All-head, All-tail}
 use Rattle.std.proofs.lemmas.List.Folds.{list_any_at}
-use Rattle.values.specs.declared.kind.FieldKind.{FieldKind}
-use Rattle.values.specs.declared.kind.FieldKind.TheVariants as kind
+use Rattle.data_types.specs.declared.kind.FieldKind.{FieldKind}
+use Rattle.data_types.specs.declared.kind.FieldKind.TheVariants as kind
 use Rattle.values.specs.declared.value.Value.{Value}
 use Rattle.values.specs.declared.value.Value.TheVariants.{Whole, Text}
 use Rattle.values.specs.Kinds.{fits}
@@ -21,8 +21,8 @@ use Rattle.values.specs.Tests.{is_member}
 use Rattle.values.proofs.Bounds.{same_value}
 use Rattle.agg_laws.specs.Numbers.{AreWhole, IsWhole}
 use Rattle.agg_laws.specs.Tree.{star}
-use Rattle.dictionary.specs.Dictionary.{distinct}
-use Rattle.dictionary.proofs.Distinct.{distinct_members}
+use Rattle.value_ids.specs.Dictionary.{distinct}
+use Rattle.value_ids.proofs.Distinct.{distinct_members}
 use Rattle.table_schema.specs.declared.field.Field.{Field}
 use Rattle.table_schema.specs.declared.query.Agg.{Agg}
 use Rattle.table_schema.specs.declared.settings.TreeSetting.{TreeSetting}

@@ -17,7 +17,7 @@ use Rattle.table_schema.specs.declared.query.Conjunct.{Conjunct}
 use Rattle.table_schema.specs.declared.query.Conjunct.TheVariants.{One}
 use Rattle.table_schema.specs.declared.settings.TreeSetting.{TreeSetting}
 use Rattle.table_schema.specs.Columns.{is_member}
-use Rattle.dictionary.specs.Ids.{AreThose, has_id, satisfies}
+use Rattle.value_ids.specs.Ids.{AreThose, has_id, satisfies}
 use Rattle.segment_head.specs.Heads.{IsLoaded, Seen}
 use Rattle.segment_plan.specs.Matched.{AreLoaded, is_on, passes, values_in}
 use Rattle.eligibility.specs.Rule.{Serves}

@@ -15,7 +15,7 @@ use Rattle.table_schema.specs.declared.table.Table.{Table}
 use Rattle.table_schema.specs.Columns.{is_member}
 use Rattle.table_schema.specs.ValidSettings.{IsValidTree}
 use Rattle.table_schema.specs.ValidTable.{IsValidTable}
-use Rattle.dictionary.specs.Dictionary.{most_values}
+use Rattle.value_ids.specs.Dictionary.{most_values}
 use Rattle.segment_file.specs.Trees.{nested, tree_row}
 use Rattle.segment_plan.specs.declared.plans.SegmentPlan.TheVariants.{StarTree}
 use Rattle.segment_plan.specs.Matched.{is_filtered, passes}

@@ -2,7 +2,9 @@
 use Rattle.std.specs.Prelude.{◌≡◌, ℕ, ℤ, List, map, slice_get, Some}
 use Rattle.std.specs.List.{All}
 use Rattle.values.specs.declared.value.Value.{Value}
-use Rattle.dictionary.specs.Dictionary.{distinct}
+use Rattle.value_ids.specs.Dictionary.{distinct}
+use Rattle.tree_laws.specs.Picks as asks
+use Rattle.value_ids.specs.Dictionary.{distinct}
 use Rattle.tree_laws.specs.Picks as asks
 use Rattle.table_schema.specs.declared.field.Field.{Field}
 use Rattle.table_schema.specs.declared.query.BoundQuery.{BoundQuery}

@@ -1,17 +1,17 @@
 //! The ids of the values of a column that satisfy all conjuncts on it.
 
 ghost use Rattle.std.specs.Prelude.{◌≡◌, ℕ, ◌&&◌, true, IfOk};
-ghost use Rattle.dictionary.specs.Ids.{AreThose, has_id, is_in_both};
+ghost use Rattle.value_ids.specs.Ids.{AreThose, has_id, is_in_both};
 ghost use Rattle.segment_head.specs.Heads.{IsLoaded};
 ghost use Rattle.segment_plan.specs.Matched.{AreLoaded, is_on, values_in};
 ghost use Rattle.star_walk.specs.Walking.{is_among};
 ghost use Rattle.star_answer.specs.Tasks.{AreMet, Meets};
 
 use crate::NoMemory;
-use dictionary::IdSet;
 use segment_head::Head;
 use std::alloc::Global;
 use table_schema::Conjunct;
+use value_ids::IdSet;
 
 /// The ids of the values of a column that satisfy each conjunct that names it alone, or `None`
 /// where no conjunct does.

@@ -10,13 +10,13 @@ ghost use Rattle.star_answer.specs.Tasks.{AreGrouped, AreTested, split_values};
 
 use crate::NoMemory;
 use crate::meeting::met_ids;
-use dictionary::IdSet;
+use data_types::Seq;
 use eligibility::eligible_law;
 use segment_head::Head;
 use star_walk::Task;
 use std::alloc::Global;
 use table_schema::{BoundQuery, Conjunct, TreeSetting};
-use values::Seq;
+use value_ids::IdSet;
 
 /// For each split dimension of a tree: the ids of the values that satisfy all conjuncts on it,
 /// where there are such conjuncts, and whether the query groups by it.

@@ -6,8 +6,11 @@ ghost use Rattle.star_taking.specs.Taken.{AreKeyIds, key_values};
 
 use crate::asked::GroupColumn;
 use document_table::StarTable;
+use document_table::StarTable;
+use data_types::Seq;
 use std::alloc::Global;
-use values::{NoMemory, Row, Seq};
+use value_columns::Row;
+use values::NoMemory;
 
 /// The key of a document that was taken: the values that its ids in the group columns stand for.
 pub fn key_at(

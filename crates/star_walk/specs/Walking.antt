@@ -6,7 +6,11 @@ use Rattle.agg_laws.specs.Tree.{star}
 use Rattle.state_columns.specs.Region.{range}
 use Rattle.tree_laws.specs.Flat.{node_at}
 use Rattle.tree_laws.specs.Picks.{Task, quiet, is_taken}
-use Rattle.dictionary.specs.Ids.{has_id}
+use Rattle.value_ids.specs.Ids.{has_id}
+use Rattle.state_columns.specs.Region.{range}
+use Rattle.tree_laws.specs.Flat.{node_at}
+use Rattle.tree_laws.specs.Picks.{Task, quiet, is_taken}
+use Rattle.value_ids.specs.Ids.{has_id}
 use Rattle.star_walk.specs.declared.pick.Pick.{Pick}
 
 -- there is an entry of both kinds for each dimension

@@ -9,8 +9,9 @@ ghost use Rattle.star_walk.specs.Walking.{task_of, HasEach};
 use crate::NoMemory;
 use crate::task::Task;
 use document_table::StarTable;
+use document_table::StarTable;
+use data_types::Seq;
 use std::alloc::Global;
-use values::Seq;
 
 /// The numbers of the documents of a table that pass the tests of their dimensions from a level on,
 /// ascending.

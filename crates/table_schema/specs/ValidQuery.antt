@@ -1,7 +1,7 @@
 -- Valid queries over the fields of a table: what each call that takes one may rely on.
 use Rattle.std.specs.Prelude.{◌≡◌, ℕ, ◌<◌, ◌≤◌, ◌==◌, nat_eq, nat_lt, Bool, true, false, not, ◌&&◌, List, [], ◌∷◌, length, flat_map, Option, Some, None, option_map}
 use Rattle.std.specs.List.{list_all, list_any, slice_get, IsDistinct}
-use Rattle.values.specs.declared.kind.FieldKind.{FieldKind}
+use Rattle.data_types.specs.declared.kind.FieldKind.{FieldKind}
 use Rattle.values.specs.declared.value.Value.{Value}
 use Rattle.values.specs.declared.test.Test.{Test}
 use Rattle.values.specs.declared.test.Test.TheOpen.{Test-F}

@@ -3,7 +3,8 @@
 ghost use Rattle.std.specs.Prelude.{◌≡◌, ◌<◌, ◌≤◌, length, IfSome};
 ghost use Rattle.table_schema.specs.Columns as spec;
 
-use values::{FieldKind, Name, Seq, Value};
+use data_types::{FieldKind, Name, Seq};
+use values::Value;
 
 /// What a field is for, as the list of the schema that names it says.
 #[derive(Clone, Copy, Debug, PartialEq, Eq)]

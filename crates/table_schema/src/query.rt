@@ -1,7 +1,8 @@
 //! A query in which names are resolved to numbers of fields.
 
 use agg_laws::AggKind;
-use values::{Name, Seq, Test};
+use data_types::{Name, Seq};
+use values::Test;
 
 /// A condition on a row: a test of the value of one field, or all or any of some conditions.
 #[derive(Debug, Drop)]

@@ -2,7 +2,7 @@
 
 use crate::Agg;
 use agg_laws::TreeShape;
-use values::{Name, Seq};
+use data_types::{Name, Seq};
 
 /// What a star-tree keeps of a group of rows.
 pub type Pair = Agg;

@@ -6,7 +6,7 @@ ghost use Rattle.std.specs.List.Sorted.{IsPermutation, IsSorted};
 ghost use Rattle.outside.specs.Counts.{Rose};
 ghost use Rattle.outside.specs.Files.{Has, Lacks, SameBut, name_order, with_file, without_file};
 ghost use Rattle.table_schema.specs.ValidTable.{AreRows, IsValidTable};
-ghost use Rattle.values.specs.Columns.{rows_of};
+ghost use Rattle.value_columns.specs.Columns.{rows_of};
 ghost use Rattle.segment_build.specs.Growing.{TreesFit, trees_fit};
 ghost use Rattle.segment_file.specs.Image.{image};
 ghost use Rattle.outside.specs.Seen.{OnlyReads, seen};
@@ -21,7 +21,7 @@ use segment_build::{BuildFault, columns_of, write_columns};
 use segment_file::is_segment_name;
 use std::alloc::Global;
 use table_schema::Table;
-use values::{Columns, Rows};
+use value_columns::{Columns, Rows};
 
 /// The most segments of a store.
 pub const MOST_SEGMENTS: usize = 512;

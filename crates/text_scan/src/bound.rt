@@ -7,10 +7,10 @@ ghost use Rattle.sql_reply.specs.SqlReply.{replied, sql_reply};
 ghost use Rattle.text_scan.specs.TextReply as spec;
 
 use crate::ScanFault;
+use data_types::{Name, Seq};
 use sql_reply::SqlFault;
 use std::alloc::{AllocError, Global};
 use table_schema::{BoundQuery, Schema, Settings, Table};
-use values::{Name, Seq};
 
 /// A query by its text, its names and its types, over the columns of a CSV text. Any name stands for
 /// the table.

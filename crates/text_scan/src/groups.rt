@@ -1,6 +1,6 @@
 //! The groups of a query over the rows of a text, block after block.
 ghost use Rattle.std.specs.Prelude.{◌≡◌, ◌≤◌, ◌<◌, ◌+◌, true, List, [], Ok, IfOk, IfErr, IfSome, OnOk, MatchOption};
-ghost use Rattle.values.specs.Columns.{rows_of as rows_of_columns};
+ghost use Rattle.value_columns.specs.Columns.{rows_of as rows_of_columns};
 ghost use Rattle.values.specs.declared.value.Value.{Value};
 ghost use Rattle.csv_ingest.specs.Blocks.{RowsOrFault};
 ghost use Rattle.csv_row.specs.InOrder.{after};
@@ -17,7 +17,7 @@ use group_table::{GroupTable, TableFault};
 use scan_engine::add_block;
 use std::alloc::Global;
 use table_schema::BoundQuery;
-use values::Columns;
+use value_columns::Columns;
 
 // The most columns that a text of whole numbers may have.
 const MOST_COLUMNS: u32 = 64;

@@ -6,7 +6,7 @@ use csv_ingest::{CsvFault, defaults_fit, read_plain, read_rows};
 use schema_json::read_schema;
 use std::alloc::Global;
 use table_schema::Schema;
-use values::{Row, Rows};
+use value_columns::{Row, Rows};
 
 const MOST_BYTES: usize = 134_217_728;
 

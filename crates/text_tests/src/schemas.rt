@@ -1,11 +1,11 @@
 //! What comes of the text of a schema: its fields, or `Kind key` of the first fault.
 
 use crate::text::Text;
+use data_types::FieldKind;
 use json_keys::TextFault;
 use schema_json::read_schema;
 use std::alloc::Global;
 use table_schema::{Field, Role, Schema};
-use values::FieldKind;
 
 /// Adds the kind of a fault and its key.
 pub fn show_fault(fault: &TextFault, out: &Text) {

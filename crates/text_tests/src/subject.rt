@@ -6,8 +6,8 @@ use crate::queries::{first_word, long_outcome, outcome, outcome_of_beginnings};
 use crate::schemas::schema_outcome;
 use crate::settings::settings_outcome;
 use crate::text::{Text, meaning};
+use data_types::{FieldKind, WholeFault, read_whole};
 use std::alloc::Global;
-use values::{FieldKind, WholeFault, read_whole};
 
 #[derive(Clone, Copy)]
 pub enum Subject {

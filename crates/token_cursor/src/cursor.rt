@@ -5,10 +5,10 @@ ghost use Rattle.query_tokens.specs.Stream as spec;
 ghost use Rattle.token_cursor.specs.Reading as reading;
 ghost use Rattle.token_cursor.specs.Reading.{Reads};
 
+use data_types::Name;
 use query_tokens::{Kind, QueryFault, Reason, Token, lex};
 use std::alloc::{AllocError, Global};
 use std::marker::Model;
-use values::Name;
 
 #[derive(Drop)]
 pub struct Tokens<'a> {

@@ -1,10 +1,10 @@
 -- Values of a kind.
 use Rattle.std.specs.Prelude.{nat_le, Bool, true, false, length}
-use Rattle.values.specs.declared.kind.FieldKind.{FieldKind}
-use Rattle.values.specs.declared.kind.FieldKind.TheVariants as kind
+use Rattle.data_types.specs.declared.kind.FieldKind.{FieldKind}
+use Rattle.data_types.specs.declared.kind.FieldKind.TheVariants as kind
 use Rattle.values.specs.declared.value.Value.{Value}
 use Rattle.values.specs.declared.value.Value.TheVariants.{Whole, Text}
-use Rattle.values.specs.Numbers.{is_in_range}
+use Rattle.data_types.specs.Numbers.{is_in_range}
 
 -- a number for a field of numbers, a text for a field of texts
 abbrev pub is_of : FieldKind → Value → Bool

@@ -1,13 +1,4 @@
 pub mod Kinds
-pub mod Cells
-pub mod Columns
-pub mod Magnitude
-pub mod Numbers
 pub mod Order
-pub mod Pools
 pub mod Printed
-pub mod Reading
-pub mod Shared
 pub mod Tests
-pub mod Texts
-pub mod formers

@@ -1,31 +1,11 @@
-//! Whole numbers and texts: values, their order, rows of them, columns, and tests on one value.
+//! Values, which are whole numbers or texts: their order, tests on one value, and the places of
+//! texts among those that are kept.
 #![tactic(auto)]
 
-mod boxed;
-mod column;
-mod columns;
-mod kind;
-mod name;
-mod read;
-mod row;
-mod seq;
+mod places;
 mod test;
-mod text_index;
-mod text_pool;
-mod texts;
 mod value;
-mod whole;
 
-pub use boxed::Boxed;
-pub use column::Column;
-pub use columns::Columns;
-pub use kind::FieldKind;
-pub use name::Name;
-pub use read::{MOST_TEXT_BYTES, ValueFault, read_value};
-pub use row::{Row, Rows, copy_row};
-pub use seq::Seq;
+pub use places::{place, place_of_bytes};
 pub use test::{CompareOp, Test, holds_value, may_hold, op_holds};
-pub use text_pool::TextPool;
-pub use texts::Texts;
 pub use value::{NoMemory, Value, compare, push_text};
-pub use whole::{WholeFault, read_whole};

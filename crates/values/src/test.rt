@@ -4,7 +4,8 @@ ghost use Rattle.std.specs.Prelude.{◌≡◌};
 ghost use Rattle.std.specs.Bool.{OnFalse};
 ghost use Rattle.values.specs.Tests.{op_holds, holds, is_member, is_between, may_hold, compare_may, some_between, one_of_may, between_may, is_at_most, NoneHolds};
 
-use crate::{Seq, Value, compare};
+use crate::{Value, compare};
+use data_types::Seq;
 use std::cmp::Ordering;
 
 /// How two values are compared.

@@ -6,7 +6,7 @@ ghost use Rattle.values.specs.Order.{value_order, value_eq};
 ghost use Rattle.values.specs.Order.Laws.{value_eq-equiv, value_order-total, value_eq-ties, value_order-partial};
 ghost use Rattle.values.specs.Printed.{text_of};
 
-use crate::Name;
+use data_types::Name;
 use std::alloc::{AllocError, Global};
 use std::cmp::Ordering;
 

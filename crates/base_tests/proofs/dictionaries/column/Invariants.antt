@@ -1,6 +1,6 @@
 use Rattle.std.proofs.Common.{◌≤◌, length}
 use Rattle.std.specs.List.{All}
-use Rattle.dictionary.specs.Dictionary.{Fits}
+use Rattle.value_ids.specs.Dictionary.{Fits}
 use Rattle.base_tests.proofs.dictionaries.column.Given as goal
 
 abbrev pub invariant-loop-cell : goal.invariant-loop-cell

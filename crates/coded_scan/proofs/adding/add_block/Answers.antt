@@ -1,6 +1,6 @@
 use Rattle.std.proofs.Common.{◌≡◌, ◌∙◌, ◌≤◌, ◌+◌, ◌-◌, ℕ, Bool, List, length, sym, subst, arith}
 use Rattle.agg_laws.specs.Numbers.{most_values}
-use Rattle.dictionary.specs.Coding.{AreBelow}
+use Rattle.value_ids.specs.Coding.{AreBelow}
 use Rattle.group_table.specs.Kept.{groups_in}
 use Rattle.scan_engine.specs.Places.{rows_at}
 use Rattle.scan_engine.specs.Scanned.{IsOverfull}

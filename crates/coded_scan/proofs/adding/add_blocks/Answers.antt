@@ -1,7 +1,7 @@
 use Rattle.std.proofs.Common.{◌≡◌, ◌∙◌, ◌≤◌, ◌+◌, ◌-◌, ℕ, Bool, List, length, ap, sym, subst, arith}
 use Rattle.std.proofs.lemmas.Result.{IfOk-weaker}
 use Rattle.agg_laws.specs.Numbers.{most_values}
-use Rattle.dictionary.specs.Coding.{AreBelow}
+use Rattle.value_ids.specs.Coding.{AreBelow}
 use Rattle.group_table.specs.Kept.{groups_in}
 use Rattle.scan_engine.specs.Places.{rows_at}
 use Rattle.scan_engine.specs.Scanned.{IsOverfull}

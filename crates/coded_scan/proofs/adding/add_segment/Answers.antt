@@ -2,8 +2,8 @@ use Rattle.std.proofs.Common.{◌≡◌, ◌∙◌, ◌<◌, ℕ, Bool, List, ap
 use Rattle.std.proofs.lemmas.List.{take_all}
 use Rattle.std.proofs.lemmas.Result.{IfOk-weaker}
 use Rattle.values.specs.declared.value.Value.{Value}
-use Rattle.values.specs.Columns.{ListedColumns, row_of, rows_of}
-use Rattle.values.proofs.RowLemmas.{length-rows}
+use Rattle.value_columns.specs.Columns.{ListedColumns, row_of, rows_of}
+use Rattle.value_columns.proofs.RowLemmas.{length-rows}
 use Rattle.table_schema.specs.Conditions.{all_hold}
 use Rattle.table_schema.specs.declared.query.BoundQuery.{BoundQuery}
 use Rattle.table_schema.specs.declared.query.Conjunct.{Conjunct}

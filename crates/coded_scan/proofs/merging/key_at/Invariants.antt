@@ -1,5 +1,5 @@
 use Rattle.std.proofs.Common.{◌≡◌, take}
-use Rattle.values.specs.Columns.{row_of}
+use Rattle.value_columns.specs.Columns.{row_of}
 use Rattle.group_table.specs.Groups.{key_of}
 use Rattle.coded_scan.specs.Coded.{table_of}
 use Rattle.coded_scan.proofs.merging.key_at.Given as goal

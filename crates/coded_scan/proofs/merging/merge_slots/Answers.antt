@@ -4,7 +4,7 @@ use Rattle.agg_laws.specs.declared.states.AggState.{AggState}
 use Rattle.agg_laws.specs.Numbers.{most_values}
 use Rattle.agg_laws.specs.Rows.{RowFits, kinds_of}
 use Rattle.values.specs.declared.value.Value.{Value}
-use Rattle.values.specs.Columns.{Listed, row_of}
+use Rattle.value_columns.specs.Columns.{Listed, row_of}
 use Rattle.group_table.specs.Groups.{key_of, states_of}
 use Rattle.group_table.specs.Kept.{HaveValues, groups_in}
 use Rattle.scan_engine.specs.Places.{IsRun, rows_at}

@@ -1,5 +1,5 @@
 use Rattle.std.proofs.Common.{◌≡◌, ◌∙◌, ◌&&◌, ◌||◌, ℕ, Bool, List, map, drop, ◌+◌, ap, sym, subst, arith}
-use Rattle.values.specs.Columns.{row_of}
+use Rattle.value_columns.specs.Columns.{row_of}
 use Rattle.values.specs.Tests.{all_true, any_true}
 use Rattle.table_schema.specs.Conditions.{wide_holds, wide_step}
 use Rattle.table_schema.specs.declared.query.Wide.TheOpen.{Wide-F}

@@ -1,5 +1,5 @@
 use Rattle.std.proofs.Common.{◌≡◌, ◌<◌, ◌&&◌, ◌||◌, ℕ, true, drop, map}
-use Rattle.values.specs.Columns.{row_of}
+use Rattle.value_columns.specs.Columns.{row_of}
 use Rattle.values.specs.Tests.{all_true, any_true}
 use Rattle.table_schema.specs.Conditions.{wide_holds}
 use Rattle.coded_scan.specs.Coded.{table_of}

@@ -1,7 +1,7 @@
 use Rattle.std.proofs.Common.{◌≡◌, ◌∙◌, ◌+◌, ◌&&◌, ◌||◌, ℕ, suc, Bool, List, ap, sym, take, arith}
 use Rattle.std.specs.List.{list_all}
 use Rattle.std.proofs.lemmas.List.{take_all}
-use Rattle.values.specs.Columns.{row_of}
+use Rattle.value_columns.specs.Columns.{row_of}
 use Rattle.table_schema.specs.Conditions.{all_hold, conjunct_holds}
 use Rattle.table_schema.specs.declared.query.Conjunct.{Conjunct}
 use Rattle.segment_plan.specs.declared.plans.IndexChoice.{IndexChoice}

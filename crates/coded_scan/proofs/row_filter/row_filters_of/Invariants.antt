@@ -1,5 +1,5 @@
 use Rattle.std.proofs.Common.{◌≡◌, ◌<◌, ℕ, take}
-use Rattle.values.specs.Columns.{row_of}
+use Rattle.value_columns.specs.Columns.{row_of}
 use Rattle.table_schema.specs.Conditions.{all_hold}
 use Rattle.coded_scan.specs.Coded.{table_of}
 use Rattle.coded_scan.specs.Served.{unserved}

@@ -1,6 +1,6 @@
 use Rattle.std.proofs.Common.{◌≡◌, ◌∙◌, ◌<◌, ◌+◌, ◌&&◌, ◌||◌, ℕ, Bool, List, get_or, length, map, ap, sym, arith}
 use Rattle.values.specs.Tests.{all_true, any_true}
-use Rattle.dictionary.specs.Ids.{has_id}
+use Rattle.value_ids.specs.Ids.{has_id}
 use Rattle.coded_scan.specs.declared.row_filter.RowFilter.{RowFilter}
 use Rattle.coded_scan.specs.declared.row_filter.RowFilter.TheOpen.{RowFilter-F}
 use Rattle.coded_scan.specs.declared.row_filter.RowFilter.TheFolds.{fold-roll-RowFilter}

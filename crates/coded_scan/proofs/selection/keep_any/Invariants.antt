@@ -1,5 +1,5 @@
 use Rattle.std.proofs.Common.{get_or}
-use Rattle.dictionary.specs.Ids.{has_id}
+use Rattle.value_ids.specs.Ids.{has_id}
 use Rattle.scan_engine.proofs.SelectionLemmas.{KeepsBelow}
 use Rattle.coded_scan.proofs.selection.keep_any.Given as goal
 

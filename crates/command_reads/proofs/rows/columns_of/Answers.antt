@@ -7,7 +7,7 @@ use Rattle.csv_ingest.specs.Unicode.{IsUnicode}
 use Rattle.csv_ingest.proofs.FaultLemmas.{any_columns}
 use Rattle.csv_ingest.proofs.ValidLemmas.{valid-defaults}
 use Rattle.table_schema.specs.declared.field.Field.{Field}
-use Rattle.values.specs.Columns.{rows_of}
+use Rattle.value_columns.specs.Columns.{rows_of}
 use Rattle.command_reads.proofs.RowsLemmas.{rows_unicode, stops-by}
 use Rattle.command_reads.proofs.rows.columns_of.Goals as goal
 

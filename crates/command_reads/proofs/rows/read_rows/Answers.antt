@@ -1,6 +1,6 @@
 use Rattle.std.proofs.Common.{sym, subst}
 use Rattle.outside.specs.Whole.{IsWhole}
-use Rattle.values.specs.Columns.{rows_of}
+use Rattle.value_columns.specs.Columns.{rows_of}
 use Rattle.command_reads.proofs.CreateLemmas.{not_read, other_err}
 use Rattle.command_reads.proofs.RowsLemmas.{handed_rows, read_err, read_ok, rows_unread}
 use Rattle.command_reads.proofs.rows.read_rows.Goals as goal

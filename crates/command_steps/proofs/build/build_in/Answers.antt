@@ -1,5 +1,5 @@
 use Rattle.outside.specs.Seen.{seen}
-use Rattle.values.specs.Columns.{rows_of}
+use Rattle.value_columns.specs.Columns.{rows_of}
 use Rattle.command_reads.proofs.BuildLemmas.{ran_halted, ran_published, ran_rowless}
 use Rattle.command_reads.proofs.CreateLemmas.{other_err}
 use Rattle.command_steps.proofs.build.build_in.Goals as goal

@@ -3,8 +3,8 @@ use Rattle.segment_build.proofs.FitTests.{large_tested}
 use Rattle.segment_file.specs.Image.{image}
 use Rattle.segment_file.specs.Names.{file_of}
 use Rattle.table_store.specs.TableFile.{incoming}
-use Rattle.values.specs.Columns.{rows_of}
-use Rattle.values.proofs.RowLemmas.{length-rows}
+use Rattle.value_columns.specs.Columns.{rows_of}
+use Rattle.value_columns.proofs.RowLemmas.{length-rows}
 use Rattle.command_reads.specs.World.{SameButThese}
 use Rattle.command_reads.proofs.BuildLemmas.{built_of}
 use Rattle.command_reads.proofs.CreateLemmas.{one_of_these, put_these}

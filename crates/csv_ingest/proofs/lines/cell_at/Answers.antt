@@ -1,5 +1,5 @@
 use Rattle.std.proofs.Common.{◌≡◌, ◌+◌, pos, to_z, of_z, w64, rules, sym, subst}
-use Rattle.values.specs.Numbers.{negative}
+use Rattle.data_types.specs.Numbers.{negative}
 use Rattle.csv_ingest.specs.Lines.{IsCell}
 use Rattle.csv_ingest.proofs.LineLemmas.{minus-cell, plain-cell}
 use Rattle.csv_ingest.proofs.lines.cell_at.Goals as goal

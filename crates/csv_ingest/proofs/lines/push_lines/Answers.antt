@@ -1,9 +1,9 @@
 use Rattle.std.proofs.Common.{◌≡◌, ◌∙◌, ◌+◌, Bor, List, ℕ, map, length, ap, subst, sym, arith}
 use Rattle.std.proofs.lemmas.List.{length-map}
 use Rattle.std.specs.List.{All}
-use Rattle.values.specs.Columns.{Counts}
+use Rattle.value_columns.specs.Columns.{Counts}
 use Rattle.values.specs.declared.value.Value.TheVariants.{Whole}
-use Rattle.values.proofs.RowLemmas.{counts-push}
+use Rattle.value_columns.proofs.RowLemmas.{counts-push}
 use Rattle.csv_ingest.specs.Lines.{IsLine}
 use Rattle.csv_row.proofs.ColumnLemmas.{sorts-stay, widths}
 use Rattle.csv_ingest.proofs.LineRows.{RowsSoFar, are-lines, line-row, no-rows-yet, number-columns, rows-more}

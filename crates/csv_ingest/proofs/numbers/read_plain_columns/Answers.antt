@@ -1,7 +1,7 @@
 use Rattle.std.proofs.Common.{◌≡◌, ◌+◌, ◌≤◌, List, ℕ, length, Ok}
 use Rattle.std.specs.List.{All}
 use Rattle.csv.specs.Reading.{strip_bom}
-use Rattle.values.specs.Columns.{rows_of as rows_of_columns}
+use Rattle.value_columns.specs.Columns.{rows_of as rows_of_columns}
 use Rattle.csv_ingest.specs.Reading.{Reads, records_left}
 use Rattle.csv_row.specs.Row.{csv_limits}
 use Rattle.csv_ingest.specs.Rows.{IsNumbers, plain_in}

@@ -1,6 +1,6 @@
 use Rattle.std.proofs.Common.{◌∙◌, refl, ap}
 use Rattle.std.specs.Result.{result_ok}
-use Rattle.values.specs.declared.kind.FieldKind.TheVariants.{Int, Long}
+use Rattle.data_types.specs.declared.kind.FieldKind.TheVariants.{Int, Long}
 use Rattle.csv_row.proofs.CellLemmas.{number-found, number-missing, text-missing}
 use Rattle.csv_row.proofs.cells.number_in.Goals as goal
 

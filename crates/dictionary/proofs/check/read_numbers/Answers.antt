@@ -2,7 +2,7 @@ use Rattle.std.proofs.Common.{◌≡◌, ◌∙◌, ℤ, [], ◌∷◌, ◌++◌
 use Rattle.std.proofs.lemmas.Bool.{false≢true}
 use Rattle.std.proofs.lemmas.Int.{to_z-of_z}
 use Rattle.std.specs.Int.{w64, cast_signed, cast_unsigned}
-use Rattle.values.specs.Numbers.{is_in_range}
+use Rattle.data_types.specs.Numbers.{is_in_range}
 use Rattle.dictionary.specs.Reading.{is_above_last}
 use Rattle.dictionary.proofs.Numbers.{fits_from_mag, numbers_begin, numbers_long, numbers_more, numbers_refused}
 use Rattle.values.specs.declared.value.Value.TheVariants.{Whole}

@@ -1,7 +1,7 @@
 use Rattle.std.proofs.Common.{◌≡◌, ◌∙◌, List, ap, map, pos, subst, sym}
 use Rattle.values.specs.declared.value.Value.{Value}
 use Rattle.values.specs.declared.value.Value.TheVariants.{Whole}
-use Rattle.dictionary.specs.Coding.{Sees}
+use Rattle.value_ids.specs.Coding.{Sees}
 use Rattle.dictionary.proofs.CodedLemmas.{sees_mapped}
 use Rattle.dictionary.proofs.coded.coded_numbers.Goals as goal
 

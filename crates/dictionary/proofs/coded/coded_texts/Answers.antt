@@ -2,7 +2,7 @@ use Rattle.std.proofs.Common.{[], ℕ, List, map, subst, sym}
 use Rattle.std.specs.List.{All, Contains}
 use Rattle.values.specs.declared.value.Value.{Value}
 use Rattle.values.specs.declared.value.Value.TheVariants.{Text}
-use Rattle.dictionary.specs.Coding.{Sees}
+use Rattle.value_ids.specs.Coding.{Sees}
 use Rattle.dictionary.proofs.CodedLemmas.{sees_mapped}
 use Rattle.dictionary.proofs.coded.coded_texts.Goals as goal
 

@@ -2,7 +2,7 @@ use Rattle.std.proofs.Common.{◌∙◌, arith, subst, sym}
 use Rattle.std.specs.List.{Contains}
 use Rattle.std.proofs.lemmas.List.{take_all}
 use Rattle.dictionary.proofs.CodedLemmas.{never_absent, rank_more}
-use Rattle.dictionary.proofs.Found.{found, not_found}
+use Rattle.value_ids.proofs.Found.{found, not_found}
 use Rattle.dictionary.proofs.coded.ranks.Goals as goal
 
 pub unreachable-requires : goal.unreachable-requires

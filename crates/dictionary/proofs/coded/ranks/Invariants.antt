@@ -1,5 +1,5 @@
 use Rattle.std.proofs.Common.{◌≡◌, take, length}
-use Rattle.dictionary.specs.Coding.{AreBelow, values_at}
+use Rattle.value_ids.specs.Coding.{AreBelow, values_at}
 use Rattle.dictionary.proofs.coded.ranks.Given as goal
 
 abbrev pub invariant-loop-value : goal.invariant-loop-value

@@ -1,6 +1,6 @@
 use Rattle.std.proofs.Common.{◌+◌, drop}
 use Rattle.std.proofs.lemmas.List.{drop_all}
-use Rattle.dictionary.proofs.MatchLemmas.{all_at_first, all_end, all_more, any_at_first, any_end, any_more, next_test}
+use Rattle.value_ids.proofs.MatchLemmas.{all_at_first, all_end, all_more, any_at_first, any_end, any_more, next_test}
 use Rattle.dictionary.proofs.matching.+matching_ids.Goals as goal
 
 pub loop-test-init : goal.loop-test-init

@@ -1,5 +1,5 @@
 use Rattle.std.proofs.Common.{drop}
-use Rattle.dictionary.proofs.MatchLemmas.{AllSoFar, AnySoFar}
+use Rattle.value_ids.proofs.MatchLemmas.{AllSoFar, AnySoFar}
 use Rattle.dictionary.proofs.matching.+matching_ids.Given as goal
 
 abbrev pub invariant-loop-test : goal.invariant-loop-test

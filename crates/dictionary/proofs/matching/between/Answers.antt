@@ -1,7 +1,7 @@
 use Rattle.std.proofs.Common.{length}
 use Rattle.values.specs.Tests.{is_between, negated_if}
-use Rattle.dictionary.specs.Ids.{AreThose, Picks, negated_ids}
-use Rattle.dictionary.proofs.MatchLemmas.{between_run, if_ok, negated_picks}
+use Rattle.value_ids.specs.Ids.{AreThose, Picks, negated_ids}
+use Rattle.value_ids.proofs.MatchLemmas.{between_run, if_ok, negated_picks}
 use Rattle.dictionary.proofs.matching.between.Goals as goal
 
 pub returns : goal.returns

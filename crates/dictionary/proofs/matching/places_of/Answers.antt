@@ -1,4 +1,4 @@
-use Rattle.dictionary.proofs.MatchLemmas.{place_absent, place_there, no_places, all_places}
+use Rattle.value_ids.proofs.MatchLemmas.{place_absent, place_there, no_places, all_places}
 use Rattle.dictionary.proofs.matching.places_of.Goals as goal
 
 pub loop-member-init : goal.loop-member-init

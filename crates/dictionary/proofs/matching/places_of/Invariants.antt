@@ -1,4 +1,4 @@
-use Rattle.dictionary.proofs.MatchLemmas.{PlacesUpTo}
+use Rattle.value_ids.proofs.MatchLemmas.{PlacesUpTo}
 use Rattle.dictionary.proofs.matching.places_of.Given as goal
 
 abbrev pub invariant-loop-member : goal.invariant-loop-member

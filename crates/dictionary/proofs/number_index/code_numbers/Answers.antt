@@ -1,4 +1,4 @@
-use Rattle.dictionary.proofs.CodingLemmas.{among-more, below-one, reads-more}
+use Rattle.value_ids.proofs.CodingLemmas.{among-more, below-one, reads-more}
 use Rattle.dictionary.proofs.number_index.code_numbers.Goals as goal
 
 pub loop-number-preserved : goal.loop-number-preserved

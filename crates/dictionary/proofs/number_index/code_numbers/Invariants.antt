@@ -1,5 +1,5 @@
 use Rattle.std.proofs.Common.{◌≡◌, take, length}
-use Rattle.dictionary.specs.Coding.{AreBelow, AreNumbersOf, numbers_at}
+use Rattle.value_ids.specs.Coding.{AreBelow, AreNumbersOf, numbers_at}
 use Rattle.dictionary.proofs.number_index.code_numbers.Given as goal
 
 abbrev pub invariant-loop-number : goal.invariant-loop-number

@@ -1,6 +1,6 @@
 use Rattle.std.proofs.Common.{◌≡◌, ◌∙◌, ◌<◌, ◌-◌, ℕ, List, ap, length, sym, arith}
 use Rattle.values.specs.declared.value.Value.{Value}
-use Rattle.dictionary.specs.Ids.{matching}
+use Rattle.value_ids.specs.Ids.{matching}
 use Rattle.segment_head.specs.Heads.{Seen}
 use Rattle.segment_plan.specs.Matched.{values_in, values_of}
 use Rattle.document_reading.specs.Forward.{count_in}

@@ -2,7 +2,7 @@ use Rattle.std.proofs.Common.{◌≡◌, ◌∙◌, ◌≤◌, ◌-◌, ℕ, Lis
 use Rattle.std.proofs.lemmas.Result.{IfOk-weaker}
 use Rattle.agg_laws.specs.Numbers.{most_values}
 use Rattle.values.specs.declared.value.Value.{Value}
-use Rattle.values.specs.Columns.{ListedColumns, rows_of}
+use Rattle.value_columns.specs.Columns.{ListedColumns, rows_of}
 use Rattle.group_table.specs.Kept.{groups_in}
 use Rattle.table_schema.specs.declared.query.BoundQuery.{BoundQuery}
 use Rattle.scan_engine.specs.Places.{rows_at}

@@ -1,8 +1,8 @@
 use Rattle.std.proofs.Common.{◌≡◌, ◌∙◌, ◌++◌, ◌<◌, ◌≤◌, ◌+◌, ℕ, Bool, List, ap, sym, subst, arith, length}
 use Rattle.std.proofs.lemmas.List.{take_all}
 use Rattle.values.specs.declared.value.Value.{Value}
-use Rattle.values.specs.Columns.{ListedColumns, row_of, rows_of}
-use Rattle.values.proofs.RowLemmas.{length-rows, row-at}
+use Rattle.value_columns.specs.Columns.{ListedColumns, row_of, rows_of}
+use Rattle.value_columns.proofs.RowLemmas.{length-rows, row-at}
 use Rattle.table_schema.specs.declared.query.BoundQuery.{BoundQuery}
 use Rattle.scan_engine.specs.Places.{rows_at}
 use Rattle.scan_engine.specs.Scanned.{marked, selected}

@@ -1,5 +1,5 @@
 use Rattle.std.proofs.Common.{◌≡◌, ◌≤◌, length, take}
-use Rattle.values.specs.Columns.{rows_of}
+use Rattle.value_columns.specs.Columns.{rows_of}
 use Rattle.scan_engine.specs.Places.{rows_at}
 use Rattle.scan_engine.specs.Scanned.{selected}
 use Rattle.scan_engine.proofs.places.selected_places.Given as goal

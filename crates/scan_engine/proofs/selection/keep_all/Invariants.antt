@@ -1,5 +1,5 @@
 use Rattle.std.proofs.Common.{take}
-use Rattle.values.specs.Columns.{row_of}
+use Rattle.value_columns.specs.Columns.{row_of}
 use Rattle.table_schema.specs.Conditions.{all_hold}
 use Rattle.scan_engine.specs.Selection.{Keeps}
 use Rattle.scan_engine.proofs.selection.keep_all.Given as goal

@@ -1,4 +1,4 @@
-use Rattle.values.specs.Columns.{row_of}
+use Rattle.value_columns.specs.Columns.{row_of}
 use Rattle.table_schema.specs.Conditions.{conjunct_holds}
 use Rattle.scan_engine.proofs.SelectionLemmas.{KeepsBelow}
 use Rattle.scan_engine.proofs.selection.keep_rows.Given as goal

@@ -2,7 +2,7 @@ use Rattle.std.proofs.Common.{◌≡◌, ◌∙◌, ◌-◌, ◌+◌, ◌∷◌,
 use Rattle.std.proofs.lemmas.List.{take_all}
 use Rattle.agg_laws.specs.Numbers.{most_values}
 use Rattle.values.specs.declared.value.Value.{Value}
-use Rattle.values.specs.Columns.{row_of}
+use Rattle.value_columns.specs.Columns.{row_of}
 use Rattle.group_table.specs.Kept.{groups_in}
 use Rattle.scan_engine.specs.Places.{rows_at}
 use Rattle.scan_engine.specs.Scanned.{AddsRows}

@@ -1,5 +1,5 @@
 use Rattle.std.proofs.Common.{◌≡◌, take, map}
-use Rattle.values.specs.Columns.{row_of}
+use Rattle.value_columns.specs.Columns.{row_of}
 use Rattle.agg_laws.specs.Numbers.{AreWhole}
 use Rattle.group_table.specs.Groups.{number_for}
 use Rattle.scan_engine.proofs.single.fill_values.Given as goal

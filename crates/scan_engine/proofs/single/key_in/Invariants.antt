@@ -1,5 +1,5 @@
 use Rattle.std.proofs.Common.{◌≡◌, take}
-use Rattle.values.specs.Columns.{row_of}
+use Rattle.value_columns.specs.Columns.{row_of}
 use Rattle.group_table.specs.Groups.{key_of}
 use Rattle.scan_engine.proofs.single.key_in.Given as goal
 

@@ -1,5 +1,7 @@
 use Rattle.std.proofs.Common.{◌∙◌, ◌<◌, ◌≤◌, sym, ap, subst, arith}
-use Rattle.values.specs.Columns.{rows_of}
+use Rattle.value_columns.specs.Columns.{rows_of}
+use Rattle.tree_laws.specs.Flat.{flat, tree_bytes}
+use Rattle.value_columns.specs.Columns.{rows_of}
 use Rattle.tree_laws.specs.Flat.{flat, tree_bytes}
 use Rattle.agg_laws.specs.Rows.{merged_rows}
 use Rattle.agg_laws.specs.Tree.{HaveNoStar}

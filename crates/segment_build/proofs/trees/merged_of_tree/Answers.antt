@@ -8,7 +8,7 @@ use Rattle.table_schema.specs.declared.query.Agg.{Agg}
 use Rattle.segment_file.specs.Columns.{ids_of}
 use Rattle.segment_file.specs.Trees.{number_for}
 use Rattle.segment_columns.specs.Numbers.{IsKnown, numbers_for}
-use Rattle.values.specs.Columns.{rows_of}
+use Rattle.value_columns.specs.Columns.{rows_of}
 use Rattle.segment_columns.proofs.CodedColumns.{rows_most}
 use Rattle.segment_build.proofs.Growing.{dims_count, dims_long, docs_made, metrics_long, pair_columns, pairs_known}
 use Rattle.segment_build.proofs.trees.merged_of_tree.Goals as goal

@@ -1,6 +1,6 @@
 use Rattle.std.proofs.Common.{◌≡◌, ◌∙◌, get_or, sym, ap, subst}
 use Rattle.std.proofs.lemmas.Option.{get_or_from_slice_get}
-use Rattle.dictionary.specs.Dictionary.{distinct}
+use Rattle.value_ids.specs.Dictionary.{distinct}
 use Rattle.table_schema.specs.declared.field.Field.{Field}
 use Rattle.segment_columns.specs.Fitting.{FitsKind}
 use Rattle.segment_columns.proofs.CodedColumns.{coded_is, places_within}

@@ -1,7 +1,7 @@
 use Rattle.std.proofs.Common.{◌≡◌, ◌∙◌, None, get_or, sym, ap, subst}
 use Rattle.std.proofs.lemmas.Option.{get_or_from_slice_get}
-use Rattle.values.specs.Columns.{rows_of}
-use Rattle.dictionary.specs.Dictionary.{distinct}
+use Rattle.value_columns.specs.Columns.{rows_of}
+use Rattle.value_ids.specs.Dictionary.{distinct}
 use Rattle.table_schema.specs.declared.field.Field.{Field}
 use Rattle.table_schema.specs.declared.table.Table.{Table}
 use Rattle.segment_columns.specs.declared.coding.RowOrder.TheVariants.{AsGiven}

@@ -1,6 +1,6 @@
 use Rattle.std.proofs.Common.{take}
 use Rattle.std.specs.List.{All}
-use Rattle.values.specs.Columns.{Counts}
+use Rattle.value_columns.specs.Columns.{Counts}
 use Rattle.segment_columns.specs.RowColumns.{OfFields}
 use Rattle.segment_columns.proofs.columns.empty_columns.Given as goal
 

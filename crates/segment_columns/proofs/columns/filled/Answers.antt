@@ -1,5 +1,5 @@
 use Rattle.std.proofs.Common.{◌≡◌, ◌∙◌, ◌+◌, length, sym, ap, subst, take}
-use Rattle.values.specs.Columns.{row_pushed}
+use Rattle.value_columns.specs.Columns.{row_pushed}
 use Rattle.dictionary.proofs.CodedLemmas.{lent_back}
 use Rattle.segment_columns.specs.RowColumns.{AreThose, SuitsRow}
 use Rattle.segment_columns.proofs.RowLemmas.{next_suits, none_yet, row_more}

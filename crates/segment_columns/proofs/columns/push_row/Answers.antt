@@ -1,7 +1,7 @@
 use Rattle.std.proofs.Common.{◌∙◌, ◌<◌, refl, sym, ap, subst}
 use Rattle.std.proofs.lemmas.Option.{get_or_from_slice_get}
-use Rattle.values.specs.Columns.{Listed, pushed}
-use Rattle.values.proofs.RowLemmas.{push-nil}
+use Rattle.value_columns.specs.Columns.{Listed, pushed}
+use Rattle.value_columns.proofs.RowLemmas.{push-nil}
 use Rattle.segment_columns.proofs.RowLemmas.{value_more, value_suits}
 use Rattle.segment_columns.proofs.columns.push_row.Goals as goal
 

@@ -1,5 +1,5 @@
 use Rattle.std.proofs.Common.{◌≡◌, take}
-use Rattle.values.specs.Columns.{row_pushed}
+use Rattle.value_columns.specs.Columns.{row_pushed}
 use Rattle.segment_columns.proofs.columns.push_row.Given as goal
 
 abbrev pub invariant-values : goal.invariant-values

@@ -1,7 +1,7 @@
 use Rattle.std.proofs.Common.{◌≡◌, ◌∙◌, ◌<◌, ◌≤◌, ℕ, List, length, sym, ap, subst, arith}
 use Rattle.std.specs.List.Sorted.{IsNonDecreasing}
-use Rattle.values.specs.Columns.{rows_of}
-use Rattle.dictionary.specs.Coding.{AreBelow}
+use Rattle.value_columns.specs.Columns.{rows_of}
+use Rattle.value_ids.specs.Coding.{AreBelow}
 use Rattle.segment_file.specs.Ordered.{ordered}
 use Rattle.segment_columns.specs.Sections.{made_of, with_column}
 use Rattle.segment_columns.proofs.CodedColumns.{coded_below, coded_few, coded_more, coded_up}

@@ -1,5 +1,5 @@
 use Rattle.std.proofs.Common.{◌≡◌}
-use Rattle.values.specs.Columns.{rows_of}
+use Rattle.value_columns.specs.Columns.{rows_of}
 use Rattle.segment_file.specs.Ordered.{ordered}
 use Rattle.segment_columns.specs.Sections.{made_of}
 use Rattle.segment_columns.proofs.sections.column_sections.Given as goal

@@ -1,7 +1,7 @@
 use Rattle.std.proofs.Common.{◌≡◌, ◌∙◌, ℤ, false, sym, ap}
 use Rattle.std.proofs.lemmas.Int.{to_z-of_z}
 use Rattle.std.specs.Int.{w64, cast_signed, cast_unsigned}
-use Rattle.values.specs.Numbers.{is_in_range}
+use Rattle.data_types.specs.Numbers.{is_in_range}
 use Rattle.dictionary.proofs.Numbers.{fits_from_mag}
 use Rattle.dictionary.proofs.Texts.{at_none}
 use Rattle.segment_file.proofs.BoundReads.{no_eight, out_of_range}

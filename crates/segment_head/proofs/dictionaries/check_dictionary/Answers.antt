@@ -1,6 +1,6 @@
 use Rattle.std.proofs.Common.{◌≡◌, ◌∙◌, length, sym, ap, arith}
 use Rattle.dictionary.proofs.Spells.{spells_one}
-use Rattle.dictionary.specs.Dictionary.{Distinct}
+use Rattle.value_ids.specs.Dictionary.{Distinct}
 use Rattle.segment_head.proofs.dictionaries.check_dictionary.Goals as goal
 
 pub returns-then-count-rows-clause-bad : goal.returns-then-count-rows-clause-bad

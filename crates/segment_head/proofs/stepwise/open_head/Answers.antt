@@ -4,7 +4,7 @@ use Rattle.std.proofs.lemmas.List.Elements.{All-map}
 use Rattle.outside.specs.Files.{bytes_of}
 use Rattle.outside.specs.Seen.{seen}
 use Rattle.outside.proofs.SeenLemmas.{reads_after, reads_none}
-use Rattle.dictionary.specs.Dictionary.{Distinct}
+use Rattle.value_ids.specs.Dictionary.{Distinct}
 use Rattle.segment_file.specs.declared.bounds.Ends.{Ends}
 use Rattle.segment_file.specs.declared.section.Section.{Section}
 use Rattle.segment_file.specs.declared.trees.TreeNodes.{TreeNodes}

@@ -1,5 +1,5 @@
 use Rattle.std.proofs.Common.{◌≡◌, map, take}
-use Rattle.dictionary.specs.Ids.{matching}
+use Rattle.value_ids.specs.Ids.{matching}
 use Rattle.segment_plan.specs.Matched.{conditions_on}
 use Rattle.segment_plan.proofs.matching.matching_sets.Given as goal
 

@@ -1,5 +1,5 @@
 use Rattle.std.proofs.Common.{◌≡◌, ◌∙◌, ◌<◌, ◌≤◌, ◌-◌, ℕ, Bool, List, Option, All, None, Err, inr, false, length, get_or, ap, sym, subst, arith}
-use Rattle.values.specs.Columns.{rows_of}
+use Rattle.value_columns.specs.Columns.{rows_of}
 use Rattle.agg_laws.specs.Numbers.{most_values}
 use Rattle.doc_lists.specs.Docs.{docs_of}
 use Rattle.group_table.specs.Kept.{groups_in}

@@ -1,5 +1,5 @@
 use Rattle.std.proofs.Common.{◌≡◌, ◌∙◌, ◌<◌, ◌-◌, ℕ, Bool, List, Option, None, Err, false, length, get_or, ap, sym, subst, arith}
-use Rattle.values.specs.Columns.{rows_of}
+use Rattle.value_columns.specs.Columns.{rows_of}
 use Rattle.agg_laws.specs.Numbers.{most_values}
 use Rattle.group_table.specs.Kept.{groups_in}
 use Rattle.scan_engine.specs.Scanned.{AddsRows, HaveAtMost, selected}

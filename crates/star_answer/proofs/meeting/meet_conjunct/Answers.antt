@@ -2,7 +2,7 @@ use Rattle.std.proofs.Common.{◌≡◌, ◌∙◌, ◌==◌, true, Some, ap, ar
 use Rattle.std.proofs.lemmas.Bool.{eq-eqb}
 use Rattle.std.specs.Prelude.{slice_get}
 use Rattle.table_schema.specs.declared.query.Conjunct.{Conjunct}
-use Rattle.dictionary.specs.Ids.{satisfies}
+use Rattle.value_ids.specs.Ids.{satisfies}
 use Rattle.segment_plan.specs.Matched.{values_in, values_of}
 use Rattle.star_answer.specs.Tasks.{Meets}
 use Rattle.star_answer.proofs.TaskSteps.{meets_on}

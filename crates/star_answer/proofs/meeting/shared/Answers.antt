@@ -1,8 +1,8 @@
 use Rattle.std.proofs.Common.{get_or, sym, ◌∙◌, refl, subst}
 use Rattle.std.specs.List.Sorted.{IsStrictlySortedBy}
 use Rattle.std.specs.Ordering.{nat_cmp}
-use Rattle.dictionary.specs.Ids.{AreThose, is_in_both}
-use Rattle.dictionary.proofs.SetLemmas.{share_above, share_end, share_no, share_yes}
+use Rattle.value_ids.specs.Ids.{AreThose, is_in_both}
+use Rattle.value_ids.proofs.SetLemmas.{share_above, share_end, share_no, share_yes}
 use Rattle.star_answer.proofs.meeting.shared.Goals as goal
 
 pub push-requires : goal.push-requires

@@ -1,4 +1,4 @@
-use Rattle.dictionary.proofs.SetLemmas.{SharedUpTo}
+use Rattle.value_ids.proofs.SetLemmas.{SharedUpTo}
 use Rattle.star_answer.proofs.meeting.shared.Given as goal
 
 abbrev pub invariant-loop-id : goal.invariant-loop-id

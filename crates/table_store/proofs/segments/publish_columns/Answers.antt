@@ -1,4 +1,4 @@
-use Rattle.values.specs.Columns.{rows_of}
+use Rattle.value_columns.specs.Columns.{rows_of}
 use Rattle.segment_build.proofs.FitTests.{large_tested}
 use Rattle.table_store.proofs.segments.publish_columns.Goals as goal
 

@@ -1,6 +1,6 @@
 use Rattle.std.proofs.Common.{◌∙◌, ◌++◌, ◌+◌, ◌-◌, ◌≤◌, [], Err, sym, ap, subst, arith}
 use Rattle.csv_row.specs.InOrder.{after}
-use Rattle.values.specs.Columns.{rows_of}
+use Rattle.value_columns.specs.Columns.{rows_of}
 use Rattle.group_table.specs.Kept.{groups_in}
 use Rattle.group_table.specs.Groups.{Groups}
 use Rattle.group_table.specs.Shape.{shape_of}

@@ -2,7 +2,7 @@ use Rattle.std.proofs.Common.{◌≡◌, ◌≤◌, ◌<◌, ◌+◌, ◌-◌, �
 use Rattle.csv.specs.Reading.{default_config, records_from}
 use Rattle.csv.specs.Records.{fields_of}
 use Rattle.csv.specs.declared.parser.State.TheVariants as st
-use Rattle.values.specs.Columns.{rows_of as rows_of_columns}
+use Rattle.value_columns.specs.Columns.{rows_of as rows_of_columns}
 use Rattle.csv_row.specs.InOrder.{after}
 use Rattle.csv_ingest.specs.Blocks.{rows_from}
 use Rattle.csv_ingest.specs.Lines.{AtLineEnd}

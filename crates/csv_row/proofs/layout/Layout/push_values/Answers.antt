@@ -1,8 +1,8 @@
 use Rattle.std.proofs.Common.{◌≡◌, ◌∙◌, ◌<◌, ◌++◌, ◌∷◌, [], Bor, List, ℕ, length, map, ap, refl, sym, arith, length-append}
 use Rattle.std.proofs.lemmas.List.{length-map}
 use Rattle.csv.specs.Records.{fields_of}
-use Rattle.values.specs.Columns.{Listed}
-use Rattle.values.proofs.RowLemmas.{length-push, push-nil}
+use Rattle.value_columns.specs.Columns.{Listed}
+use Rattle.value_columns.proofs.RowLemmas.{length-push, push-nil}
 use Rattle.csv_row.specs.Row.{place_of, value_at}
 use Rattle.csv_row.proofs.InOrder.{after-none, item-one}
 use Rattle.csv_row.proofs.ColumnLemmas.{column-set, sort-at, sorts-stay, value-given, widths}

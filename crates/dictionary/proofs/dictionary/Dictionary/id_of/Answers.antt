@@ -2,8 +2,8 @@ use Rattle.std.proofs.Common.{◌≡◌, ◌∙◌, false, Some, List, ap, subst
 use Rattle.std.specs.List.{slice_get}
 use Rattle.values.specs.declared.value.Value.{Value}
 use Rattle.values.specs.Tests.{is_member}
-use Rattle.dictionary.specs.Dictionary.{Ascends}
-use Rattle.dictionary.proofs.Found.{found, not_found}
+use Rattle.value_ids.specs.Dictionary.{Ascends}
+use Rattle.value_ids.proofs.Found.{found, not_found}
 use Rattle.dictionary.proofs.dictionary.Dictionary.id_of.Goals as goal
 
 pub returns-in-Ok : goal.returns-in-Ok

@@ -1,8 +1,8 @@
 use Rattle.std.proofs.Common.{◌≡◌, ◌≤◌, ◌∙◌, ℕ, List, ap, length, slice_get, subst, sym}
 use Rattle.values.specs.declared.value.Value.{Value}
-use Rattle.dictionary.specs.Dictionary.{Ascends, most_values}
-use Rattle.dictionary.specs.Ids.{has_id, matching, satisfies}
-use Rattle.dictionary.proofs.MatchLemmas.{ids_so}
+use Rattle.value_ids.specs.Dictionary.{Ascends, most_values}
+use Rattle.value_ids.specs.Ids.{has_id, matching, satisfies}
+use Rattle.value_ids.proofs.MatchLemmas.{ids_so}
 use Rattle.dictionary.proofs.dictionary.Dictionary.ids_matching.Goals as goal
 
 pub matching_ids-requires : goal.matching_ids-requires

@@ -1,9 +1,9 @@
 use Rattle.std.proofs.Common.{◌≡◌, ◌∙◌, ◌≤◌, ℕ, List, ap, ap₂, length, subst, sym}
 use Rattle.values.specs.declared.value.Value.{Value}
-use Rattle.dictionary.specs.Coding.{AreAmong, AreBelow, Codes, renumbered}
-use Rattle.dictionary.specs.Dictionary.{Ascends, distinct, most_values}
+use Rattle.value_ids.specs.Coding.{AreAmong, AreBelow, Codes, renumbered}
+use Rattle.value_ids.specs.Dictionary.{Ascends, distinct, most_values}
 use Rattle.dictionary.proofs.CodedLemmas.{column_so, lent_back, ranks_all, renumbered_codes, seen_among}
-use Rattle.dictionary.proofs.Distinct.{members_so, stands_so}
+use Rattle.value_ids.proofs.Distinct.{members_so, stands_so}
 use Rattle.dictionary.proofs.dictionary.Dictionary.of_column.Goals as goal
 
 pub ranks-requires-clause-few : goal.ranks-requires-clause-few

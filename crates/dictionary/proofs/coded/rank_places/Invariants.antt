@@ -1,6 +1,0 @@
-use Rattle.std.proofs.Common.{◌≡◌, ◌++◌, take, drop}
-use Rattle.dictionary.specs.Coding.{renumbered}
-use Rattle.dictionary.proofs.coded.rank_places.Given as goal
-
-abbrev pub invariant-places : goal.invariant-places
-invariant-places l = l.ids ≡ renumbered l.ranks (take l.at l.fn.ids) ++ drop l.at l.fn.ids

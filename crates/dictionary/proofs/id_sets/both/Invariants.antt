@@ -1,5 +1,0 @@
-use Rattle.dictionary.proofs.SetLemmas.{SharedUpTo}
-use Rattle.dictionary.proofs.id_sets.both.Given as goal
-
-abbrev pub invariant-loop-id : goal.invariant-loop-id
-invariant-loop-id l = SharedUpTo l.list l.b l.id-index l.ids

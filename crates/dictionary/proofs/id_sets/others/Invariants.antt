@@ -1,6 +1,0 @@
-use Rattle.dictionary.specs.Ids.{is_outside}
-use Rattle.dictionary.proofs.SetLemmas.{Passed}
-use Rattle.dictionary.proofs.id_sets.others.Given as goal
-
-abbrev pub invariant-loop-id : goal.invariant-loop-id
-invariant-loop-id l = Passed (is_outside l.count l.ids) l.id l.outside

@@ -1,9 +1,0 @@
-use Rattle.std.proofs.Common.{◌≡◌, ◌≤◌, drop}
-use Rattle.values.proofs.Digits.{number_after}
-use Rattle.values.proofs.whole.read_many.Given as goal
-
-abbrev pub invariant-loop-byte : goal.invariant-loop-byte
-invariant-loop-byte l = record {
-  same : number_after l.number (drop l.byte-index l.digits) ≡ number_after 0 l.digits;
-  small : l.number ≤ 9223372036854775809;
-}
