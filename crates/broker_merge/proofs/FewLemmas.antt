@@ -8,9 +8,9 @@ use Rattle.values.specs.declared.value.Value.{Value}
 use Rattle.table_schema.specs.declared.query.OrderKey.{OrderKey}
 use Rattle.group_table.specs.Groups.{Group}
 use Rattle.group_table.specs.Kept.{KeptGroups, IsGroup, IsTable, key_eq}
-use Rattle.broker_merge.specs.Ranked.{BeginInOrder}
-use Rattle.broker_merge.proofs.OrderLemmas.{is_in_order}
-use Rattle.broker_merge.proofs.RankLemmas.{all_groups, all_below}
+use Rattle.group_order.specs.Ranked.{BeginInOrder}
+use Rattle.group_order.proofs.OrderLemmas.{is_in_order}
+use Rattle.group_order.proofs.RankLemmas.{all_groups, all_below}
 
 no_value : (key : List Value) → length key ≡ 0 → key ≡ []
 no_value [] e = refl

@@ -1,5 +1,2 @@
-pub mod OrderLemmas
-pub mod RankLemmas
 pub mod FewLemmas
-pub mod JoinLemmas
 pub mod AnswerLemmas

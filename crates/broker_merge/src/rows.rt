@@ -1,19 +1,19 @@
 //! From the groups of a table to an answer.
 
-ghost use Rattle.std.specs.Prelude.{◌≡◌, ◌<◌, ◌≤◌, IfOk, length, map, take, drop};
+ghost use Rattle.std.specs.Prelude.{◌≡◌, ◌<◌, ◌≤◌, IfOk, length, map};
 ghost use Rattle.std.specs.FinMap as finite;
 ghost use Rattle.std.specs.List.{All, range_with_len};
 ghost use Rattle.group_table.specs.Kept.{IsTable, IsTableOf, group_at, groups_in};
 ghost use Rattle.group_table.specs.Shape.{shape_of};
+ghost use Rattle.group_order.specs.Rank.{IsItem};
+ghost use Rattle.group_order.specs.Ranked.{BeginInOrder};
 ghost use Rattle.broker_merge.specs.Answer as spec;
 ghost use Rattle.broker_merge.specs.Answer.{NamesPlaces};
-ghost use Rattle.broker_merge.specs.Rank.{IsItem};
-ghost use Rattle.broker_merge.specs.Ranked.{BeginInOrder};
 
 use crate::answer::{Answer, Cell};
-use crate::order::ordered;
 use agg_laws::AggState;
 use data_types::{Name, Seq};
+use group_order::{ordered, written_of};
 use group_table::GroupTable;
 use std::alloc::Global;
 use table_schema::{BoundQuery, Item};
@@ -67,16 +67,6 @@ fn first_places(alloc: Global, count: u32) -> Result<Vec<u32>, NoMemory>
         places.push(0)?;
     }
     Ok(places)
-}
-
-// Those after so many, and no more than so many.
-fn written_of(places: &[u32], offset: u64, limit: u64) -> &[u32]
-    ensures { result.now ≡ take limit (drop offset places.now) }
-{
-    let start = offset.min(places.len() as u64) as usize;
-    let rest = &places[start..];
-    let count = limit.min(rest.len() as u64) as usize;
-    &rest[..count]
 }
 
 // The labels of the columns; their texts are shared.

@@ -14,10 +14,10 @@ use Rattle.scan_engine.specs.Scanned.{AddsRows, IsOverfull, marked, selected}
 use Rattle.scan_engine.proofs.AddLemmas.{adds_both, adds_nothing, overfull_later, selected_more}
 use Rattle.scan_engine.proofs.FoldLemmas.{count_marked, rows_marked}
 use Rattle.scan_engine.proofs.RunLemmas.{adds_as_more}
-use Rattle.coded_scan.specs.declared.coded.SegmentColumns.{SegmentColumns}
-use Rattle.coded_scan.specs.Coded.{AreCoded, table_of}
-use Rattle.coded_scan.specs.RowFilters.{passing}
-use Rattle.coded_scan.proofs.CodedLemmas.{below_marked, counts}
+use Rattle.coded_columns.specs.declared.coded.SegmentColumns.{SegmentColumns}
+use Rattle.coded_columns.specs.Coded.{AreCoded, table_of}
+use Rattle.coded_columns.proofs.CodedLemmas.{below_marked, counts}
+use Rattle.row_marks.specs.RowFilters.{passing}
 use Rattle.coded_scan.proofs.RowFilterLemmas.{passing-both}
 
 pub passing-few : (holds : ℕ → Bool) (from n : ℕ) → length (passing holds from n) ≤ n

@@ -1,23 +1,24 @@
 //! The rows of a segment, added to the groups of a query.
 
-ghost use Rattle.std.specs.Prelude.{◌≡◌, ◌-◌, ◌+◌, ◌≤◌, Err, IfOk, OnOk, length};
+ghost use Rattle.std.specs.Prelude.{◌≡◌, ◌-◌, ◌+◌, ◌≤◌, ◌<◌, Err, IfOk, OnOk, length};
 ghost use Rattle.agg_laws.specs.Numbers.{most_values};
 ghost use Rattle.value_columns.specs.Columns.{rows_of};
 ghost use Rattle.group_table.specs.declared.fault.TableFault.TheVariants.{TooManyGroups};
 ghost use Rattle.group_table.specs.Kept.{IsTableOf, groups_in};
 ghost use Rattle.scan_engine.specs.Scanned.{AddsRows, HaveAtMost, IsOverfull, selected};
-ghost use Rattle.coded_scan.specs.Coded.{AreCoded, table_of};
+ghost use Rattle.coded_columns.specs.Coded.{AreCoded, table_of};
+ghost use Rattle.row_marks.specs.RowFilters.{AllCover, all_let, passing};
 ghost use Rattle.coded_scan.specs.Served.{rest_of};
-ghost use Rattle.coded_scan.specs.RowFilters.{AllCover, all_let, passing};
 ghost use Rattle.value_ids.specs.Coding.{AreBelow};
 ghost use Rattle.scan_engine.specs.Places.{rows_at};
 
-use crate::coded::SegmentColumns;
-use crate::merging::add_places;
-use crate::row_filter::{RowFilter, row_filters_of};
+use crate::row_filter::row_filters_of;
 use crate::selection::{Block, push_block};
+use coded_columns::{SegmentColumns, fold_slots, slots_of};
 use group_table::{GroupTable, TableFault};
+use row_marks::RowFilter;
 use segment_plan::IndexChoice;
+use slot_merge::merge_slots;
 use std::alloc::Global;
 use table_schema::BoundQuery;
 
@@ -178,4 +179,30 @@ fn add_some(
         return Ok(());
     }
     add_places(alloc, query, segment, places, table)
+}
+
+// Adds the rows in these places, of which there are some.
+fn add_places(
+    alloc: Global,
+    query: &BoundQuery,
+    segment: &SegmentColumns<'_>,
+    places: &[u32],
+    table: &mut GroupTable,
+) -> Result<(), TableFault>
+    requires coded { AreCoded segment.now }
+    requires table { IsTableOf query.now table.old }
+    requires some { 0 < length places.now }
+    requires few { length places.now ≤ segment.now.count }
+    requires rows { AreBelow segment.now.count places.now }
+    requires fits { HaveAtMost (most_values - length places.now) (groups_in table.old) }
+    ensures ok { OnOk result (AddsRows query.now (length places.now)
+        (rows_at (table_of segment.now).columns places.now) table.old table.new) }
+    ensures full { result ≡ Err TooManyGroups
+        → IsOverfull query.now (rows_at (table_of segment.now).columns places.now) table.old }
+{
+    let groups = slots_of(alloc, segment, query.groups.as_slice(), places)?;
+    let aggs = query.aggs.as_slice();
+    let count = groups.firsts.len();
+    let states = fold_slots(alloc, segment, aggs, places, &groups.slots, count)?;
+    merge_slots(alloc, query, segment, places, &groups, &states, table)
 }

@@ -3,17 +3,9 @@
 #![tactic(auto)]
 
 mod adding;
-mod coded;
-mod folding;
-mod ids;
-mod merging;
-mod ranking;
 mod row_filter;
 mod selection;
 mod serving;
-mod slots;
 
 pub use adding::add_segment;
-pub use coded::{Coded, SegmentColumns};
-pub use ids::{IdRoom, Ids};
 pub use serving::{choice_at, is_served};

@@ -5,30 +5,19 @@ ghost use Rattle.std.specs.Prelude.{◌≡◌, ◌&&◌, ◌||◌, ◌<◌, ℕ,
 ghost use Rattle.value_columns.specs.Columns.{row_of};
 ghost use Rattle.values.specs.Tests.{holds};
 ghost use Rattle.table_schema.specs.Conditions as spec;
-ghost use Rattle.coded_scan.specs.Coded.{AreCoded, table_of};
+ghost use Rattle.coded_columns.specs.Coded.{AreCoded, table_of};
+ghost use Rattle.row_marks.specs.RowFilters.{AllCover, all_let, covers, lets};
 ghost use Rattle.coded_scan.specs.Served.{is_served, unserved};
-ghost use Rattle.coded_scan.specs.RowFilters.{AllCover, all_let, covers, lets};
 
-use crate::coded::SegmentColumns;
-use crate::ids::Ids;
 use crate::serving::{choice_at, is_served};
 use data_types::Seq;
+use coded_columns::SegmentColumns;
+use row_marks::RowFilter;
 use segment_plan::IndexChoice;
 use std::alloc::Global;
 use table_schema::{Conjunct, Wide};
 use value_ids::IdSet;
 use values::{NoMemory, Test, Value, holds_value};
-
-/// A condition on the rows of a segment, by their ids.
-#[derive(Drop)]
-pub enum RowFilter<'a> {
-    /// The row's id in a column is in a set.
-    Ids(&'a Ids, IdSet),
-    /// It holds for all rows, or for none.
-    Fixed(bool),
-    All(Seq<RowFilter<'a>>),
-    Any(Seq<RowFilter<'a>>),
-}
 
 /// The conditions that are those of the conjuncts that are not served.
 pub fn row_filters_of<'a>(

@@ -5,7 +5,7 @@ ghost use Rattle.outside.specs.Seen.{OnlyReads, seen};
 ghost use Rattle.doc_lists.specs.Docs.{Apart, docs_of};
 ghost use Rattle.segment_file.specs.declared.part.Part.TheVariants.{Forward};
 ghost use Rattle.document_reading.specs.Bytes.{GrowsBy};
-ghost use Rattle.coded_scan.specs.Coded.{most_rows};
+ghost use Rattle.coded_columns.specs.Coded.{most_rows};
 ghost use Rattle.document_reading.specs.Faults.{IsFaultOf};
 ghost use Rattle.document_reading.specs.Forward.{HasIds, IsReadable};
 ghost use Rattle.document_reading.specs.Picked.{AreIdsAt, LogsRuns, LogsRunsPartly};
@@ -13,7 +13,7 @@ ghost use Rattle.document_reading.specs.declared.fault.EngineFault.TheVariants.{
 
 use crate::fault::{EngineFault, of_column};
 use bit_column::{append_range, width_for};
-use coded_scan::Ids;
+use coded_columns::Ids;
 use doc_lists::Run;
 use outside::Shelf;
 use segment_file::Part;

@@ -6,7 +6,7 @@ ghost use Rattle.doc_lists.specs.Docs.{has_doc};
 ghost use Rattle.doc_lists.specs.Sets.{AreThose};
 ghost use Rattle.segment_file.specs.declared.part.Part.{Part};
 ghost use Rattle.segment_file.specs.declared.part.Part.TheVariants.{Range};
-ghost use Rattle.coded_scan.specs.Coded.{most_rows};
+ghost use Rattle.coded_columns.specs.Coded.{most_rows};
 ghost use Rattle.document_reading.specs.Faults.{list_fault};
 ghost use Rattle.document_reading.specs.Indexes.{AddsUnsure, AreEndsOf, AreInBoth, IsFoundNear, IsRanged, LogsRange, LogsRangePartly, TellsBuckets};
 ghost use Rattle.document_reading.specs.declared.fault.EngineFault.TheVariants.{NotASegment, ReadFault, TooManyGroups};

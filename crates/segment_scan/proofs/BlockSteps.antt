@@ -15,8 +15,8 @@ use Rattle.outside.proofs.ReadLemmas.{LogsOn-none, LogsThrough-none, logs-up}
 use Rattle.bit_column.specs.Column.{id_at, ids_between}
 use Rattle.bit_column.specs.Sections.{AppendsRange, Readable, end_byte, first_byte, section}
 use Rattle.bit_column.proofs.ReadSteps.{LogsOn-append, LogsUpTo-after}
-use Rattle.coded_scan.specs.Ids.{HasRoom}
-use Rattle.coded_scan.specs.declared.ids.IdRoom.{IdRoom}
+use Rattle.coded_columns.specs.Ids.{HasRoom}
+use Rattle.coded_columns.specs.declared.ids.IdRoom.{IdRoom}
 use Rattle.document_reading.proofs.PickSteps.{ids_of_range, part_readable}
 
 -- ---- ids by their places

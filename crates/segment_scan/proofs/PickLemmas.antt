@@ -23,15 +23,15 @@ use Rattle.segment_plan.specs.declared.plans.IndexChoice.{IndexChoice}
 use Rattle.group_table.specs.Kept.{KeptGroups}
 use Rattle.scan_engine.specs.Places.{rows_at}
 use Rattle.scan_engine.specs.Scanned.{IsOverfull, selected}
-use Rattle.coded_scan.specs.declared.coded.Coded.{Coded}
-use Rattle.coded_scan.specs.declared.coded.SegmentColumns.{SegmentColumns}
-use Rattle.coded_scan.specs.Coded.{AreCoded, IsCoded, listed, most_rows, table_of, values_of}
+use Rattle.coded_columns.specs.declared.coded.Coded.{Coded}
+use Rattle.coded_columns.specs.declared.coded.SegmentColumns.{SegmentColumns}
+use Rattle.coded_columns.specs.Coded.{AreCoded, IsCoded, listed, most_rows, table_of, values_of}
 use Rattle.segment_scan.specs.Documents.{selected_docs}
 use Rattle.document_reading.specs.Forward.{forward_in, width_in}
 use Rattle.document_reading.specs.Picked.{IsPicked}
 use Rattle.segment_scan.specs.Scans.{IsCodedOf, columns_read, values_read}
+use Rattle.coded_columns.proofs.CodedLemmas.{counts, get_or-ids, zeros}
 use Rattle.coded_scan.specs.Served.{rest_of}
-use Rattle.coded_scan.proofs.CodedLemmas.{counts, get_or-ids, zeros}
 use Rattle.segment_scan.proofs.DocLemmas.{increasing_up}
 use Rattle.document_reading.proofs.PickSteps.{ids_of_range}
 

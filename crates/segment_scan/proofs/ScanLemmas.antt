@@ -10,9 +10,9 @@ use Rattle.table_schema.specs.declared.query.BoundQuery.{BoundQuery}
 use Rattle.segment_head.specs.Heads.{Seen}
 use Rattle.group_table.specs.Kept.{KeptGroups}
 use Rattle.scan_engine.specs.Scanned.{IsOverfull, selected}
-use Rattle.coded_scan.specs.declared.coded.Coded.{Coded}
-use Rattle.coded_scan.specs.declared.coded.SegmentColumns.{SegmentColumns}
-use Rattle.coded_scan.specs.Coded.{AreCoded, IsCoded, listed, most_rows, table_of, values_of}
+use Rattle.coded_columns.specs.declared.coded.Coded.{Coded}
+use Rattle.coded_columns.specs.declared.coded.SegmentColumns.{SegmentColumns}
+use Rattle.coded_columns.specs.Coded.{AreCoded, IsCoded, listed, most_rows, table_of, values_of}
 use Rattle.document_reading.specs.Forward.{IsRead}
 use Rattle.segment_scan.specs.Scans.{IsCodedOf, columns_read, selected_read, table_read, values_read}
 

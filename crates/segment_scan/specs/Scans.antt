@@ -12,7 +12,7 @@ use Rattle.segment_head.specs.Heads.{Seen}
 use Rattle.segment_plan.specs.Matched.{values_in}
 use Rattle.group_table.specs.Kept.{KeptGroups}
 use Rattle.scan_engine.specs.Scanned.{AddsRows, selected}
-use Rattle.coded_scan.specs.declared.coded.Coded.{Coded}
+use Rattle.coded_columns.specs.declared.coded.Coded.{Coded}
 use Rattle.document_reading.specs.Forward.{forward_in, width_in}
 
 -- the values of the rows in a column, by the ids of its forward section; in one that is not named

@@ -3,7 +3,7 @@
 ghost use Rattle.std.specs.Prelude.{◌≡◌, ◌≤◌, ℕ, List, Err, IfOk, IfSome, IsErrOf, OnErr, length};
 ghost use Rattle.outside.specs.Seen.{OnlyReads, seen};
 ghost use Rattle.segment_file.specs.declared.part.Part.{Part};
-ghost use Rattle.coded_scan.specs.Coded.{most_rows};
+ghost use Rattle.coded_columns.specs.Coded.{most_rows};
 ghost use Rattle.document_reading.specs.Indexes.{AddsUnsure, HasUnsure, IsBadAny, IsBadIndex, IsFoundBy, IsIndexed, IsReady, Leaves, LeavesBy, LogsAt, LogsAtPartly, LogsIndex, LogsIndexPartly, LogsIndexed, LogsIndexedPartly, OfEach, TellsIds, part_of};
 ghost use Rattle.segment_scan.specs.Series.{LogsPartOf, LogsTo};
 ghost use Rattle.document_reading.specs.Served.{indexed};

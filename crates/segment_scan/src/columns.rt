@@ -6,7 +6,7 @@ ghost use Rattle.document_reading.specs.Forward.{IsFaultAt, IsFaultIn, IsRead, I
 ghost use Rattle.document_reading.specs.declared.fault.EngineFault.TheVariants.{NoMemory, ReadFault};
 
 use crate::reading::read_column;
-use coded_scan::Ids;
+use coded_columns::Ids;
 use document_reading::EngineFault;
 use outside::Shelf;
 use segment_head::Head;

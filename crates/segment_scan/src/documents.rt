@@ -7,14 +7,15 @@ ghost use Rattle.group_table.specs.Kept.{IsTableOf, groups_in};
 ghost use Rattle.scan_engine.specs.Scanned.{HaveAtMost, IsOverfull};
 ghost use Rattle.segment_file.specs.declared.part.Part.{Part};
 ghost use Rattle.segment_file.specs.declared.part.Part.TheVariants.{Forward};
-ghost use Rattle.coded_scan.specs.Coded.{most_rows};
+ghost use Rattle.coded_columns.specs.Coded.{most_rows};
 ghost use Rattle.document_reading.specs.Forward.{HasIds, IsReadable};
 ghost use Rattle.segment_scan.specs.Documents.{AddsDocs, LogsDocs, LogsDocsPartly, selected_docs};
 ghost use Rattle.document_reading.specs.declared.fault.EngineFault.TheVariants.{NotASegment, ReadFault, TooManyGroups};
 
 use crate::picking::pick_columns;
 use crate::scan::coded_columns;
-use coded_scan::{SegmentColumns, add_segment};
+use coded_columns::SegmentColumns;
+use coded_scan::add_segment;
 use doc_lists::DocList;
 use document_reading::EngineFault;
 use group_table::{GroupTable, TableFault};

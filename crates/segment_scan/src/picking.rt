@@ -4,14 +4,14 @@ ghost use Rattle.std.specs.Prelude.{◌≡◌, ◌≤◌, ◌<◌, [], ℕ, All,
 ghost use Rattle.outside.specs.Seen.{OnlyReads, seen};
 ghost use Rattle.doc_lists.specs.Docs.{Apart, docs_of};
 ghost use Rattle.document_reading.specs.Bytes.{GrowsBy, column_bytes, most_bytes};
-ghost use Rattle.coded_scan.specs.Coded.{most_rows};
+ghost use Rattle.coded_columns.specs.Coded.{most_rows};
 ghost use Rattle.document_reading.specs.Forward.{IsFaultAt, IsFaultIn, IsReadable};
 ghost use Rattle.document_reading.specs.Picked.{IsPicked, LogsIf, LogsIfPartly, LogsPicked, LogsPickedPartly};
 ghost use Rattle.segment_scan.specs.Series.{LogsPartOf, LogsTo};
 ghost use Rattle.document_reading.specs.declared.fault.EngineFault.TheVariants.{ReadFault};
 
 use crate::columns::keep;
-use coded_scan::Ids;
+use coded_columns::Ids;
 use doc_lists::Run;
 use document_reading::{EngineFault, pick_column};
 use outside::Shelf;

@@ -11,7 +11,7 @@ ghost use Rattle.document_reading.specs.Forward.{AreIdsOf, HasIds, IsReadable, L
 ghost use Rattle.document_reading.specs.declared.fault.EngineFault.TheVariants.{NotASegment, ReadFault};
 
 use bit_column::{append_range, width_for};
-use coded_scan::{IdRoom, Ids};
+use coded_columns::{IdRoom, Ids};
 use document_reading::{EngineFault, of_column};
 use outside::{Place, Shelf};
 use segment_file::Part;

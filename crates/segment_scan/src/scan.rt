@@ -8,13 +8,14 @@ ghost use Rattle.scan_engine.specs.Scanned.{HaveAtMost, IsOverfull};
 ghost use Rattle.segment_head.specs.Heads.{IsLoaded};
 ghost use Rattle.segment_file.specs.declared.part.Part.{Part};
 ghost use Rattle.segment_file.specs.declared.part.Part.TheVariants.{Forward};
-ghost use Rattle.coded_scan.specs.Coded.{most_rows};
+ghost use Rattle.coded_columns.specs.Coded.{most_rows};
 ghost use Rattle.document_reading.specs.Forward.{HasIds, IsReadable, LogsColumns, LogsSome};
 ghost use Rattle.segment_scan.specs.Scans.{AddsSegment, IsCodedOf, selected_read};
 ghost use Rattle.document_reading.specs.declared.fault.EngineFault.TheVariants.{NotASegment, ReadFault, TooManyGroups};
 
 use crate::columns::read_columns;
-use coded_scan::{Coded, Ids, SegmentColumns, add_segment};
+use coded_columns::{Coded, Ids, SegmentColumns};
+use coded_scan::add_segment;
 use document_reading::EngineFault;
 use group_table::{GroupTable, TableFault};
 use outside::Shelf;

@@ -1,7 +1,7 @@
 use Rattle.std.proofs.Common.{◌∙◌, ap, sym, subst, arith, List, ℕ}
 use Rattle.std.specs.List.{range_with_len}
 use Rattle.std.proofs.lemmas.Result.{IfOk-weaker}
-use Rattle.broker_merge.specs.Ranked.{BeginInOrder}
+use Rattle.group_order.specs.Ranked.{BeginInOrder}
 use Rattle.broker_merge.proofs.FewLemmas.{grouped, few}
 use Rattle.broker_merge.proofs.rows.first_in_order.Goals as goal
 

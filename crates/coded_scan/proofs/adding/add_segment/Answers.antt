@@ -9,11 +9,11 @@ use Rattle.table_schema.specs.declared.query.BoundQuery.{BoundQuery}
 use Rattle.table_schema.specs.declared.query.Conjunct.{Conjunct}
 use Rattle.scan_engine.specs.Places.{rows_at}
 use Rattle.scan_engine.specs.Scanned.{AddsRows, IsOverfull, selected}
-use Rattle.coded_scan.specs.declared.row_filter.RowFilter.{RowFilter}
-use Rattle.coded_scan.specs.Coded.{table_of}
+use Rattle.coded_columns.specs.Coded.{table_of}
+use Rattle.coded_columns.proofs.CodedLemmas.{counts}
+use Rattle.row_marks.specs.declared.row_filter.RowFilter.{RowFilter}
+use Rattle.row_marks.specs.RowFilters.{all_let, passing}
 use Rattle.coded_scan.specs.Served.{rest_of, unserved}
-use Rattle.coded_scan.specs.RowFilters.{all_let, passing}
-use Rattle.coded_scan.proofs.CodedLemmas.{counts}
 use Rattle.coded_scan.proofs.AddSteps.{passing-rows}
 use Rattle.coded_scan.proofs.adding.add_segment.Goals as goal
 

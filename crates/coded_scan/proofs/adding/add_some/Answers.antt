@@ -3,8 +3,8 @@ use Rattle.std.proofs.lemmas.Bool.Decides.{nat_tests}
 use Rattle.scan_engine.proofs.AddLemmas.{adds_nothing}
 use Rattle.scan_engine.specs.Places.{rows_at}
 use Rattle.scan_engine.specs.Scanned.{AddsRows}
-use Rattle.coded_scan.specs.Coded.{table_of}
-use Rattle.coded_scan.proofs.MergeSteps.{none-left}
+use Rattle.coded_columns.specs.Coded.{table_of}
+use Rattle.slot_merge.proofs.MergeSteps.{none-left}
 use Rattle.coded_scan.proofs.adding.add_some.Goals as goal
 
 pub returns-then-is_empty-clause-ok : goal.returns-then-is_empty-clause-ok

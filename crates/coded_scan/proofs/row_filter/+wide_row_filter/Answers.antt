@@ -5,11 +5,11 @@ use Rattle.table_schema.specs.Conditions.{wide_holds, wide_step}
 use Rattle.table_schema.specs.declared.query.Wide.TheOpen.{Wide-F}
 use Rattle.table_schema.specs.declared.query.Wide.TheFolds.{fold-roll-Wide}
 use Rattle.table_schema.specs.declared.query.Wide.{Wide}
-use Rattle.coded_scan.specs.declared.row_filter.RowFilter.{RowFilter}
-use Rattle.coded_scan.specs.declared.row_filter.RowFilter.TheOpen.{RowFilter-F}
-use Rattle.coded_scan.specs.declared.row_filter.RowFilter.TheFolds.{fold-roll-RowFilter}
-use Rattle.coded_scan.specs.Coded.{table_of}
-use Rattle.coded_scan.specs.RowFilters.{covers, lets, lets_step}
+use Rattle.coded_columns.specs.Coded.{table_of}
+use Rattle.row_marks.specs.declared.row_filter.RowFilter.{RowFilter}
+use Rattle.row_marks.specs.declared.row_filter.RowFilter.TheOpen.{RowFilter-F}
+use Rattle.row_marks.specs.declared.row_filter.RowFilter.TheFolds.{fold-roll-RowFilter}
+use Rattle.row_marks.specs.RowFilters.{covers, lets, lets_step}
 use Rattle.coded_scan.proofs.RowFilterLemmas.{all_done, all_member, all_true_push, any_done, any_member, both_true}
 use Rattle.coded_scan.proofs.row_filter.+wide_row_filter.Goals as goal
 
@@ -48,14 +48,14 @@ loop-member-2-preserved t c =
     }
 
 pub returns-after-loop-member-clause-lets : goal.returns-after-loop-member-clause-lets
-unfolding Rattle.coded_scan.specs.declared.row_filter.RowFilter.TheViews.roll-RowFilter denote.Hole.Carrier.roll
+unfolding Rattle.row_marks.specs.declared.row_filter.RowFilter.TheViews.roll-RowFilter denote.Hole.Carrier.roll
 returns-after-loop-member-clause-lets t c = λ at lt.
     let f : Wide → Bool = wide_holds (row_of (table_of c.args.segment.now).columns at) in
     fold-roll-RowFilter Bool (lets_step at) (RowFilter-F.All c.loop-member.row_filters)
     ∙ all_done (f c.args.wide.now) (all_true (map (lets at) c.loop-member.row_filters)) f c.as_slice-member-items.result.now c.loop-member.member-index (omega (arith, c.loop-member-test.false)) (c.loop-member.invariant.each at lt)
 
 pub returns-after-loop-member-2-clause-lets : goal.returns-after-loop-member-2-clause-lets
-unfolding Rattle.coded_scan.specs.declared.row_filter.RowFilter.TheViews.roll-RowFilter denote.Hole.Carrier.roll
+unfolding Rattle.row_marks.specs.declared.row_filter.RowFilter.TheViews.roll-RowFilter denote.Hole.Carrier.roll
 returns-after-loop-member-2-clause-lets t c = λ at lt.
     let f : Wide → Bool = wide_holds (row_of (table_of c.args.segment.now).columns at) in
     fold-roll-RowFilter Bool (lets_step at) (RowFilter-F.Any c.loop-member-2.row_filters)

@@ -2,8 +2,8 @@ use Rattle.std.proofs.Common.{◌≡◌, ◌<◌, ◌&&◌, ◌||◌, ℕ, true,
 use Rattle.value_columns.specs.Columns.{row_of}
 use Rattle.values.specs.Tests.{all_true, any_true}
 use Rattle.table_schema.specs.Conditions.{wide_holds}
-use Rattle.coded_scan.specs.Coded.{table_of}
-use Rattle.coded_scan.specs.RowFilters.{covers, lets}
+use Rattle.coded_columns.specs.Coded.{table_of}
+use Rattle.row_marks.specs.RowFilters.{covers, lets}
 use Rattle.coded_scan.proofs.row_filter.+wide_row_filter.Given as goal
 
 abbrev pub invariant-loop-member : goal.invariant-loop-member

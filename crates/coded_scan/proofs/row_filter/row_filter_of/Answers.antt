@@ -2,7 +2,7 @@ use Rattle.std.proofs.Common.{◌∙◌, ap, sym}
 use Rattle.value_columns.specs.Columns.{row_of}
 use Rattle.table_schema.specs.Conditions.{conjunct_holds}
 use Rattle.table_schema.specs.declared.query.Conjunct.{Conjunct}
-use Rattle.coded_scan.specs.Coded.{table_of}
+use Rattle.coded_columns.specs.Coded.{table_of}
 use Rattle.coded_scan.proofs.row_filter.row_filter_of.Goals as goal
 
 pub returns-in_ok-row_filter-in-One-clause-lets : goal.returns-in_ok-row_filter-in-One-clause-lets

@@ -5,10 +5,10 @@ use Rattle.value_columns.specs.Columns.{row_of}
 use Rattle.table_schema.specs.Conditions.{all_hold, conjunct_holds}
 use Rattle.table_schema.specs.declared.query.Conjunct.{Conjunct}
 use Rattle.segment_plan.specs.declared.plans.IndexChoice.{IndexChoice}
-use Rattle.coded_scan.specs.declared.row_filter.RowFilter.{RowFilter}
-use Rattle.coded_scan.specs.Coded.{table_of}
+use Rattle.coded_columns.specs.Coded.{table_of}
+use Rattle.row_marks.specs.declared.row_filter.RowFilter.{RowFilter}
+use Rattle.row_marks.specs.RowFilters.{all_let, covers}
 use Rattle.coded_scan.specs.Served.{is_served, unserved}
-use Rattle.coded_scan.specs.RowFilters.{all_let, covers}
 use Rattle.coded_scan.proofs.ServedLemmas.{none_unserved, unserved_more}
 use Rattle.coded_scan.proofs.row_filter.row_filters_of.Goals as goal
 

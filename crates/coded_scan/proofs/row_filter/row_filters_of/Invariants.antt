@@ -1,9 +1,9 @@
 use Rattle.std.proofs.Common.{◌≡◌, ◌<◌, ℕ, take}
 use Rattle.value_columns.specs.Columns.{row_of}
 use Rattle.table_schema.specs.Conditions.{all_hold}
-use Rattle.coded_scan.specs.Coded.{table_of}
+use Rattle.coded_columns.specs.Coded.{table_of}
+use Rattle.row_marks.specs.RowFilters.{AllCover, all_let}
 use Rattle.coded_scan.specs.Served.{unserved}
-use Rattle.coded_scan.specs.RowFilters.{AllCover, all_let}
 use Rattle.coded_scan.proofs.row_filter.row_filters_of.Given as goal
 
 abbrev pub invariant-loop-at : goal.invariant-loop-at

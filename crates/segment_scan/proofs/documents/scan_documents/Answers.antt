@@ -8,9 +8,9 @@ use Rattle.scan_engine.specs.Scanned.{selected}
 use Rattle.scan_engine.proofs.AddLemmas.{at_most_more}
 use Rattle.scan_engine.proofs.RunLemmas.{adds_as_more}
 use Rattle.segment_head.specs.Heads.{Seen}
-use Rattle.coded_scan.specs.declared.coded.Coded.{Coded}
-use Rattle.coded_scan.specs.declared.coded.SegmentColumns.{SegmentColumns}
-use Rattle.coded_scan.specs.Coded.{table_of}
+use Rattle.coded_columns.specs.declared.coded.Coded.{Coded}
+use Rattle.coded_columns.specs.declared.coded.SegmentColumns.{SegmentColumns}
+use Rattle.coded_columns.specs.Coded.{table_of}
 use Rattle.segment_scan.specs.Documents.{LogsDocsPartly}
 use Rattle.document_reading.specs.Picked.{IsPicked, LogsPicked, LogsPickedPartly}
 use Rattle.segment_scan.specs.Scans.{IsCodedOf}

@@ -6,7 +6,7 @@ use Rattle.bit_column.specs.Column.{ids_between, width_of}
 use Rattle.bit_column.specs.Sections.{Readable, end_byte, first_byte, section}
 use Rattle.bit_column.specs.declared.fault.ColumnFault.{ColumnFault}
 use Rattle.bit_column.specs.declared.fault.ColumnFault.TheVariants as columns
-use Rattle.coded_scan.specs.Ids.{HasRoom, ids_in}
+use Rattle.coded_columns.specs.Ids.{HasRoom, ids_in}
 use Rattle.segment_scan.proofs.BlockSteps.{block_fits, blocks_bad, blocks_end, blocks_next, blocks_none, blocks_partly, blocks_start, blocks_upto}
 use Rattle.document_reading.proofs.FaultLemmas.{column_bad, reads_well}
 use Rattle.document_reading.proofs.FaultLemmas.{err_is}

@@ -1,6 +1,6 @@
 use Rattle.std.proofs.Common.{ℕ, ◌*◌, ◌<◌, min}
 use Rattle.outside.specs.Seen.{seen}
-use Rattle.coded_scan.specs.Ids.{HasRoom, ids_in}
+use Rattle.coded_columns.specs.Ids.{HasRoom, ids_in}
 use Rattle.segment_scan.proofs.BlockSteps.{BlockStep}
 use Rattle.segment_scan.proofs.reading.read_ids.Given as goal
 

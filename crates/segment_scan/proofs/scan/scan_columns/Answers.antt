@@ -4,9 +4,9 @@ use Rattle.agg_laws.specs.Numbers.{most_values}
 use Rattle.group_table.specs.Kept.{groups_in}
 use Rattle.scan_engine.specs.Scanned.{AddsRows, HaveAtMost, selected}
 use Rattle.segment_head.specs.Heads.{Seen}
-use Rattle.coded_scan.specs.declared.coded.Coded.{Coded}
-use Rattle.coded_scan.specs.declared.coded.SegmentColumns.{SegmentColumns}
-use Rattle.coded_scan.specs.Coded.{table_of}
+use Rattle.coded_columns.specs.declared.coded.Coded.{Coded}
+use Rattle.coded_columns.specs.declared.coded.SegmentColumns.{SegmentColumns}
+use Rattle.coded_columns.specs.Coded.{table_of}
 use Rattle.document_reading.specs.Forward.{LogsSome}
 use Rattle.segment_scan.specs.Scans.{IsCodedOf}
 use Rattle.segment_scan.proofs.ScanLemmas.{coded-all, named-of, overfull-read, rows-read}

@@ -1,0 +1,124 @@
+-- The values of a segment's rows, column by column.
+use Rattle.std.proofs.Common.{◌≡◌, ◌∙◌, ◌<◌, ◌≤◌, ◌+◌, ◌∷◌, ◌&&◌, ◌||◌, [], ℕ, Bool, true, false, pos, zero, suc, Option, Some, None, List, length, map, get_or, set, replicate, slice_get, refl, ap, sym, subst, arith, inl, inr, cond, ◌++◌, append-nil}
+use Rattle.std.proofs.lemmas.Bool.{cases_lt}
+use Rattle.std.proofs.lemmas.List.{get_or-set_other, get_or-set_same}
+use Rattle.std.proofs.lemmas.List.{length-map, length-replicate}
+use Rattle.std.proofs.lemmas.List.Elements.{All-head, All-tail, All-cons, All-nil, All-push}
+use Rattle.std.proofs.Math.ListN.{length-set}
+use Rattle.std.specs.List.{All}
+use Rattle.values.specs.declared.value.Value.{Value}
+use Rattle.values.specs.declared.value.Value.TheVariants.{Whole}
+use Rattle.values.specs.declared.test.Test.{Test}
+use Rattle.values.specs.Tests.{holds}
+use Rattle.value_columns.specs.Columns.{Counts, row_of}
+use Rattle.value_ids.specs.Coding.{AreBelow, values_at}
+use Rattle.value_ids.specs.Ids.{has_id, satisfies}
+use Rattle.table_schema.specs.Conditions.{cell}
+use Rattle.coded_columns.specs.declared.coded.Coded.{Coded}
+use Rattle.coded_columns.specs.declared.coded.SegmentColumns.{SegmentColumns}
+use Rattle.coded_columns.specs.Coded.{Widens, AreCoded, IsCoded, IsOfField, IsUnread, listed, table_of, values_of}
+
+length-values : (count : ℕ) (column : Option Coded) → IsCoded count column → length (values_of count column) ≡ count
+length-values count None h = length-replicate count (Whole (pos 0))
+length-values count (Some column) h = length-map column.ids.now (λ id. get_or column.dictionary.now.values id (Whole (pos 0))) ∙ h.0
+
+-- each column has a value for each row
+all-counts : (count : ℕ) (columns : List (Option Coded)) → All (IsCoded count) columns → All (Counts count) (map (listed count) columns)
+all-counts count [] all = All-nil (Counts count)
+all-counts count (c ∷ cs) all = All-cons (Counts count) (listed count c) (map (listed count) cs) (length-values count c (All-head (IsCoded count) c cs all)) (all-counts count cs (All-tail (IsCoded count) c cs all))
+
+pub counts : (segment : SegmentColumns) → AreCoded segment → All (Counts segment.count) (table_of segment).columns
+counts segment coded = all-counts segment.count segment.columns.now coded.each
+
+-- ---- a field
+
+-- the value of a row in a field, by the column there
+abbrev pub value_of : ℕ → Option (Option Coded) → ℕ → Value
+value_of count None at = Whole (pos 0)
+value_of count (Some column) at = get_or (values_of count column) at (Whole (pos 0))
+
+by-field : (count : ℕ) (columns : List (Option Coded)) (field at : ℕ) → cell (row_of (map (listed count) columns) at) field ≡ value_of count (slice_get columns field) at
+by-field count [] field at = refl
+by-field count (c ∷ cs) zero at = refl
+by-field count (c ∷ cs) (suc field) at = by-field count cs field at
+
+pub zeros : (n at : ℕ) → get_or (replicate n (Whole (pos 0))) at (Whole (pos 0)) ≡ Whole (pos 0)
+zeros zero at = refl
+zeros (suc n) zero = refl
+zeros (suc n) (suc at) = zeros n at
+
+pub unread-beyond : (segment : SegmentColumns) (field : ℕ) → slice_get segment.columns.now field ≡ None → IsUnread segment field
+unread-beyond segment field got at = by-field segment.count segment.columns.now field at ∙ ap (λ c. value_of segment.count c at) got
+
+pub unread-none : (segment : SegmentColumns) (field : ℕ) → slice_get segment.columns.now field ≡ Some None → IsUnread segment field
+unread-none segment field got at = by-field segment.count segment.columns.now field at ∙ ap (λ c. value_of segment.count c at) got ∙ zeros segment.count at
+
+all-at : (count : ℕ) (columns : List (Option Coded)) (field : ℕ) (column : Option Coded) → All (IsCoded count) columns → slice_get columns field ≡ Some column → IsCoded count column
+all-at count [] field column all got = absurd cc
+all-at count (c ∷ cs) zero column all got = let same : c ≡ column = cc in subst (IsCoded count) same (All-head (IsCoded count) c cs all)
+all-at count (c ∷ cs) (suc field) column all got = all-at count cs field column (All-tail (IsCoded count) c cs all) got
+
+pub get_or-ids : (values : List Value) (ids : List ℕ) (at : ℕ) → at < length ids → get_or (values_at values ids) at (Whole (pos 0)) ≡ get_or values (get_or ids at 0) (Whole (pos 0))
+get_or-ids values [] at lt = absurd (omega (arith, lt))
+get_or-ids values (id ∷ ids) zero lt = refl
+get_or-ids values (id ∷ ids) (suc at) lt = get_or-ids values ids at (omega (arith, lt))
+
+pub of-field : (segment : SegmentColumns) (field : ℕ) (column : Coded) → AreCoded segment → slice_get segment.columns.now field ≡ Some (Some column) → IsOfField segment field column
+of-field segment field column coded got =
+    let own = all-at segment.count segment.columns.now field (Some column) coded.each got in
+    record {
+      count = own.0;
+      below = own.1;
+      each = λ at lt. by-field segment.count segment.columns.now field at ∙ ap (λ c. value_of segment.count c at) got
+          ∙ get_or-ids column.dictionary.now.values column.ids.now at (omega (arith, lt, own.0));
+    }
+
+-- ---- marks that are added
+
+-- marks were added below a place, and nothing was changed from there on
+pub record WidensBelow (n : ℕ) (holds : ℕ → Bool) (old new : List Bool) : Type 0 where
+  pub count : length new ≡ length old
+  pub below : (at : ℕ) → at < n → get_or new at false ≡ (get_or old at false || holds at)
+  pub rest : (at : ℕ) → n ≤ at → get_or new at false ≡ get_or old at false
+
+pub widens-none : (holds : ℕ → Bool) (old : List Bool) → WidensBelow 0 holds old old
+widens-none holds old = record { count = refl; below = λ at lt. absurd (omega (arith, lt)); rest = λ at le. refl }
+
+pub widens-set : (n : ℕ) (holds : ℕ → Bool) (old new : List Bool) (b : Bool) → n < length old → b ≡ (get_or new n false || holds n) → WidensBelow n holds old new → WidensBelow (n + 1) holds old (set new n b)
+widens-set n holds old new b lt is k =
+    let within : n < length new = omega (arith, lt, k.count) in
+    record {
+      count = length-set new n b ∙ k.count;
+      below = λ at less. elim (cases_lt at n) [
+        | inl below ↦ get_or-set_other new n at b false (λ e. omega (arith, e, below)) ∙ k.below at below
+        | inr le ↦
+            let same : at ≡ n = omega (arith, le, less) in
+            ap (λ i. get_or (set new n b) i false) same ∙ get_or-set_same new n b false within ∙ is ∙ ap (λ x. x || holds n) (k.rest n (omega arith)) ∙ ap (λ i. get_or old i false || holds i) (sym same)
+      ];
+      rest = λ at le. get_or-set_other new n at b false (λ e. omega (arith, e, le)) ∙ k.rest at (omega (arith, le));
+    }
+
+pub widens-all : (n : ℕ) (holds : ℕ → Bool) (old new : List Bool) → length old ≤ n → WidensBelow n holds old new → Widens holds old new
+widens-all n holds old new le k = λ at lt. k.below at (omega (arith, lt, le))
+
+-- ---- a test by ids
+
+-- the value of an id that there is
+got : (values : List Value) (id : ℕ) (test : Test) → id < length values → satisfies test (slice_get values id) ≡ holds (get_or values id (Whole (pos 0))) test
+got [] id test lt = absurd (omega (arith, lt))
+got (v ∷ vs) zero test lt = refl
+got (v ∷ vs) (suc id) test lt = got vs id test (omega (arith, lt))
+
+-- an id is in the set of a test just where the value of the row satisfies the test
+pub tested-at : (segment : SegmentColumns) (field : ℕ) (column : Coded) (test : Test) (ids : List ℕ) (at : ℕ) → at < segment.count → IsOfField segment field column
+    → ((id : ℕ) → has_id ids id ≡ satisfies test (slice_get column.dictionary.now.values id))
+    → has_id ids (get_or column.ids.now at 0) ≡ holds (cell (row_of (table_of segment).columns at) field) test
+tested-at segment field column test ids at lt of each =
+    let id = get_or column.ids.now at 0 in
+    let below : id < length column.dictionary.now.values = of.below at 0 (omega (arith, lt, of.count)) in
+    each id ∙ got column.dictionary.now.values id test below ∙ ap (λ v. holds v test) (sym (of.each at lt))
+
+-- one place more, where it is marked
+pub below_marked : (count : ℕ) (places : List ℕ) (at : ℕ) (mark : Bool) → at < count → AreBelow count places → AreBelow count (places ++ cond mark (at ∷ []) [])
+below_marked count places at true lt all = All-push (λ p. p < count) places at all lt
+below_marked count places at false lt all = subst (AreBelow count) (sym (append-nil places)) all

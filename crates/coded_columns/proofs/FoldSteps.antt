@@ -1,0 +1,162 @@
+-- Numbers that are added to the states in slots.
+use Rattle.std.proofs.Common.{◌≡◌, ◌∙◌, ◌<◌, ◌≤◌, ◌+◌, ◌++◌, ◌∷◌, ◌==◌, [], ℕ, ℤ, pos, Bool, true, false, cond, List, length, map, get_or, set, take, replicate, refl, ap, sym, subst, arith, inl, inr, append-nil, Option, Some, None, MatchOption, slice_get}
+use Rattle.std.specs.Option.{option_map_or}
+use Rattle.std.proofs.lemmas.Option.{get_or_from_slice_get, slice_get_within}
+use Rattle.table_schema.specs.Conditions.{cell}
+use Rattle.std.proofs.lemmas.Bool.{cases_eq, cond-true, cond-false, eq-eqb, ne_eqb}
+use Rattle.std.proofs.lemmas.List.{get_or-set_other, get_or-set_same, map-append, take_more, length-map, length-replicate, get_or-replicate}
+use Rattle.std.proofs.Math.ListN.{get_or-map, length-set}
+use Rattle.std.proofs.lemmas.List.Elements.{All-head, All-tail}
+use Rattle.values.specs.declared.value.Value.{Value}
+use Rattle.values.specs.declared.value.Value.TheVariants.{Whole}
+use Rattle.value_columns.specs.Columns.{row_of}
+use Rattle.agg_laws.specs.declared.aggregate_kind.AggKind.{AggKind}
+use Rattle.agg_laws.specs.declared.states.AggState.{AggState}
+use Rattle.state_columns.specs.Columns.{Column, replaced, row_at, state_at}
+use Rattle.agg_laws.specs.Numbers.{AreWhole, IsWhole, most_values}
+use Rattle.agg_laws.specs.Rows.{RowFits}
+use Rattle.agg_laws.specs.States.{Fits, merged, state_of, unit_of}
+use Rattle.agg_laws.specs.laws.States as states
+use Rattle.value_ids.specs.Coding.{AreBelow}
+use Rattle.group_table.specs.Groups.{number_for, number_of, states_of}
+use Rattle.scan_engine.specs.Places.{rows_at}
+use Rattle.table_schema.specs.declared.query.Agg.{Agg}
+use Rattle.coded_columns.specs.declared.coded.Coded.{Coded}
+use Rattle.coded_columns.specs.declared.coded.SegmentColumns.{SegmentColumns}
+use Rattle.coded_columns.specs.Coded.{IsForAgg, IsOfField, IsUnnumbered, IsUnread, table_of}
+use Rattle.coded_columns.specs.Slots.{HoldsSlots, in_slot, number_at}
+use Rattle.coded_columns.proofs.SlotLemmas.{in_slot-append, in_slot-few, in_slot-map}
+
+whole_more : (b : Bool) (x : ℤ) (ns : List ℤ) → IsWhole x → AreWhole ns → AreWhole (cond b (x ∷ ns) ns)
+whole_more true x ns own rest = (own, rest)
+whole_more false x ns own rest = rest
+
+pub in_slot-whole : (slot : ℕ) (slots : List ℕ) (numbers : List ℤ) → AreWhole numbers → AreWhole (in_slot slot slots numbers)
+in_slot-whole slot [] numbers whole = tt
+in_slot-whole slot (s ∷ slots) [] whole = tt
+in_slot-whole slot (s ∷ slots) (x ∷ numbers) whole = whole_more (s == slot) x (in_slot slot slots numbers) whole.0 (in_slot-whole slot slots numbers whole.1)
+
+-- a state in a slot can come from the numbers there
+pub holds-fits : (kind : AggKind) (count : ℕ) (slots : List ℕ) (numbers : List ℤ) (column : Column) (slot : ℕ) → HoldsSlots kind count slots numbers column → slot < count → AreWhole numbers
+    → Fits (state_at column slot) (length (in_slot slot slots numbers))
+holds-fits kind count slots numbers column slot h lt whole =
+    subst (λ (v : AggState). Fits v (length (in_slot slot slots numbers))) (sym (h.each slot lt))
+    (states.fits_of kind (in_slot slot slots numbers) (in_slot-whole slot slots numbers whole))
+
+pub one-fits : (kind : AggKind) (count : ℕ) (slots : List ℕ) (numbers : List ℤ) (column : Column) (slot : ℕ) (x : ℤ) → HoldsSlots kind count slots numbers column → slot < count → AreWhole numbers → IsWhole x
+    → length numbers + 1 ≤ most_values → Fits (merged (state_at column slot) (state_of column.kind (x ∷ []))) most_values
+one-fits kind count slots numbers column slot x h lt whole own few =
+    states.fits_more _ (length (in_slot slot slots numbers) + 1) most_values
+    (states.fits_both (state_at column slot) (state_of column.kind (x ∷ [])) (length (in_slot slot slots numbers)) 1 (holds-fits kind count slots numbers column slot h lt whole) (states.fits_of column.kind (x ∷ []) (own, tt)))
+    (omega (arith, few, in_slot-few slot slots numbers))
+
+-- one number more
+pub holds-more : (kind : AggKind) (count : ℕ) (slots : List ℕ) (numbers : List ℤ) (column : Column) (slot : ℕ) (x : ℤ) → HoldsSlots kind count slots numbers column → slot < count → length slots ≡ length numbers
+    → HoldsSlots kind count (slots ++ slot ∷ []) (numbers ++ x ∷ []) (replaced slot column (merged (state_at column slot) (state_of column.kind (x ∷ []))))
+holds-more kind count slots numbers column slot x h lt same =
+    let v : AggState = merged (state_at column slot) (state_of column.kind (x ∷ [])) in
+    let unit : AggState = unit_of column.kind in
+    let within : slot < length column.states = omega (arith, lt, h.count_is) in
+    record {
+      kind_is = h.kind_is;
+      count_is = length-set column.states slot v ∙ h.count_is;
+      each = λ s s_lt.
+          let xs : List ℤ = in_slot s slots numbers in
+          let both : in_slot s (slots ++ slot ∷ []) (numbers ++ x ∷ []) ≡ xs ++ cond (slot == s) (x ∷ []) [] = in_slot-append s slots (slot ∷ []) numbers (x ∷ []) same in
+          elim (cases_eq s slot) [
+            | inl e ↦
+                ap (λ i. get_or (set column.states slot v) i unit) e ∙ get_or-set_same column.states slot v unit within
+                ∙ ap (λ i. merged (state_at column i) (state_of column.kind (x ∷ []))) (sym e)
+                ∙ (λ i. merged (h.each s s_lt i) (state_of (h.kind_is i) (x ∷ [])))
+                ∙ sym (states.of_both kind xs (x ∷ []))
+                ∙ ap (λ (ys : List ℤ). state_of kind (xs ++ ys)) (sym (cond-true (slot == s) (x ∷ []) [] (eq-eqb slot s (sym e))))
+                ∙ ap (state_of kind) (sym both)
+            | inr ne ↦
+                get_or-set_other column.states slot s v unit ne ∙ h.each s s_lt
+                ∙ ap (state_of kind) (sym (append-nil xs) ∙ ap (λ (ys : List ℤ). xs ++ ys) (sym (cond-false (slot == s) (x ∷ []) [] (ne_eqb slot s (λ e. ne (sym e))))) ∙ sym both)
+          ];
+    }
+
+pub holds-none : (kind : AggKind) (count : ℕ) (column : Column) → column.kind ≡ kind → column.states ≡ replicate count (unit_of kind) → HoldsSlots kind count [] [] column
+holds-none kind count column kind_is is = record {
+  kind_is = kind_is;
+  count_is = ap length is ∙ length-replicate count (unit_of kind);
+  each = λ s lt. (λ i. get_or (is i) s (unit_of (kind_is i))) ∙ get_or-replicate count s (unit_of kind) (unit_of kind) lt ∙ sym (states.of_none kind);
+}
+
+pub whole-push : (xs : List ℤ) (x : ℤ) → AreWhole xs → IsWhole x → AreWhole (xs ++ x ∷ [])
+whole-push [] x h k = (k, tt)
+whole-push (y ∷ ys) x h k = (h.0, whole-push ys x h.1 k)
+
+pub map-next : {Y : Type 0} (f : ℕ → Y) (places : List ℕ) (k : ℕ) → k < length places → map f (take (k + 1) places) ≡ map f (take k places) ++ f (get_or places k 0) ∷ []
+map-next f places k lt = ap (map f) (take_more places k 0 lt) ∙ map-append f (take k places) (get_or places k 0 ∷ [])
+
+-- the numbers by ids are those of the rows
+pub numbers-for : (segment : SegmentColumns) (agg : Agg) (column : Coded) (numbers : List ℤ) (places : List ℕ) → IsForAgg segment agg column → numbers ≡ map number_of column.dictionary.now.values → AreBelow segment.count places
+    → map (number_at column.ids.now numbers) places ≡ map (number_for agg) (rows_at (table_of segment).columns places)
+numbers-for segment agg column numbers [] of is below = refl
+numbers-for segment agg column numbers (at ∷ places) of is below =
+    let values = column.dictionary.now.values in
+    let id = get_or column.ids.now at 0 in
+    let here : get_or numbers id (pos 0) ≡ number_for agg (row_of (table_of segment).columns at) =
+    ap (λ (ns : List ℤ). get_or ns id (pos 0)) is ∙ get_or-map number_of values id (Whole (pos 0)) ∙ sym (of.each at (All-head (λ p. p < segment.count) at places below)) in
+    λ i. here i ∷ numbers-for segment agg column numbers places of is (All-tail (λ p. p < segment.count) at places below) i
+
+pub numbers-none : (segment : SegmentColumns) (agg : Agg) (places : List ℕ) → IsUnnumbered segment agg → map (number_at [] []) places ≡ map (number_for agg) (rows_at (table_of segment).columns places)
+numbers-none segment agg [] none = refl
+numbers-none segment agg (at ∷ places) none = let here = sym (none at) in λ i. here i ∷ numbers-none segment agg places none i
+
+-- one aggregate more
+pub states-push : (aggs : List Agg) (n : ℕ) (agg : Agg) (columns : List Column) (column : Column) (slot : ℕ) (slots : List ℕ) (rows : List (List Value)) (count : ℕ) → n < length aggs → agg ≡ get_or aggs n agg → slot < count
+    → HoldsSlots agg.kind count slots (map (number_for agg) rows) column → row_at columns slot ≡ states_of (take n aggs) (in_slot slot slots rows)
+    → row_at (columns ++ column ∷ []) slot ≡ states_of (take (n + 1) aggs) (in_slot slot slots rows)
+states-push aggs n agg columns column slot slots rows count lt is in_count h so =
+    let own : state_at column slot ≡ state_of agg.kind (map (number_for agg) (in_slot slot slots rows)) = h.each slot in_count ∙ ap (state_of agg.kind) (in_slot-map (number_for agg) slot slots rows) in
+    map-append (λ (c : Column). state_at c slot) columns (column ∷ [])
+    ∙ (λ i. so i ++ own i ∷ [])
+    ∙ sym (map-append (λ (a : Agg). state_of a.kind (map (number_for a) (in_slot slot slots rows))) (take n aggs) (agg ∷ []))
+    ∙ ap (λ (l : List Agg). states_of l (in_slot slot slots rows)) (sym (take_more aggs n agg lt ∙ ap (λ a. take n aggs ++ a ∷ []) (sym is)))
+
+fits_push : (vs : List AggState) (v : AggState) (n : ℕ) → RowFits vs n → Fits v n → RowFits (vs ++ v ∷ []) n
+fits_push [] v n h k = (k, tt)
+fits_push (w ∷ vs) v n h k = (h.0, fits_push vs v n h.1 k)
+
+pub fits-push : (agg : Agg) (columns : List Column) (column : Column) (slot : ℕ) (slots : List ℕ) (rows : List (List Value)) (count : ℕ) → slot < count
+    → HoldsSlots agg.kind count slots (map (number_for agg) rows) column → AreWhole (map (number_for agg) rows) → RowFits (row_at columns slot) (length (in_slot slot slots rows))
+    → RowFits (row_at (columns ++ column ∷ []) slot) (length (in_slot slot slots rows))
+fits-push agg columns column slot slots rows count lt h whole so =
+    let n : ℕ = length (in_slot slot slots rows) in
+    let same : length (in_slot slot slots (map (number_for agg) rows)) ≡ n = ap length (in_slot-map (number_for agg) slot slots rows) ∙ length-map (in_slot slot slots rows) (number_for agg) in
+    subst (λ (vs : List AggState). RowFits vs n) (sym (map-append (λ (c : Column). state_at c slot) columns (column ∷ [])))
+    (fits_push (row_at columns slot) (state_at column slot) n so
+    (subst (Fits (state_at column slot)) same (holds-fits agg.kind count slots (map (number_for agg) rows) column slot h lt whole)))
+
+-- columns of states of no value
+pub fresh-count : (count : ℕ) (kind : AggKind) (column : Column) → column.states ≡ replicate count (unit_of kind) → length column.states ≡ count
+fresh-count count kind column is = ap length is ∙ length-replicate count (unit_of kind)
+
+pub fresh-units : (count : ℕ) (kind : AggKind) (column : Column) → column.kind ≡ kind → column.states ≡ replicate count (unit_of kind) → column.states ≡ replicate (length column.states) (unit_of column.kind)
+fresh-units count kind column kind_is is = is ∙ (λ i. replicate (sym (fresh-count count kind column is) i) (unit_of (sym kind_is i)))
+
+-- the same with other words for the kind, the number of slots and the numbers
+pub holds-as : (kind other : AggKind) (count many : ℕ) (slots : List ℕ) (ns ms : List ℤ) (column : Column) → kind ≡ other → count ≡ many → ns ≡ ms → HoldsSlots kind count slots ns column → HoldsSlots other many slots ms column
+holds-as kind other count many slots ns ms column e f g h =
+    subst (λ k. HoldsSlots k many slots ms column) e (subst (λ n. HoldsSlots kind n slots ms column) f (subst (λ (l : List ℤ). HoldsSlots kind count slots l column) g h))
+
+-- one value more
+pub values-next : (values : List Value) (id : ℕ) (value : Value) → slice_get values id ≡ Some value → map number_of (take id values) ++ number_of value ∷ [] ≡ map number_of (take (id + 1) values)
+values-next values id value got =
+    let one : get_or values id value ≡ value = get_or_from_slice_get values id value value got in
+    ap (λ (v : Value). map number_of (take id values) ++ number_of v ∷ []) (sym one)
+    ∙ sym (ap (map number_of) (take_more values id value (slice_get_within values id value got)) ∙ map-append number_of (take id values) (get_or values id value ∷ []))
+
+-- a column of a field, for an aggregate
+pub for-agg : (segment : SegmentColumns) (agg : Agg) (field : ℕ) (column : Option Coded) → agg.column ≡ Some field → MatchOption column (IsUnread segment field) (IsOfField segment field) → MatchOption column (IsUnnumbered segment agg) (IsForAgg segment agg)
+for-agg segment agg field None is none = λ at.
+    ap (λ c. option_map_or (λ column. number_of (cell (row_of (table_of segment).columns at) column)) c (pos 0)) is ∙ ap number_of (none at)
+for-agg segment agg field (Some column) is of = record {
+  count = of.count;
+  below = of.below;
+  each = λ at lt.
+      ap (λ c. option_map_or (λ column. number_of (cell (row_of (table_of segment).columns at) column)) c (pos 0)) is ∙ ap number_of (of.each at lt);
+}

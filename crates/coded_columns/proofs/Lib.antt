@@ -1,0 +1,4 @@
+pub mod CodedLemmas
+pub mod RankSteps
+pub mod SlotLemmas
+pub mod FoldSteps

@@ -1,0 +1,162 @@
+//! The ids of the rows in a column, in as few bytes as they take.
+
+ghost use Rattle.std.specs.Prelude.{◌≡◌, ◌≤◌, ◌<◌, ◌+◌, ◌++◌, [], ℕ, All, IfOk, OnOk, get_or, length};
+ghost use Rattle.coded_columns.specs.Ids.{HasRoom, IsNarrow, ids_in, most_narrow};
+
+use std::alloc::Global;
+use std::marker::Model;
+use values::NoMemory;
+
+/// An id takes two bytes where a column has at most so many values, else four.
+const MOST_NARROW: u32 = 65_536;
+
+/// The ids of the rows in a column, which contracts see as a list of numbers.
+#[derive(Drop)]
+pub struct Ids {
+    room: IdRoom,
+}
+
+impl Model for Ids {
+    ghost use Rattle.std.specs.Prelude.{List, ℕ};
+    ghost use Rattle.coded_columns.specs.Ids.{ids_in};
+
+    ghost Value = { List ℕ };
+
+    ghost view = { λ ids. ids_in ids.room };
+}
+
+impl Ids {
+    /// No ids. They take no memory.
+    pub fn none(alloc: Global) -> Ids
+        ensures { result ≡ [] }
+    {
+        Ids::from_vec(Vec::new(alloc))
+    }
+
+    /// The ids of a vector, in four bytes each.
+    pub fn from_vec(ids: Vec<u32>) -> Ids
+        ensures { result ≡ ids.items }
+    {
+        Ids {
+            room: IdRoom::Wide(ids),
+        }
+    }
+
+    /// The id of a row.
+    #[inline(always)]
+    pub fn at(&self, row: usize) -> u32
+        requires { row < length self.now }
+        ensures { result ≡ get_or self.now row 0 }
+    {
+        match &self.room {
+            IdRoom::Narrow(ids) => u32::from(ids[row]),
+            IdRoom::Wide(ids) => ids[row],
+        }
+    }
+
+    /// The ids of some rows from one on, in four bytes each.
+    pub fn between(&self, alloc: Global, from: usize, many: usize) -> Result<Vec<u32>, NoMemory>
+        requires { from + many ≤ length self.now }
+        ensures count { IfOk result (λ own. length own.items ≡ many) }
+        ensures each { IfOk result (λ own. (at : ℕ) → at < many
+            → get_or own.items at 0 ≡ get_or self.now (from + at) 0) }
+    {
+        let mut own = vec![in alloc; 0u32; many]?;
+        match &self.room {
+            IdRoom::Narrow(ids) => widen(&ids[from..from + many], &mut own),
+            IdRoom::Wide(ids) => own.copy_from_slice(&ids[from..from + many]),
+        }
+        Ok(own)
+    }
+
+    /// The id of a row; 0 where there is none.
+    #[inline(always)]
+    pub fn at_or_0(&self, row: usize) -> u32
+        ensures { result ≡ get_or self.now row 0 }
+    {
+        match &self.room {
+            IdRoom::Narrow(ids) => match ids.get(row) {
+                Some(id) => u32::from(*id),
+                None => 0,
+            },
+            IdRoom::Wide(ids) => match ids.get(row) {
+                Some(id) => *id,
+                None => 0,
+            },
+        }
+    }
+}
+
+/// Room for the ids of a column, which are added block by block.
+#[derive(Drop)]
+pub enum IdRoom {
+    Narrow(Vec<u16>),
+    Wide(Vec<u32>),
+}
+
+impl IdRoom {
+    /// Room for the ids of so many rows in a column of so many values.
+    pub fn for_values(alloc: Global, count: u32, rows: usize) -> Result<IdRoom, NoMemory>
+        ensures none { IfOk result (λ room. ids_in room ≡ []) }
+        ensures room { IfOk result (λ room. (id : ℕ) → id < count → HasRoom room id) }
+        ensures least { IfOk result (λ room. count ≤ most_narrow → IsNarrow room) }
+    {
+        if count <= MOST_NARROW {
+            return Ok(IdRoom::Narrow(Vec::with_capacity(alloc, rows)?));
+        }
+        Ok(IdRoom::Wide(Vec::with_capacity(alloc, rows)?))
+    }
+
+    /// Adds the ids of a block, each of which has room.
+    pub fn append(&mut self, block: &[u32]) -> Result<(), NoMemory>
+        requires { All (HasRoom self.old) block.now }
+        ensures ids { OnOk result (ids_in self.new ≡ ids_in self.old ++ block.now) }
+        ensures room { (id : ℕ) → HasRoom self.old id → HasRoom self.new id }
+        ensures least { IsNarrow self.old → IsNarrow self.new }
+    {
+        match self {
+            IdRoom::Narrow(ids) => append_narrow(block, ids)?,
+            IdRoom::Wide(ids) => ids.extend_from_slice(block)?,
+        }
+        Ok(())
+    }
+
+    /// The ids that were added.
+    pub fn into_ids(self) -> Ids
+        ensures { result ≡ ids_in self }
+    {
+        Ids { room: self }
+    }
+}
+
+// Adds ids in two bytes each.
+fn append_narrow(block: &[u32], ids: &mut Vec<u16>) -> Result<(), NoMemory>
+    requires { All (λ id. id < most_narrow) block.now }
+    ensures { OnOk result (ids.new.items ≡ ids.old.items ++ block.now) }
+{
+    let start = ids.len();
+    ids.resize(start + block.len(), 0)?;
+    narrow(block, &mut ids[start..]);
+    Ok(())
+}
+
+// Copies ids of two bytes each.
+fn widen(ids: &[u16], out: &mut [u32])
+    requires { length out.old ≡ length ids.now }
+    ensures { out.new ≡ ids.now }
+{
+    for at in 0..ids.len() {
+        out[at] = u32::from(ids[at]);
+    }
+}
+
+// Copies ids into two bytes each.
+fn narrow(block: &[u32], ids: &mut [u16])
+    requires same { length ids.old ≡ length block.now }
+    requires few { All (λ id. id < most_narrow) block.now }
+    ensures { ids.new ≡ block.now }
+{
+    for at in 0..block.len() {
+        ids[at] = block[at] as u16;
+    }
+}

@@ -1,0 +1,13 @@
+//! Columns by the ids of their values: rows of one key come into one slot, and each slot has their aggregates.
+#![tactic(auto)]
+
+mod coded;
+mod folding;
+mod ids;
+mod ranking;
+mod slots;
+
+pub use coded::{Coded, SegmentColumns};
+pub use folding::fold_slots;
+pub use ids::{IdRoom, Ids};
+pub use slots::{Slots, slots_of};

@@ -1,0 +1,69 @@
+//! The slots of rows: rows of one key in the group columns have one slot.
+
+ghost use Rattle.std.specs.Prelude.{◌≡◌, ◌≤◌, ◌<◌, ◌∷◌, ◌++◌, [], List, ℕ, length, IfOk};
+ghost use Rattle.value_ids.specs.Coding.{AreBelow};
+ghost use Rattle.coded_columns.specs.Coded.{AreCoded, table_of};
+ghost use Rattle.coded_columns.specs.Slots.{AreSlots};
+
+use crate::coded::SegmentColumns;
+use crate::ranking::refine;
+use std::alloc::Global;
+use values::NoMemory;
+
+/// A slot for each of some rows, and for each slot the first of its rows.
+#[derive(Drop)]
+pub struct Slots {
+    pub slots: Vec<u32>,
+    pub firsts: Vec<u32>,
+}
+
+/// The slots of the rows in these places, of which there are some.
+pub fn slots_of(
+    alloc: Global,
+    segment: &SegmentColumns<'_>,
+    groups: &[u16],
+    places: &[u32],
+) -> Result<Slots, NoMemory>
+    requires coded { AreCoded segment.now }
+    requires some { 0 < length places.now }
+    requires few { length places.now ≤ segment.now.count }
+    requires rows { AreBelow segment.now.count places.now }
+    ensures { IfOk result (λ s. AreSlots (table_of segment.now).columns groups.now places.now
+        s.slots.items s.firsts.items) }
+{
+    let mut slots = vec![in alloc; 0u32; places.len()]?;
+    let mut firsts = vec![in alloc; 0u32; 1]?;
+    for group in groups {
+        firsts = refine_by_field(alloc, segment, *group, places, &mut slots, firsts)?;
+    }
+    Ok(Slots { slots, firsts })
+}
+
+// Parts the slots of rows by one group column more.
+fn refine_by_field(
+    alloc: Global,
+    segment: &SegmentColumns<'_>,
+    group: u16,
+    places: &[u32],
+    slots: &mut [u32],
+    firsts: Vec<u32>,
+) -> Result<Vec<u32>, NoMemory>
+    requires coded { AreCoded segment.now }
+    requires few { length places.now ≤ segment.now.count }
+    requires rows { AreBelow segment.now.count places.now }
+    requires count { length slots.old ≡ length places.now }
+    requires few_slots { length firsts.items ≤ length places.now }
+    requires below { AreBelow (length firsts.items) slots.old }
+    ensures { IfOk result (λ more. (groups : List ℕ)
+        → AreSlots (table_of segment.now).columns groups places.now slots.old firsts.items
+        → AreSlots (table_of segment.now).columns (groups ++ group ∷ []) places.now
+        slots.new more.items) }
+{
+    match segment.column(group) {
+        Some(column) => {
+            let width = column.dictionary.count() as usize;
+            refine(alloc, slots, firsts.len(), places, column.ids, width)
+        }
+        None => Ok(firsts),
+    }
+}

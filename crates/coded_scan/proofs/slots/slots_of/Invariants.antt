@@ -1,7 +1,0 @@
-use Rattle.std.proofs.Common.{take}
-use Rattle.coded_scan.specs.Coded.{table_of}
-use Rattle.coded_scan.specs.Slots.{AreSlots}
-use Rattle.coded_scan.proofs.slots.slots_of.Given as goal
-
-abbrev pub invariant-loop-group : goal.invariant-loop-group
-invariant-loop-group l = AreSlots (table_of l.segment).columns (take l.group-index l.groups) l.places l.slots.items l.firsts.items

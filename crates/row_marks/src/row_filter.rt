@@ -1,0 +1,16 @@
+//! Conditions on the rows of a segment, by their ids.
+
+use coded_columns::Ids;
+use value_ids::IdSet;
+use data_types::Seq;
+
+/// A condition on the rows of a segment, by their ids.
+#[derive(Drop)]
+pub enum RowFilter<'a> {
+    /// The row's id in a column is in a set.
+    Ids(&'a Ids, IdSet),
+    /// It holds for all rows, or for none.
+    Fixed(bool),
+    All(Seq<RowFilter<'a>>),
+    Any(Seq<RowFilter<'a>>),
+}
