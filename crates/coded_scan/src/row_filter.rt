@@ -10,8 +10,8 @@ ghost use Rattle.row_marks.specs.RowFilters.{AllCover, all_let, covers, lets};
 ghost use Rattle.coded_scan.specs.Served.{is_served, unserved};
 
 use crate::serving::{choice_at, is_served};
-use data_types::Seq;
 use coded_columns::SegmentColumns;
+use data_types::Seq;
 use row_marks::RowFilter;
 use segment_plan::IndexChoice;
 use std::alloc::Global;

@@ -7,8 +7,8 @@ ghost use Rattle.coded_columns.specs.Coded.{Widens};
 ghost use Rattle.row_marks.specs.RowFilters.{covers, lets};
 
 use crate::row_filter::RowFilter;
-use value_ids::IdSet;
 use std::alloc::Global;
+use value_ids::IdSet;
 use values::NoMemory;
 
 // Whether a mark stays.

@@ -1,8 +1,8 @@
 //! Conditions on the rows of a segment, by their ids.
 
 use coded_columns::Ids;
-use value_ids::IdSet;
 use data_types::Seq;
+use value_ids::IdSet;
 
 /// A condition on the rows of a segment, by their ids.
 #[derive(Drop)]

@@ -5,9 +5,8 @@ ghost use Rattle.state_columns.specs.Docs.{doc_at};
 ghost use Rattle.star_taking.specs.Taken.{AreKeyIds, key_values};
 
 use crate::asked::GroupColumn;
-use document_table::StarTable;
-use document_table::StarTable;
 use data_types::Seq;
+use document_table::{StarTable, StarTable};
 use std::alloc::Global;
 use value_columns::Row;
 use values::NoMemory;

@@ -8,9 +8,8 @@ ghost use Rattle.star_walk.specs.Walking.{task_of, HasEach};
 
 use crate::NoMemory;
 use crate::task::Task;
-use document_table::StarTable;
-use document_table::StarTable;
 use data_types::Seq;
+use document_table::{StarTable, StarTable};
 use std::alloc::Global;
 
 /// The numbers of the documents of a table that pass the tests of their dimensions from a level on,
