@@ -7,7 +7,8 @@ use crate::fixtures::{name, shelf_of};
 use dictionary::IdSet;
 use doc_lists::DocList;
 use index_reading::{ListFault, ListKind, docs_between, docs_of_ids};
-use outside::{MemoryShelf, NoMemory, Place};
+use memory_devices::MemoryShelf;
+use outside::{NoMemory, Place};
 use std::alloc::Global;
 
 // How many ids the column of the range index has, and how many rows.

@@ -12,8 +12,9 @@ ghost use Rattle.table_schema.specs.ValidTable.{IsValidTable};
 
 use crate::table_file::{FILE_LIMIT, NAME, texts_of};
 use crate::{Part, StoreFault};
+use file_reading::{ReadAllFault, read_all};
 use json_keys::TextFault;
-use outside::{Depot, ReadAllFault, read_all};
+use outside::Depot;
 use schema_json::read_schema;
 use settings_json::read_settings;
 use std::alloc::Global;
