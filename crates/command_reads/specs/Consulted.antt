@@ -12,7 +12,7 @@ use Rattle.sql_reply.specs.declared.fault.SqlFault.{SqlFault}
 use Rattle.query_executor.specs.Logs.{IsFileOf, IsHeadRead, LogsThat, LogsWhere}
 use Rattle.query_executor.specs.Reads.{Grown, ReadsPlanned}
 use Rattle.query_executor.specs.Segments.{HasImage}
-use Rattle.table_store.specs.Segments.{AreFirstNames}
+use Rattle.store_segments.specs.Segments.{AreFirstNames}
 use Rattle.table_store.specs.TableFile.{table_name}
 use Rattle.command_words.specs.Command.{Ask, Command, Listing}
 use Rattle.command_reads.specs.Profile.{TableFile}

@@ -9,7 +9,7 @@ use memory_devices::{MemoryShelf, MemorySink};
 use outside::{Bytes, Name, NoMemory, Seq};
 use pinot_run::run_command;
 use std::alloc::Global;
-use table_store::open_table;
+use store_state::open_table;
 
 /// Files by name.
 pub type Files = Seq<(Name, Bytes)>;
