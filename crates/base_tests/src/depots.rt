@@ -3,7 +3,8 @@
 use crate::device_calls::{DepotCall, ShelfCall, run_depot};
 use crate::expect::Expectations;
 use crate::fixtures::{calls, files};
-use outside::{DepotFault, MemoryDepot, NoMemory, ShelfFault};
+use memory_depots::MemoryDepot;
+use outside::{DepotFault, NoMemory, ShelfFault};
 use std::alloc::Global;
 
 /// Calls of a depot that has the file `a` and an empty part `p`.

@@ -1,10 +1,8 @@
 //! Calls of shelves, depots and sinks with what has to come of each, in tables that are run in their order.
 
 use crate::expect::Expectations;
-use outside::{
-    Depot, DepotFault, Name, ReadAllFault, Seq, Shelf, ShelfFault, Sink, SinkFault, read_all,
-    read_bytes,
-};
+use file_reading::{ReadAllFault, read_all, read_bytes};
+use outside::{Depot, DepotFault, Name, Seq, Shelf, ShelfFault, Sink, SinkFault};
 use std::alloc::Global;
 
 /// A call of a shelf, and what comes of it.

@@ -1,7 +1,8 @@
 //! Names, bytes and files that are made for a test. Where there is no memory they are empty, and what is expected of
 //! them does not hold.
 
-use outside::{Bytes, MemoryShelf, Name, NoMemory, Seq};
+use memory_devices::MemoryShelf;
+use outside::{Bytes, Name, NoMemory, Seq};
 use std::alloc::Global;
 
 pub fn string(alloc: Global, text: &str) -> String {

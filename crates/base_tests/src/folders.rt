@@ -4,8 +4,9 @@ use crate::depots::CALLS;
 use crate::device_calls::{DepotCall, ShelfCall, reads, run_depot, run_shelf};
 use crate::expect::Expectations;
 use crate::fixtures::string;
+use file_reading::ReadAllFault;
 use host_devices::{FolderDepot, FolderShelf};
-use outside::{Depot, DepotFault, ReadAllFault, Shelf, ShelfFault};
+use outside::{Depot, DepotFault, Shelf, ShelfFault};
 use std::alloc::{AllocError, Global};
 use std::{fs, process};
 

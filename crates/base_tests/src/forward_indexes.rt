@@ -6,7 +6,8 @@ use crate::device_calls::is_read;
 use crate::expect::Expectations;
 use crate::fixtures::{name, shelf_of};
 use bit_column::{ColumnFault, at, read_range, width_for, write};
-use outside::{MemoryShelf, NoMemory, Place};
+use memory_devices::MemoryShelf;
+use outside::{NoMemory, Place};
 use std::alloc::Global;
 
 // Widths, ids and the bytes that they are, worked by hand.

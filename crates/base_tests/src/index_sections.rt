@@ -6,7 +6,8 @@ use crate::expect::Expectations;
 use crate::fixtures::{name, shelf_of};
 use doc_lists::DocList;
 use index_reading::{ListFault, ListKind, docs_between, docs_of_ids};
-use outside::{MemoryShelf, NoMemory, Place};
+use memory_devices::MemoryShelf;
+use outside::{NoMemory, Place};
 use std::alloc::Global;
 use value_ids::IdSet;
 

@@ -3,7 +3,9 @@
 use crate::device_calls::{ShelfCall, run_shelf};
 use crate::expect::Expectations;
 use crate::fixtures::{bytes, calls, files, name};
-use outside::{Bytes, MemoryShelf, Name, NoMemory, ReadAllFault, Seq, ShelfFault};
+use file_reading::ReadAllFault;
+use memory_devices::MemoryShelf;
+use outside::{Bytes, Name, NoMemory, Seq, ShelfFault};
 use std::alloc::Global;
 use std::cmp::Ordering;
 

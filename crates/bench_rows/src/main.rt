@@ -8,8 +8,8 @@ ghost use Rattle.segment_columns.specs.Fitting.{AreColumns};
 
 use csv_ingest::{number_blocks, read_columns};
 use dictionary::Dictionary;
+use file_reading::read_all;
 use host_devices::FolderShelf;
-use outside::read_all;
 use schema_json::read_schema;
 use std::alloc::{AllocError, Global};
 use std::process::ExitCode;

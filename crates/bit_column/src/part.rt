@@ -6,7 +6,8 @@ ghost use Rattle.outside.specs.Seen.{OnlyReads, seen};
 ghost use Rattle.bit_column.specs.Sections.{IsPart, EndsBefore};
 
 use crate::ColumnFault;
-use outside::{Shelf, ShelfFault, read_into};
+use file_reading::read_into;
+use outside::{Shelf, ShelfFault};
 use std::alloc::Global;
 
 /// Reads the bytes of a file between two places after an offset into `into`, which has place for

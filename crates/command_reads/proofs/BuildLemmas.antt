@@ -14,8 +14,7 @@ use Rattle.segment_build.specs.Growing.{TreesFit, trees_fit}
 use Rattle.segment_build.proofs.FitTests.{fit_tested}
 use Rattle.segment_file.specs.Image.{CanHold, image}
 use Rattle.segment_file.specs.Names.{IsSegmentName, file_of}
-use Rattle.table_store.specs.Segments.{HasRoom, IsFull}
-use Rattle.table_store.specs.Stands.{most_segments}
+use Rattle.store_segments.specs.Segments.{HasRoom, IsFull, most_segments}
 use Rattle.table_store.specs.TableFile.{incoming, table_name}
 use Rattle.command_reads.specs.Build.{BuildRefuses, HasPlace, PlaceRefuses, built_text, csv_rows, segment_rows}
 use Rattle.command_words.specs.Command.{Build}

@@ -4,7 +4,7 @@ use Rattle.std.specs.List.{AllZip}
 use Rattle.outside.specs.Files.{Files}
 use Rattle.outside.specs.Seen.{OnlyReads, Seen}
 use Rattle.table_schema.specs.declared.table.Table.{Table}
-use Rattle.table_store.specs.Segments.{AreFirstNames}
+use Rattle.store_segments.specs.Segments.{AreFirstNames}
 use Rattle.command_words.specs.Command.{Listing}
 use Rattle.command_reads.specs.Consulted.{ReadsHeads, ReadsStored}
 use Rattle.command_reads.specs.Gives.{LooksFor}

@@ -33,16 +33,16 @@ use Rattle.query_executor.specs.Explained.{IsExplained, explained, lines_or}
 use Rattle.segment_pass.specs.Lines.{in_order}
 use Rattle.segment_opening.specs.Segments.{HasImage, stored_rows}
 use Rattle.query_executor.specs.Stated.{IsStated, stated, stated_by}
-use Rattle.table_store.specs.Accepted.{IsAccepted, IsNoTableFile}
-use Rattle.table_store.specs.Segments.{AreFirstNames, IsFull, has_segment}
-use Rattle.table_store.specs.Stands.{IsSegment, Stands, most_segments, segment_file, segment_of}
+use Rattle.store_state.specs.Accepted.{IsAccepted, IsNoTableFile}
+use Rattle.store_segments.specs.Segments.{AreFirstNames, IsFull, has_segment, most_segments}
+use Rattle.store_state.specs.Stands.{IsSegment, Stands, segment_file, segment_of}
 use Rattle.table_store.specs.State as state
 use Rattle.table_store.specs.State.{Segment, State, NoTable, HasTable, Segments}
 use Rattle.table_store.specs.TableFile.{table_file, table_name}
-use Rattle.table_store.proofs.AcceptedLemmas.{one_table}
-use Rattle.table_store.proofs.KeyLemmas.{names_stand, segment_kept_so, segment_there}
-use Rattle.table_store.proofs.NameLemmas.{names_count}
-use Rattle.table_store.proofs.StandsLemmas.{create_stands, none_there, one_there, segment_stands, table_stands, table_there}
+use Rattle.store_state.proofs.AcceptedLemmas.{one_table}
+use Rattle.store_state.proofs.KeyLemmas.{names_stand, segment_kept_so, segment_there}
+use Rattle.store_state.proofs.CountLemmas.{names_count}
+use Rattle.store_state.proofs.StandsLemmas.{create_stands, none_there, one_there, segment_stands, table_stands, table_there}
 use Rattle.command_reads.specs.Build.{BuildRefuses, HasPlace, IsBuilt, new_rows, segment_rows, table_of as table_in, with_schema, with_settings as settled}
 use Rattle.command_words.specs.Command.{Build, Command, Create, Listing, Scan, Ask}
 use Rattle.command_reads.specs.Create.{Made, beside, json_bytes, json_in, new_table, read_by, schema_in, settings_in, table_of, with_settings}

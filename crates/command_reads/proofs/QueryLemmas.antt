@@ -19,7 +19,7 @@ use Rattle.std.specs.List.{Contains}
 use Rattle.segment_opening.specs.Segments.{HasNoImage}
 use Rattle.segment_pass.specs.declared.fault.ExecutorFault.{ExecutorFault}
 use Rattle.segment_pass.specs.declared.fault.ExecutorFault.TheVariants as executor
-use Rattle.table_store.specs.Segments.{AreFirstNames}
+use Rattle.store_segments.specs.Segments.{AreFirstNames}
 use Rattle.command_words.specs.Command.{Ask}
 use Rattle.command_reads.specs.Consulted.{HasRead, ReadsAbout, ReadsStored}
 use Rattle.command_reads.specs.Gives.{AnswersQuery, IsQueryStop, IsSegmentStop, LooksFor, NamesOneOf, StopsQuery, StopsStore, sql_stop}

@@ -23,17 +23,15 @@ use Rattle.star_answer.specs.Docs.{DocsAreBounded}
 use Rattle.segment_opening.specs.Logs.{IsFileOf, IsHeadRead, LogsHeadsOf, LogsOf, LogsWhere}
 use Rattle.segment_opening.specs.Reads.{AreApart, LogsEach, ReadsPlanned}
 use Rattle.segment_opening.specs.Segments.{HasImage}
-use Rattle.segment_opening.proofs.GrownLemmas.{zip_at}
-use Rattle.segment_opening.proofs.GrownLemmas.{IsOfFile, grown_so, grown_then}
+use Rattle.segment_opening.proofs.GrownLemmas.{zip_at, IsOfFile, grown_so, grown_then}
 use Rattle.segment_opening.proofs.LogLemmas.{entries_as, entries_then, same_log}
 use Rattle.segment_opening.proofs.SpanLemmas.{planned_less, planned_of_file}
 use Rattle.segment_pass.proofs.Unread.{nothing_read}
-use Rattle.table_store.specs.Accepted.{IsAccepted}
-use Rattle.table_store.specs.Segments.{AreFirstNames}
-use Rattle.table_store.specs.Stands.{most_segments}
+use Rattle.store_state.specs.Accepted.{IsAccepted}
+use Rattle.store_segments.specs.Segments.{AreFirstNames, most_segments}
 use Rattle.table_store.specs.TableFile.{table_name}
-use Rattle.table_store.proofs.AcceptedLemmas.{accepted_valid, one_table}
-use Rattle.table_store.proofs.KeyLemmas.{same_names}
+use Rattle.store_state.proofs.AcceptedLemmas.{accepted_valid, one_table}
+use Rattle.store_state.proofs.KeyLemmas.{same_names}
 use Rattle.table_store.proofs.TableFileLemmas.{same_table}
 use Rattle.command_reads.specs.Consulted.{HasRead, IsFileAmong, ReadsAbout, ReadsAsked, ReadsEach, ReadsHeads, ReadsStored}
 use Rattle.command_reads.specs.Profile.{TableFile}

@@ -21,8 +21,8 @@ use Rattle.segment_file.specs.declared.fault.HeadFault.TheVariants as head
 use Rattle.segment_file.specs.declared.part.Part.{Part}
 use Rattle.segment_file.specs.declared.part.Part.TheVariants as parts
 use Rattle.table_schema.specs.declared.table.Table.{Table}
-use Rattle.table_store.specs.Accepted.{IsNoTableFile}
-use Rattle.table_store.specs.Segments.{AreFirstNames, has_segment}
+use Rattle.store_state.specs.Accepted.{IsNoTableFile}
+use Rattle.store_segments.specs.Segments.{AreFirstNames, has_segment}
 use Rattle.table_store.specs.TableFile.{table_name}
 use Rattle.table_store.specs.declared.fault.StoreFault.{StoreFault}
 use Rattle.table_store.specs.declared.fault.StoreFault.TheVariants as store

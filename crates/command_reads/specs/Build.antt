@@ -17,8 +17,7 @@ use Rattle.csv_row.specs.declared.fault.CsvFault.{CsvFault}
 use Rattle.segment_build.specs.Growing.{trees_fit}
 use Rattle.segment_file.specs.Image.{CanHold, image}
 use Rattle.segment_file.specs.Names.{IsSegmentName, file_of}
-use Rattle.table_store.specs.Segments.{HasRoom, IsFull}
-use Rattle.table_store.specs.Stands.{most_segments}
+use Rattle.store_segments.specs.Segments.{HasRoom, IsFull, most_segments}
 use Rattle.table_store.specs.State.{Segments, Texts}
 use Rattle.command_words.specs.Notes.{csv_note}
 use Rattle.command_reads.specs.Profile.{csv_limit, tree_limit}

@@ -12,7 +12,7 @@ use Rattle.sql_reply.specs.declared.fault.SqlFault.{SqlFault}
 use Rattle.segment_opening.specs.Logs.{IsFileOf, IsHeadRead, LogsThat, LogsWhere}
 use Rattle.segment_opening.specs.Reads.{Grown, ReadsPlanned}
 use Rattle.segment_opening.specs.Segments.{HasImage}
-use Rattle.table_store.specs.Segments.{AreFirstNames}
+use Rattle.store_segments.specs.Segments.{AreFirstNames}
 use Rattle.table_store.specs.TableFile.{table_name}
 use Rattle.command_words.specs.Command.{Ask, Command, Listing}
 use Rattle.command_reads.specs.Profile.{TableFile}

@@ -1,6 +1,6 @@
 -- What a fault of a look for a place for a segment is for a command.
 use Rattle.std.specs.Prelude.{◌≡◌, ℕ, List}
-use Rattle.table_store.specs.Stands.{most_segments}
+use Rattle.store_segments.specs.Segments.{most_segments}
 use Rattle.table_store.specs.declared.fault.StoreFault.{StoreFault}
 use Rattle.table_store.specs.declared.fault.StoreFault.TheVariants as store
 use Rattle.command_reads.specs.Gives.{IsTakenStop}

@@ -13,7 +13,7 @@ use Rattle.query_executor.specs.Answers.{IsReply}
 use Rattle.query_executor.specs.Explained.{IsExplained, explained}
 use Rattle.segment_opening.specs.Segments.{HasNoImage}
 use Rattle.query_executor.specs.Stated.{IsStated, stated}
-use Rattle.table_store.specs.Segments.{AreFirstNames, has_segment}
+use Rattle.store_segments.specs.Segments.{AreFirstNames, has_segment}
 use Rattle.table_store.specs.State.{Segment, Segments}
 use Rattle.table_store.specs.TableFile.{table_name}
 use Rattle.command_words.specs.Notes.{sql_note}

@@ -4,7 +4,7 @@ use Rattle.std.specs.FinMap as map
 use Rattle.outside.specs.Counts.{Rose}
 use Rattle.outside.specs.Files.{Files, Has, Lacks, with_file}
 use Rattle.table_store.specs.State.{State}
-use Rattle.table_store.specs.Stands.{Stands}
+use Rattle.store_state.specs.Stands.{Stands}
 use Rattle.table_store.specs.TableFile.{table_file, table_name, text_limit}
 use Rattle.segment_file.specs.Names.{file_of}
 use Rattle.command_reads.specs.Build.{BuildRefuses, IsBuilt}

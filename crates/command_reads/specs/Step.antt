@@ -4,7 +4,7 @@ use Rattle.std.specs.FinMap as map
 use Rattle.outside.specs.Files.{Files}
 use Rattle.values.specs.declared.value.Value.{Value}
 use Rattle.table_schema.specs.declared.table.Table.{Table}
-use Rattle.table_store.specs.Stands.{segment_of}
+use Rattle.store_state.specs.Stands.{segment_of}
 use Rattle.table_store.specs.State.{Segments, State, Texts, NoTable, HasTable}
 use Rattle.table_store.specs.TableFile.{table_name}
 use Rattle.command_reads.specs.Build.{built_text, new_rows, table_of}

@@ -11,8 +11,8 @@ use Rattle.segment_file.specs.Rules.{KeepsRules, HasFront}
 use Rattle.segment_file.specs.Names.{file_of}
 use Rattle.segment_file.specs.declared.part.Part.{Part}
 use Rattle.segment_file.specs.declared.part.Part.TheVariants as parts
-use Rattle.table_store.specs.Accepted.{IsNoTableFile, IsTableFile}
-use Rattle.table_store.specs.Segments.{AreFirstNames, has_segment}
+use Rattle.store_state.specs.Accepted.{IsNoTableFile, IsTableFile}
+use Rattle.store_segments.specs.Segments.{AreFirstNames, has_segment}
 use Rattle.table_store.specs.State.{Segment, Segments}
 use Rattle.table_store.specs.TableFile.{table_name}
 use Rattle.command_words.specs.declared.note.Note.{Note}

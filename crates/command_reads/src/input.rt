@@ -8,7 +8,8 @@ ghost use Rattle.command_reads.specs.Gives.{StopsRead};
 ghost use Rattle.command_reads.specs.Touched.{ReadsFront};
 
 use command_words::{Counted, Fault, Note, Stop};
-use outside::{Bytes, ReadAllFault, Seq, Shelf, read_all};
+use file_reading::{ReadAllFault, read_all};
+use outside::{Bytes, Seq, Shelf};
 use std::alloc::{AllocError, Global};
 
 /// The most bytes that a CSV file may have.

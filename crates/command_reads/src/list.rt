@@ -6,7 +6,7 @@ ghost use Rattle.outside.specs.Seen.{Seen, seen};
 ghost use Rattle.segment_file.specs.Names.{IsSegmentName};
 ghost use Rattle.segment_opening.specs.Logs.{LogsHeadOf, LogsHeadsOf};
 ghost use Rattle.table_schema.specs.ValidTable.{IsValidTable};
-ghost use Rattle.table_store.specs.Segments.{AreFirstNames, has_segment};
+ghost use Rattle.store_segments.specs.Segments.{AreFirstNames, has_segment};
 ghost use Rattle.command_words.specs.Command.{Listing};
 ghost use Rattle.command_reads.specs.Gives.{IsHeadStop, LooksFor};
 ghost use Rattle.command_reads.specs.Profile.{StoreFiles, TableFile};
@@ -21,8 +21,8 @@ use outside::{Bytes, Depot, Name, Seq};
 use segment_file::HeadFault;
 use segment_head::open_head;
 use std::alloc::{AllocError, Global};
+use store_segments::segment_file_name;
 use table_schema::Table;
-use table_store::segment_file_name;
 
 /// The reply to `list`. Of a segment's file no more than the front and the bounds is read.
 pub fn list<D: Depot>(alloc: Global, depot: &mut D) -> Result<Bytes, Stop>

@@ -4,7 +4,7 @@ ghost use Rattle.std.specs.List.{All};
 ghost use Rattle.outside.specs.Seen.{seen};
 ghost use Rattle.segment_file.specs.Names.{IsSegmentName};
 ghost use Rattle.table_schema.specs.ValidTable.{IsValidTable};
-ghost use Rattle.table_store.specs.Segments.{AreFirstNames};
+ghost use Rattle.store_segments.specs.Segments.{AreFirstNames};
 ghost use Rattle.table_store.specs.TableFile.{table_name};
 ghost use Rattle.command_reads.specs.Gives.{FindsPlace, IsLookFault, IsStopOf, IsTakenStop, LooksFor};
 ghost use Rattle.command_reads.specs.Places.{IsPlaceFault, IsPlaceStop};
@@ -14,8 +14,10 @@ ghost use Rattle.command_reads.specs.Stored.{HasTableFile, TableRefuses};
 use command_words::{Counted, Fault, Note, Stop};
 use outside::{Depot, Name, Seq};
 use std::alloc::{AllocError, Global};
+use store_segments::{MOST_SEGMENTS, find_room, segment_names};
+use store_state::open_table;
 use table_schema::Table;
-use table_store::{MOST_SEGMENTS, StoreFault, find_room, open_table, segment_names};
+use table_store::StoreFault;
 
 /// The table of the store.
 pub fn stored_table<D: Depot>(alloc: Global, depot: &mut D) -> Result<Table, Stop>

@@ -4,7 +4,7 @@ ghost use Rattle.std.specs.List.{All};
 ghost use Rattle.outside.specs.Seen.{Seen, seen};
 ghost use Rattle.segment_file.specs.Names.{IsSegmentName};
 ghost use Rattle.table_schema.specs.ValidTable.{IsValidTable};
-ghost use Rattle.table_store.specs.Segments.{AreFirstNames};
+ghost use Rattle.store_segments.specs.Segments.{AreFirstNames};
 ghost use Rattle.command_words.specs.Command.{Ask};
 ghost use Rattle.command_reads.specs.Gives.{AnswersQuery, IsQueryStop, NamesOneOf, sql_stop};
 ghost use Rattle.command_reads.specs.Ran.{Ran};

@@ -1,2 +1,2 @@
-pub mod NameLemmas
+mod NameLemmas
 mod StreamLemmas

@@ -2,8 +2,8 @@
 ghost use Rattle.std.specs.Prelude.{◌≡◌, ◌≤◌, None, IfOk, IsErrOf, length};
 ghost use Rattle.outside.specs.Counts.{Rose};
 
-use crate::folder_files::count_read;
 use crate::folder_parts::{FolderParts, is_published_name};
+use device_state::{count_read, count_write};
 use outside::{Depot, DepotFault, Name, Seq, Shelf, ShelfFault};
 use std::alloc::Global;
 use std::rt::Files;
@@ -55,19 +55,6 @@ impl<R: Files + AllocGlobal + Clone + Drop> FolderDepot<R> {
         let answer = self.parts.files.read_at(alloc, name, offset, into);
         count_read(&mut self.read_faults, answer)
     }
-}
-
-// Counts a failed call.
-fn count_write(faults: &mut u64, answer: Result<(), DepotFault>) -> Result<(), DepotFault>
-    ensures answer { result ≡ answer }
-    ensures later { faults.old ≤ faults.new }
-    ensures rose { IsErrOf answer DepotFault.Failed → Rose faults.old faults.new }
-    ensures still { ¬ IsErrOf answer DepotFault.Failed → faults.new ≡ faults.old }
-{
-    if let Err(DepotFault::Failed) = answer {
-        *faults = faults.saturating_add(1);
-    }
-    answer
 }
 
 impl<R: Files + AllocGlobal + Clone + Drop> Shelf for FolderDepot<R> {

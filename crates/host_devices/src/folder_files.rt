@@ -1,11 +1,10 @@
 //! The files of a real folder.
 ghost use Rattle.std.specs.Prelude.{◌≡◌, ◌≢◌, ◌≤◌, ◌<◌, ◌+◌, ◌^◌, true, IfOk, IfSome, IsErrOf, IsSome, MatchOption, None, Some, length, string_bytes, vec_len};
 ghost use Rattle.std.specs.Option.{ForSome};
-ghost use Rattle.outside.specs.Counts.{Rose};
-ghost use Rattle.outside.specs.declared.shelf.ShelfFault.TheVariants.{Missing, Failed};
-ghost use Rattle.host_devices.specs.Names.{AreEnds};
+ghost use Rattle.device_state.specs.Names.{AreEnds};
+ghost use Rattle.outside.specs.declared.shelf.ShelfFault.TheVariants.{Missing};
 
-use crate::name_ends::NameEnds;
+use device_state::NameEnds;
 use outside::{Name, ShelfFault};
 use std::alloc::{AllocError, Global};
 use std::fs::{Metadata, OpenFile};
@@ -378,19 +377,6 @@ fn read_fault(e: &io::Error) -> ShelfFault
         ErrorKind::OutOfMemory => ShelfFault::NoMemory,
         _ => ShelfFault::Failed,
     }
-}
-
-/// Counts a failed call.
-pub fn count_read<T>(faults: &mut u64, answer: Result<T, ShelfFault>) -> Result<T, ShelfFault>
-    ensures answer { result ≡ answer }
-    ensures later { faults.old ≤ faults.new }
-    ensures rose { IsErrOf answer Failed → Rose faults.old faults.new }
-    ensures still { ¬ IsErrOf answer Failed → faults.new ≡ faults.old }
-{
-    if let Err(ShelfFault::Failed) = answer {
-        *faults = faults.saturating_add(1);
-    }
-    answer
 }
 
 // Opens a plain file, and says how long it is. What is no plain file, as a folder, a device or a pipe,

@@ -1,7 +1,8 @@
 //! Shelves over real folders.
 ghost use Rattle.std.specs.Prelude.{None};
 
-use crate::folder_files::{FolderFiles, count_read};
+use crate::folder_files::FolderFiles;
+use device_state::count_read;
 use outside::{Name, Seq, Shelf, ShelfFault};
 use std::alloc::Global;
 use std::rt::Files;

@@ -7,7 +7,6 @@ mod folder_depot;
 mod folder_files;
 mod folder_parts;
 mod folder_shelf;
-mod name_ends;
 mod stream_sink;
 
 pub use folder_depot::FolderDepot;

@@ -1,4 +1,3 @@
 pub mod CountLemmas
-mod Held
 pub mod ReadLemmas
 pub mod SeenLemmas

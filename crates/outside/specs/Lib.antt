@@ -1,11 +1,8 @@
 pub mod Counts
 pub mod Files
-pub mod FileMap
 pub mod Reads
 pub mod Seen
-pub mod ReadLog
 pub mod Sink
 pub mod Told
 pub mod Whole
-pub mod Memory
 pub mod formers

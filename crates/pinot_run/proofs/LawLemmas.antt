@@ -3,7 +3,7 @@ use Rattle.std.proofs.Common.{◌≡◌, ◌∙◌, ℕ, List, [], ◌∷◌, Op
 use Rattle.outside.specs.Files.{Files}
 use Rattle.outside.specs.Seen.{Seen}
 use Rattle.table_store.specs.State.{State}
-use Rattle.table_store.specs.Stands.{Stands}
+use Rattle.store_state.specs.Stands.{Stands}
 use Rattle.pinot_run.specs.Laws.{PromisesCompose}
 use Rattle.command_reads.specs.Profile.{profile}
 use Rattle.pinot_run.specs.Promise.{IsStep}

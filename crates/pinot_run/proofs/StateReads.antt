@@ -28,16 +28,16 @@ use Rattle.segment_opening.specs.Segments.{HasImage}
 use Rattle.segment_opening.proofs.GrownLemmas.{grown_so, same_name}
 use Rattle.segment_opening.proofs.HeadReads.{opened_entry}
 use Rattle.segment_opening.proofs.LogLemmas.{entries_as, fewer_summed}
-use Rattle.table_store.specs.Accepted.{IsAccepted}
-use Rattle.table_store.specs.Segments.{AreFirstNames, has_segment}
-use Rattle.table_store.specs.Stands.{Stands}
+use Rattle.store_state.specs.Accepted.{IsAccepted}
+use Rattle.store_segments.specs.Segments.{AreFirstNames, has_segment}
+use Rattle.store_state.specs.Stands.{Stands}
 use Rattle.table_store.specs.State as state
 use Rattle.table_store.specs.State.{HasTable, Segment, Segments}
 use Rattle.table_store.specs.TableFile.{table_file, table_name}
-use Rattle.table_store.proofs.AcceptedLemmas.{accepted_valid}
-use Rattle.table_store.proofs.KeyLemmas.{keys_stand}
-use Rattle.table_store.proofs.SegmentLemmas.{is_name, tied_name}
-use Rattle.table_store.proofs.StandsLemmas.{table_there}
+use Rattle.store_state.proofs.AcceptedLemmas.{accepted_valid}
+use Rattle.store_state.proofs.KeyLemmas.{keys_stand}
+use Rattle.store_segments.proofs.NameLemmas.{is_name, tied_name}
+use Rattle.store_state.proofs.StandsLemmas.{table_there}
 use Rattle.command_words.specs.Command.{Ask, Build, Command, Create, Listing, Scan}
 use Rattle.command_reads.specs.Consulted.{Consulted, IsFileAmong, ReadsAbout, ReadsAsked, ReadsEach, ReadsHeads, ReadsStored}
 use Rattle.pinot_run.specs.Laws.{IsLiveFile, ReadsFor, ReadsSegment, ReadsState, SegmentsRead, is_done}

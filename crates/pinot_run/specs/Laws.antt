@@ -11,8 +11,8 @@ use Rattle.sql_reply.specs.Asked.{asked}
 use Rattle.sql_reply.specs.declared.fault.SqlFault.{SqlFault}
 use Rattle.segment_opening.specs.Logs.{LogsWhere}
 use Rattle.segment_opening.specs.Reads.{Grown, ReadsNone, ReadsPlanned}
-use Rattle.table_store.specs.Accepted.{IsAccepted}
-use Rattle.table_store.specs.Stands.{Stands}
+use Rattle.store_state.specs.Accepted.{IsAccepted}
+use Rattle.store_state.specs.Stands.{Stands}
 use Rattle.table_store.specs.State.{HasTable, Segment, Segments, Texts}
 use Rattle.table_store.specs.TableFile.{table_name}
 use Rattle.command_words.specs.Command.{Ask, Command}

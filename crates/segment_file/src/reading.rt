@@ -8,7 +8,8 @@ ghost use Rattle.segment_file.specs.declared.part.Part.{Part};
 ghost use Rattle.segment_file.specs.declared.part.Part.TheVariants as part;
 
 use crate::{HeadFault, Part};
-use outside::{Bytes, Shelf, ShelfFault, read_bytes};
+use file_reading::read_bytes;
+use outside::{Bytes, Shelf, ShelfFault};
 use std::alloc::Global;
 
 /// How many bytes a file has; one that is missing has none.

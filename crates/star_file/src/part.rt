@@ -6,7 +6,8 @@ ghost use Rattle.outside.specs.Seen.{OnlyReads, seen};
 ghost use Rattle.star_file.specs.Reading.{IsPart, EndsBefore};
 
 use crate::docs_fault::DocsFault;
-use outside::{Bytes, Shelf, ShelfFault, read_bytes};
+use file_reading::read_bytes;
+use outside::{Bytes, Shelf, ShelfFault};
 use std::alloc::Global;
 
 /// The bytes of a file between two places after an offset. A file that is not there has no bytes.

@@ -17,8 +17,8 @@ use schema_json::read_schema;
 use settings_json::read_settings;
 use std::alloc::Global;
 use std::{fs, io};
+use store_state::open_table;
 use table_schema::Table;
-use table_store::open_table;
 
 // Runs everything over the file `NAME.seg` of the segment of a table, with the rows of `NAME.csv` and
 // the cases of `NAME.txt`.

@@ -1,8 +1,2 @@
-pub mod NameLemmas
-pub mod AcceptedLemmas
-pub mod SegmentLemmas
-mod FilesLemmas
-mod OpenLemmas
-pub mod StandsLemmas
-pub mod KeyLemmas
+pub mod FilesLemmas
 pub mod TableFileLemmas

@@ -1,7 +1,8 @@
 //! A depot in memory that counts what is read of some parts of its files.
 
 use crate::text::{Text, string};
-use outside::{Depot, DepotFault, MemoryDepot, Name, Seq, Shelf, ShelfFault};
+use memory_depots::MemoryDepot;
+use outside::{Depot, DepotFault, Name, Seq, Shelf, ShelfFault};
 use std::alloc::Global;
 
 /// The bytes of a file from one place up to another, and how many of them were read.

@@ -3,10 +3,13 @@
 use crate::counting::{CountingDepot, Span, fresh_spans};
 use crate::inputs::Inputs;
 use crate::text::{Text, number, parted};
-use outside::{Bytes, MemoryDepot, MemoryShelf, MemorySink, Name, NoMemory, Seq, read_all};
+use file_reading::read_all;
+use memory_depots::MemoryDepot;
+use memory_devices::{MemoryShelf, MemorySink};
+use outside::{Bytes, Name, NoMemory, Seq};
 use pinot_run::run_command;
 use std::alloc::Global;
-use table_store::open_table;
+use store_state::open_table;
 
 /// Files by name.
 pub type Files = Seq<(Name, Bytes)>;

@@ -1,6 +1,6 @@
 use Rattle.std.proofs.Common.{◌≡◌, IfSome, All, Ok, refl, true, subst, sym}
 use Rattle.outside.specs.Seen.{Seen, seen}
-use Rattle.table_store.specs.Segments.{AreFirstNames, has_segment}
+use Rattle.store_segments.specs.Segments.{AreFirstNames, has_segment}
 use Rattle.command_reads.specs.Gives.{LooksFor}
 use Rattle.command_reads.specs.Profile.{StoreFiles, TableFile}
 use Rattle.command_reads.specs.Stored.{HasTableFile, IsListed, SegmentsRefuse, TableRefuses}

@@ -3,7 +3,7 @@ use Rattle.outside.specs.Files.{Has, Lacks}
 use Rattle.outside.specs.Seen.{OnlyReads, Seen, seen}
 use Rattle.segment_file.specs.Names.{file_of}
 use Rattle.table_schema.specs.declared.table.Table.{Table}
-use Rattle.table_store.specs.Segments.{IsFull}
+use Rattle.store_segments.specs.Segments.{IsFull}
 use Rattle.table_store.specs.declared.fault.StoreFault.{StoreFault}
 use Rattle.table_store.specs.declared.fault.StoreFault.TheVariants as store
 use Rattle.command_reads.specs.Gives.{FindsPlace, LooksFor}

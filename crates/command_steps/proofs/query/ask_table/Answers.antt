@@ -1,6 +1,6 @@
 use Rattle.std.proofs.Common.{IfSome, refl, subst, sym}
 use Rattle.outside.specs.Seen.{Seen, seen}
-use Rattle.table_store.specs.Segments.{AreFirstNames}
+use Rattle.store_segments.specs.Segments.{AreFirstNames}
 use Rattle.command_reads.specs.Stored.{HasTableFile}
 use Rattle.command_reads.proofs.QueryLemmas.{look_stopped, query_after, query_handed}
 use Rattle.command_reads.proofs.StoredLemmas.{same_found}

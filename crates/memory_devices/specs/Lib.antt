@@ -1,0 +1,3 @@
+pub mod FileMap
+pub mod Memory
+pub mod ReadLog

@@ -1,0 +1,48 @@
+//! The calls of a device in memory, some of which are to fail.
+ghost use Rattle.std.specs.Prelude.{◌≡◌, ◌≤◌, if◌then◌else◌};
+ghost use Rattle.outside.specs.Counts.{next};
+ghost use Rattle.memory_devices.specs.Memory.{is_listed};
+
+use outside::Seq;
+
+/// The calls that were made, numbered from 0, and the numbers of those that are to fail.
+#[derive(Drop)]
+pub struct MemoryCalls {
+    pub failing: Seq<u64>,
+    pub made: u64,
+}
+
+impl MemoryCalls {
+    pub fn new(failing: Seq<u64>) -> Self
+        ensures failing { result.failing ≡ failing }
+        ensures made { result.made ≡ 0 }
+    {
+        MemoryCalls { failing, made: 0 }
+    }
+
+    /// Counts a call, and says whether it is to fail.
+    pub fn fails(&mut self) -> bool
+        ensures listed { result ≡ is_listed self.old.failing self.old.made }
+        ensures failing { self.new.failing ≡ self.old.failing }
+        ensures made { self.new.made ≡ next self.old.made }
+    {
+        let call = self.made;
+        self.made = call.saturating_add(1);
+        self.failing.as_slice().contains(&call)
+    }
+
+    /// Counts a call, and the fault where it is to fail.
+    pub fn fails_counted(&mut self, faults: &mut u64) -> bool
+        ensures listed { result ≡ is_listed self.old.failing self.old.made }
+        ensures failing { self.new.failing ≡ self.old.failing }
+        ensures made { self.new.made ≡ next self.old.made }
+        ensures faults { faults.new ≡ (if result then next faults.old else faults.old) }
+        ensures later { faults.old ≤ faults.new }
+    {
+        let fails = self.fails();
+        if fails {
+            *faults = faults.saturating_add(1);
+        }
+        fails
+    }
+}

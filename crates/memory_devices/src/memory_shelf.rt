@@ -1,0 +1,200 @@
+//! Shelves in memory.
+ghost use Rattle.std.specs.Prelude.{◌≡◌, ◌≤◌, ◌↔◌, Some, OnErr, IfOk, IsErrOf, IsTrue, min, length, ◌-◌, take, drop, ◌++◌, OnOk, IfNone, if◌then◌else◌};
+ghost use Rattle.std.specs.FinMap as map;
+ghost use Rattle.outside.specs.Counts.{Rose, next};
+ghost use Rattle.outside.specs.Files.{IsNames, IsLengthOf, Has, Lacks};
+ghost use Rattle.memory_devices.specs.Memory.{fresh, fails, read_called, read_logged, file_removed, is_listed};
+ghost use Rattle.outside.specs.Reads.{ReadsAt, logged};
+ghost use Rattle.outside.specs.declared.shelf.ShelfFault.TheVariants.{Missing, Failed, NoMemory};
+
+use crate::file_map::{FileMap, named};
+use crate::memory_calls::MemoryCalls;
+use crate::read_log::ReadLog;
+use outside::{Bytes, Name, NoMemory, Seq, Shelf, ShelfFault};
+use std::alloc::Global;
+use std::marker::Model;
+
+/// A shelf in memory, which tells everything. It fails at the calls whose numbers it is given, counted
+/// from 0 over all its calls.
+#[derive(Drop)]
+pub struct MemoryShelf {
+    files: FileMap,
+    log: ReadLog,
+    calls: MemoryCalls,
+    faults: u64,
+}
+
+impl Model for MemoryShelf {
+    ghost use Rattle.std.specs.FinMap as map;
+    ghost use Rattle.memory_devices.specs.Memory.{Memory, memory_code};
+
+    ghost Value = { Memory };
+
+    ghost coded = { memory_code };
+
+    ghost view = { λ s. record {
+      held = s.files;
+      parts = map.empty;
+      log = s.log;
+      failing = s.calls.failing;
+      calls = s.calls.made;
+      read_faults = s.faults;
+      write_faults = 0;
+    } };
+}
+
+impl MemoryShelf {
+    /// A shelf of these files. Of two with one name the last one counts.
+    pub fn new(
+        alloc: Global,
+        files: Seq<(Name, Bytes)>,
+        failing: Seq<u64>,
+    ) -> Result<Self, NoMemory>
+        ensures { IfOk result (λ shelf. shelf ≡ fresh files failing) }
+    {
+        Ok(MemoryShelf {
+            files: FileMap::from_files(alloc, files)?,
+            log: ReadLog::new(alloc),
+            calls: MemoryCalls::new(failing),
+            faults: 0,
+        })
+    }
+
+    /// Counts a call of another kind than those of a shelf, and its fault where it is to fail.
+    pub fn fails_counted(&mut self, faults: &mut u64) -> bool
+        ensures result { result ≡ fails self.old }
+        ensures calls { self.new ≡ record self.old { calls = next self.old.calls } }
+        ensures faults { faults.new ≡ (if result then next faults.old else faults.old) }
+        ensures later { faults.old ≤ faults.new }
+    {
+        self.calls.fails_counted(faults)
+    }
+
+    /// Puts a file under its name, in place of what was there.
+    pub fn put(&mut self, name: Name, bytes: Bytes) -> Result<(), NoMemory>
+        ensures ok { OnOk result
+            (self.new ≡ record self.old { held = map.insert self.old.held name bytes }) }
+        ensures err { OnErr result (self.new ≡ self.old) }
+    {
+        self.files.put(name, bytes)
+    }
+
+    /// Takes a file away.
+    pub fn take(&mut self, name: &str) -> Option<Bytes>
+        ensures taken { result ≡ map.get self.old.held name.now }
+        ensures rest { self.new ≡ file_removed name.now self.old }
+        ensures absent { IfNone result (self.new ≡ self.old) }
+    {
+        self.files.take(name)
+    }
+}
+
+// Copies the bytes from an offset on, as many as there are and fit, and says how many.
+pub fn copy_from(bytes: &[u8], offset: u64, into: &mut [u8]) -> usize
+    ensures count { result ≡ min (length bytes.now - offset) (length into.old) }
+    ensures bytes { into.new ≡ take result (drop offset bytes.now) ++ drop result into.old }
+{
+    if offset >= bytes.len() as u64 {
+        return 0;
+    }
+    let rest = &bytes[offset as usize..];
+    let n = rest.len().min(into.len());
+    into[..n].copy_from_slice(&rest[..n]);
+    n
+}
+
+impl Shelf for MemoryShelf {
+    ghost held = { λ shelf. Some shelf.held };
+
+    ghost parts = { λ shelf. Some shelf.parts };
+
+    ghost log = { λ shelf. Some shelf.log };
+
+    ghost read_faults = { λ shelf. shelf.read_faults };
+
+    ghost write_faults = { λ shelf. shelf.write_faults };
+
+    fn names(&mut self, alloc: Global) -> Result<Seq<Name>, ShelfFault>
+        ensures after { self.new ≡ read_called self.old }
+        ensures fails { IsErrOf result Failed ↔ IsTrue (fails self.old) }
+        ensures names { IfOk result (IsNames (Some self.old.held)) }
+        ensures held { Some self.new.held ≡ Some self.old.held }
+        ensures parts { Some self.new.parts ≡ Some self.old.parts }
+        ensures log { Some self.new.log ≡ Some self.old.log }
+        ensures writes { self.new.write_faults ≡ self.old.write_faults }
+        ensures later { self.old.read_faults ≤ self.new.read_faults }
+        ensures failed { IsErrOf result Failed → Rose self.old.read_faults self.new.read_faults }
+        ensures still { ¬ IsErrOf result Failed → self.new.read_faults ≡ self.old.read_faults }
+        ensures never_missing { ¬ IsErrOf result Missing }
+    {
+        if self.calls.fails_counted(&mut self.faults) {
+            return Err(ShelfFault::Failed);
+        }
+        Ok(self.files.names(alloc)?)
+    }
+
+    fn length(&mut self, alloc: Global, name: &str) -> Result<u64, ShelfFault>
+        ensures after { self.new ≡ read_called self.old }
+        ensures fails { IsErrOf result Failed ↔ IsTrue (fails self.old) }
+        ensures length { IfOk result (IsLengthOf (Some self.old.held) name.now) }
+        ensures held { Some self.new.held ≡ Some self.old.held }
+        ensures parts { Some self.new.parts ≡ Some self.old.parts }
+        ensures log { Some self.new.log ≡ Some self.old.log }
+        ensures writes { self.new.write_faults ≡ self.old.write_faults }
+        ensures later { self.old.read_faults ≤ self.new.read_faults }
+        ensures failed { IsErrOf result Failed → Rose self.old.read_faults self.new.read_faults }
+        ensures still { ¬ IsErrOf result Failed → self.new.read_faults ≡ self.old.read_faults }
+        ensures missing { IsErrOf result Missing → Lacks (Some self.old.held) name.now }
+        ensures present { IsErrOf result NoMemory → Has (Some self.old.held) name.now }
+        ensures no_memory { ¬ IsErrOf result NoMemory }
+    {
+        let _ = alloc;
+        if self.calls.fails_counted(&mut self.faults) {
+            return Err(ShelfFault::Failed);
+        }
+        match self.files.get(name) {
+            Some(bytes) => Ok(bytes.len() as u64),
+            None => Err(ShelfFault::Missing),
+        }
+    }
+
+    fn read_at(
+        &mut self,
+        alloc: Global,
+        name: &str,
+        offset: u64,
+        into: &mut [u8],
+    ) -> Result<usize, ShelfFault>
+        ensures after { IfOk result (λ n.
+            self.new ≡ read_logged name.now offset n (read_called self.old)) }
+        ensures after_fault { OnErr result (self.new ≡ read_called self.old) }
+        ensures fails { IsErrOf result Failed ↔ IsTrue (fails self.old) }
+        ensures bound { IfOk result (λ n. n ≤ length into.old) }
+        ensures bytes { IfOk result (λ n.
+            ReadsAt (Some self.old.held) name.now offset n into.old into.new) }
+        ensures held { Some self.new.held ≡ Some self.old.held }
+        ensures parts { Some self.new.parts ≡ Some self.old.parts }
+        ensures logged { IfOk result (λ n.
+            Some self.new.log ≡ logged name.now offset n (Some self.old.log)) }
+        ensures not_logged { OnErr result (Some self.new.log ≡ Some self.old.log) }
+        ensures writes { self.new.write_faults ≡ self.old.write_faults }
+        ensures later { self.old.read_faults ≤ self.new.read_faults }
+        ensures failed { IsErrOf result Failed → Rose self.old.read_faults self.new.read_faults }
+        ensures still { ¬ IsErrOf result Failed → self.new.read_faults ≡ self.old.read_faults }
+        ensures missing { IsErrOf result Missing → Lacks (Some self.old.held) name.now }
+        ensures present { IsErrOf result NoMemory → Has (Some self.old.held) name.now }
+    {
+        if self.calls.fails_counted(&mut self.faults) {
+            return Err(ShelfFault::Failed);
+        }
+        match self.files.get(name) {
+            Some(bytes) => {
+                let count = copy_from(bytes.as_slice(), offset, into);
+                let file = named(alloc, name)?;
+                self.log.push(file, offset, count)?;
+                Ok(count)
+            }
+            None => Err(ShelfFault::Missing),
+        }
+    }
+}

@@ -1,5 +1,0 @@
-use Rattle.outside.proofs.Held.{keys_held}
-use Rattle.outside.proofs.file_map.FileMap.names.Goals as goal
-
-pub returns : goal.returns
-returns c = rw (← c.self.view_is, keys_held c.self.inside.files.items c.self.invariant, ← c.as_slice.ensures.value) c.copy_names.ensures
