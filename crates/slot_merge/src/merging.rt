@@ -4,8 +4,6 @@ ghost use Rattle.std.specs.Prelude.{◌≡◌, ◌≤◌, ◌<◌, ◌-◌, ℕ,
 ghost use Rattle.std.specs.List.{All};
 ghost use Rattle.value_columns.specs.Columns.{row_of};
 ghost use Rattle.state_columns.specs.Columns.{row_at};
-ghost use Rattle.value_columns.specs.Columns.{row_of};
-ghost use Rattle.state_columns.specs.Columns.{row_at};
 ghost use Rattle.agg_laws.specs.Numbers.{most_values};
 ghost use Rattle.agg_laws.specs.Rows.{RowFits};
 ghost use Rattle.value_ids.specs.Coding.{AreBelow};

@@ -4,7 +4,6 @@ use Rattle.std.specs.List.{All}
 use Rattle.values.specs.declared.value.Value.{Value}
 use Rattle.value_ids.specs.Dictionary.{distinct}
 use Rattle.tree_laws.specs.Picks as asks
-use Rattle.value_ids.specs.Dictionary.{distinct}
 use Rattle.tree_laws.specs.Picks as asks
 use Rattle.table_schema.specs.declared.field.Field.{Field}
 use Rattle.table_schema.specs.declared.query.BoundQuery.{BoundQuery}

@@ -6,7 +6,7 @@ ghost use Rattle.star_taking.specs.Taken.{AreKeyIds, key_values};
 
 use crate::asked::GroupColumn;
 use data_types::Seq;
-use document_table::{StarTable, StarTable};
+use document_table::StarTable;
 use std::alloc::Global;
 use value_columns::Row;
 use values::NoMemory;

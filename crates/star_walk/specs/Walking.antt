@@ -1,12 +1,7 @@
 -- What a walk picks of the nodes of a tree that is written flat.
-use Rattle.std.specs.Prelude.{◌≡◌, ℕ, zero, suc, ◌+◌, ◌<◌, ◌≤◌, Bool, true, false, if◌then◌else◌}
-use Rattle.std.specs.Prelude.{◌==◌, List, [], ◌∷◌, ◌++◌, length, Option, None, Some, slice_index_or}
+use Rattle.std.specs.Prelude.{◌≡◌, ℕ, zero, suc, ◌+◌, ◌<◌, ◌≤◌, Bool, true, false, if◌then◌else◌, ◌==◌, List, [], ◌∷◌, ◌++◌, length, Option, None, Some, slice_index_or}
 use Rattle.tree_laws.specs.declared.node.Node.{Node}
 use Rattle.agg_laws.specs.Tree.{star}
-use Rattle.state_columns.specs.Region.{range}
-use Rattle.tree_laws.specs.Flat.{node_at}
-use Rattle.tree_laws.specs.Picks.{Task, quiet, is_taken}
-use Rattle.value_ids.specs.Ids.{has_id}
 use Rattle.state_columns.specs.Region.{range}
 use Rattle.tree_laws.specs.Flat.{node_at}
 use Rattle.tree_laws.specs.Picks.{Task, quiet, is_taken}

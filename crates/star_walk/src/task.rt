@@ -4,9 +4,9 @@ ghost use Rattle.std.specs.Prelude.{◌≡◌, ◌<◌, ◌≤◌, ◌-◌, ◌|
 ghost use Rattle.tree_laws.specs.Picks.{quiet, is_taken};
 ghost use Rattle.star_walk.specs.Walking.{task_of, is_tested, passes, is_grouped, HasEach};
 
-use data_types::{Seq, Seq};
-use state_columns::{STAR, STAR};
-use value_ids::{IdSet, IdSet};
+use data_types::Seq;
+use state_columns::STAR;
+use value_ids::IdSet;
 
 /// The ids that pass the tests of each split dimension, where it is tested, and whether the
 /// dimension is grouped.

@@ -9,7 +9,7 @@ ghost use Rattle.star_walk.specs.Walking.{task_of, HasEach};
 use crate::NoMemory;
 use crate::task::Task;
 use data_types::Seq;
-use document_table::{StarTable, StarTable};
+use document_table::StarTable;
 use std::alloc::Global;
 
 /// The numbers of the documents of a table that pass the tests of their dimensions from a level on,

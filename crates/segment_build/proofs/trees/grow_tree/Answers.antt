@@ -1,8 +1,6 @@
 use Rattle.std.proofs.Common.{◌∙◌, ◌<◌, ◌≤◌, sym, ap, subst, arith}
 use Rattle.value_columns.specs.Columns.{rows_of}
 use Rattle.tree_laws.specs.Flat.{flat, tree_bytes}
-use Rattle.value_columns.specs.Columns.{rows_of}
-use Rattle.tree_laws.specs.Flat.{flat, tree_bytes}
 use Rattle.agg_laws.specs.Rows.{merged_rows}
 use Rattle.agg_laws.specs.Tree.{HaveNoStar}
 use Rattle.star_file.specs.Reading.{doc_width}
