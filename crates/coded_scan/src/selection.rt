@@ -1,6 +1,7 @@
 //! The places of the rows of a block that conditions let through.
 
-ghost use Rattle.std.specs.Prelude.{◌≡◌, ◌+◌, ◌<◌, ◌≤◌, ◌++◌, ◌∷◌, [], ℕ, IfOk, OnOk, cond, get_or, false, true, length};
+ghost use Rattle.std.specs.Prelude.{◌≡◌, ◌+◌, ◌<◌, ◌≤◌, ◌++◌, ◌∷◌, [], ℕ, IfOk, OnOk, cond};
+ghost use Rattle.std.specs.Prelude.{get_or, false, true, length};
 ghost use Rattle.scan_engine.specs.Selection.{Keeps};
 ghost use Rattle.coded_columns.specs.Coded.{most_rows};
 ghost use Rattle.row_marks.specs.RowFilters.{AllCover, all_let, covers, lets, passing};

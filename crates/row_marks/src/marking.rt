@@ -1,6 +1,7 @@
 //! Marks of rows, and which of them conditions leave.
 
-ghost use Rattle.std.specs.Prelude.{◌≡◌, ◌&&◌, ◌||◌, ◌+◌, ◌<◌, ◌≤◌, ℕ, IfOk, get_or, false, true, length, nat_eq};
+ghost use Rattle.std.specs.Prelude.{◌≡◌, ◌&&◌, ◌||◌, ◌+◌, ◌<◌, ◌≤◌, ℕ, IfOk, get_or, false};
+ghost use Rattle.std.specs.Prelude.{true, length, nat_eq};
 ghost use Rattle.dictionary.specs.Ids.{has_id};
 ghost use Rattle.scan_engine.specs.Selection.{Keeps};
 ghost use Rattle.coded_columns.specs.Coded.{Widens};
