@@ -1,4 +1,5 @@
-//! Columns by the ids of their values: rows of one key come into one slot, and each slot has their aggregates.
+//! Columns by the ids of their values: rows of one key come into one slot, and each slot has their
+//! aggregates.
 #![tactic(auto)]
 
 mod coded;
