@@ -16,7 +16,6 @@ use row_marks::RowFilter;
 use segment_plan::IndexChoice;
 use std::alloc::Global;
 use table_schema::{Conjunct, Wide};
-use value_ids::IdSet;
 use values::{NoMemory, Test, Value, holds_value};
 
 /// The conditions that are those of the conjuncts that are not served.

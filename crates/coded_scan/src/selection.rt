@@ -1,14 +1,12 @@
 //! The places of the rows of a block that conditions let through.
 
 ghost use Rattle.std.specs.Prelude.{◌≡◌, ◌+◌, ◌<◌, ◌≤◌, ◌++◌, ◌∷◌, [], ℕ, IfOk, OnOk, cond, get_or, false, true, length};
-ghost use Rattle.value_ids.specs.Ids.{has_id};
 ghost use Rattle.scan_engine.specs.Selection.{Keeps};
 ghost use Rattle.coded_columns.specs.Coded.{most_rows};
 ghost use Rattle.row_marks.specs.RowFilters.{AllCover, all_let, covers, lets, passing};
 
 use row_marks::{RowFilter, keep_ids, keep_if, keep_marked, marks_of};
 use std::alloc::Global;
-use value_ids::IdSet;
 use values::NoMemory;
 
 /// Some rows of a segment, one after the other.

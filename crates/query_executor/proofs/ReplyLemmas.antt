@@ -1,5 +1,5 @@
 -- The reply to a query's text over segments is that of its normal form.
-use Rattle.std.proofs.Common.{◌≡◌, ◌≢◌, ◌∙◌, ℕ, false, List, Option, Some, None, Ok, Err, IfSome, subst, true, cond, nat_lt, [], length, take, sym, ap, arith, refl}
+use Rattle.std.proofs.Common.{◌≡◌, ◌≢◌, ◌∙◌, ℕ, false, List, Option, Some, None, Ok, Err, IfSome, subst, true, cond, nat_lt, length, take, sym, ap, arith}
 use Rattle.outside.specs.Files.{Files}
 use Rattle.values.specs.declared.value.Value.{Value}
 use Rattle.table_schema.specs.declared.query.BoundQuery.{BoundQuery}

@@ -1,5 +1,5 @@
 -- What is said of the plans of the segments of a table for a query's text.
-use Rattle.std.specs.Prelude.{◌≡◌, ℕ, false, List, [], Ok, Err}
+use Rattle.std.specs.Prelude.{◌≡◌, ℕ, false, List, Ok, Err}
 use Rattle.std.specs.List.{AllZip}
 use Rattle.outside.specs.Files.{Files}
 use Rattle.values.specs.declared.value.Value.{Value}
