@@ -1,4 +1,4 @@
-pub mod AheadLemmas
+pub mod UntakenLemmas
 pub mod BitLemmas
 pub mod Fields
 pub mod Pushed

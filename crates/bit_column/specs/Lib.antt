@@ -1,4 +1,4 @@
-pub mod Ahead
+pub mod Untaken
 pub mod Bits
 pub mod Column
 pub mod Sections

@@ -1,6 +1,6 @@
 //! A window of the bits that come next in bytes.
 ghost use Rattle.std.specs.Prelude.{◌≡◌, ◌≤◌, ◌<◌, ◌+◌, ◌*◌, ◌^◌, length, take, drop};
-ghost use Rattle.bit_column.specs.Ahead.{IsAhead, taken_before};
+ghost use Rattle.bit_column.specs.Untaken.{HasUntaken, taken_before};
 ghost use Rattle.bit_column.specs.Bits.{bits, bits_of};
 
 use crate::bits::joined;
@@ -17,7 +17,7 @@ impl Window {
     /// The window before the first bit.
     pub fn new() -> Window
         ensures none { taken_before result ≡ 0 }
-        ensures ahead { (bytes : _) → IsAhead bytes result }
+        ensures untaken { (bytes : _) → HasUntaken bytes result }
     {
         Window {
             bits: 0,
@@ -29,10 +29,10 @@ impl Window {
     /// The window with so many bits at least, which the bytes have.
     #[inline(always)]
     pub fn filled(self, bytes: &[u8], width: u32) -> Window
-        requires ahead { IsAhead bytes.now self }
+        requires untaken { HasUntaken bytes.now self }
         requires bound { width ≤ 32 }
         requires held { taken_before self + width ≤ 8 * length bytes.now }
-        ensures ahead { IsAhead bytes.now result }
+        ensures untaken { HasUntaken bytes.now result }
         ensures have { width ≤ result.have }
         ensures same { taken_before result ≡ taken_before self }
     {
@@ -48,10 +48,10 @@ impl Window {
     // The window with four bytes more.
     #[inline(always)]
     fn with_word(self, bytes: &[u8]) -> Window
-        requires ahead { IsAhead bytes.now self }
+        requires untaken { HasUntaken bytes.now self }
         requires room { self.have ≤ 32 }
         requires there { self.next + 4 ≤ length bytes.now }
-        ensures ahead { IsAhead bytes.now result }
+        ensures untaken { HasUntaken bytes.now result }
         ensures have { result.have ≡ self.have + 32 }
         ensures same { taken_before result ≡ taken_before self }
     {
@@ -66,10 +66,10 @@ impl Window {
     // The window with byte after byte more, until it has so many bits.
     #[cold]
     fn with_bytes(self, bytes: &[u8], width: u32) -> Window
-        requires ahead { IsAhead bytes.now self }
+        requires untaken { HasUntaken bytes.now self }
         requires bound { width ≤ 32 }
         requires held { taken_before self + width ≤ 8 * length bytes.now }
-        ensures ahead { IsAhead bytes.now result }
+        ensures untaken { HasUntaken bytes.now result }
         ensures have { width ≤ result.have }
         ensures same { taken_before result ≡ taken_before self }
     {
@@ -82,10 +82,10 @@ impl Window {
 
     // The window with a byte more.
     fn with_byte(self, bytes: &[u8]) -> Window
-        requires ahead { IsAhead bytes.now self }
+        requires untaken { HasUntaken bytes.now self }
         requires room { self.have ≤ 32 }
         requires there { self.next < length bytes.now }
-        ensures ahead { IsAhead bytes.now result }
+        ensures untaken { HasUntaken bytes.now result }
         ensures have { result.have ≡ self.have + 8 }
         ensures same { taken_before result ≡ taken_before self }
     {

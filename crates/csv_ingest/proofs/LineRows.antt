@@ -23,7 +23,7 @@ use Rattle.csv_ingest.specs.Blocks.{RowsOrFault, rows_from}
 use Rattle.csv_row.specs.InOrder.{after, all_or_first, joined}
 use Rattle.csv_row.specs.Columns.{OfSorts, is_text_kind}
 use Rattle.csv_row.specs.Layouts.{IsLayout, header_of}
-use Rattle.csv_ingest.specs.Lines.{AreLines, AtLineEnd, IsCell, IsLastCell, IsLine, IsPlain, IsStart, IsStraight, StartsCell, cell_number}
+use Rattle.csv_ingest.specs.Lines.{AreLines, AtLineEnd, IsCell, IsLastCell, IsLine, IsWholeField, IsStart, IsStraight, StartsCell, cell_number}
 use Rattle.csv_ingest.specs.Names.{number_field}
 use Rattle.csv_row.specs.Row.{cell_value, csv_limits, place_of, placed, row_at, value_at, value_in}
 use Rattle.csv_row.proofs.CellLemmas.{number-found}
@@ -146,13 +146,13 @@ spelled-at cells numbers k spell lt =
     ∙ ap (λ rs. get_or rs k (Err NotANumber)) spell
     ∙ get_or-map Ok numbers k (pos 0) (Err NotANumber) lt
 
-plain-value : (field : Field) (cell : List ℕ) (n : ℤ) → IsPlain field → cell_number cell ≡ Ok n → cell_value field cell ≡ Ok (Whole n)
+plain-value : (field : Field) (cell : List ℕ) (n : ℤ) → IsWholeField field → cell_number cell ≡ Ok n → cell_value field cell ≡ Ok (Whole n)
 plain-value field [] n plain is =
     let same : pos 0 ≡ n = cc in
     ap Ok (plain.default ∙ ap Whole same)
 plain-value field (b ∷ bytes) n plain is = long-found (b ∷ bytes) (Some n) (sym (ap result_ok is)) field plain.kind
 
-own-value : (row : ℕ) (cells : List (List ℕ)) (field : Field) (place : Option ℕ) (k : ℕ) (n : ℤ) → IsPlain field → place ≡ Some (k + 1) → cell_number (get_or cells k []) ≡ Ok n → value_at row cells field place ≡ Ok (Whole n)
+own-value : (row : ℕ) (cells : List (List ℕ)) (field : Field) (place : Option ℕ) (k : ℕ) (n : ℤ) → IsWholeField field → place ≡ Some (k + 1) → cell_number (get_or cells k []) ≡ Ok n → value_at row cells field place ≡ Ok (Whole n)
 own-value row cells field place k n plain is spells =
     let at : k + 1 - 1 ≡ k = omega arith in
     ap (value_at row cells field) is ∙ ap (λ i. placed row (k + 1) (cell_value field (get_or cells i []))) at ∙ ap (placed row (k + 1)) (plain-value field (get_or cells k []) n plain spells)

@@ -27,7 +27,7 @@ use Rattle.csv_ingest.specs.Names.{is_among, number_field, number_name}
 use Rattle.table_schema.specs.Names.{is_column_name}
 use Rattle.csv_row.specs.InOrder.{all_or_first, joined}
 use Rattle.csv_row.specs.Row.{cell_value, csv_limits, kinded, Limits, placed, place_of, row_at, value_at, values_of}
-use Rattle.csv_ingest.specs.Rows.{header_of, is_number, IsNumbers, name_at, plain_in, rows_of, under, with_schema}
+use Rattle.csv_ingest.specs.Rows.{header_of, is_number, IsNumbers, name_at, number_rows_in, rows_of, under, with_schema}
 
 -- what joins two results
 pub joins : {A E : Type 0} (r : Result A E) (rest : Result (List A) E) (all : List A) → joined r rest ≡ Ok all → (a : A) × (more : List A) × (r ≡ Ok a) × (rest ≡ Ok more) × (all ≡ a ∷ more)
@@ -178,8 +178,8 @@ columns_numbers : (limits : Limits) (many : Bool) (header : List (List ℕ)) (re
 columns_numbers limits true header records table is = absurd cc
 columns_numbers limits false header records table is = under_numbers limits header records (header_of number_name header) table (header_plain header) is
 
-pub numbers-plain : (limits : Limits) (records : List (List (List ℕ))) (table : Schema × List (List Value)) → plain_in limits records ≡ Ok table → Holds table
-unfolding plain_in
+pub numbers-plain : (limits : Limits) (records : List (List (List ℕ))) (table : Schema × List (List Value)) → number_rows_in limits records ≡ Ok table → Holds table
+unfolding number_rows_in
 numbers-plain limits [] table is = absurd cc
 numbers-plain limits (header ∷ records) table is = columns_numbers limits (limits.many_columns (length header)) header records table is
 
@@ -209,7 +209,7 @@ columns_few true header records table test is = absurd cc
 columns_few false header records table test is =
     under_few header records (header_of number_name header) table (λ fields ok. let width = header_width header fields ok in grind (arith, nat_tests)) is
 
-pub few-plain : (records : List (List (List ℕ))) (table : Schema × List (List Value)) → plain_in csv_limits records ≡ Ok table → IsFew table
-unfolding plain_in
+pub few-plain : (records : List (List (List ℕ))) (table : Schema × List (List Value)) → number_rows_in csv_limits records ≡ Ok table → IsFew table
+unfolding number_rows_in
 few-plain [] table is = absurd cc
 few-plain (header ∷ records) table is = columns_few (nat_lt 64 (length header)) header records table refl is

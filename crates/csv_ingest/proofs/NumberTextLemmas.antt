@@ -11,7 +11,7 @@ use Rattle.csv_ingest.specs.Names.{number_name}
 use Rattle.csv_ingest.specs.NumberBlocks.{IsNumberHeader}
 use Rattle.csv_ingest.specs.Reading.{Reads, TextReader, records_left}
 use Rattle.csv_row.specs.Row.{csv_limits}
-use Rattle.csv_ingest.specs.Rows.{header_of, plain_in, rows_of, under, with_schema}
+use Rattle.csv_ingest.specs.Rows.{header_of, number_rows_in, rows_of, under, with_schema}
 
 -- what follows of the value or the fault of a call
 pub ok-at : {T E : Type 0} (r : Result T E) (P Q : T → Type 0) → ((t : T) → P t → Q t) → IfOk r P → IfOk r Q
@@ -26,40 +26,40 @@ pub both-ok : {T E : Type 0} (r : Result T E) (P Q R : T → Type 0) → ((t : T
 both-ok (Ok t) P Q R f p q = f t p q
 both-ok (Err e) P Q R f p q = tt
 
-pub no-record : plain_in csv_limits [] ≡ Err (At NoHeader 0 0)
-unfolding plain_in
+pub no-record : number_rows_in csv_limits [] ≡ Err (At NoHeader 0 0)
+unfolding number_rows_in
 no-record = refl
 
 module _ (header : List (List ℕ)) (rows : List (List (List ℕ))) where
-  pub many-columns : 64 < length header → plain_in csv_limits (header ∷ rows) ≡ Err TooManyColumns
-  unfolding plain_in
+  pub many-columns : 64 < length header → number_rows_in csv_limits (header ∷ rows) ≡ Err TooManyColumns
+  unfolding number_rows_in
   many-columns lt =
       let test : nat_lt 64 (length header) ≡ true = grind (arith, nat_tests) in
       rw test refl
 
-  few_columns : length header ≤ 64 → plain_in csv_limits (header ∷ rows) ≡ under (header_of number_name header) (λ fields. with_schema fields (rows_of csv_limits fields header rows))
-  unfolding plain_in
+  few_columns : length header ≤ 64 → number_rows_in csv_limits (header ∷ rows) ≡ under (header_of number_name header) (λ fields. with_schema fields (rows_of csv_limits fields header rows))
+  unfolding number_rows_in
   few_columns le =
       let test : nat_lt 64 (length header) ≡ false = grind (arith, nat_tests) in
       rw test refl
 
-  pub bad-header : (fault : CsvFault) → length header ≤ 64 → header_of number_name header ≡ Err fault → plain_in csv_limits (header ∷ rows) ≡ Err fault
+  pub bad-header : (fault : CsvFault) → length header ≤ 64 → header_of number_name header ≡ Err fault → number_rows_in csv_limits (header ∷ rows) ≡ Err fault
   bad-header fault le bad = few_columns le ∙ ap (λ h. under h (λ fields. with_schema fields (rows_of csv_limits fields header rows))) bad
 
   -- what a good header's records give
-  pub below-header : (fields : List Field) → length header ≤ 64 → header_of number_name header ≡ Ok fields → plain_in csv_limits (header ∷ rows) ≡ with_schema fields (rows_of csv_limits fields header rows)
+  pub below-header : (fields : List Field) → length header ≤ 64 → header_of number_name header ≡ Ok fields → number_rows_in csv_limits (header ∷ rows) ≡ with_schema fields (rows_of csv_limits fields header rows)
   below-header fields le ok = few_columns le ∙ ap (λ h. under h (λ fs. with_schema fs (rows_of csv_limits fs header rows))) ok
 
 -- what a text gives whose header was read
 abbrev pub HeaderRead : TextReader → TextReader → NumberHeader → Type 0
 HeaderRead old new header =
     (rest : List ℕ) → Reads old rest → (left : List ℕ) × Reads new left
-    × ((n : ℕ) → plain_in csv_limits (records_left (n + 1) old rest) ≡ with_schema header.fields (rows_of csv_limits header.fields (fields_of header.names) (records_left n new left)))
+    × ((n : ℕ) → number_rows_in csv_limits (records_left (n + 1) old rest) ≡ with_schema header.fields (rows_of csv_limits header.fields (fields_of header.names) (records_left n new left)))
 
 pub header-read : (old new : TextReader) (rest left : List ℕ) (header : NumberHeader) (names : List (List ℕ)) → IsNumberHeader header → fields_of header.names ≡ names
     → ((n : ℕ) → records_left (n + 1) old rest ≡ names ∷ records_left n new left)
-    → (n : ℕ) → plain_in csv_limits (records_left (n + 1) old rest) ≡ with_schema header.fields (rows_of csv_limits header.fields (fields_of header.names) (records_left n new left))
+    → (n : ℕ) → number_rows_in csv_limits (records_left (n + 1) old rest) ≡ with_schema header.fields (rows_of csv_limits header.fields (fields_of header.names) (records_left n new left))
 header-read old new rest left header names is same next n =
-    ap (plain_in csv_limits) (next n)
-    ∙ ap (λ row. plain_in csv_limits (row ∷ records_left n new left)) (sym same)
+    ap (number_rows_in csv_limits) (next n)
+    ∙ ap (λ row. number_rows_in csv_limits (row ∷ records_left n new left)) (sym same)
     ∙ below-header (fields_of header.names) (records_left n new left) header.fields is.few is.fields

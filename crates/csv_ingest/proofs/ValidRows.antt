@@ -26,7 +26,7 @@ use Rattle.csv_row.specs.declared.fault.CsvFault.TheVariants.{At, TooManyRows, T
 use Rattle.csv_ingest.specs.Names.{schema_name, number_name}
 use Rattle.csv_row.specs.InOrder.{all_or_first}
 use Rattle.csv_row.specs.Row.{cell_value, csv_limits, kinded, place_of, row_at, value_at, values_of}
-use Rattle.csv_ingest.specs.Rows.{header_of, plain_in, rows_in, rows_of, under, with_schema}
+use Rattle.csv_ingest.specs.Rows.{header_of, number_rows_in, rows_in, rows_of, under, with_schema}
 use Rattle.csv_ingest.proofs.NumberLemmas.{IsNumberField, joins, each, placed_ok, anything, header_plain}
 
 -- ---- values
@@ -170,7 +170,7 @@ plain_by : (many : Bool) (header : List (List ℕ)) (records : List (List (List 
 plain_by true header records table e = absurd cc
 plain_by false header records table e = under_plain header records (header_of number_name header) table (λ fields is. plain_all fields (header_plain header fields is)) e
 
-pub rows_by_header : (records : List (List (List ℕ))) (table : Schema × List (List Value)) → plain_in csv_limits records ≡ Ok table → TableRows table
-unfolding plain_in
+pub rows_by_header : (records : List (List (List ℕ))) (table : Schema × List (List Value)) → number_rows_in csv_limits records ≡ Ok table → TableRows table
+unfolding number_rows_in
 rows_by_header [] table e = absurd cc
 rows_by_header (header ∷ records) table e = plain_by (csv_limits.many_columns (length header)) header records table e

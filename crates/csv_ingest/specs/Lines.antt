@@ -88,13 +88,13 @@ pub record IsLine (text : List ℕ) (numbers : List ℤ) (len : ℕ) : Type 0 wh
   pub reads : (n : ℕ) → records_from default_config (n + 1) st.StartRecord text ≡ cells ∷ records_from default_config n st.StartRecord (drop len text)
 
 -- a field of whole numbers, 0 where a cell is empty
-pub record IsPlain (field : Field) : Type 0 where
+pub record IsWholeField (field : Field) : Type 0 where
   pub kind : field.kind ≡ Long
   pub default : field.default ≡ Whole (pos 0)
 
 -- each field is of whole numbers, and in its own column
 pub record IsStraight (layout : Layout) : Type 0 where
-  pub kinds : (k : ℕ) (d : Field) → k < length layout.fields.now → IsPlain (get_or layout.fields.now k d)
+  pub kinds : (k : ℕ) (d : Field) → k < length layout.fields.now → IsWholeField (get_or layout.fields.now k d)
   pub places : (k : ℕ) → k < length layout.fields.now → get_or layout.places.items k None ≡ Some (k + 1)
   pub width : length layout.fields.now ≡ length layout.names.now
 

@@ -56,8 +56,8 @@ pub record IsNumbers (columns : ℕ) (row : List Value) : Type 0 where
   pub numbers : list_all is_number row ≡ true
 
 -- the same where every name of the header is a column of whole numbers, and these columns are the schema
-unfoldable pub plain_in : Limits → List (List (List ℕ)) → Result (Schema × List (List Value)) CsvFault
-plain_in limits [] = Err (At NoHeader 0 0)
-plain_in limits (header ∷ rows) =
+unfoldable pub number_rows_in : Limits → List (List (List ℕ)) → Result (Schema × List (List Value)) CsvFault
+number_rows_in limits [] = Err (At NoHeader 0 0)
+number_rows_in limits (header ∷ rows) =
     if limits.many_columns (length header) then Err TooManyColumns
     else under (header_of number_name header) (λ fields. with_schema fields (rows_of limits fields header rows))

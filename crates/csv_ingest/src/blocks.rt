@@ -12,7 +12,7 @@ ghost use Rattle.csv_ingest.specs.Lines.{AreLines, IsFeedAfter, IsHeaderEnd, is_
 ghost use Rattle.csv_ingest.specs.NumberBlocks.{AreNumbers, Gives, GivesTable, IsByRecords, IsNumberBlocks, IsNumberHeader};
 ghost use Rattle.csv_ingest.specs.Reading.{Reads, records_left};
 ghost use Rattle.csv_row.specs.Row.{csv_limits};
-ghost use Rattle.csv_ingest.specs.Rows.{header_of, plain_in, records_of, rows_of, with_schema};
+ghost use Rattle.csv_ingest.specs.Rows.{header_of, number_rows_in, records_of, rows_of, with_schema};
 
 use crate::header::{names_in, number_columns};
 use crate::lines::{Lines, read_lines};
@@ -65,7 +65,7 @@ impl NumberHeader {
         ensures header { IfOk result IsNumberHeader }
         ensures names { IfOk result (λ h. h.names ≡ names) }
         ensures err { IfErr result (λ fault. fault ≢ CsvFault.NoMemory → (records : List (List (List ℕ)))
-            → plain_in csv_limits (fields_of names ∷ records) ≡ Err fault) }
+            → number_rows_in csv_limits (fields_of names ∷ records) ≡ Err fault) }
     {
         if names.len() > MOST_COLUMNS {
             return Err(CsvFault::TooManyColumns);
@@ -209,9 +209,9 @@ fn line_blocks<'a>(alloc: Global, text: &'a [u8], end: usize) -> Result<NumberBl
     requires end { IsHeaderEnd text.now end }
     ensures blocks { IfOk result IsNumberBlocks }
     ensures few { IfOk result (λ b. b.left ≤ 134217728) }
-    ensures ok { IfOk result (λ b. GivesTable b (plain_in csv_limits (records default_config text.now))) }
+    ensures ok { IfOk result (λ b. GivesTable b (number_rows_in csv_limits (records default_config text.now))) }
     ensures err { IfErr result (λ fault. fault ≢ CsvFault.NoMemory
-        → plain_in csv_limits (records default_config text.now) ≡ Err fault) }
+        → number_rows_in csv_limits (records default_config text.now) ≡ Err fault) }
 {
     let names = header_line(alloc, text, end)?;
     match NumberHeader::of_record(alloc, names) {
@@ -229,11 +229,11 @@ fn line_blocks<'a>(alloc: Global, text: &'a [u8], end: usize) -> Result<NumberBl
 pub fn read_header(alloc: Global, reader: &mut Reader<&[u8]>) -> Result<NumberHeader, CsvFault>
     ensures header { IfOk result IsNumberHeader }
     ensures ok { IfOk result (λ header. (rest : List ℕ) → Reads reader.old rest → (left : List ℕ)
-        × Reads reader.new left × ((n : ℕ) → plain_in csv_limits (records_left (n + 1) reader.old rest)
+        × Reads reader.new left × ((n : ℕ) → number_rows_in csv_limits (records_left (n + 1) reader.old rest)
         ≡ with_schema header.fields (rows_of csv_limits header.fields (fields_of header.names)
         (records_left n reader.new left)))) }
     ensures err { IfErr result (λ fault. fault ≢ CsvFault.NoMemory → (rest : List ℕ)
-        → Reads reader.old rest → (n : ℕ) → plain_in csv_limits (records_left (n + 1) reader.old rest)
+        → Reads reader.old rest → (n : ℕ) → number_rows_in csv_limits (records_left (n + 1) reader.old rest)
         ≡ Err fault) }
 {
     let mut names = ByteRecord::new(alloc);
@@ -248,9 +248,9 @@ fn record_blocks<'a>(alloc: Global, bytes: &'a [u8]) -> Result<NumberBlocks<'a>,
     requires { length bytes.now ≤ 134217728 }
     ensures blocks { IfOk result IsNumberBlocks }
     ensures few { IfOk result (λ b. b.left ≤ 134217728) }
-    ensures ok { IfOk result (λ b. GivesTable b (plain_in csv_limits (records_of bytes.now))) }
+    ensures ok { IfOk result (λ b. GivesTable b (number_rows_in csv_limits (records_of bytes.now))) }
     ensures err { IfErr result (λ fault. fault ≢ CsvFault.NoMemory
-        → plain_in csv_limits (records_of bytes.now) ≡ Err fault) }
+        → number_rows_in csv_limits (records_of bytes.now) ≡ Err fault) }
 {
     let mut reader = text_reader(alloc, bytes);
     let left = unmarked_len(bytes);
@@ -266,14 +266,14 @@ fn record_blocks<'a>(alloc: Global, bytes: &'a [u8]) -> Result<NumberBlocks<'a>,
 }
 
 /// The text of whole numbers that some bytes are, with its header read. The fields and the rows, or the
-/// first fault, are those of `read_plain_columns`.
+/// first fault, are those of `read_number_columns`.
 pub fn number_blocks<'a>(alloc: Global, bytes: &'a [u8]) -> Result<NumberBlocks<'a>, CsvFault>
     requires { length bytes.now ≤ 134217728 }
     ensures blocks { IfOk result IsNumberBlocks }
     ensures few { IfOk result (λ b. b.left ≤ 134217728) }
-    ensures ok { IfOk result (λ b. GivesTable b (plain_in csv_limits (records_of bytes.now))) }
+    ensures ok { IfOk result (λ b. GivesTable b (number_rows_in csv_limits (records_of bytes.now))) }
     ensures err { IfErr result (λ fault. fault ≢ CsvFault.NoMemory
-        → plain_in csv_limits (records_of bytes.now) ≡ Err fault) }
+        → number_rows_in csv_limits (records_of bytes.now) ≡ Err fault) }
 {
     let text = unmarked(bytes);
     match header_end(text) {

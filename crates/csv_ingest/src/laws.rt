@@ -3,7 +3,7 @@ ghost use Rattle.table_schema.specs.declared.field.Schema.{Schema};
 ghost use Rattle.table_schema.specs.Valid.{IsValidSchema};
 ghost use Rattle.csv_row.specs.Columns.{DefaultsFit};
 ghost use Rattle.csv_row.specs.Row.{csv_limits};
-ghost use Rattle.csv_ingest.specs.Rows.{plain_in, rows_in};
+ghost use Rattle.csv_ingest.specs.Rows.{number_rows_in, rows_in};
 ghost use Rattle.csv_ingest.specs.Unicode.{RowsAreUnicode};
 ghost use Rattle.std.specs.Prelude.{◌≡◌, ◌≢◌, ℕ, List, Ok, Err};
 ghost use Rattle.table_schema.specs.declared.field.Field.{Field};
@@ -24,7 +24,7 @@ pub fn rows_law()
         → IsValidSchema schema → rows_in csv_limits schema.fields records ≡ Ok rows
         → AreRows schema.fields rows }
     ensures numbers { (records : List (List (List ℕ))) (table : Schema × List (List Value))
-        → plain_in csv_limits records ≡ Ok table → AreRows table.0.fields table.1 }
+        → number_rows_in csv_limits records ≡ Ok table → AreRows table.0.fields table.1 }
     ensures columns { (fields : List Field) (records : List (List (List ℕ))) (fault : CsvFault)
         → rows_in csv_limits fields records ≡ Err fault → fault ≢ TooManyColumns }
 {}

@@ -15,5 +15,5 @@ pub use blocks::{NumberBlocks, NumberHeader, number_blocks};
 pub use csv_row::{CsvFault, CsvKind};
 pub use defaults::defaults_fit;
 pub use laws::{defaults_law, rows_law, unicode_law};
-pub use numbers::{read_plain, read_plain_columns};
+pub use numbers::{read_number_columns, read_number_rows};
 pub use schema_rows::{read_columns, read_rows};

@@ -6,7 +6,7 @@ ghost use Rattle.data_types.specs.Numbers.{is_digit, negative};
 ghost use Rattle.values.specs.declared.value.Value.TheVariants as value;
 ghost use Rattle.csv_row.specs.Columns.{OfSorts};
 ghost use Rattle.csv_row.specs.Layouts.{IsLayout, header_of};
-ghost use Rattle.csv_ingest.specs.Lines.{AreLines, EndsCell, IsCell, IsLastCell, IsLine, IsPlain, IsStraight, SpellsAt, StartsCell};
+ghost use Rattle.csv_ingest.specs.Lines.{AreLines, EndsCell, IsCell, IsLastCell, IsLine, IsWholeField, IsStraight, SpellsAt, StartsCell};
 
 use crate::records::from_place;
 use crate::rows::empty_columns;
@@ -168,7 +168,7 @@ fn push_numbers(columns: &mut Vec<Column>, numbers: &[i64]) -> Result<(), AllocE
 
 // Whether a field is of whole numbers, 0 where a cell is empty, and in the column of this place.
 fn is_own(field: &Field, place: Option<usize>, column: usize) -> bool
-    ensures { result ≡ true → (IsPlain field.now) × (place ≡ Some column) }
+    ensures { result ≡ true → (IsWholeField field.now) × (place ≡ Some column) }
 {
     match (field.kind, &field.default, place) {
         (FieldKind::Long, Value::Whole(0), Some(at)) => at == column,

@@ -5,7 +5,7 @@ ghost use Rattle.value_columns.specs.Columns.{rows_of as rows_of_columns};
 ghost use Rattle.csv_ingest.specs.NumberBlocks.{AreNumbers};
 ghost use Rattle.csv_ingest.specs.Reading.{Reads, records_left};
 ghost use Rattle.csv_row.specs.Row.{csv_limits};
-ghost use Rattle.csv_ingest.specs.Rows.{IsNumbers, plain_in, records_of};
+ghost use Rattle.csv_ingest.specs.Rows.{IsNumbers, number_rows_in, records_of};
 ghost use Rattle.table_schema.specs.ValidTable.{AreRows};
 
 use crate::blocks::read_header;
@@ -25,10 +25,10 @@ fn number_records(
 ) -> Result<(Schema, Columns), CsvFault>
     requires { most < 2 ^ 31 }
     ensures ok { IfOk result (λ table. (rest : List ℕ) → Reads reader.old rest
-        → plain_in csv_limits (records_left (most + 1) reader.old rest) ≡ Ok (table.0, rows_of_columns table.1)) }
+        → number_rows_in csv_limits (records_left (most + 1) reader.old rest) ≡ Ok (table.0, rows_of_columns table.1)) }
     ensures columns { IfOk result (λ table. AreNumbers table.0.fields table.1.columns) }
     ensures err { IfErr result (λ fault. fault ≢ CsvFault.NoMemory → (rest : List ℕ)
-        → Reads reader.old rest → plain_in csv_limits (records_left (most + 1) reader.old rest)
+        → Reads reader.old rest → number_rows_in csv_limits (records_left (most + 1) reader.old rest)
         ≡ Err fault) }
 {
     let header = match read_header(alloc, reader) {
@@ -49,13 +49,13 @@ fn number_records(
 /// digit or more, and an empty cell is 0. A line without any character is no record, and one byte
 /// order mark at the start is skipped. There are at most 1,048,576 rows, and at most 16,777,216
 /// numbers. The fault is the first by record.
-pub fn read_plain_columns(alloc: Global, bytes: &[u8]) -> Result<(Schema, Columns), CsvFault>
+pub fn read_number_columns(alloc: Global, bytes: &[u8]) -> Result<(Schema, Columns), CsvFault>
     requires { length bytes.now ≤ 134217728 }
-    ensures ok { IfOk result (λ table. plain_in csv_limits (records_of bytes.now)
+    ensures ok { IfOk result (λ table. number_rows_in csv_limits (records_of bytes.now)
         ≡ Ok (table.0, rows_of_columns table.1)) }
     ensures columns { IfOk result (λ table. AreNumbers table.0.fields table.1.columns) }
     ensures err { IfErr result (λ fault. fault ≢ CsvFault.NoMemory
-        → plain_in csv_limits (records_of bytes.now) ≡ Err fault) }
+        → number_rows_in csv_limits (records_of bytes.now) ≡ Err fault) }
     ensures few { IfOk result (λ table. length table.0.fields ≤ 64) }
     ensures numbers { IfOk result (λ table.
         All (IsNumbers (length table.0.fields)) (rows_of_columns table.1)) }
@@ -66,16 +66,16 @@ pub fn read_plain_columns(alloc: Global, bytes: &[u8]) -> Result<(Schema, Column
 }
 
 /// The same columns, and the rows as one list of values each.
-pub fn read_plain(alloc: Global, bytes: &[u8]) -> Result<(Schema, Rows), CsvFault>
+pub fn read_number_rows(alloc: Global, bytes: &[u8]) -> Result<(Schema, Rows), CsvFault>
     requires { length bytes.now ≤ 134217728 }
-    ensures ok { IfOk result (λ table. plain_in csv_limits (records_of bytes.now) ≡ Ok table) }
+    ensures ok { IfOk result (λ table. number_rows_in csv_limits (records_of bytes.now) ≡ Ok table) }
     ensures err { IfErr result (λ fault. fault ≢ CsvFault.NoMemory
-        → plain_in csv_limits (records_of bytes.now) ≡ Err fault) }
+        → number_rows_in csv_limits (records_of bytes.now) ≡ Err fault) }
     ensures few { IfOk result (λ table. length table.0.fields ≤ 64) }
     ensures numbers { IfOk result (λ table. All (IsNumbers (length table.0.fields)) table.1) }
     ensures valid { IfOk result (λ table. AreRows table.0.fields table.1) }
 {
-    match read_plain_columns(alloc, bytes) {
+    match read_number_columns(alloc, bytes) {
         Ok((schema, table)) => Ok((schema, table.rows(alloc)?)),
         Err(fault) => Err(fault),
     }

@@ -6,7 +6,7 @@ ghost use Rattle.value_ids.specs.Ids.{AreThose, Picks, negated_ids};
 
 use sorted_values::{Cut, compared, cut_at};
 use std::alloc::Global;
-use value_ids::{IdSet, both, either, others, run, set_of};
+use value_ids::{IdSet, complement_of, intersection_of, range_of, set_of, union_of};
 use values::{NoMemory, Test, Value};
 
 // The ids, or those of all other values.
@@ -14,7 +14,7 @@ fn negated_set(alloc: Global, negated: bool, count: u32, ids: IdSet) -> Result<I
     ensures { IfOk result (AreThose (negated_ids negated count ids)) }
 {
     if negated {
-        others(alloc, count, &ids)
+        complement_of(alloc, count, &ids)
     } else {
         Ok(ids)
     }
@@ -32,7 +32,7 @@ fn between(
     ensures { IfOk result (Picks (λ value. negated_if negated (is_between low.now value high.now))
         values.now) }
 {
-    let ids = run(alloc, cut_at(values, low).from, cut_at(values, high).to)?;
+    let ids = range_of(alloc, cut_at(values, low).from, cut_at(values, high).to)?;
     negated_set(alloc, negated, values.len() as u32, ids)
 }
 
@@ -79,9 +79,9 @@ pub fn matching_ids(alloc: Global, test: &Test, values: &[Value]) -> Result<IdSe
         Test::OneOf(members, negated) => one_of(alloc, members.as_slice(), *negated, values),
         Test::Between(low, high, negated) => between(alloc, low, high, *negated, values),
         Test::All(tests) => {
-            let mut ids = run(alloc, 0, values.len() as u32)?;
+            let mut ids = range_of(alloc, 0, values.len() as u32)?;
             for test in tests.as_slice() {
-                ids = both(alloc, &ids, &matching_ids(alloc, test, values)?)?;
+                ids = intersection_of(alloc, &ids, &matching_ids(alloc, test, values)?)?;
             }
             Ok(ids)
         }
@@ -89,7 +89,7 @@ pub fn matching_ids(alloc: Global, test: &Test, values: &[Value]) -> Result<IdSe
             let count = values.len() as u32;
             let mut ids = IdSet::new(alloc);
             for test in tests.as_slice() {
-                ids = either(alloc, count, &ids, &matching_ids(alloc, test, values)?)?;
+                ids = union_of(alloc, count, &ids, &matching_ids(alloc, test, values)?)?;
             }
             Ok(ids)
         }

@@ -8,10 +8,10 @@ use Rattle.std.proofs.lemmas.List.Elements.{All-append, All-nil}
 use Rattle.std.proofs.lemmas.List.Folds.{list_any-append, length-flat_map-take}
 use Rattle.std.proofs.lemmas.List.FromFn.{length-range_with_len}
 use Rattle.doc_lists.specs.Docs.{AreAfter, AreRuns, Apart, docs_of, docs_of_run, has_doc, next_from}
-use Rattle.doc_lists.specs.Sets.{Ahead, SameFrom, SweepsRuns, Swept, first_in, in_run, in_runs}
+use Rattle.doc_lists.specs.Sets.{RemainFrom, SameFrom, SweepsRuns, Swept, first_in, in_run, in_runs}
 use Rattle.doc_lists.specs.declared.run.Run.{Run}
 use Rattle.doc_lists.proofs.Runs.{all_after, apart_less, docs_pushed, last_below, next_pushed, up_runs}
-use Rattle.doc_lists.proofs.Sweep.{Walk, ahead_apart, and_true, apart_none, before_first, first_has, has_runs, left_has, none_from, or_false, range_all, run_before, sooner_begun, up_add, walk_next}
+use Rattle.doc_lists.proofs.Sweep.{Walk, remain_apart, and_true, apart_none, before_first, first_has, has_runs, left_has, none_from, or_false, range_all, run_before, sooner_begun, up_add, walk_next}
 
 -- ---- how many documents runs have
 
@@ -101,25 +101,25 @@ swept_rest test start runs old new apart is swept same =
           ]);
     })
 
-pub rest_after : (start : ℕ) (runs : List Run) (d : Run) (docs : List ℕ) → 0 < length runs → Ahead start runs → All (λ doc. doc < (get_or runs 0 d).last + 1) docs → AreAfter docs (drop 1 runs)
-rest_after start [] d docs some ahead below = absurd (omega (arith, some))
-rest_after start (run ∷ runs) d docs some ahead below =
+pub rest_after : (start : ℕ) (runs : List Run) (d : Run) (docs : List ℕ) → 0 < length runs → RemainFrom start runs → All (λ doc. doc < (get_or runs 0 d).last + 1) docs → AreAfter docs (drop 1 runs)
+rest_after start [] d docs some remain below = absurd (omega (arith, some))
+rest_after start (run ∷ runs) d docs some remain below =
     let same : run.last + 2 ≡ run.last + 1 + 1 = omega arith in
-    record { end = run.last + 1; below = below; apart = subst (λ n. Apart n runs) same ahead.1.3 }
+    record { end = run.last + 1; below = below; apart = subst (λ n. Apart n runs) same remain.1.3 }
 
 -- the first of the runs is swept, and then the others
-pub sweeps_runs : (start : ℕ) (runs : List Run) (d : Run) (old mid new : List ℕ) → 0 < length runs → Ahead start runs
+pub sweeps_runs : (start : ℕ) (runs : List Run) (d : Run) (old mid new : List ℕ) → 0 < length runs → RemainFrom start runs
     → ((test : ℕ → Bool) → Swept test start old → ((doc : ℕ) → start ≤ doc → doc < (get_or runs 0 d).last + 1 → test doc ≡ nat_le (max start (get_or runs 0 d).first) doc) → Swept test ((get_or runs 0 d).last + 1) mid)
     → new ≡ mid ++ docs_of (drop 1 runs) → SweepsRuns start runs old new
-sweeps_runs start [] d old mid new some ahead first is = absurd (omega (arith, some))
-sweeps_runs start (run ∷ runs) d old mid new some ahead first is = λ test swept same.
+sweeps_runs start [] d old mid new some remain first is = absurd (omega (arith, some))
+sweeps_runs start (run ∷ runs) d old mid new some remain first is = λ test swept same.
     let same_end : run.last + 2 ≡ run.last + 1 + 1 = omega arith in
-    let apart : Apart (run.last + 1 + 1) runs = subst (λ n. Apart n runs) same_end ahead.1.3 in
+    let apart : Apart (run.last + 1 + 1) runs = subst (λ n. Apart n runs) same_end remain.1.3 in
     let from : Apart (run.last + 1) runs = apart_less (run.last + 1 + 1) (run.last + 1) runs (omega arith) apart in
     let least = next_least (run.last + 1) runs from in
-    let onwards = ahead.0 in
+    let onwards = remain.0 in
     let one : Swept test (run.last + 1) mid = first test swept (λ doc le lt.
-    same doc le (omega (arith, lt, least)) ∙ first_has (run ∷ runs) d doc (omega arith) ahead.1 (omega (arith, lt)) ∙ sooner_begun (nat_le run.first doc) run.first start doc le refl) in
+    same doc le (omega (arith, lt, least)) ∙ first_has (run ∷ runs) d doc (omega arith) remain.1 (omega (arith, lt)) ∙ sooner_begun (nat_le run.first doc) run.first start doc le refl) in
     swept_rest test (run.last + 1) runs mid new apart is one (λ doc le lt.
     same doc (omega (arith, le, onwards)) lt ∙ ap (λ b. b || in_runs runs doc) (run_before run doc (omega (arith, le))))
 
@@ -135,9 +135,9 @@ pub front_apart : (from : ℕ) (alone more : List Run) → Apart from (alone ++ 
 front_apart from [] more apart = tt
 front_apart from (run ∷ alone) more apart = (apart.0, apart.1, apart.2, front_apart (run.last + 2) alone more apart.3)
 
-after_ahead : (end : ℕ) (runs : List Run) → Apart (end + 1) runs → Ahead end runs
-after_ahead end [] apart = tt
-after_ahead end (run ∷ runs) apart = (omega (arith, apart.0, apart.1), (omega arith, apart.1, apart.2, apart.3))
+after_remain : (end : ℕ) (runs : List Run) → Apart (end + 1) runs → RemainFrom end runs
+after_remain end [] apart = tt
+after_remain end (run ∷ runs) apart = (omega (arith, apart.0, apart.1), (omega arith, apart.1, apart.2, apart.3))
 
 gone_by : (from doc : ℕ) (runs : List Run) → Apart from runs → next_from from runs ≤ doc → in_runs runs doc ≡ false
 gone_by from doc [] apart le = refl
@@ -155,9 +155,9 @@ pub not_theirs : (theirs : List Run) (doc : ℕ) → Apart 0 theirs → doc < fi
 not_theirs [] doc apart lt = refl
 not_theirs (run ∷ theirs) doc apart lt = before_first run theirs doc apart lt
 
-theirs_ahead : (start end : ℕ) (theirs : List Run) → Ahead start theirs → end ≤ first_in theirs → Ahead end theirs
-theirs_ahead start end [] ahead le = tt
-theirs_ahead start end (run ∷ theirs) ahead le = (let order = ahead.1.1 in omega (arith, le, order), ahead.1)
+theirs_remain : (start end : ℕ) (theirs : List Run) → RemainFrom start theirs → end ≤ first_in theirs → RemainFrom end theirs
+theirs_remain start end [] remain le = tt
+theirs_remain start end (run ∷ theirs) remain le = (let order = remain.1.1 in omega (arith, le, order), remain.1)
 
 -- what is known of the runs that come before the other list's
 pub record Parted (start : ℕ) (ours theirs alone more : List Run) : Type 0 where
@@ -177,14 +177,14 @@ pub join_alone : (start doc : ℕ) (a b docs : List ℕ) (ours theirs alone more
     → start ≤ doc → doc < next_from 0 alone → has_doc a doc || has_doc b doc ≡ in_runs alone doc
 join_alone start doc a b docs ours theirs alone more walk known from to =
     ap (λ x. x || has_doc b doc) (left_has start doc a ours walk.first from ∙ parted_has start ours theirs alone more doc known to)
-    ∙ ap (λ y. in_runs alone doc || y) (left_has start doc b theirs walk.second from ∙ not_theirs theirs doc (ahead_apart start theirs walk.second.ahead) (omega (arith, to, known.before)))
+    ∙ ap (λ y. in_runs alone doc || y) (left_has start doc b theirs walk.second from ∙ not_theirs theirs doc (remain_apart start theirs walk.second.remain) (omega (arith, to, known.before)))
     ∙ or_false (in_runs alone doc)
 
 pub without_alone : (start doc : ℕ) (a b docs : List ℕ) (ours theirs alone more : List Run) → Walk (λ doc. has_doc a doc && not (has_doc b doc)) start a b docs ours theirs → Parted start ours theirs alone more
     → start ≤ doc → doc < next_from 0 alone → has_doc a doc && not (has_doc b doc) ≡ in_runs alone doc
 without_alone start doc a b docs ours theirs alone more walk known from to =
     ap (λ x. x && not (has_doc b doc)) (left_has start doc a ours walk.first from ∙ parted_has start ours theirs alone more doc known to)
-    ∙ ap (λ y. in_runs alone doc && not y) (left_has start doc b theirs walk.second from ∙ not_theirs theirs doc (ahead_apart start theirs walk.second.ahead) (omega (arith, to, known.before)))
+    ∙ ap (λ y. in_runs alone doc && not y) (left_has start doc b theirs walk.second from ∙ not_theirs theirs doc (remain_apart start theirs walk.second.remain) (omega (arith, to, known.before)))
     ∙ and_true (in_runs alone doc)
 
 -- the walk goes on after them
@@ -196,19 +196,19 @@ alone_next test start a b docs added ours theirs alone more walk known swept =
     let same : SameFrom end ours more = λ doc le.
     sym (ap (λ rs. in_runs rs doc) known.parts ∙ both_in alone more doc ∙ ap (λ b. b || in_runs more doc) (gone_by 0 doc alone (front_apart 0 alone more known.apart) le)) in
     let onwards = known.onwards in
-    walk_next test start end a b docs ours theirs more theirs added walk (omega (arith, onwards)) swept (after_ahead end more after) same
-    (theirs_ahead start end theirs walk.second.ahead known.before) (λ doc from. refl)
+    walk_next test start end a b docs ours theirs more theirs added walk (omega (arith, onwards)) swept (after_remain end more after) same
+    (theirs_remain start end theirs walk.second.remain known.before) (λ doc from. refl)
 
 -- the first runs, so many as were counted
-pub parted : (start count : ℕ) (ours theirs : List Run) → 0 < count → count ≤ length ours → next_from 0 (take count ours) ≤ first_in theirs → Ahead start ours → Parted start ours theirs (take count ours) (drop count ours)
-parted start zero ours theirs some le before ahead = absurd (omega (arith, some))
-parted start (suc count) [] theirs some le before ahead = absurd (omega (arith, le))
-parted start (suc count) (run ∷ ours) theirs some le before ahead =
+pub parted : (start count : ℕ) (ours theirs : List Run) → 0 < count → count ≤ length ours → next_from 0 (take count ours) ≤ first_in theirs → RemainFrom start ours → Parted start ours theirs (take count ours) (drop count ours)
+parted start zero ours theirs some le before remain = absurd (omega (arith, some))
+parted start (suc count) [] theirs some le before remain = absurd (omega (arith, le))
+parted start (suc count) (run ∷ ours) theirs some le before remain =
     let whole : run ∷ ours ≡ take (suc count) (run ∷ ours) ++ drop (suc count) (run ∷ ours) = sym (take-append-drop (suc count) (run ∷ ours)) in
-    let apart : Apart 0 (take (suc count) (run ∷ ours) ++ drop (suc count) (run ∷ ours)) = subst (Apart 0) whole ahead.1 in
+    let apart : Apart 0 (take (suc count) (run ∷ ours) ++ drop (suc count) (run ∷ ours)) = subst (Apart 0) whole remain.1 in
     let own : Apart 0 (run ∷ take count ours) = front_apart 0 (take (suc count) (run ∷ ours)) (drop (suc count) (run ∷ ours)) apart in
     let least = next_least (run.last + 1) (take count ours) (apart_less (run.last + 2) (run.last + 1) (take count ours) (omega arith) own.3) in
-    let first = ahead.0 in record {
+    let first = remain.0 in record {
       parts = whole;
       some = omega arith;
       apart = apart;
@@ -216,10 +216,10 @@ parted start (suc count) (run ∷ ours) theirs some le before ahead =
       before = before;
     }
 
-pub parted_ahead : (start : ℕ) (ours theirs alone more : List Run) → Ahead start ours → Parted start ours theirs alone more → Ahead start alone
-parted_ahead start ours theirs [] more ahead known = tt
-parted_ahead start ours theirs (run ∷ alone) more ahead known =
-    let whole : Ahead start (run ∷ alone ++ more) = subst (Ahead start) known.parts ahead in (whole.0, front_apart 0 (run ∷ alone) more known.apart)
+pub parted_remain : (start : ℕ) (ours theirs alone more : List Run) → RemainFrom start ours → Parted start ours theirs alone more → RemainFrom start alone
+parted_remain start ours theirs [] more remain known = tt
+parted_remain start ours theirs (run ∷ alone) more remain known =
+    let whole : RemainFrom start (run ∷ alone ++ more) = subst (RemainFrom start) known.parts remain in (whole.0, front_apart 0 (run ∷ alone) more known.apart)
 
 -- one run more ends before a document
 pub before_more : (runs : List Run) (count doc : ℕ) (d : Run) → count < length runs → (get_or runs count d).last < doc → next_from 0 (take (count + 1) runs) ≤ doc

@@ -7,7 +7,7 @@ use Rattle.std.proofs.lemmas.Bool.{cases_lt, leb-true, leb-false, le-leb, lt-leb
 use Rattle.std.proofs.lemmas.List.Elements.{All-append, All-cons, All-nil}
 use Rattle.std.proofs.lemmas.List.Folds.{list_any-append, list_any_none}
 use Rattle.doc_lists.specs.Docs.{Apart, docs_of, docs_of_run, has_doc}
-use Rattle.doc_lists.specs.Sets.{Ahead, AreThose, IsSooner, Left, SameFrom, Swept, Up, ends_before, in_run, in_runs}
+use Rattle.doc_lists.specs.Sets.{RemainFrom, AreThose, IsSooner, Left, SameFrom, Swept, Up, ends_before, in_run, in_runs}
 use Rattle.doc_lists.specs.declared.run.Run.{Run}
 use Rattle.doc_lists.proofs.Runs.{apart_less, up_from_less, up_increasing}
 
@@ -86,21 +86,21 @@ before_first run runs doc apart lt =
     ap (λ b. b || in_runs runs doc) (run_after run doc lt)
     ∙ apart_none (run.last + 2) runs doc apart.3 (omega (arith, lt, apart.1))
 
-pub reaches_is : (runs : List Run) (d : Run) (doc : ℕ) → 1 ≤ length runs → Ahead doc runs → nat_le (get_or runs 0 d).first doc ≡ in_runs runs doc
-reaches_is [] d doc some ahead = absurd (omega (arith, some))
-reaches_is (run ∷ runs) d doc some ahead =
+pub reaches_is : (runs : List Run) (d : Run) (doc : ℕ) → 1 ≤ length runs → RemainFrom doc runs → nat_le (get_or runs 0 d).first doc ≡ in_runs runs doc
+reaches_is [] d doc some remain = absurd (omega (arith, some))
+reaches_is (run ∷ runs) d doc some remain =
     elim (cases_lt doc run.first) [
-      | inl lt ↦ lt-leb run.first doc lt ∙ sym (before_first run runs doc ahead.1 lt)
-      | inr le ↦ le-leb run.first doc le ∙ sym (in_first run runs doc le ahead.0)
+      | inl lt ↦ lt-leb run.first doc lt ∙ sym (before_first run runs doc remain.1 lt)
+      | inr le ↦ le-leb run.first doc le ∙ sym (in_first run runs doc le remain.0)
     ]
 
-pub gap_is : (runs : List Run) (d : Run) (start doc : ℕ) → 1 ≤ length runs → Ahead start runs → start ≤ doc → doc < (get_or runs 0 d).first → in_runs runs doc ≡ in_runs runs start
-gap_is [] d start doc some ahead from to = absurd (omega (arith, some))
-gap_is (run ∷ runs) d start doc some ahead from to = before_first run runs doc ahead.1 to ∙ sym (before_first run runs start ahead.1 (omega (arith, from, to)))
+pub gap_is : (runs : List Run) (d : Run) (start doc : ℕ) → 1 ≤ length runs → RemainFrom start runs → start ≤ doc → doc < (get_or runs 0 d).first → in_runs runs doc ≡ in_runs runs start
+gap_is [] d start doc some remain from to = absurd (omega (arith, some))
+gap_is (run ∷ runs) d start doc some remain from to = before_first run runs doc remain.1 to ∙ sym (before_first run runs start remain.1 (omega (arith, from, to)))
 
-pub run_is : (runs : List Run) (d : Run) (start doc : ℕ) → 1 ≤ length runs → Ahead start runs → (get_or runs 0 d).first ≤ start → start ≤ doc → doc < (get_or runs 0 d).last + 1 → in_runs runs doc ≡ in_runs runs start
-run_is [] d start doc some ahead first from to = absurd (omega (arith, some))
-run_is (run ∷ runs) d start doc some ahead first from to = in_first run runs doc (omega (arith, first, from)) (omega (arith, to)) ∙ sym (in_first run runs start first ahead.0)
+pub run_is : (runs : List Run) (d : Run) (start doc : ℕ) → 1 ≤ length runs → RemainFrom start runs → (get_or runs 0 d).first ≤ start → start ≤ doc → doc < (get_or runs 0 d).last + 1 → in_runs runs doc ≡ in_runs runs start
+run_is [] d start doc some remain first from to = absurd (omega (arith, some))
+run_is (run ∷ runs) d start doc some remain first from to = in_first run runs doc (omega (arith, first, from)) (omega (arith, to)) ∙ sym (in_first run runs start first remain.0)
 
 -- ---- runs that end too soon are left out
 
@@ -154,7 +154,7 @@ no_second : (s t : Bool) → s ≡ true → s && t ≡ false → t ≡ false
 no_second true t e fails = fails
 no_second false t e fails = absurd cc
 
-pub no_first : (runs : List Run) (doc : ℕ) → Apart 0 runs → ends_before runs 1 doc ≡ false → Ahead doc runs
+pub no_first : (runs : List Run) (doc : ℕ) → Apart 0 runs → ends_before runs 1 doc ≡ false → RemainFrom doc runs
 no_first [] doc apart fails = tt
 no_first (run ∷ runs) doc apart fails =
     let there : nat_le 1 (length (run ∷ runs)) ≡ true = le-leb 1 (length (run ∷ runs)) (omega arith) in
@@ -231,27 +231,27 @@ swept_no test start end old order swept none = record {
 
 -- ---- the whole sweep
 
-pub all_ahead : (runs : List Run) → Apart 0 runs → Ahead 0 runs
-all_ahead [] apart = tt
-all_ahead (run ∷ runs) apart = (omega arith, apart)
+pub all_remain : (runs : List Run) → Apart 0 runs → RemainFrom 0 runs
+all_remain [] apart = tt
+all_remain (run ∷ runs) apart = (omega arith, apart)
 
 pub left_first : (docs : List ℕ) (runs : List Run) → docs_of runs ≡ docs → Apart 0 runs → Left 0 docs runs
 left_first docs runs is apart = record {
-  ahead = all_ahead runs apart;
+  remain = all_remain runs apart;
   same = (λ doc from. sym (has_runs runs doc) ∙ ap (λ xs. has_doc xs doc) is);
 }
 
-pub ahead_apart : (doc : ℕ) (runs : List Run) → Ahead doc runs → Apart 0 runs
-ahead_apart doc [] ahead = tt
-ahead_apart doc (run ∷ runs) ahead = ahead.1
+pub remain_apart : (doc : ℕ) (runs : List Run) → RemainFrom doc runs → Apart 0 runs
+remain_apart doc [] remain = tt
+remain_apart doc (run ∷ runs) remain = remain.1
 
-pub ahead_first : (start : ℕ) (runs : List Run) (d : Run) (doc : ℕ) → 0 < length runs → Ahead start runs → doc ≤ (get_or runs 0 d).last → Ahead doc runs
-ahead_first start [] d doc some ahead le = tt
-ahead_first start (run ∷ runs) d doc some ahead le = (le, ahead.1)
+pub remain_first : (start : ℕ) (runs : List Run) (d : Run) (doc : ℕ) → 0 < length runs → RemainFrom start runs → doc ≤ (get_or runs 0 d).last → RemainFrom doc runs
+remain_first start [] d doc some remain le = tt
+remain_first start (run ∷ runs) d doc some remain le = (le, remain.1)
 
-pub left_next : (start end : ℕ) (docs : List ℕ) (old new : List Run) → start ≤ end → Left start docs old → Ahead end new → SameFrom end old new → Left end docs new
-left_next start end docs old new order left ahead same = record {
-  ahead = ahead;
+pub left_next : (start end : ℕ) (docs : List ℕ) (old new : List Run) → start ≤ end → Left start docs old → RemainFrom end new → SameFrom end old new → Left end docs new
+left_next start end docs old new order left remain same = record {
+  remain = remain;
   same = (λ doc from. same doc from ∙ left.same doc (omega (arith, from, order)));
 }
 
@@ -265,7 +265,7 @@ first_has [] d doc some apart le = absurd (omega (arith, some))
 first_has (run ∷ runs) d doc some apart le = sym (reaches_is (run ∷ runs) d doc (omega arith) (le, apart))
 
 pub left_begun : (start doc : ℕ) (docs : List ℕ) (runs : List Run) (d : Run) → 0 < length runs → Left start docs runs → start ≤ doc → doc ≤ (get_or runs 0 d).last → has_doc docs doc ≡ nat_le (get_or runs 0 d).first doc
-left_begun start doc docs runs d some left from to = left_has start doc docs runs left from ∙ first_has runs d doc some (ahead_apart start runs left.ahead) to
+left_begun start doc docs runs d some left from to = left_has start doc docs runs left from ∙ first_has runs d doc some (remain_apart start runs left.remain) to
 
 -- what is known of the first run
 pub record First (start : ℕ) (run : Run) : Type 0 where
@@ -273,18 +273,18 @@ pub record First (start : ℕ) (run : Run) : Type 0 where
   pub order : run.first ≤ run.last
   pub within : run.last < 2 ^ 32
 
-pub first_known : (start : ℕ) (runs : List Run) (d : Run) → 0 < length runs → Ahead start runs → First start (get_or runs 0 d)
-first_known start [] d some ahead = absurd (omega (arith, some))
-first_known start (run ∷ runs) d some ahead = record { onwards = ahead.0; order = ahead.1.1; within = ahead.1.2 }
+pub first_known : (start : ℕ) (runs : List Run) (d : Run) → 0 < length runs → RemainFrom start runs → First start (get_or runs 0 d)
+first_known start [] d some remain = absurd (omega (arith, some))
+first_known start (run ∷ runs) d some remain = record { onwards = remain.0; order = remain.1.1; within = remain.1.2 }
 
 none_in : (start doc : ℕ) (docs : List ℕ) (runs : List Run) (d : Run) → 0 < length runs → Left start docs runs → start ≤ doc → doc < (get_or runs 0 d).first → has_doc docs doc ≡ false
 none_in start doc docs runs d some left from to =
-    let order = (first_known start runs d some left.ahead).order in
+    let order = (first_known start runs d some left.remain).order in
     left_begun start doc docs runs d some left from (omega (arith, to, order)) ∙ lt-leb (get_or runs 0 d).first doc to
 
 -- ---- the first runs are left out
 
-nearest : (runs : List Run) (d : Run) (doc : ℕ) → 0 < length runs → Apart 0 runs → doc ≤ (get_or runs 0 d).last + 1 → (get_or runs 0 d).last < doc → Ahead doc (drop 1 runs)
+nearest : (runs : List Run) (d : Run) (doc : ℕ) → 0 < length runs → Apart 0 runs → doc ≤ (get_or runs 0 d).last + 1 → (get_or runs 0 d).last < doc → RemainFrom doc (drop 1 runs)
 nearest [] d doc some apart near lt = absurd (omega (arith, some))
 nearest (run ∷ []) d doc some apart near lt = tt
 nearest (run ∷ next ∷ runs) d doc some apart near lt =
@@ -292,17 +292,17 @@ nearest (run ∷ next ∷ runs) d doc some apart near lt =
 
 -- the runs without the first, where it ends too soon
 pub record Without (doc : ℕ) (old new : List Run) : Type 0 where
-  pub ahead : Ahead doc new
+  pub remain : RemainFrom doc new
   pub same : SameFrom doc old new
 
 pub first_out : (t : Bool) (runs : List Run) (d : Run) (doc : ℕ) → 0 < length runs → Apart 0 runs → doc ≤ (get_or runs 0 d).last + 1 → nat_lt (get_or runs 0 d).last doc ≡ t → Without doc runs (drop (bool_byte t) runs)
 first_out true runs d doc some apart near e =
     let lt = ltb-true (get_or runs 0 d).last doc e in record {
-      ahead = nearest runs d doc some apart near lt;
+      remain = nearest runs d doc some apart near lt;
       same = skip_same 0 0 doc runs d apart some lt;
     }
 first_out false [] d doc some apart near e = absurd (omega (arith, some))
-first_out false (run ∷ runs) d doc some apart near e = record { ahead = (ltb-false run.last doc e, apart); same = (λ other from. refl) }
+first_out false (run ∷ runs) d doc some apart near e = record { remain = (ltb-false run.last doc e, apart); same = (λ other from. refl) }
 
 -- ---- a step of each walk
 
@@ -330,47 +330,47 @@ walk_done test start a b docs ours theirs walk none = record {
 }
 
 -- the runs of a list are passed over up to a document, where the other list's first run begins there
-pub far_start : (runs : List Run) (start doc count : ℕ) → Ahead start runs → 1 ≤ count → ends_before runs count doc ≡ true → start < doc
-far_start [] start doc zero ahead some held = absurd (omega (arith, some))
-far_start [] start doc (suc count) ahead some held = absurd (let none = step_within [] doc (suc count) held in omega (arith, none))
-far_start (run ∷ runs) start doc count ahead some held =
+pub far_start : (runs : List Run) (start doc count : ℕ) → RemainFrom start runs → 1 ≤ count → ends_before runs count doc ≡ true → start < doc
+far_start [] start doc zero remain some held = absurd (omega (arith, some))
+far_start [] start doc (suc count) remain some held = absurd (let none = step_within [] doc (suc count) held in omega (arith, none))
+far_start (run ∷ runs) start doc count remain some held =
     let parts = yes_both (nat_le count (length (run ∷ runs))) (nat_lt (get_or (run ∷ runs) (count - 1) (record { first = 0; last = 0 })).last doc) held in
     let less = ltb-true (get_or (run ∷ runs) (count - 1) (record { first = 0; last = 0 })).last doc parts.1 in
     let within = step_within (run ∷ runs) doc count held in
-    let last = last_grows run runs (count - 1) (record { first = 0; last = 0 }) ahead.1 (omega (arith, within, some)) in
-    omega (arith, ahead.0, last, less)
+    let last = last_grows run runs (count - 1) (record { first = 0; last = 0 }) remain.1 (omega (arith, within, some)) in
+    omega (arith, remain.0, last, less)
 
 both_no : (x y : Bool) → (x ≡ false) ⊎ (y ≡ false) → x && y ≡ false
 both_no x y (inl is) = ap (λ b. b && y) is
 both_no x y (inr is) = ap (λ b. x && b) is ∙ and_false x
 
 pub meet_far_ours : (start : ℕ) (a b docs : List ℕ) (ours theirs new : List Run) (d : Run) → Walk (λ doc. has_doc a doc && has_doc b doc) start a b docs ours theirs → 0 < length theirs → start < (get_or theirs 0 d).first
-    → Ahead (get_or theirs 0 d).first new → SameFrom (get_or theirs 0 d).first ours new → Walk (λ doc. has_doc a doc && has_doc b doc) (get_or theirs 0 d).first a b docs new theirs
-meet_far_ours start a b docs ours theirs new d walk some more ahead same =
+    → RemainFrom (get_or theirs 0 d).first new → SameFrom (get_or theirs 0 d).first ours new → Walk (λ doc. has_doc a doc && has_doc b doc) (get_or theirs 0 d).first a b docs new theirs
+meet_far_ours start a b docs ours theirs new d walk some more remain same =
     let doc = (get_or theirs 0 d).first in
-    let known = first_known start theirs d some walk.second.ahead in record {
+    let known = first_known start theirs d some walk.second.remain in record {
       swept = swept_no (λ doc. has_doc a doc && has_doc b doc) start doc docs (omega (arith, more)) walk.swept
           (λ other from to. both_no (has_doc a other) (has_doc b other) (inr (none_in start other b theirs d some walk.second from to)));
-      first = left_next start doc a ours new (omega (arith, more)) walk.first ahead same;
-      second = left_next start doc b theirs theirs (omega (arith, more)) walk.second (ahead_first start theirs d doc some walk.second.ahead (omega (arith, known.order))) (λ other from. refl);
+      first = left_next start doc a ours new (omega (arith, more)) walk.first remain same;
+      second = left_next start doc b theirs theirs (omega (arith, more)) walk.second (remain_first start theirs d doc some walk.second.remain (omega (arith, known.order))) (λ other from. refl);
     }
 
 pub meet_far_theirs : (start : ℕ) (a b docs : List ℕ) (ours theirs new : List Run) (d : Run) → Walk (λ doc. has_doc a doc && has_doc b doc) start a b docs ours theirs → 0 < length ours → start < (get_or ours 0 d).first
-    → Ahead (get_or ours 0 d).first new → SameFrom (get_or ours 0 d).first theirs new → Walk (λ doc. has_doc a doc && has_doc b doc) (get_or ours 0 d).first a b docs ours new
-meet_far_theirs start a b docs ours theirs new d walk some more ahead same =
+    → RemainFrom (get_or ours 0 d).first new → SameFrom (get_or ours 0 d).first theirs new → Walk (λ doc. has_doc a doc && has_doc b doc) (get_or ours 0 d).first a b docs ours new
+meet_far_theirs start a b docs ours theirs new d walk some more remain same =
     let doc = (get_or ours 0 d).first in
-    let known = first_known start ours d some walk.first.ahead in record {
+    let known = first_known start ours d some walk.first.remain in record {
       swept = swept_no (λ doc. has_doc a doc && has_doc b doc) start doc docs (omega (arith, more)) walk.swept
           (λ other from to. both_no (has_doc a other) (has_doc b other) (inl (none_in start other a ours d some walk.first from to)));
-      first = left_next start doc a ours ours (omega (arith, more)) walk.first (ahead_first start ours d doc some walk.first.ahead (omega (arith, known.order))) (λ other from. refl);
-      second = left_next start doc b theirs new (omega (arith, more)) walk.second ahead same;
+      first = left_next start doc a ours ours (omega (arith, more)) walk.first (remain_first start ours d doc some walk.first.remain (omega (arith, known.order))) (λ other from. refl);
+      second = left_next start doc b theirs new (omega (arith, more)) walk.second remain same;
     }
 
 pub walk_next : (test : ℕ → Bool) (start end : ℕ) (a b docs : List ℕ) (ours theirs more other : List Run) (added : List ℕ) → Walk test start a b docs ours theirs → start ≤ end → Swept test end added
-    → Ahead end more → SameFrom end ours more → Ahead end other → SameFrom end theirs other → Walk test end a b added more other
-walk_next test start end a b docs ours theirs more other added walk order swept ahead same aside alike = record {
+    → RemainFrom end more → SameFrom end ours more → RemainFrom end other → SameFrom end theirs other → Walk test end a b added more other
+walk_next test start end a b docs ours theirs more other added walk order swept remain same aside alike = record {
   swept = swept;
-  first = left_next start end a ours more order walk.first ahead same;
+  first = left_next start end a ours more order walk.first remain same;
   second = left_next start end b theirs other order walk.second aside alike;
 }
 
@@ -422,31 +422,31 @@ begun_in (run ∷ runs) d doc some apart held =
     ]
 
 -- the first run of the one list, where the other has none or begins with it or later
-sooner_one : (start : ℕ) (ours theirs : List Run) (d : Run) → 0 < length ours → (length theirs ≡ 0) ⊎ ((0 < length theirs) × ((get_or ours 0 d).first ≤ (get_or theirs 0 d).first)) → Ahead start ours → Ahead start theirs
+sooner_one : (start : ℕ) (ours theirs : List Run) (d : Run) → 0 < length ours → (length theirs ≡ 0) ⊎ ((0 < length theirs) × ((get_or ours 0 d).first ≤ (get_or theirs 0 d).first)) → RemainFrom start ours → RemainFrom start theirs
     → (doc : ℕ) → start ≤ doc → doc ≤ (get_or ours 0 d).last → in_runs ours doc || in_runs theirs doc ≡ nat_le (get_or ours 0 d).first doc
-sooner_one start ours [] d some (inl none) ahead aside doc from to = or_false (in_runs ours doc) ∙ first_has ours d doc some (ahead_apart start ours ahead) to
-sooner_one start ours [] d some (inr later) ahead aside doc from to = absurd (omega (arith, later.0))
-sooner_one start ours (other ∷ theirs) d some (inl none) ahead aside doc from to = absurd (omega (arith, none))
-sooner_one start ours (other ∷ theirs) d some (inr later) ahead aside doc from to =
-    ap (λ x. x || in_runs (other ∷ theirs) doc) (first_has ours d doc some (ahead_apart start ours ahead) to)
+sooner_one start ours [] d some (inl none) remain aside doc from to = or_false (in_runs ours doc) ∙ first_has ours d doc some (remain_apart start ours remain) to
+sooner_one start ours [] d some (inr later) remain aside doc from to = absurd (omega (arith, later.0))
+sooner_one start ours (other ∷ theirs) d some (inl none) remain aside doc from to = absurd (omega (arith, none))
+sooner_one start ours (other ∷ theirs) d some (inr later) remain aside doc from to =
+    ap (λ x. x || in_runs (other ∷ theirs) doc) (first_has ours d doc some (remain_apart start ours remain) to)
     ∙ either_by (nat_le (get_or ours 0 d).first doc) (in_runs (other ∷ theirs) doc) (get_or ours 0 d).first other.first doc later.1 refl (begun_in (other ∷ theirs) d doc later.0 aside.1)
 
-pub is_sooner_ours : (start : ℕ) (ours theirs : List Run) (d : Run) → 0 < length ours → (length theirs ≡ 0) ⊎ ((0 < length theirs) × ((get_or ours 0 d).first ≤ (get_or theirs 0 d).first)) → Ahead start ours → Ahead start theirs
+pub is_sooner_ours : (start : ℕ) (ours theirs : List Run) (d : Run) → 0 < length ours → (length theirs ≡ 0) ⊎ ((0 < length theirs) × ((get_or ours 0 d).first ≤ (get_or theirs 0 d).first)) → RemainFrom start ours → RemainFrom start theirs
     → IsSooner start ours theirs (get_or ours 0 d)
-is_sooner_ours start ours theirs d some later ahead aside =
-    let known = first_known start ours d some ahead in record {
+is_sooner_ours start ours theirs d some later remain aside =
+    let known = first_known start ours d some remain in record {
       within = known.within;
       onwards = known.onwards;
-      those = sooner_one start ours theirs d some later ahead aside;
+      those = sooner_one start ours theirs d some later remain aside;
     }
 
-pub is_sooner_theirs : (start : ℕ) (ours theirs : List Run) (d : Run) → 0 < length theirs → (length ours ≡ 0) ⊎ ((0 < length ours) × ((get_or theirs 0 d).first ≤ (get_or ours 0 d).first)) → Ahead start ours → Ahead start theirs
+pub is_sooner_theirs : (start : ℕ) (ours theirs : List Run) (d : Run) → 0 < length theirs → (length ours ≡ 0) ⊎ ((0 < length ours) × ((get_or theirs 0 d).first ≤ (get_or ours 0 d).first)) → RemainFrom start ours → RemainFrom start theirs
     → IsSooner start ours theirs (get_or theirs 0 d)
-is_sooner_theirs start ours theirs d some later ahead aside =
+is_sooner_theirs start ours theirs d some later remain aside =
     let known = first_known start theirs d some aside in record {
       within = known.within;
       onwards = known.onwards;
-      those = λ doc from to. or_swap (in_runs ours doc) (in_runs theirs doc) ∙ sooner_one start theirs ours d some later aside ahead doc from to;
+      those = λ doc from to. or_swap (in_runs ours doc) (in_runs theirs doc) ∙ sooner_one start theirs ours d some later aside remain doc from to;
     }
 
 pub sooner_begun : (t : Bool) (first start doc : ℕ) → start ≤ doc → nat_le first doc ≡ t → t ≡ nat_le (max start first) doc

@@ -19,9 +19,9 @@ abbrev pub in_runs : List Run → ℕ → Bool
 in_runs runs doc = list_any (in_run doc) runs
 
 -- runs apart, the first of which ends at a document or after it
-abbrev pub Ahead : ℕ → List Run → Type 0
-Ahead doc [] = Unit {0}
-Ahead doc (run ∷ runs) = (doc ≤ run.last) × Apart 0 (run ∷ runs)
+abbrev pub RemainFrom : ℕ → List Run → Type 0
+RemainFrom doc [] = Unit {0}
+RemainFrom doc (run ∷ runs) = (doc ≤ run.last) × Apart 0 (run ∷ runs)
 
 -- whether there are so many runs and the last of them ends before a document
 abbrev pub ends_before : List Run → ℕ → ℕ → Bool
@@ -44,7 +44,7 @@ first_in (run ∷ runs) = run.first
 
 -- runs with the documents of a list from one on
 pub record Left (from : ℕ) (docs : List ℕ) (runs : List Run) : Type 0 where
-  pub ahead : Ahead from runs
+  pub remain : RemainFrom from runs
   pub same : (doc : ℕ) → from ≤ doc → in_runs runs doc ≡ has_doc docs doc
 
 -- numbers that ascend from one on

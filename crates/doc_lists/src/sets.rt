@@ -1,7 +1,7 @@
 //! The documents that two lists have in common or apart.
 ghost use Rattle.std.specs.Prelude.{◌≡◌, ◌≤◌, ◌<◌, ◌+◌, ◌&&◌, ◌||◌, ◌^◌, ◌⊎◌, ℕ, Bool, not, nat_le, All, drop, take, get_or, length, IfOk, OnOk};
 ghost use Rattle.doc_lists.specs.Docs.{Apart, has_doc, next_from};
-ghost use Rattle.doc_lists.specs.Sets.{Ahead, AreThose, IsSooner, SameFrom, Swept, SweepsRuns, ends_before, first_in, in_runs};
+ghost use Rattle.doc_lists.specs.Sets.{RemainFrom, AreThose, IsSooner, SameFrom, Swept, SweepsRuns, ends_before, first_in, in_runs};
 
 use crate::doc_list::next_after;
 use crate::{DocList, NoMemory, Run};
@@ -127,7 +127,7 @@ fn first_of(runs: &[Run]) -> u64
 // The run that begins sooner, of the first runs of two lists.
 fn sooner(ours: &[Run], theirs: &[Run]) -> Run
     requires some { (0 < length ours.now) ⊎ (0 < length theirs.now) }
-    ensures { (start : ℕ) → Ahead start ours.now → Ahead start theirs.now →
+    ensures { (start : ℕ) → RemainFrom start ours.now → RemainFrom start theirs.now →
         IsSooner start ours.now theirs.now result }
 {
     if theirs.is_empty() {
@@ -145,7 +145,7 @@ fn sooner(ours: &[Run], theirs: &[Run]) -> Run
 
 // Whether a document is in runs that do not end before it.
 fn reaches(runs: &[Run], doc: u64) -> bool
-    requires { Ahead doc runs.now }
+    requires { RemainFrom doc runs.now }
     ensures { result ≡ in_runs runs.now doc }
 {
     match runs {
@@ -156,7 +156,7 @@ fn reaches(runs: &[Run], doc: u64) -> bool
 
 // Up to where the documents from one on are all in the runs, or all of them are not.
 fn end_of_stretch(runs: &[Run], start: u64) -> u64
-    requires ahead { Ahead start runs.now }
+    requires remain { RemainFrom start runs.now }
     requires within { start < 2 ^ 32 }
     ensures onwards { start < result }
     ensures within { result ≤ 2 ^ 32 }
@@ -174,7 +174,7 @@ fn end_of_stretch(runs: &[Run], start: u64) -> u64
 // time, and half as many where that is too far.
 fn left_from(runs: &[Run], doc: u64) -> &[Run]
     requires { Apart 0 runs.now }
-    ensures ahead { Ahead doc result.now }
+    ensures remain { RemainFrom doc result.now }
     ensures same { SameFrom doc runs.now result.now }
 {
     let mut left = runs;
@@ -219,7 +219,7 @@ fn without_first(runs: &[Run], doc: u64) -> &[Run]
     requires some { 0 < length runs.now }
     requires apart { Apart 0 runs.now }
     requires near { (d : Run) → doc ≤ (get_or runs.now 0 d).last + 1 }
-    ensures ahead { Ahead doc result.now }
+    ensures remain { RemainFrom doc result.now }
     ensures same { SameFrom doc runs.now result.now }
 {
     &runs[((runs[0].last as u64) < doc) as usize..]
@@ -249,7 +249,7 @@ fn push_from(docs: &mut DocList, start: u64, first: u64, end: u64) -> Result<(),
 // Adds the documents of runs from one of them on, and says up to where they are.
 fn push_runs_from(docs: &mut DocList, start: u64, runs: &[Run]) -> Result<u64, NoMemory>
     requires some { 0 < length runs.now }
-    requires ahead { Ahead start runs.now }
+    requires remain { RemainFrom start runs.now }
     requires above { All (λ doc. doc < start) docs.old }
     ensures end { IfOk result (λ end. end ≡ next_from 0 runs.now) }
     ensures swept { OnOk result (SweepsRuns start runs.now docs.old docs.new) }

@@ -59,21 +59,21 @@ unfoldable pub keyword : Bytes → Kind
 keyword = lookup keywords
 
 -- a token without a number
-abbrev pub plain : Kind → ℕ → Token
-plain kind len = record { kind = kind; len = len; number = pos 0 }
+abbrev pub unnumbered : Kind → ℕ → Token
+unnumbered kind len = record { kind = kind; len = len; number = pos 0 }
 
 -- A name or a keyword. Faults and the end have no length.
 unfoldable pub word : Bytes → Token
 word z =
     let len = prefix_len (is_in class.Word) z in
     let kind = keyword (take len z) in
-    if same_kind kind k.Name && nat_lt 128 len then plain k.NameTooLong 0 else plain kind len
+    if same_kind kind k.Name && nat_lt 128 len then unnumbered k.NameTooLong 0 else unnumbered kind len
 
 -- ---- numbers
 
 -- a number of so many bytes, or the fault where it is too wide
 abbrev pub number_or_fault : ℕ → Result ℤ WholeFault → Token
-number_or_fault len (Err fault) = plain k.NumberTooWide 0
+number_or_fault len (Err fault) = unnumbered k.NumberTooWide 0
 number_or_fault len (Ok n) = record { kind = k.Number; len = len; number = n }
 
 -- an optional `-` and the digits after it, as far as they go
@@ -110,10 +110,10 @@ lengths (Some p) = Some (length p.0, p.1)
 
 -- the token of what stands in quotes; the limit is on its value
 abbrev pub quotes_token : Kind → Kind → ℕ → Option (Bytes × ℕ) → Token
-quotes_token kind too_long longest None = plain k.OpenText 0
+quotes_token kind too_long longest None = unnumbered k.OpenText 0
 quotes_token kind too_long longest (Some p) =
-    if nat_lt longest (length p.0) then plain too_long 0
-    else (if length p.0 == 0 && same_kind kind k.Name then plain k.EmptyName (p.1 + 1) else plain kind (p.1 + 1))
+    if nat_lt longest (length p.0) then unnumbered too_long 0
+    else (if length p.0 == 0 && same_kind kind k.Name then unnumbered k.EmptyName (p.1 + 1) else unnumbered kind (p.1 + 1))
 
 -- a name or a text in quotes
 unfoldable pub in_quotes : Kind → Kind → ℕ → Bytes → Token
@@ -124,19 +124,19 @@ in_quotes kind too_long longest z = quotes_token kind too_long longest (quoted (
 -- the sign that two bytes begin with, or the fault where there is none
 abbrev pub sign : ℕ → ℕ → Token
 sign b next =
-    if b == 40 then plain k.LParen 1 else (if b == 41 then plain k.RParen 1 else (if b == 44 then plain k.Comma 1 else (if b == 59 then plain k.Semi 1
-    else (if b == 42 then plain k.Star 1 else (if b == 61 then plain k.Eq 1
-    else (if b == 33 && next == 61 then plain k.Ne 2
-    else (if b == 60 && next == 62 then plain k.Ne 2
-    else (if b == 60 && next == 61 then plain k.Le 2
-    else (if b == 60 then plain k.Lt 1
-    else (if b == 62 && next == 61 then plain k.Ge 2
-    else (if b == 62 then plain k.Gt 1
-    else plain k.BadCharacter 0)))))))))))
+    if b == 40 then unnumbered k.LParen 1 else (if b == 41 then unnumbered k.RParen 1 else (if b == 44 then unnumbered k.Comma 1 else (if b == 59 then unnumbered k.Semi 1
+    else (if b == 42 then unnumbered k.Star 1 else (if b == 61 then unnumbered k.Eq 1
+    else (if b == 33 && next == 61 then unnumbered k.Ne 2
+    else (if b == 60 && next == 62 then unnumbered k.Ne 2
+    else (if b == 60 && next == 61 then unnumbered k.Le 2
+    else (if b == 60 then unnumbered k.Lt 1
+    else (if b == 62 && next == 61 then unnumbered k.Ge 2
+    else (if b == 62 then unnumbered k.Gt 1
+    else unnumbered k.BadCharacter 0)))))))))))
 
 -- The token at the front of a text that does not begin with a blank.
 unfoldable pub token : Bytes → Token
-token [] = plain k.End 0
+token [] = unnumbered k.End 0
 token (b ∷ z) =
     if is_ascii_digit b || (b == 45 && is_ascii_digit (slice_index z 0)) then number (b ∷ z)
     else (if is_in class.Word b then word (b ∷ z)

@@ -121,8 +121,8 @@ pub fn is_last(kind: Kind) -> bool
     )
 }
 
-fn plain(kind: Kind, len: usize) -> Token
-    ensures { result ≡ spec.plain kind len }
+fn unnumbered(kind: Kind, len: usize) -> Token
+    ensures { result ≡ spec.unnumbered kind len }
 {
     Token {
         kind,
@@ -143,9 +143,9 @@ fn word(z: &[u8]) -> Token
     let len = run(Class::Word, z);
     let kind = keyword(&z[..len]);
     if same_kind(kind, Kind::Name) && len > LONGEST_NAME {
-        plain(Kind::NameTooLong, 0)
+        unnumbered(Kind::NameTooLong, 0)
     } else {
-        plain(kind, len)
+        unnumbered(kind, len)
     }
 }
 
@@ -183,7 +183,7 @@ fn number_or_fault(len: usize, number: Result<i64, WholeFault>) -> Token
     ensures whole { 0 < result.len → result.len ≡ len }
 {
     match number {
-        Err(_) => plain(Kind::NumberTooWide, 0),
+        Err(_) => unnumbered(Kind::NumberTooWide, 0),
         Ok(number) => Token {
             kind: Kind::Number,
             len,
@@ -259,14 +259,14 @@ fn in_quotes(kind: Kind, too_long: Kind, longest: usize, z: &[u8]) -> Token
     ensures ends { 0 < result.len → slice_index z.now (result.len - 1) < 128 }
 {
     match quoted_len(z[0], &z[1..]) {
-        None => plain(Kind::OpenText, 0),
+        None => unnumbered(Kind::OpenText, 0),
         Some((value, len)) => {
             if value > longest {
-                plain(too_long, 0)
+                unnumbered(too_long, 0)
             } else if value == 0 && same_kind(kind, Kind::Name) {
-                plain(Kind::EmptyName, len + 1)
+                unnumbered(Kind::EmptyName, len + 1)
             } else {
-                plain(kind, len + 1)
+                unnumbered(kind, len + 1)
             }
         }
     }
@@ -281,19 +281,19 @@ fn sign(b: u8, next: u8) -> Token
     ensures moves { result.len ≡ 0 → spec.is_last result.kind ≡ true }
 {
     match b {
-        b'(' => plain(Kind::LParen, 1),
-        b')' => plain(Kind::RParen, 1),
-        b',' => plain(Kind::Comma, 1),
-        b';' => plain(Kind::Semi, 1),
-        b'*' => plain(Kind::Star, 1),
-        b'=' => plain(Kind::Eq, 1),
-        b'!' if next == b'=' => plain(Kind::Ne, 2),
-        b'<' if next == b'>' => plain(Kind::Ne, 2),
-        b'<' if next == b'=' => plain(Kind::Le, 2),
-        b'<' => plain(Kind::Lt, 1),
-        b'>' if next == b'=' => plain(Kind::Ge, 2),
-        b'>' => plain(Kind::Gt, 1),
-        _ => plain(Kind::BadCharacter, 0),
+        b'(' => unnumbered(Kind::LParen, 1),
+        b')' => unnumbered(Kind::RParen, 1),
+        b',' => unnumbered(Kind::Comma, 1),
+        b';' => unnumbered(Kind::Semi, 1),
+        b'*' => unnumbered(Kind::Star, 1),
+        b'=' => unnumbered(Kind::Eq, 1),
+        b'!' if next == b'=' => unnumbered(Kind::Ne, 2),
+        b'<' if next == b'>' => unnumbered(Kind::Ne, 2),
+        b'<' if next == b'=' => unnumbered(Kind::Le, 2),
+        b'<' => unnumbered(Kind::Lt, 1),
+        b'>' if next == b'=' => unnumbered(Kind::Ge, 2),
+        b'>' => unnumbered(Kind::Gt, 1),
+        _ => unnumbered(Kind::BadCharacter, 0),
     }
 }
 
@@ -306,7 +306,7 @@ pub fn token(z: &[u8]) -> Token
     ensures ends { 0 < result.len → slice_index z.now (result.len - 1) < 128 }
 {
     if z.is_empty() {
-        return plain(Kind::End, 0);
+        return unnumbered(Kind::End, 0);
     }
     let b = z[0];
     let next = byte(z, 1);

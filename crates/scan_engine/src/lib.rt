@@ -5,8 +5,8 @@ mod block;
 mod fold;
 mod holds;
 mod places;
+mod row_by_row;
 mod run;
 mod selection;
-mod single;
 
 pub use block::add_block;

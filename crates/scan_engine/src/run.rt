@@ -9,7 +9,7 @@ ghost use Rattle.scan_engine.specs.Places.{IsRun, rows_at};
 ghost use Rattle.scan_engine.specs.Scanned.{AddsRows, HaveAtMost, IsOverfull};
 
 use crate::fold::states_at;
-use crate::single::add_singly;
+use crate::row_by_row::add_singly;
 use group_table::{GroupTable, TableFault};
 use std::alloc::Global;
 use table_schema::BoundQuery;

@@ -10,7 +10,7 @@ ghost use Rattle.table_schema.specs.ValidSettings.{IsValidSettings};
 use data_types::Name;
 use json_keys::{TextFault, key_of, read_json};
 use serde_json::Value as Json;
-use settings_parts::{INDEX_KEY, plain, read_head, read_indexes};
+use settings_parts::{INDEX_KEY, read_head, read_indexes, unindexed};
 use std::alloc::Global;
 use table_schema::{Field, Schema, Settings};
 
@@ -38,7 +38,7 @@ fn settings_of(alloc: Global, fields: &[Field], json: &Json) -> Result<Settings,
     let name = read_head(alloc, json)?;
     let table = Name::from_text(alloc, name)?;
     let Some(index) = key_of(json, INDEX_KEY) else {
-        return Ok(plain(alloc, fields, table)?);
+        return Ok(unindexed(alloc, fields, table)?);
     };
     read_indexes(alloc, fields, table, index)
 }

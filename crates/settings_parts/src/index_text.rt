@@ -50,7 +50,7 @@ pub fn read_indexes(
 }
 
 /// The settings in which no index is named.
-pub fn plain(alloc: Global, fields: &[Field], table: Name) -> Result<Settings, NoMemory>
+pub fn unindexed(alloc: Global, fields: &[Field], table: Name) -> Result<Settings, NoMemory>
     ensures { IfOk result (λ settings. settings ≡ spec.indexed fields.now table null) }
 {
     Ok(Settings {

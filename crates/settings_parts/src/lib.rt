@@ -9,4 +9,4 @@ mod sorted;
 mod trees;
 
 pub use head::read_head;
-pub use index_text::{INDEX_KEY, plain, read_indexes};
+pub use index_text::{INDEX_KEY, read_indexes, unindexed};

@@ -8,7 +8,7 @@ ghost use Rattle.value_ids.specs.Dictionary.{Ascends, most_values};
 ghost use Rattle.value_ids.specs.Ids.{Cuts, Picks};
 
 use std::alloc::Global;
-use value_ids::{IdSet, others, run};
+use value_ids::{IdSet, complement_of, range_of};
 use values::{CompareOp, NoMemory, Value};
 
 /// Where ascending values are cut by a bound: at the first that is not less, and at the first that
@@ -51,11 +51,11 @@ pub fn compared(
     let count = values.len() as u32;
     let Cut { from, to } = cut_at(values, bound);
     match op {
-        CompareOp::Equal => run(alloc, from, to),
-        CompareOp::Unequal => others(alloc, count, &run(alloc, from, to)?),
-        CompareOp::Less => run(alloc, 0, from),
-        CompareOp::AtMost => run(alloc, 0, to),
-        CompareOp::More => run(alloc, to, count),
-        CompareOp::AtLeast => run(alloc, from, count),
+        CompareOp::Equal => range_of(alloc, from, to),
+        CompareOp::Unequal => complement_of(alloc, count, &range_of(alloc, from, to)?),
+        CompareOp::Less => range_of(alloc, 0, from),
+        CompareOp::AtMost => range_of(alloc, 0, to),
+        CompareOp::More => range_of(alloc, to, count),
+        CompareOp::AtLeast => range_of(alloc, from, count),
     }
 }

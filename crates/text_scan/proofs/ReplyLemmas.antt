@@ -3,7 +3,7 @@ use Rattle.std.proofs.Common.{◌≡◌, ℕ, true, List, Result, Ok, Err, refl}
 use Rattle.values.specs.declared.value.Value.{Value}
 use Rattle.table_schema.specs.declared.field.Schema.{Schema}
 use Rattle.csv_row.specs.Row.{csv_limits}
-use Rattle.csv_ingest.specs.Rows.{plain_in, records_of}
+use Rattle.csv_ingest.specs.Rows.{number_rows_in, records_of}
 use Rattle.csv_row.specs.declared.fault.CsvFault.{CsvFault}
 use Rattle.csv_row.specs.declared.fault.CsvFault.TheVariants as csv
 use Rattle.sql_reply.specs.Laws.{NeverForMemory as ReplyNever}
@@ -35,4 +35,4 @@ rows_told never sql (Err csv.NoMemory) told e = told refl
 
 pub never_for_memory : ReplyNever → NeverForMemory
 unfolding text_reply
-never_for_memory never sql text = rows_told never sql (plain_in csv_limits (records_of text)) (rows.plain_told csv_limits (records_of text))
+never_for_memory never sql text = rows_told never sql (number_rows_in csv_limits (records_of text)) (rows.plain_told csv_limits (records_of text))

@@ -10,7 +10,7 @@ use Rattle.csv_row.specs.declared.fault.CsvKind.TheVariants.{WrongLength}
 use Rattle.csv_ingest.specs.Names.{number_name}
 use Rattle.csv_row.specs.Row.{Limits, place_of, placed, row_at, value_at, values_of}
 use Rattle.csv_row.specs.InOrder.{all_or_first, joined}
-use Rattle.csv_ingest.specs.Rows.{header_of, name_at, plain_in, rows_of, under, with_schema}
+use Rattle.csv_ingest.specs.Rows.{header_of, name_at, number_rows_in, rows_of, under, with_schema}
 
 -- a result that is none of memory
 abbrev Told : {A : Type 0} → Result A CsvFault → Type 0
@@ -62,8 +62,8 @@ name_told : (header : List (List ℕ)) (at : ℕ × List ℕ) → Told (name_at 
 name_told header (column, name) e = placed_told 0 column _ e
 
 -- records are rows, or they have a fault
-pub plain_told : (limits : Limits) (records : List (List (List ℕ))) → Told (plain_in limits records)
-unfolding plain_in
+pub plain_told : (limits : Limits) (records : List (List (List ℕ))) → Told (number_rows_in limits records)
+unfolding number_rows_in
 plain_told limits [] e = absurd cc
 plain_told limits (header ∷ rows) e =
     chosen (limits.many_columns (length header)) _ _ (λ e. absurd cc) (under_told (header_of number_name header) (λ fields. with_schema fields (rows_of limits fields header rows))

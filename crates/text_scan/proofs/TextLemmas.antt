@@ -7,7 +7,7 @@ use Rattle.table_schema.specs.declared.query.BoundQuery.{BoundQuery}
 use Rattle.csv_ingest.specs.Blocks.{RowsOrFault}
 use Rattle.csv_row.specs.InOrder.{after}
 use Rattle.csv_row.specs.Row.{csv_limits}
-use Rattle.csv_ingest.specs.Rows.{plain_in, records_of, with_schema}
+use Rattle.csv_ingest.specs.Rows.{number_rows_in, records_of, with_schema}
 use Rattle.csv_row.specs.declared.fault.CsvFault.{CsvFault}
 use Rattle.csv_row.specs.declared.fault.CsvFault.TheVariants as csv
 use Rattle.sql_reply.specs.Reply.{conjuncts_reply}
@@ -43,12 +43,12 @@ text-stops : (sql : List ℕ) (fields : List Field) (whole : RowsOrFault) (fault
 text-stops sql fields whole fault stops = λ real. let (wrong, is, fault_is) = stops real in ap (λ w. rows_reply sql (with_schema fields w)) is ∙ ap Err (sym fault_is)
 
 -- that of a text that has no header
-pub no-rows : (sql text : List ℕ) (wrong : CsvFault) (fault : ScanFault) → fault ≡ text_fault wrong → (wrong ≢ csv.NoMemory → plain_in csv_limits (records_of text) ≡ Err wrong) → Replies (text_reply sql text) (Err fault)
+pub no-rows : (sql text : List ℕ) (wrong : CsvFault) (fault : ScanFault) → fault ≡ text_fault wrong → (wrong ≢ csv.NoMemory → number_rows_in csv_limits (records_of text) ≡ Err wrong) → Replies (text_reply sql text) (Err fault)
 unfolding text_reply
 no-rows sql text wrong fault is at = λ real. ap (rows_reply sql) (at (λ e. real (is ∙ ap text_fault e))) ∙ ap Err (sym is)
 
 -- a text whose rows begin with a header
-pub has-rows : (sql text : List ℕ) (table : Result (Schema × List (List Value)) CsvFault) (r : TextReply) → plain_in csv_limits (records_of text) ≡ table → Replies (rows_reply sql table) r → Replies (text_reply sql text) r
+pub has-rows : (sql text : List ℕ) (table : Result (Schema × List (List Value)) CsvFault) (r : TextReply) → number_rows_in csv_limits (records_of text) ≡ table → Replies (rows_reply sql table) r → Replies (text_reply sql text) r
 unfolding text_reply
 has-rows sql text table r is given = subst (λ t. Replies (rows_reply sql t) r) (sym is) given
 

@@ -5,7 +5,7 @@ use Rattle.table_schema.specs.declared.field.Schema.{Schema}
 use Rattle.table_schema.specs.declared.settings.Settings.{Settings}
 use Rattle.table_schema.specs.declared.table.Table.{Table}
 use Rattle.csv_row.specs.Row.{csv_limits, most_columns}
-use Rattle.csv_ingest.specs.Rows.{plain_in, records_of}
+use Rattle.csv_ingest.specs.Rows.{number_rows_in, records_of}
 use Rattle.csv_row.specs.declared.fault.CsvFault.{CsvFault}
 use Rattle.csv_row.specs.declared.fault.CsvFault.TheVariants as csv
 use Rattle.sql_reply.specs.SqlReply.{SqlReply, sql_reply}
@@ -68,7 +68,7 @@ rows_reply sql (Err wrong) = Err (text_fault wrong)
 
 -- the reply to a query's text over the bytes of a CSV text of whole numbers
 unfoldable pub text_reply : List ℕ → List ℕ → TextReply
-text_reply sql text = rows_reply sql (plain_in csv_limits (records_of text))
+text_reply sql text = rows_reply sql (number_rows_in csv_limits (records_of text))
 
 -- what a call answers: the reply, unless memory runs out
 abbrev pub Replies : TextReply → TextReply → Type 0

@@ -2,7 +2,7 @@
 
 use crate::schemas::show_fault;
 use crate::text::Text;
-use csv_ingest::{CsvFault, defaults_fit, read_plain, read_rows};
+use csv_ingest::{CsvFault, defaults_fit, read_number_rows, read_rows};
 use schema_json::read_schema;
 use std::alloc::Global;
 use table_schema::Schema;
@@ -58,7 +58,7 @@ pub fn rows_of_numbers(alloc: Global, text: &[u8], out: &Text) {
         out.add("too long");
         return;
     }
-    let table = read_plain(alloc, text);
+    let table = read_number_rows(alloc, text);
     match &table {
         Ok(table) => show_rows(&table.1, out),
         Err(fault) => show_csv_fault(*fault, out),

@@ -7,7 +7,7 @@ use std::alloc::Global;
 use values::NoMemory;
 
 /// The ids from one up to another.
-pub fn run(alloc: Global, from: u32, to: u32) -> Result<IdSet, NoMemory>
+pub fn range_of(alloc: Global, from: u32, to: u32) -> Result<IdSet, NoMemory>
     ensures { IfOk result (AreThose (is_within from to)) }
 {
     let mut ids = IdSet::new(alloc);
@@ -18,7 +18,7 @@ pub fn run(alloc: Global, from: u32, to: u32) -> Result<IdSet, NoMemory>
 }
 
 /// The ids below a count that are not in the set.
-pub fn others(alloc: Global, count: u32, ids: &IdSet) -> Result<IdSet, NoMemory>
+pub fn complement_of(alloc: Global, count: u32, ids: &IdSet) -> Result<IdSet, NoMemory>
     ensures { IfOk result (AreThose (is_outside count ids.now)) }
 {
     let mut outside = IdSet::new(alloc);
@@ -32,7 +32,7 @@ pub fn others(alloc: Global, count: u32, ids: &IdSet) -> Result<IdSet, NoMemory>
 }
 
 /// The ids below a count that are in one of the two sets.
-pub fn either(alloc: Global, count: u32, a: &IdSet, b: &IdSet) -> Result<IdSet, NoMemory>
+pub fn union_of(alloc: Global, count: u32, a: &IdSet, b: &IdSet) -> Result<IdSet, NoMemory>
     ensures { IfOk result (AreThose (is_in_either count a.now b.now)) }
 {
     let mut ids = IdSet::new(alloc);
@@ -52,7 +52,7 @@ fn is_in_either(a: &IdSet, b: &IdSet, id: u32) -> bool
 }
 
 /// The ids that are in both sets.
-pub fn both(alloc: Global, a: &IdSet, b: &IdSet) -> Result<IdSet, NoMemory>
+pub fn intersection_of(alloc: Global, a: &IdSet, b: &IdSet) -> Result<IdSet, NoMemory>
     ensures { IfOk result (AreThose (is_in_both a.now b.now)) }
 {
     let mut ids = IdSet::new(alloc);

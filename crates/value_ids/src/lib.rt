@@ -7,4 +7,4 @@ mod id_sets;
 mod mask;
 
 pub use id_set::IdSet;
-pub use id_sets::{both, either, others, run, set_of};
+pub use id_sets::{complement_of, intersection_of, range_of, set_of, union_of};

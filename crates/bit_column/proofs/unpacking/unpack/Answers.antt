@@ -1,10 +1,10 @@
 use Rattle.std.proofs.Common.{All, OnErr, length, subst, ◌≡◌, ◌+◌, ◌-◌, ◌*◌, ◌∷◌, [], ◌++◌, ◌<◌, List, ℕ, take, ap, sym, ◌∙◌, arith, refl}
 use Rattle.std.proofs.lemmas.List.{take_more_set}
 use Rattle.std.proofs.lemmas.List.Elements.{All-push, All-same}
-use Rattle.bit_column.specs.Ahead.{taken_before}
+use Rattle.bit_column.specs.Untaken.{taken_before}
 use Rattle.bit_column.specs.Bits.{bits_of, field, pieces}
 use Rattle.bit_column.specs.declared.window.Window.{Window}
-use Rattle.bit_column.proofs.AheadLemmas.{ahead_first, ahead_less}
+use Rattle.bit_column.proofs.UntakenLemmas.{untaken_first, untaken_less}
 use Rattle.bit_column.proofs.Fields.{pieces-below, pieces-more}
 use Rattle.bit_column.proofs.unpacking.unpack.Goals as goal
 
@@ -12,10 +12,10 @@ pub loop-i-init : goal.loop-i-init
 loop-i-init c =
     let window : Window = c.filled-window.result in
     let less : Window = record { bits = window.bits; have = window.have - c.args.bit; next = window.next } in
-    let ahead = ahead_less c.args.bytes.now window less c.args.bit c.filled-window.ensures.ahead c.filled-window.ensures.have refl refl refl in
+    let untaken = untaken_less c.args.bytes.now window less c.args.bit c.filled-window.ensures.untaken c.filled-window.ensures.have refl refl refl in
     record {
-      ahead = ahead;
-      place = omega (arith, c.filled-window.ensures.same, c.filled-window.ensures.have, c.new.ensures.none, c.filled-window.ensures.ahead.there);
+      untaken = untaken;
+      place = omega (arith, c.filled-window.ensures.same, c.filled-window.ensures.have, c.new.ensures.none, c.filled-window.ensures.untaken.there);
       ids = refl;
       below = λ k d lt. absurd (omega (arith, lt));
     }
@@ -31,7 +31,7 @@ pub returns-then-id-count-clause-bad : goal.returns-then-id-count-clause-bad
 returns-then-id-count-clause-bad c = λ all.
     let window : Window = c.filled-window-in-loop-i.result in
     let digits : List ℕ = bits_of 8 c.args.bytes.now in
-    let own : c.taken-id.result ≡ field c.args.width (taken_before window) digits = ahead_first c.args.bytes.now window c.args.width c.taken-id.result c.filled-window-in-loop-i.ensures.ahead c.filled-window-in-loop-i.ensures.have c.taken-id.ensures in
+    let own : c.taken-id.result ≡ field c.args.width (taken_before window) digits = untaken_first c.args.bytes.now window c.args.width c.taken-id.result c.filled-window-in-loop-i.ensures.untaken c.filled-window-in-loop-i.ensures.have c.taken-id.ensures in
     let there : taken_before window ≡ c.args.bit + c.loop-i.i * c.args.width = c.filled-window-in-loop-i.ensures.same ∙ c.loop-i.invariant.place in
     let same : c.taken-id.result ≡ field c.args.width (c.args.bit + c.loop-i.i * c.args.width) digits = own ∙ ap (λ k. field c.args.width k digits) there in
     let below = pieces-below c.args.width c.args.bit _ c.loop-i.i c.args.count digits c.loop-i-test.true all in
@@ -45,13 +45,13 @@ loop-i-preserved c =
     let i : ℕ = c.loop-i.i in
     let id : ℕ = c.taken-id.result in
     let have = c.filled-window-in-loop-i.ensures.have in
-    let own : id ≡ field c.args.width (taken_before window) digits = ahead_first c.args.bytes.now window c.args.width id c.filled-window-in-loop-i.ensures.ahead have c.taken-id.ensures in
+    let own : id ≡ field c.args.width (taken_before window) digits = untaken_first c.args.bytes.now window c.args.width id c.filled-window-in-loop-i.ensures.untaken have c.taken-id.ensures in
     let there : taken_before window ≡ c.args.bit + i * c.args.width = c.filled-window-in-loop-i.ensures.same ∙ c.loop-i.invariant.place in
     let next : i * c.args.width + c.args.width ≡ (i + 1) * c.args.width = grind arith in
     let more : take (i + 1) _ ≡ take i c.loop-i.ids ++ id ∷ [] = take_more_set c.loop-i.ids i id (omega (arith, c.loop-i-test.true, c.loop-i.auto.ids)) in
     record {
-      ahead = ahead_less c.args.bytes.now window less c.args.width c.filled-window-in-loop-i.ensures.ahead have refl refl refl;
-      place = omega (arith, there, next, have, c.filled-window-in-loop-i.ensures.ahead.there);
+      untaken = untaken_less c.args.bytes.now window less c.args.width c.filled-window-in-loop-i.ensures.untaken have refl refl refl;
+      place = omega (arith, there, next, have, c.filled-window-in-loop-i.ensures.untaken.there);
       ids =
           more
           ∙ ap (λ ids. ids ++ id ∷ []) c.loop-i.invariant.ids

@@ -5,7 +5,7 @@ use Rattle.csv.specs.declared.parser.State.TheVariants as st
 use Rattle.csv_ingest.specs.Blocks.{rows_from}
 use Rattle.csv_ingest.specs.Lines.{AtLineEnd}
 use Rattle.csv_row.specs.Row.{csv_limits}
-use Rattle.csv_ingest.specs.Rows.{plain_in}
+use Rattle.csv_ingest.specs.Rows.{number_rows_in}
 use Rattle.csv_ingest.proofs.HeaderLine.{first-line}
 use Rattle.csv_ingest.proofs.LineBlocks.{no-lines}
 use Rattle.csv_ingest.proofs.NumberTextLemmas.{below-header}
@@ -30,7 +30,7 @@ returns-in-Ok-clause-ok c =
           is = ap (λ t. rows_from 0 fields names (records_from default_config n st.StartRecord t)) (sym c.from_place.ensures);
         };
       };
-      is = ap (plain_in csv_limits) (c.in_ok-names.ensures n)
-          ∙ ap (λ row. plain_in csv_limits (row ∷ records_from default_config n st.StartRecord rest)) same
+      is = ap (number_rows_in csv_limits) (c.in_ok-names.ensures n)
+          ∙ ap (λ row. number_rows_in csv_limits (row ∷ records_from default_config n st.StartRecord rest)) same
           ∙ below-header names (records_from default_config n st.StartRecord rest) fields h.few h.fields;
     }

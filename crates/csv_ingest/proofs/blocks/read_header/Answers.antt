@@ -4,14 +4,14 @@ use Rattle.csv_row.specs.declared.fault.CsvFault.TheVariants.{NoMemory}
 use Rattle.csv_row.specs.Row.{csv_limits}
 use Rattle.csv_ingest.specs.NumberBlocks.{IsNumberHeader}
 use Rattle.csv_ingest.specs.Reading.{Reads, records_left}
-use Rattle.csv_ingest.specs.Rows.{plain_in}
+use Rattle.csv_ingest.specs.Rows.{number_rows_in}
 use Rattle.csv_ingest.proofs.NumberTextLemmas.{HeaderRead, both-ok, err-at, header-read, no-record}
 use Rattle.csv_ingest.proofs.blocks.read_header.Goals as goal
 
 pub returns-then-not-branch-clause-err : goal.returns-then-not-branch-clause-err
 returns-then-not-branch-clause-err c = λ _ rest r n.
     let none = rw c.if-not-branch.true at (c.in_ok-next_record.ensures rest r) in
-    ap (plain_in csv_limits) (none n) ∙ no-record
+    ap (number_rows_in csv_limits) (none n) ∙ no-record
 
 pub returns-clause-ok : goal.returns-clause-ok
 returns-clause-ok c =
@@ -28,8 +28,8 @@ returns-clause-err c =
     let old = c.args.reader.now in
     let new = c.next_record.new.reader in
     let names : List (List ℕ) = fields_of c.next_record.new.row in
-    err-at c.of_record.result (λ fault. fault ≢ NoMemory → (records : List (List (List ℕ))) → plain_in csv_limits (names ∷ records) ≡ Err fault)
-    (λ fault. fault ≢ NoMemory → (rest : List ℕ) → Reads old rest → (n : ℕ) → plain_in csv_limits (records_left (n + 1) old rest) ≡ Err fault)
+    err-at c.of_record.result (λ fault. fault ≢ NoMemory → (records : List (List (List ℕ))) → number_rows_in csv_limits (names ∷ records) ≡ Err fault)
+    (λ fault. fault ≢ NoMemory → (rest : List ℕ) → Reads old rest → (n : ℕ) → number_rows_in csv_limits (records_left (n + 1) old rest) ≡ Err fault)
     (λ fault bad real rest r n.
     let (left, reads, next) = rw c.if-not-branch.false at (c.in_ok-next_record.ensures rest r) in
-    ap (plain_in csv_limits) (next n) ∙ bad real (records_left n new left)) c.of_record.ensures.err
+    ap (number_rows_in csv_limits) (next n) ∙ bad real (records_left n new left)) c.of_record.ensures.err

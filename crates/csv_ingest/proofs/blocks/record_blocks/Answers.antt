@@ -4,7 +4,7 @@ use Rattle.csv.specs.Records.{fields_of}
 use Rattle.csv_ingest.specs.Blocks.{rows_from}
 use Rattle.csv_ingest.specs.Reading.{records_left}
 use Rattle.csv_row.specs.Row.{csv_limits}
-use Rattle.csv_ingest.specs.Rows.{plain_in, rows_of, with_schema}
+use Rattle.csv_ingest.specs.Rows.{number_rows_in, rows_of, with_schema}
 use Rattle.csv_ingest.proofs.BlockLemmas.{nothing-left}
 use Rattle.csv_ingest.proofs.blocks.record_blocks.Goals as goal
 
@@ -21,7 +21,7 @@ returns-in-Ok-clause-ok c =
         none = λ z. nothing-left fields names 0 c.unmarked_len-left.result new left z;
         some = λ _. record { rest = left; reads = reads; is = refl };
       };
-      is = ap (plain_in csv_limits) (sym (c.text_reader-reader.ensures.left (length text + 1)))
+      is = ap (number_rows_in csv_limits) (sym (c.text_reader-reader.ensures.left (length text + 1)))
           ∙ next (length text)
           ∙ ap (λ k. with_schema fields (rows_of csv_limits fields names (records_left k new left))) (sym c.unmarked_len-left.ensures.value);
     }
@@ -29,5 +29,5 @@ returns-in-Ok-clause-ok c =
 pub returns-clause-err : goal.returns-clause-err
 returns-clause-err c = λ real.
     let text : List ℕ = strip_bom c.args.bytes.now in
-    ap (plain_in csv_limits) (sym (c.text_reader-reader.ensures.left (length text + 1)))
+    ap (number_rows_in csv_limits) (sym (c.text_reader-reader.ensures.left (length text + 1)))
     ∙ c.in-Err.ensures.err real text c.text_reader-reader.ensures.reads (length text)

@@ -1,8 +1,8 @@
 use Rattle.std.proofs.Common.{◌≡◌, ◌∙◌, ◌||◌, ◌<◌, ◌≤◌, ◌+◌, ℕ, Bool, List, ap, arith, drop, length, nat_le, rules, subst, sym, take}
 use Rattle.doc_lists.specs.Docs.{has_doc, next_from}
-use Rattle.doc_lists.specs.Sets.{Ahead, SweepsRuns, first_in}
+use Rattle.doc_lists.specs.Sets.{RemainFrom, SweepsRuns, first_in}
 use Rattle.doc_lists.specs.declared.run.Run.{Run}
-use Rattle.doc_lists.proofs.Stretches.{Parted, alone_next, front_apart, join_alone, next_within, parted, parted_ahead}
+use Rattle.doc_lists.proofs.Stretches.{Parted, alone_next, front_apart, join_alone, next_within, parted, parted_remain}
 use Rattle.doc_lists.proofs.Sweep.{Walk, join_over, join_test, walk_done, walk_first, walk_next}
 use Rattle.doc_lists.proofs.sets.join.Goals as goal
 
@@ -20,19 +20,19 @@ push_runs_from-requires-clause-some c =
     let theirs = c.loop-ours.theirs.now in
     let count = c.count_before-count.result in
     let before : next_from 0 (take count ours) ≤ first_in theirs = subst (λ n. next_from 0 (take count ours) ≤ n) c.first_of.ensures c.count_before-count.ensures.before in
-    let known : Parted start ours theirs (take count ours) (drop count ours) = parted start count ours theirs (omega (arith, c.if-count-gt0.true)) c.count_before-count.ensures.within before walk.first.ahead in
+    let known : Parted start ours theirs (take count ours) (drop count ours) = parted start count ours theirs (omega (arith, c.if-count-gt0.true)) c.count_before-count.ensures.within before walk.first.remain in
     subst (λ (rs : List Run). 0 < length rs) (sym c.preceding-alone.ensures) known.some
 
-pub push_runs_from-requires-clause-ahead : goal.push_runs_from-requires-clause-ahead
-push_runs_from-requires-clause-ahead c =
+pub push_runs_from-requires-clause-remain : goal.push_runs_from-requires-clause-remain
+push_runs_from-requires-clause-remain c =
     let walk = c.loop-ours.invariant in
     let start = c.loop-ours.start in
     let ours = c.loop-ours.ours.now in
     let theirs = c.loop-ours.theirs.now in
     let count = c.count_before-count.result in
     let before : next_from 0 (take count ours) ≤ first_in theirs = subst (λ n. next_from 0 (take count ours) ≤ n) c.first_of.ensures c.count_before-count.ensures.before in
-    let known : Parted start ours theirs (take count ours) (drop count ours) = parted start count ours theirs (omega (arith, c.if-count-gt0.true)) c.count_before-count.ensures.within before walk.first.ahead in
-    subst (λ (rs : List Run). Ahead start rs) (sym c.preceding-alone.ensures) (parted_ahead start ours theirs (take count ours) (drop count ours) walk.first.ahead known)
+    let known : Parted start ours theirs (take count ours) (drop count ours) = parted start count ours theirs (omega (arith, c.if-count-gt0.true)) c.count_before-count.ensures.within before walk.first.remain in
+    subst (λ (rs : List Run). RemainFrom start rs) (sym c.preceding-alone.ensures) (parted_remain start ours theirs (take count ours) (drop count ours) walk.first.remain known)
 
 pub loop-ours-smaller-then-count-gt0 : goal.loop-ours-smaller-then-count-gt0
 loop-ours-smaller-then-count-gt0 c =
@@ -42,7 +42,7 @@ loop-ours-smaller-then-count-gt0 c =
     let theirs = c.loop-ours.theirs.now in
     let count = c.count_before-count.result in
     let before : next_from 0 (take count ours) ≤ first_in theirs = subst (λ n. next_from 0 (take count ours) ≤ n) c.first_of.ensures c.count_before-count.ensures.before in
-    let known : Parted start ours theirs (take count ours) (drop count ours) = parted start count ours theirs (omega (arith, c.if-count-gt0.true)) c.count_before-count.ensures.within before walk.first.ahead in
+    let known : Parted start ours theirs (take count ours) (drop count ours) = parted start count ours theirs (omega (arith, c.if-count-gt0.true)) c.count_before-count.ensures.within before walk.first.remain in
     let end : c.in_ok-end.end ≡ next_from 0 (take count ours) = c.in_ok-end.ensures.end ∙ ap (next_from 0) c.preceding-alone.ensures in
     let within = next_within 0 (take count ours) (omega arith) (front_apart 0 (take count ours) (drop count ours) known.apart) in
     omega (arith, end, within, known.onwards)
@@ -58,7 +58,7 @@ loop-ours-preserved-then-count-gt0 c =
     let theirs = c.loop-ours.theirs.now in
     let count = c.count_before-count.result in
     let before : next_from 0 (take count ours) ≤ first_in theirs = subst (λ n. next_from 0 (take count ours) ≤ n) c.first_of.ensures c.count_before-count.ensures.before in
-    let known : Parted start ours theirs (take count ours) (drop count ours) = parted start count ours theirs (omega (arith, c.if-count-gt0.true)) c.count_before-count.ensures.within before walk.first.ahead in
+    let known : Parted start ours theirs (take count ours) (drop count ours) = parted start count ours theirs (omega (arith, c.if-count-gt0.true)) c.count_before-count.ensures.within before walk.first.remain in
     let docs = c.loop-ours.docs in
     let added = c.push_runs_from.new.docs in
     let alone = take count ours in
@@ -70,12 +70,12 @@ loop-ours-preserved-then-count-gt0 c =
 
 pub push_from-requires-clause-onwards : goal.push_from-requires-clause-onwards
 push_from-requires-clause-onwards c =
-    let sooner = c.sooner-run.ensures c.loop-ours.start c.loop-ours.invariant.first.ahead c.loop-ours.invariant.second.ahead in
+    let sooner = c.sooner-run.ensures c.loop-ours.start c.loop-ours.invariant.first.remain c.loop-ours.invariant.second.remain in
     omega (arith, sooner.onwards)
 
 pub loop-ours-smaller : goal.loop-ours-smaller
 loop-ours-smaller c =
-    let sooner = c.sooner-run.ensures c.loop-ours.start c.loop-ours.invariant.first.ahead c.loop-ours.invariant.second.ahead in
+    let sooner = c.sooner-run.ensures c.loop-ours.start c.loop-ours.invariant.first.remain c.loop-ours.invariant.second.remain in
     omega (arith, sooner.onwards, sooner.within)
 
 pub loop-ours-preserved : goal.loop-ours-preserved
@@ -89,10 +89,10 @@ loop-ours-preserved c =
     let theirs = c.loop-ours.theirs.now in
     let walk = c.loop-ours.invariant in
     let run = c.sooner-run.result in
-    let sooner = c.sooner-run.ensures start walk.first.ahead walk.second.ahead in
+    let sooner = c.sooner-run.ensures start walk.first.remain walk.second.remain in
     walk_next test start (run.last + 1) a b docs ours theirs c.left_from-ours.result.now c.left_from-theirs.result.now c.push_from.new.docs walk (omega (arith, sooner.onwards))
     (c.in_ok-push_from.ensures.swept test walk.swept (λ doc from to. join_test start doc a b docs ours theirs run walk sooner from to ∙ ap (λ n. nat_le n doc) (sym c.max.ensures)))
-    c.left_from-ours.ensures.ahead c.left_from-ours.ensures.same c.left_from-theirs.ensures.ahead c.left_from-theirs.ensures.same
+    c.left_from-ours.ensures.remain c.left_from-ours.ensures.same c.left_from-theirs.ensures.remain c.left_from-theirs.ensures.same
 
 pub returns : goal.returns
 returns c =

@@ -20,7 +20,7 @@ loop-ours-preserved-then-ends_before c =
     let walk = c.loop-ours.invariant in
     let some : 0 < length theirs = search rules in
     meet_far_ours start c.args.a.now c.args.b.now c.loop-ours.docs ours theirs c.left_from-ours.result.now d walk some
-    (far_start ours start (get_or theirs 0 d).first 8 walk.first.ahead (omega arith) (sym c.ends_before.ensures ∙ c.if-ends_before.true)) c.left_from-ours.ensures.ahead c.left_from-ours.ensures.same
+    (far_start ours start (get_or theirs 0 d).first 8 walk.first.remain (omega arith) (sym c.ends_before.ensures ∙ c.if-ends_before.true)) c.left_from-ours.ensures.remain c.left_from-ours.ensures.same
 
 pub loop-ours-preserved-then-ends_before-2 : goal.loop-ours-preserved-then-ends_before-2
 loop-ours-preserved-then-ends_before-2 c =
@@ -31,7 +31,7 @@ loop-ours-preserved-then-ends_before-2 c =
     let walk = c.loop-ours.invariant in
     let some : 0 < length ours = search rules in
     meet_far_theirs start c.args.a.now c.args.b.now c.loop-ours.docs ours theirs c.left_from-theirs.result.now d walk some
-    (far_start theirs start (get_or ours 0 d).first 8 walk.second.ahead (omega arith) (sym c.ends_before-else-ends_before.ensures ∙ c.if-ends_before-2.true)) c.left_from-theirs.ensures.ahead c.left_from-theirs.ensures.same
+    (far_start theirs start (get_or ours 0 d).first 8 walk.second.remain (omega arith) (sym c.ends_before-else-ends_before.ensures ∙ c.if-ends_before-2.true)) c.left_from-theirs.ensures.remain c.left_from-theirs.ensures.same
 
 pub loop-ours-preserved : goal.loop-ours-preserved
 loop-ours-preserved c =
@@ -47,13 +47,13 @@ loop-ours-preserved c =
     let end = c.min.result + 1 in
     let some : 0 < length ours = search rules in
     let any : 0 < length theirs = search rules in
-    let one = first_known start ours d some walk.first.ahead in
-    let other = first_known start theirs d any walk.second.ahead in
+    let one = first_known start ours d some walk.first.remain in
+    let other = first_known start theirs d any walk.second.remain in
     let order : start ≤ end = omega (arith, c.min.ensures, one.onwards, other.onwards) in
     walk_next test start end a b docs ours theirs c.without_first-ours.result.now c.without_first-theirs.result.now c.push_from.new.docs walk order
     (c.in_ok-push_from.ensures.swept test walk.swept (λ doc from to.
     meet_test start doc end a b docs ours theirs d walk some any (ap (λ n. n + 1) c.min.ensures) from to ∙ ap (λ n. nat_le n doc) (sym (c.max-first.ensures ∙ ap (max start) c.max.ensures))))
-    c.without_first-ours.ensures.ahead c.without_first-ours.ensures.same c.without_first-theirs.ensures.ahead c.without_first-theirs.ensures.same
+    c.without_first-ours.ensures.remain c.without_first-ours.ensures.same c.without_first-theirs.ensures.remain c.without_first-theirs.ensures.same
 
 pub returns : goal.returns
 returns c =

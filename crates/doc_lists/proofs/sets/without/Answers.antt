@@ -1,8 +1,8 @@
 use Rattle.std.proofs.Common.{◌≡◌, ◌∙◌, ◌&&◌, ◌<◌, ◌≤◌, ℕ, Bool, List, not, cond, ap, arith, drop, length, rules, subst, sym, take}
 use Rattle.doc_lists.specs.Docs.{has_doc, next_from}
-use Rattle.doc_lists.specs.Sets.{Ahead, AreThose, SweepsRuns, first_in}
+use Rattle.doc_lists.specs.Sets.{RemainFrom, AreThose, SweepsRuns, first_in}
 use Rattle.doc_lists.specs.declared.run.Run.{Run}
-use Rattle.doc_lists.proofs.Stretches.{Parted, alone_next, front_apart, next_within, parted, parted_ahead, without_alone}
+use Rattle.doc_lists.proofs.Stretches.{Parted, alone_next, front_apart, next_within, parted, parted_remain, without_alone}
 use Rattle.doc_lists.proofs.Sweep.{Walk, first_known, same_twice, walk_done, walk_first, walk_next, without_none, without_over, without_test}
 use Rattle.doc_lists.proofs.sets.without.Goals as goal
 use Rattle.doc_lists.proofs.sets.without.Goals.{then-reaches, else-reaches}
@@ -21,19 +21,19 @@ push_runs_from-requires-clause-some c =
     let theirs = c.loop-ours.theirs.now in
     let count = c.count_before-count.result in
     let before : next_from 0 (take count ours) ≤ first_in theirs = subst (λ n. next_from 0 (take count ours) ≤ n) c.first_of.ensures c.count_before-count.ensures.before in
-    let known : Parted start ours theirs (take count ours) (drop count ours) = parted start count ours theirs (omega (arith, c.if-count-gt0.true)) c.count_before-count.ensures.within before walk.first.ahead in
+    let known : Parted start ours theirs (take count ours) (drop count ours) = parted start count ours theirs (omega (arith, c.if-count-gt0.true)) c.count_before-count.ensures.within before walk.first.remain in
     subst (λ (rs : List Run). 0 < length rs) (sym c.preceding-alone.ensures) known.some
 
-pub push_runs_from-requires-clause-ahead : goal.push_runs_from-requires-clause-ahead
-push_runs_from-requires-clause-ahead c =
+pub push_runs_from-requires-clause-remain : goal.push_runs_from-requires-clause-remain
+push_runs_from-requires-clause-remain c =
     let walk = c.loop-ours.invariant in
     let start = c.loop-ours.start in
     let ours = c.loop-ours.ours.now in
     let theirs = c.loop-ours.theirs.now in
     let count = c.count_before-count.result in
     let before : next_from 0 (take count ours) ≤ first_in theirs = subst (λ n. next_from 0 (take count ours) ≤ n) c.first_of.ensures c.count_before-count.ensures.before in
-    let known : Parted start ours theirs (take count ours) (drop count ours) = parted start count ours theirs (omega (arith, c.if-count-gt0.true)) c.count_before-count.ensures.within before walk.first.ahead in
-    subst (λ (rs : List Run). Ahead start rs) (sym c.preceding-alone.ensures) (parted_ahead start ours theirs (take count ours) (drop count ours) walk.first.ahead known)
+    let known : Parted start ours theirs (take count ours) (drop count ours) = parted start count ours theirs (omega (arith, c.if-count-gt0.true)) c.count_before-count.ensures.within before walk.first.remain in
+    subst (λ (rs : List Run). RemainFrom start rs) (sym c.preceding-alone.ensures) (parted_remain start ours theirs (take count ours) (drop count ours) walk.first.remain known)
 
 pub loop-ours-smaller-then-count-gt0 : goal.loop-ours-smaller-then-count-gt0
 loop-ours-smaller-then-count-gt0 c =
@@ -43,7 +43,7 @@ loop-ours-smaller-then-count-gt0 c =
     let theirs = c.loop-ours.theirs.now in
     let count = c.count_before-count.result in
     let before : next_from 0 (take count ours) ≤ first_in theirs = subst (λ n. next_from 0 (take count ours) ≤ n) c.first_of.ensures c.count_before-count.ensures.before in
-    let known : Parted start ours theirs (take count ours) (drop count ours) = parted start count ours theirs (omega (arith, c.if-count-gt0.true)) c.count_before-count.ensures.within before walk.first.ahead in
+    let known : Parted start ours theirs (take count ours) (drop count ours) = parted start count ours theirs (omega (arith, c.if-count-gt0.true)) c.count_before-count.ensures.within before walk.first.remain in
     let end : c.in_ok-end.end ≡ next_from 0 (take count ours) = c.in_ok-end.ensures.end ∙ ap (next_from 0) c.preceding-alone.ensures in
     let within = next_within 0 (take count ours) (omega arith) (front_apart 0 (take count ours) (drop count ours) known.apart) in
     omega (arith, end, within, known.onwards)
@@ -59,7 +59,7 @@ loop-ours-preserved-then-count-gt0 c =
     let theirs = c.loop-ours.theirs.now in
     let count = c.count_before-count.result in
     let before : next_from 0 (take count ours) ≤ first_in theirs = subst (λ n. next_from 0 (take count ours) ≤ n) c.first_of.ensures c.count_before-count.ensures.before in
-    let known : Parted start ours theirs (take count ours) (drop count ours) = parted start count ours theirs (omega (arith, c.if-count-gt0.true)) c.count_before-count.ensures.within before walk.first.ahead in
+    let known : Parted start ours theirs (take count ours) (drop count ours) = parted start count ours theirs (omega (arith, c.if-count-gt0.true)) c.count_before-count.ensures.within before walk.first.remain in
     let docs = c.loop-ours.docs in
     let added = c.push_runs_from.new.docs in
     let alone = take count ours in
@@ -84,7 +84,7 @@ loop-ours-preserved c =
     let first = c.max-first.result in
     let end = c.min-end.result in
     let some : 0 < length ours = search rules in
-    let known = first_known start ours d some walk.first.ahead in
+    let known = first_known start ours d some walk.first.remain in
     let onwards : first ≤ end = omega (arith, c.min-end.ensures, c.max-first.ensures, known.onwards, known.order, c.end_of_stretch.ensures.onwards) in
     let order : start ≤ end = omega (arith, c.max-first.ensures, onwards) in
     let kept : c.if-reaches.kept ≡ cond c.reaches.result end first = elim c.if-reaches.branch [
@@ -95,7 +95,7 @@ loop-ours-preserved c =
     (c.in_ok-push_from.ensures.swept test walk.swept (λ doc from to.
     without_test start first doc c.end_of_stretch.result end c.if-reaches.kept a b docs ours theirs skipped d c.reaches.result walk some c.max-first.ensures c.left_from-theirs.ensures.same
     c.reaches.ensures c.end_of_stretch.ensures.stretch c.min-end.ensures kept from to))
-    c.left_from-ours.ensures.ahead c.left_from-ours.ensures.same c.left_from-theirs-else-count-gt0.ensures.ahead
+    c.left_from-ours.ensures.remain c.left_from-ours.ensures.same c.left_from-theirs-else-count-gt0.ensures.remain
     (same_twice first end theirs skipped c.left_from-theirs-else-count-gt0.result.now onwards c.left_from-theirs.ensures.same c.left_from-theirs-else-count-gt0.ensures.same)
 
 pub returns : goal.returns

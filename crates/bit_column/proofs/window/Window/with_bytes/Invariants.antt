@@ -1,10 +1,10 @@
 use Rattle.std.proofs.Common.{◌-◌, ◌≡◌}
-use Rattle.bit_column.specs.Ahead.{IsAhead, taken_before}
+use Rattle.bit_column.specs.Untaken.{HasUntaken, taken_before}
 use Rattle.bit_column.proofs.window.Window.with_bytes.Given as goal
 
 abbrev pub invariant-loop-window : goal.invariant-loop-window
 invariant-loop-window l = record {
-  ahead : IsAhead l.bytes l.window;
+  untaken : HasUntaken l.bytes l.window;
   same : taken_before l.window ≡ taken_before l.fn.self;
 }
 

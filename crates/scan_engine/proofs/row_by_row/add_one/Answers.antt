@@ -6,7 +6,7 @@ use Rattle.agg_laws.specs.Rows as laws
 use Rattle.group_table.specs.Groups.{key_of, number_for}
 use Rattle.scan_engine.proofs.AddLemmas.{adds_one, no_room, with_fits, row_fits}
 use Rattle.scan_engine.proofs.RunLemmas.{same_fault}
-use Rattle.scan_engine.proofs.single.add_one.Goals as goal
+use Rattle.scan_engine.proofs.row_by_row.add_one.Goals as goal
 
 pub add_row-requires-clause-fits : goal.add_row-requires-clause-fits
 add_row-requires-clause-fits c =

@@ -1,7 +1,7 @@
 use Rattle.std.proofs.Common.{arith, sym, ◌∙◌}
 use Rattle.value_ids.specs.Ids.{is_in_either}
 use Rattle.value_ids.proofs.SetLemmas.{either_at, either_past, pass_above, pass_end, pass_no, pass_none, pass_yes}
-use Rattle.value_ids.proofs.id_sets.either.Goals as goal
+use Rattle.value_ids.proofs.id_sets.union_of.Goals as goal
 
 pub push-requires : goal.push-requires
 push-requires c = pass_above (is_in_either c.args.count c.args.a.now c.args.b.now) c.loop-id.id c.loop-id.ids c.loop-id.invariant

@@ -1,7 +1,7 @@
 use Rattle.std.proofs.Common.{arith, sym, ◌∙◌}
 use Rattle.value_ids.specs.Ids.{is_outside}
 use Rattle.value_ids.proofs.SetLemmas.{outside_at, outside_past, pass_above, pass_end, pass_no, pass_none, pass_yes}
-use Rattle.value_ids.proofs.id_sets.others.Goals as goal
+use Rattle.value_ids.proofs.id_sets.complement_of.Goals as goal
 
 pub push-requires : goal.push-requires
 push-requires c = pass_above (is_outside c.args.count c.args.ids.now) c.loop-id.id c.loop-id.outside c.loop-id.invariant

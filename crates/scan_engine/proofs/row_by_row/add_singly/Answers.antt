@@ -8,7 +8,7 @@ use Rattle.scan_engine.specs.Places.{rows_at}
 use Rattle.scan_engine.specs.Scanned.{AddsRows}
 use Rattle.scan_engine.proofs.AddLemmas.{adds_both, adds_nothing, at_most_more}
 use Rattle.scan_engine.proofs.RunLemmas.{overfull_next, rows_next, same_fault}
-use Rattle.scan_engine.proofs.single.add_singly.Goals as goal
+use Rattle.scan_engine.proofs.row_by_row.add_singly.Goals as goal
 
 pub loop-place-init : goal.loop-place-init
 loop-place-init c = adds_nothing c.args.query.now 0 c.args.table.now c.requires.table

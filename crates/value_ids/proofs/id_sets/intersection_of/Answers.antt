@@ -3,7 +3,7 @@ use Rattle.std.specs.List.Sorted.{IsStrictlySortedBy}
 use Rattle.std.specs.Ordering.{nat_cmp}
 use Rattle.value_ids.specs.Ids.{AreThose, is_in_both}
 use Rattle.value_ids.proofs.SetLemmas.{share_above, share_end, share_no, share_yes}
-use Rattle.value_ids.proofs.id_sets.both.Goals as goal
+use Rattle.value_ids.proofs.id_sets.intersection_of.Goals as goal
 
 pub push-requires : goal.push-requires
 push-requires c =

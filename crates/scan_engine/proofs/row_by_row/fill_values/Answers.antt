@@ -8,7 +8,7 @@ use Rattle.agg_laws.specs.Numbers.{AreWhole}
 use Rattle.table_schema.specs.declared.query.Agg.{Agg}
 use Rattle.group_table.specs.Groups.{number_for}
 use Rattle.scan_engine.proofs.AddLemmas.{whole_more}
-use Rattle.scan_engine.proofs.single.fill_values.Goals as goal
+use Rattle.scan_engine.proofs.row_by_row.fill_values.Goals as goal
 
 pub loop-agg-preserved : goal.loop-agg-preserved
 loop-agg-preserved c = record {

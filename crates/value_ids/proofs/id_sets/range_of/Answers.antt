@@ -1,6 +1,6 @@
 use Rattle.value_ids.specs.Ids.{is_within}
 use Rattle.value_ids.proofs.SetLemmas.{pass_above, pass_end, pass_none, pass_yes, run_at, run_before, run_following}
-use Rattle.value_ids.proofs.id_sets.run.Goals as goal
+use Rattle.value_ids.proofs.id_sets.range_of.Goals as goal
 
 pub push-requires : goal.push-requires
 push-requires c = pass_above (is_within c.args.from c.args.to) c.loop-id.id c.loop-id.ids c.loop-id.invariant

@@ -2,7 +2,7 @@ use Rattle.std.proofs.Common.{◌≡◌, take, map}
 use Rattle.value_columns.specs.Columns.{row_of}
 use Rattle.agg_laws.specs.Numbers.{AreWhole}
 use Rattle.group_table.specs.Groups.{number_for}
-use Rattle.scan_engine.proofs.single.fill_values.Given as goal
+use Rattle.scan_engine.proofs.row_by_row.fill_values.Given as goal
 
 abbrev pub invariant-loop-agg : goal.invariant-loop-agg
 invariant-loop-agg l = record {

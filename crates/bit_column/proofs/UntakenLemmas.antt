@@ -3,7 +3,7 @@ use Rattle.std.proofs.Common.{◌≡◌, ◌≤◌, ℕ, ◌+◌, ◌-◌, ◌*�
 use Rattle.std.proofs.Math.Seq.{take-add}
 use Rattle.std.proofs.lemmas.List.{drop_at, drop-drop, drop-append-le}
 use Rattle.std.proofs.lemmas.List.Concat.{flat_map-append}
-use Rattle.bit_column.specs.Ahead.{IsAhead, taken_before}
+use Rattle.bit_column.specs.Untaken.{HasUntaken, taken_before}
 use Rattle.bit_column.specs.Bits.{bits, bits_of, field}
 use Rattle.bit_column.specs.declared.window.Window.{Window}
 use Rattle.bit_column.proofs.BitLemmas.{bits-split, length-bits, length-bits_of, take-bits_of}
@@ -11,26 +11,26 @@ use Rattle.bit_column.proofs.Fields.{field-following, field-front}
 use Rattle.bit_column.proofs.Windows.{field-window}
 
 -- before the first bit
-pub ahead_start : (bytes : List ℕ) (window : Window) → window.bits ≡ 0 → window.have ≡ 0 → window.next ≡ 0 → IsAhead bytes window
+pub untaken_start : (bytes : List ℕ) (window : Window) → window.bits ≡ 0 → window.have ≡ 0 → window.next ≡ 0 → HasUntaken bytes window
 unfolding bits
-ahead_start bytes window none empty first =
+untaken_start bytes window none empty first =
     let nothing : List ℕ = [] in
     let before : taken_before window ≡ 0 = omega (arith, first, empty) in
     record {
       few = omega (arith, empty);
       there = omega (arith, empty);
       within = omega (arith, first);
-      ahead =
+      untaken =
           ap (λ k. bits k window.bits) empty
           ∙ sym (ap (λ k. drop (taken_before window) (bits_of 8 (take k bytes))) first ∙ ap (λ (k : ℕ). drop k nothing) before);
     }
 
 -- with more bytes
-pub ahead_more : (bytes : List ℕ) (window more : Window) (count item : ℕ) → IsAhead bytes window → window.next + count ≤ length bytes → window.have + count * 8 ≤ 64
+pub untaken_more : (bytes : List ℕ) (window more : Window) (count item : ℕ) → HasUntaken bytes window → window.next + count ≤ length bytes → window.have + count * 8 ≤ 64
     → bits (count * 8) item ≡ bits_of 8 (take count (drop window.next bytes)) → more.next ≡ window.next + count → more.have ≡ window.have + count * 8
     → bits (window.have + count * 8) more.bits ≡ bits window.have window.bits ++ bits (count * 8) item
-    → IsAhead bytes more
-ahead_more bytes window more count item at within room is next have joins =
+    → HasUntaken bytes more
+untaken_more bytes window more count item at within room is next have joins =
     let n = taken_before window in
     let before = take window.next bytes in
     let after = take count (drop window.next bytes) in
@@ -40,10 +40,10 @@ ahead_more bytes window more count item at within room is next have joins =
       few = omega (arith, have, room);
       there = omega (arith, next, have, at.there);
       within = omega (arith, next, within);
-      ahead =
+      untaken =
           ap (λ k. bits k more.bits) have
           ∙ joins
-          ∙ ap (λ ds. ds ++ bits (count * 8) item) at.ahead
+          ∙ ap (λ ds. ds ++ bits (count * 8) item) at.untaken
           ∙ ap (λ ds. drop n (bits_of 8 before) ++ ds) is
           ∙ sym (drop-append-le n (bits_of 8 before) (bits_of 8 after) (omega (arith, long, at.there)))
           ∙ ap (drop n) (sym (flat_map-append (bits 8) before after))
@@ -53,8 +53,8 @@ ahead_more bytes window more count item at within room is next have joins =
     }
 
 -- with the first bits taken
-pub ahead_less : (bytes : List ℕ) (window less : Window) (width : ℕ) → IsAhead bytes window → width ≤ window.have → less.bits ≡ window.bits → less.next ≡ window.next → less.have ≡ window.have - width → IsAhead bytes less
-ahead_less bytes window less width at some bits_are next have =
+pub untaken_less : (bytes : List ℕ) (window less : Window) (width : ℕ) → HasUntaken bytes window → width ≤ window.have → less.bits ≡ window.bits → less.next ≡ window.next → less.have ≡ window.have - width → HasUntaken bytes less
+untaken_less bytes window less width at some bits_are next have =
     let n = taken_before window in
     let digits = bits_of 8 (take window.next bytes) in
     let rest = window.have - width in
@@ -64,27 +64,27 @@ ahead_less bytes window less width at some bits_are next have =
       few = omega (arith, have, at.few);
       there = omega (arith, next, have, at.there);
       within = omega (arith, next, at.within);
-      ahead =
+      untaken =
           ap (λ k. bits k less.bits) have
           ∙ ap (bits rest) bits_are
           ∙ sym (drop_at (bits width (window.bits / 2 ^ rest)) (bits rest window.bits) width (length-bits width (window.bits / 2 ^ rest)))
           ∙ ap (drop width) (sym (bits-split width rest window.bits))
           ∙ ap (λ k. drop width (bits k window.bits)) (sym whole)
-          ∙ ap (drop width) at.ahead
+          ∙ ap (drop width) at.untaken
           ∙ drop-drop width n digits
           ∙ ap (λ k. drop k digits) same
           ∙ ap (λ k. drop (taken_before less) (bits_of 8 (take k bytes))) (sym next);
     }
 
 -- the first bits are the number that comes next
-pub ahead_first : (bytes : List ℕ) (window : Window) (width id : ℕ) → IsAhead bytes window → width ≤ window.have → id ≡ window.bits / 2 ^ (window.have - width) % 2 ^ width → id ≡ field width (taken_before window) (bits_of 8 bytes)
-ahead_first bytes window width id at some is =
+pub untaken_first : (bytes : List ℕ) (window : Window) (width id : ℕ) → HasUntaken bytes window → width ≤ window.have → id ≡ window.bits / 2 ^ (window.have - width) % 2 ^ width → id ≡ field width (taken_before window) (bits_of 8 bytes)
+untaken_first bytes window width id at some is =
     let n = taken_before window in
     let digits = bits_of 8 (take window.next bytes) in
     let rest = window.have - width in
     let whole : window.have ≡ 0 + width + rest = omega (arith, some) in
     is
-    ∙ sym (field-window width 0 rest window.bits (drop n digits) (sym at.ahead ∙ ap (λ k. bits k window.bits) whole))
+    ∙ sym (field-window width 0 rest window.bits (drop n digits) (sym at.untaken ∙ ap (λ k. bits k window.bits) whole))
     ∙ field-following width 0 n digits
     ∙ ap (λ k. field width k digits) (omega arith)
     ∙ ap (field width n) (sym (take-bits_of window.next 8 bytes))
