@@ -9,6 +9,25 @@ use crate::averages::AverageState;
 use crate::states::AggState;
 use std::cmp::Ordering;
 
+/// Compares two states of one kind: averages as fractions, and others by value. It takes no memory.
+pub fn compare_states(a: &AggState, b: &AggState) -> Ordering
+    requires kinds { kind_of a.now ≡ kind_of b.now }
+    requires a_values { HasValues a.now }
+    requires b_values { HasValues b.now }
+    requires a_fits { Fits a.now most_values }
+    requires b_fits { Fits b.now most_values }
+    ensures { result ≡ state_order a.now b.now }
+{
+    match (a, b) {
+        (AggState::Count(a), AggState::Count(b)) => a.cmp(b),
+        (AggState::Sum(a), AggState::Sum(b)) => a.cmp(b),
+        (AggState::Least(Some(a)), AggState::Least(Some(b))) => a.cmp(b),
+        (AggState::Greatest(Some(a)), AggState::Greatest(Some(b))) => a.cmp(b),
+        (AggState::Average(a), AggState::Average(b)) => compare_averages(a, b),
+        _ => unreachable!(),
+    }
+}
+
 /// A sum times a count, within 121 bits.
 fn product(sum: i128, count: u64) -> i128
     requires sum { SumFits sum most_values }
@@ -27,23 +46,4 @@ fn compare_averages(a: &AverageState, b: &AverageState) -> Ordering
     ensures { result ≡ average_order a.now b.now }
 {
     product(a.sum, b.count).cmp(&product(b.sum, a.count))
-}
-
-/// Compares two states of one kind: averages as fractions, and others by value. It takes no memory.
-pub fn compare_states(a: &AggState, b: &AggState) -> Ordering
-    requires kinds { kind_of a.now ≡ kind_of b.now }
-    requires a_values { HasValues a.now }
-    requires b_values { HasValues b.now }
-    requires a_fits { Fits a.now most_values }
-    requires b_fits { Fits b.now most_values }
-    ensures { result ≡ state_order a.now b.now }
-{
-    match (a, b) {
-        (AggState::Count(a), AggState::Count(b)) => a.cmp(b),
-        (AggState::Sum(a), AggState::Sum(b)) => a.cmp(b),
-        (AggState::Least(Some(a)), AggState::Least(Some(b))) => a.cmp(b),
-        (AggState::Greatest(Some(a)), AggState::Greatest(Some(b))) => a.cmp(b),
-        (AggState::Average(a), AggState::Average(b)) => compare_averages(a, b),
-        _ => unreachable!(),
-    }
 }

@@ -19,12 +19,10 @@ pub use aggregator::{Aggregator, BadState};
 pub use averages::{Average, AverageState};
 pub use compare::compare_states;
 pub use counts::Count;
+pub use data_types::NoMemory;
 pub use extremes::{Greatest, Least};
 pub use kind_list::Kinds;
 pub use laws::{aggregates_law, extremes_law, order_law, rows_law, weights_law};
 pub use states::AggState;
 pub use sums::Sum;
 pub use tree_shape::TreeShape;
-
-/// A growth was refused.
-pub type NoMemory = std::alloc::AllocError;

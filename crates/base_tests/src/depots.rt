@@ -3,7 +3,7 @@
 use crate::device_calls::{DepotCall, ShelfCall, run_depot};
 use crate::expect::Expectations;
 use crate::fixtures::{calls, files};
-use memory_depots::MemoryDepot;
+use memory_devices::MemoryDepot;
 use outside::{DepotFault, NoMemory, ShelfFault};
 use std::alloc::Global;
 

@@ -1,8 +1,11 @@
-//! Calls of shelves, depots and sinks with what has to come of each, in tables that are run in their order.
+//! Calls of shelves, depots and sinks with what has to come of each, in tables that are run in
+//! their order.
 
 use crate::expect::Expectations;
-use file_reading::{ReadAllFault, read_all, read_bytes};
-use outside::{Depot, DepotFault, Name, Seq, Shelf, ShelfFault, Sink, SinkFault};
+use outside::{
+    Depot, DepotFault, Name, ReadAllFault, Seq, Shelf, ShelfFault, Sink, SinkFault, read_all,
+    read_bytes,
+};
 use std::alloc::Global;
 
 /// A call of a shelf, and what comes of it.
@@ -17,7 +20,8 @@ pub enum ShelfCall {
     Whole(&'static str, u64, Result<&'static [u8], ReadAllFault>),
     /// The bytes of a file from an offset on, that many at most.
     Bytes(&'static str, u64, u64, Result<&'static [u8], ShelfFault>),
-    /// From an offset of the file `a` on, so many bytes are read, and the buffer has these bytes then.
+    /// From an offset of the file `a` on, so many bytes are read, and the buffer has these bytes
+    /// then.
     Part(u64, usize, &'static [u8]),
 }
 

@@ -10,9 +10,8 @@ use crate::values_in_order::{many, text};
 use data_types::{FieldKind, Seq};
 use dictionary::{DictFault, Dictionary};
 use std::alloc::{AllocError, Global};
-use value_columns::read_value;
 use value_ids::IdSet;
-use values::{CompareOp, Test, Value};
+use values::{CompareOp, Test, Value, read_value};
 
 // A kind, the cells of a column, and the dictionary's bytes.
 type Spelled = (FieldKind, &'static [&'static str], &'static [u8]);

@@ -4,8 +4,8 @@ use std::alloc::Global;
 use std::cell::Cell;
 use std::fmt::Write;
 
-/// The lines of the tables so far, and what was expected in the one that runs. It is shared by what runs them, so
-/// that it need not be lent anew at each expectation.
+/// The lines of the tables so far, and what was expected in the one that runs. It is shared by what
+/// runs them, so that it need not be lent anew at each expectation.
 #[derive(Drop)]
 pub struct Expectations {
     alloc: Global,

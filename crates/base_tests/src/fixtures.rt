@@ -1,5 +1,5 @@
-//! Names, bytes and files that are made for a test. Where there is no memory they are empty, and what is expected of
-//! them does not hold.
+//! Names, bytes and files that are made for a test. Where there is no memory they are empty, and
+//! what is expected of them does not hold.
 
 use memory_devices::MemoryShelf;
 use outside::{Bytes, Name, NoMemory, Seq};
@@ -10,7 +10,7 @@ pub fn string(alloc: Global, text: &str) -> String {
 }
 
 pub fn name(alloc: Global, text: &str) -> Name {
-    Name::from_string(string(alloc, text))
+    Name::from_text(alloc, text).unwrap_or(Name::new(alloc))
 }
 
 pub fn bytes(alloc: Global, text: &[u8]) -> Bytes {

@@ -4,9 +4,8 @@ use crate::depots::CALLS;
 use crate::device_calls::{DepotCall, ShelfCall, reads, run_depot, run_shelf};
 use crate::expect::Expectations;
 use crate::fixtures::string;
-use file_reading::ReadAllFault;
 use host_devices::{FolderDepot, FolderShelf};
-use outside::{Depot, DepotFault, Shelf, ShelfFault};
+use outside::{Depot, DepotFault, ReadAllFault, Shelf, ShelfFault};
 use std::alloc::{AllocError, Global};
 use std::{fs, process};
 
@@ -36,7 +35,8 @@ fn is_removed(rt: &HostRuntime, folder: &str) -> bool {
     fs::remove_dir_all(rt, folder).ok().is_some()
 }
 
-// Makes a folder anew with the file `a`, the file `z.part` and a folder `sub` that has the file `c`.
+// Makes a folder anew with the file `a`, the file `z.part` and a folder `sub` that has the file
+// `c`.
 fn fill(rt: &HostRuntime, folder: &str, all: &Expectations) {
     let _was_there = is_removed(rt, folder);
     let sub = path(rt.alloc(), folder, "sub");
@@ -49,7 +49,10 @@ fn fill(rt: &HostRuntime, folder: &str, all: &Expectations) {
 
 // Calls of a shelf over such a folder.
 const SHELF_NAMES: &[(ShelfCall, &str)] = &[
-    (ShelfCall::Names(&["a", "z.part"]), "files are listed"),
+    (
+        ShelfCall::Names(&["a", "sub", "z.part"]),
+        "names are listed",
+    ),
     (ShelfCall::Whole("a", 5, Ok(b"12345")), "a name is read"),
     (ShelfCall::Whole("sub/c", 5, Ok(b"12345")), "a path is read"),
     (

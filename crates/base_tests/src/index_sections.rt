@@ -5,7 +5,7 @@ ghost use Rattle.std.specs.Prelude.{◌≡◌, ◌<◌, [], ◌∷◌, All, IfOk
 use crate::expect::Expectations;
 use crate::fixtures::{name, shelf_of};
 use doc_lists::DocList;
-use index_reading::{ListFault, ListKind, docs_between, docs_of_ids};
+use index_reader::{ListFault, ListKind, docs_between, docs_of_ids};
 use memory_devices::MemoryShelf;
 use outside::{NoMemory, Place};
 use std::alloc::Global;

@@ -1,5 +1,6 @@
-//! Worked values and calls of the crates that the others are built on: devices, values, aggregates, dictionaries,
-//! forward indexes and the sections of other indexes. It prints a line for each table, and each expectation that does not hold.
+//! Worked values and calls of the crates that the others are built on: devices, values, aggregates,
+//! dictionaries, forward indexes and the sections of other indexes. It prints a line for each
+//! table, and each expectation that does not hold.
 #![tactic(auto)]
 
 mod aggregates;

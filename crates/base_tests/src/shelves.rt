@@ -3,9 +3,8 @@
 use crate::device_calls::{ShelfCall, run_shelf};
 use crate::expect::Expectations;
 use crate::fixtures::{bytes, calls, files, name};
-use file_reading::ReadAllFault;
 use memory_devices::MemoryShelf;
-use outside::{Bytes, Name, NoMemory, Seq, ShelfFault};
+use outside::{Bytes, Name, NoMemory, ReadAllFault, Seq, ShelfFault};
 use std::alloc::Global;
 use std::cmp::Ordering;
 

@@ -10,8 +10,8 @@ use std::alloc::Global;
 use std::io;
 use std::io::{ErrorKind, Write};
 
-// A writer that takes one byte at a time, and none once it has three. Each other time it is interrupted. It counts
-// how often it is flushed.
+// A writer that takes one byte at a time, and none once it has three. Each other time it is
+// interrupted. It counts how often it is flushed.
 #[derive(Drop)]
 struct Narrow<'a> {
     taken: &'a mut Vec<u8>,

@@ -38,7 +38,8 @@ fn expect_test(test: Test, held: &str, may_be: bool, all: &Expectations) {
     drop(test);
 }
 
-// A comparison with a number: its operator, the number, the values that satisfy it, whether it may hold.
+// A comparison with a number: its operator, the number, the values that satisfy it, whether it may
+// hold.
 type Comparison = (CompareOp, i64, &'static str, bool);
 
 const COMPARISONS: &[Comparison] = &[

@@ -3,18 +3,18 @@
 ghost use Rattle.std.specs.Prelude.{◌≡◌, ◌-◌, ◌≤◌, ◌<◌, ◌∷◌, ◌++◌, [], OnOk, IfOk, pos, slice_index};
 ghost use Rattle.agg_laws.specs.declared.aggregate_kind.AggKind.TheVariants as kind;
 ghost use Rattle.agg_laws.specs.declared.states.AggState.TheVariants as state;
-ghost use Rattle.tree_laws.specs.Worked.{doc};
+ghost use Rattle.star_tree.specs.Worked.{doc};
 
 use crate::aggregates::sums_and_counts;
 use crate::expect::Expectations;
 use agg_laws::{AggState, TreeShape};
-use document_table::StarTable;
-use state_columns::{Ids, STAR, StarRow, StateRow};
-use std::alloc::{AllocError, Global};
-use tree_laws::{
+use star_table::StarTable;
+use star_tree::{
     aggregated_law, answer_law, children_law, covers_law, flat_law, node_rules_law, picks_law,
     reads_law, worked_law,
 };
+use state_columns::{Ids, STAR, StarRow, StateRow};
+use std::alloc::{AllocError, Global};
 
 fn ids_of(alloc: Global, ids: [u32; 3]) -> Result<Ids, AllocError>
     ensures { IfOk result (λ dims. dims
@@ -61,7 +61,8 @@ fn add_view(
     requires kinds { table.old.kinds ≡ kind.Sum ∷ kind.Count ∷ [] }
     requires spare { 1 ≤ table.old.spare }
     ensures { OnOk result (table.new ≡ record table.old {
-      docs = table.old.docs ++ doc (slice_index ids 0) (slice_index ids 1) (slice_index ids 2) impressions 1 ∷ [];
+      docs = table.old.docs
+          ++ doc (slice_index ids 0) (slice_index ids 1) (slice_index ids 2) impressions 1 ∷ [];
       spare = table.old.spare - 1;
     }) }
 {

@@ -5,8 +5,7 @@ use crate::fixtures::string;
 use data_types::{Boxed, FieldKind, Name, Seq};
 use std::alloc::{AllocError, Global};
 use std::collections::{BTreeMap, HashMap};
-use value_columns::{Row, ValueFault, copy_row, read_value};
-use values::{Value, compare, push_text};
+use values::{Row, Value, ValueFault, compare, copy_row, push_text, read_value};
 
 pub fn text(alloc: Global, text: &str) -> Value {
     Value::Text(Name::from_text(alloc, text).unwrap_or(Name::new(alloc)))

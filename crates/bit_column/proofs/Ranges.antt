@@ -102,6 +102,15 @@ range-bad None place width count from to bytes wide some within part bad = tt
 range-bad (Some files) place width count from to bytes wide some within part bad =
     λ readable. bad (subst (All (λ id. id < count)) (sym (range-same files place width from to bytes wide some within part.1)) readable.1)
 
+-- a range past the end of its section is not there
+pub range-beyond : (held : Option Files) (place : Place) (width count from to : ℕ) → from < to
+    → place.length < (to * width + 7) / 8
+    → IfSome held (λ files. Readable width count from to (section files place) → ⊥)
+range-beyond None place width count from to some beyond = tt
+range-beyond (Some files) place width count from to some beyond = λ readable.
+    let reach : to * width ≤ 8 * length (section files place) = readable.0 some in
+    absurd (omega (arith, section-long files place, reach, beyond))
+
 pub pieces-long : (width first number : ℕ) (digits : List ℕ) → length (pieces width first number digits) ≡ number
 pieces-long width first number digits = length-map-range_with_len _ 0 number
 

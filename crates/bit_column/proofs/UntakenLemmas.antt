@@ -17,7 +17,7 @@ untaken_start bytes window none empty first =
     let nothing : List ℕ = [] in
     let before : taken_before window ≡ 0 = omega (arith, first, empty) in
     record {
-      few = omega (arith, empty);
+      at_most = omega (arith, empty);
       there = omega (arith, empty);
       within = omega (arith, first);
       untaken =
@@ -37,7 +37,7 @@ untaken_more bytes window more count item at within room is next have joins =
     let same : taken_before more ≡ n = omega (arith, next, have, at.there) in
     let long : length (bits_of 8 before) ≡ window.next * 8 = length-bits_of 8 before ∙ ap (λ k. k * 8) (omega (arith, length-take window.next bytes, at.within)) in
     record {
-      few = omega (arith, have, room);
+      at_most = omega (arith, have, room);
       there = omega (arith, next, have, at.there);
       within = omega (arith, next, within);
       untaken =
@@ -61,7 +61,7 @@ untaken_less bytes window less width at some bits_are next have =
     let whole : window.have ≡ width + rest = omega (arith, some) in
     let same : n + width ≡ taken_before less = omega (arith, next, have, at.there, some) in
     record {
-      few = omega (arith, have, at.few);
+      at_most = omega (arith, have, at.at_most);
       there = omega (arith, next, have, at.there);
       within = omega (arith, next, at.within);
       untaken =

@@ -1,11 +1,13 @@
--- The forward index of a column: the ids of its rows, each in as many bits as the number of ids wants.
+-- The forward index of a column: the ids of its rows, each in as many bits as the number of ids
+-- wants.
 use Rattle.std.specs.Prelude.{◌≤◌, ℕ, ◌+◌, ◌-◌, ◌*◌, ◌/◌, ◌^◌, List, ◌++◌, length, replicate, max}
 use Rattle.std.specs.Int.{leading_zeros, w32}
 use Rattle.bit_column.specs.Bits.{bits_of, field, pieces}
 
 -- the number is the least from 1 on with so many numbers of so many bits
 abbrev pub IsWidth : ℕ → ℕ → Type 0
-IsWidth count width = (1 ≤ width) × (count ≤ 2 ^ width) × ((other : ℕ) → 1 ≤ other → count ≤ 2 ^ other → width ≤ other)
+IsWidth count width = (1 ≤ width) × (count ≤ 2 ^ width) × ((other : ℕ) → 1 ≤ other
+    → count ≤ 2 ^ other → width ≤ other)
 
 -- that number: the digits of the greatest id, and one where there is no id but 0
 abbrev pub width_of : ℕ → ℕ

@@ -3,4 +3,5 @@ pub mod Bits
 pub mod Column
 pub mod Sections
 pub mod Postings
+pub mod Reading
 pub mod SortedRuns

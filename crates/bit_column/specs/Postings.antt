@@ -1,4 +1,5 @@
--- Postings: the places of each key in a column, as a section has them. The keys of an inverted index are ids, and those of a range index buckets of ids.
+-- Postings: the places of each key in a column, as a section has them. The keys of an inverted
+-- index are ids, and those of a range index buckets of ids.
 use Rattle.std.specs.Prelude.{ℕ, zero, suc, ◌+◌, ◌/◌, ◌==◌, List, [], ◌++◌, length, map}
 use Rattle.std.specs.List.{filter, enumerate_from, range_with_len}
 use Rattle.bit_column.specs.Column.{spelled, id_at, ids_between}
@@ -30,7 +31,8 @@ postings count keys = spelled 32 (offsets count keys ++ entries count keys)
 
 -- what the bytes of postings by so many keys say of one
 abbrev pub entry_at : ℕ → ℕ → List ℕ → List ℕ
-entry_at count key bytes = ids_between 32 (count + 1 + id_at 32 key bytes) (count + 1 + id_at 32 (key + 1) bytes) bytes
+entry_at count key bytes = ids_between 32 (count + 1 + id_at 32 key bytes)
+    (count + 1 + id_at 32 (key + 1) bytes) bytes
 
 -- ---- the two indexes
 

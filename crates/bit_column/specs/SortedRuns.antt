@@ -1,4 +1,5 @@
--- The sorted column: the first place of each id, and the place after its last, as a section has them.
+-- The sorted column: the first place of each id, and the place after its last, as a section has
+-- them.
 use Rattle.std.specs.Prelude.{ℕ, zero, suc, ◌+◌, ◌-◌, ◌*◌, nat_lt, List, [], ◌∷◌, ◌++◌, length}
 use Rattle.std.specs.List.{filter, range_with_len}
 use Rattle.bit_column.specs.Column.{spelled, id_at}
@@ -18,4 +19,5 @@ sorted_runs count keys = spelled 32 (runs count keys)
 
 -- the places that the bytes of runs say of a key
 abbrev pub run_at : ℕ → List ℕ → List ℕ
-run_at key bytes = range_with_len (id_at 32 (2 * key) bytes) (id_at 32 (2 * key + 1) bytes - id_at 32 (2 * key) bytes)
+run_at key bytes = range_with_len (id_at 32 (2 * key) bytes)
+    (id_at 32 (2 * key + 1) bytes - id_at 32 (2 * key) bytes)

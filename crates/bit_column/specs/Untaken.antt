@@ -9,7 +9,8 @@ taken_before window = 8 * window.next - window.have
 
 -- the window has the bits of the bytes before the next one that were not taken yet
 pub record HasUntaken (bytes : List ℕ) (window : Window) : Type 0 where
-  pub few : window.have ≤ 64
+  pub at_most : window.have ≤ 64
   pub there : window.have ≤ 8 * window.next
   pub within : window.next ≤ length bytes
-  pub untaken : bits window.have window.bits ≡ drop (taken_before window) (bits_of 8 (take window.next bytes))
+  pub untaken : bits window.have window.bits ≡ drop (taken_before window)
+      (bits_of 8 (take window.next bytes))

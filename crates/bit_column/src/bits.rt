@@ -2,7 +2,7 @@
 ghost use Rattle.std.specs.Prelude.{◌≡◌, ◌≤◌, ◌<◌, ◌+◌, ◌-◌, ◌*◌, ◌/◌, ◌%◌, ◌^◌, ◌++◌, length, replicate};
 ghost use Rattle.bit_column.specs.Bits.{bits, bits_of, number};
 
-// The window with an id after what it has.
+/// The window with an id after what it has.
 #[tactic(auto, using(crate::proofs::Windows::joined))]
 pub fn joined(window: u64, have: u32, id: u32, width: u32) -> u64
     requires width { width ≤ 32 }
@@ -13,7 +13,7 @@ pub fn joined(window: u64, have: u32, id: u32, width: u32) -> u64
     window << width | id as u64
 }
 
-// The byte of the window that so many bits follow.
+/// The byte of the window that so many bits follow.
 #[tactic(auto, using(crate::proofs::Windows::whole_byte))]
 pub fn whole_byte(window: u64, following: u32) -> u8
     requires { following < 56 }
@@ -22,7 +22,7 @@ pub fn whole_byte(window: u64, following: u32) -> u8
     ((window >> following) & 255) as u8
 }
 
-// The byte of the last few bits of the window, with zero bits after them.
+/// The byte of the last few bits of the window, with zero bits after them.
 #[tactic(auto, using(crate::proofs::Windows::last_byte))]
 pub fn last_byte(window: u64, have: u32) -> u8
     requires { have < 8 }
@@ -31,7 +31,7 @@ pub fn last_byte(window: u64, have: u32) -> u8
     ((window << (8 - have)) & 255) as u8
 }
 
-// So many bits of the window, which so many others follow.
+/// So many bits of the window, which so many others follow.
 #[tactic(auto, using(crate::proofs::Windows::taken))]
 pub fn taken(window: u64, following: u32, width: u32) -> u32
     requires width { width ≤ 32 }

@@ -29,8 +29,8 @@ pub fn widths_are_least()
     ensures { (count : ℕ) → count < 2 ^ 32 → IsWidth count (width_of count) }
 {}
 
-/// Postings by keys are as long as one offset a key, one more, and one entry a row, and what they say
-/// of a key are its places, ascending.
+/// Postings by keys are as long as one offset a key, one more, and one entry a row, and what they
+/// say of a key are its places, ascending.
 pub fn postings_read_back()
     ensures length { (count : ℕ) (keys : List ℕ) → All (λ key. key < count) keys →
         length (postings count keys) ≡ 4 * (count + 1 + length keys) }

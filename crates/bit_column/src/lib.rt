@@ -4,6 +4,7 @@
 
 mod bits;
 mod fault;
+mod id_range;
 mod laws;
 mod part;
 mod range;
@@ -14,8 +15,9 @@ mod window;
 mod writing;
 
 pub use fault::ColumnFault;
+pub use id_range::IdRange;
 pub use laws::{postings_read_back, reads_back, sorted_reads_back, widths_are_least};
 pub use range::{append_range, read_range};
 pub use reading::at;
-pub use width::width_for;
+pub use width::{Width, width_for};
 pub use writing::write;

@@ -1,13 +1,13 @@
 //! A part of a file is read.
-ghost use Rattle.std.specs.Prelude.{◌≡◌, ◌≤◌, ◌<◌, ◌+◌, ◌-◌, ◌^◌, ◌↔◌, IfOk, OnErr, OnOk, IsErrOf, length, take};
+ghost use Rattle.std.specs.Prelude.{◌≡◌, ◌≤◌, ◌<◌, ◌+◌, ◌-◌, ◌^◌, ◌↔◌, IfOk, IsErrOf, length, take};
 ghost use Rattle.outside.specs.Files.{Lacks};
 ghost use Rattle.outside.specs.Reads.{Fills, LogsOn, LogsUpTo};
 ghost use Rattle.outside.specs.Seen.{OnlyReads, seen};
-ghost use Rattle.bit_column.specs.Sections.{IsPart, EndsBefore};
+ghost use Rattle.bit_column.specs.Reading.{ReadsPart};
+ghost use Rattle.bit_column.specs.Sections.{EndsBefore};
 
 use crate::ColumnFault;
-use file_reading::read_into;
-use outside::{Shelf, ShelfFault};
+use outside::{Shelf, ShelfFault, read_into};
 use std::alloc::Global;
 
 /// Reads the bytes of a file between two places after an offset into `into`, which has place for
@@ -24,16 +24,8 @@ pub fn read_part<S: Shelf>(
 ) -> Result<(), ColumnFault>
     requires order { from < to }
     requires size { length into.old ≡ to - from }
-    ensures part { OnOk result
-        (IsPart (S.held shelf.old) name.now (offset + from) (offset + to) into.new) }
-    ensures only_reads { OnlyReads (IsErrOf result ColumnFault.ReadFault)
+    ensures { ReadsPart result name.now (offset + from) (offset + to) into.new
         (seen S.Shelf shelf.old) (seen S.Shelf shelf.new) }
-    ensures log { OnOk result (
-        LogsOn name.now (offset + from) (offset + to) (S.log shelf.old) (S.log shelf.new)) }
-    ensures log_of_fault { OnErr result
-        (LogsUpTo name.now (offset + from) (offset + to) (S.log shelf.old) (S.log shelf.new)) }
-    ensures short { IsErrOf result ColumnFault.BadId →
-        EndsBefore (S.held shelf.old) name.now (offset + to) }
 {
     if to > u64::MAX - offset {
         return Err(past_all(alloc, shelf, name));
@@ -48,8 +40,8 @@ pub fn read_part<S: Shelf>(
     Ok(())
 }
 
-/// Reads the bytes of a file between two places after an offset, of which there are at most eight, to
-/// the front of `bytes`.
+/// Reads the bytes of a file between two places after an offset, of which there are at most eight,
+/// to the front of `bytes`.
 #[inline(always)]
 pub fn read_few<S: Shelf>(
     alloc: Global,
@@ -61,17 +53,9 @@ pub fn read_few<S: Shelf>(
     bytes: &mut [u8; 8],
 ) -> Result<(), ColumnFault>
     requires order { from < to }
-    requires few { to ≤ from + 8 }
-    ensures part { OnOk result (IsPart (S.held shelf.old) name.now (offset + from)
-        (offset + to) (take (to - from) bytes.new)) }
-    ensures only_reads { OnlyReads (IsErrOf result ColumnFault.ReadFault)
+    requires at_most_eight { to ≤ from + 8 }
+    ensures { ReadsPart result name.now (offset + from) (offset + to) (take (to - from) bytes.new)
         (seen S.Shelf shelf.old) (seen S.Shelf shelf.new) }
-    ensures log { OnOk result (
-        LogsOn name.now (offset + from) (offset + to) (S.log shelf.old) (S.log shelf.new)) }
-    ensures log_of_fault { OnErr result
-        (LogsUpTo name.now (offset + from) (offset + to) (S.log shelf.old) (S.log shelf.new)) }
-    ensures short { IsErrOf result ColumnFault.BadId →
-        EndsBefore (S.held shelf.old) name.now (offset + to) }
 {
     let size = (to - from) as usize;
     match read_short(alloc, shelf, name, offset, from, to, &mut bytes[..size]) {
@@ -80,8 +64,9 @@ pub fn read_few<S: Shelf>(
     }
 }
 
-// Reads the bytes of a file between two places after an offset into `into`, which has place for just
-// these. Nearly always one read gives them all, and what goes on after fewer is out of the way.
+// Reads the bytes of a file between two places after an offset into `into`, which has place for
+// just these. Nearly always one read gives them all, and what goes on after fewer is out of the
+// way.
 #[inline(always)]
 fn read_short<S: Shelf>(
     alloc: Global,
@@ -94,16 +79,8 @@ fn read_short<S: Shelf>(
 ) -> Result<(), ColumnFault>
     requires order { from < to }
     requires size { length into.old ≡ to - from }
-    ensures part { OnOk result
-        (IsPart (S.held shelf.old) name.now (offset + from) (offset + to) into.new) }
-    ensures only_reads { OnlyReads (IsErrOf result ColumnFault.ReadFault)
+    ensures { ReadsPart result name.now (offset + from) (offset + to) into.new
         (seen S.Shelf shelf.old) (seen S.Shelf shelf.new) }
-    ensures log { OnOk result (
-        LogsOn name.now (offset + from) (offset + to) (S.log shelf.old) (S.log shelf.new)) }
-    ensures log_of_fault { OnErr result
-        (LogsUpTo name.now (offset + from) (offset + to) (S.log shelf.old) (S.log shelf.new)) }
-    ensures short { IsErrOf result ColumnFault.BadId →
-        EndsBefore (S.held shelf.old) name.now (offset + to) }
 {
     if to > u64::MAX - offset {
         return Err(past_all(alloc, shelf, name));
@@ -146,16 +123,8 @@ fn read_rest<S: Shelf>(
 ) -> Result<(), ColumnFault>
     requires order { from < to }
     requires size { length into.old ≡ to - from }
-    ensures part { OnOk result
-        (IsPart (S.held shelf.old) name.now (offset + from) (offset + to) into.new) }
-    ensures only_reads { OnlyReads (IsErrOf result ColumnFault.ReadFault)
+    ensures { ReadsPart result name.now (offset + from) (offset + to) into.new
         (seen S.Shelf shelf.old) (seen S.Shelf shelf.new) }
-    ensures log { OnOk result (
-        LogsOn name.now (offset + from) (offset + to) (S.log shelf.old) (S.log shelf.new)) }
-    ensures log_of_fault { OnErr result
-        (LogsUpTo name.now (offset + from) (offset + to) (S.log shelf.old) (S.log shelf.new)) }
-    ensures short { IsErrOf result ColumnFault.BadId →
-        EndsBefore (S.held shelf.old) name.now (offset + to) }
 {
     read_part(alloc, shelf, name, offset, from, to, into)
 }

@@ -1,14 +1,14 @@
 //! A range of ids is read from a section of a file.
-ghost use Rattle.std.specs.Prelude.{◌≡◌, ◌≤◌, ◌<◌, ◌+◌, ◌-◌, ◌++◌, ◌∷◌, [], All, Err, IfOk, IfSome, IsErrOf, OnErr, OnOk, length};
-ghost use Rattle.outside.specs.Reads.{LogsOn, LogsUpTo};
-ghost use Rattle.outside.specs.Seen.{OnlyReads, seen};
+ghost use Rattle.std.specs.Prelude.{◌≡◌, ◌≤◌, ◌<◌, ◌+◌, ◌-◌, ◌++◌, ◌∷◌, [], All, Err, IfOk, IfSome, OnOk, length};
+ghost use Rattle.outside.specs.Seen.{seen};
 ghost use Rattle.bit_column.specs.Column.{ids_between};
-ghost use Rattle.bit_column.specs.Sections.{first_byte, end_byte, section, AppendsRange, Readable};
+ghost use Rattle.bit_column.specs.Reading.{ReadsRange};
+ghost use Rattle.bit_column.specs.Sections.{section, AppendsRange, Readable};
 ghost use Rattle.bit_column.specs.declared.fault.ColumnFault.TheVariants.{BadId, ReadFault};
 
-use crate::ColumnFault;
 use crate::part::{read_few, read_part};
 use crate::reading::{append_ids, id_of};
+use crate::{ColumnFault, IdRange, Width};
 use outside::{Place, Seq, Shelf};
 use std::alloc::Global;
 
@@ -32,75 +32,43 @@ pub fn read_range<S: Shelf>(
         × (ids ≡ ids_between width from to (section files place.now)))) }
     ensures number { IfOk result (λ ids. length ids ≡ to - from) }
     ensures below { IfOk result (λ ids. All (λ id. id < count) ids) }
-    ensures only_reads { OnlyReads (IsErrOf result ColumnFault.ReadFault)
+    ensures reads { ReadsRange result place.now width count from to
         (seen S.Shelf shelf.old) (seen S.Shelf shelf.new) }
-    ensures log { IfOk result (λ ids. LogsOn place.now.file
-        (place.now.offset + first_byte width from) (place.now.offset + end_byte width from to)
-        (S.log shelf.old) (S.log shelf.new)) }
-    ensures log_of_fault { OnErr result (LogsUpTo place.now.file
-        (place.now.offset + first_byte width from) (place.now.offset + end_byte width from to)
-        (S.log shelf.old) (S.log shelf.new)) }
-    // A range past the end of its section is refused before anything is read.
-    ensures past { place.now.length < end_byte width from to → from < to →
-        S.log shelf.new ≡ S.log shelf.old }
-    ensures bad { IsErrOf result ColumnFault.BadId → IfSome (S.held shelf.old) (λ files.
-        ¬ Readable width count from to (section files place.now)) }
 {
     let mut buffer = Vec::new(alloc);
     let mut ids = Vec::new(alloc);
-    match append_range(
-        alloc,
-        shelf,
-        place,
-        width,
+    let range = IdRange {
+        width: Width { bits: width },
         count,
         from,
         to,
-        &mut buffer,
-        &mut ids,
-    ) {
+    };
+    match append_range(alloc, shelf, place, range, &mut buffer, &mut ids) {
         Ok(()) => Ok(Seq::from_vec(ids)),
         Err(fault) => Err(fault),
     }
 }
 
-/// Appends the ids of a section between two indexes, the second left out, in so many bits each. It
-/// reads their bytes and no others, each once, into a buffer that is used again.
+/// Appends the ids of a range of a section. It reads their bytes and no others, each once, into a
+/// buffer that is used again.
 #[inline(always)]
 pub fn append_range<S: Shelf>(
     alloc: Global,
     shelf: &mut S,
     place: &Place,
-    width: u32,
-    count: u32,
-    from: u32,
-    to: u32,
+    range: IdRange,
     buffer: &mut Vec<u8>,
     ids: &mut Vec<u32>,
 ) -> Result<(), ColumnFault>
-    requires width { 1 ≤ width }
-    requires bound { width ≤ 32 }
-    requires order { from ≤ to }
-    ensures ids { OnOk result (AppendsRange (S.held shelf.old) place.now width count from to
-        ids.old.items ids.new.items) }
-    ensures only_reads { OnlyReads (IsErrOf result ColumnFault.ReadFault)
+    ensures ids { OnOk result (AppendsRange (S.held shelf.old) place.now range.width.bits
+        range.count range.from range.to ids.old.items ids.new.items) }
+    ensures reads { ReadsRange result place.now range.width.bits range.count range.from range.to
         (seen S.Shelf shelf.old) (seen S.Shelf shelf.new) }
-    ensures log { OnOk result (LogsOn place.now.file
-        (place.now.offset + first_byte width from) (place.now.offset + end_byte width from to)
-        (S.log shelf.old) (S.log shelf.new)) }
-    ensures log_of_fault { OnErr result (LogsUpTo place.now.file
-        (place.now.offset + first_byte width from) (place.now.offset + end_byte width from to)
-        (S.log shelf.old) (S.log shelf.new)) }
-    // A range past the end of its section is refused before anything is read.
-    ensures past { place.now.length < end_byte width from to → from < to →
-        S.log shelf.new ≡ S.log shelf.old }
-    ensures bad { result ≡ Err BadId → IfSome (S.held shelf.old) (λ files.
-        ¬ Readable width count from to (section files place.now)) }
 {
-    if to - from == 1 {
-        return append_one(alloc, shelf, place, width, count, from, to, ids);
+    if range.to - range.from == 1 {
+        return append_one(alloc, shelf, place, range, ids);
     }
-    append_some(alloc, shelf, place, width, count, from, to, buffer, ids)
+    append_some(alloc, shelf, place, range, buffer, ids)
 }
 
 // Appends the id of a range of one. It takes no memory but for the id.
@@ -109,32 +77,17 @@ fn append_one<S: Shelf>(
     alloc: Global,
     shelf: &mut S,
     place: &Place,
-    width: u32,
-    count: u32,
-    from: u32,
-    to: u32,
+    range: IdRange,
     ids: &mut Vec<u32>,
 ) -> Result<(), ColumnFault>
-    requires width { 1 ≤ width }
-    requires bound { width ≤ 32 }
-    requires one { to ≡ from + 1 }
-    ensures ids { OnOk result (AppendsRange (S.held shelf.old) place.now width count from to
-        ids.old.items ids.new.items) }
-    ensures only_reads { OnlyReads (IsErrOf result ColumnFault.ReadFault)
+    requires { range.to ≡ range.from + 1 }
+    ensures ids { OnOk result (AppendsRange (S.held shelf.old) place.now range.width.bits
+        range.count range.from range.to ids.old.items ids.new.items) }
+    ensures reads { ReadsRange result place.now range.width.bits range.count range.from range.to
         (seen S.Shelf shelf.old) (seen S.Shelf shelf.new) }
-    ensures log { OnOk result (LogsOn place.now.file
-        (place.now.offset + first_byte width from) (place.now.offset + end_byte width from to)
-        (S.log shelf.old) (S.log shelf.new)) }
-    ensures log_of_fault { OnErr result (LogsUpTo place.now.file
-        (place.now.offset + first_byte width from) (place.now.offset + end_byte width from to)
-        (S.log shelf.old) (S.log shelf.new)) }
-    ensures past { place.now.length < end_byte width from to →
-        S.log shelf.new ≡ S.log shelf.old }
-    ensures bad { result ≡ Err BadId → IfSome (S.held shelf.old) (λ files.
-        ¬ Readable width count from to (section files place.now)) }
 {
-    let bit = from as u64 * width as u64;
-    let end = (to as u64 * width as u64 + 7) / 8;
+    let bit = range.from as u64 * range.width.bits as u64;
+    let end = (range.to as u64 * range.width.bits as u64 + 7) / 8;
     if end > place.length {
         return Err(ColumnFault::BadId);
     }
@@ -143,7 +96,8 @@ fn append_one<S: Shelf>(
     match read_few(alloc, shelf, name, place.offset, bit / 8, end, &mut bytes) {
         Ok(()) => {
             let size = (end - bit / 8) as usize;
-            push_id(id_of(&bytes, size, (bit % 8) as usize, width), count, ids)
+            let id = id_of(&bytes, size, (bit % 8) as usize, range.width);
+            push_id(id, range.count, ids)
         }
         Err(fault) => Err(fault),
     }
@@ -172,37 +126,20 @@ fn append_some<S: Shelf>(
     alloc: Global,
     shelf: &mut S,
     place: &Place,
-    width: u32,
-    count: u32,
-    from: u32,
-    to: u32,
+    range: IdRange,
     buffer: &mut Vec<u8>,
     ids: &mut Vec<u32>,
 ) -> Result<(), ColumnFault>
-    requires width { 1 ≤ width }
-    requires bound { width ≤ 32 }
-    requires order { from ≤ to }
-    ensures ids { OnOk result (AppendsRange (S.held shelf.old) place.now width count from to
-        ids.old.items ids.new.items) }
-    ensures only_reads { OnlyReads (IsErrOf result ColumnFault.ReadFault)
+    ensures ids { OnOk result (AppendsRange (S.held shelf.old) place.now range.width.bits
+        range.count range.from range.to ids.old.items ids.new.items) }
+    ensures reads { ReadsRange result place.now range.width.bits range.count range.from range.to
         (seen S.Shelf shelf.old) (seen S.Shelf shelf.new) }
-    ensures log { OnOk result (LogsOn place.now.file
-        (place.now.offset + first_byte width from) (place.now.offset + end_byte width from to)
-        (S.log shelf.old) (S.log shelf.new)) }
-    ensures log_of_fault { OnErr result (LogsUpTo place.now.file
-        (place.now.offset + first_byte width from) (place.now.offset + end_byte width from to)
-        (S.log shelf.old) (S.log shelf.new)) }
-    // A range past the end of its section is refused before anything is read.
-    ensures past { place.now.length < end_byte width from to → from < to →
-        S.log shelf.new ≡ S.log shelf.old }
-    ensures bad { result ≡ Err BadId → IfSome (S.held shelf.old) (λ files.
-        ¬ Readable width count from to (section files place.now)) }
 {
-    if from == to {
+    if range.from == range.to {
         return Ok(());
     }
-    let bit = from as u64 * width as u64;
-    let end = (to as u64 * width as u64 + 7) / 8;
+    let bit = range.from as u64 * range.width.bits as u64;
+    let end = (range.to as u64 * range.width.bits as u64 + 7) / 8;
     if end > place.length {
         return Err(ColumnFault::BadId);
     }
@@ -213,9 +150,9 @@ fn append_some<S: Shelf>(
         Ok(()) => append_ids(
             buffer.as_slice(),
             (bit % 8) as usize,
-            width,
-            count,
-            (to - from) as usize,
+            range.width,
+            range.count,
+            (range.to - range.from) as usize,
             ids,
         ),
         Err(fault) => Err(fault),

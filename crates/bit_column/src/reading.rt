@@ -4,9 +4,9 @@ ghost use Rattle.bit_column.specs.Bits.{bits, bits_of, field, pieces};
 ghost use Rattle.bit_column.specs.Column.{id_at};
 ghost use Rattle.bit_column.specs.declared.fault.ColumnFault.TheVariants.{BadId, ReadFault};
 
-use crate::ColumnFault;
 use crate::bits::taken;
 use crate::unpacking::unpack;
+use crate::{ColumnFault, Width};
 
 /// The id at an index of a section's bytes, which have all its bits.
 pub fn at(bytes: &[u8], width: u32, index: u32) -> u32
@@ -15,20 +15,22 @@ pub fn at(bytes: &[u8], width: u32, index: u32) -> u32
     requires held { (index + 1) * width ≤ 8 * length bytes.now }
     ensures { result ≡ id_at width index bytes.now }
 {
-    field_at(bytes, index as usize * width as usize, width)
+    field_at(
+        bytes,
+        index as usize * width as usize,
+        Width { bits: width },
+    )
 }
 
 // The number of so many bits from one of them on.
 #[inline]
-fn field_at(bytes: &[u8], bit: usize, width: u32) -> u32
-    requires width { 1 ≤ width }
-    requires bound { width ≤ 32 }
-    requires held { bit + width ≤ 8 * length bytes.now }
-    ensures { result ≡ field width bit (bits_of 8 bytes.now) }
+fn field_at(bytes: &[u8], bit: usize, width: Width) -> u32
+    requires { bit + width.bits ≤ 8 * length bytes.now }
+    ensures { result ≡ field width.bits bit (bits_of 8 bytes.now) }
 {
     let head = front(&bytes[bit / 8..]);
-    let following = 8 * head.len() - bit % 8 - width as usize;
-    taken(window(head), following as u32, width)
+    let following = 8 * head.len() - bit % 8 - width.bits as usize;
+    taken(window(head), following as u32, width.bits)
 }
 
 /// The id from a bit of the first byte on, which so many of the bytes have. Of two bytes or of one,
@@ -36,12 +38,10 @@ fn field_at(bytes: &[u8], bit: usize, width: u32) -> u32
 /// byte are not read at once without a wait.
 #[inline(always)]
 #[tactic(auto, using(crate::proofs::Fields::ends_found))]
-pub fn id_of(bytes: &[u8; 8], size: usize, bit: usize, width: u32) -> u32
-    requires width { 1 ≤ width }
-    requires bound { width ≤ 32 }
+pub fn id_of(bytes: &[u8; 8], size: usize, bit: usize, width: Width) -> u32
     requires size { size ≤ 8 }
-    requires held { bit + width ≤ 8 * size }
-    ensures { result ≡ field width bit (bits_of 8 bytes.now) }
+    requires held { bit + width.bits ≤ 8 * size }
+    ensures { result ≡ field width.bits bit (bits_of 8 bytes.now) }
 {
     if size <= 2 {
         let ends = [bytes[0], bytes[size - 1]];
@@ -89,22 +89,20 @@ fn eight(bytes: &[u8]) -> u64
 pub fn append_ids(
     bytes: &[u8],
     bit: usize,
-    width: u32,
+    width: Width,
     count: u32,
     number: usize,
     ids: &mut Vec<u32>,
 ) -> Result<(), ColumnFault>
-    requires width { 1 ≤ width }
-    requires bound { width ≤ 32 }
     requires bit { bit < 8 }
     requires number { number < 2 ^ 32 }
-    requires held { bit + number * width ≤ 8 * length bytes.now }
+    requires held { bit + number * width.bits ≤ 8 * length bytes.now }
     ensures ids { OnOk result (ids.new.items
-        ≡ ids.old.items ++ pieces width bit number (bits_of 8 bytes.now)) }
+        ≡ ids.old.items ++ pieces width.bits bit number (bits_of 8 bytes.now)) }
     ensures below { OnOk result
-        (All (λ id. id < count) (pieces width bit number (bits_of 8 bytes.now))) }
+        (All (λ id. id < count) (pieces width.bits bit number (bits_of 8 bytes.now))) }
     ensures bad { result ≡ Err BadId →
-        ¬ All (λ id. id < count) (pieces width bit number (bits_of 8 bytes.now)) }
+        ¬ All (λ id. id < count) (pieces width.bits bit number (bits_of 8 bytes.now)) }
     ensures read { ¬ (result ≡ Err ReadFault) }
 {
     let start = ids.len();

@@ -3,38 +3,36 @@ ghost use Rattle.std.specs.Prelude.{◌≡◌, ◌≤◌, ◌<◌, ◌+◌, ◌*
 ghost use Rattle.bit_column.specs.Bits.{bits_of, pieces};
 ghost use Rattle.bit_column.specs.declared.fault.ColumnFault.TheVariants.{BadId};
 
-use crate::ColumnFault;
 use crate::bits::taken;
 use crate::window::{Window, word_at};
+use crate::{ColumnFault, Width};
 
 /// The ids from a bit on, as many as there is place for, each of which is to be below the count.
 pub fn unpack(
     bytes: &[u8],
     bit: usize,
-    width: u32,
+    width: Width,
     count: u32,
     ids: &mut [u32],
 ) -> Result<(), ColumnFault>
-    requires width { 1 ≤ width }
-    requires bound { width ≤ 32 }
     requires bit { bit < 8 }
-    requires held { bit + length ids.old * width ≤ 8 * length bytes.now }
+    requires held { bit + length ids.old * width.bits ≤ 8 * length bytes.now }
     ensures ids { OnOk result
-        (ids.new ≡ pieces width bit (length ids.old) (bits_of 8 bytes.now)) }
+        (ids.new ≡ pieces width.bits bit (length ids.old) (bits_of 8 bytes.now)) }
     ensures below { OnOk result (All (λ id. id < count) ids.new) }
     ensures bad { OnErr result
-        (¬ All (λ id. id < count) (pieces width bit (length ids.old) (bits_of 8 bytes.now))) }
+        (¬ All (λ id. id < count) (pieces width.bits bit (length ids.old) (bits_of 8 bytes.now))) }
     ensures only { IfErr result (λ fault. fault ≡ BadId) }
 {
-    if width == 32 && bit == 0 {
+    if width.bits == 32 && bit == 0 {
         return unpack_words(bytes, count, ids);
     }
     let mut window = Window::new().filled(bytes, bit as u32);
     window.have -= bit as u32;
     for i in 0..ids.len() {
-        window = window.filled(bytes, width);
-        window.have -= width;
-        let id = taken(window.bits, window.have, width);
+        window = window.filled(bytes, width.bits);
+        window.have -= width.bits;
+        let id = taken(window.bits, window.have, width.bits);
         if id >= count {
             return Err(ColumnFault::BadId);
         }

@@ -8,8 +8,8 @@ use Rattle.table_schema.specs.declared.query.OrderKey.{OrderKey}
 use Rattle.group_table.specs.Groups.{Group, Groups}
 use Rattle.group_table.specs.Shape.{Shape}
 use Rattle.group_table.specs.Kept.{KeptGroups, group_at, groups_in}
-use Rattle.group_order.specs.Order.{in_order}
-use Rattle.group_order.specs.Ranked.{BeginInOrder}
+use Rattle.broker_merge.specs.Order.{in_order}
+use Rattle.broker_merge.specs.Ranked.{BeginInOrder}
 use Rattle.broker_merge.specs.Answer.{IsWhole, answer_of, item_cell, written_of}
 
 both_maps : {A B C : Type 0} (f : B → C) (g : A → B) (xs : List A) → map (λ x. f (g x)) xs ≡ map f (map g xs)

@@ -1,16 +1,23 @@
 -- Without group columns there is one group at most, and few groups are in order as they are.
-use Rattle.std.proofs.Common.{◌≡◌, ◌∙◌, ℕ, zero, suc, ◌<◌, ◌≤◌, true, false, List, [], ◌∷◌, length, take, refl, sym, ap, arith}
-use Rattle.std.specs.List.{range_with_len, IsDistinct, AllByRecursion}
+use Rattle.std.proofs.Common.{◌≡◌, ◌∙◌, ◌&&◌, ℕ, zero, suc, ◌<◌, ◌≤◌, Bool, true, false, List, [], ◌∷◌, length, nat_lt, take, refl, rules, tests, subst, sym, ap, arith}
+use Rattle.std.specs.List.{All, list_all, range_with_len, IsDistinct, AllByRecursion}
 use Rattle.std.specs.Map.{keys_of}
+use Rattle.std.proofs.lemmas.List.{length-map}
+use Rattle.std.proofs.lemmas.List.Elements.{All-cons, All-nil}
 use Rattle.std.proofs.lemmas.List.Sorted.{IsPermutation-refl}
 use Rattle.std.proofs.lemmas.Map.Keys.{IsDistinct-head}
 use Rattle.values.specs.declared.value.Value.{Value}
+use Rattle.table_schema.specs.ValidQuery.{is_item}
+use Rattle.table_schema.specs.declared.query.BoundQuery.{BoundQuery}
+use Rattle.table_schema.specs.declared.query.Item.{Item}
+use Rattle.table_schema.specs.declared.query.Item.TheVariants as item
 use Rattle.table_schema.specs.declared.query.OrderKey.{OrderKey}
 use Rattle.group_table.specs.Groups.{Group}
-use Rattle.group_table.specs.Kept.{KeptGroups, IsGroup, IsTable, key_eq}
-use Rattle.group_order.specs.Ranked.{BeginInOrder}
-use Rattle.group_order.proofs.OrderLemmas.{is_in_order}
-use Rattle.group_order.proofs.RankLemmas.{all_groups, all_below}
+use Rattle.group_table.specs.Kept.{KeptGroups, IsGroup, IsTable, IsTableOf, key_eq}
+use Rattle.broker_merge.specs.Rank.{IsItem}
+use Rattle.broker_merge.specs.Ranked.{BeginInOrder}
+use Rattle.broker_merge.proofs.OrderLemmas.{is_in_order}
+use Rattle.broker_merge.proofs.RankLemmas.{all_groups, all_below}
 
 no_value : (key : List Value) → length key ≡ 0 → key ≡ []
 no_value [] e = refl
@@ -38,3 +45,27 @@ few t order most table h = record {
   below = all_below (length t.groups);
   groups = ap (take most) (sym (all_groups t) ∙ is_in_order order t.groups t.groups (IsPermutation-refl t.groups) table.once (λ k d low lt. absurd (omega arith)));
 }
+
+-- ---- what a query names is of its table
+
+and_first : (a b : Bool) → (a && b) ≡ true → a ≡ true
+and_first true b e = refl
+and_first false b e = e
+
+and_second : (a b : Bool) → (a && b) ≡ true → b ≡ true
+and_second true b e = e
+and_second false true e = refl
+and_second false false e = e
+
+below_so : (n m : ℕ) → nat_lt n m ≡ true → n < m
+below_so n m e = search (rules, tests)
+
+item_of_table : (q : BoundQuery) (t : KeptGroups) → IsTableOf q t → (i : Item) → is_item q i ≡ true → IsItem t i
+item_of_table q t of (item.Group place) e = subst (λ n. place < n) (sym of.columns) (below_so place (length q.groups) e)
+item_of_table q t of (item.Agg place) e = subst (λ n. place < n) (sym (ap length of.kinds ∙ length-map q.aggs (λ agg. agg.kind))) (below_so place (length q.aggs) e)
+
+pub keys_of_table : (q : BoundQuery) (t : KeptGroups) → IsTableOf q t → (order : List OrderKey) → list_all (λ k. is_item q k.item) order ≡ true → All (λ k. IsItem t k.item) order
+keys_of_table q t of [] e = All-nil (λ k. IsItem t k.item)
+keys_of_table q t of (k ∷ ks) e =
+    All-cons (λ k. IsItem t k.item) k ks (item_of_table q t of k.item (and_first (is_item q k.item) (list_all (λ k. is_item q k.item) ks) e))
+    (keys_of_table q t of ks (and_second (is_item q k.item) (list_all (λ k. is_item q k.item) ks) e))

@@ -1,2 +1,5 @@
+pub mod OrderLemmas
+pub mod RankLemmas
+pub mod JoinLemmas
 pub mod FewLemmas
 pub mod AnswerLemmas

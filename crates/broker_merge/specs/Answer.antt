@@ -16,7 +16,7 @@ use Rattle.table_schema.specs.declared.query.BoundQuery.{BoundQuery}
 use Rattle.table_schema.specs.ValidQuery.{is_item}
 use Rattle.group_table.specs.Shape.{Shape}
 use Rattle.group_table.specs.Groups.{Group, Groups}
-use Rattle.group_order.specs.Order.{in_order, state_in}
+use Rattle.broker_merge.specs.Order.{in_order, state_in}
 use Rattle.broker_merge.specs.declared.answer.Answer.{Answer}
 use Rattle.broker_merge.specs.declared.answer.Cell.{Cell}
 use Rattle.broker_merge.specs.declared.answer.Cell.TheVariants as cells

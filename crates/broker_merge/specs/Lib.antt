@@ -1,3 +1,6 @@
+pub mod Order
+pub mod Rank
+pub mod Ranked
 pub mod Answer
 pub mod Reply
 pub mod Written

@@ -5,15 +5,15 @@ ghost use Rattle.std.specs.FinMap as finite;
 ghost use Rattle.std.specs.List.{All, range_with_len};
 ghost use Rattle.group_table.specs.Kept.{IsTable, IsTableOf, group_at, groups_in};
 ghost use Rattle.group_table.specs.Shape.{shape_of};
-ghost use Rattle.group_order.specs.Rank.{IsItem};
-ghost use Rattle.group_order.specs.Ranked.{BeginInOrder};
+ghost use Rattle.broker_merge.specs.Rank.{HasGroup, IsItem};
+ghost use Rattle.broker_merge.specs.Ranked.{BeginInOrder};
 ghost use Rattle.broker_merge.specs.Answer as spec;
 ghost use Rattle.broker_merge.specs.Answer.{NamesPlaces};
 
 use crate::answer::{Answer, Cell};
+use crate::{ordered, written_of};
 use agg_laws::AggState;
 use data_types::{Name, Seq};
-use group_order::{ordered, written_of};
 use group_table::GroupTable;
 use std::alloc::Global;
 use table_schema::{BoundQuery, Item};
@@ -26,7 +26,7 @@ pub fn finish(alloc: Global, table: &GroupTable, query: &BoundQuery) -> Result<A
     requires places { NamesPlaces query.now }
     ensures answer { IfOk result (λ answer.
         answer ≡ spec.answer_of (shape_of query.now) (groups_in table.now)) }
-    ensures few { finite.len (groups_in table.now) ≤ table.now.most }
+    ensures at_most { finite.len (groups_in table.now) ≤ table.now.most }
 {
     let most = u128::from(query.offset) + u128::from(query.limit);
     let places = first_in_order(alloc, table, query, most)?;
@@ -102,8 +102,7 @@ fn rows_of(
 
 // What is written of a group.
 fn row_of(alloc: Global, table: &GroupTable, at: u32, items: &[Item]) -> Result<Seq<Cell>, NoMemory>
-    requires table { IsTable table.now }
-    requires at { at < length table.now.groups }
+    requires group { HasGroup table.now at }
     requires items { All (IsItem table.now) items.now }
     ensures { IfOk result (λ row. row
         ≡ map (spec.item_cell (group_at table.now at)) items.now) }
@@ -117,8 +116,7 @@ fn row_of(alloc: Global, table: &GroupTable, at: u32, items: &[Item]) -> Result<
 
 // What is written of a group in one column.
 fn cell_at(alloc: Global, table: &GroupTable, at: u32, item: Item) -> Result<Cell, NoMemory>
-    requires table { IsTable table.now }
-    requires at { at < length table.now.groups }
+    requires group { HasGroup table.now at }
     requires item { IsItem table.now item }
     ensures { IfOk result (λ cell. cell ≡ spec.item_cell (group_at table.now at) item) }
 {

@@ -10,7 +10,7 @@ use Rattle.values.specs.declared.value.Value.{Value}
 use Rattle.values.specs.declared.value.Value.TheVariants.{Whole}
 use Rattle.values.specs.declared.test.Test.{Test}
 use Rattle.values.specs.Tests.{holds}
-use Rattle.value_columns.specs.Columns.{Counts, row_of}
+use Rattle.values.specs.Columns.{Counts, row_of}
 use Rattle.value_ids.specs.Coding.{AreBelow, values_at}
 use Rattle.value_ids.specs.Ids.{has_id, satisfies}
 use Rattle.table_schema.specs.Conditions.{cell}

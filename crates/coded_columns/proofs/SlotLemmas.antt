@@ -9,7 +9,7 @@ use Rattle.std.specs.List.{All}
 use Rattle.std.specs.List.Sorted.{IsPermutation}
 use Rattle.values.specs.declared.value.Value.{Value}
 use Rattle.values.specs.declared.value.Value.TheVariants.{Whole}
-use Rattle.value_columns.specs.Columns.{Listed, row_of}
+use Rattle.values.specs.Columns.{Listed, row_of}
 use Rattle.table_schema.specs.Conditions.{cell}
 use Rattle.group_table.specs.Groups.{key_of}
 use Rattle.coded_columns.specs.Slots.{AreRanked, AreSlots, before_slot, from_slot, in_slot, packed}

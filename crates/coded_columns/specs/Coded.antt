@@ -3,7 +3,7 @@ use Rattle.std.specs.Prelude.{◌≡◌, ◌≤◌, ◌<◌, ◌||◌, ℕ, Bool
 use Rattle.std.specs.List.{All, list_any}
 use Rattle.values.specs.declared.value.Value.{Value}
 use Rattle.values.specs.declared.value.Value.TheVariants.{Whole}
-use Rattle.value_columns.specs.Columns.{Listed, ListedColumns, is_text, row_of}
+use Rattle.values.specs.Columns.{Listed, ListedColumns, is_text, row_of}
 use Rattle.value_ids.specs.Coding.{AreBelow, values_at}
 use Rattle.table_schema.specs.Conditions.{cell}
 use Rattle.table_schema.specs.declared.query.Agg.{Agg}
@@ -17,7 +17,8 @@ most_rows = 1048576
 
 -- the value of a row in a column
 abbrev pub value_in : Coded → ℕ → Value
-value_in column at = get_or column.dictionary.now.values (get_or column.ids.now at 0) (Whole (pos 0))
+value_in column at = get_or column.dictionary.now.values (get_or column.ids.now at 0)
+    (Whole (pos 0))
 
 -- the values of the rows in a column; in one that is not looked at each is the number 0
 abbrev pub values_of : ℕ → Option Coded → List Value
@@ -26,11 +27,17 @@ values_of count (Some column) = values_at column.dictionary.now.values column.id
 
 -- a column as a list of values, and whether these are texts
 abbrev pub listed : ℕ → Option Coded → Listed
-listed count column = record { are_texts = list_any is_text (values_of count column); values = values_of count column }
+listed count column = record {
+  are_texts = list_any is_text (values_of count column);
+  values = values_of count column;
+}
 
 -- the rows of a segment as columns of values
 abbrev pub table_of : SegmentColumns → ListedColumns
-table_of segment = record { columns = map (listed segment.count) segment.columns.now; count = segment.count }
+table_of segment = record {
+  columns = map (listed segment.count) segment.columns.now;
+  count = segment.count;
+}
 
 -- an id for each row, and a value for each id
 abbrev pub IsCoded : ℕ → Option Coded → Type 0
@@ -47,21 +54,25 @@ pub record AreCoded (segment : SegmentColumns) : Type 0 where
 pub record IsOfField (segment : SegmentColumns) (field : ℕ) (column : Coded) : Type 0 where
   pub count : length column.ids.now ≡ segment.count
   pub below : AreBelow (length column.dictionary.now.values) column.ids.now
-  pub each : (at : ℕ) → at < segment.count → cell (row_of (table_of segment).columns at) field ≡ value_in column at
+  pub each : (at : ℕ) → at < segment.count → cell (row_of (table_of segment).columns at) field
+      ≡ value_in column at
 
 -- the field is not looked at: each row has the number 0 in it
 abbrev pub IsUnread : SegmentColumns → ℕ → Type 0
-IsUnread segment field = (at : ℕ) → cell (row_of (table_of segment).columns at) field ≡ Whole (pos 0)
+IsUnread segment field = (at : ℕ) → cell (row_of (table_of segment).columns at) field
+    ≡ Whole (pos 0)
 
 -- to the marks those come where it holds
 abbrev pub Widens : (ℕ → Bool) → List Bool → List Bool → Type 0
-Widens holds old new = (at : ℕ) → at < length old → get_or new at false ≡ (get_or old at false || holds at)
+Widens holds old new = (at : ℕ) → at < length old → get_or new at false
+    ≡ (get_or old at false || holds at)
 
 -- the column has the values of which an aggregate takes the numbers, row by row
 pub record IsForAgg (segment : SegmentColumns) (agg : Agg) (column : Coded) : Type 0 where
   pub count : length column.ids.now ≡ segment.count
   pub below : AreBelow (length column.dictionary.now.values) column.ids.now
-  pub each : (at : ℕ) → at < segment.count → number_for agg (row_of (table_of segment).columns at) ≡ number_of (value_in column at)
+  pub each : (at : ℕ) → at < segment.count → number_for agg (row_of (table_of segment).columns at)
+      ≡ number_of (value_in column at)
 
 -- the aggregate takes the number 0 of each row
 abbrev pub IsUnnumbered : SegmentColumns → Agg → Type 0

@@ -1,6 +1,6 @@
 -- Rows in slots: those of one key have one slot.
 use Rattle.std.specs.Prelude.{◌≡◌, ◌≢◌, ◌⊎◌, ◌≤◌, ◌<◌, ◌+◌, ◌*◌, ◌++◌, ℕ, ℤ, pos, Option, Some, None, List, [], ◌∷◌, length, get_or, nat_lt, if◌then◌else◌, ◌==◌}
-use Rattle.value_columns.specs.Columns.{Listed, row_of}
+use Rattle.values.specs.Columns.{Listed, row_of}
 use Rattle.group_table.specs.Groups.{key_of}
 use Rattle.state_columns.specs.Columns.{Column, state_at}
 use Rattle.agg_laws.specs.declared.aggregate_kind.AggKind.{AggKind}
@@ -10,19 +10,22 @@ use Rattle.agg_laws.specs.States.{state_of}
 abbrev pub in_slot : {X : Type 0} → ℕ → List ℕ → List X → List X
 in_slot slot [] xs = []
 in_slot slot (s ∷ slots) [] = []
-in_slot slot (s ∷ slots) (x ∷ xs) = if s == slot then x ∷ in_slot slot slots xs else in_slot slot slots xs
+in_slot slot (s ∷ slots) (x ∷ xs) = if s == slot then x
+    ∷ in_slot slot slots xs else in_slot slot slots xs
 
 -- those that have a slot below this
 abbrev pub before_slot : {X : Type 0} → ℕ → List ℕ → List X → List X
 before_slot n [] xs = []
 before_slot n (s ∷ slots) [] = []
-before_slot n (s ∷ slots) (x ∷ xs) = if nat_lt s n then x ∷ before_slot n slots xs else before_slot n slots xs
+before_slot n (s ∷ slots) (x ∷ xs) = if nat_lt s n then x
+    ∷ before_slot n slots xs else before_slot n slots xs
 
 -- those that have this slot or one after it
 abbrev pub from_slot : {X : Type 0} → ℕ → List ℕ → List X → List X
 from_slot n [] xs = []
 from_slot n (s ∷ slots) [] = []
-from_slot n (s ∷ slots) (x ∷ xs) = if nat_lt s n then from_slot n slots xs else x ∷ from_slot n slots xs
+from_slot n (s ∷ slots) (x ∷ xs) = if nat_lt s n then from_slot n slots xs else x
+    ∷ from_slot n slots xs
 
 -- the first so many of a list have slots: two have one slot just where they have one key, and the
 -- first of each slot is kept
@@ -54,7 +57,8 @@ pub record IsNewSlot (look new : ℕ → ℕ) (key at slot : ℕ) (firsts more :
 
 -- one or the other
 abbrev pub GivesSlot : (ℕ → ℕ) → (ℕ → ℕ) → ℕ → ℕ → ℕ → List ℕ → List ℕ → Type 0
-GivesSlot look new key at slot firsts more = IsLed look new key slot firsts more ⊎ IsNewSlot look new key at slot firsts more
+GivesSlot look new key at slot firsts more = IsLed look new key slot firsts more
+    ⊎ IsNewSlot look new key at slot firsts more
 
 -- the slot and the id of a row as one number
 abbrev pub packed : List ℕ → ℕ → List ℕ → List ℕ → ℕ → ℕ
@@ -66,7 +70,8 @@ pub record AreSlots (columns : List Listed) (groups places slots firsts : List �
   pub few : length firsts ≤ length places
   pub below : (k : ℕ) → k < length places → get_or slots k 0 < length firsts
   pub same : (j k : ℕ) → j < length places → k < length places → get_or slots j 0 ≡ get_or slots k 0
-      → key_of groups (row_of columns (get_or places j 0)) ≡ key_of groups (row_of columns (get_or places k 0))
+      → key_of groups (row_of columns (get_or places j 0)) ≡ key_of groups
+      (row_of columns (get_or places k 0))
   pub firsts_in : (slot : ℕ) → slot < length firsts → get_or firsts slot 0 < length places
   pub firsts_have : (slot : ℕ) → slot < length firsts → get_or slots (get_or firsts slot 0) 0 ≡ slot
 
@@ -75,7 +80,9 @@ abbrev pub number_at : List ℕ → List ℤ → ℕ → ℤ
 number_at ids numbers at = get_or numbers (get_or ids at 0) (pos 0)
 
 -- in each slot the aggregate of the numbers that have it
-pub record HoldsSlots (kind : AggKind) (count : ℕ) (slots : List ℕ) (numbers : List ℤ) (column : Column) : Type 0 where
+pub record HoldsSlots (kind : AggKind) (count : ℕ) (slots : List ℕ) (numbers : List ℤ)
+    (column : Column) : Type 0 where
   pub kind_is : column.kind ≡ kind
   pub count_is : length column.states ≡ count
-  pub each : (slot : ℕ) → slot < count → state_at column slot ≡ state_of kind (in_slot slot slots numbers)
+  pub each : (slot : ℕ) → slot < count → state_at column slot
+      ≡ state_of kind (in_slot slot slots numbers)

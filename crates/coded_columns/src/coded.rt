@@ -21,7 +21,7 @@ pub struct SegmentColumns<'a> {
 
 impl<'a> SegmentColumns<'a> {
     ghost use Rattle.std.specs.Prelude.{◌≡◌, ◌<◌, IfOk, MatchOption};
-    ghost use Rattle.value_columns.specs.Columns.{row_of};
+    ghost use Rattle.values.specs.Columns.{row_of};
     ghost use Rattle.group_table.specs.Groups.{key_of};
     ghost use Rattle.coded_columns.specs.Coded.{AreCoded, IsOfField, IsUnread, table_of};
 

@@ -116,7 +116,8 @@ fn slot_in_table(
     requires key { key < length table.old }
     requires few { length firsts.old.items < most_rows }
     requires leads { slice_index table.old key ≤ length firsts.old.items }
-    ensures slot { IfOk result (λ slot. GivesSlot (λ q. get_or table.old q 0) (λ q. get_or table.new q 0)
+    ensures slot { IfOk result (λ slot. GivesSlot (λ q. get_or table.old q 0)
+        (λ q. get_or table.new q 0)
         key at slot firsts.old.items firsts.new.items) }
     ensures room { length table.new ≡ length table.old }
 {

@@ -3,8 +3,8 @@ use Rattle.std.proofs.Common.{◌≡◌, ◌∙◌, ◌<◌, ◌≤◌, ◌+◌,
 use Rattle.std.proofs.lemmas.List.{map-append}
 use Rattle.std.proofs.lemmas.List.Elements.{All-nil}
 use Rattle.values.specs.declared.value.Value.{Value}
-use Rattle.value_columns.specs.Columns.{Listed, ListedColumns, row_of, rows_of}
-use Rattle.value_columns.proofs.RowLemmas.{row-at}
+use Rattle.values.specs.Columns.{Listed, ListedColumns, row_of, rows_of}
+use Rattle.values.proofs.RowLemmas.{row-at}
 use Rattle.value_ids.specs.Coding.{AreBelow}
 use Rattle.table_schema.specs.Conditions.{all_hold}
 use Rattle.table_schema.specs.declared.query.BoundQuery.{BoundQuery}
@@ -17,7 +17,7 @@ use Rattle.scan_engine.proofs.RunLemmas.{adds_as_more}
 use Rattle.coded_columns.specs.declared.coded.SegmentColumns.{SegmentColumns}
 use Rattle.coded_columns.specs.Coded.{AreCoded, table_of}
 use Rattle.coded_columns.proofs.CodedLemmas.{below_marked, counts}
-use Rattle.row_marks.specs.RowFilters.{passing}
+use Rattle.coded_scan.specs.RowFilters.{passing}
 use Rattle.coded_scan.proofs.RowFilterLemmas.{passing-both}
 
 pub passing-few : (holds : ℕ → Bool) (from n : ℕ) → length (passing holds from n) ≤ n

@@ -1,3 +1,3 @@
+pub mod MergeSteps
 pub mod RowFilterLemmas
-pub mod ServedLemmas
 pub mod AddSteps

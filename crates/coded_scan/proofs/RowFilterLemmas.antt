@@ -2,7 +2,7 @@
 use Rattle.std.proofs.Common.{◌≡◌, ◌∙◌, ◌<◌, ◌≤◌, ◌+◌, ◌++◌, ◌∷◌, [], ◌&&◌, ◌||◌, ℕ, zero, suc, Bool, true, false, cond, List, length, map, drop, get_or, refl, ap, sym, arith, append_assoc, append-nil}
 use Rattle.std.specs.List.{list_all}
 use Rattle.values.specs.Tests.{all_true, any_true}
-use Rattle.row_marks.specs.RowFilters.{passing}
+use Rattle.coded_scan.specs.RowFilters.{passing}
 
 and_true : (x : Bool) → (x && true) ≡ x
 and_true true = refl

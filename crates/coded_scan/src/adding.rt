@@ -2,38 +2,38 @@
 
 ghost use Rattle.std.specs.Prelude.{◌≡◌, ◌-◌, ◌+◌, ◌≤◌, ◌<◌, Err, IfOk, OnOk, length};
 ghost use Rattle.agg_laws.specs.Numbers.{most_values};
-ghost use Rattle.value_columns.specs.Columns.{rows_of};
+ghost use Rattle.values.specs.Columns.{rows_of};
 ghost use Rattle.group_table.specs.declared.fault.TableFault.TheVariants.{TooManyGroups};
 ghost use Rattle.group_table.specs.Kept.{IsTableOf, groups_in};
 ghost use Rattle.scan_engine.specs.Scanned.{AddsRows, HaveAtMost, IsOverfull, selected};
 ghost use Rattle.coded_columns.specs.Coded.{AreCoded, table_of};
-ghost use Rattle.row_marks.specs.RowFilters.{AllCover, all_let, passing};
-ghost use Rattle.coded_scan.specs.Served.{rest_of};
+ghost use Rattle.coded_scan.specs.RowFilters.{AllCover, all_let, passing};
+ghost use Rattle.segment_plan.specs.Served.{rest_of};
 ghost use Rattle.value_ids.specs.Coding.{AreBelow};
 ghost use Rattle.scan_engine.specs.Places.{rows_at};
 
-use crate::row_filter::row_filters_of;
+use crate::coded_filter::row_filters_of;
+use crate::merging::merge_slots;
+use crate::row_filter::RowFilter;
 use crate::selection::{Block, push_block};
 use coded_columns::{SegmentColumns, fold_slots, slots_of};
 use group_table::{GroupTable, TableFault};
-use row_marks::RowFilter;
 use segment_plan::IndexChoice;
-use slot_merge::merge_slots;
 use std::alloc::Global;
 use table_schema::BoundQuery;
 
 /// Rows are looked at in blocks of so many.
 const BLOCK: usize = 4096;
 
-/// Rows are added to the groups once there are so many places, or so many for each group that there is by
-/// then: a group is merged once for these rows, and a place takes little beside a group.
+/// Rows are added to the groups once there are so many places, or so many for each group that there
+/// is by then: a group is merged once for these rows, and a place takes little beside a group.
 const FEW_PLACES: usize = 32_768;
 
 const PLACES_A_GROUP: usize = 10;
 
 /// Adds the rows of a segment that satisfy those of a query's conjuncts that are not served to its
 /// groups.
-pub fn add_segment(
+pub fn add_coded(
     alloc: Global,
     query: &BoundQuery,
     choices: &[IndexChoice],

@@ -3,9 +3,10 @@
 ghost use Rattle.std.specs.Prelude.{◌≡◌, ◌+◌, ◌<◌, ◌≤◌, ◌++◌, ◌∷◌, [], ℕ, IfOk, OnOk, cond, get_or, false, true, length};
 ghost use Rattle.scan_engine.specs.Selection.{Keeps};
 ghost use Rattle.coded_columns.specs.Coded.{most_rows};
-ghost use Rattle.row_marks.specs.RowFilters.{AllCover, all_let, covers, lets, passing};
+ghost use Rattle.coded_scan.specs.RowFilters.{AllCover, all_let, covers, lets, passing};
 
-use row_marks::{RowFilter, keep_ids, keep_if, keep_marked, marks_of};
+use crate::marking::{keep_ids, keep_if, keep_marked, marks_of};
+use crate::row_filter::RowFilter;
 use std::alloc::Global;
 use values::NoMemory;
 
@@ -92,7 +93,8 @@ fn push_marked(block: Block, marks: &[bool], places: &mut Vec<u32>) -> Result<()
     requires few { block.from + block.length ≤ most_rows }
     ensures { (holds : ℕ → _) → ((at : ℕ) → at < block.length
         → get_or marks.now at false ≡ holds (block.from + at))
-        → OnOk result (places.new.items ≡ places.old.items ++ passing holds block.from block.length) }
+        → OnOk result (places.new.items ≡ places.old.items
+        ++ passing holds block.from block.length) }
 {
     places.reserve(block.length)?;
     for at in 0..block.length {

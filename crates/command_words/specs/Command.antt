@@ -1,5 +1,5 @@
 -- The words of a command.
-use Rattle.std.specs.Prelude.{ℕ, List, [], ◌∷◌, Option, Some, None, codes, ◌&&◌, if◌then◌else◌}
+use Rattle.std.specs.Prelude.{ℕ, Bool, true, false, List, [], ◌∷◌, Option, Some, None, codes, ◌&&◌, if◌then◌else◌}
 use Rattle.std.specs.Str.{bytes_eq}
 use Rattle.segment_file.specs.Names.{is_segment_name}
 use Rattle.command_words.specs.declared.about.About.{About}
@@ -27,3 +27,16 @@ command_of (verb ∷ first ∷ second ∷ []) =
     else if bytes_eq verb (codes "build") && is_segment_name first then Some (Build first second)
     else None
 command_of words = None
+
+-- whether a command may write the store
+abbrev pub writes : Option Command → Bool
+writes (Some (Create schema settings)) = true
+writes (Some (Build name csv)) = true
+writes (Some (Scan file sql)) = false
+writes (Some Listing) = false
+writes (Some (Ask about sql)) = false
+writes None = false
+
+-- whether the command that these words spell may write the store
+abbrev pub may_write : List (List ℕ) → Bool
+may_write words = writes (command_of words)

@@ -8,11 +8,9 @@ use Rattle.csv_row.specs.declared.fault.CsvFault.TheVariants as csv
 use Rattle.csv_row.specs.FaultTexts.{kind_text}
 use Rattle.json_keys.specs.FaultTexts.{key_text}
 use Rattle.query_tokens.specs.FaultTexts.{parse_text}
-use Rattle.query_where.specs.FaultTexts.{bind_text}
+use Rattle.query_bind.specs.FaultTexts.{bind_text}
 use Rattle.sql_reply.specs.declared.fault.SqlFault.{SqlFault}
 use Rattle.sql_reply.specs.declared.fault.SqlFault.TheVariants as query
-use Rattle.text_scan.specs.declared.fault.ScanFault.{ScanFault}
-use Rattle.text_scan.specs.declared.fault.ScanFault.TheVariants as scan
 use Rattle.command_words.specs.declared.bad_query.QueryReason.{QueryReason}
 use Rattle.command_words.specs.declared.bad_query.QueryReason.TheVariants as reason
 use Rattle.command_words.specs.declared.note.Counted.{Counted}
@@ -89,16 +87,22 @@ counted_text counted.TreeBytes = codes "tree bytes"
 abbrev pub note_text : Note → List ℕ
 note_text BadWords = codes "bad words\n"
 note_text (NoInput file) = codes "no input: " ++ file ++ codes "\n"
-note_text (BadSchema wrong path) = codes "bad schema: " ++ key_text wrong ++ path_text path ++ codes "\n"
-note_text (BadSettings wrong path) = codes "bad settings: " ++ key_text wrong ++ path_text path ++ codes "\n"
+note_text (BadSchema wrong path) = codes "bad schema: " ++ key_text wrong ++ path_text path
+    ++ codes "\n"
+note_text (BadSettings wrong path) = codes "bad settings: " ++ key_text wrong ++ path_text path
+    ++ codes "\n"
 note_text TableExists = codes "table exists\n"
 note_text NoTable = codes "no table\n"
 note_text (NameTaken name) = codes "name taken: " ++ name ++ codes "\n"
-note_text (BadCsv wrong row column) = codes "bad csv: " ++ kind_text wrong ++ codes ", record " ++ decimal row ++ codes ", column " ++ decimal column ++ codes "\n"
-note_text (TooLarge what limit) = codes "too large: " ++ counted_text what ++ codes ", limit " ++ decimal limit ++ codes "\n"
-note_text (BadQuery wrong place) = codes "bad query: " ++ reason_text wrong ++ codes " at " ++ decimal place ++ codes "\n"
+note_text (BadCsv wrong row column) = codes "bad csv: " ++ kind_text wrong ++ codes ", record "
+    ++ decimal row ++ codes ", column " ++ decimal column ++ codes "\n"
+note_text (TooLarge what limit) = codes "too large: " ++ counted_text what ++ codes ", limit "
+    ++ decimal limit ++ codes "\n"
+note_text (BadQuery wrong place) = codes "bad query: " ++ reason_text wrong ++ codes " at "
+    ++ decimal place ++ codes "\n"
 note_text (TooManyGroups most) = codes "too many groups, limit " ++ decimal most ++ codes "\n"
-note_text (NotASegment name part) = codes "not a segment: " ++ name ++ codes ", part " ++ part ++ codes "\n"
+note_text (NotASegment name part) = codes "not a segment: " ++ name ++ codes ", part " ++ part
+    ++ codes "\n"
 
 -- what is told of a CSV text that has no rows
 abbrev pub csv_note : CsvFault → Note
@@ -107,18 +111,8 @@ csv_note (csv.TooManyRows most) = TooLarge counted.Rows most
 csv_note csv.TooManyColumns = TooLarge counted.Columns most_columns
 csv_note csv.NoMemory = BadCsv kind.NoHeader 0 0
 
--- what is told of a query over a CSV text that has no reply, which is never want of memory (a law of `text_scan`)
-abbrev pub scan_note : ScanFault → Note
-scan_note (scan.BadText wrong row column) = BadCsv wrong row column
-scan_note (scan.TooManyRows most) = TooLarge counted.Rows most
-scan_note (scan.TooManyColumns most) = TooLarge counted.Columns most
-scan_note (scan.LongQuery most) = TooLarge counted.SqlBytes most
-scan_note (scan.BadQuery wrong place) = BadQuery (reason.Parse wrong) place
-scan_note (scan.Unbound wrong place) = BadQuery (reason.Bind wrong) place
-scan_note (scan.TooManyGroups most) = TooManyGroups most
-scan_note scan.NoMemory = BadCsv kind.NoHeader 0 0
-
--- what is told of a query over a table that has no reply, which is never want of memory (a law of `sql_reply`)
+-- what is told of a query over a table that has no reply, which is never want of memory (a law of
+-- `sql_reply`)
 abbrev pub sql_note : SqlFault → Note
 sql_note (query.LongQuery most) = TooLarge counted.SqlBytes most
 sql_note (query.BadQuery wrong place) = BadQuery (reason.Parse wrong) place

@@ -1,7 +1,7 @@
 //! Why a query is refused.
 
+use query_bind::BindReason;
 use query_tokens::Reason;
-use query_where::BindReason;
 
 /// What is wrong with a query.
 #[derive(Clone, Copy, Debug, PartialEq, Eq)]

@@ -1,6 +1,6 @@
 //! The words of a command.
 ghost use Rattle.std.specs.Prelude.{◌≡◌, map, option_map, string_bytes, IfSome};
-ghost use Rattle.command_words.specs.Command.{command_of};
+ghost use Rattle.command_words.specs.Command.{command_of, may_write};
 ghost use Rattle.command_words.specs.CommandView.{IsNamed, command_view};
 
 use crate::about::About;
@@ -54,4 +54,15 @@ pub fn read_command(words: &[String]) -> Option<Command<'_>>
         }
     }
     None
+}
+
+/// Whether the command that these words spell may write the store. Words of which it says no leave
+/// each store as it is.
+pub fn may_write(words: &[String]) -> bool
+    ensures { result ≡ may_write (map string_bytes words.now) }
+{
+    match read_command(words) {
+        Some(Command::Create(_, _) | Command::Build(_, _)) => true,
+        Some(Command::Scan(_, _) | Command::List | Command::Ask(_, _)) | None => false,
+    }
 }

@@ -11,21 +11,6 @@ use csv_ingest::CsvKind;
 use json_keys::KeyKind;
 use std::alloc::{AllocError, Global};
 
-// The name of what passes its limit.
-fn counted_text(what: Counted) -> &'static [u8]
-    ensures { result.now ≡ spec.counted_text what }
-{
-    match what {
-        Counted::CsvBytes => b"csv bytes",
-        Counted::JsonBytes => b"json bytes",
-        Counted::SqlBytes => b"sql bytes",
-        Counted::Columns => b"columns",
-        Counted::Rows => b"rows",
-        Counted::Segments => b"segments",
-        Counted::TreeBytes => b"tree bytes",
-    }
-}
-
 /// The status of a refusal.
 pub fn status_of(note: &Note) -> Status
     ensures { result ≡ spec.status_of note.now }
@@ -119,7 +104,8 @@ fn groups_line(alloc: Global, most: u32) -> Result<Vec<u8>, AllocError>
 
 // The line of a published file that is not what it stands for.
 fn segment_line(alloc: Global, name: &[u8], part: &[u8]) -> Result<Vec<u8>, AllocError>
-    ensures { IfOk result (λ line. line.items ≡ spec.note_text (Note.NotASegment name.now part.now)) }
+    ensures { IfOk result (λ line. line.items ≡ spec.note_text
+        (Note.NotASegment name.now part.now)) }
 {
     let mut line = b"not a segment: ".to_vec(alloc)?;
     line.extend_from_slice(name)?;
@@ -176,5 +162,20 @@ pub fn note_line(alloc: Global, note: &Note) -> Result<Vec<u8>, AllocError>
         Note::BadQuery(reason, place) => query_line(alloc, *reason, *place),
         Note::TooManyGroups(most) => groups_line(alloc, *most),
         Note::NotASegment(name, part) => segment_line(alloc, name.as_slice(), part.as_slice()),
+    }
+}
+
+// The name of what passes its limit.
+fn counted_text(what: Counted) -> &'static [u8]
+    ensures { result.now ≡ spec.counted_text what }
+{
+    match what {
+        Counted::CsvBytes => b"csv bytes",
+        Counted::JsonBytes => b"json bytes",
+        Counted::SqlBytes => b"sql bytes",
+        Counted::Columns => b"columns",
+        Counted::Rows => b"rows",
+        Counted::Segments => b"segments",
+        Counted::TreeBytes => b"tree bytes",
     }
 }

@@ -3,8 +3,8 @@ use Rattle.std.proofs.Common.{◌≡◌, ◌≢◌, ◌∙◌, ◌+◌, ◌-◌,
 use Rattle.std.specs.List.{enumerate_from, All}
 use Rattle.std.proofs.lemmas.List.{nil_from_length}
 use Rattle.csv.specs.Reading.{records_from}
-use Rattle.value_columns.specs.Columns.{ListedColumns, rows_of as rows_of_columns, Counts, Listed, rows_in_columns}
-use Rattle.value_columns.proofs.RowLemmas.{length-rows}
+use Rattle.values.specs.Columns.{ListedColumns, rows_of as rows_of_columns, Counts, Listed, rows_in_columns}
+use Rattle.values.proofs.RowLemmas.{length-rows}
 use Rattle.values.specs.declared.value.Value.{Value}
 use Rattle.table_schema.specs.declared.field.Field.{Field}
 use Rattle.csv_row.specs.declared.fault.CsvFault.{CsvFault}

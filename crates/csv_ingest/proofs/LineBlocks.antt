@@ -2,7 +2,7 @@
 use Rattle.std.proofs.Common.{◌≡◌, ◌∙◌, ◌≤◌, ◌+◌, ◌-◌, Bor, ℕ, List, [], drop, Ok, sym, ap, subst, arith}
 use Rattle.csv.specs.Reading.{default_config, records_from, strip_bom}
 use Rattle.csv.specs.declared.parser.State.TheVariants as st
-use Rattle.value_columns.specs.Columns.{ListedColumns, rows_of as rows_of_columns}
+use Rattle.values.specs.Columns.{ListedColumns, rows_of as rows_of_columns}
 use Rattle.table_schema.specs.declared.field.Field.{Field}
 use Rattle.csv_ingest.specs.declared.blocks.Source.{Source}
 use Rattle.csv_ingest.specs.declared.blocks.Source.TheVariants as source

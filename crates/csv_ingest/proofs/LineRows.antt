@@ -8,8 +8,8 @@ use Rattle.csv.specs.Machine.{next_record}
 use Rattle.csv.specs.Reading.{default_config, records_from, records_next}
 use Rattle.csv.specs.declared.parser.State.{State}
 use Rattle.csv.specs.declared.parser.State.TheVariants as st
-use Rattle.value_columns.proofs.RowLemmas.{length-push, rows-push, sorts-push}
-use Rattle.value_columns.specs.Columns.{Counts, Listed, ListedColumns, pushed, row_pushed, rows_in_columns}
+use Rattle.values.proofs.RowLemmas.{length-push, rows-push, sorts-push}
+use Rattle.values.specs.Columns.{Counts, Listed, ListedColumns, pushed, row_pushed, rows_in_columns}
 use Rattle.data_types.specs.Numbers.{whole_of}
 use Rattle.data_types.specs.declared.kind.FieldKind.TheVariants.{Long}
 use Rattle.values.specs.declared.value.Value.{Value}

@@ -7,7 +7,7 @@ use Rattle.std.proofs.lemmas.Bool.Decides.{nat_tests}
 use Rattle.std.proofs.lemmas.List.Elements.{All-from_recursion}
 use Rattle.std.proofs.lemmas.List.FromFn.{length-enumerate_from}
 use Rattle.data_types.specs.Numbers.{whole_of}
-use Rattle.value_columns.specs.Reading.{number_value, value_of}
+use Rattle.values.specs.Reading.{number_value, value_of}
 use Rattle.data_types.specs.declared.kind.FieldKind.TheVariants.{Long}
 use Rattle.values.specs.declared.value.Value.{Value}
 use Rattle.values.specs.declared.value.Value.TheVariants.{Whole}
@@ -22,7 +22,7 @@ use Rattle.csv_row.specs.declared.fault.CsvFault.TheVariants.{At, TooManyRows, T
 use Rattle.csv_row.specs.Columns.{DefaultFits, DefaultsFit, OfSorts, is_text_kind}
 use Rattle.csv_ingest.specs.NumberBlocks.{AreNumbers}
 use Rattle.csv_row.proofs.ColumnLemmas.{widths}
-use Rattle.value_columns.specs.Columns.{Listed}
+use Rattle.values.specs.Columns.{Listed}
 use Rattle.csv_ingest.specs.Names.{is_among, number_field, number_name}
 use Rattle.table_schema.specs.Names.{is_column_name}
 use Rattle.csv_row.specs.InOrder.{all_or_first, joined}

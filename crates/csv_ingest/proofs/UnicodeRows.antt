@@ -5,12 +5,12 @@ use Rattle.std.specs.List.{AllByRecursion, enumerate_from}
 use Rattle.std.specs.Str.{is_utf8}
 use Rattle.std.proofs.lemmas.Str.{IsUtf8-from_is_utf8}
 use Rattle.data_types.specs.Numbers.{ranged, spelled_number}
-use Rattle.value_columns.specs.Reading.{number_value, value_of}
+use Rattle.values.specs.Reading.{number_value, value_of}
 use Rattle.data_types.specs.declared.kind.FieldKind.{FieldKind}
 use Rattle.data_types.specs.declared.kind.FieldKind.TheVariants as kind
 use Rattle.values.specs.declared.value.Value.{Value}
 use Rattle.values.specs.declared.value.Value.TheVariants.{Whole, Text}
-use Rattle.value_columns.specs.declared.read.ValueFault.TheVariants.{TooLong}
+use Rattle.values.specs.declared.read.ValueFault.TheVariants.{TooLong}
 use Rattle.data_types.specs.declared.whole.WholeFault.{WholeFault}
 use Rattle.data_types.specs.declared.whole.WholeFault.TheVariants as whole
 use Rattle.table_schema.specs.declared.field.Field.{Field}

@@ -6,7 +6,7 @@ use Rattle.data_types.specs.declared.kind.FieldKind.{FieldKind}
 use Rattle.data_types.specs.declared.kind.FieldKind.TheVariants as kind
 use Rattle.values.specs.declared.value.Value.{Value}
 use Rattle.values.specs.declared.value.Value.TheVariants.{Whole, Text}
-use Rattle.value_columns.specs.Columns.{is_text}
+use Rattle.values.specs.Columns.{is_text}
 use Rattle.values.specs.Kinds.{fits}
 use Rattle.table_schema.specs.declared.field.Field.{Field}
 use Rattle.table_schema.specs.declared.field.Schema.{Schema}

@@ -7,12 +7,12 @@ use Rattle.std.proofs.lemmas.Bool.{ltb-false}
 use Rattle.std.proofs.lemmas.List.Elements.{All-from_recursion}
 use Rattle.values.specs.Kinds.{fits}
 use Rattle.data_types.specs.Numbers.{is_in_range, ranged, spelled_number}
-use Rattle.value_columns.specs.Reading.{number_value, value_of}
+use Rattle.values.specs.Reading.{number_value, value_of}
 use Rattle.data_types.specs.declared.kind.FieldKind.{FieldKind}
 use Rattle.data_types.specs.declared.kind.FieldKind.TheVariants as kind
 use Rattle.values.specs.declared.value.Value.{Value}
 use Rattle.values.specs.declared.value.Value.TheVariants.{Whole, Text}
-use Rattle.value_columns.specs.declared.read.ValueFault.TheVariants.{TooLong}
+use Rattle.values.specs.declared.read.ValueFault.TheVariants.{TooLong}
 use Rattle.data_types.specs.declared.whole.WholeFault.TheVariants.{OutOfRange}
 use Rattle.table_schema.specs.declared.field.Field.{Field}
 use Rattle.table_schema.specs.declared.field.Schema.{Schema}

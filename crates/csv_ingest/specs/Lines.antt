@@ -5,17 +5,19 @@ use Rattle.csv.specs.Machine.{next_record}
 use Rattle.csv.specs.Reading.{default_config, records_from, records_next}
 use Rattle.csv.specs.declared.parser.State.{State}
 use Rattle.csv.specs.declared.parser.State.TheVariants as st
-use Rattle.value_columns.specs.Columns.{ListedColumns, rows_of}
+use Rattle.values.specs.Columns.{ListedColumns, rows_of}
 use Rattle.data_types.specs.Numbers.{is_digit, place_value, whole_of}
 use Rattle.data_types.specs.declared.kind.FieldKind.TheVariants.{Long}
 use Rattle.values.specs.declared.value.Value.TheVariants.{Whole}
 use Rattle.data_types.specs.declared.whole.WholeFault.{WholeFault}
 use Rattle.table_schema.specs.declared.field.Field.{Field}
+use Rattle.csv_row.specs.Columns.{OfSorts}
 use Rattle.csv_row.specs.InOrder.{after}
 use Rattle.csv_ingest.specs.Blocks.{rows_from}
 use Rattle.csv_row.specs.declared.layout.Layout.{Layout}
 
--- so many digits at the start of a text spell a number below 10 ^ 18, and another byte comes after them
+-- so many digits at the start of a text spell a number below 10 ^ 18, and another byte comes after
+-- them
 pub record SpellsAt (text : List ℕ) (number len : ℕ) : Type 0 where
   pub within : len < length text
   pub digits : list_all is_digit (take len text) ≡ true
@@ -46,9 +48,12 @@ pub record IsCell (text : List ℕ) (end : ℕ) (number : ℤ) (len : ℕ) : Typ
   pub within : len < length text
   pub left : drop len text ≡ end ∷ rest
   pub spells : cell_number cell ≡ Ok number
-  pub reads : (s : State) → IsStart text s → (fields : List (List ℕ)) → next_record default_config s fields [] text ≡ next_record default_config st.InField fields cell (end ∷ rest)
+  pub reads : (s : State) → IsStart text s → (fields : List (List ℕ))
+      → next_record default_config s fields [] text
+      ≡ next_record default_config st.InField fields cell (end ∷ rest)
 
--- the same at the end of a line, with so many bytes before its line feed: a record ends, and the next is read from there
+-- the same at the end of a line, with so many bytes before its line feed: a record ends, and the
+-- next is read from there
 pub record IsLastCell (text : List ℕ) (number : ℤ) (len : ℕ) : Type 0 where
   pub cell : List ℕ
   pub rest : List ℕ
@@ -56,7 +61,8 @@ pub record IsLastCell (text : List ℕ) (number : ℤ) (len : ℕ) : Type 0 wher
   pub left : drop len text ≡ 10 ∷ rest
   pub spells : cell_number cell ≡ Ok number
   pub reads : (s : State) → IsStart text s → (fields : List (List ℕ)) → (n : ℕ)
-      → records_next (records_from default_config n) (next_record default_config s fields [] text) ≡ (fields ++ cell ∷ []) ∷ records_from default_config n st.StartRecord (10 ∷ rest)
+      → records_next (records_from default_config n) (next_record default_config s fields [] text)
+      ≡ (fields ++ cell ∷ []) ∷ records_from default_config n st.StartRecord (10 ∷ rest)
 
 -- the text starts with the end of a line
 abbrev pub AtLineEnd : List ℕ → Type 0
@@ -79,13 +85,15 @@ pub record IsHeaderEnd (text : List ℕ) (end : ℕ) : Type 0 where
   pub bare : list_all is_bare (take len text) ≡ true
   pub feed : IsFeedAfter text len end
 
--- the line after the line's end at the start of a text is of these numbers, and this much of the text is before its own end
+-- the line after the line's end at the start of a text is of these numbers, and this much of the
+-- text is before its own end
 pub record IsLine (text : List ℕ) (numbers : List ℤ) (len : ℕ) : Type 0 where
   pub cells : List (List ℕ)
   pub within : len ≤ length text
   pub spell : map cell_number cells ≡ map Ok numbers
   pub at_end : AtLineEnd (drop len text)
-  pub reads : (n : ℕ) → records_from default_config (n + 1) st.StartRecord text ≡ cells ∷ records_from default_config n st.StartRecord (drop len text)
+  pub reads : (n : ℕ) → records_from default_config (n + 1) st.StartRecord text ≡ cells
+      ∷ records_from default_config n st.StartRecord (drop len text)
 
 -- a field of whole numbers, 0 where a cell is empty
 pub record IsWholeField (field : Field) : Type 0 where
@@ -94,13 +102,26 @@ pub record IsWholeField (field : Field) : Type 0 where
 
 -- each field is of whole numbers, and in its own column
 pub record IsStraight (layout : Layout) : Type 0 where
-  pub kinds : (k : ℕ) (d : Field) → k < length layout.fields.now → IsWholeField (get_or layout.fields.now k d)
-  pub places : (k : ℕ) → k < length layout.fields.now → get_or layout.places.items k None ≡ Some (k + 1)
+  pub kinds : (k : ℕ) (d : Field) → k < length layout.fields.now
+      → IsWholeField (get_or layout.fields.now k d)
+  pub places : (k : ℕ) → k < length layout.fields.now → get_or layout.places.items k None
+      ≡ Some (k + 1)
   pub width : length layout.fields.now ≡ length layout.names.now
 
--- the rows of lines are the first that the records of a text give, of which this much is before the records that are left
-pub record AreLines (fields : List Field) (header : List (List ℕ)) (before : ℕ) (text : List ℕ) (columns : ListedColumns) (taken : ℕ) : Type 0 where
+-- the rows of lines are the first that the records of a text give, of which this much is before the
+-- records that are left
+pub record AreLines (fields : List Field) (header : List (List ℕ)) (before : ℕ) (text : List ℕ)
+    (columns : ListedColumns) (taken : ℕ) : Type 0 where
   pub within : taken ≤ length text
   pub at_end : AtLineEnd text → AtLineEnd (drop taken text)
-  pub each : (n : ℕ) → rows_from before fields header (records_from default_config (n + columns.count) st.StartRecord text)
-      ≡ after (rows_of columns) (rows_from (before + columns.count) fields header (records_from default_config n st.StartRecord (drop taken text)))
+  pub each : (n : ℕ) → rows_from before fields header (records_from default_config
+      (n + columns.count) st.StartRecord text)
+      ≡ after (rows_of columns) (rows_from (before + columns.count) fields header
+      (records_from default_config n st.StartRecord (drop taken text)))
+
+-- the same, of which there are at most so many, with a column for each field
+pub record ReadsLines (fields : List Field) (header : List (List ℕ)) (before room : ℕ)
+    (text : List ℕ) (columns : ListedColumns) (taken : ℕ) : Type 0 where
+  pub lines : AreLines fields header before text columns taken
+  pub sorts : OfSorts fields columns.columns
+  pub at_most : columns.count ≤ room

@@ -13,7 +13,8 @@ TextReader = Reader (Bor (List ℕ))
 abbrev pub in_memory : Bor (List ℕ) → Option (List ℕ)
 in_memory text = Some text.now
 
--- the reader reads records by the defaults, of any lengths and with no header row of its own, and what it has left is known
+-- the reader reads records by the defaults, of any lengths and with no header row of its own, and
+-- what it has left is known
 pub record Reads (reader : TextReader) (rest : List ℕ) : Type 0 where
   pub trims_nothing : reader_trim reader ≡ trim.None
   pub ready : Ready reader

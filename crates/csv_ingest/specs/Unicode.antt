@@ -16,5 +16,6 @@ IsUnicode (Text text) = IsUtf8 text
 -- where the defaults are, all values of the rows that records spell are UTF-8
 abbrev pub RowsAreUnicode : Type 0
 RowsAreUnicode =
-    (fields : List Field) (records : List (List (List ℕ))) (rows : List (List Value)) → AllByRecursion (λ field. IsUnicode field.default) fields
+    (fields : List Field) (records : List (List (List ℕ))) (rows : List (List Value))
+    → AllByRecursion (λ field. IsUnicode field.default) fields
     → rows_in csv_limits fields records ≡ Ok rows → AllByRecursion (AllByRecursion IsUnicode) rows

@@ -1,15 +1,15 @@
 //! The rows of a text of whole numbers, block by block.
-ghost use Rattle.std.specs.Prelude.{◌≡◌, ◌≢◌, ◌≤◌, ◌<◌, ◌+◌, ◌^◌, ◌∷◌, ℕ, List, length, IfOk, IfErr, IfSome, OnOk, MatchBool, MatchOption, None, Ok, Err, drop, []};
+ghost use Rattle.std.specs.Prelude.{◌≡◌, ◌≢◌, ◌≤◌, ◌<◌, ◌+◌, ◌^◌, ◌∷◌, ℕ, List, length, IfOk, IfErr, IfSome, MatchBool, MatchOption, None, Ok, Err, drop, []};
 ghost use Rattle.csv.specs.Reading.{default_config, records, records_from};
 ghost use Rattle.csv.specs.Records.{fields_of};
 ghost use Rattle.csv.specs.declared.parser.State.TheVariants as st;
-ghost use Rattle.value_columns.specs.Columns.{rows_of as rows_of_columns};
-ghost use Rattle.csv_ingest.specs.Blocks.{IsFullBlock, IsLastBlock, RowsOrFault, rows_from};
+ghost use Rattle.values.specs.Columns.{rows_of as rows_of_columns};
+ghost use Rattle.csv_ingest.specs.Blocks.{IsFullBlock, IsLastBlock, RowsOrFault, rows_from, text_limit};
 ghost use Rattle.csv_row.specs.InOrder.{after};
 ghost use Rattle.csv_row.specs.Columns.{OfSorts};
 ghost use Rattle.csv_ingest.specs.Names.{number_name};
-ghost use Rattle.csv_ingest.specs.Lines.{AreLines, IsFeedAfter, IsHeaderEnd, is_bare};
-ghost use Rattle.csv_ingest.specs.NumberBlocks.{AreNumbers, Gives, GivesTable, IsByRecords, IsNumberBlocks, IsNumberHeader};
+ghost use Rattle.csv_ingest.specs.Lines.{IsFeedAfter, ReadsLines, IsHeaderEnd, is_bare};
+ghost use Rattle.csv_ingest.specs.NumberBlocks.{AreNumbers, Begins, Gives, GoesOn, IsByRecords, IsNumberBlocks, IsNumberHeader};
 ghost use Rattle.csv_ingest.specs.Reading.{Reads, records_left};
 ghost use Rattle.csv_row.specs.Row.{csv_limits};
 ghost use Rattle.csv_ingest.specs.Rows.{header_of, number_rows_in, records_of, rows_of, with_schema};
@@ -23,7 +23,7 @@ use csv_row::{CsvFault, CsvKind, Layout};
 use data_types::Seq;
 use std::alloc::{AllocError, Global};
 use table_schema::{Field, Schema};
-use value_columns::Columns;
+use values::Columns;
 
 // How many rows a block has.
 const BLOCK_ROWS: usize = 4_096;
@@ -64,7 +64,8 @@ impl NumberHeader {
     pub fn of_record(alloc: Global, names: ByteRecord) -> Result<NumberHeader, CsvFault>
         ensures header { IfOk result IsNumberHeader }
         ensures names { IfOk result (λ h. h.names ≡ names) }
-        ensures err { IfErr result (λ fault. fault ≢ CsvFault.NoMemory → (records : List (List (List ℕ)))
+        ensures err { IfErr result (λ fault. fault ≢ CsvFault.NoMemory
+            → (records : List (List (List ℕ)))
             → number_rows_in csv_limits (fields_of names ∷ records) ≡ Err fault) }
     {
         if names.len() > MOST_COLUMNS {
@@ -89,7 +90,7 @@ impl NumberHeader {
     pub fn schema(&self, alloc: Global) -> Result<Schema, CsvFault>
         requires { IsNumberHeader self.now }
         ensures ok { IfOk result (λ schema. schema ≡ record { fields = self.now.fields }) }
-        ensures few { IfOk result (λ schema. length schema.fields ≤ 64) }
+        ensures at_most { IfOk result (λ schema. length schema.fields ≤ 64) }
         ensures err { IfErr result (λ fault. fault ≡ CsvFault.NoMemory) }
     {
         match fields_in(alloc, &self.names) {
@@ -107,10 +108,12 @@ impl NumberHeader {
         room: usize,
     ) -> Result<Block, CsvFault>
         requires header { IsNumberHeader self.now }
-        requires few { before + room < 2 ^ 31 }
+        requires at_most { before + room < 2 ^ 31 }
         ensures ok { IfOk result (λ b. (rest : List ℕ) → Reads reader.old rest → MatchBool b.last
-            (IsLastBlock self.now.fields (fields_of self.now.names) before room reader.old rest b.columns)
-            (IsFullBlock self.now.fields (fields_of self.now.names) before room reader.old reader.new
+            (IsLastBlock self.now.fields
+            (fields_of self.now.names) before room reader.old rest b.columns)
+            (IsFullBlock self.now.fields
+            (fields_of self.now.names) before room reader.old reader.new
             rest b.columns)) }
         ensures sorts { IfOk result (λ b. OfSorts self.now.fields b.columns.columns) }
         ensures most { IfOk result (λ b. b.columns.count ≤ room) }
@@ -133,10 +136,9 @@ impl NumberHeader {
         room: usize,
     ) -> Result<Lines, AllocError>
         requires { IsNumberHeader self.now }
-        ensures lines { IfOk result (λ l. AreLines self.now.fields (fields_of self.now.names) before
+        ensures { IfOk result (λ l. ReadsLines self.now.fields
+            (fields_of self.now.names) before room
             text.now l.columns l.taken) }
-        ensures sorts { IfOk result (λ l. OfSorts self.now.fields l.columns.columns) }
-        ensures most { IfOk result (λ l. l.columns.count ≤ room) }
     {
         let names = names_in(alloc, &self.names)?;
         let layout = Layout::new(alloc, self.fields.as_slice(), &names)?;
@@ -191,7 +193,8 @@ fn header_end(text: &[u8]) -> Option<usize>
 // The cells of the first line of a text, which ends here.
 fn header_line(alloc: Global, text: &[u8], end: usize) -> Result<ByteRecord, AllocError>
     requires { IsHeaderEnd text.now end }
-    ensures { IfOk result (λ names. (n : ℕ) → records_from default_config (n + 1) st.StartRecord text.now
+    ensures { IfOk result (λ names. (n : ℕ) → records_from default_config
+        (n + 1) st.StartRecord text.now
         ≡ fields_of names ∷ records_from default_config n st.StartRecord (drop end text.now)) }
 {
     let mut reader = text_reader(alloc, &text[..end + 1]);
@@ -205,13 +208,9 @@ fn header_line(alloc: Global, text: &[u8], end: usize) -> Result<ByteRecord, All
 
 // The text of whole numbers that a text is, whose first line has no quotes and ends here.
 fn line_blocks<'a>(alloc: Global, text: &'a [u8], end: usize) -> Result<NumberBlocks<'a>, CsvFault>
-    requires few { length text.now ≤ 134217728 }
+    requires at_most { length text.now ≤ text_limit }
     requires end { IsHeaderEnd text.now end }
-    ensures blocks { IfOk result IsNumberBlocks }
-    ensures few { IfOk result (λ b. b.left ≤ 134217728) }
-    ensures ok { IfOk result (λ b. GivesTable b (number_rows_in csv_limits (records default_config text.now))) }
-    ensures err { IfErr result (λ fault. fault ≢ CsvFault.NoMemory
-        → number_rows_in csv_limits (records default_config text.now) ≡ Err fault) }
+    ensures { Begins (records default_config text.now) result }
 {
     let names = header_line(alloc, text, end)?;
     match NumberHeader::of_record(alloc, names) {
@@ -229,11 +228,13 @@ fn line_blocks<'a>(alloc: Global, text: &'a [u8], end: usize) -> Result<NumberBl
 pub fn read_header(alloc: Global, reader: &mut Reader<&[u8]>) -> Result<NumberHeader, CsvFault>
     ensures header { IfOk result IsNumberHeader }
     ensures ok { IfOk result (λ header. (rest : List ℕ) → Reads reader.old rest → (left : List ℕ)
-        × Reads reader.new left × ((n : ℕ) → number_rows_in csv_limits (records_left (n + 1) reader.old rest)
+        × Reads reader.new left × ((n : ℕ) → number_rows_in csv_limits
+        (records_left (n + 1) reader.old rest)
         ≡ with_schema header.fields (rows_of csv_limits header.fields (fields_of header.names)
         (records_left n reader.new left)))) }
     ensures err { IfErr result (λ fault. fault ≢ CsvFault.NoMemory → (rest : List ℕ)
-        → Reads reader.old rest → (n : ℕ) → number_rows_in csv_limits (records_left (n + 1) reader.old rest)
+        → Reads reader.old rest → (n : ℕ) → number_rows_in csv_limits
+        (records_left (n + 1) reader.old rest)
         ≡ Err fault) }
 {
     let mut names = ByteRecord::new(alloc);
@@ -245,12 +246,8 @@ pub fn read_header(alloc: Global, reader: &mut Reader<&[u8]>) -> Result<NumberHe
 
 // The text of whole numbers that some bytes are, by their records.
 fn record_blocks<'a>(alloc: Global, bytes: &'a [u8]) -> Result<NumberBlocks<'a>, CsvFault>
-    requires { length bytes.now ≤ 134217728 }
-    ensures blocks { IfOk result IsNumberBlocks }
-    ensures few { IfOk result (λ b. b.left ≤ 134217728) }
-    ensures ok { IfOk result (λ b. GivesTable b (number_rows_in csv_limits (records_of bytes.now))) }
-    ensures err { IfErr result (λ fault. fault ≢ CsvFault.NoMemory
-        → number_rows_in csv_limits (records_of bytes.now) ≡ Err fault) }
+    requires { length bytes.now ≤ text_limit }
+    ensures { Begins (records_of bytes.now) result }
 {
     let mut reader = text_reader(alloc, bytes);
     let left = unmarked_len(bytes);
@@ -265,15 +262,11 @@ fn record_blocks<'a>(alloc: Global, bytes: &'a [u8]) -> Result<NumberBlocks<'a>,
     }
 }
 
-/// The text of whole numbers that some bytes are, with its header read. The fields and the rows, or the
-/// first fault, are those of `read_number_columns`.
+/// The text of whole numbers that some bytes are, with its header read. The fields and the rows, or
+/// the first fault, are those of `read_number_rows`.
 pub fn number_blocks<'a>(alloc: Global, bytes: &'a [u8]) -> Result<NumberBlocks<'a>, CsvFault>
-    requires { length bytes.now ≤ 134217728 }
-    ensures blocks { IfOk result IsNumberBlocks }
-    ensures few { IfOk result (λ b. b.left ≤ 134217728) }
-    ensures ok { IfOk result (λ b. GivesTable b (number_rows_in csv_limits (records_of bytes.now))) }
-    ensures err { IfErr result (λ fault. fault ≢ CsvFault.NoMemory
-        → number_rows_in csv_limits (records_of bytes.now) ≡ Err fault) }
+    requires { length bytes.now ≤ text_limit }
+    ensures { Begins (records_of bytes.now) result }
 {
     let text = unmarked(bytes);
     match header_end(text) {
@@ -283,15 +276,15 @@ pub fn number_blocks<'a>(alloc: Global, bytes: &'a [u8]) -> Result<NumberBlocks<
 }
 
 impl<'a> NumberBlocks<'a> {
-    // The rows of the next lines, where the text is read by lines and the next one is of whole numbers
-    // without quotes. From the first other line on, records are read.
+    // The rows of the next lines, where the text is read by lines and the next one is of whole
+    // numbers without quotes. From the first other line on, records are read.
     fn next_lines(&mut self, alloc: Global, room: usize) -> Result<Option<Columns>, CsvFault>
         requires is { IsNumberBlocks self.old }
         requires room { room ≤ self.old.left }
-        ensures blocks { IsNumberBlocks self.new }
-        ensures header { self.new.header ≡ self.old.header }
+        ensures goes_on { GoesOn self.old self.new }
         ensures ok { IfOk result (λ block. (whole : RowsOrFault) → Gives self.old whole
-            → MatchOption block (Gives self.new whole) (λ columns. (more : RowsOrFault) × Gives self.new more
+            → MatchOption block (Gives self.new whole) (λ columns. (more : RowsOrFault)
+            × Gives self.new more
             × (whole ≡ after (rows_of_columns columns) more))) }
         ensures none { IfOk result (λ block. block ≡ None → IsByRecords self.new.source
             × (self.new.left ≡ self.old.left)) }
@@ -321,15 +314,15 @@ impl<'a> NumberBlocks<'a> {
     fn next_records(&mut self, alloc: Global, room: usize) -> Result<Columns, CsvFault>
         requires is { IsNumberBlocks self.old }
         requires source { IsByRecords self.old.source }
-        requires some { 0 < room }
-        requires room { room ≤ self.old.left }
-        ensures blocks { IsNumberBlocks self.new }
-        ensures header { self.new.header ≡ self.old.header }
+        requires room { (0 < room) × (room ≤ self.old.left) }
+        ensures goes_on { GoesOn self.old self.new }
         ensures ok { IfOk result (λ columns. (whole : RowsOrFault) → Gives self.old whole
-            → (more : RowsOrFault) × Gives self.new more × (whole ≡ after (rows_of_columns columns) more)) }
-        ensures numbers { IfOk result (λ columns. AreNumbers self.old.header.fields columns.columns) }
-        ensures fewer { OnOk result (self.new.left < self.old.left) }
-        ensures count { IfOk result (λ columns. columns.count + self.new.left ≤ self.old.left) }
+            → (more : RowsOrFault) × Gives self.new more × (whole
+            ≡ after (rows_of_columns columns) more)) }
+        ensures numbers { IfOk result
+            (λ columns. AreNumbers self.old.header.fields columns.columns) }
+        ensures count { IfOk result (λ columns. (self.new.left < self.old.left)
+            × (columns.count + self.new.left ≤ self.old.left)) }
         ensures err { IfErr result (λ fault. fault ≢ CsvFault.NoMemory → (whole : RowsOrFault)
             → Gives self.old whole → whole ≡ Err fault) }
     {
@@ -353,10 +346,10 @@ impl<'a> NumberBlocks<'a> {
     /// The next rows, if any are left: a few thousand, or else the last.
     pub fn next(&mut self, alloc: Global) -> Result<Option<Columns>, CsvFault>
         requires { IsNumberBlocks self.old }
-        ensures blocks { IsNumberBlocks self.new }
-        ensures header { self.new.header ≡ self.old.header }
+        ensures goes_on { GoesOn self.old self.new }
         ensures ok { IfOk result (λ block. (whole : RowsOrFault) → Gives self.old whole
-            → MatchOption block (whole ≡ Ok []) (λ columns. (more : RowsOrFault) × Gives self.new more
+            → MatchOption block (whole ≡ Ok []) (λ columns. (more : RowsOrFault)
+            × Gives self.new more
             × (whole ≡ after (rows_of_columns columns) more))) }
         ensures numbers { IfOk result (λ block. IfSome block (λ columns.
             AreNumbers self.old.header.fields columns.columns)) }

@@ -1,5 +1,5 @@
 //! The header of a CSV text.
-ghost use Rattle.std.specs.Prelude.{◌≡◌, ◌≢◌, ◌≤◌, true, false, map, take, length, ◌<◌, ◌^◌, IfOk, IfErr, IsOk, Ok, Err};
+ghost use Rattle.std.specs.Prelude.{◌≡◌, ◌≢◌, ◌≤◌, true, false, map, length, ◌<◌, ◌^◌, IfOk, IfErr, IsOk, Ok, Err};
 ghost use Rattle.csv.specs.Records.{fields_of};
 ghost use Rattle.csv_ingest.specs.Names.{is_among, schema_name, names_of, number_field, number_name};
 ghost use Rattle.csv_ingest.specs.Rows.{header_of};
@@ -10,17 +10,6 @@ use data_types::{FieldKind, Name, Seq};
 use std::alloc::{AllocError, Global};
 use table_schema::{Field, Role, is_column_name};
 use values::Value;
-
-fn is_among(name: &[u8], names: &[&[u8]]) -> bool
-    ensures { result ≡ is_among name.now (map (λ f. f.now) names.now) }
-{
-    for other in names {
-        if name == *other {
-            return true;
-        }
-    }
-    false
-}
 
 /// The cells of a record.
 pub fn names_in<'a>(alloc: Global, row: &'a ByteRecord) -> Result<Vec<&'a [u8]>, AllocError>
@@ -96,7 +85,8 @@ fn is_field(name: &[u8], fields: &[Field]) -> bool
 fn check_name(fields: &[Field], name: &[u8], earlier: &[&[u8]]) -> Result<(), CsvKind>
     ensures ok { IfOk result (λ _. schema_name fields.now (map (λ f. f.now) earlier.now) name.now
         ≡ Ok name.now) }
-    ensures err { IfErr result (λ kind. schema_name fields.now (map (λ f. f.now) earlier.now) name.now
+    ensures err { IfErr result (λ kind. schema_name fields.now
+        (map (λ f. f.now) earlier.now) name.now
         ≡ Err kind) }
 {
     let Some(_) = text_of(name) else {
@@ -122,4 +112,15 @@ pub fn check_names(fields: &[Field], names: &[&[u8]]) -> Result<(), CsvFault>
         }
     }
     Ok(())
+}
+
+fn is_among(name: &[u8], names: &[&[u8]]) -> bool
+    ensures { result ≡ is_among name.now (map (λ f. f.now) names.now) }
+{
+    for other in names {
+        if name == *other {
+            return true;
+        }
+    }
+    false
 }

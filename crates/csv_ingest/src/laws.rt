@@ -17,8 +17,8 @@ pub fn defaults_law()
     ensures { (schema : Schema) → IsValidSchema schema → DefaultsFit schema.fields }
 {}
 
-/// What a text is read as, by a valid schema or by its own header, are rows of the table, and no more than
-/// there may be. By a schema there are never too many columns.
+/// What a text is read as, by a valid schema or by its own header, are rows of the table, and no
+/// more than there may be. By a schema there are never too many columns.
 pub fn rows_law()
     ensures schema { (schema : Schema) (records : List (List (List ℕ))) (rows : List (List Value))
         → IsValidSchema schema → rows_in csv_limits schema.fields records ≡ Ok rows

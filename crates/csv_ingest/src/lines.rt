@@ -1,12 +1,12 @@
 //! Lines of whole numbers, read straight from a text.
-ghost use Rattle.std.specs.Prelude.{◌≡◌, ◌<◌, ◌≤◌, ◌+◌, ◌-◌, ◌^◌, ◌∷◌, pos, Some, true, false, drop, get_or, map, length, OnOk, IfOk, IfSome};
+ghost use Rattle.std.specs.Prelude.{◌≡◌, ◌<◌, ◌≤◌, ◌+◌, ◌-◌, ◌^◌, ◌∷◌, pos, Some, true, false, get_or, map, length, OnOk, IfOk, IfSome};
 ghost use Rattle.std.specs.List.{All};
-ghost use Rattle.value_columns.specs.Columns.{Counts, row_pushed};
+ghost use Rattle.values.specs.Columns.{Counts, row_pushed};
 ghost use Rattle.data_types.specs.Numbers.{is_digit, negative};
 ghost use Rattle.values.specs.declared.value.Value.TheVariants as value;
 ghost use Rattle.csv_row.specs.Columns.{OfSorts};
 ghost use Rattle.csv_row.specs.Layouts.{IsLayout, header_of};
-ghost use Rattle.csv_ingest.specs.Lines.{AreLines, EndsCell, IsCell, IsLastCell, IsLine, IsWholeField, IsStraight, SpellsAt, StartsCell};
+ghost use Rattle.csv_ingest.specs.Lines.{EndsCell, ReadsLines, IsCell, IsLastCell, IsLine, IsWholeField, IsStraight, SpellsAt, StartsCell};
 
 use crate::records::from_place;
 use crate::rows::empty_columns;
@@ -14,11 +14,40 @@ use csv_row::Layout;
 use data_types::FieldKind;
 use std::alloc::{AllocError, Global};
 use table_schema::Field;
-use value_columns::{Column, Columns};
-use values::Value;
+use values::{Column, Columns, Value};
 
 // So many digits spell a number within 64 bits, and one more still fits in them.
 const FEW_DIGITS: usize = 18;
+
+/// Some rows of a text, and how many of its bytes they are.
+#[derive(Drop)]
+pub struct Lines {
+    pub columns: Columns,
+    pub taken: usize,
+}
+
+/// The rows of the plain lines at the start of a text, after `before` others: at most as many as
+/// there is room for. Each line comes after the end of the one before it.
+pub fn read_lines(
+    alloc: Global,
+    text: &[u8],
+    layout: &Layout,
+    before: usize,
+    room: usize,
+) -> Result<Lines, AllocError>
+    requires { IsLayout layout.now }
+    ensures { IfOk result (λ l. ReadsLines layout.now.fields.now (header_of layout.now) before room
+        text.now l.columns l.taken) }
+{
+    let columns = empty_columns(alloc, layout.fields, room)?;
+    if !is_straight(layout) {
+        let columns = Columns::new(columns, 0);
+        return Ok(Lines { columns, taken: 0 });
+    }
+    let mut numbers = vec![in alloc; 0i64; layout.fields.len()]?;
+    let room = (layout.most as usize).saturating_sub(before).min(room);
+    push_lines(text, layout, before, room, columns, numbers.as_mut_slice())
+}
 
 // What a digit counts; more than 9 for any other byte.
 #[inline(always)]
@@ -100,8 +129,8 @@ fn cell_at(text: &[u8], end: u8) -> Option<(i64, usize)>
     Some((signed(false, number), len))
 }
 
-// The number in the last cell of a line that ends by a carriage return and a line feed, and how much
-// comes before the line feed.
+// The number in the last cell of a line that ends by a carriage return and a line feed, and how
+// much comes before the line feed.
 #[inline(never)]
 fn cell_before_return(text: &[u8]) -> Option<(i64, usize)>
     ensures { IfSome result (λ found. IsLastCell text.now found.0 found.1) }
@@ -129,8 +158,8 @@ fn is_blank(line: &[u8]) -> bool
     line.is_empty() || line[0] == b'\n' || line[0] == b'\r'
 }
 
-// Reads the line of so many whole numbers after the line's end at the start of a text, and tells how
-// long both are.
+// Reads the line of so many whole numbers after the line's end at the start of a text, and tells
+// how long both are.
 #[inline(never)]
 fn read_line(text: &[u8], numbers: &mut [i64]) -> Option<usize>
     ensures width { length numbers.new ≡ length numbers.old }
@@ -194,13 +223,6 @@ fn is_straight(layout: &Layout) -> bool
     true
 }
 
-/// Some rows of a text, and how many of its bytes they are.
-#[derive(Drop)]
-pub struct Lines {
-    pub columns: Columns,
-    pub taken: usize,
-}
-
 // The rows of at most so many plain lines, put into columns that have no values yet.
 fn push_lines(
     text: &[u8],
@@ -212,14 +234,12 @@ fn push_lines(
 ) -> Result<Lines, AllocError>
     requires layout { IsLayout layout.now }
     requires straight { IsStraight layout.now }
-    requires few { room ≤ layout.now.most - before }
+    requires at_most { room ≤ layout.now.most - before }
     requires sorts { OfSorts layout.now.fields.now columns.items }
     requires empty { All (Counts 0) columns.items }
     requires width { length numbers.old ≡ length layout.now.fields.now }
-    ensures lines { IfOk result (λ l. AreLines layout.now.fields.now (header_of layout.now) before
+    ensures { IfOk result (λ l. ReadsLines layout.now.fields.now (header_of layout.now) before room
         text.now l.columns l.taken) }
-    ensures sorts { IfOk result (λ l. OfSorts layout.now.fields.now l.columns.columns) }
-    ensures most { IfOk result (λ l. l.columns.count ≤ room) }
 {
     let mut taken = 0;
     'rows: for i in 0..room {
@@ -232,29 +252,4 @@ fn push_lines(
     }
     let columns = Columns::new(columns, room);
     Ok(Lines { columns, taken })
-}
-
-/// The rows of the plain lines at the start of a text, after `before` others: at most as many as there
-/// is room for. Each line comes after the end of the one before it.
-pub fn read_lines(
-    alloc: Global,
-    text: &[u8],
-    layout: &Layout,
-    before: usize,
-    room: usize,
-) -> Result<Lines, AllocError>
-    requires layout { IsLayout layout.now }
-    ensures lines { IfOk result (λ l. AreLines layout.now.fields.now (header_of layout.now) before
-        text.now l.columns l.taken) }
-    ensures sorts { IfOk result (λ l. OfSorts layout.now.fields.now l.columns.columns) }
-    ensures most { IfOk result (λ l. l.columns.count ≤ room) }
-{
-    let columns = empty_columns(alloc, layout.fields, room)?;
-    if !is_straight(layout) {
-        let columns = Columns::new(columns, 0);
-        return Ok(Lines { columns, taken: 0 });
-    }
-    let mut numbers = vec![in alloc; 0i64; layout.fields.len()]?;
-    let room = (layout.most as usize).saturating_sub(before).min(room);
-    push_lines(text, layout, before, room, columns, numbers.as_mut_slice())
 }

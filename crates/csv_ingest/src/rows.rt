@@ -1,7 +1,7 @@
 //! The records of a CSV text as columns of a table.
 ghost use Rattle.std.specs.Prelude.{◌≡◌, ◌≢◌, ◌≤◌, ◌<◌, ◌+◌, ◌^◌, ℕ, List, map, length, IfOk, IfErr, MatchBool, Ok, Err, []};
 ghost use Rattle.std.specs.List.{All};
-ghost use Rattle.value_columns.specs.Columns.{Counts, rows_of as rows_of_columns};
+ghost use Rattle.values.specs.Columns.{Counts, rows_of as rows_of_columns};
 ghost use Rattle.csv_ingest.specs.Blocks.{IsFullBlock, IsLastBlock, rows_from};
 ghost use Rattle.csv_ingest.specs.Reading.{Reads, records_left};
 ghost use Rattle.csv_row.specs.Row.{csv_limits};
@@ -15,19 +15,9 @@ use csv_row::{CsvFault, Layout};
 use data_types::FieldKind;
 use std::alloc::{AllocError, Global};
 use table_schema::Field;
-use value_columns::{Column, Columns};
+use values::{Column, Columns};
 
-fn empty_column(alloc: Global, kind: FieldKind) -> Column
-    ensures { result ≡ record { are_texts = is_text_kind kind; values = [] } }
-{
-    match kind {
-        FieldKind::Int => Column::numbers(alloc),
-        FieldKind::Long => Column::numbers(alloc),
-        FieldKind::Text => Column::texts(alloc),
-    }
-}
-
-// A column with no value for each field, and with room for so many.
+/// A column with no value for each field, and with room for so many.
 pub fn empty_columns(
     alloc: Global,
     fields: &[Field],
@@ -52,7 +42,8 @@ pub struct Block {
     pub last: bool,
 }
 
-/// The next rows of a text, of which `before` were read: as many as there is room for, or else the last.
+/// The next rows of a text, of which `before` were read: as many as there is room for, or else the
+/// last.
 pub fn read_block(
     alloc: Global,
     reader: &mut Reader<&[u8]>,
@@ -60,10 +51,11 @@ pub fn read_block(
     before: usize,
     room: usize,
 ) -> Result<Block, CsvFault>
-    requires few { before + room < 2 ^ 31 }
+    requires at_most { before + room < 2 ^ 31 }
     requires layout { IsLayout layout.now }
     ensures ok { IfOk result (λ b. (rest : List ℕ) → Reads reader.old rest → MatchBool b.last
-        (IsLastBlock layout.now.fields.now (header_of layout.now) before room reader.old rest b.columns)
+        (IsLastBlock layout.now.fields.now
+        (header_of layout.now) before room reader.old rest b.columns)
         (IsFullBlock layout.now.fields.now (header_of layout.now) before room reader.old reader.new
         rest b.columns)) }
     ensures sorts { IfOk result (λ b. OfSorts layout.now.fields.now b.columns.columns) }
@@ -105,7 +97,7 @@ pub fn columns_below(
     names: &[&[u8]],
 ) -> Result<Columns, CsvFault>
     requires most { most < 2 ^ 31 }
-    requires few { length names.now < 2 ^ 32 }
+    requires at_most { length names.now < 2 ^ 32 }
     requires defaults { DefaultsFit fields.now }
     ensures ok { IfOk result (λ table. (rest : List ℕ) → Reads reader.old rest
         → rows_of csv_limits fields.now (map (λ f. f.now) names.now)
@@ -119,5 +111,15 @@ pub fn columns_below(
     match read_block(alloc, reader, &layout, 0, most) {
         Ok(Block { columns, last: _ }) => Ok(columns),
         Err(fault) => Err(fault),
+    }
+}
+
+fn empty_column(alloc: Global, kind: FieldKind) -> Column
+    ensures { result ≡ record { are_texts = is_text_kind kind; values = [] } }
+{
+    match kind {
+        FieldKind::Int => Column::numbers(alloc),
+        FieldKind::Long => Column::numbers(alloc),
+        FieldKind::Text => Column::texts(alloc),
     }
 }

@@ -13,11 +13,11 @@ use Rattle.data_types.specs.declared.kind.FieldKind.{FieldKind}
 use Rattle.data_types.specs.declared.kind.FieldKind.TheVariants as named
 use Rattle.data_types.specs.declared.whole.WholeFault.{WholeFault}
 use Rattle.data_types.specs.declared.whole.WholeFault.TheVariants.{NotANumber, OutOfRange}
-use Rattle.value_columns.specs.declared.read.ValueFault.{ValueFault}
-use Rattle.value_columns.specs.declared.read.ValueFault.TheVariants.{TooLong}
+use Rattle.values.specs.declared.read.ValueFault.{ValueFault}
+use Rattle.values.specs.declared.read.ValueFault.TheVariants.{TooLong}
 use Rattle.values.specs.declared.value.Value.{Value}
 use Rattle.values.specs.declared.value.Value.TheVariants.{Whole, Text}
-use Rattle.value_columns.specs.Reading.{number_value, value_of}
+use Rattle.values.specs.Reading.{number_value, value_of}
 use Rattle.csv_row.specs.declared.fault.CsvKind.TheVariants.{NotUtf8}
 use Rattle.csv_row.specs.Row.{kinded, value_in}
 

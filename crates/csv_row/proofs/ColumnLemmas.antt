@@ -3,8 +3,8 @@ use Rattle.std.proofs.Common.{◌≡◌, ◌∙◌, ◌<◌, ◌++◌, ◌∷◌
 use Rattle.std.proofs.lemmas.List.{length-map, get_or-map}
 use Rattle.values.specs.declared.value.Value.{Value}
 use Rattle.table_schema.specs.declared.field.Field.{Field}
-use Rattle.value_columns.specs.Columns.{Listed, pushed, row_pushed}
-use Rattle.value_columns.proofs.RowLemmas.{push-one, sorts-push}
+use Rattle.values.specs.Columns.{Listed, pushed, row_pushed}
+use Rattle.values.proofs.RowLemmas.{push-one, sorts-push}
 use Rattle.csv_row.specs.declared.fault.CsvFault.{CsvFault}
 use Rattle.csv_row.specs.Row.{place_of, value_at}
 use Rattle.csv_row.specs.Columns.{OfSorts, is_text_kind}

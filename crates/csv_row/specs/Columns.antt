@@ -1,12 +1,13 @@
 -- What a record adds to the columns of a table.
-use Rattle.std.specs.Prelude.{◌≡◌, ℕ, Bool, true, false, List, length, map, Result, Ok}
+use Rattle.std.specs.Prelude.{◌≡◌, ◌≢◌, ◌≤◌, ◌<◌, ◌^◌, ℕ, Bool, true, false, List, length, map, Option, Result, Ok, Err, IfErr, IfSome, OnOk}
 use Rattle.std.specs.List.{All}
 use Rattle.data_types.specs.declared.kind.FieldKind.{FieldKind}
 use Rattle.data_types.specs.declared.kind.FieldKind.TheVariants as kind
 use Rattle.values.specs.declared.value.Value.{Value}
 use Rattle.table_schema.specs.declared.field.Field.{Field}
-use Rattle.value_columns.specs.Columns.{Listed, is_text, pushed, row_pushed}
+use Rattle.values.specs.Columns.{Listed, is_text, pushed, row_pushed}
 use Rattle.csv_row.specs.declared.fault.CsvFault.{CsvFault}
+use Rattle.csv_row.specs.declared.fault.CsvFault.TheVariants.{NoMemory}
 use Rattle.csv_row.specs.Row.{cell_value}
 
 -- whether a field is of texts
@@ -32,6 +33,18 @@ pub record Pushes (given : Result Value CsvFault) (old new : Listed) : Type 0 wh
   pub value : Value
   pub given_is : given ≡ Ok value
   pub new_is : new ≡ pushed old value
+
+-- a field has its cell in this place of a record, from 1, or none; and the record's cells are few
+pub record HasPlace (cells : List (List ℕ)) (place : Option ℕ) : Type 0 where
+  pub first : IfSome place (λ n. 1 ≤ n)
+  pub within : IfSome place (λ n. n ≤ length cells)
+  pub few : length cells < 2 ^ 32
+
+-- what was given is at the end of the column, or is the fault, unless memory ran out
+pub record PushesOr {A : Type 0} (given : Result Value CsvFault) (old new : Listed)
+    (result : Result A CsvFault) : Type 0 where
+  pub ok : OnOk result (Pushes given old new)
+  pub err : IfErr result (λ fault. fault ≢ NoMemory → given ≡ Err fault)
 
 -- the same of the value of a cell, in each field of a kind
 pub record PushesCell (kind : FieldKind) (bytes : List ℕ) (old new : Listed) : Type 0 where

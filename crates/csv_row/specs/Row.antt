@@ -2,11 +2,11 @@
 use Rattle.std.specs.Prelude.{ℕ, ◌-◌, nat_lt, Bool, not, ◌==◌, List, [], ◌∷◌, length, map, slice_index_or, Option, Some, None, Result, Ok, Err, if◌then◌else◌}
 use Rattle.std.specs.List.{position_from}
 use Rattle.std.specs.Str.{bytes_eq, is_utf8}
-use Rattle.value_columns.specs.Reading.{value_of}
+use Rattle.values.specs.Reading.{value_of}
 use Rattle.data_types.specs.declared.kind.FieldKind.{FieldKind}
 use Rattle.values.specs.declared.value.Value.{Value}
-use Rattle.value_columns.specs.declared.read.ValueFault.{ValueFault}
-use Rattle.value_columns.specs.declared.read.ValueFault.TheVariants as refused
+use Rattle.values.specs.declared.read.ValueFault.{ValueFault}
+use Rattle.values.specs.declared.read.ValueFault.TheVariants as refused
 use Rattle.table_schema.specs.declared.field.Field.{Field}
 use Rattle.table_schema.specs.ValidTable.{most_rows}
 use Rattle.csv_row.specs.declared.fault.CsvKind.{CsvKind}
@@ -56,15 +56,19 @@ cell_value field (b ∷ bytes) = value_in field.kind (b ∷ bytes)
 -- the value of a field whose place in the header is this, in a record
 abbrev pub value_at : ℕ → List (List ℕ) → Field → Option ℕ → Result Value CsvFault
 value_at row cells field None = Ok field.default
-value_at row cells field (Some column) = placed row column (cell_value field (slice_index_or cells (column - 1) []))
+value_at row cells field (Some column) = placed row column (cell_value field
+    (slice_index_or cells (column - 1) []))
 
 -- the values of a record, field by field of the schema
 abbrev pub values_of : List Field → List (List ℕ) → ℕ → List (List ℕ) → Result (List Value) CsvFault
-values_of fields header row cells = all_or_first (map (λ field. value_at row cells field (place_of header field)) fields)
+values_of fields header row cells = all_or_first (map (λ field.
+    value_at row cells field (place_of header field)) fields)
 
 -- the row of a number, from 1
-abbrev pub row_at : Limits → List Field → List (List ℕ) → ℕ × List (List ℕ) → Result (List Value) CsvFault
+abbrev pub row_at : Limits → List Field → List (List ℕ) → ℕ × List (List ℕ)
+    → Result (List Value) CsvFault
 row_at limits fields header (row, cells) =
-    if nat_lt (limits.most_rows (length fields)) row then Err (TooManyRows (limits.most_rows (length fields)))
+    if nat_lt (limits.most_rows (length fields)) row then Err
+    (TooManyRows (limits.most_rows (length fields)))
     else if not (length cells == length header) then Err (At WrongLength row 0)
     else values_of fields header row cells

@@ -1,7 +1,8 @@
 //! The values in the cells of a record.
-ghost use Rattle.std.specs.Prelude.{◌≡◌, ◌≢◌, ◌≤◌, ◌<◌, ◌^◌, [], true, false, length, slice_index_or, ℤ, IfOk, IfErr, IfSome, MatchOption, None, Ok, Err};
+ghost use Rattle.std.specs.Prelude.{◌≡◌, ◌≢◌, ◌<◌, [], true, false, length, slice_index_or, ℤ, IfOk, IfErr, IfSome, MatchOption, None, Ok, Err};
 ghost use Rattle.std.specs.Str.{is_utf8};
 ghost use Rattle.csv.specs.Records.{fields_of};
+ghost use Rattle.csv_row.specs.Columns.{HasPlace};
 ghost use Rattle.csv_row.specs.Row.{cell_value, placed, value_at, value_in};
 
 use crate::{CsvFault, CsvKind};
@@ -9,8 +10,7 @@ use csv::ByteRecord;
 use data_types::{FieldKind, read_whole};
 use std::alloc::Global;
 use table_schema::Field;
-use value_columns::{MOST_TEXT_BYTES, ValueFault, read_value};
-use values::Value;
+use values::{MOST_TEXT_BYTES, Value, ValueFault, read_value};
 
 /// The cell of a record at a place.
 pub fn cell(cells: &ByteRecord, at: usize) -> &[u8]
@@ -103,9 +103,7 @@ pub fn read_field(
     cells: &ByteRecord,
     row: u32,
 ) -> Result<Value, CsvFault>
-    requires first { IfSome place (λ n. 1 ≤ n) }
-    requires within { IfSome place (λ n. n ≤ length (fields_of cells.now)) }
-    requires few { length (fields_of cells.now) < 2 ^ 32 }
+    requires { HasPlace (fields_of cells.now) place }
     ensures ok { IfOk result (λ value. value_at row (fields_of cells.now) field.now place
         ≡ Ok value) }
     ensures err { IfErr result (λ fault. fault ≢ CsvFault.NoMemory

@@ -26,7 +26,7 @@ impl<'a> Layout<'a> {
         fields: &'a [Field],
         names: &'a [&'a [u8]],
     ) -> Result<Layout<'a>, AllocError>
-        requires few { length names.now < 2 ^ 32 }
+        requires at_most { length names.now < 2 ^ 32 }
         requires defaults { DefaultsFit fields.now }
         ensures is { IfOk result IsLayout }
         ensures fields { IfOk result (λ l. l.fields.now ≡ fields.now) }

@@ -1,10 +1,10 @@
 //! The values of a record at the ends of columns.
-ghost use Rattle.std.specs.Prelude.{◌≡◌, ◌≢◌, ◌≤◌, ◌<◌, ◌^◌, length, OnOk, IfOk, IfErr, IfSome, MatchBool, Some, true, false, Ok, Err};
+ghost use Rattle.std.specs.Prelude.{◌≡◌, ◌≢◌, length, OnOk, IfOk, IfErr, MatchBool, true, false, Ok, Err};
 ghost use Rattle.std.specs.Str.{is_utf8};
 ghost use Rattle.csv.specs.Records.{fields_of};
 ghost use Rattle.values.specs.declared.value.Value.TheVariants as value;
 ghost use Rattle.csv_row.specs.Row.{csv_limits, row_at, value_at, value_in, values_of};
-ghost use Rattle.csv_row.specs.Columns.{DefaultFits, OfSorts, Pushes, PushesCell, PushesRow, is_text_kind};
+ghost use Rattle.csv_row.specs.Columns.{DefaultFits, HasPlace, OfSorts, PushesCell, PushesOr, PushesRow, is_text_kind};
 ghost use Rattle.csv_row.specs.Layouts.{IsLayout, header_of};
 
 use crate::cells::{cell, number_in, read_field};
@@ -14,7 +14,7 @@ use csv::ByteRecord;
 use data_types::FieldKind;
 use std::alloc::{AllocError, Global};
 use table_schema::Field;
-use value_columns::{Column, MOST_TEXT_BYTES};
+use values::{Column, MOST_TEXT_BYTES};
 
 // Whether some bytes are few enough for a text.
 #[inline(always)]
@@ -25,7 +25,8 @@ fn is_short(bytes: &[u8]) -> bool
     bytes.len() <= MOST_TEXT_BYTES
 }
 
-// Adds the value of a cell that has characters, if it is a number or a short text as the kind wants.
+// Adds the value of a cell that has characters, if it is a number or a short text as the kind
+// wants.
 #[inline(always)]
 fn push_cell(column: &mut Column, kind: FieldKind, bytes: &[u8]) -> Result<bool, AllocError>
     requires { column.old.are_texts ≡ is_text_kind kind }
@@ -59,15 +60,11 @@ fn push_field_slowly(
     cells: &ByteRecord,
     row: u32,
 ) -> Result<(), CsvFault>
-    requires first { IfSome place (λ n. 1 ≤ n) }
-    requires within { IfSome place (λ n. n ≤ length (fields_of cells.now)) }
-    requires few { length (fields_of cells.now) < 2 ^ 32 }
+    requires place { HasPlace (fields_of cells.now) place }
     requires sort { column.old.are_texts ≡ is_text_kind field.now.kind }
     requires default { DefaultFits field.now }
-    ensures ok { OnOk result (Pushes (value_at row (fields_of cells.now) field.now place)
-        column.old column.new) }
-    ensures err { IfErr result (λ fault. fault ≢ CsvFault.NoMemory
-        → value_at row (fields_of cells.now) field.now place ≡ Err fault) }
+    ensures { PushesOr (value_at row (fields_of cells.now) field.now place)
+        column.old column.new result }
 {
     match read_field(alloc, field, place, cells, row) {
         Ok(value) => {
@@ -88,15 +85,11 @@ fn push_field(
     cells: &ByteRecord,
     row: u32,
 ) -> Result<(), CsvFault>
-    requires first { IfSome place (λ n. 1 ≤ n) }
-    requires within { IfSome place (λ n. n ≤ length (fields_of cells.now)) }
-    requires few { length (fields_of cells.now) < 2 ^ 32 }
+    requires place { HasPlace (fields_of cells.now) place }
     requires sort { column.old.are_texts ≡ is_text_kind field.now.kind }
     requires default { DefaultFits field.now }
-    ensures ok { OnOk result (Pushes (value_at row (fields_of cells.now) field.now place)
-        column.old column.new) }
-    ensures err { IfErr result (λ fault. fault ≢ CsvFault.NoMemory
-        → value_at row (fields_of cells.now) field.now place ≡ Err fault) }
+    ensures { PushesOr (value_at row (fields_of cells.now) field.now place)
+        column.old column.new result }
 {
     if let Some(at) = place {
         if push_cell(column, field.kind, cell(cells, at - 1))? {

@@ -6,7 +6,8 @@ use Rattle.data_types.specs.declared.whole.WholeFault.{WholeFault}
 use Rattle.data_types.specs.declared.whole.WholeFault.TheVariants.{NotANumber, OutOfRange}
 use Rattle.data_types.specs.Numbers.{is_digit, unsigned_number, negative, ranged}
 
--- what is kept of a number whose sign is not looked at yet: no more than ten times the most that may stand before a digit
+-- what is kept of a number whose sign is not looked at yet: no more than ten times the most that
+-- may stand before a digit
 abbrev pub kept : Option ℕ → Result ℕ WholeFault
 kept None = Err NotANumber
 kept (Some n) = if nat_le n 9223372036854775809 then Ok n else Err OutOfRange

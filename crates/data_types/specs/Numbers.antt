@@ -19,7 +19,8 @@ place_value (digit ∷ digits) = (digit - 48) * 10 ^ length digits + place_value
 -- the number that a text without a sign spells, if it is made of one digit or more
 abbrev pub unsigned_number : List ℕ → Option ℕ
 unsigned_number [] = None
-unsigned_number (digit ∷ digits) = if list_all is_digit (digit ∷ digits) then Some (place_value (digit ∷ digits)) else None
+unsigned_number (digit ∷ digits) = if list_all is_digit (digit ∷ digits) then Some
+    (place_value (digit ∷ digits)) else None
 
 -- what digits are with a `-` before them
 abbrev pub negative : ℕ → ℤ
@@ -29,7 +30,8 @@ negative n = neg_ℤ (pos n)
 abbrev pub spelled_number : List ℕ → Option ℤ
 spelled_number [] = None
 spelled_number (first ∷ rest) = if first == 45 then option_map negative (unsigned_number rest)
-    else (if first == 43 then option_map pos (unsigned_number rest) else option_map pos (unsigned_number (first ∷ rest)))
+    else (if first == 43 then option_map pos (unsigned_number rest) else option_map pos
+    (unsigned_number (first ∷ rest)))
 
 -- a field's numbers go from minus this number to one below it
 abbrev pub range_of : FieldKind → ℕ

@@ -13,7 +13,7 @@ mod whole;
 pub use boxed::Boxed;
 pub use kind::FieldKind;
 pub use name::Name;
-pub use seq::Seq;
+pub use seq::{Bytes, NoMemory, Seq};
 pub use text_index::{TextIndex, hash_of, text_of};
 pub use text_pool::TextPool;
 pub use whole::{WholeFault, read_whole};

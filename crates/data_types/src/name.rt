@@ -29,12 +29,14 @@ impl Model for Name {
 }
 
 impl Name {
+    /// The empty text. It takes no memory until something is pushed.
     pub fn new(alloc: Global) -> Self
         ensures { result ≡ [] }
     {
         Name { alloc, text: None }
     }
 
+    /// A name of a copy of this text.
     pub fn from_text(alloc: Global, text: &str) -> Result<Self, AllocError>
         ensures { IfOk result (λ n. n ≡ text.now) }
     {
@@ -74,7 +76,7 @@ impl Name {
         self.as_str().is_empty()
     }
 
-    /// One byte of the text.
+    /// The byte at an index, from 0.
     pub fn at(&self, index: usize) -> u8
         requires { index < length self.now }
         ensures { slice_get self.now index ≡ Some result }
@@ -82,12 +84,14 @@ impl Name {
         self.as_slice()[index]
     }
 
+    /// The bytes of the text.
     pub fn as_slice(&self) -> &[u8]
         ensures { result.now ≡ self.now }
     {
         self.as_str().as_bytes()
     }
 
+    /// Adds a text at the end.
     pub fn push_str(&mut self, text: &str) -> Result<(), AllocError>
         ensures ok { OnOk result (self.new ≡ self.old ++ text.now) }
         ensures err { OnErr result (self.new ≡ self.old) }

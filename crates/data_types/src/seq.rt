@@ -10,11 +10,17 @@ use std::cmp::Ordering;
 use std::hash::{Hash, Hasher};
 use std::marker::Model;
 
+/// Want of memory, where it is the whole error.
+pub type NoMemory = AllocError;
+
 /// A `Vec` that contracts see as the list of its items.
 #[derive(Debug, Drop)]
 pub struct Seq<T> {
     items: Vec<T>,
 }
+
+/// A list of bytes.
+pub type Bytes = Seq<u8>;
 
 impl<T> Model for Seq<T> {
     ghost use Rattle.std.specs.Prelude.{List};
@@ -28,6 +34,7 @@ impl<T> Model for Seq<T> {
 }
 
 impl<T> Seq<T> {
+    /// The empty list. It takes no memory until something is pushed.
     pub fn new(alloc: Global) -> Self
         ensures { result ≡ [] }
     {
@@ -37,19 +44,21 @@ impl<T> Seq<T> {
     }
 
     /// An empty list with room for `capacity` items.
-    pub fn with_capacity(alloc: Global, capacity: usize) -> Result<Self, AllocError>
+    pub fn with_capacity(alloc: Global, capacity: usize) -> Result<Self, NoMemory>
         ensures { IfOk result (λ s. s ≡ []) }
     {
         let items = Vec::with_capacity(alloc, capacity)?;
         Ok(Seq { items })
     }
 
+    /// The list of a vector's items. It takes no memory.
     pub fn from_vec(items: Vec<T>) -> Self
         ensures { result ≡ items.items }
     {
         Seq { items }
     }
 
+    /// The vector of the items. It takes no memory.
     pub fn into_vec(self) -> Vec<T>
         ensures { result.items ≡ self }
     {
@@ -69,6 +78,7 @@ impl<T> Seq<T> {
         self.items.is_empty()
     }
 
+    /// The item at an index, from 0.
     pub fn at(&self, index: usize) -> &T
         requires { index < length self.now }
         ensures { slice_get self.now index ≡ Some result.now }
@@ -84,7 +94,8 @@ impl<T> Seq<T> {
 }
 
 impl<T: Drop> Seq<T> {
-    pub fn push(&mut self, item: T) -> Result<(), AllocError>
+    /// Adds an item at the end.
+    pub fn push(&mut self, item: T) -> Result<(), NoMemory>
         ensures ok { OnOk result (self.new ≡ self.old ++ item ∷ []) }
         ensures err { OnErr result (self.new ≡ self.old) }
     {

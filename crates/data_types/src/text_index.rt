@@ -7,7 +7,8 @@ use std::alloc::{AllocError, Global};
 use std::collections::BTreeMap;
 use std::mem;
 
-// A free slot. Any other has the place of a text in its lower half, and the text's hash in its upper.
+// A free slot. Any other has the place of a text in its lower half, and the text's hash in its
+// upper.
 const FREE: u64 = u64::MAX;
 
 // How many slots are looked at for a text, from the slot of its hash on.
@@ -16,8 +17,8 @@ const MOST_PROBES: usize = 32;
 /// Where a text may be found: slots by its hash, and an ordered map of the texts for which no slot
 /// near their own was free. So a look-up takes few steps whatever the texts are.
 ///
-/// What it holds is a guess: each text that it names is compared before its place is used, and a text
-/// that it misses is kept once more.
+/// What it holds is a guess: each text that it names is compared before its place is used, and a
+/// text that it misses is kept once more.
 #[derive(Drop)]
 pub struct TextIndex {
     alloc: Global,
@@ -89,6 +90,7 @@ fn put(slots: &mut [u64], content: u64) -> bool {
     false
 }
 
+// So many slots that hold nothing.
 fn free_slots(alloc: Global, size: usize) -> Result<Vec<u64>, AllocError> {
     let mut slots = Vec::with_capacity(alloc, size)?;
     for _ in 0..size {
@@ -98,6 +100,7 @@ fn free_slots(alloc: Global, size: usize) -> Result<Vec<u64>, AllocError> {
 }
 
 impl TextIndex {
+    /// An index of no text. It takes no memory.
     pub fn new(alloc: Global) -> Self {
         TextIndex {
             alloc,
@@ -166,6 +169,7 @@ impl TextIndex {
         Ok(())
     }
 
+    // Notes a text whose slots are all held, in the ordered map.
     fn crowd(&mut self, text: &str, id: u32) -> Result<(), AllocError> {
         self.crowded
             .insert(String::from_str(self.alloc, text)?, id)?;

@@ -13,7 +13,7 @@ use Rattle.values.specs.Tests.{is_member}
 use Rattle.values.proofs.Bounds.{same_value}
 use Rattle.value_ids.specs.Coding.{AreAmong, AreBelow, Codes, Sees, renumbered, values_at}
 use Rattle.value_ids.specs.Dictionary.{distinct}
-use Rattle.value_ids.proofs.Distinct.{distinct_members, distinct_so}
+use Rattle.value_ids.proofs.DistinctLemmas.{distinct_members, distinct_so}
 
 -- ---- values of one form
 

@@ -17,7 +17,7 @@ use Rattle.value_ids.specs.Dictionary.{Ascends, Fits, IsDictionary, IsUnicode, m
 use Rattle.dictionary.specs.Reading.{is_above, is_above_last, IsBody}
 use Rattle.dictionary.specs.Spelling.{body}
 use Rattle.value_ids.proofs.Ascending.{push_ascends, follows_above}
-use Rattle.value_ids.proofs.Distinct.{nil_ascends}
+use Rattle.value_ids.proofs.DistinctLemmas.{nil_ascends}
 
 -- ---- above the last value
 

@@ -10,8 +10,10 @@ DistinctAscend = (column : List Value) → Ascends (distinct column)
 
 -- they are the values of the column, and no others
 abbrev pub DistinctAreThose : Type 0
-DistinctAreThose = (value : Value) (column : List Value) → is_member (distinct column) value ≡ is_member column value
+DistinctAreThose = (value : Value) (column : List Value) → is_member (distinct column) value
+    ≡ is_member column value
 
 -- one ascending list alone has some members
 abbrev pub AscendsOneWay : Type 0
-AscendsOneWay = (a b : List Value) → Ascends a → Ascends b → ((value : Value) → is_member a value ≡ is_member b value) → a ≡ b
+AscendsOneWay = (a b : List Value) → Ascends a → Ascends b → ((value : Value)
+    → is_member a value ≡ is_member b value) → a ≡ b

@@ -10,14 +10,16 @@ use Rattle.value_ids.specs.Dictionary.{IsDictionary}
 use Rattle.dictionary.specs.Spelling.{body, counted, offsets, texts}
 
 -- the bytes are the body of these values, which are a dictionary
-pub record IsBody (kind : FieldKind) (count : ℕ) (bytes : List ℕ) (values : List Value) : Type 0 where
+pub record IsBody (kind : FieldKind) (count : ℕ) (bytes : List ℕ) (values : List Value)
+    : Type 0 where
   pub stands : IsDictionary (record { kind = kind; values = values })
   pub counted : length values ≡ count
   pub spelled : bytes ≡ body kind values
 
 -- the bytes are the body of no dictionary of so many values
 abbrev pub NoBody : FieldKind → ℕ → List ℕ → Type 0
-NoBody kind count bytes = (values : List Value) → IsDictionary (record { kind = kind; values = values }) → length values ≡ count → bytes ≢ body kind values
+NoBody kind count bytes = (values : List Value) → IsDictionary
+    (record { kind = kind; values = values }) → length values ≡ count → bytes ≢ body kind values
 
 -- the value is greater than the last one, if there is one
 abbrev pub is_above : Option Value → Value → Bool
@@ -36,11 +38,13 @@ pub record Left : Type 0 where
 
 -- it is spelled of these values
 abbrev pub Spells : Left → List Value → Type 0
-Spells left values = (counted left.start ++ left.offsets ≡ offsets left.start values) × (left.texts ≡ texts values)
+Spells left values = (counted left.start ++ left.offsets ≡ offsets left.start values)
+    × (left.texts ≡ texts values)
 
 -- no text that a dictionary may have is the next
 abbrev pub NoNext : Left → Type 0
-NoNext left = (text : List ℕ) (more : List Value) → length text ≤ 512 → IsUtf8 text → ¬ (Spells left (Text text ∷ more))
+NoNext left = (text : List ℕ) (more : List Value) → length text ≤ 512 → IsUtf8 text
+    → ¬ (Spells left (Text text ∷ more))
 
 -- the text is the next, and what is left after it
 pub record IsNext (left : Left) (text : List ℕ) (following : Left) : Type 0 where
@@ -49,4 +53,5 @@ pub record IsNext (left : Left) (text : List ℕ) (following : Left) : Type 0 wh
   pub near : following.start ≤ left.start + 512
   pub offset : length left.offsets ≡ length following.offsets + 4
   pub forth : (more : List Value) → Spells following more → Spells left (Text text ∷ more)
-  pub back : (other : List ℕ) (more : List Value) → length other ≤ 512 → Spells left (Text other ∷ more) → (other ≡ text) × Spells following more
+  pub back : (other : List ℕ) (more : List Value) → length other ≤ 512
+      → Spells left (Text other ∷ more) → (other ≡ text) × Spells following more

@@ -31,7 +31,8 @@ abbrev pub texts : List Value → List ℕ
 texts [] = []
 texts (value ∷ values) = text_bytes value ++ texts values
 
--- where each text begins among the bytes of all texts, and where the last one ends, if the first begins at `start`
+-- where each text begins among the bytes of all texts, and where the last one ends, if the first
+-- begins at `start`
 abbrev pub offsets : ℕ → List Value → List ℕ
 offsets start [] = counted start
 offsets start (value ∷ values) = counted start ++ offsets (start + length (text_bytes value)) values
@@ -52,4 +53,5 @@ IsExtended old new = (more : List ℕ) × (new ≡ old ++ more)
 
 -- bytes spell at most one dictionary of a kind
 abbrev pub SpellsOne : Type 0
-SpellsOne = (a b : Distinct) → IsDictionary a → IsDictionary b → a.kind ≡ b.kind → spelling a ≡ spelling b → a ≡ b
+SpellsOne = (a b : Distinct) → IsDictionary a → IsDictionary b → a.kind ≡ b.kind
+    → spelling a ≡ spelling b → a ≡ b

@@ -9,8 +9,7 @@ ghost use Rattle.dictionary.specs.Reading.{IsBody, NoBody, is_above_last, Left, 
 use crate::{DictFault, Dictionary, MOST_VALUES};
 use data_types::{FieldKind, Name};
 use std::alloc::Global;
-use value_columns::MOST_TEXT_BYTES;
-use values::Value;
+use values::{MOST_TEXT_BYTES, Value};
 
 impl Dictionary {
     /// The dictionary of that kind whose spelling the bytes are.

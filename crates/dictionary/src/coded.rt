@@ -7,8 +7,7 @@ ghost use Rattle.value_ids.specs.Dictionary.{Ascends, most_values};
 use crate::number_index::code_numbers;
 use data_types::{Name, TextPool};
 use std::alloc::{AllocError, Global};
-use value_columns::{Column, Texts};
-use values::{NoMemory, Value};
+use values::{Column, NoMemory, Texts, Value};
 
 /// Values of a column, as a rule each once, and for each row the place of its own among them.
 #[derive(Drop)]

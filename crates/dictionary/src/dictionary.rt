@@ -10,12 +10,10 @@ ghost use Rattle.value_ids.specs.Ids.{has_id, matching, satisfies};
 use crate::coded::{Coded, code_column, ranks};
 use crate::matching::matching_ids;
 use data_types::{FieldKind, Seq};
-use sorted_values::{distinct_values, rank_places};
 use std::alloc::Global;
 use std::marker::Model;
-use value_columns::Column;
-use value_ids::IdSet;
-use values::{NoMemory, Test, Value};
+use value_ids::{IdSet, distinct_values, rank_places};
+use values::{Column, NoMemory, Test, Value};
 
 /// The most values that a column has.
 pub const MOST_VALUES: usize = 1_048_576;
@@ -106,6 +104,7 @@ impl Dictionary {
         }
     }
 
+    /// The value of an id.
     pub fn value_at(&self, id: u32) -> &Value
         requires { id < length self.now.values }
         ensures { slice_get self.now.values id ≡ Some result.now }

@@ -1,13 +1,43 @@
-//! The ids of the values that satisfy a test. Values that ascend are cut by a bound, and none is tested.
+//! The ids of the values that satisfy a test. Values that ascend are cut by a bound, and none is
+//! tested.
 ghost use Rattle.std.specs.Prelude.{◌≤◌, length, IfOk};
 ghost use Rattle.values.specs.Tests.{is_between, is_member, negated_if, holds};
 ghost use Rattle.value_ids.specs.Dictionary.{Ascends, most_values};
 ghost use Rattle.value_ids.specs.Ids.{AreThose, Picks, negated_ids};
 
-use sorted_values::{Cut, compared, cut_at};
 use std::alloc::Global;
-use value_ids::{IdSet, complement_of, intersection_of, range_of, set_of, union_of};
+use value_ids::{
+    Cut, IdSet, compared, complement_of, cut_at, intersection_of, range_of, set_of, union_of,
+};
 use values::{NoMemory, Test, Value};
+
+/// The ids of the values that satisfy the test.
+pub fn matching_ids(alloc: Global, test: &Test, values: &[Value]) -> Result<IdSet, NoMemory>
+    requires few { length values.now ≤ most_values }
+    requires ascends { Ascends values.now }
+    ensures { IfOk result (Picks (λ value. holds value test.now) values.now) }
+{
+    match test {
+        Test::Compare(op, bound) => compared(alloc, *op, bound, values),
+        Test::OneOf(members, negated) => one_of(alloc, members.as_slice(), *negated, values),
+        Test::Between(low, high, negated) => between(alloc, low, high, *negated, values),
+        Test::All(tests) => {
+            let mut ids = range_of(alloc, 0, values.len() as u32)?;
+            for test in tests.as_slice() {
+                ids = intersection_of(alloc, &ids, &matching_ids(alloc, test, values)?)?;
+            }
+            Ok(ids)
+        }
+        Test::Any(tests) => {
+            let count = values.len() as u32;
+            let mut ids = IdSet::new(alloc);
+            for test in tests.as_slice() {
+                ids = union_of(alloc, count, &ids, &matching_ids(alloc, test, values)?)?;
+            }
+            Ok(ids)
+        }
+    }
+}
 
 // The ids, or those of all other values.
 fn negated_set(alloc: Global, negated: bool, count: u32, ids: IdSet) -> Result<IdSet, NoMemory>
@@ -66,32 +96,4 @@ fn one_of(
 {
     let ids = set_of(alloc, places_of(alloc, members, values)?)?;
     negated_set(alloc, negated, values.len() as u32, ids)
-}
-
-/// The ids of the values that satisfy the test.
-pub fn matching_ids(alloc: Global, test: &Test, values: &[Value]) -> Result<IdSet, NoMemory>
-    requires few { length values.now ≤ most_values }
-    requires ascends { Ascends values.now }
-    ensures { IfOk result (Picks (λ value. holds value test.now) values.now) }
-{
-    match test {
-        Test::Compare(op, bound) => compared(alloc, *op, bound, values),
-        Test::OneOf(members, negated) => one_of(alloc, members.as_slice(), *negated, values),
-        Test::Between(low, high, negated) => between(alloc, low, high, *negated, values),
-        Test::All(tests) => {
-            let mut ids = range_of(alloc, 0, values.len() as u32)?;
-            for test in tests.as_slice() {
-                ids = intersection_of(alloc, &ids, &matching_ids(alloc, test, values)?)?;
-            }
-            Ok(ids)
-        }
-        Test::Any(tests) => {
-            let count = values.len() as u32;
-            let mut ids = IdSet::new(alloc);
-            for test in tests.as_slice() {
-                ids = union_of(alloc, count, &ids, &matching_ids(alloc, test, values)?)?;
-            }
-            Ok(ids)
-        }
-    }
 }

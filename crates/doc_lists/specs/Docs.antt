@@ -15,10 +15,12 @@ docs_of_run run = range_with_len run.first (run.last + 1 - run.first)
 abbrev pub docs_of : List Run → List ℕ
 docs_of runs = flat_map docs_of_run runs
 
--- runs in order, from a document on, each of at least one document, with a document missing between two of them
+-- runs in order, from a document on, each of at least one document, with a document missing between
+-- two of them
 abbrev pub Apart : ℕ → List Run → Type 0
 Apart from [] = Unit {0}
-Apart from (run ∷ runs) = (from ≤ run.first) × (run.first ≤ run.last) × (run.last < 2 ^ 32) × Apart (run.last + 2) runs
+Apart from (run ∷ runs) = (from ≤ run.first) × (run.first ≤ run.last) × (run.last < 2 ^ 32)
+    × Apart (run.last + 2) runs
 
 -- runs that begin after the documents of a list, with one missing between them
 pub record AreAfter (docs : List ℕ) (runs : List Run) : Type 0 where

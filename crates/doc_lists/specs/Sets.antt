@@ -25,17 +25,20 @@ RemainFrom doc (run ∷ runs) = (doc ≤ run.last) × Apart 0 (run ∷ runs)
 
 -- whether there are so many runs and the last of them ends before a document
 abbrev pub ends_before : List Run → ℕ → ℕ → Bool
-ends_before runs count doc = nat_le count (length runs) && nat_lt (slice_index_or runs (count - 1) (record { first = 0; last = 0 })).last doc
+ends_before runs count doc = nat_le count (length runs) && nat_lt
+    (slice_index_or runs (count - 1) (record { first = 0; last = 0 })).last doc
 
 -- the runs have the same documents from one on
 abbrev pub SameFrom : ℕ → List Run → List Run → Type 0
 SameFrom from old new = (doc : ℕ) → from ≤ doc → in_runs new doc ≡ in_runs old doc
 
--- a run that ends at a document or after it; up to its end, a document is in one of two lists of runs where the run has begun
+-- a run that ends at a document or after it; up to its end, a document is in one of two lists of
+-- runs where the run has begun
 pub record IsSooner (start : ℕ) (ours theirs : List Run) (run : Run) : Type 0 where
   pub within : run.last < 2 ^ 32
   pub onwards : start ≤ run.last
-  pub those : (doc : ℕ) → start ≤ doc → doc ≤ run.last → in_runs ours doc || in_runs theirs doc ≡ nat_le run.first doc
+  pub those : (doc : ℕ) → start ≤ doc → doc ≤ run.last → in_runs ours doc || in_runs theirs doc
+      ≡ nat_le run.first doc
 
 -- the first document of runs, or one past all where there is none
 abbrev pub first_in : List Run → ℕ
@@ -58,7 +61,9 @@ pub record Swept (test : ℕ → Bool) (to : ℕ) (docs : List ℕ) : Type 0 whe
   pub below : All (λ doc. doc < to) docs
   pub those : (doc : ℕ) → doc < to → has_doc docs doc ≡ test doc
 
--- a list that was swept up to a document is swept up to the end of runs, where the test holds just of their documents
+-- a list that was swept up to a document is swept up to the end of runs, where the test holds just
+-- of their documents
 abbrev pub SweepsRuns : ℕ → List Run → List ℕ → List ℕ → Type 0
 SweepsRuns start runs old new =
-    (test : ℕ → Bool) → Swept test start old → ((doc : ℕ) → start ≤ doc → doc < next_from 0 runs → test doc ≡ in_runs runs doc) → Swept test (next_from 0 runs) new
+    (test : ℕ → Bool) → Swept test start old → ((doc : ℕ) → start ≤ doc → doc < next_from 0 runs
+    → test doc ≡ in_runs runs doc) → Swept test (next_from 0 runs) new

@@ -5,11 +5,9 @@ ghost use Rattle.std.specs.List.Sorted.{IsStrictlyIncreasing};
 ghost use Rattle.doc_lists.specs.Docs.{Added, Apart, AreAfter, docs_of, docs_of_run, next_from};
 
 use crate::Run;
-use std::alloc::{AllocError, Global};
+use data_types::NoMemory;
+use std::alloc::Global;
 use std::marker::Model;
-
-/// Want of memory, where it is the whole error.
-pub type NoMemory = AllocError;
 
 /// An ascending list of documents, without repeats. Documents that follow one another are kept as
 /// one run, however many they are.
@@ -58,7 +56,7 @@ impl DocList {
         Ok(docs)
     }
 
-    // The same documents in a list of their own.
+    /// The same documents in a list of their own.
     pub fn copied(&self, alloc: Global) -> Result<DocList, NoMemory>
         ensures { IfOk result (λ docs. docs ≡ self.now) }
     {
@@ -204,7 +202,7 @@ fn append(runs: &mut Vec<Run>, run: Run) -> Result<(), NoMemory>
     Ok(())
 }
 
-// The document after the last one, and 0 where there is none.
+/// The document after the last one, and 0 where there is none.
 pub fn next_after(runs: &[Run]) -> u64
     ensures { result ≡ next_from 0 runs.now }
 {

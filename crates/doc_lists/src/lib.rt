@@ -6,6 +6,7 @@ mod doc_list;
 mod run;
 mod sets;
 
-pub use doc_list::{DocList, NoMemory};
+pub use data_types::NoMemory;
+pub use doc_list::DocList;
 pub use run::Run;
 pub use sets::{join, meet, without};

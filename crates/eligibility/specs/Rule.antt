@@ -29,7 +29,8 @@ is_eligible query tree = query.use_tree
 -- the number of the first eligible tree, where the first of these has that number
 abbrev pub picked_from : BoundQuery → ℕ → List TreeSetting → Option ℕ
 picked_from query number [] = None
-picked_from query number (tree ∷ trees) = if is_eligible query tree then Some number else picked_from query (number + 1) trees
+picked_from query number (tree
+    ∷ trees) = if is_eligible query tree then Some number else picked_from query (number + 1) trees
 
 -- the number of the first eligible tree, if there is one
 abbrev pub picked : BoundQuery → List TreeSetting → Option ℕ
@@ -42,7 +43,8 @@ pub record IsFiltered (split : List ℕ) (c : Conjunct) : Type 0 where
   pub names : c ≡ One column condition
   pub among : Contains split column
 
--- the query may use trees, filters and groups by split dimensions alone, and asks for aggregates that are pairs
+-- the query may use trees, filters and groups by split dimensions alone, and asks for aggregates
+-- that are pairs
 pub record Serves (tree : TreeSetting) (query : BoundQuery) : Type 0 where
   pub wanted : query.use_tree ≡ true
   pub filtered : AllByRecursion (IsFiltered tree.split) query.conjuncts

@@ -7,9 +7,9 @@ ghost use Rattle.eligibility.specs.Rule as spec;
 
 use table_schema::{Agg, BoundQuery, Conjunct, TreeSetting};
 
-/// Whether the tree may answer the query: trees are not switched off, each conjunct names one column,
-/// and that and each group column are among the split dimensions, and each aggregate is one of the
-/// pairs. It takes no memory.
+/// Whether the tree may answer the query: trees are not switched off, each conjunct names one
+/// column, and that and each group column are among the split dimensions, and each aggregate is one
+/// of the pairs. It takes no memory.
 pub fn eligible(query: &BoundQuery, tree: &TreeSetting) -> bool
     ensures { result ≡ spec.is_eligible query.now tree.now }
 {

@@ -17,8 +17,7 @@ use state_columns::StateRow;
 use std::alloc::Global;
 use std::marker::Model;
 use table_schema::{Agg, BoundQuery};
-use value_columns::{Row, copy_row};
-use values::NoMemory;
+use values::{NoMemory, Row, copy_row};
 
 /// The groups of a query: to each key the aggregates of its rows. Each group has a place.
 #[derive(Drop)]

@@ -1,2 +1,3 @@
+mod NameEndLemmas
 mod NameLemmas
 mod StreamLemmas

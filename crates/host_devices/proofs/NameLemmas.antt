@@ -2,7 +2,7 @@
 use Rattle.std.proofs.Common.{◌≡◌, ◌≢◌, ℕ, List, Option, None, Some, refl}
 use Rattle.std.specs.Prelude.{MatchOption}
 use Rattle.std.specs.Option.{ForSome}
-use Rattle.device_state.specs.Names.{AreEnds}
+use Rattle.host_devices.specs.Names.{AreEnds}
 
 -- what is kept has a name that fits the ends of it
 pub kept_named : {X : Type 0} (kept : Option X) (name_of : X → List ℕ) (name : List ℕ) (size first last : ℕ) → kept ≢ None → ForSome kept (λ k. AreEnds (name_of k) size first last)

@@ -10,7 +10,8 @@ pub record Stream (W : Type 0) : Type 0 where
 
 -- a sink over a stream, seen as the stream and a count of faults
 abbrev pub stream_code : {W : Type 0} → Coded W → Coded (Stream W)
-stream_code {W = W} code = code_by (W × ℕ) (coded× code coded_ℕ) (λ s. (s.stream, s.faults)) (λ p. record { stream = p.0; faults = p.1 }) (λ _. refl)
+stream_code {W = W} code = code_by (W × ℕ) (coded× code coded_ℕ) (λ s. (s.stream, s.faults))
+    (λ p. record { stream = p.0; faults = p.1 }) (λ _. refl)
 
 -- the bytes that a stream tells grew by the first so many of these
 abbrev pub AppendsSome : Option (List ℕ) → Option (List ℕ) → List ℕ → Type 0

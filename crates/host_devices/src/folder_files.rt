@@ -1,28 +1,20 @@
 //! The files of a real folder.
-ghost use Rattle.std.specs.Prelude.{◌≡◌, ◌≢◌, ◌≤◌, ◌<◌, ◌+◌, ◌^◌, true, IfOk, IfSome, IsErrOf, IsSome, MatchOption, None, Some, length, string_bytes, vec_len};
+ghost use Rattle.std.specs.Prelude.{◌≡◌, ◌≢◌, ◌≤◌, true, IfOk, IfSome, IsErrOf, IsSome, MatchOption, None, Some, length, string_bytes};
 ghost use Rattle.std.specs.Option.{ForSome};
-ghost use Rattle.device_state.specs.Names.{AreEnds};
+ghost use Rattle.host_devices.specs.Names.{AreEnds};
 ghost use Rattle.outside.specs.declared.shelf.ShelfFault.TheVariants.{Missing};
 
-use device_state::NameEnds;
+use crate::NameEnds;
+use crate::file_reader::FileReader;
+use crate::file_stamp::FileStamp;
+use crate::folder_lock::is_folder;
+use crate::listed_names::ListedNames;
 use outside::{Name, ShelfFault};
 use std::alloc::{AllocError, Global};
 use std::fs::{Metadata, OpenFile};
-use std::io::{ErrorKind, Read, Seek, SeekFrom};
+use std::io::ErrorKind;
 use std::rt::Files;
 use std::{fs, io};
-
-/// How many bytes of a file are read at once where reads go on from the last that were read: those
-/// that are asked for next are mostly among them.
-const READ_AHEAD: usize = 65_536;
-
-/// How many are read at once from another place, if fewer are asked for: mostly little more is asked
-/// for there.
-const FIRST_READ: usize = 16_384;
-
-/// Reads go on where they leave out fewer bytes than so many: to read these too costs less than to
-/// seek.
-const GAP: u64 = 4096;
 
 /// A file that is open under its name.
 #[derive(Drop)]
@@ -31,205 +23,59 @@ pub struct NamedFile<F: Drop> {
     pub file: F,
 }
 
-/// A file that is read, and the last bytes that were read ahead, from an offset on. The file is read
-/// from the next offset on.
-#[derive(Drop)]
-pub struct FileReader<F: Read + Drop> {
-    file: F,
-    next: u64,
-    start: u64,
-    ahead: Vec<u8>,
-    held: usize,
-    ghost in_bounds: { held ≤ vec_len ahead },
-    ghost long: { vec_len ahead ≡ 65536 },
-}
-
-/// The files of a folder. The one that was read last is kept open.
+/// The files of a folder. The one that was read last is kept open, and the names that the folder
+/// gave last are kept where they are to be.
 #[derive(Drop)]
 pub struct FolderFiles<R: Files + AllocGlobal + Clone + Drop> {
     pub rt: R,
     pub folder: String,
     kept: Option<NamedFile<FileReader<R::File>>>,
     ends: NameEnds,
+    listed: ListedNames,
     ghost kept_ends: { ends.size ≤ 16 → ForSome kept
         (λ kept. AreEnds (string_bytes kept.name) ends.size ends.first ends.last) },
     ghost ends_of_some: { ends.size ≤ 16 → kept ≢ None },
 }
 
-impl<F: Read + Seek + Drop> FileReader<F> {
-    fn new(alloc: Global, file: F) -> io::Result<Self> {
-        Ok(FileReader {
-            file,
-            next: 0,
-            start: 0,
-            ahead: vec![in alloc; 0u8; READ_AHEAD]?,
-            held: 0,
-        })
-    }
-
-    // Reads from an offset on.
-    fn read_at(&mut self, offset: u64, into: &mut [u8]) -> io::Result<usize>
-        ensures { IfOk result (λ n. n ≤ length into.old) }
-    {
-        match self.copy_ahead(offset, into) {
-            Some(n) => Ok(n),
-            None => self.read_on(offset, into),
-        }
-    }
-
-    // Copies bytes from an offset on, as many as fit, if all of them were read ahead.
-    #[inline(always)]
-    fn copy_ahead(&self, offset: u64, into: &mut [u8]) -> Option<usize>
-        ensures { IfSome result (λ n. n ≤ length into.old) }
-    {
-        let size = into.len();
-        if offset < self.start {
-            return None;
-        }
-        let at = offset - self.start;
-        let held = self.held as u64;
-        if held < at || held - at < size as u64 {
-            return None;
-        }
-        copy_front(&self.ahead[at as usize..self.held], into);
-        Some(size)
-    }
-
-    // Copies bytes from an offset on that were read ahead, as many as there are and fit.
-    fn copy_some(&self, offset: u64, into: &mut [u8]) -> usize
-        ensures { result ≤ length into.old }
-    {
-        if offset < self.start || self.held as u64 <= offset - self.start {
-            return 0;
-        }
-        let bytes = &self.ahead[(offset - self.start) as usize..self.held];
-        let n = bytes.len().min(into.len());
-        copy_front(bytes, &mut into[..n]);
-        n
-    }
-
-    // Reads bytes that were not read ahead. No file is longer than a signed 64-bit number says.
-    #[cold]
-    fn read_on(&mut self, offset: u64, into: &mut [u8]) -> io::Result<usize>
-        ensures { IfOk result (λ n. n ≤ length into.old) }
-    {
-        if offset > i64::MAX as u64 {
-            return Ok(0);
-        }
-        if into.len() >= FIRST_READ {
-            return self.read_past(offset, into);
-        }
-        self.read_ahead(offset)?;
-        Ok(self.copy_some(offset, into))
-    }
-
-    // Reads from an offset on, with nothing read ahead.
-    fn read_past(&mut self, offset: u64, into: &mut [u8]) -> io::Result<usize>
-        requires { offset < 2 ^ 63 }
-        ensures { IfOk result (λ n. n ≤ length into.old) }
-    {
-        self.held = 0;
-        self.seek(offset)?;
-        let n = self.file.read(into)?;
-        self.next = offset + n as u64;
-        Ok(n)
-    }
-
-    // Reads bytes ahead so that those from an offset on are among them, if there are any.
-    fn read_ahead(&mut self, offset: u64) -> io::Result<()>
-        requires { offset < 2 ^ 63 }
-    {
-        if self.next <= offset && offset - self.next < GAP {
-            let size = if self.held > 0 {
-                READ_AHEAD
-            } else {
-                FIRST_READ
-            };
-            self.fill(self.next, size)?;
-            if offset < self.next {
-                return Ok(());
-            }
-        }
-        self.seek(offset)?;
-        self.fill(offset, FIRST_READ)
-    }
-
-    // Reads at most so many bytes ahead from an offset on, which the file is read from next.
-    fn fill(&mut self, offset: u64, size: usize) -> io::Result<()>
-        requires within { offset < 2 ^ 63 }
-        requires room { size ≤ 65536 }
-    {
-        self.held = 0;
-        let n = read_front(&mut self.file, &mut self.ahead, size)?;
-        self.start = offset;
-        self.next = offset + n as u64;
-        self.held = n;
-        Ok(())
-    }
-
-    // Has the file read from an offset on next.
-    fn seek(&mut self, offset: u64) -> io::Result<()> {
-        if offset != self.next {
-            self.file.seek(SeekFrom::Start(offset))?;
-        }
-        Ok(())
-    }
-}
-
-// Reads at most so many bytes to the front of others.
-fn read_front<F: Read>(file: &mut F, into: &mut [u8], size: usize) -> io::Result<usize>
-    requires { size ≤ length into.old }
-    ensures { IfOk result (λ n. n ≤ length into.old) }
-{
-    file.read(&mut into[..size])
-}
-
-// Copies the first bytes to others, as many as these are. Those that an id takes are moved without a
-// call: of one or two the first and the last, of three or four the first two and the last two.
-#[inline(always)]
-fn copy_front(bytes: &[u8], into: &mut [u8])
-    requires { length into.old ≤ length bytes.now }
-{
-    let n = into.len();
-    if n == 1 || n == 2 {
-        into[0] = bytes[0];
-        into[n - 1] = bytes[n - 1];
-    } else if n == 3 || n == 4 {
-        into[0] = bytes[0];
-        into[1] = bytes[1];
-        into[n - 2] = bytes[n - 2];
-        into[n - 1] = bytes[n - 1];
-    } else {
-        into.copy_from_slice(&bytes[..n]);
-    }
-}
-
 impl<R: Files + AllocGlobal + Clone + Drop> FolderFiles<R> {
+    /// The files of the folder at this path.
     pub fn new(rt: R, folder: String) -> Self {
+        let listed = ListedNames::new(rt.alloc());
         FolderFiles {
             rt,
             folder,
             kept: None,
             ends: NameEnds::none(),
+            listed,
         }
     }
 
-    /// The names of the plain files, ascending by bytes, without those that are not UTF-8.
+    /// The names in the folder, ascending by bytes, without those that are not UTF-8. What has a
+    /// name is not looked at.
     pub fn names(&self, alloc: Global) -> Result<Vec<Name>, ShelfFault>
         ensures { ¬ IsErrOf result Missing }
     {
-        match list_files(&self.rt, alloc, self.folder.as_str()) {
+        match list_names(&self.rt, alloc, self.folder.as_str()) {
             Ok(names) => Ok(names),
             Err(e) => Err(read_fault(&e)),
         }
     }
 
+    /// Keeps the names that the folder gave. From now on each of them has a file, and always the
+    /// same, or else a call fails.
+    pub fn keep_names(&mut self, alloc: Global, names: &[Name]) -> Result<(), AllocError> {
+        self.listed = ListedNames::of(alloc, names)?;
+        Ok(())
+    }
+
+    /// The names that the folder gave, where they are kept.
+    pub fn listed(&mut self) -> &mut ListedNames {
+        &mut self.listed
+    }
+
     /// The length of a file, which is opened anew.
     pub fn length(&mut self, alloc: Global, name: &str) -> Result<u64, ShelfFault> {
-        self.forget();
-        let (open, length) = self.open(alloc, name)?;
-        self.keep(open);
-        Ok(length)
+        Ok(self.open(alloc, name)?.length())
     }
 
     /// Reads bytes of a file from an offset on.
@@ -243,15 +89,45 @@ impl<R: Files + AllocGlobal + Clone + Drop> FolderFiles<R> {
         ensures { IfOk result (λ n. n ≤ length into.old) }
     {
         if !self.is_kept(name) {
-            self.forget();
-            let (open, _) = self.open(alloc, name)?;
-            self.keep(open);
+            self.open(alloc, name)?;
         }
         self.read_kept(offset, into)
     }
 
-    /// Copies bytes from an offset on, if the file that is kept open has this name and they were read
-    /// ahead.
+    /// Reads bytes of a file from an offset on. Where its end is read, or nothing, the call fails
+    /// if the file was written since it was opened.
+    pub fn read_unwritten(
+        &mut self,
+        alloc: Global,
+        name: &str,
+        offset: u64,
+        into: &mut [u8],
+    ) -> Result<usize, ShelfFault>
+        ensures { IfOk result (λ n. n ≤ length into.old) }
+    {
+        let n = self.read_at(alloc, name, offset, into)?;
+        if self.is_written_at_end(offset, n) {
+            self.forget();
+            return Err(ShelfFault::Failed);
+        }
+        Ok(n)
+    }
+
+    // Whether so many bytes from an offset on reach the end of the file that is kept open, or are
+    // none, and it was written since it was opened.
+    fn is_written_at_end(&self, offset: u64, n: usize) -> bool {
+        let Some(kept) = &self.kept else {
+            return false;
+        };
+        let end = offset.saturating_add(n as u64);
+        if n > 0 && end < kept.file.opened().length() {
+            return false;
+        }
+        kept.file.was_written().unwrap_or(true)
+    }
+
+    /// Copies bytes from an offset on, if the file that is kept open has this name and they were
+    /// read ahead.
     #[inline(always)]
     pub fn copy_ahead(&self, name: &str, offset: u64, into: &mut [u8]) -> Option<usize>
         ensures { IfSome result (λ n. n ≤ length into.old) }
@@ -318,13 +194,28 @@ impl<R: Files + AllocGlobal + Clone + Drop> FolderFiles<R> {
         }
     }
 
-    // Opens a plain file, and says how long it is.
-    fn open(
+    // Opens a plain file, keeps it open, and says what it is.
+    fn open(&mut self, alloc: Global, name: &str) -> Result<FileStamp, ShelfFault>
+        ensures { IfOk result (λ _. MatchOption self.new.kept ⊥
+            (λ kept. string_bytes kept.name ≡ name.now)) }
+    {
+        self.forget();
+        let open = self.open_named(alloc, name)?;
+        let opened = open.file.opened();
+        if !self.listed.admits(name, opened) {
+            return Err(ShelfFault::Failed);
+        }
+        self.keep(open);
+        Ok(opened)
+    }
+
+    // Opens a plain file.
+    fn open_named(
         &self,
         alloc: Global,
         name: &str,
-    ) -> Result<(NamedFile<FileReader<R::File>>, u64), ShelfFault>
-        ensures { IfOk result (λ found. string_bytes found.0.name ≡ name.now) }
+    ) -> Result<NamedFile<FileReader<R::File>>, ShelfFault>
+        ensures { IfOk result (λ found. string_bytes found.name ≡ name.now) }
     {
         if name.is_empty() {
             return Err(ShelfFault::Missing);
@@ -332,18 +223,41 @@ impl<R: Files + AllocGlobal + Clone + Drop> FolderFiles<R> {
         let path = path_of(alloc, self.folder.as_str(), name)?;
         let name = String::from_str(alloc, name)?;
         match open_plain(&self.rt, alloc, path.as_str()) {
-            Ok((file, length)) => Ok((NamedFile { name, file }, length)),
+            Ok(file) => Ok(NamedFile { name, file }),
             Err(e) if names_nothing(&e) && self.is_there() => Err(ShelfFault::Missing),
             Err(e) => Err(read_fault(&e)),
         }
     }
 
+    /// What a call answers that found no file of a name that a file can have: that it is missing,
+    /// unless something has the name, as a link to nothing, the name is kept, or its path is too
+    /// long.
+    #[cold]
+    pub fn none_of(&self, alloc: Global, name: &str) -> ShelfFault {
+        if self.listed.has(name) {
+            return ShelfFault::Failed;
+        }
+        let Ok(path) = path_of(alloc, self.folder.as_str(), name) else {
+            return ShelfFault::NoMemory;
+        };
+        if is_free(&self.rt, path.as_str()) {
+            ShelfFault::Missing
+        } else {
+            ShelfFault::Failed
+        }
+    }
+
     /// Whether the folder is there. Where it is not, a call that needs it fails.
     pub fn is_there(&self) -> bool {
-        match fs::metadata(&self.rt, self.folder.as_str()) {
-            Ok(metadata) => metadata.is_dir(),
-            Err(_) => false,
-        }
+        is_folder(&self.rt, self.folder.as_str())
+    }
+}
+
+/// Whether nothing has the name that a path ends in, no link to nothing either.
+pub fn is_free<R: Files>(rt: &R, path: &str) -> bool {
+    match fs::symlink_metadata(rt, path) {
+        Ok(_) => false,
+        Err(e) => e.kind() == ErrorKind::NotFound,
     }
 }
 
@@ -379,22 +293,18 @@ fn read_fault(e: &io::Error) -> ShelfFault
     }
 }
 
-// Opens a plain file, and says how long it is. What is no plain file, as a folder, a device or a pipe,
-// is not opened, since opening a pipe may wait for another program.
-fn open_plain<R: Files>(
-    rt: &R,
-    alloc: Global,
-    path: &str,
-) -> io::Result<(FileReader<R::File>, u64)> {
+// Opens a plain file. What is no plain file, as a folder, a device or a pipe, is not opened, since
+// opening a pipe may wait for another program.
+fn open_plain<R: Files>(rt: &R, alloc: Global, path: &str) -> io::Result<FileReader<R::File>> {
     require_plain(&fs::metadata(rt, path)?)?;
     let file = fs::open(rt, path)?;
     let metadata = file.metadata()?;
     require_plain(&metadata)?;
-    Ok((FileReader::new(alloc, file)?, metadata.len()))
+    FileReader::new(alloc, file, FileStamp::of(&metadata))
 }
 
-// Refuses what is no plain file.
-fn require_plain(metadata: &Metadata) -> io::Result<()> {
+/// Refuses what is no plain file.
+pub fn require_plain(metadata: &Metadata) -> io::Result<()> {
     if metadata.is_file() {
         Ok(())
     } else {
@@ -402,7 +312,9 @@ fn require_plain(metadata: &Metadata) -> io::Result<()> {
     }
 }
 
-fn list_files<R: Files + AllocGlobal + Clone + Drop>(
+// The names in a folder. One that is given twice, since it was taken away and put back meanwhile,
+// is there once.
+fn list_names<R: Files + AllocGlobal + Clone + Drop>(
     rt: &R,
     alloc: Global,
     folder: &str,
@@ -411,24 +323,13 @@ fn list_files<R: Files + AllocGlobal + Clone + Drop>(
     for entry in fs::read_dir(rt, folder)? {
         match entry {
             Ok(entry) => {
-                if is_plain(rt, entry.path().as_str())? {
-                    let name = String::from_str(alloc, entry.file_name())?;
-                    names.push(Name::from_string(name))?;
-                }
+                names.push(Name::from_text(alloc, entry.file_name())?)?;
             }
             Err(e) if e.kind() == ErrorKind::InvalidFilename => {}
             Err(e) => return Err(e),
         }
     }
     names.sort()?;
+    names.dedup();
     Ok(names)
-}
-
-// Whether there is a plain file at a path of a folder's list. One that has gone since is none.
-fn is_plain<R: Files>(rt: &R, path: &str) -> io::Result<bool> {
-    match fs::metadata(rt, path) {
-        Ok(metadata) => Ok(metadata.is_file()),
-        Err(e) if names_nothing(&e) => Ok(false),
-        Err(e) => Err(e),
-    }
 }

@@ -1,16 +1,17 @@
 //! Shelves over real folders.
 ghost use Rattle.std.specs.Prelude.{None};
 
+use crate::count_read;
 use crate::folder_files::FolderFiles;
-use device_state::count_read;
 use outside::{Name, Seq, Shelf, ShelfFault};
 use std::alloc::Global;
 use std::rt::Files;
 
-/// A shelf over a folder. A name may be a path: a relative one begins at the folder, and an absolute
-/// one stands for itself. What is no plain file, as a folder, fails; a name that no file can have is
-/// missing. It tells nothing of content, and keeps the file that was read last open, with some bytes
-/// that were read ahead: `length` opens it anew.
+/// A shelf over a folder. A name may be a path: a relative one begins at the folder, and an
+/// absolute one stands for itself. What is no plain file, as a folder, fails; a name that no file
+/// can have is missing. It tells nothing of content, and keeps the file that was read last open,
+/// with some bytes that were read ahead: `length` opens it anew. A file that is written while it is
+/// read fails where its end is read.
 #[derive(Drop)]
 pub struct FolderShelf<R: Files + AllocGlobal + Clone + Drop> {
     files: FolderFiles<R>,
@@ -55,7 +56,7 @@ impl<R: Files + AllocGlobal + Clone + Drop> Shelf for FolderShelf<R> {
         offset: u64,
         into: &mut [u8],
     ) -> Result<usize, ShelfFault> {
-        let answer = self.files.read_at(alloc, name, offset, into);
+        let answer = self.files.read_unwritten(alloc, name, offset, into);
         count_read(&mut self.faults, answer)
     }
 }

@@ -36,8 +36,8 @@ impl<W: Write + Drop> StreamSink<W> {
     }
 }
 
-// Writes all of the bytes and flushes, or stops at the first fault. A stream that takes nothing of what
-// is left has failed.
+// Writes all of the bytes and flushes, or stops at the first fault. A stream that takes nothing of
+// what is left has failed.
 fn write_through<W: Write>(stream: &mut W, bytes: &[u8]) -> io::Result<()>
     ensures all { OnOk result (Appends (W.contents stream.old) (W.contents stream.new) bytes.now) }
     ensures some { OnErr result

@@ -40,7 +40,8 @@ optional_array base key d = optional (array_finding (below base key)) (key_of ke
 
 -- the key says nothing
 abbrev pub unused_key : Text → Text → Data → Finding
-unused_key base key d = optional (λ v. fault_unless (is_empty v) Unsupported (below base key)) (key_of key d)
+unused_key base key d = optional (λ v. fault_unless (is_empty v) Unsupported (below base key))
+    (key_of key d)
 
 -- there is a truth value, and it is the one that is asked for
 abbrev pub is_the_bool : Bool → Option Bool → Bool
@@ -54,7 +55,8 @@ is_bool wanted d = is_the_bool wanted (as_bool d)
 
 -- the key does not have that truth value
 abbrev pub refused_bool : Bool → Text → Text → Data → Finding
-refused_bool refused base key d = optional (λ v. fault_if (is_bool refused v) Unsupported (below base key)) (key_of key d)
+refused_bool refused base key d = optional (λ v. fault_if (is_bool refused v) Unsupported
+    (below base key)) (key_of key d)
 
 -- the text of a key
 abbrev pub text_at : Text → Data → Text

@@ -3,3 +3,5 @@ pub mod Faults
 pub mod Keys
 pub mod Readings
 pub mod FaultTexts
+pub mod NamedColumns
+pub mod Leaf

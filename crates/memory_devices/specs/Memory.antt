@@ -6,12 +6,14 @@ use Rattle.std.specs.FinMap as map
 use Rattle.outside.specs.Counts.{next}
 use Rattle.outside.specs.Files.{Files, files_of, bytes_of}
 use Rattle.outside.specs.Reads.{Entry, entry_of}
+use Rattle.outside.specs.Seen.{Seen}
 
 -- the code of files, by which a proof tells them apart
 abbrev pub files_code : Coded Files
 files_code = map.code (coded_list coded_ℕ) (coded_list coded_ℕ)
 
--- published files, parts, the reads so far, the numbers of the calls that are to fail, the calls so far, and the faults so far
+-- published files, parts, the reads so far, the numbers of the calls that are to fail, the calls so
+-- far, and the faults so far
 pub record Memory : Type 0 where
   pub held : Files
   pub parts : Files
@@ -21,23 +23,51 @@ pub record Memory : Type 0 where
   pub read_faults : ℕ
   pub write_faults : ℕ
 
+-- what a device in memory tells, which is everything
+abbrev pub told : Memory → Seen
+told memory = record {
+  held = Some memory.held;
+  parts = Some memory.parts;
+  log = Some memory.log;
+  read_faults = memory.read_faults;
+  write_faults = memory.write_faults;
+}
+
 -- the code of a read
 abbrev pub entry_code : Coded Entry
-entry_code = code_by (List ℕ × (ℕ × ℕ)) (coded× (coded_list coded_ℕ) (coded× coded_ℕ coded_ℕ)) (λ e. (e.file, (e.offset, e.count)))
+entry_code = code_by (List ℕ × (ℕ × ℕ)) (coded× (coded_list coded_ℕ) (coded× coded_ℕ coded_ℕ))
+    (λ e. (e.file, (e.offset, e.count)))
     (λ p. record { file = p.0; offset = p.1.0; count = p.1.1 }) (λ _. refl)
 
 -- the code of that
 abbrev pub memory_code : Coded Memory
 memory_code =
     code_by ((Files × Files) × ((List Entry × List ℕ) × (ℕ × (ℕ × ℕ))))
-    (coded× (coded× files_code files_code) (coded× (coded× (coded_list entry_code) (coded_list coded_ℕ)) (coded× coded_ℕ (coded× coded_ℕ coded_ℕ))))
+    (coded× (coded× files_code files_code) (coded× (coded× (coded_list entry_code)
+    (coded_list coded_ℕ)) (coded× coded_ℕ (coded× coded_ℕ coded_ℕ))))
     (λ m. ((m.held, m.parts), ((m.log, m.failing), (m.calls, (m.read_faults, m.write_faults)))))
-    (λ p. record { held = p.0.0; parts = p.0.1; log = p.1.0.0; failing = p.1.0.1; calls = p.1.1.0; read_faults = p.1.1.1.0; write_faults = p.1.1.1.1 })
+    (λ p. record {
+      held = p.0.0;
+      parts = p.0.1;
+      log = p.1.0.0;
+      failing = p.1.0.1;
+      calls = p.1.1.0;
+      read_faults = p.1.1.1.0;
+      write_faults = p.1.1.1.1;
+    })
     (λ _. refl)
 
 -- a device as it is made: of two files with one name the last
 abbrev pub fresh : List (List ℕ × List ℕ) → List ℕ → Memory
-fresh files failing = record { held = files_of files; parts = map.empty; log = []; failing = failing; calls = 0; read_faults = 0; write_faults = 0 }
+fresh files failing = record {
+  held = files_of files;
+  parts = map.empty;
+  log = [];
+  failing = failing;
+  calls = 0;
+  read_faults = 0;
+  write_faults = 0;
+}
 
 -- whether the call of this number is to fail
 abbrev pub is_listed : List ℕ → ℕ → Bool
@@ -50,16 +80,25 @@ fails memory = is_listed memory.failing memory.calls
 -- a call that reads was made: it is counted, and so is its fault where it is to fail
 abbrev pub read_called : Memory → Memory
 read_called memory =
-    record memory { calls = next memory.calls; read_faults = if fails memory then next memory.read_faults else memory.read_faults }
+    record memory {
+      calls = next memory.calls;
+      read_faults = if fails memory then next memory.read_faults else memory.read_faults;
+    }
 
 -- a call that writes was made
 abbrev pub write_called : Memory → Memory
 write_called memory =
-    record memory { calls = next memory.calls; write_faults = if fails memory then next memory.write_faults else memory.write_faults }
+    record memory {
+      calls = next memory.calls;
+      write_faults = if fails memory then next memory.write_faults else memory.write_faults;
+    }
 
 -- the log has this read as its last
 abbrev pub read_logged : List ℕ → ℕ → ℕ → Memory → Memory
-read_logged file offset count memory = record memory { log = memory.log ++ entry_of file offset count ∷ [] }
+read_logged file offset count memory = record memory {
+  log = memory.log
+      ++ entry_of file offset count ∷ [];
+}
 
 -- the part is there and empty
 abbrev pub part_begun : List ℕ → Memory → Memory
@@ -67,7 +106,10 @@ part_begun part memory = record memory { parts = map.insert memory.parts part []
 
 -- the part has these bytes at its end; one that was not there counts as empty
 abbrev pub part_grown : List ℕ → List ℕ → Memory → Memory
-part_grown part bytes memory = record memory { parts = map.insert memory.parts part (bytes_of (Some memory.parts) part ++ bytes) }
+part_grown part bytes memory = record memory {
+  parts = map.insert memory.parts part
+      (bytes_of (Some memory.parts) part ++ bytes);
+}
 
 -- the part is gone
 abbrev pub part_lost : List ℕ → Memory → Memory
@@ -76,13 +118,17 @@ part_lost part memory = record memory { parts = map.remove memory.parts part }
 -- the bytes of the part stand under the name, and the part is gone
 abbrev pub part_published : List ℕ → List ℕ → Memory → Memory
 part_published part name memory =
-    record memory { held = map.insert memory.held name (bytes_of (Some memory.parts) part); parts = map.remove memory.parts part }
+    record memory {
+      held = map.insert memory.held name (bytes_of (Some memory.parts) part);
+      parts = map.remove memory.parts part;
+    }
 
 -- the file is gone
 abbrev pub file_removed : List ℕ → Memory → Memory
 file_removed name memory = record memory { held = map.remove memory.held name }
 
--- all that was written, the room for it, the numbers of the calls that are to fail, the calls so far, and the faults so far
+-- all that was written, the room for it, the numbers of the calls that are to fail, the calls so
+-- far, and the faults so far
 pub record SinkMemory : Type 0 where
   pub written : List ℕ
   pub room : ℕ
@@ -92,11 +138,18 @@ pub record SinkMemory : Type 0 where
 
 -- a sink to which nothing was given yet
 abbrev pub fresh_sink : ℕ → List ℕ → SinkMemory
-fresh_sink room failing = record { written = []; room = room; failing = failing; calls = 0; faults = 0 }
+fresh_sink room failing = record {
+  written = [];
+  room = room;
+  failing = failing;
+  calls = 0;
+  faults = 0;
+}
 
 -- whether the sink refuses these bytes: the call is to fail, or the room ends before them
 abbrev pub refuses : List ℕ → SinkMemory → Bool
-refuses bytes sink = is_listed sink.failing sink.calls || nat_lt (sink.room - length sink.written) (length bytes)
+refuses bytes sink = is_listed sink.failing sink.calls || nat_lt (sink.room - length sink.written)
+    (length bytes)
 
 -- the sink after these bytes were put: all of them are written, or none and the fault is counted
 abbrev pub after_put : List ℕ → SinkMemory → SinkMemory

@@ -77,8 +77,8 @@ impl FileMap {
         take_file(&mut self.files, name)
     }
 
-    /// Adds bytes at the end of a file; one that is not there counts as empty. Where it wants memory,
-    /// the file is gone.
+    /// Adds bytes at the end of a file; one that is not there counts as empty. Where it wants
+    /// memory, the file is gone.
     pub fn append(&mut self, alloc: Global, name: &str, more: &[u8]) -> Result<(), NoMemory>
         ensures ok { OnOk result
             (self.new
@@ -87,7 +87,7 @@ impl FileMap {
         ensures others { SameBut name.now (Some self.old) (Some self.new) }
     {
         let bytes = self.take(name).unwrap_or(Seq::new(alloc));
-        self.put(named(alloc, name)?, extended(bytes, more)?)?;
+        self.put(Name::from_text(alloc, name)?, extended(bytes, more)?)?;
         Ok(())
     }
 
@@ -97,13 +97,6 @@ impl FileMap {
     {
         copy_names(alloc, self.files.as_slice())
     }
-}
-
-/// The name of this text.
-pub fn named(alloc: Global, text: &str) -> Result<Name, NoMemory>
-    ensures { IfOk result (λ name. name ≡ text.now) }
-{
-    Ok(Name::from_string(String::from_str(alloc, text)?))
 }
 
 // Some bytes, with more after them.
@@ -193,7 +186,7 @@ fn copy_names(alloc: Global, files: &[(Name, Bytes)]) -> Result<Seq<Name>, NoMem
 {
     let mut names = Seq::new(alloc);
     for file in files {
-        names.push(named(alloc, file.0.as_str())?)?;
+        names.push(Name::from_text(alloc, file.0.as_str())?)?;
     }
     Ok(names)
 }

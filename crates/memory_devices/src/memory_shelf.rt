@@ -1,21 +1,22 @@
 //! Shelves in memory.
 ghost use Rattle.std.specs.Prelude.{◌≡◌, ◌≤◌, ◌↔◌, Some, OnErr, IfOk, IsErrOf, IsTrue, min, length, ◌-◌, take, drop, ◌++◌, OnOk, IfNone, if◌then◌else◌};
 ghost use Rattle.std.specs.FinMap as map;
-ghost use Rattle.outside.specs.Counts.{Rose, next};
+ghost use Rattle.outside.specs.Counts.{next};
 ghost use Rattle.outside.specs.Files.{IsNames, IsLengthOf, Has, Lacks};
-ghost use Rattle.memory_devices.specs.Memory.{fresh, fails, read_called, read_logged, file_removed, is_listed};
+ghost use Rattle.memory_devices.specs.Memory.{fresh, fails, read_called, read_logged, file_removed, is_listed, told};
 ghost use Rattle.outside.specs.Reads.{ReadsAt, logged};
+ghost use Rattle.outside.specs.Seen.{OnlyReads};
 ghost use Rattle.outside.specs.declared.shelf.ShelfFault.TheVariants.{Missing, Failed, NoMemory};
 
-use crate::file_map::{FileMap, named};
+use crate::file_map::FileMap;
 use crate::memory_calls::MemoryCalls;
 use crate::read_log::ReadLog;
 use outside::{Bytes, Name, NoMemory, Seq, Shelf, ShelfFault};
 use std::alloc::Global;
 use std::marker::Model;
 
-/// A shelf in memory, which tells everything. It fails at the calls whose numbers it is given, counted
-/// from 0 over all its calls.
+/// A shelf in memory, which tells everything. It fails at the calls whose numbers it is given,
+/// counted from 0 over all its calls.
 #[derive(Drop)]
 pub struct MemoryShelf {
     files: FileMap,
@@ -89,7 +90,7 @@ impl MemoryShelf {
     }
 }
 
-// Copies the bytes from an offset on, as many as there are and fit, and says how many.
+/// Copies the bytes from an offset on, as many as there are and fit, and says how many.
 pub fn copy_from(bytes: &[u8], offset: u64, into: &mut [u8]) -> usize
     ensures count { result ≡ min (length bytes.now - offset) (length into.old) }
     ensures bytes { into.new ≡ take result (drop offset bytes.now) ++ drop result into.old }
@@ -118,13 +119,8 @@ impl Shelf for MemoryShelf {
         ensures after { self.new ≡ read_called self.old }
         ensures fails { IsErrOf result Failed ↔ IsTrue (fails self.old) }
         ensures names { IfOk result (IsNames (Some self.old.held)) }
-        ensures held { Some self.new.held ≡ Some self.old.held }
-        ensures parts { Some self.new.parts ≡ Some self.old.parts }
+        ensures only_reads { OnlyReads (IsErrOf result Failed) (told self.old) (told self.new) }
         ensures log { Some self.new.log ≡ Some self.old.log }
-        ensures writes { self.new.write_faults ≡ self.old.write_faults }
-        ensures later { self.old.read_faults ≤ self.new.read_faults }
-        ensures failed { IsErrOf result Failed → Rose self.old.read_faults self.new.read_faults }
-        ensures still { ¬ IsErrOf result Failed → self.new.read_faults ≡ self.old.read_faults }
         ensures never_missing { ¬ IsErrOf result Missing }
     {
         if self.calls.fails_counted(&mut self.faults) {
@@ -137,13 +133,8 @@ impl Shelf for MemoryShelf {
         ensures after { self.new ≡ read_called self.old }
         ensures fails { IsErrOf result Failed ↔ IsTrue (fails self.old) }
         ensures length { IfOk result (IsLengthOf (Some self.old.held) name.now) }
-        ensures held { Some self.new.held ≡ Some self.old.held }
-        ensures parts { Some self.new.parts ≡ Some self.old.parts }
+        ensures only_reads { OnlyReads (IsErrOf result Failed) (told self.old) (told self.new) }
         ensures log { Some self.new.log ≡ Some self.old.log }
-        ensures writes { self.new.write_faults ≡ self.old.write_faults }
-        ensures later { self.old.read_faults ≤ self.new.read_faults }
-        ensures failed { IsErrOf result Failed → Rose self.old.read_faults self.new.read_faults }
-        ensures still { ¬ IsErrOf result Failed → self.new.read_faults ≡ self.old.read_faults }
         ensures missing { IsErrOf result Missing → Lacks (Some self.old.held) name.now }
         ensures present { IsErrOf result NoMemory → Has (Some self.old.held) name.now }
         ensures no_memory { ¬ IsErrOf result NoMemory }
@@ -172,15 +163,10 @@ impl Shelf for MemoryShelf {
         ensures bound { IfOk result (λ n. n ≤ length into.old) }
         ensures bytes { IfOk result (λ n.
             ReadsAt (Some self.old.held) name.now offset n into.old into.new) }
-        ensures held { Some self.new.held ≡ Some self.old.held }
-        ensures parts { Some self.new.parts ≡ Some self.old.parts }
+        ensures only_reads { OnlyReads (IsErrOf result Failed) (told self.old) (told self.new) }
         ensures logged { IfOk result (λ n.
             Some self.new.log ≡ logged name.now offset n (Some self.old.log)) }
         ensures not_logged { OnErr result (Some self.new.log ≡ Some self.old.log) }
-        ensures writes { self.new.write_faults ≡ self.old.write_faults }
-        ensures later { self.old.read_faults ≤ self.new.read_faults }
-        ensures failed { IsErrOf result Failed → Rose self.old.read_faults self.new.read_faults }
-        ensures still { ¬ IsErrOf result Failed → self.new.read_faults ≡ self.old.read_faults }
         ensures missing { IsErrOf result Missing → Lacks (Some self.old.held) name.now }
         ensures present { IsErrOf result NoMemory → Has (Some self.old.held) name.now }
     {
@@ -190,7 +176,7 @@ impl Shelf for MemoryShelf {
         match self.files.get(name) {
             Some(bytes) => {
                 let count = copy_from(bytes.as_slice(), offset, into);
-                let file = named(alloc, name)?;
+                let file = Name::from_text(alloc, name)?;
                 self.log.push(file, offset, count)?;
                 Ok(count)
             }

@@ -9,8 +9,9 @@ use outside::{NoMemory, Seq, Sink, SinkFault};
 use std::alloc::Global;
 use std::marker::Model;
 
-/// A sink in memory, which tells everything. It fails at the calls whose numbers it is given, counted
-/// from 0, and where its room does not hold a piece; then it has written nothing of the piece.
+/// A sink in memory, which tells everything. It fails at the calls whose numbers it is given,
+/// counted from 0, and where its room does not hold a piece; then it has written nothing of the
+/// piece.
 #[derive(Drop)]
 pub struct MemorySink {
     bytes: Vec<u8>,

@@ -1,3 +1,4 @@
 pub mod CountLemmas
 pub mod ReadLemmas
 pub mod SeenLemmas
+pub mod SeriesLemmas

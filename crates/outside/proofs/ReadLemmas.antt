@@ -10,8 +10,7 @@ use Rattle.std.specs.Cmp.{tied_itself}
 use Rattle.std.specs.FinMap as map
 use Rattle.std.specs.Ordering.{eq_by_cmp, is_eq}
 use Rattle.std.specs.declared.cmp.Ordering.TheVariants.{Less, Equal, Greater}
-use Rattle.outside.specs.Files.{Files, Has, bytes_at, bytes_of, name_order}
-use Rattle.outside.specs.Files.{IsLengthOf}
+use Rattle.outside.specs.Files.{Files, Has, bytes_at, bytes_of, name_order, IsLengthOf}
 use Rattle.outside.specs.Whole.{IsWhole}
 use Rattle.outside.specs.Reads.{AllGive, Entry, Fills, entry_of, logged, overlap, read_by, read_in, Consecutive, LogsFilled, LogsOn, LogsThrough, LogsUpTo, ReadsAt}
 

@@ -1,5 +1,6 @@
 -- What calls leave of a device, one after another.
-use Rattle.std.proofs.Common.{◌≡◌, ◌∙◌, refl, subst, arith, le_refl}
+use Rattle.std.proofs.Common.{◌≡◌, ◌∙◌, Result, Ok, Err, IsErrOf, refl, subst, arith, le_refl}
+use Rattle.std.specs.Prelude.{OnErr}
 use Rattle.outside.specs.Counts.{Rose}
 use Rattle.outside.specs.Seen.{OnlyReads, Seen}
 
@@ -30,3 +31,23 @@ reads_so Fails Other old new to from reads = record {
   rose = λ fails. reads.rose (to fails);
   still = λ fine. reads.still (λ fails. fine (from fails));
 }
+
+-- what holds whatever the call returned
+pub err_is : {T E : Type 0} (r : Result T E) (P : Type 0) → P → OnErr r P
+err_is (Ok x) P p = tt
+err_is (Err e) P p = p
+
+abbrev IsAnswer : {T E : Type 0} → Result T E → Type 0
+IsAnswer (Ok value) = Unit {0}
+IsAnswer (Err fault) = ⊥
+
+no_fault : (T E : Type 0) (value : T) (cause : E) → IsErrOf {T = T} {E = E} (Ok value) cause → ⊥
+no_fault T E value cause is = subst IsAnswer is tt
+
+-- a call that answered
+pub reads_well : (T E : Type 0) (value : T) (cause : E) (between last : Seen) → OnlyReads (IsErrOf {T = T} {E = E} (Ok value) cause) between last → OnlyReads ⊥ between last
+reads_well T E value cause between last now = reads_so (IsErrOf {T = T} {E = E} (Ok value) cause) ⊥ between last (λ none. absurd none) (no_fault T E value cause) now
+
+-- another one that answered
+pub reads_next : (T E : Type 0) (value : T) (cause : E) (first between last : Seen) → OnlyReads ⊥ first between → OnlyReads (IsErrOf {T = T} {E = E} (Ok value) cause) between last → OnlyReads ⊥ first last
+reads_next T E value cause first between last before now = reads_after ⊥ first between last before (reads_well T E value cause between last now)

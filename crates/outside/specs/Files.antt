@@ -16,7 +16,8 @@ Files = map.FinMap name_order (List ℕ)
 
 -- where files are told, one has this name, and its bytes have P
 abbrev pub OfFile : Option Files → List ℕ → (List ℕ → Type 0) → Type 0
-OfFile told name P = IfSome told (λ files. (bytes : List ℕ) × (map.get files name ≡ Some bytes) × P bytes)
+OfFile told name P = IfSome told (λ files. (bytes : List ℕ) × (map.get files name ≡ Some bytes)
+    × P bytes)
 
 -- where files are told, one has this name
 abbrev pub Has : Option Files → List ℕ → Type 0
@@ -38,7 +39,8 @@ IsLengthOf told name n = OfFile told name (λ bytes. n ≡ length bytes)
 abbrev pub bytes_of : Option Files → List ℕ → List ℕ
 bytes_of told name = unwrap_or (option_and_then (λ files. map.get files name) told) []
 
--- the bytes of a file from an offset on, so many or up to its end; a file that is not there has none
+-- the bytes of a file from an offset on, so many or up to its end; a file that is not there has
+-- none
 abbrev pub bytes_at : Files → List ℕ → ℕ → ℕ → List ℕ
 bytes_at files name offset count = take count (drop offset (bytes_of (Some files) name))
 
@@ -53,7 +55,8 @@ without_file name told = option_map (λ files. map.remove files name) told
 -- the told files are as they were but for what is under this name
 abbrev pub SameBut : List ℕ → Option Files → Option Files → Type 0
 SameBut name before now =
-    MatchOption before (now ≡ None) (λ old. IsSomeAnd now (λ new. (other : List ℕ) → other ≢ name → map.get new other ≡ map.get old other))
+    MatchOption before (now ≡ None) (λ old. IsSomeAnd now (λ new. (other : List ℕ) → other ≢ name
+    → map.get new other ≡ map.get old other))
 
 -- these files by name; of two with one name the last
 abbrev pub files_of : List (List ℕ × List ℕ) → Files

@@ -5,4 +5,5 @@ pub mod Seen
 pub mod Sink
 pub mod Told
 pub mod Whole
-pub mod formers
+pub mod Stretches
+pub mod Series

@@ -11,7 +11,8 @@ IsWhole held name limit bytes = OfFile held name (λ file. (bytes ≡ file) × (
 abbrev pub IsTooLong : Option Files → List ℕ → ℕ → Type 0
 IsTooLong held name limit = OfFile held name (λ file. limit < length file)
 
--- the told log grew by reads of this file, back to back from its start to some offset within the limit
+-- the told log grew by reads of this file, back to back from its start to some offset within the
+-- limit
 abbrev pub LogsFront : List ℕ → ℕ → Option (List Entry) → Option (List Entry) → Type 0
 LogsFront file limit old new = LogsUpTo file 0 limit old new
 

@@ -27,9 +27,9 @@ impl From<AllocError> for DepotFault {
     }
 }
 
-/// A shelf whose files are written too. A file is written as a part, and published under its name as a
-/// whole. After a refusal the published files are as before, and nothing is known of the bytes of the
-/// part that was named until it is begun again.
+/// A shelf whose files are written too. A file is written as a part, and published under its name
+/// as a whole. After a refusal the published files are as before, and nothing is known of the bytes
+/// of the part that was named until it is begun again.
 pub trait Depot: Shelf {
     /// Makes a part, or empties it.
     fn begin(&mut self, alloc: Global, part: &str) -> Result<(), DepotFault>
@@ -65,8 +65,8 @@ pub trait Depot: Shelf {
             Self.write_faults self.new ≡ Self.write_faults self.old }
         ensures never_missing { ¬ IsErrOf result Missing };
 
-    /// Puts the bytes of a part under a name, in place of what was there. The part is gone. One that
-    /// was not begun counts as empty.
+    /// Puts the bytes of a part under a name, in place of what was there. The part is gone. One
+    /// that was not begun counts as empty.
     fn publish(&mut self, alloc: Global, part: &str, name: &str) -> Result<(), DepotFault>
         ensures published { OnOk result
             (Self.held self.new

@@ -3,8 +3,8 @@ ghost use Rattle.std.specs.Prelude.{All, ◌≡◌, ◌≢◌, ◌≤◌, ◌+�
 ghost use Rattle.outside.specs.Counts.{Rose};
 ghost use Rattle.outside.specs.Reads.{Entry, Consecutive, overlap, read_by, read_in};
 
-/// Over calls that never lower a count, a rise in one is a rise in all, and where there is no rise in
-/// all there is none in each, and the count is what it was.
+/// Over calls that never lower a count, a rise in one is a rise in all, and where there is no rise
+/// in all there is none in each, and the count is what it was.
 pub fn rises_compose()
     ensures first { (before between after : ℕ) → before ≤ between → between ≤ after →
         Rose before between → Rose before after }
@@ -16,9 +16,9 @@ pub fn rises_compose()
         after ≡ before }
 {}
 
-/// The bytes that reads gave of a file add up: over joined lists, with nothing from a read of another
-/// file or apart from the stretch that is asked for. Reads that go back to back from one offset to
-/// another give just what is common to the two stretches.
+/// The bytes that reads gave of a file add up: over joined lists, with nothing from a read of
+/// another file or apart from the stretch that is asked for. Reads that go back to back from one
+/// offset to another give just what is common to the two stretches.
 pub fn reads_add_up()
     ensures joined { (earlier later : List Entry) (file : List ℕ) (from to : ℕ) →
         read_in (earlier ++ later) file from to

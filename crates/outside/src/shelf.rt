@@ -54,7 +54,8 @@ pub trait Shelf {
         ensures log { log self.new ≡ log self.old }
         ensures writes { write_faults self.new ≡ write_faults self.old }
         ensures later { read_faults self.old ≤ read_faults self.new }
-        ensures failed { IsErrOf result Failed → Rose (read_faults self.old) (read_faults self.new) }
+        ensures failed { IsErrOf result Failed → Rose (read_faults self.old)
+            (read_faults self.new) }
         ensures still { ¬ IsErrOf result Failed → read_faults self.new ≡ read_faults self.old }
         ensures never_missing { ¬ IsErrOf result Missing };
 
@@ -66,7 +67,8 @@ pub trait Shelf {
         ensures log { log self.new ≡ log self.old }
         ensures writes { write_faults self.new ≡ write_faults self.old }
         ensures later { read_faults self.old ≤ read_faults self.new }
-        ensures failed { IsErrOf result Failed → Rose (read_faults self.old) (read_faults self.new) }
+        ensures failed { IsErrOf result Failed → Rose (read_faults self.old)
+            (read_faults self.new) }
         ensures still { ¬ IsErrOf result Failed → read_faults self.new ≡ read_faults self.old }
         ensures missing { IsErrOf result Missing → Lacks (held self.old) name.now }
         ensures present { IsErrOf result NoMemory → Has (held self.old) name.now };
@@ -81,14 +83,16 @@ pub trait Shelf {
         into: &mut [u8],
     ) -> Result<usize, ShelfFault>
         ensures bound { IfOk result (λ n. n ≤ length into.old) }
-        ensures bytes { IfOk result (λ n. ReadsAt (held self.old) name.now offset n into.old into.new) }
+        ensures bytes { IfOk result
+            (λ n. ReadsAt (held self.old) name.now offset n into.old into.new) }
         ensures held { held self.new ≡ held self.old }
         ensures parts { parts self.new ≡ parts self.old }
         ensures logged { IfOk result (λ n. log self.new ≡ logged name.now offset n (log self.old)) }
         ensures not_logged { OnErr result (log self.new ≡ log self.old) }
         ensures writes { write_faults self.new ≡ write_faults self.old }
         ensures later { read_faults self.old ≤ read_faults self.new }
-        ensures failed { IsErrOf result Failed → Rose (read_faults self.old) (read_faults self.new) }
+        ensures failed { IsErrOf result Failed → Rose (read_faults self.old)
+            (read_faults self.new) }
         ensures still { ¬ IsErrOf result Failed → read_faults self.new ≡ read_faults self.old }
         ensures missing { IsErrOf result Missing → Lacks (held self.old) name.now }
         ensures present { IsErrOf result NoMemory → Has (held self.old) name.now };

@@ -10,8 +10,8 @@ pub enum SinkFault {
     Failed,
 }
 
-/// A stream of bytes that is written at its end. A sink may tell what was written; what it tells, it
-/// goes on telling.
+/// A stream of bytes that is written at its end. A sink may tell what was written; what it tells,
+/// it goes on telling.
 pub trait Sink {
     /// All that was written, where the sink tells.
     ghost written: { Self → Option (List ℕ) };
@@ -23,7 +23,8 @@ pub trait Sink {
     /// takes no memory.
     fn put(&mut self, bytes: &[u8]) -> Result<(), SinkFault>
         ensures all { OnOk result (written self.new ≡ appended bytes.now (written self.old)) }
-        ensures prefix { OnErr result (AppendsPrefix bytes.now (written self.old) (written self.new)) }
+        ensures prefix { OnErr result (AppendsPrefix bytes.now (written self.old)
+            (written self.new)) }
         ensures later { faults self.old ≤ faults self.new }
         ensures failed { OnErr result (Rose (faults self.old) (faults self.new)) }
         ensures still { OnOk result (faults self.new ≡ faults self.old) };

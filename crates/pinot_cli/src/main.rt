@@ -3,7 +3,7 @@
 
 use host_devices::{FolderDepot, FolderShelf, StreamSink};
 use outside::Sink;
-use pinot_run::{Status, run_command};
+use pinot_run::{Status, may_write, run_command};
 use std::alloc::AllocError;
 use std::io::ErrorKind;
 use std::process::ExitCode;
@@ -19,8 +19,8 @@ fn keep_memory(rt: &HostRuntime) {
     let _block: Result<Vec<u8>, AllocError> = Vec::with_capacity(rt.alloc(), TAUGHT_BYTES);
 }
 
-// The folder that the store is kept in, and the words of the command. An argument that is no UTF-8 is an
-// error; without arguments there are no words.
+// The folder that the store is kept in, and the words of the command. An argument that is no UTF-8
+// is an error; without arguments there are no words.
 fn arguments(rt: &HostRuntime) -> io::Result<(String, Vec<String>)> {
     let mut arguments = env::args(rt)?.skip(1);
     let folder = match arguments.next() {
@@ -31,11 +31,25 @@ fn arguments(rt: &HostRuntime) -> io::Result<(String, Vec<String>)> {
     Ok((folder, words))
 }
 
+// The depot over the folder of a store. Only where the command may write, it locks the folder.
+fn depot_over(
+    rt: &HostRuntime,
+    folder: String,
+    words: &[String],
+) -> io::Result<FolderDepot<HostRuntime>> {
+    let rt = rt.clone()?;
+    if may_write(words) {
+        Ok(FolderDepot::new(rt, folder))
+    } else {
+        Ok(FolderDepot::read_only(rt, folder))
+    }
+}
+
 // Runs the command over the folder that the program is run in, and the folder of the store.
 fn run(rt: &HostRuntime) -> io::Result<Status> {
     let (folder, words) = arguments(rt)?;
     let mut inputs = FolderShelf::new(rt.clone()?, String::from_str(rt.alloc(), ".")?);
-    let mut depot = FolderDepot::new(rt.clone()?, folder);
+    let mut depot = depot_over(rt, folder, &words)?;
     let mut out = StreamSink::new(rt.stdout());
     let mut notes = StreamSink::new(rt.stderr());
     Ok(run_command(

@@ -3,13 +3,13 @@ use Rattle.std.proofs.Common.{◌≡◌, ◌∙◌, ℕ, List, [], ◌∷◌, Op
 use Rattle.outside.specs.Files.{Files}
 use Rattle.outside.specs.Seen.{Seen}
 use Rattle.table_store.specs.State.{State}
-use Rattle.store_state.specs.Stands.{Stands}
+use Rattle.table_store.specs.Stands.{Stands}
 use Rattle.pinot_run.specs.Laws.{PromisesCompose}
-use Rattle.command_reads.specs.Profile.{profile}
+use Rattle.command_model.specs.Profile.{profile}
 use Rattle.pinot_run.specs.Promise.{IsStep}
-use Rattle.command_reads.specs.Ran.{WhereStands}
-use Rattle.command_reads.specs.Step.{step_of}
-use Rattle.command_reads.specs.Touched.{Reads}
+use Rattle.command_model.specs.Ran.{WhereStands}
+use Rattle.command_model.specs.Step.{step_of}
+use Rattle.command_model.specs.Touched.{Reads}
 
 by_told : (held stored : Option Files) (Q : State → Files → Type 0) → ((state : State) (files kept : Files) → held ≡ Some files → stored ≡ Some kept → Stands kept state → Q state files) → WhereStands held stored Q
 by_told None stored Q f = tt

@@ -7,10 +7,10 @@ use Rattle.table_store.specs.State.{State}
 use Rattle.command_words.specs.Command.{Command}
 use Rattle.command_words.specs.Notes.{is_fault, note_text, status_of, status_of_fault}
 use Rattle.pinot_run.specs.Promise.{Counted, IsAnswered, IsGiven, IsStep, Leaves, Noted, Promise}
-use Rattle.command_reads.specs.Ran.{Acted, IsStepped, NoFaults, Ran, WhereStands}
-use Rattle.command_reads.specs.Step.{Answer, Refuses, Replies, status_after, step_of}
+use Rattle.command_model.specs.Ran.{Acted, IsStepped, NoFaults, Ran, WhereStands}
+use Rattle.command_model.specs.Step.{Answer, Refuses, Replies, status_after, step_of}
 use Rattle.outside.specs.Seen.{Heard}
-use Rattle.command_reads.specs.World.{Devices, World}
+use Rattle.command_model.specs.World.{Devices, World}
 use Rattle.command_words.specs.declared.fault.Fault.{Fault}
 use Rattle.command_words.specs.declared.fault.Fault.TheVariants as fault
 use Rattle.command_words.specs.declared.note.Note.{Note}

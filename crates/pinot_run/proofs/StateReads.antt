@@ -22,42 +22,42 @@ use Rattle.segment_file.specs.Ordered.{ordered}
 use Rattle.segment_file.specs.Parts.{head_sections, raw_sections}
 use Rattle.sql_reply.specs.Asked.{asked}
 use Rattle.sql_reply.specs.declared.fault.SqlFault.{SqlFault}
-use Rattle.segment_opening.specs.Logs.{EndsBy, IsHeadRead, LogsWhere}
-use Rattle.segment_opening.specs.Reads.{Grown, ReadsNone, ReadsPlanned, raw_span, star_span}
-use Rattle.segment_opening.specs.Segments.{HasImage}
-use Rattle.segment_opening.proofs.GrownLemmas.{grown_so, same_name}
-use Rattle.segment_opening.proofs.HeadReads.{opened_entry}
-use Rattle.segment_opening.proofs.LogLemmas.{entries_as, fewer_summed}
-use Rattle.store_state.specs.Accepted.{IsAccepted}
-use Rattle.store_segments.specs.Segments.{AreFirstNames, has_segment}
-use Rattle.store_state.specs.Stands.{Stands}
+use Rattle.segment_reads.specs.Logs.{EndsBy, IsHeadRead, LogsWhere}
+use Rattle.segment_reads.specs.Reads.{Grown, ReadsNone, ReadsPlanned, raw_span, star_span}
+use Rattle.segment_head.specs.Stored.{HasImage}
+use Rattle.segment_reads.proofs.GrownLemmas.{grown_so, same_name}
+use Rattle.segment_reads.proofs.HeadReads.{opened_entry}
+use Rattle.segment_reads.proofs.LogLemmas.{entries_as, fewer_summed}
+use Rattle.table_store.specs.Accepted.{IsAccepted}
+use Rattle.table_store.specs.Segments.{AreFirstNames, has_segment}
+use Rattle.table_store.specs.Stands.{Stands}
 use Rattle.table_store.specs.State as state
 use Rattle.table_store.specs.State.{HasTable, Segment, Segments}
 use Rattle.table_store.specs.TableFile.{table_file, table_name}
-use Rattle.store_state.proofs.AcceptedLemmas.{accepted_valid}
-use Rattle.store_state.proofs.KeyLemmas.{keys_stand}
-use Rattle.store_segments.proofs.NameLemmas.{is_name, tied_name}
-use Rattle.store_state.proofs.StandsLemmas.{table_there}
+use Rattle.table_store.proofs.AcceptedLemmas.{accepted_valid}
+use Rattle.table_store.proofs.KeyLemmas.{keys_stand}
+use Rattle.table_store.proofs.NameLemmas.{is_name, tied_name}
+use Rattle.table_store.proofs.StandsLemmas.{table_there}
 use Rattle.command_words.specs.Command.{Ask, Build, Command, Create, Listing, Scan}
-use Rattle.command_reads.specs.Consulted.{Consulted, IsFileAmong, ReadsAbout, ReadsAsked, ReadsEach, ReadsHeads, ReadsStored}
+use Rattle.command_model.specs.Consulted.{Consulted, IsFileAmong, ReadsAbout, ReadsAsked, ReadsEach, ReadsHeads, ReadsStored}
 use Rattle.pinot_run.specs.Laws.{IsLiveFile, ReadsFor, ReadsSegment, ReadsState, SegmentsRead, is_done}
 use Rattle.command_words.specs.Notes.{status_of}
-use Rattle.command_reads.specs.Profile.{TableFile}
+use Rattle.command_model.specs.Profile.{TableFile}
 use Rattle.pinot_run.specs.Promise.{Promise}
-use Rattle.command_reads.specs.Queried.{rows_in}
-use Rattle.command_reads.specs.Ran.{IsAllowed}
-use Rattle.command_reads.specs.Step.{Answer, Refuses, Replies, status_after}
-use Rattle.command_reads.specs.Stored.{HasTableFile}
-use Rattle.command_reads.specs.Touched.{LogsOpened}
-use Rattle.command_reads.specs.World.{Devices, World}
+use Rattle.command_model.specs.Queried.{rows_in}
+use Rattle.command_model.specs.Ran.{IsAllowed}
+use Rattle.command_model.specs.Step.{Answer, Refuses, Replies, status_after}
+use Rattle.command_model.specs.Stored.{HasTableFile}
+use Rattle.command_model.specs.Touched.{LogsOpened}
+use Rattle.command_model.specs.World.{Devices, World}
 use Rattle.command_words.specs.declared.about.About.{About}
 use Rattle.command_words.specs.declared.about.About.TheVariants.{Plans, Rows, RowsAndPlans}
 use Rattle.command_words.specs.declared.note.Note.{Note}
 use Rattle.command_words.specs.declared.note.Note.TheVariants as note
 use Rattle.command_words.specs.declared.status.Status.{Status}
 use Rattle.command_words.specs.declared.status.Status.TheVariants as status
-use Rattle.command_reads.proofs.MachineLemmas.{came, key_named, key_there}
-use Rattle.command_reads.proofs.ReadLemmas.{not_table, stored_of, table_heads, unread}
+use Rattle.command_model.proofs.MachineLemmas.{came, key_named, key_there}
+use Rattle.commands.proofs.ReadLemmas.{not_table, stored_of, table_heads, unread}
 
 -- ---- places in lists
 

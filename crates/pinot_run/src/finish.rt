@@ -10,18 +10,7 @@ use command_words::{Fault, Note, Status, note_line, status_of};
 use outside::{Bytes, Sink};
 use std::alloc::Global;
 
-// The note line of a fault.
-fn fault_line(status: Status) -> &'static [u8]
-    ensures { result.now ≡ fault_line status }
-{
-    match status {
-        Status::ReadFault => b"read fault\n",
-        Status::WriteFault => b"write fault\n",
-        _ => b"no memory\n",
-    }
-}
-
-// The status of a fault.
+/// The status of a fault.
 pub fn status_of_fault(fault: Fault) -> Status
     ensures { result ≡ status_of_fault fault }
 {
@@ -88,5 +77,16 @@ pub fn give_note<N: Sink>(alloc: Global, note: &Note, notes: &mut N) -> Status
         status_of(note)
     } else {
         Status::WriteFault
+    }
+}
+
+// The note line of a fault.
+fn fault_line(status: Status) -> &'static [u8]
+    ensures { result.now ≡ fault_line status }
+{
+    match status {
+        Status::ReadFault => b"read fault\n",
+        Status::WriteFault => b"write fault\n",
+        _ => b"no memory\n",
     }
 }

@@ -5,6 +5,6 @@ mod finish;
 mod laws;
 mod run;
 
-pub use command_words::Status;
+pub use command_words::{Status, may_write};
 pub use laws::{promises_compose_law, segments_read_law};
 pub use run::run_command;

@@ -1,27 +1,84 @@
 //! The top call.
 ghost use Rattle.std.specs.Prelude.{◌≡◌, ◌⊎◌, ◌≤◌, false, map, string_bytes};
 ghost use Rattle.command_words.specs.Command.{command_of};
-ghost use Rattle.command_reads.specs.Consulted.{AtMostRead};
+ghost use Rattle.command_model.specs.Consulted.{AtMostRead};
 ghost use Rattle.command_words.specs.Notes.{is_fault};
 ghost use Rattle.pinot_run.specs.Promise.{Counted, IsQuiet, IsStep, Leaves, Noted, Promise};
-ghost use Rattle.command_reads.specs.Ran.{Ran, WhereStands};
-ghost use Rattle.command_reads.specs.Step.{status_after, step};
-ghost use Rattle.command_reads.specs.Touched.{Touched};
+ghost use Rattle.command_model.specs.Ran.{Ran, WhereStands};
+ghost use Rattle.command_model.specs.Step.{status_after, step};
+ghost use Rattle.command_model.specs.Touched.{Touched};
 ghost use Rattle.outside.specs.Seen.{heard};
-ghost use Rattle.command_reads.specs.World.{devices, world};
+ghost use Rattle.command_model.specs.World.{devices, world};
 
 use crate::finish::{give_note, give_text, note_fault, status_of_fault};
-use command_reads::list::list;
-use command_reads::scan::scan;
-use command_steps::build::build;
-use command_steps::create::create;
-use command_steps::query::ask;
 use command_words::{Command, Note, Status, Stop, read_command};
+use commands::build::build;
+use commands::create::create;
+use commands::list::list;
+use commands::query::ask;
+use commands::scan::scan;
 use outside::{Bytes, Depot, Shelf, Sink};
 use std::alloc::Global;
 
-// The reply to the words of a command, and what they do to the store, before anything is written on a
-// stream.
+/// Runs one command of the store: its words, the folder that its input files are read from, the
+/// folder that the store is kept in, and the streams for its reply and its note line.
+///
+/// The reply is made whole before the store is written and before anything is put on a stream, and
+/// no memory is taken after the store was written. The note line, one for every status but `Done`,
+/// is written last.
+pub fn run_command<I: Shelf, D: Depot, O: Sink, N: Sink>(
+    alloc: Global,
+    words: &[String],
+    inputs: &mut I,
+    depot: &mut D,
+    out: &mut O,
+    notes: &mut N,
+) -> Status
+    // Where no device failed and there was memory, the command did what its step says.
+    ensures step { is_fault result ≡ false
+        → WhereStands (I.held inputs.old) (D.held depot.old) (λ state files.
+        IsStep (step state (map string_bytes words.now) files) result
+        (world I.Shelf D.Shelf O.Sink N.Sink inputs.old depot.old out.old notes.old)
+        (world I.Shelf D.Shelf O.Sink N.Sink inputs.new depot.new out.new notes.new)) }
+
+    // What is left after each status, over any store, with the cause of each refusal and of each
+    // fault.
+    ensures leaves { Leaves (command_of (map string_bytes words.now))
+        (world I.Shelf D.Shelf O.Sink N.Sink inputs.old depot.old out.old notes.old) result
+        (world I.Shelf D.Shelf O.Sink N.Sink inputs.new depot.new out.new notes.new) }
+
+    // It did so wherever no device failed, unless memory ran out.
+    ensures complete { IsQuiet
+        (world I.Shelf D.Shelf O.Sink N.Sink inputs.old depot.old out.old notes.old)
+        (world I.Shelf D.Shelf O.Sink N.Sink inputs.new depot.new out.new notes.new)
+        → WhereStands (I.held inputs.old) (D.held depot.old) (λ state files.
+        (result ≡ status_after (step state (map string_bytes words.now) files).answer)
+        ⊎ (result ≡ Status.NoMemory)) }
+
+    // The notes grow by the line of the status, or by a part of one line where they fail.
+    ensures notes { Noted result (heard N.Sink notes.old) (heard N.Sink notes.new) }
+    // A count of faults rose only where a call that it counts failed.
+    ensures counted { Counted result
+        (world I.Shelf D.Shelf O.Sink N.Sink inputs.old depot.old out.old notes.old)
+        (world I.Shelf D.Shelf O.Sink N.Sink inputs.new depot.new out.new notes.new) }
+
+    // What is read and changed on the devices is what the words name.
+    ensures touched { Touched (command_of (map string_bytes words.now))
+        (devices I.Shelf D.Shelf inputs.old depot.old)
+        (devices I.Shelf D.Shelf inputs.new depot.new) }
+
+    // Of each segment no more is read than the plan of its rows says, whatever the status is; for a
+    // text that is no query over the table nothing, and for `explain` and `list` no byte past its
+    // head.
+    ensures reads { AtMostRead (command_of (map string_bytes words.now))
+        (devices I.Shelf D.Shelf inputs.old depot.old)
+        (devices I.Shelf D.Shelf inputs.new depot.new) }
+{
+    run(alloc, words, inputs, depot, out, notes)
+}
+
+// The reply to the words of a command, and what they do to the store, before anything is written on
+// a stream.
 fn reply_to<I: Shelf, D: Depot>(
     alloc: Global,
     words: &[String],
@@ -60,59 +117,4 @@ fn run<I: Shelf, D: Depot, O: Sink, N: Sink>(
         Err(Stop::Refused(note)) => give_note(alloc, &note, notes),
         Err(Stop::Fault(fault)) => note_fault(status_of_fault(fault), notes),
     }
-}
-
-/// Runs one command of the store: its words, the folder that its input files are read from, the folder
-/// that the store is kept in, and the streams for its reply and its note line.
-///
-/// The reply is made whole before the store is written and before anything is put on a stream, and no
-/// memory is taken after the store was written. The note line, one for every status but `Done`, is
-/// written last.
-pub fn run_command<I: Shelf, D: Depot, O: Sink, N: Sink>(
-    alloc: Global,
-    words: &[String],
-    inputs: &mut I,
-    depot: &mut D,
-    out: &mut O,
-    notes: &mut N,
-) -> Status
-    // Where no device failed and there was memory, the command did what its step says.
-    ensures step { is_fault result ≡ false
-        → WhereStands (I.held inputs.old) (D.held depot.old) (λ state files.
-        IsStep (step state (map string_bytes words.now) files) result
-        (world I.Shelf D.Shelf O.Sink N.Sink inputs.old depot.old out.old notes.old)
-        (world I.Shelf D.Shelf O.Sink N.Sink inputs.new depot.new out.new notes.new)) }
-
-    // What is left after each status, over any store, with the cause of each refusal and of each fault.
-    ensures leaves { Leaves (command_of (map string_bytes words.now))
-        (world I.Shelf D.Shelf O.Sink N.Sink inputs.old depot.old out.old notes.old) result
-        (world I.Shelf D.Shelf O.Sink N.Sink inputs.new depot.new out.new notes.new) }
-
-    // It did so wherever no device failed, unless memory ran out.
-    ensures complete { IsQuiet
-        (world I.Shelf D.Shelf O.Sink N.Sink inputs.old depot.old out.old notes.old)
-        (world I.Shelf D.Shelf O.Sink N.Sink inputs.new depot.new out.new notes.new)
-        → WhereStands (I.held inputs.old) (D.held depot.old) (λ state files.
-        (result ≡ status_after (step state (map string_bytes words.now) files).answer)
-        ⊎ (result ≡ Status.NoMemory)) }
-
-    // The notes grow by the line of the status, or by a part of one line where they fail.
-    ensures notes { Noted result (heard N.Sink notes.old) (heard N.Sink notes.new) }
-    // A count of faults rose only where a call that it counts failed.
-    ensures counted { Counted result
-        (world I.Shelf D.Shelf O.Sink N.Sink inputs.old depot.old out.old notes.old)
-        (world I.Shelf D.Shelf O.Sink N.Sink inputs.new depot.new out.new notes.new) }
-
-    // What is read and changed on the devices is what the words name.
-    ensures touched { Touched (command_of (map string_bytes words.now))
-        (devices I.Shelf D.Shelf inputs.old depot.old)
-        (devices I.Shelf D.Shelf inputs.new depot.new) }
-
-    // Of each segment no more is read than the plan of its rows says, whatever the status is; for a
-    // text that is no query over the table nothing, and for `explain` and `list` no byte past its head.
-    ensures reads { AtMostRead (command_of (map string_bytes words.now))
-        (devices I.Shelf D.Shelf inputs.old depot.old)
-        (devices I.Shelf D.Shelf inputs.new depot.new) }
-{
-    run(alloc, words, inputs, depot, out, notes)
 }

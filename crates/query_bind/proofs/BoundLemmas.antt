@@ -4,14 +4,14 @@ use Rattle.table_schema.specs.declared.table.Table.{Table}
 use Rattle.table_schema.specs.declared.query.BoundQuery.{BoundQuery}
 use Rattle.table_schema.specs.declared.query.Conjunct.{Conjunct}
 use Rattle.query_tokens.specs.declared.tree.Query.{Query}
-use Rattle.bound_parts.specs.declared.terms.Terms.{Terms}
-use Rattle.bound_parts.specs.declared.distinct.Lists.{Lists}
-use Rattle.query_where.specs.declared.fault.BindFault.{BindFault}
-use Rattle.query_where.specs.declared.fault.BindFault.TheVariants.{NoMemory}
-use Rattle.query_where.specs.Written.{where_written}
-use Rattle.query_where.specs.Conjuncts.{where_conjuncts}
-use Rattle.bound_parts.specs.Bound.{parts_of, assembled, bound_of, query_finding, answer, bound, Binds}
-use Rattle.query_where.specs.Names.{term_finding, where_finding, table_finding, names_finding}
+use Rattle.query_bind.specs.declared.terms.Terms.{Terms}
+use Rattle.query_bind.specs.declared.distinct.Lists.{Lists}
+use Rattle.query_bind.specs.declared.fault.BindFault.{BindFault}
+use Rattle.query_bind.specs.declared.fault.BindFault.TheVariants.{NoMemory}
+use Rattle.query_bind.specs.Written.{where_written}
+use Rattle.query_bind.specs.Conjuncts.{where_conjuncts}
+use Rattle.query_bind.specs.Bound.{parts_of, assembled, bound_of, query_finding, answer, bound, Binds}
+use Rattle.query_bind.specs.Names.{term_finding, where_finding, table_finding, names_finding}
 use Rattle.table_schema.specs.Firsts.{first_in}
 use Rattle.table_schema.proofs.FirstLaws.{first_none, rest_none}
 

@@ -1,20 +1,21 @@
 //! The query over the fields of a table.
 
 ghost use Rattle.std.specs.Prelude.{◌≡◌, ◌≤◌, length, IfOk};
-ghost use Rattle.query_where.specs.Written.{where_written};
-ghost use Rattle.query_where.specs.Conjuncts.{KeepRows};
-ghost use Rattle.query_where.specs.Faults.{Gives};
-ghost use Rattle.bound_parts.specs.Bound as spec;
+ghost use Rattle.query_bind.specs.Written.{where_written};
+ghost use Rattle.query_bind.specs.Conjuncts.{KeepRows};
+ghost use Rattle.query_bind.specs.Faults.{Gives};
+ghost use Rattle.query_bind.specs.Bound as spec;
 ghost use Rattle.table_schema.specs.ValidQuery.{IsValidQuery};
 
-use bound_parts::{
-    Lists, QueryNames, Terms, assemble, check_aggregate, check_grouped, check_table, resolve,
-    without_repeats,
-};
+use crate::BindFault;
+use crate::assembled::assemble;
+use crate::checks::{check_aggregate, check_grouped, check_table};
+use crate::distinct::{Lists, without_repeats};
+use crate::lookups::QueryNames;
+use crate::terms::{Terms, resolve};
 use query_tokens::Query;
-use query_where::BindFault;
 use std::alloc::Global;
-use table_schema::{BoundQuery, Table};
+use table_schema::{BoundQuery, Fields, Table};
 
 /// The query over the fields of a table, or the first of the checks that fails, in their order and
 /// then that of the text: the table's name, which may be any where `any_table`; names and types; an
@@ -27,7 +28,7 @@ pub fn bind(
     table: &Table,
     any_table: bool,
 ) -> Result<BoundQuery, BindFault>
-    requires few { length table.now.schema.fields ≤ 64 }
+    requires at_most { length table.now.schema.fields ≤ 64 }
     requires spelled { spec.Spelled query.now }
     ensures bound { spec.Binds (spec.bound table.now any_table query.now) result }
     // Every row satisfies all conjuncts exactly where it satisfies the condition as it is written.
@@ -36,7 +37,8 @@ pub fn bind(
     ensures valid { IfOk result (IsValidQuery table.now) }
 {
     let (terms, lists) = check(alloc, query, table, any_table)?;
-    let fields = table.schema.fields.as_slice();
+    let all = table.schema.fields.as_slice();
+    let fields = Fields { all };
     let bound = assemble(alloc, query, fields, &terms, lists)?;
     Ok(bound)
 }
@@ -51,7 +53,7 @@ fn check(
     requires { length table.now.schema.fields ≤ 64 }
     ensures checked { Gives (spec.query_finding table.now any_table query.now)
         (spec.parts_of table.now.schema.fields query.now) result }
-    ensures few { IfOk result
+    ensures at_most { IfOk result
         (λ parts. (length parts.1.groups ≤ 8) × (length parts.1.aggs ≤ 16)) }
 {
     let names = QueryNames::new(alloc, query)?;
@@ -68,11 +70,13 @@ fn check_names(
     requires { length table.now.schema.fields ≤ 64 }
     ensures checked { Gives (spec.query_finding table.now any_table names.now.query.now)
         (spec.parts_of table.now.schema.fields names.now.query.now) result }
-    ensures few { IfOk result
+    ensures at_most { IfOk result
         (λ parts. (length parts.1.groups ≤ 8) × (length parts.1.aggs ≤ 16)) }
 {
     check_table(table, any_table, names.query)?;
-    let terms = resolve(alloc, table.schema.fields.as_slice(), names)?;
+    let all = table.schema.fields.as_slice();
+    let fields = Fields { all };
+    let terms = resolve(alloc, fields, names)?;
     check_aggregate(names.query)?;
     check_grouped(names)?;
     let lists = without_repeats(alloc, &terms)?;

@@ -1,2 +1,12 @@
+pub mod DoneLemmas
+pub mod EndLemmas
+pub mod FaultLemmas
+pub mod GroupLemmas
+pub mod LineLemmas
+pub mod SegmentLemmas
+pub mod Unread
 pub mod ReplyLemmas
+mod PassLemmas
 mod StatedLemmas
+pub mod OneReads
+pub mod PlanLemmas

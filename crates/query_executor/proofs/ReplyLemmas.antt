@@ -19,12 +19,12 @@ use Rattle.group_table.specs.Shape.{Shape, shape_of}
 use Rattle.broker_merge.specs.Answer.{answer_of, answer_text}
 use Rattle.broker_merge.specs.Reply.{Reply, reply_over}
 use Rattle.scan_engine.specs.Scanned.{selected}
-use Rattle.segment_opening.specs.Segments.{HasImage, stored_rows}
-use Rattle.segment_pass.specs.Steps.{HasGroups, HaveTooMany, HasLines}
+use Rattle.segment_head.specs.Stored.{HasImage, stored_rows}
+use Rattle.query_executor.specs.Steps.{HasGroups, HaveTooMany, HasLines}
 use Rattle.sql_reply.specs.Asked.{asked}
 use Rattle.query_executor.specs.Explained.{IsExplained, lines_or}
-use Rattle.segment_pass.specs.Lines.{in_order, plan_line}
-use Rattle.segment_pass.proofs.LineLemmas.{lines_all}
+use Rattle.query_executor.specs.Lines.{in_order, plan_line}
+use Rattle.query_executor.proofs.LineLemmas.{lines_all}
 
 -- what is wrong with a text is no want of memory
 pub text_real : (fault : SqlFault) → IsOfText fault → fault ≢ NoMemory

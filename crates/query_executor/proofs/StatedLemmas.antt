@@ -11,11 +11,11 @@ use Rattle.sql_reply.specs.Reply.{conjuncts_reply}
 use Rattle.sql_reply.specs.SqlReply.{replied, sql_reply}
 use Rattle.sql_reply.specs.declared.fault.SqlFault.{SqlFault}
 use Rattle.query_executor.specs.Answers.{IsBoundReply}
-use Rattle.segment_pass.specs.Lines.{in_order, lines_of, stats_line}
-use Rattle.segment_opening.specs.Segments.{stored_rows}
+use Rattle.query_executor.specs.Lines.{in_order, lines_of, stats_line}
+use Rattle.segment_head.specs.Stored.{stored_rows}
 use Rattle.query_executor.specs.Stated.{IsStated, stated_by, with_lines, IsBoundStated}
-use Rattle.segment_pass.specs.Steps.{HasLines}
-use Rattle.segment_pass.proofs.LineLemmas.{lines_all}
+use Rattle.query_executor.specs.Steps.{HasLines}
+use Rattle.query_executor.proofs.LineLemmas.{lines_all}
 
 -- the rows of all segments are those of each, one after the other
 all_in_order : (f : List (List Value) → List (List Value)) (segments : List (List (List Value))) → flat_map (λ rows. rows) (map f segments) ≡ flat_map f segments

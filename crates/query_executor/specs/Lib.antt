@@ -1,3 +1,6 @@
+pub mod Lines
+pub mod Steps
 pub mod Answers
 pub mod Explained
 pub mod Stated
+pub mod Passes

@@ -1,5 +1,6 @@
--- What a query's text is answered over the segments of a table with a line for each: its plan, and how many documents were looked at.
-use Rattle.std.specs.Prelude.{◌≡◌, ℕ, false, List, ◌∷◌, ◌++◌, flat_map, Ok, Err, ◌+◌}
+-- What a query's text is answered over the segments of a table with a line for each: its plan, and
+-- how many documents were looked at.
+use Rattle.std.specs.Prelude.{◌≡◌, ℕ, false, List, ◌∷◌, ◌++◌, flat_map, Ok, Err}
 use Rattle.std.specs.List.{AllZip}
 use Rattle.outside.specs.Files.{Files}
 use Rattle.values.specs.declared.value.Value.{Value}
@@ -7,8 +8,8 @@ use Rattle.table_schema.specs.declared.query.BoundQuery.{BoundQuery}
 use Rattle.table_schema.specs.declared.table.Table.{Table}
 use Rattle.sql_reply.specs.Asked.{Asked, asked}
 use Rattle.sql_reply.specs.SqlReply.{SqlReply, sql_reply, replied}
-use Rattle.segment_pass.specs.Lines.{in_order, lines_of, stats_line}
-use Rattle.segment_opening.specs.Segments.{HasImage, stored_rows}
+use Rattle.query_executor.specs.Lines.{in_order, lines_of, stats_line}
+use Rattle.segment_head.specs.Stored.{HasImage, stored_rows}
 use Rattle.sql_reply.specs.Reply.{conjuncts_reply}
 
 -- a reply, an empty line, and these lines
@@ -17,21 +18,28 @@ with_lines lines (Ok text) = Ok (text ++ (10 ∷ lines))
 with_lines lines (Err fault) = Err fault
 
 -- the reply with a line for each segment, where the text is a query
-abbrev pub stated_by : Table → List (List ℕ) → List (List (List Value)) → SqlReply → Asked → SqlReply
-stated_by table names segments reply (Ok query) = with_lines (lines_of (stats_line query table) names segments) reply
+abbrev pub stated_by : Table → List (List ℕ) → List (List (List Value)) → SqlReply → Asked
+    → SqlReply
+stated_by table names segments reply (Ok query) = with_lines
+    (lines_of (stats_line query table) names segments) reply
 stated_by table names segments reply (Err fault) = reply
 
--- what a query's text is answered over segments of these names, each with its rows in the order of its file
+-- what a query's text is answered over segments of these names, each with its rows in the order of
+-- its file
 abbrev pub stated : Table → List ℕ → List (List ℕ) → List (List (List Value)) → SqlReply
-stated table sql names segments = stated_by table names segments (sql_reply table false sql (flat_map (λ rows. rows) segments)) (asked table false sql)
+stated table sql names segments = stated_by table names segments
+    (sql_reply table false sql (flat_map (λ rows. rows) segments)) (asked table false sql)
 
 -- where the files of the segments of these names are images, that is the answer
 abbrev pub IsStated : Table → Files → List (List ℕ) → List ℕ → SqlReply → Type 0
 IsStated table files names sql reply =
-    (segments : List (List (List Value))) → AllZip (HasImage table files) names segments → stated table sql names (in_order table segments) ≡ reply
+    (segments : List (List (List Value))) → AllZip (HasImage table files) names segments
+    → stated table sql names (in_order table segments) ≡ reply
 
--- where the files of the segments are images, this is the reply to the query in its normal form with a line for each
+-- where the files of the segments are images, this is the reply to the query in its normal form
+-- with a line for each
 abbrev pub IsBoundStated : Table → Files → List (List ℕ) → BoundQuery → List ℕ → Type 0
 IsBoundStated table files names query text =
     (segments : List (List (List Value))) → AllZip (HasImage table files) names segments
-    → with_lines (lines_of (stats_line query table) names (in_order table segments)) (replied (conjuncts_reply query (stored_rows table segments))) ≡ Ok text
+    → with_lines (lines_of (stats_line query table) names (in_order table segments))
+    (replied (conjuncts_reply query (stored_rows table segments))) ≡ Ok text

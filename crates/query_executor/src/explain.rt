@@ -1,31 +1,27 @@
 //! What is said of the plans of the segments of a table for a query.
-ghost use Rattle.std.specs.Prelude.{◌≡◌, ◌≢◌, ◌≤◌, ◌<◌, false, ℕ, [], Ok, Err, IfOk, IfSome, IsErrOf, get_or, length};
-ghost use Rattle.std.specs.List.{All};
-ghost use Rattle.outside.specs.Seen.{OnlyReads, seen};
-ghost use Rattle.table_schema.specs.ValidQuery.{IsValidQuery};
-ghost use Rattle.table_schema.specs.ValidTable.{IsValidTable};
-ghost use Rattle.segment_file.specs.Names.{IsSegmentName};
-ghost use Rattle.segment_file.specs.declared.part.Part.{Part};
+ghost use Rattle.std.specs.Prelude.{◌≡◌, ◌≢◌, false, Ok, Err, IfOk, IfSome, length};
+ghost use Rattle.outside.specs.Seen.{seen};
 ghost use Rattle.sql_reply.specs.Asked.{asked};
 ghost use Rattle.sql_reply.specs.SqlReply.{IsOfText};
 ghost use Rattle.sql_reply.specs.declared.fault.SqlFault.{SqlFault};
 ghost use Rattle.sql_reply.specs.declared.fault.SqlFault.TheVariants.{NoMemory};
 ghost use Rattle.query_executor.specs.Explained.{IsExplained};
-ghost use Rattle.segment_pass.specs.Lines.{plan_line};
-ghost use Rattle.segment_opening.specs.Logs.{LogsHeadsOf};
-ghost use Rattle.segment_opening.specs.Segments.{HasNoImage};
-ghost use Rattle.segment_pass.specs.Steps.{HasLines};
-ghost use Rattle.segment_pass.specs.declared.fault.ExecutorFault.TheVariants.{NotASegment, ReadFault, Sql};
+ghost use Rattle.query_executor.specs.Lines.{plan_line};
+ghost use Rattle.query_executor.specs.Passes.{AreSegmentsOf, IsQueryOver, LooksAtHeads};
+ghost use Rattle.query_executor.specs.Steps.{HasLines};
+ghost use Rattle.query_executor.specs.declared.fault.ExecutorFault.TheVariants.{Sql};
 
+use crate::ExecutorFault;
+use crate::planned::explain_segment;
+use crate::segment_fault::fault_at;
 use outside::{Bytes, Name, Seq, Shelf};
-use segment_pass::{ExecutorFault, explain_segment, fault_at};
 use sql_reply::bound_query;
 use std::alloc::Global;
 use table_schema::{BoundQuery, Table};
 
-/// A line for each segment of these names: what is to be done with it for a query, over the rows that
-/// it has. Nothing is read before the query is known to be one over the table, and no byte past the
-/// head of a segment's file.
+/// A line for each segment of these names: what is to be done with it for a query, over the rows
+/// that it has. Nothing is read before the query is known to be one over the table, and no byte
+/// past the head of a segment's file.
 pub fn explain_query<S: Shelf>(
     alloc: Global,
     shelf: &mut S,
@@ -33,22 +29,15 @@ pub fn explain_query<S: Shelf>(
     names: &[Name],
     sql: &str,
 ) -> Result<Bytes, ExecutorFault>
-    requires valid { IsValidTable table.now }
-    requires named { All IsSegmentName names.now }
-    requires few { length names.now ≤ 512 }
+    requires { AreSegmentsOf table.now names.now }
     ensures reply { IfOk result (λ text. IfSome (S.held shelf.old) (λ files.
         IsExplained table.now files names.now sql.now (Ok text))) }
     // What is wrong with the query's text is known before anything is read.
     ensures of_text { (fault : SqlFault) → result ≡ Err (Sql fault) → fault ≢ NoMemory →
         IsOfText fault × (seen S.Shelf shelf.new ≡ seen S.Shelf shelf.old)
         × (asked table.now false sql.now ≡ Err fault) }
-    ensures bad { (at : ℕ) (part : Part) → result ≡ Err (NotASegment at part) →
-        (at < length names.now) × IfSome (S.held shelf.old) (λ files.
-        HasNoImage table.now files (get_or names.now at [])) }
-    ensures only_reads { OnlyReads (IsErrOf result ReadFault)
-        (seen S.Shelf shelf.old) (seen S.Shelf shelf.new) }
-    ensures log { LogsHeadsOf table.now (S.held shelf.old) names.now
-        (S.log shelf.old) (S.log shelf.new) }
+    ensures looks { LooksAtHeads table.now names.now
+        (seen S.Shelf shelf.old) (seen S.Shelf shelf.new) result }
 {
     match bound_query(alloc, sql, table, false) {
         Ok(bound) => explain_bound(alloc, shelf, table, names, &bound),
@@ -64,21 +53,13 @@ fn explain_bound<S: Shelf>(
     names: &[Name],
     query: &BoundQuery,
 ) -> Result<Bytes, ExecutorFault>
-    requires valid { IsValidTable table.now }
-    requires named { All IsSegmentName names.now }
-    requires few { length names.now ≤ 512 }
-    requires query { IsValidQuery table.now query.now }
+    requires { IsQueryOver query.now table.now names.now }
     ensures lines { IfOk result (λ text.
         HasLines (plan_line query.now table.now) table.now (S.held shelf.old) names.now
         (length names.now) text) }
     ensures never_wrong { (fault : SqlFault) → result ≡ Err (Sql fault) → fault ≡ NoMemory }
-    ensures bad { (at : ℕ) (part : Part) → result ≡ Err (NotASegment at part) →
-        (at < length names.now) × IfSome (S.held shelf.old) (λ files.
-        HasNoImage table.now files (get_or names.now at [])) }
-    ensures only_reads { OnlyReads (IsErrOf result ReadFault)
-        (seen S.Shelf shelf.old) (seen S.Shelf shelf.new) }
-    ensures log { LogsHeadsOf table.now (S.held shelf.old) names.now
-        (S.log shelf.old) (S.log shelf.new) }
+    ensures looks { LooksAtHeads table.now names.now
+        (seen S.Shelf shelf.old) (seen S.Shelf shelf.new) result }
 {
     let mut text = Vec::new(alloc);
     'names: for at in 0..names.len() {

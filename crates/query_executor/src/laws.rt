@@ -8,8 +8,8 @@ ghost use Rattle.scan_engine.specs.Scanned.{selected};
 ghost use Rattle.segment_plan.specs.declared.plans.ScanPlan.{ScanPlan};
 ghost use Rattle.segment_plan.specs.declared.plans.SegmentPlan.TheVariants.{Scan};
 ghost use Rattle.segment_plan.specs.Planned.{plan_over};
-ghost use Rattle.coded_scan.specs.Served.{unserved};
-ghost use Rattle.segment_opening.specs.Looked.{docs_over};
+ghost use Rattle.segment_plan.specs.Served.{unserved};
+ghost use Rattle.segment_reads.specs.Looked.{docs_over};
 
 use segment_scan::served_law;
 

@@ -1,5 +1,5 @@
 -- The token at the front of a text. Bytes are given by their ASCII numbers.
-use Rattle.std.specs.Prelude.{ℕ, ℤ, pos, ◌+◌, Bool, true, false, not, ◌&&◌, ◌||◌, if◌then◌else◌, ◌==◌, nat_lt, List, [], ◌∷◌, length, take, drop, codes, slice_index, Option, Some, None, Result, Ok, Err}
+use Rattle.std.specs.Prelude.{◌≡◌, ◌<◌, ◌≤◌, ◌-◌, ℕ, ℤ, pos, ◌+◌, Bool, true, false, not, ◌&&◌, ◌||◌, if◌then◌else◌, ◌==◌, nat_lt, List, [], ◌∷◌, length, take, drop, codes, slice_index, Option, Some, None, Result, Ok, Err}
 use Rattle.std.specs.Char.{is_ascii_digit, is_ascii_alphanumeric}
 use Rattle.std.specs.List.{prefix_len}
 use Rattle.std.specs.Str.{str_eq_ignore_ascii_case}
@@ -50,9 +50,12 @@ lookup (e ∷ es) word = if str_eq_ignore_ascii_case e.0 word then e.1 else look
 -- the words that are no names unless they stand in quotes
 abbrev pub keywords : List (Bytes × Kind)
 keywords =
-    (codes "SELECT", k.Select) ∷ (codes "FROM", k.From) ∷ (codes "WHERE", k.Where) ∷ (codes "GROUP", k.Group) ∷ (codes "BY", k.By) ∷ (codes "HAVING", k.Having)
-    ∷ (codes "ORDER", k.Order) ∷ (codes "LIMIT", k.Limit) ∷ (codes "OFFSET", k.Offset) ∷ (codes "AND", k.And) ∷ (codes "OR", k.Or) ∷ (codes "NOT", k.Not)
-    ∷ (codes "IN", k.In) ∷ (codes "BETWEEN", k.Between) ∷ (codes "AS", k.As) ∷ (codes "ASC", k.Asc) ∷ (codes "DESC", k.Desc) ∷ (codes "SET", k.Set) ∷ []
+    (codes "SELECT", k.Select) ∷ (codes "FROM", k.From) ∷ (codes "WHERE", k.Where)
+    ∷ (codes "GROUP", k.Group) ∷ (codes "BY", k.By) ∷ (codes "HAVING", k.Having)
+    ∷ (codes "ORDER", k.Order) ∷ (codes "LIMIT", k.Limit) ∷ (codes "OFFSET", k.Offset)
+    ∷ (codes "AND", k.And) ∷ (codes "OR", k.Or) ∷ (codes "NOT", k.Not)
+    ∷ (codes "IN", k.In) ∷ (codes "BETWEEN", k.Between) ∷ (codes "AS", k.As) ∷ (codes "ASC", k.Asc)
+    ∷ (codes "DESC", k.Desc) ∷ (codes "SET", k.Set) ∷ []
 
 -- the keyword that a word is in any case, or else a name
 unfoldable pub keyword : Bytes → Kind
@@ -62,12 +65,19 @@ keyword = lookup keywords
 abbrev pub unnumbered : Kind → ℕ → Token
 unnumbered kind len = record { kind = kind; len = len; number = pos 0 }
 
+-- a token ends within the text, at a byte of ASCII, and takes some of it unless it is the last
+pub record IsAtFront (z : Bytes) (token : Token) : Type 0 where
+  pub within : token.len ≤ length z
+  pub moves : token.len ≡ 0 → is_last token.kind ≡ true
+  pub ends : 0 < token.len → slice_index z (token.len - 1) < 128
+
 -- A name or a keyword. Faults and the end have no length.
 unfoldable pub word : Bytes → Token
 word z =
     let len = prefix_len (is_in class.Word) z in
     let kind = keyword (take len z) in
-    if same_kind kind k.Name && nat_lt 128 len then unnumbered k.NameTooLong 0 else unnumbered kind len
+    if same_kind kind k.Name && nat_lt 128 len then unnumbered k.NameTooLong 0 else unnumbered kind
+    len
 
 -- ---- numbers
 
@@ -113,18 +123,21 @@ abbrev pub quotes_token : Kind → Kind → ℕ → Option (Bytes × ℕ) → To
 quotes_token kind too_long longest None = unnumbered k.OpenText 0
 quotes_token kind too_long longest (Some p) =
     if nat_lt longest (length p.0) then unnumbered too_long 0
-    else (if length p.0 == 0 && same_kind kind k.Name then unnumbered k.EmptyName (p.1 + 1) else unnumbered kind (p.1 + 1))
+    else (if length p.0 == 0 && same_kind kind k.Name then unnumbered k.EmptyName
+    (p.1 + 1) else unnumbered kind (p.1 + 1))
 
 -- a name or a text in quotes
 unfoldable pub in_quotes : Kind → Kind → ℕ → Bytes → Token
-in_quotes kind too_long longest z = quotes_token kind too_long longest (quoted (slice_index z 0) (drop 1 z))
+in_quotes kind too_long longest z = quotes_token kind too_long longest
+    (quoted (slice_index z 0) (drop 1 z))
 
 -- ---- signs, by their first two bytes
 
 -- the sign that two bytes begin with, or the fault where there is none
 abbrev pub sign : ℕ → ℕ → Token
 sign b next =
-    if b == 40 then unnumbered k.LParen 1 else (if b == 41 then unnumbered k.RParen 1 else (if b == 44 then unnumbered k.Comma 1 else (if b == 59 then unnumbered k.Semi 1
+    if b == 40 then unnumbered k.LParen 1 else (if b == 41 then unnumbered k.RParen 1 else
+    (if b == 44 then unnumbered k.Comma 1 else (if b == 59 then unnumbered k.Semi 1
     else (if b == 42 then unnumbered k.Star 1 else (if b == 61 then unnumbered k.Eq 1
     else (if b == 33 && next == 61 then unnumbered k.Ne 2
     else (if b == 60 && next == 62 then unnumbered k.Ne 2
@@ -148,4 +161,5 @@ token (b ∷ z) =
 unfoldable pub value : Bytes → Bytes
 value z =
     let b = slice_index z 0 in
-    if b == 34 || b == 39 then value_of (quoted b (drop 1 z)) else take (prefix_len (is_in class.Word) z) z
+    if b == 34 || b == 39 then value_of (quoted b (drop 1 z)) else take
+    (prefix_len (is_in class.Word) z) z

@@ -23,13 +23,15 @@ Stream = List Lexeme
 abbrev pub lexeme : Token → Bytes → ℕ → Lexeme
 lexeme t z at = record { kind = t.kind; number = t.number; value = value z; at = at }
 
--- The tokens of a text whose first byte is at a place. The first number counts the bytes that are left of a token.
+-- The tokens of a text whose first byte is at a place. The first number counts the bytes that are
+-- left of a token.
 unfoldable pub lexemes : ℕ → Bytes → ℕ → Stream
 lexemes left [] at = lexeme (token []) [] at ∷ []
 lexemes (suc left) (b ∷ z) at = lexemes left z (at + 1)
 lexemes zero (b ∷ z) at =
     if is_in Blank b then lexemes 0 z (at + 1)
-    else (let t = token (b ∷ z) in lexeme t (b ∷ z) at ∷ (if is_last t.kind then [] else lexemes (t.len - 1) z (at + 1)))
+    else (let t = token (b ∷ z) in lexeme t (b ∷ z) at ∷ (if is_last t.kind then [] else lexemes
+    (t.len - 1) z (at + 1)))
 
 -- the tokens of a whole text
 abbrev pub tokens : Bytes → Stream
@@ -63,5 +65,11 @@ next (t ∷ ts) = if is_last t.kind then t ∷ ts else ts
 
 -- tokens as lists of their parts
 abbrev pub stream_code : Coded Stream
-stream_code = coded_list (code_by (Kind × (ℤ × (Bytes × ℕ))) (coded× (the_row).coded (coded× coded_ℤ (coded× (coded_list coded_ℕ) coded_ℕ)))
-    (λ t. (t.kind, (t.number, (t.value, t.at)))) (λ p. record { kind = p.0; number = p.1.0; value = p.1.1.0; at = p.1.1.1 }) (λ _. refl))
+stream_code = coded_list (code_by (Kind × (ℤ × (Bytes × ℕ)))
+    (coded× (the_row).coded (coded× coded_ℤ (coded× (coded_list coded_ℕ) coded_ℕ)))
+    (λ t. (t.kind, (t.number, (t.value, t.at)))) (λ p. record {
+      kind = p.0;
+      number = p.1.0;
+      value = p.1.1.0;
+      at = p.1.1.1;
+    }) (λ _. refl))

@@ -10,6 +10,7 @@ use crate::token::{KEYWORDS, Kind, Token};
 use data_types::{FieldKind, Name, WholeFault, read_whole};
 use std::alloc::{AllocError, Global};
 
+// A sort of bytes that run on in one token.
 #[derive(Clone, Copy, Debug)]
 enum Class {
     Blank,
@@ -21,38 +22,7 @@ const LONGEST_NAME: usize = 128;
 
 const LONGEST_TEXT: usize = 512;
 
-#[tactic(auto, using(crate::proofs::Ends::ascii_in))]
-fn is_in(class: Class, b: u8) -> bool
-    ensures value { result ≡ spec.is_in class b }
-    ensures ascii { result ≡ true → b < 128 }
-{
-    match class {
-        Class::Blank => b == b' ' || b == b'\t' || b == b'\r' || b == b'\n',
-        Class::Digit => b.is_ascii_digit(),
-        Class::Word => b.is_ascii_alphanumeric() || b == b'_' || b == b'$',
-    }
-}
-
-fn byte(z: &[u8], at: usize) -> u8
-    ensures value { result ≡ slice_index z.now at }
-    ensures within { result ≢ 0 → at < length z.now }
-{
-    if at < z.len() { z[at] } else { 0 }
-}
-
-fn run(class: Class, z: &[u8]) -> usize
-    ensures value { result ≡ prefix_len (spec.is_in class) z.now }
-    ensures within { result ≤ length z.now }
-    ensures some { 0 < length z.now → spec.is_in class (slice_index z.now 0) ≡ true → 0 < result }
-    ensures last { 0 < result → slice_index z.now (result - 1) < 128 }
-{
-    let mut end = 0;
-    while end < z.len() && is_in(class, z[end]) {
-        end += 1;
-    }
-    end
-}
-
+/// The text from a place on.
 pub fn rest(z: &[u8], from: usize) -> &[u8]
     requires { from ≤ length z.now }
     ensures { result.now ≡ drop from z.now }
@@ -73,6 +43,7 @@ pub fn skip(z: &[u8]) -> (&[u8], usize)
     (rest(z, blanks), blanks)
 }
 
+/// Whether two words are the same but for the case of ASCII letters.
 pub fn same_word(a: &[u8], b: &[u8]) -> bool
     ensures { result ≡ str_eq_ignore_ascii_case a.now b.now }
 {
@@ -98,6 +69,7 @@ fn keyword(word: &[u8]) -> Kind
     lookup(&KEYWORDS, word)
 }
 
+/// Whether two tokens are of one kind.
 pub fn same_kind(a: Kind, b: Kind) -> bool
     ensures value { result ≡ spec.same_kind a b }
     ensures same { result ≡ true → a ≡ b }
@@ -106,6 +78,7 @@ pub fn same_kind(a: Kind, b: Kind) -> bool
     a == b
 }
 
+/// Whether no token follows one of this kind: the end, or a fault.
 #[tactic(auto, unfolding(crate::specs::Lex::is_last))]
 pub fn is_last(kind: Kind) -> bool
     ensures { result ≡ spec.is_last kind }
@@ -136,9 +109,7 @@ fn word(z: &[u8]) -> Token
     requires some { 0 < length z.now }
     requires begins { spec.is_in Class.Word (slice_index z.now 0) ≡ true }
     ensures value { result ≡ spec.word z.now }
-    ensures within { result.len ≤ length z.now }
-    ensures moves { result.len ≡ 0 → spec.is_last result.kind ≡ true }
-    ensures ends { 0 < result.len → slice_index z.now (result.len - 1) < 128 }
+    ensures front { spec.IsAtFront z.now result }
 {
     let len = run(Class::Word, z);
     let kind = keyword(&z[..len]);
@@ -152,7 +123,8 @@ fn word(z: &[u8]) -> Token
 // How many bytes the sign of a number takes.
 fn sign_len(z: &[u8]) -> usize
     requires some { 0 < length z.now }
-    requires begins { slice_index z.now 0 ≢ 45 → spec.is_in Class.Digit (slice_index z.now 0) ≡ true }
+    requires begins { slice_index z.now 0 ≢ 45 → spec.is_in Class.Digit (slice_index z.now 0)
+        ≡ true }
     ensures value { result ≡ (if slice_index z.now 0 == 45 then 1 else 0) }
     ensures within { result ≤ length z.now }
     ensures digit { result ≡ 0 → spec.is_in Class.Digit (slice_index z.now 0) ≡ true }
@@ -164,11 +136,10 @@ fn sign_len(z: &[u8]) -> usize
 #[tactic(auto, unfolding(crate::specs::Lex::number))]
 fn number(z: &[u8]) -> Token
     requires some { 0 < length z.now }
-    requires begins { slice_index z.now 0 ≢ 45 → spec.is_in Class.Digit (slice_index z.now 0) ≡ true }
+    requires begins { slice_index z.now 0 ≢ 45 → spec.is_in Class.Digit (slice_index z.now 0)
+        ≡ true }
     ensures value { result ≡ spec.number z.now }
-    ensures within { result.len ≤ length z.now }
-    ensures moves { result.len ≡ 0 → spec.is_last result.kind ≡ true }
-    ensures ends { 0 < result.len → slice_index z.now (result.len - 1) < 128 }
+    ensures front { spec.IsAtFront z.now result }
 {
     let front = sign_len(z);
     let len = front + run(Class::Digit, &z[front..]);
@@ -192,7 +163,8 @@ fn number_or_fault(len: usize, number: Result<i64, WholeFault>) -> Token
     }
 }
 
-/// The length of the value of a text in quotes, and how many bytes there are up to and with the closing quote.
+/// The length of the value of a text in quotes, and how many bytes there are up to and with the
+/// closing quote.
 #[tactic(auto, using(crate::proofs::Quotes::lengths_steps))]
 fn quoted_len(quote: u8, z: &[u8]) -> Option<(usize, usize)>
     requires { 0 < quote }
@@ -254,9 +226,7 @@ fn in_quotes(kind: Kind, too_long: Kind, longest: usize, z: &[u8]) -> Token
     requires begins { (0 < slice_index z.now 0) × (slice_index z.now 0 < 128) }
     requires last { spec.is_last too_long ≡ true }
     ensures value { result ≡ spec.in_quotes kind too_long longest z.now }
-    ensures within { result.len ≤ length z.now }
-    ensures moves { result.len ≡ 0 → spec.is_last result.kind ≡ true }
-    ensures ends { 0 < result.len → slice_index z.now (result.len - 1) < 128 }
+    ensures front { spec.IsAtFront z.now result }
 {
     match quoted_len(z[0], &z[1..]) {
         None => unnumbered(Kind::OpenText, 0),
@@ -301,9 +271,7 @@ fn sign(b: u8, next: u8) -> Token
 #[tactic(auto, unfolding(crate::specs::Lex::token, crate::specs::Lex::is_last))]
 pub fn token(z: &[u8]) -> Token
     ensures value { result ≡ spec.token z.now }
-    ensures within { result.len ≤ length z.now }
-    ensures moves { result.len ≡ 0 → spec.is_last result.kind ≡ true }
-    ensures ends { 0 < result.len → slice_index z.now (result.len - 1) < 128 }
+    ensures front { spec.IsAtFront z.now result }
 {
     if z.is_empty() {
         return unnumbered(Kind::End, 0);
@@ -341,4 +309,36 @@ pub fn value(alloc: Global, z: &[u8], room: usize) -> Result<Name, AllocError>
     ensures { IfOk result (λ v. v ≡ spec.value z.now) }
 {
     name_of(alloc, value_bytes(alloc, z, room)?)
+}
+
+#[tactic(auto, using(crate::proofs::Ends::ascii_in))]
+fn is_in(class: Class, b: u8) -> bool
+    ensures value { result ≡ spec.is_in class b }
+    ensures ascii { result ≡ true → b < 128 }
+{
+    match class {
+        Class::Blank => b == b' ' || b == b'\t' || b == b'\r' || b == b'\n',
+        Class::Digit => b.is_ascii_digit(),
+        Class::Word => b.is_ascii_alphanumeric() || b == b'_' || b == b'$',
+    }
+}
+
+fn byte(z: &[u8], at: usize) -> u8
+    ensures value { result ≡ slice_index z.now at }
+    ensures within { result ≢ 0 → at < length z.now }
+{
+    if at < z.len() { z[at] } else { 0 }
+}
+
+fn run(class: Class, z: &[u8]) -> usize
+    ensures value { result ≡ prefix_len (spec.is_in class) z.now }
+    ensures within { result ≤ length z.now }
+    ensures some { 0 < length z.now → spec.is_in class (slice_index z.now 0) ≡ true → 0 < result }
+    ensures last { 0 < result → slice_index z.now (result - 1) < 128 }
+{
+    let mut end = 0;
+    while end < z.len() && is_in(class, z[end]) {
+        end += 1;
+    }
+    end
 }

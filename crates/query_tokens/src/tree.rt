@@ -29,6 +29,7 @@ pub enum Cond {
     Any(Seq<Cond>),
 }
 
+/// The function of an aggregate.
 #[derive(Clone, Copy, Debug, PartialEq, Eq)]
 pub enum Func {
     Count,
@@ -53,6 +54,7 @@ pub struct Call {
     pub offset: u32,
 }
 
+/// What is selected or ordered by: a column or a call.
 #[derive(Drop)]
 pub enum Term {
     Column(NameAt),

@@ -8,8 +8,8 @@ use Rattle.std.specs.FinMap as finite
 use Rattle.std.proofs.lemmas.List.Elements.{filter-append}
 use Rattle.std.proofs.lemmas.List.{take-append-drop}
 use Rattle.values.specs.declared.value.Value.{Value}
-use Rattle.value_columns.specs.Columns.{ListedColumns, row_of as row_at}
-use Rattle.value_columns.proofs.RowLemmas.{rows-more}
+use Rattle.values.specs.Columns.{ListedColumns, row_of as row_at}
+use Rattle.values.proofs.RowLemmas.{rows-more}
 use Rattle.scan_engine.specs.Selection.{Marks}
 use Rattle.agg_laws.specs.declared.aggregate_kind.AggKind.{AggKind}
 use Rattle.agg_laws.specs.declared.states.AggState.{AggState}

@@ -2,7 +2,7 @@
 use Rattle.std.proofs.Common.{◌≡◌, ◌∙◌, ◌≤◌, [], ◌∷◌, ℕ, ℤ, pos, suc, zero, List, length, map, get_or, slice_get, Some, false, refl, sym, ap, arith}
 use Rattle.std.proofs.Math.ListN.{get_or-map}
 use Rattle.std.proofs.lemmas.List.{length-map}
-use Rattle.value_columns.specs.Columns.{Listed, ListedColumns, row_of}
+use Rattle.values.specs.Columns.{Listed, ListedColumns, row_of}
 use Rattle.values.specs.declared.value.Value.TheVariants.{Whole}
 use Rattle.table_schema.specs.Conditions.{cell}
 use Rattle.scan_engine.specs.Selection.{AreNumbersOf}

@@ -1,7 +1,7 @@
 -- The aggregates of rows in places of a table.
 use Rattle.std.proofs.Common.{◌≡◌, ◌∙◌, ◌<◌, ◌≤◌, ◌+◌, ℕ, ℤ, pos, Bool, true, false, cond, List, [], ◌∷◌, ◌++◌, map, take, length, length-append, get_or, refl, sym, ap, arith}
 use Rattle.std.proofs.lemmas.List.{map-append, take_more}
-use Rattle.value_columns.specs.Columns.{Listed, row_of}
+use Rattle.values.specs.Columns.{Listed, row_of}
 use Rattle.agg_laws.specs.declared.states.AggState.{AggState}
 use Rattle.agg_laws.specs.Rows.{RowFits}
 use Rattle.agg_laws.specs.States.{Fits, state_of}

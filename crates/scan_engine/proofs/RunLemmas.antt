@@ -8,7 +8,7 @@ use Rattle.std.specs.Option.{option_map_or}
 use Rattle.std.specs.Ordering.{eq_by_cmp}
 use Rattle.std.specs.FinMap as finite
 use Rattle.values.specs.declared.value.Value.{Value}
-use Rattle.value_columns.specs.Columns.{Listed, row_of}
+use Rattle.values.specs.Columns.{Listed, row_of}
 use Rattle.std.proofs.lemmas.List.{map-append, take-append-drop, take_more}
 use Rattle.group_table.specs.declared.fault.TableFault.{TableFault}
 use Rattle.group_table.specs.declared.fault.TableFault.TheVariants.{NoMemory}

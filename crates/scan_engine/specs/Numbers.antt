@@ -1,7 +1,7 @@
 -- Tables of whole numbers.
 use Rattle.std.specs.Prelude.{◌≡◌, false}
 use Rattle.std.specs.List.{All}
-use Rattle.value_columns.specs.Columns.{ListedColumns}
+use Rattle.values.specs.Columns.{ListedColumns}
 
 -- no column of the table is one of texts
 abbrev pub AreNumbers : ListedColumns → Type 0

@@ -2,7 +2,7 @@
 use Rattle.std.specs.Prelude.{◌≡◌, ◌<◌, ℕ, List, length, map}
 use Rattle.std.specs.List.{All}
 use Rattle.values.specs.declared.value.Value.{Value}
-use Rattle.value_columns.specs.Columns.{Listed, row_of}
+use Rattle.values.specs.Columns.{Listed, row_of}
 use Rattle.group_table.specs.Groups.{key_of}
 
 -- the rows in these places

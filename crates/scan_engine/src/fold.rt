@@ -1,33 +1,31 @@
 //! The aggregates of some rows of a table of numbers, column by column.
 
 ghost use Rattle.std.specs.Prelude.{◌≡◌, ◌≤◌, ℕ, IfOk, get_or, length, map, pos};
-ghost use Rattle.value_columns.specs.Columns.{row_of};
+ghost use Rattle.values.specs.Columns.{row_of};
 ghost use Rattle.agg_laws.specs.Numbers.{IsWhole, most_values};
 ghost use Rattle.agg_laws.specs.Rows.{RowFits};
 ghost use Rattle.agg_laws.specs.States.{Fits, state_of};
 ghost use Rattle.group_table.specs.Groups.{number_for, states_of};
-ghost use Rattle.scan_engine.specs.Numbers.{AreNumbers};
 ghost use Rattle.scan_engine.specs.Places.{rows_at};
 
 use crate::holds::numbers_of;
+use crate::number_block::NumberBlock;
 use agg_laws::{AggKind, AggState, Aggregator, Average, Count, Greatest, Least, Sum};
 use state_columns::StateRow;
 use std::alloc::Global;
 use table_schema::Agg;
-use value_columns::Columns;
 use values::NoMemory;
 
 /// The aggregates of the rows in these places.
 pub fn states_at(
     alloc: Global,
     aggs: &[Agg],
-    block: &Columns,
+    block: NumberBlock,
     places: &[u32],
 ) -> Result<StateRow, NoMemory>
-    requires numbers { AreNumbers block.now }
-    requires few { length places.now ≤ most_values }
+    requires { length places.now ≤ most_values }
     ensures states { IfOk result (λ states. states
-        ≡ states_of aggs.now (rows_at block.now.columns places.now)) }
+        ≡ states_of aggs.now (rows_at block.entry.columns.now.columns places.now)) }
     ensures fits { IfOk result (λ states. RowFits states (length places.now)) }
 {
     let mut states = StateRow::new(alloc);
@@ -38,9 +36,8 @@ pub fn states_at(
 }
 
 // The numbers of the rows for an aggregate, up to the last that is not 0 for want of a column.
-fn numbers_for<'a>(block: &'a Columns, agg: &Agg) -> &'a [i64]
-    requires { AreNumbers block.now }
-    ensures { (at : ℕ) → number_for agg.now (row_of block.now.columns at)
+fn numbers_for<'a>(block: NumberBlock<'a>, agg: &Agg) -> &'a [i64]
+    ensures { (at : ℕ) → number_for agg.now (row_of block.entry.columns.now.columns at)
         ≡ get_or result.now at (pos 0) }
 {
     match agg.column {

@@ -1,29 +1,28 @@
 //! Whether a row of a table of numbers satisfies a conjunct of a query.
 
 ghost use Rattle.std.specs.Prelude.{◌≡◌, ◌≤◌, MatchOption, length};
-ghost use Rattle.value_columns.specs.Columns.{row_of};
+ghost use Rattle.values.specs.Columns.{row_of};
 ghost use Rattle.values.specs.Tests.{holds};
 ghost use Rattle.values.specs.declared.value.Value.TheVariants as value;
 ghost use Rattle.table_schema.specs.Conditions as spec;
-ghost use Rattle.scan_engine.specs.Numbers.{AreNumbers};
 ghost use Rattle.scan_engine.specs.Selection.{AreNumbersOf};
 
+use crate::number_block::NumberBlock;
 use table_schema::{Conjunct, Wide};
-use value_columns::Columns;
 use values::{Test, Value, holds_value};
 
 /// The numbers of a field, a row each, unless the rows end before it.
 #[inline(always)]
-pub fn numbers_of(table: &Columns, field: u16) -> Option<&[i64]>
-    requires { AreNumbers table.now }
+pub fn numbers_of<'a>(table: NumberBlock<'a>, field: u16) -> Option<&'a [i64]>
     ensures { MatchOption result
-        (length table.now.columns ≤ field) (λ numbers. AreNumbersOf table.now field numbers.now) }
+        (length table.entry.columns.now.columns ≤ field)
+        (λ numbers. AreNumbersOf table.entry.columns.now field numbers.now) }
 {
     let field = usize::from(field);
-    if field >= table.width() {
+    if field >= table.columns.width() {
         return None;
     }
-    match table.column(field).as_numbers() {
+    match table.columns.column(field).as_numbers() {
         Some(numbers) => Some(numbers),
         None => unreachable!(),
     }
@@ -31,9 +30,8 @@ pub fn numbers_of(table: &Columns, field: u16) -> Option<&[i64]>
 
 /// The number of a field in a row; beyond the row's end it is 0.
 #[inline(always)]
-pub fn number_in(table: &Columns, at: usize, field: u16) -> i64
-    requires { AreNumbers table.now }
-    ensures { spec.cell (row_of table.now.columns at) field ≡ value.Whole result }
+pub fn number_in(table: NumberBlock, at: usize, field: u16) -> i64
+    ensures { spec.cell (row_of table.entry.columns.now.columns at) field ≡ value.Whole result }
 {
     let Some(numbers) = numbers_of(table, field) else {
         return 0;
@@ -45,16 +43,15 @@ pub fn number_in(table: &Columns, at: usize, field: u16) -> i64
 }
 
 // Whether the value of a field in a row satisfies a test.
-fn test_at(table: &Columns, at: usize, field: u16, test: &Test) -> bool
-    requires { AreNumbers table.now }
-    ensures { result ≡ holds (spec.cell (row_of table.now.columns at) field) test.now }
+fn test_at(table: NumberBlock, at: usize, field: u16, test: &Test) -> bool
+    ensures { result
+        ≡ holds (spec.cell (row_of table.entry.columns.now.columns at) field) test.now }
 {
     holds_value(test, &Value::Whole(number_in(table, at, field)))
 }
 
-fn wide_holds(table: &Columns, at: usize, wide: &Wide) -> bool
-    requires { AreNumbers table.now }
-    ensures { result ≡ spec.wide_holds (row_of table.now.columns at) wide.now }
+fn wide_holds(table: NumberBlock, at: usize, wide: &Wide) -> bool
+    ensures { result ≡ spec.wide_holds (row_of table.entry.columns.now.columns at) wide.now }
 {
     match wide {
         Wide::Leaf(field, test) => test_at(table, at, *field, test),
@@ -78,9 +75,9 @@ fn wide_holds(table: &Columns, at: usize, wide: &Wide) -> bool
 }
 
 /// Whether a row of a table of numbers satisfies a conjunct.
-pub fn conjunct_holds(table: &Columns, at: usize, conjunct: &Conjunct) -> bool
-    requires { AreNumbers table.now }
-    ensures { result ≡ spec.conjunct_holds (row_of table.now.columns at) conjunct.now }
+pub fn conjunct_holds(table: NumberBlock, at: usize, conjunct: &Conjunct) -> bool
+    ensures { result
+        ≡ spec.conjunct_holds (row_of table.entry.columns.now.columns at) conjunct.now }
 {
     match conjunct {
         Conjunct::One(field, test) => test_at(table, at, *field, test),

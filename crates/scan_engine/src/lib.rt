@@ -4,6 +4,7 @@
 mod block;
 mod fold;
 mod holds;
+mod number_block;
 mod places;
 mod row_by_row;
 mod run;

@@ -1,38 +1,30 @@
 //! Rows added one by one, by one key and one list of numbers that are filled again for each.
 
-ghost use Rattle.std.specs.Prelude.{◌≡◌, ◌≤◌, ◌-◌, ◌∷◌, [], Err, IfOk, OnOk, length, map};
-ghost use Rattle.agg_laws.specs.Numbers.{AreWhole, IsWhole, most_values};
-ghost use Rattle.value_columns.specs.Columns.{row_of};
-ghost use Rattle.group_table.specs.declared.fault.TableFault.TheVariants.{TooManyGroups};
+ghost use Rattle.std.specs.Prelude.{◌≡◌, ◌-◌, ◌∷◌, [], Err, IfOk, OnOk, length, map};
+ghost use Rattle.agg_laws.specs.Numbers.{AreWhole, IsWhole};
+ghost use Rattle.values.specs.Columns.{row_of};
 ghost use Rattle.group_table.specs.Groups.{key_of, number_for};
-ghost use Rattle.group_table.specs.Kept.{IsTableOf, groups_in};
-ghost use Rattle.scan_engine.specs.Numbers.{AreNumbers};
 ghost use Rattle.scan_engine.specs.Places.{rows_at};
-ghost use Rattle.scan_engine.specs.Scanned.{AddsRows, HaveAtMost, IsOverfull};
+ghost use Rattle.scan_engine.specs.Scanned.{AddsOrFull, HasRoom};
 
 use crate::holds::number_in;
+use crate::number_block::NumberBlock;
 use group_table::{GroupTable, TableFault};
 use std::alloc::Global;
 use table_schema::{Agg, BoundQuery};
-use value_columns::{Columns, Row};
-use values::{NoMemory, Value};
+use values::{NoMemory, Row, Value};
 
 /// Adds the rows in these places one by one.
 pub fn add_singly(
     alloc: Global,
     query: &BoundQuery,
-    block: &Columns,
+    block: NumberBlock,
     places: &[u32],
     table: &mut GroupTable,
 ) -> Result<(), TableFault>
-    requires numbers { AreNumbers block.now }
-    requires table { IsTableOf query.now table.old }
-    requires few { length places.now ≤ most_values }
-    requires fits { HaveAtMost (most_values - length places.now) (groups_in table.old) }
-    ensures ok { OnOk result (AddsRows query.now (length places.now)
-        (rows_at block.now.columns places.now) table.old table.new) }
-    ensures full { result ≡ Err TooManyGroups
-        → IsOverfull query.now (rows_at block.now.columns places.now) table.old }
+    requires { HasRoom query.now (length places.now) table.old }
+    ensures { AddsOrFull query.now (length places.now)
+        (rows_at block.entry.columns.now.columns places.now) table.old table.new result }
 {
     let mut key = Row::with_capacity(alloc, query.groups.len())?;
     let mut values = Vec::with_capacity(alloc, query.aggs.len())?;
@@ -57,19 +49,15 @@ pub fn add_singly(
 fn add_one(
     alloc: Global,
     query: &BoundQuery,
-    block: &Columns,
+    block: NumberBlock,
     at: usize,
     spare: Row,
     values: &mut Vec<i64>,
     table: &mut GroupTable,
 ) -> Result<Row, TableFault>
-    requires numbers { AreNumbers block.now }
-    requires table { IsTableOf query.now table.old }
-    requires fits { HaveAtMost (most_values - 1) (groups_in table.old) }
-    ensures ok { OnOk result (AddsRows query.now 1 (row_of block.now.columns at ∷ [])
-        table.old table.new) }
-    ensures full { result ≡ Err TooManyGroups
-        → IsOverfull query.now (row_of block.now.columns at ∷ []) table.old }
+    requires { HasRoom query.now 1 table.old }
+    ensures { AddsOrFull query.now 1 (row_of block.entry.columns.now.columns at ∷ [])
+        table.old table.new result }
 {
     let key = key_in(spare, block, at, query.groups.as_slice())?;
     fill_values(block, at, query.aggs.as_slice(), values)?;
@@ -80,9 +68,9 @@ fn add_one(
 }
 
 // The key of a row, its numbers in the group columns, in the place of a list that is let go.
-fn key_in(spare: Row, block: &Columns, at: usize, columns: &[u16]) -> Result<Row, NoMemory>
-    requires { AreNumbers block.now }
-    ensures { IfOk result (λ key. key ≡ key_of columns.now (row_of block.now.columns at)) }
+fn key_in(spare: Row, block: NumberBlock, at: usize, columns: &[u16]) -> Result<Row, NoMemory>
+    ensures { IfOk result (λ key. key
+        ≡ key_of columns.now (row_of block.entry.columns.now.columns at)) }
 {
     let mut key = spare.into_vec();
     key.clear();
@@ -94,14 +82,13 @@ fn key_in(spare: Row, block: &Columns, at: usize, columns: &[u16]) -> Result<Row
 
 // The numbers of a row for the aggregates.
 fn fill_values(
-    block: &Columns,
+    block: NumberBlock,
     at: usize,
     aggs: &[Agg],
     values: &mut Vec<i64>,
 ) -> Result<(), NoMemory>
-    requires { AreNumbers block.now }
     ensures values { OnOk result (values.new.items
-        ≡ map (λ agg. number_for agg (row_of block.now.columns at)) aggs.now) }
+        ≡ map (λ agg. number_for agg (row_of block.entry.columns.now.columns at)) aggs.now) }
     ensures whole { OnOk result (AreWhole values.new.items) }
 {
     values.clear();
@@ -112,9 +99,8 @@ fn fill_values(
 }
 
 // The number of a row for an aggregate; rows are counted by any.
-fn number_of(block: &Columns, at: usize, agg: &Agg) -> i64
-    requires { AreNumbers block.now }
-    ensures value { result ≡ number_for agg.now (row_of block.now.columns at) }
+fn number_of(block: NumberBlock, at: usize, agg: &Agg) -> i64
+    ensures value { result ≡ number_for agg.now (row_of block.entry.columns.now.columns at) }
     ensures whole { IsWhole result }
 {
     match agg.column {

@@ -1,39 +1,36 @@
 //! Which rows of a table satisfy conjuncts: each condition is tested over whole columns.
 ghost use Rattle.std.specs.Prelude.{◌≡◌, ◌&&◌, IfOk, get_or, length, pos};
-ghost use Rattle.value_columns.specs.Columns.{row_of};
+ghost use Rattle.values.specs.Columns.{row_of};
 ghost use Rattle.values.specs.Order.{value_order};
 ghost use Rattle.values.specs.Tests.{op_holds};
 ghost use Rattle.values.specs.declared.value.Value.TheVariants as value;
 ghost use Rattle.table_schema.specs.Conditions as spec;
-ghost use Rattle.scan_engine.specs.Numbers.{AreNumbers};
 ghost use Rattle.scan_engine.specs.Selection.{Keeps, Marks};
 
 use crate::holds::{conjunct_holds, numbers_of};
+use crate::number_block::NumberBlock;
 use std::alloc::{AllocError, Global};
 use table_schema::Conjunct;
-use value_columns::Columns;
 use values::{CompareOp, Test, Value, op_holds};
 
 /// A mark for each row of a table of numbers, whether it satisfies all of these.
 pub fn mark_rows(
     alloc: Global,
-    table: &Columns,
+    table: NumberBlock,
     conjuncts: &[Conjunct],
 ) -> Result<Vec<bool>, AllocError>
-    requires { AreNumbers table.now }
     ensures { IfOk result (λ marks.
-        Marks (λ row. spec.all_hold row conjuncts.now) table.now marks.items) }
+        Marks (λ row. spec.all_hold row conjuncts.now) table.entry.columns.now marks.items) }
 {
-    let mut marks = vec![in alloc; true; table.len()]?;
+    let mut marks = vec![in alloc; true; table.columns.len()]?;
     keep_all(&mut marks, table, conjuncts);
     Ok(marks)
 }
 
 // Leaves the marks of the rows that satisfy all of these.
-fn keep_all(marks: &mut [bool], table: &Columns, conjuncts: &[Conjunct])
-    requires numbers { AreNumbers table.now }
-    requires count { length marks.old ≡ table.now.count }
-    ensures { Keeps (λ at. spec.all_hold (row_of table.now.columns at) conjuncts.now)
+fn keep_all(marks: &mut [bool], table: NumberBlock, conjuncts: &[Conjunct])
+    requires { length marks.old ≡ table.columns.now.count }
+    ensures { Keeps (λ at. spec.all_hold (row_of table.entry.columns.now.columns at) conjuncts.now)
         marks.old marks.new }
 {
     for conjunct in conjuncts {
@@ -41,10 +38,10 @@ fn keep_all(marks: &mut [bool], table: &Columns, conjuncts: &[Conjunct])
     }
 }
 
-fn keep_conjunct(marks: &mut [bool], table: &Columns, conjunct: &Conjunct)
-    requires numbers { AreNumbers table.now }
-    requires count { length marks.old ≡ table.now.count }
-    ensures { Keeps (λ at. spec.conjunct_holds (row_of table.now.columns at) conjunct.now)
+fn keep_conjunct(marks: &mut [bool], table: NumberBlock, conjunct: &Conjunct)
+    requires { length marks.old ≡ table.columns.now.count }
+    ensures { Keeps (λ at. spec.conjunct_holds
+        (row_of table.entry.columns.now.columns at) conjunct.now)
         marks.old marks.new }
 {
     if let Conjunct::One(field, Test::Compare(op, Value::Whole(bound))) = conjunct {
@@ -76,9 +73,9 @@ fn keep_compared(marks: &mut [bool], numbers: &[i64], op: CompareOp, bound: &i64
 }
 
 // Leaves the marks of the rows that satisfy a conjunct, row by row.
-fn keep_rows(marks: &mut [bool], table: &Columns, conjunct: &Conjunct)
-    requires { AreNumbers table.now }
-    ensures { Keeps (λ at. spec.conjunct_holds (row_of table.now.columns at) conjunct.now)
+fn keep_rows(marks: &mut [bool], table: NumberBlock, conjunct: &Conjunct)
+    ensures { Keeps (λ at. spec.conjunct_holds
+        (row_of table.entry.columns.now.columns at) conjunct.now)
         marks.old marks.new }
 {
     for at in 0..marks.len() {

@@ -1,12 +1,12 @@
 -- The walk over the places of a schema, beside the fields that were read so far.
 use Rattle.std.proofs.Common.{◌≡◌, ℕ, ◌+◌, ◌<◌, List, [], ◌∷◌, ◌++◌, length, get_or, take, drop, map, None, refl, sym, ap, ◌∙◌}
-use Rattle.field_json.specs.declared.entry.Entry as code
+use Rattle.schema_json.specs.declared.entry.Entry as code
 use Rattle.table_schema.specs.declared.field.Field.{Field}
 use Rattle.json_keys.specs.declared.fault.TextFault.{TextFault}
 use Rattle.json_keys.specs.Faults.{Finding, Refuses}
-use Rattle.field_json.specs.Fields.{Entry, field_of, name_of, field_finding}
+use Rattle.schema_json.specs.Fields.{Entry, field_of, name_of, field_finding}
 use Rattle.schema_json.specs.Schemas.{fields_finding}
-use Rattle.field_json.specs.Entries.{seen}
+use Rattle.schema_json.specs.Entries.{seen}
 use Rattle.json_keys.proofs.Places.{done_more, map-append, refused_here, passed_here}
 use Rattle.table_schema.specs.Firsts.{by_place}
 

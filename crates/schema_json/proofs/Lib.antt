@@ -1,3 +1,4 @@
+pub mod FieldLaw
 pub mod FieldWalk
 pub mod FieldSteps
 pub mod SchemaLaw

@@ -9,9 +9,9 @@ use Rattle.table_schema.specs.declared.field.Schema.{Schema}
 use Rattle.json_keys.specs.declared.fault.KeyKind.TheVariants.{MissingKey}
 use Rattle.json_keys.specs.Faults.{Gives, fault_if}
 use Rattle.json_keys.specs.Keys.{optional_array}
-use Rattle.field_json.specs.Fields.{Entry, name_of, list_key, field_of, all_entries, is_none_listed, lists_finding}
+use Rattle.schema_json.specs.Fields.{Entry, name_of, list_key, field_of, all_entries, is_none_listed, lists_finding}
 use Rattle.schema_json.specs.Schemas.{head_finding, fields_finding, schema_finding, schema_of}
-use Rattle.field_json.proofs.FieldLaw.{field_checked}
+use Rattle.schema_json.proofs.FieldLaw.{field_checked}
 use Rattle.table_schema.specs.Valid.{is_valid_field, no_repeat, IsValidSchema}
 use Rattle.schema_json.proofs.FieldWalk.{check, names_of}
 use Rattle.json_keys.proofs.Checks.{if_none, both_true}

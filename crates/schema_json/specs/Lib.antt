@@ -1,1 +1,4 @@
+pub mod Defaults
+pub mod Fields
+pub mod Entries
 pub mod Schemas

@@ -8,7 +8,7 @@ use Rattle.json_keys.specs.Json.{json_of}
 use Rattle.json_keys.specs.Faults.{Finding}
 use Rattle.json_keys.specs.Readings.{read_by}
 use Rattle.json_keys.specs.Keys.{object_finding, required_text, unused_key, refused_bool}
-use Rattle.field_json.specs.Fields.{Entry, all_entries, lists_finding, name_of, field_finding, field_of}
+use Rattle.schema_json.specs.Fields.{Entry, all_entries, lists_finding, name_of, field_finding, field_of}
 use Rattle.table_schema.specs.Firsts.{first_of, by_place}
 
 -- the checks of the keys beside the three lists; null handling by column may not be enabled

@@ -2,16 +2,16 @@
 
 ghost use Rattle.std.specs.Prelude.{◌≡◌, ◌∷◌, [], map, codes};
 ghost use Rattle.serde_json.specs.View.{view};
-ghost use Rattle.field_json.specs.Defaults.{default_finding};
-ghost use Rattle.field_json.specs.Entries.{seen};
-ghost use Rattle.field_json.specs.Fields as spec;
+ghost use Rattle.schema_json.specs.Defaults.{default_finding};
+ghost use Rattle.schema_json.specs.Entries.{seen};
+ghost use Rattle.schema_json.specs.Fields as spec;
 ghost use Rattle.json_keys.specs.declared.fault.KeyKind.TheVariants.{DuplicateColumn};
 ghost use Rattle.json_keys.specs.Faults.{Gives, below, fault_if};
 ghost use Rattle.table_schema.specs.Firsts.{first_of};
 ghost use Rattle.table_schema.specs.Names.{is_among as is_among_names};
 
+use crate::{Entry, check_support, is_among, path_of, read_default, read_kind, read_name};
 use data_types::Name;
-use field_json::{Entry, check_support, is_among, path_of, read_default, read_kind, read_name};
 use json_keys::{KeyKind, TextFault, check_object, fault_at, key_fault};
 use std::alloc::Global;
 use table_schema::Field;
@@ -50,7 +50,8 @@ fn named_field(
     ensures { Gives (first_of
         (spec.type_finding base.now entry.now.role (view entry.now.json.now)
         ∷ spec.support_finding base.now (view entry.now.json.now)
-        ∷ default_finding base.now (spec.kind_of (view entry.now.json.now)) (view entry.now.json.now)
+        ∷ default_finding base.now (spec.kind_of (view entry.now.json.now))
+        (view entry.now.json.now)
         ∷ fault_if (is_among_names (map (λ field. field.name) fields.now) name.now) DuplicateColumn
         (below base.now (codes "name")) ∷ []))
         (spec.field_of (seen entry.now)) result }

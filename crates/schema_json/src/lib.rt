@@ -1,9 +1,16 @@
 //! Schemas, as Pinot's users write them in JSON.
+//! The fields that a schema in JSON describes: where they are, and what each says.
 #![tactic(auto)]
 
+mod defaults;
+mod entry;
 mod field_text;
 mod laws;
+mod parts;
 mod schema_text;
 
+pub use defaults::read_default;
+pub use entry::{Entry, path_of, read_lists};
 pub use laws::schema_law;
+pub use parts::{check_support, is_among, read_kind, read_name};
 pub use schema_text::read_schema;

@@ -3,14 +3,14 @@
 ghost use Rattle.std.specs.Prelude.{◌≡◌, ◌≢◌, IfOk, IfErr, map};
 ghost use Rattle.serde_json.specs.View.{view};
 ghost use Rattle.schema_json.specs.Schemas as spec;
-ghost use Rattle.field_json.specs.Entries.{seen};
-ghost use Rattle.field_json.specs.Fields.{field_of};
+ghost use Rattle.schema_json.specs.Entries.{seen};
+ghost use Rattle.schema_json.specs.Fields.{field_of};
 ghost use Rattle.json_keys.specs.Faults.{Gives, Passes};
 ghost use Rattle.table_schema.specs.Valid.{IsValidSchema};
 
 use crate::field_text::read_field;
+use crate::{Entry, read_lists};
 use data_types::Seq;
-use field_json::{Entry, read_lists};
 use json_keys::{TextFault, check_not, check_object, check_unused, read_json, required_text};
 use serde_json::Value as Json;
 use std::alloc::Global;

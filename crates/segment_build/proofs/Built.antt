@@ -2,8 +2,8 @@
 use Rattle.std.proofs.Common.{◌≡◌, ◌<◌, ◌≤◌, ◌+◌, ◌^◌, ◌∙◌, ◌∷◌, ◌++◌, [], true, false, ℕ, List, Option, Some, Result, Ok, Err, IfOk, length, map, get_or, slice_get, sym, ap, subst, arith}
 use Rattle.std.specs.List.{All, concat}
 use Rattle.values.specs.declared.value.Value.{Value}
-use Rattle.value_columns.specs.Columns.{Counts, Listed, ListedColumns, rows_of}
-use Rattle.value_columns.proofs.RowLemmas.{length-rows}
+use Rattle.values.specs.Columns.{Counts, Listed, ListedColumns, rows_of}
+use Rattle.values.proofs.RowLemmas.{length-rows}
 use Rattle.table_schema.specs.ValidTable.{AreRows, IsRow, IsValidTable}
 use Rattle.table_schema.specs.declared.field.Field.{Field}
 use Rattle.table_schema.specs.declared.table.Table.{Table}
@@ -13,24 +13,24 @@ use Rattle.segment_file.specs.Front.{Front, file_end, front_bytes}
 use Rattle.segment_file.specs.Image.{front_of, image, sections_of_rows, values_in}
 use Rattle.segment_file.specs.Names.{IsSegmentName}
 use Rattle.segment_file.specs.Ordered.{ordered, value_in}
-use Rattle.segment_columns.specs.Fitting.{AreColumns, FitsKind}
-use Rattle.segment_columns.specs.declared.coding.RowOrder.{RowOrder}
-use Rattle.segment_columns.specs.Arranging.{Orders, OrdersBy}
-use Rattle.segment_columns.proofs.ColumnLemmas.{column_values}
+use Rattle.segment_build.specs.Fitting.{AreColumns, FitsKind}
+use Rattle.segment_build.specs.declared.coding.RowOrder.{RowOrder}
+use Rattle.segment_build.specs.Arranging.{Orders, OrdersBy}
+use Rattle.segment_build.proofs.ColumnLemmas.{column_values}
 use Rattle.segment_build.proofs.SectionLemmas.{made_all}
-use Rattle.segment_columns.proofs.Stable.{ordered_count, same_distinct}
+use Rattle.segment_build.proofs.Stable.{ordered_count, same_distinct}
 use Rattle.std.proofs.lemmas.List.{length-map}
 use Rattle.std.proofs.lemmas.Bool.{ltb-true}
 use Rattle.std.proofs.lemmas.Option.{get_or_from_slice_get}
 use Rattle.table_schema.specs.ValidSettings.{IsValidTree, is_known_number}
-use Rattle.segment_columns.proofs.Fits.{column_fit, columns_fit, rows_few}
+use Rattle.segment_build.proofs.Fits.{column_fit, columns_fit, rows_few}
 use Rattle.segment_build.proofs.Sizes.{IsModest, IsSmall, file_short, made_small, nodes_small, short_values, stars_small}
 use Rattle.segment_build.specs.Growing.{TreesFit, nodes_grown, stars_grown}
 use Rattle.segment_file.proofs.ImageRows.{ordered_all}
 use Rattle.segment_file.proofs.TreeRows.{TreeSections, tree_sections}
 use Rattle.segment_file.specs.Trees.{TreeFits}
 use Rattle.table_schema.specs.declared.settings.TreeSetting.{TreeSetting}
-use Rattle.segment_columns.proofs.CodedColumns.{in_rows, rows_most}
+use Rattle.segment_build.proofs.CodedColumns.{in_rows, rows_most}
 
 no_column : Listed
 no_column = record { are_texts = false; values = [] }

@@ -4,7 +4,7 @@ use Rattle.std.specs.Prelude.{slice_get}
 use Rattle.std.specs.List.{list_all}
 use Rattle.std.proofs.lemmas.Bool.Decides.{nat_tests}
 use Rattle.std.proofs.lemmas.List.Elements.{All-cons, All-head, All-nil, All-tail}
-use Rattle.tree_laws.specs.Flat.{tree_bytes}
+use Rattle.star_tree.specs.Flat.{tree_bytes}
 use Rattle.agg_laws.specs.Rows.{merged_rows}
 use Rattle.star_file.specs.Reading.{doc_width}
 use Rattle.star_file.specs.Rules.{most_bytes}

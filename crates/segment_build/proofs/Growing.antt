@@ -8,8 +8,8 @@ use Rattle.std.proofs.lemmas.List.{get_or-map, length-map, map-append, take_all,
 use Rattle.std.proofs.lemmas.List.Elements.{All-head, All-map, All-nil, All-cons, All-push, All-tail}
 use Rattle.std.proofs.lemmas.Simd.{map-map}
 use Rattle.values.specs.declared.value.Value.{Value}
-use Rattle.value_columns.specs.Columns.{Listed, ListedColumns, rows_of}
-use Rattle.value_columns.proofs.RowLemmas.{length-rows}
+use Rattle.values.specs.Columns.{Listed, ListedColumns, rows_of}
+use Rattle.values.proofs.RowLemmas.{length-rows}
 use Rattle.agg_laws.specs.declared.aggregate_kind.AggKind.{AggKind}
 use Rattle.agg_laws.specs.declared.aggregate_kind.AggKind.TheVariants as kinds
 use Rattle.state_columns.specs.Docs.{Doc, projected}
@@ -24,10 +24,10 @@ use Rattle.star_rows.specs.Columns as records
 use Rattle.segment_file.specs.Columns.{ids_of, place_of, values_in}
 use Rattle.segment_file.specs.Ordered.{value_in}
 use Rattle.segment_file.specs.Trees.{TreeFits, documents, id_in, number_for, number_of, tree_row}
-use Rattle.segment_columns.specs.Fitting.{AreColumns}
-use Rattle.segment_columns.specs.Numbers.{IsKnown, numbers_for}
-use Rattle.segment_columns.proofs.ColumnLemmas.{column_values}
-use Rattle.segment_columns.proofs.Stable.{ids_count}
+use Rattle.segment_build.specs.Fitting.{AreColumns}
+use Rattle.segment_build.specs.Numbers.{IsKnown, numbers_for}
+use Rattle.segment_build.proofs.ColumnLemmas.{column_values}
+use Rattle.segment_build.proofs.Stable.{ids_count}
 
 -- ---- rows by columns
 

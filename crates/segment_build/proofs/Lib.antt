@@ -1,3 +1,10 @@
+pub mod Fits
+pub mod ColumnLemmas
+pub mod Stable
+pub mod Arranged
+pub mod CodedColumns
+pub mod RowLemmas
+pub mod NumberLemmas
 pub mod FitTests
 pub mod SectionLemmas
 pub mod TreeMerging

@@ -14,8 +14,8 @@ use Rattle.table_schema.specs.ValidTable.{IsValidTable}
 use Rattle.bit_column.specs.Postings.{inverted, ranged}
 use Rattle.std.specs.Prelude.{slice_get}
 use Rattle.segment_build.specs.Growing.{nodes_grown, stars_grown}
-use Rattle.segment_columns.specs.Sections.{in_order, made_of}
-use Rattle.segment_columns.proofs.ColumnLemmas.{sorted_all}
+use Rattle.segment_build.specs.Sections.{in_order, made_of}
+use Rattle.segment_build.proofs.ColumnLemmas.{sorted_all}
 
 -- what is made of each item of a list is made of their numbers
 numbered : {X Y : Type 0} (f : X → Y) (g : ℕ → Y) (xs : List X) (from : ℕ) → ((i : ℕ) (x : X) → slice_get xs i ≡ Some x → g (from + i) ≡ f x) → map f xs ≡ map g (range_with_len from (length xs))

@@ -32,7 +32,7 @@ use Rattle.segment_file.specs.Parts.{marked, sections_of}
 use Rattle.segment_file.specs.declared.part.Part.TheVariants as parts
 use Rattle.segment_file.proofs.BoundLemmas.{fits_short}
 use Rattle.segment_file.proofs.Counts.{few_sections}
-use Rattle.segment_columns.proofs.Stable.{ids_below, ids_count}
+use Rattle.segment_build.proofs.Stable.{ids_below, ids_count}
 use Rattle.bit_column.specs.Postings.{bucket_of, buckets_for}
 use Rattle.bit_column.proofs.PostingLaws.{buckets_in, posting_length}
 use Rattle.bit_column.proofs.SortedLaws.{sorted_length}
@@ -44,7 +44,7 @@ use Rattle.table_schema.specs.ValidSettings.{IsValidTree}
 use Rattle.segment_file.specs.Trees.{TreeFits, nodes_of, star_of}
 use Rattle.segment_file.proofs.TreeRows.{tree_sections}
 use Rattle.segment_build.specs.Growing.{nodes_grown, stars_grown}
-use Rattle.segment_columns.specs.Sections.{in_order, made_of, sorted_among}
+use Rattle.segment_build.specs.Sections.{in_order, made_of, sorted_among}
 use borrow.Author.Tests.{leb-true}
 
 -- ---- the distinct values of a column

@@ -21,7 +21,7 @@ use Rattle.table_schema.specs.declared.settings.TreeSetting.{TreeSetting}
 use Rattle.segment_file.specs.Columns.{place_of}
 use Rattle.segment_file.specs.Ordered.{ordered, placed, sorted_by, value_in}
 use Rattle.segment_file.specs.Trees.{documents, number_for, tree_row}
-use Rattle.segment_columns.proofs.Stable.{same_distinct}
+use Rattle.segment_build.proofs.Stable.{same_distinct}
 
 -- merged documents are merged again in vain
 pub merged_again : (docs rows : List Doc) → docs ≡ merged_docs merged_rows rows

@@ -1,21 +1,20 @@
 //! The file of a segment is made.
-ghost use Rattle.std.specs.Prelude.{◌≡◌, ◌<◌, ◌⊎◌, ℕ, length, Err, IfErr, IfOk, OnErr, OnOk, IsErrOf};
+ghost use Rattle.std.specs.Prelude.{◌≡◌, ◌<◌, length, Err, IfOk};
 ghost use Rattle.table_schema.specs.ValidTable.{AreRows, IsValidTable};
-ghost use Rattle.value_columns.specs.Columns.{rows_of};
+ghost use Rattle.values.specs.Columns.{rows_of};
 ghost use Rattle.segment_file.specs.Image.{image, sections_of_rows};
 ghost use Rattle.segment_file.specs.Names.{IsSegmentName};
 ghost use Rattle.segment_file.specs.Ordered.{ordered};
-ghost use Rattle.segment_columns.specs.Arranging.{Orders};
-ghost use Rattle.segment_columns.specs.Fitting.{AreColumns};
-ghost use Rattle.segment_build.specs.Growing.{IsTooLarge, TreesFit};
+ghost use Rattle.segment_build.specs.Arranging.{Orders};
+ghost use Rattle.segment_build.specs.Fitting.{AreOfTable};
+ghost use Rattle.segment_build.specs.Growing.{IsBuilt};
 
 use crate::trees::grow_trees;
-use crate::{BuildFault, row_order};
+use crate::{BuildFault, RowOrder, column_sections, columns_of, file_of, row_order};
 use outside::{Bytes, Seq};
-use segment_columns::{RowOrder, column_sections, columns_of, file_of};
 use std::alloc::Global;
 use table_schema::Table;
-use value_columns::{Columns, Rows};
+use values::{Columns, Rows};
 
 /// The file of a segment of these rows, which are kept column by column.
 ///
@@ -32,12 +31,9 @@ pub fn build_columns(
     requires name { IsSegmentName name.now }
     requires width { length columns.now.columns ≡ length table.now.schema.fields }
     requires rows { AreRows table.now.schema.fields (rows_of columns.now) }
-    ensures image { IfOk result (λ bytes. bytes ≡ image 1 table.now name.now (rows_of columns.now)) }
-    ensures fits { OnOk result (TreesFit table.now (rows_of columns.now)) }
-    ensures too_large { IfErr result (λ fault. (tree : ℕ) → fault ≡ BuildFault.TooLarge tree →
-        IsTooLarge table.now (rows_of columns.now) tree) }
-    ensures only { OnErr result (IsErrOf result BuildFault.NoMemory
-        ⊎ ((tree : ℕ) × (result ≡ Err (BuildFault.TooLarge tree)))) }
+    ensures image { IfOk result (λ bytes. bytes ≡ image 1 table.now name.now
+        (rows_of columns.now)) }
+    ensures built { IsBuilt table.now (rows_of columns.now) result }
 {
     let rows = columns.len() as u32;
     let sections = match sections_of_columns(alloc, table, columns) {
@@ -59,11 +55,7 @@ pub fn build_image(
     requires name { IsSegmentName name.now }
     requires rows { AreRows table.now.schema.fields rows.now }
     ensures image { IfOk result (λ bytes. bytes ≡ image 1 table.now name.now rows.now) }
-    ensures fits { OnOk result (TreesFit table.now rows.now) }
-    ensures too_large { IfErr result (λ fault. (tree : ℕ) → fault ≡ BuildFault.TooLarge tree →
-        IsTooLarge table.now rows.now tree) }
-    ensures only { OnErr result (IsErrOf result BuildFault.NoMemory
-        ⊎ ((tree : ℕ) × (result ≡ Err (BuildFault.TooLarge tree)))) }
+    ensures built { IsBuilt table.now rows.now result }
 {
     let columns = columns_of(alloc, table.schema.fields.as_slice(), rows)?;
     build_columns(alloc, table, name, &columns)
@@ -75,15 +67,10 @@ fn sections_of_columns(
     table: &Table,
     columns: &Columns,
 ) -> Result<Vec<Bytes>, BuildFault>
-    requires valid { IsValidTable table.now }
-    requires columns { AreColumns table.now.schema.fields columns.now }
+    requires rows { AreOfTable table.now columns.now }
     ensures sections { IfOk result (λ all. all.items ≡ sections_of_rows table.now
         (ordered table.now.settings.sorted (rows_of columns.now))) }
-    ensures fits { OnOk result (TreesFit table.now (rows_of columns.now)) }
-    ensures too_large { IfErr result (λ fault. (tree : ℕ) → fault ≡ BuildFault.TooLarge tree →
-        IsTooLarge table.now (rows_of columns.now) tree) }
-    ensures only { OnErr result (IsErrOf result BuildFault.NoMemory
-        ⊎ ((tree : ℕ) × (result ≡ Err (BuildFault.TooLarge tree)))) }
+    ensures built { IsBuilt table.now (rows_of columns.now) result }
 {
     let order = row_order(alloc, table, columns)?;
     sections_in(alloc, table, columns, &order)
@@ -96,16 +83,11 @@ fn sections_in(
     columns: &Columns,
     order: &RowOrder,
 ) -> Result<Vec<Bytes>, BuildFault>
-    requires valid { IsValidTable table.now }
-    requires columns { AreColumns table.now.schema.fields columns.now }
+    requires rows { AreOfTable table.now columns.now }
     requires order { Orders table.now.settings.sorted (rows_of columns.now) order.now }
     ensures sections { IfOk result (λ all. all.items ≡ sections_of_rows table.now
         (ordered table.now.settings.sorted (rows_of columns.now))) }
-    ensures fits { OnOk result (TreesFit table.now (rows_of columns.now)) }
-    ensures too_large { IfErr result (λ fault. (tree : ℕ) → fault ≡ BuildFault.TooLarge tree →
-        IsTooLarge table.now (rows_of columns.now) tree) }
-    ensures only { OnErr result (IsErrOf result BuildFault.NoMemory
-        ⊎ ((tree : ℕ) × (result ≡ Err (BuildFault.TooLarge tree)))) }
+    ensures built { IsBuilt table.now (rows_of columns.now) result }
 {
     let made = column_sections(alloc, table, columns, order)?;
     let trees = match grow_trees(alloc, table, columns) {

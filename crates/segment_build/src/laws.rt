@@ -1,5 +1,5 @@
 //! Laws of tables. Each is the contract of a function that does nothing.
-ghost use Rattle.segment_columns.specs.Fitting.{ColumnsFit};
+ghost use Rattle.segment_build.specs.Fitting.{ColumnsFit};
 ghost use Rattle.segment_build.specs.Growing.{FitIsTested, LargeIsTested};
 
 /// Of each column of a table a dictionary can be made, of the kind of its field.

@@ -1,16 +1,31 @@
 //! A segment's file is made of the columns of its rows.
+//! The columns of a segment's rows, and what is made of each: its ids in the order of the rows, its
+//! sections, and the numbers of pairs. The file of all sections.
 #![tactic(auto)]
 
 mod build;
+mod coding;
+mod columns;
 mod fault;
+mod file;
+mod grown;
+mod indexes;
 mod laws;
+mod numbers;
 mod order;
 mod publish;
+mod sections;
 mod trees;
 
 pub use build::{build_columns, build_image};
+pub use coding::{RowOrder, coded, ids_as_given};
+pub use columns::columns_of;
 pub use fault::BuildFault;
+pub use file::file_of;
+pub use grown::{Grown, push_tree};
+pub use indexes::{Indexes, indexes_at};
 pub use laws::{columns_fit_law, trees_fit_law};
+pub use numbers::pair_numbers;
 pub use order::row_order;
 pub use publish::{INCOMING, publish_file, write_columns, write_segment};
-pub use segment_columns::columns_of;
+pub use sections::{Sections, column_sections};

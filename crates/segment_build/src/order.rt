@@ -1,23 +1,21 @@
 //! The order in which a segment has its rows.
 ghost use Rattle.std.specs.Prelude.{◌<◌, IfOk};
-ghost use Rattle.value_columns.specs.Columns.{rows_of};
-ghost use Rattle.table_schema.specs.ValidTable.{IsValidTable};
-ghost use Rattle.segment_columns.specs.Arranging.{Orders, OrdersBy};
-ghost use Rattle.segment_columns.specs.Fitting.{AreColumns, FitsKind};
+ghost use Rattle.values.specs.Columns.{rows_of};
+ghost use Rattle.segment_build.specs.Arranging.{Orders, OrdersBy};
+ghost use Rattle.segment_build.specs.Fitting.{AreOfTable, FitsKind};
 
+use crate::RowOrder;
 use data_types::FieldKind;
 use dictionary::Dictionary;
 use inverted_lists::places_by_id;
 use outside::NoMemory;
-use segment_columns::RowOrder;
 use std::alloc::Global;
 use table_schema::Table;
-use value_columns::{Column, Columns};
+use values::{Column, Columns};
 
 /// The order of the rows of a table: the stable one of its sorted column, where it has one.
 pub fn row_order(alloc: Global, table: &Table, columns: &Columns) -> Result<RowOrder, NoMemory>
-    requires valid { IsValidTable table.now }
-    requires columns { AreColumns table.now.schema.fields columns.now }
+    requires rows { AreOfTable table.now columns.now }
     ensures { IfOk result (λ order. Orders table.now.settings.sorted (rows_of columns.now) order) }
 {
     let Some(number) = table.settings.sorted else {

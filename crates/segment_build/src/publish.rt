@@ -1,20 +1,20 @@
 //! A segment's file is published.
-ghost use Rattle.std.specs.Prelude.{◌≡◌, ℕ, length, IfErr, IfOk, OnOk, OnErr, IsErrOf, string_bytes};
+ghost use Rattle.std.specs.Prelude.{◌≡◌, ℕ, length, IfErr, OnOk, OnErr, IsErrOf};
 ghost use Rattle.outside.specs.Files.{with_file, without_file};
 ghost use Rattle.outside.specs.Seen.{OnlyWrites, seen};
 ghost use Rattle.table_schema.specs.ValidTable.{AreRows, IsValidTable};
-ghost use Rattle.value_columns.specs.Columns.{rows_of};
+ghost use Rattle.values.specs.Columns.{rows_of};
 ghost use Rattle.segment_file.specs.Image.{image};
 ghost use Rattle.segment_file.specs.Names.{IsSegmentName, file_of};
 ghost use Rattle.segment_build.specs.Publishing.{incoming};
 ghost use Rattle.segment_build.specs.Growing.{IsTooLarge, TreesFit};
 
-use crate::{BuildFault, build_columns};
-use outside::{Depot, DepotFault, NoMemory};
-use segment_columns::columns_of;
+use crate::{BuildFault, build_columns, columns_of};
+use outside::{Depot, DepotFault};
+use segment_file::segment_file_name;
 use std::alloc::Global;
 use table_schema::Table;
-use value_columns::{Columns, Rows};
+use values::{Columns, Rows};
 
 /// The part that each file is written as before it is published.
 pub const INCOMING: &str = "incoming";
@@ -41,7 +41,7 @@ pub fn write_columns<D: Depot>(
     ensures too_large { IfErr result (λ fault. (tree : ℕ) → fault ≡ BuildFault.TooLarge tree →
         IsTooLarge table.now (rows_of columns.now) tree) }
 {
-    let file = file_name(alloc, name)?;
+    let file = segment_file_name(alloc, name)?;
     let bytes = match build_columns(alloc, table, name, columns) {
         Ok(bytes) => bytes,
         Err(fault) => return Err(fault),
@@ -77,15 +77,6 @@ pub fn write_segment<D: Depot>(
 {
     let columns = columns_of(alloc, table.schema.fields.as_slice(), rows)?;
     write_columns(alloc, depot, table, name, &columns)
-}
-
-// The name of a segment's file.
-fn file_name(alloc: Global, name: &str) -> Result<String, NoMemory>
-    ensures { IfOk result (λ file. string_bytes file ≡ file_of name.now) }
-{
-    let mut file = String::from_str(alloc, name)?;
-    file.push_str(".seg")?;
-    Ok(file)
 }
 
 /// Puts bytes under a name, as the one part that files are published by.

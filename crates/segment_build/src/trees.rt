@@ -1,9 +1,8 @@
 //! The star-trees of a segment are built, one after the other.
-ghost use Rattle.std.specs.Prelude.{◌≡◌, ◌<◌, ◌≤◌, ◌⊎◌, ℕ, length, map, Err, IfErr, IfOk, IsErrOf, OnErr, OnOk};
+ghost use Rattle.std.specs.Prelude.{◌≡◌, ◌<◌, ◌≤◌, length, map, Err, IfOk, IsErrOf, OnOk};
 ghost use Rattle.std.specs.List.{All};
-ghost use Rattle.value_columns.specs.Columns.{rows_of};
+ghost use Rattle.values.specs.Columns.{rows_of};
 ghost use Rattle.table_schema.specs.ValidSettings.{IsValidTree};
-ghost use Rattle.table_schema.specs.ValidTable.{IsValidTable};
 ghost use Rattle.agg_laws.specs.Merged.{weights};
 ghost use Rattle.agg_laws.specs.Numbers.{most_stored};
 ghost use Rattle.agg_laws.specs.Rows.{merged_rows, row_weight};
@@ -12,35 +11,29 @@ ghost use Rattle.star_builder.specs.declared.fault.TreeFault.TheVariants as faul
 ghost use Rattle.segment_file.specs.Columns.{ids_of};
 ghost use Rattle.segment_file.specs.Ordered.{ordered};
 ghost use Rattle.segment_file.specs.Trees.{TreeFits, documents, written};
-ghost use Rattle.segment_columns.specs.Fitting.{AreColumns};
-ghost use Rattle.segment_build.specs.Growing.{IsTooLarge, TreesFit, nodes_grown, stars_grown};
+ghost use Rattle.segment_build.specs.Fitting.{AreColumns, AreOfTable};
+ghost use Rattle.segment_build.specs.Growing.{IsBuilt, nodes_grown, stars_grown};
 ghost use Rattle.segment_build.specs.declared.fault.BuildFault.TheVariants.{NoMemory, TooLarge};
 
-use crate::BuildFault;
-use document_table::StarTable;
+use crate::{BuildFault, Grown, ids_as_given, pair_numbers, push_tree};
 use outside::{NoMemory, Seq};
-use segment_columns::{Grown, ids_as_given, pair_numbers, push_tree};
 use star_builder::{TreeFault, build_merged};
 use star_file::StarTree;
 use star_records::project_merged;
+use star_table::StarTable;
 use std::alloc::Global;
 use table_schema::{Table, TreeSetting};
-use value_columns::Columns;
+use values::Columns;
 
 /// The sections of all star-trees of the columns' rows in their order, or the number of the first
 /// tree that takes more bytes than one may. What is made for a tree is let go before the next.
 pub fn grow_trees(alloc: Global, table: &Table, columns: &Columns) -> Result<Grown, BuildFault>
-    requires valid { IsValidTable table.now }
-    requires columns { AreColumns table.now.schema.fields columns.now }
+    requires rows { AreOfTable table.now columns.now }
     ensures nodes { IfOk result (λ grown. grown.nodes.items ≡ nodes_grown
         (ordered table.now.settings.sorted (rows_of columns.now)) table.now.settings.trees) }
     ensures stars { IfOk result (λ grown. grown.stars.items ≡ stars_grown
         (ordered table.now.settings.sorted (rows_of columns.now)) table.now.settings.trees) }
-    ensures fits { OnOk result (TreesFit table.now (rows_of columns.now)) }
-    ensures too_large { IfErr result (λ reason. (tree : ℕ) → reason ≡ TooLarge tree →
-        IsTooLarge table.now (rows_of columns.now) tree) }
-    ensures only { OnErr result
-        (IsErrOf result NoMemory ⊎ ((tree : ℕ) × (result ≡ Err (TooLarge tree)))) }
+    ensures built { IsBuilt table.now (rows_of columns.now) result }
 {
     let trees = table.settings.trees.as_slice();
     let mut grown = Grown {
@@ -65,9 +58,8 @@ fn grow_tree(
     columns: &Columns,
     tree: &TreeSetting,
 ) -> Result<StarTree, TreeFault>
-    requires valid { IsValidTable table.now }
+    requires rows { AreOfTable table.now columns.now }
     requires tree { IsValidTree table.now.schema.fields tree.now }
-    requires columns { AreColumns table.now.schema.fields columns.now }
     ensures written { IfOk result (λ grown. (grown.nodes, grown.docs.docs)
         ≡ written (ordered table.now.settings.sorted (rows_of columns.now)) tree.now) }
     ensures kinds { IfOk result (λ grown. grown.docs.kinds ≡ tree.now.shape.kinds) }
@@ -83,17 +75,16 @@ fn grow_tree(
     }
 }
 
-// The rows as documents of a tree, merged: the order in which they came does not matter. The ids are
-// let go. The numbers are read where they are; those of pairs that count rows are zeros.
+// The rows as documents of a tree, merged: the order in which they came does not matter. The ids
+// are let go. The numbers are read where they are; those of pairs that count rows are zeros.
 fn merged_of_tree(
     alloc: Global,
     table: &Table,
     columns: &Columns,
     tree: &TreeSetting,
 ) -> Result<StarTable, NoMemory>
-    requires valid { IsValidTable table.now }
+    requires rows { AreOfTable table.now columns.now }
     requires tree { IsValidTree table.now.schema.fields tree.now }
-    requires columns { AreColumns table.now.schema.fields columns.now }
     ensures dims { IfOk result (λ docs. docs.dims ≡ tree.now.shape.dims) }
     ensures kinds { IfOk result (λ docs. docs.kinds ≡ tree.now.shape.kinds) }
     ensures docs { IfOk result (λ docs. docs.docs ≡ merged_docs merged_rows

@@ -13,7 +13,7 @@ use Rattle.values.specs.Order.{value_eq, value_order}
 use Rattle.values.specs.Order.Laws.{value_eq-equiv}
 use Rattle.values.specs.Tests.{is_member}
 use Rattle.value_ids.specs.Dictionary.{Fits, IsDictionary, IsUnicode, distinct, put_in}
-use Rattle.value_ids.proofs.Distinct.{distinct_members, stands_so}
+use Rattle.value_ids.proofs.DistinctLemmas.{distinct_members, stands_so}
 use Rattle.table_schema.specs.declared.field.Field.{Field}
 use Rattle.table_schema.specs.declared.table.Table.{Table}
 use Rattle.table_schema.specs.ValidTable.{IsRow, is_row}

@@ -16,7 +16,7 @@ use Rattle.values.specs.Tests.{is_member}
 use Rattle.values.proofs.Bounds.{same_value}
 use Rattle.value_ids.specs.Dictionary.{IsUnicode, distinct}
 use Rattle.dictionary.proofs.Bytes.{same_fronts, same_rests}
-use Rattle.value_ids.proofs.Distinct.{distinct_members}
+use Rattle.value_ids.proofs.DistinctLemmas.{distinct_members}
 use Rattle.dictionary.proofs.Spells.{spells_one}
 use Rattle.bit_column.proofs.Spelling.{ids-written}
 use Rattle.bit_column.proofs.Widths.{width-least}

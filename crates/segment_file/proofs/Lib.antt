@@ -13,3 +13,4 @@ pub mod ImageKeeps
 pub mod ImageTells
 pub mod TreeChecks
 pub mod Loops
+pub mod WholeNumbers

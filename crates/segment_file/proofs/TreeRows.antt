@@ -13,8 +13,8 @@ use Rattle.values.specs.declared.value.Value.{Value}
 use Rattle.values.specs.declared.value.Value.TheVariants.{Whole, Text}
 use Rattle.values.specs.Kinds.{fits}
 use Rattle.state_columns.specs.Docs.{Doc, AreStored, HaveIds, HaveShape, projected}
-use Rattle.tree_laws.specs.Flat.{flat}
-use Rattle.tree_laws.specs.NodeRules.{AreCounted, count_at}
+use Rattle.star_tree.specs.Flat.{flat}
+use Rattle.star_tree.specs.NodeRules.{AreCounted, count_at}
 use Rattle.agg_laws.specs.Numbers.{AreWhole, IsWhole}
 use Rattle.agg_laws.specs.Merged.{weights}
 use Rattle.agg_laws.specs.Rows.{merged_rows, row_of, row_weight}

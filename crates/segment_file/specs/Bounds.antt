@@ -27,7 +27,11 @@ pair_bytes ends = bound_bytes ends.least ++ bound_bytes ends.greatest
 -- the ends of ascending values, if there are some
 abbrev pub ends_of : List Value → List Ends
 ends_of [] = []
-ends_of (least ∷ values) = record { least = least; greatest = slice_index_or (least ∷ values) (length values) least } ∷ []
+ends_of (least ∷ values) = record {
+  least = least;
+  greatest = slice_index_or (least ∷ values)
+      (length values) least;
+} ∷ []
 
 -- the bounds of columns with these dictionaries; a column without values has none
 abbrev pub bounds_of : List Distinct → List Ends
@@ -45,7 +49,8 @@ pub record MayBound (kind : FieldKind) (value : Value) : Type 0 where
   pub unicode : IsUnicode value
 
 -- the bytes begin with this value, and these are after it
-pub record IsBound (kind : FieldKind) (bytes : List ℕ) (value : Value) (rest : List ℕ) : Type 0 where
+pub record IsBound (kind : FieldKind) (bytes : List ℕ) (value : Value) (rest : List ℕ)
+    : Type 0 where
   pub may : MayBound kind value
   pub spelled : bytes ≡ bound_bytes value ++ rest
 

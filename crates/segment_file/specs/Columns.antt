@@ -1,4 +1,5 @@
--- The columns of a segment's rows: their values, and the number of each value among the distinct ones.
+-- The columns of a segment's rows: their values, and the number of each value among the distinct
+-- ones.
 use Rattle.std.specs.Prelude.{ℕ, suc, List, [], ◌∷◌, map, length, slice_get, Option, Some, None, if◌then◌else◌}
 use Rattle.data_types.specs.declared.kind.FieldKind.{FieldKind}
 use Rattle.data_types.specs.declared.kind.FieldKind.TheVariants.{Long}
@@ -24,7 +25,10 @@ values_in column rows = map (value_in column) rows
 
 -- the dictionary of a column
 abbrev pub dictionary_of : Table → List (List Value) → ℕ → Distinct
-dictionary_of table rows column = record { kind = kind_at table column; values = distinct (values_in column rows) }
+dictionary_of table rows column = record {
+  kind = kind_at table column;
+  values = distinct (values_in column rows);
+}
 
 -- the number of a value among these
 abbrev pub place_of : List Value → Value → ℕ

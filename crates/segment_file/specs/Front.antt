@@ -1,4 +1,5 @@
--- The front of a segment's file: the header, and the directory of the sections. Numbers have the most significant byte first.
+-- The front of a segment's file: the header, and the directory of the sections. Numbers have the
+-- most significant byte first.
 use Rattle.std.specs.Prelude.{ℕ, ◌+◌, ◌*◌, List, [], ◌∷◌, ◌++◌, take, length, sum, codes}
 use Rattle.std.specs.Int.{w16, w64, to_be_bytes}
 use Rattle.std.specs.List.{flat_map}
@@ -37,7 +38,11 @@ front_size table name = 38 + length name + 19 * length (sections_of table)
 abbrev pub extents_from : ℕ → List Part → List ℕ → List Extent
 extents_from offset [] sizes = []
 extents_from offset (part ∷ parts) [] = []
-extents_from offset (part ∷ parts) (size ∷ sizes) = record { part = part; offset = offset; size = size } ∷ extents_from (offset + size) parts sizes
+extents_from offset (part ∷ parts) (size ∷ sizes) = record {
+  part = part;
+  offset = offset;
+  size = size;
+} ∷ extents_from (offset + size) parts sizes
 
 -- where the sections of a file with this front are
 abbrev pub extents_of : Table → List ℕ → Front → List Extent
@@ -45,7 +50,8 @@ extents_of table name front = extents_from (front_size table name) (sections_of 
 
 -- where the head ends: after the last of its sections
 abbrev pub head_end : Table → List ℕ → Front → ℕ
-head_end table name front = front_size table name + sum (take (length (head_sections table)) front.sizes)
+head_end table name front = front_size table name + sum (take
+    (length (head_sections table)) front.sizes)
 
 -- where the bounds end, which are the first section
 abbrev pub bounds_end : Table → List ℕ → Front → ℕ
@@ -59,7 +65,8 @@ file_end table name front = front_size table name + sum front.sizes
 
 -- the kind and the owner of a section, where it begins and how long it is
 abbrev pub extent_bytes : Extent → List ℕ
-extent_bytes extent = (kind_of extent.part ∷ []) ++ (short (owner_of extent.part) ++ (long extent.offset ++ long extent.size))
+extent_bytes extent = (kind_of extent.part ∷ []) ++ (short (owner_of extent.part)
+    ++ (long extent.offset ++ long extent.size))
 
 -- the entries of the sections
 abbrev pub directory : List Extent → List ℕ
@@ -67,17 +74,21 @@ directory extents = flat_map extent_bytes extents
 
 -- what the file is, its format, rows and name
 abbrev pub title_bytes : Front → List ℕ → List ℕ
-title_bytes front name = codes "STARSEG1" ++ (counted front.format ++ (counted front.rows ++ (short (length name) ++ name)))
+title_bytes front name = codes "STARSEG1" ++ (counted front.format
+    ++ (counted front.rows ++ (short (length name) ++ name)))
 
 -- how many fields and sections there are, and where the head and the file end
 abbrev pub counts_bytes : ℕ → ℕ → ℕ → ℕ → List ℕ
-counts_bytes fields sections head file = short fields ++ (short sections ++ (long head ++ long file))
+counts_bytes fields sections head file = short fields ++ (short sections
+    ++ (long head ++ long file))
 
 -- the header
 abbrev pub header_bytes : Table → List ℕ → Front → List ℕ
 header_bytes table name front =
-    title_bytes front name ++ counts_bytes (length table.schema.fields) (length (sections_of table)) (head_end table name front) (file_end table name front)
+    title_bytes front name ++ counts_bytes (length table.schema.fields) (length (sections_of table))
+    (head_end table name front) (file_end table name front)
 
 -- the header and the directory
 abbrev pub front_bytes : Table → List ℕ → Front → List ℕ
-front_bytes table name front = header_bytes table name front ++ directory (extents_of table name front)
+front_bytes table name front = header_bytes table name front
+    ++ directory (extents_of table name front)

@@ -12,16 +12,24 @@ use Rattle.segment_file.specs.Parts.{columns_of}
 
 -- where a rule fails, not all hold
 abbrev pub FailsNotAll : Type 0
-FailsNotAll = (table : Table) (name bytes : List ℕ) (p : Part) → KeepsRules table name bytes → ¬ FailsAt table name bytes p
+FailsNotAll = (table : Table) (name bytes : List ℕ) (p : Part) → KeepsRules table name bytes
+    → ¬ FailsAt table name bytes p
 
--- the image of rows that a segment may have keeps all rules of a head, with the front and the dictionaries that the rows give
+-- the image of rows that a segment may have keeps all rules of a head, with the front and the
+-- dictionaries that the rows give
 abbrev pub ImageKeeps : Type 0
 ImageKeeps =
-    (table : Table) (name : List ℕ) (rows : List (List Value)) → IsValidTable table → IsSegmentName name → CanHold table rows
-    → KeepsAll table name (image 1 table name rows) (front_of 1 table (ordered table.settings.sorted rows)) (map (dictionary_of table (ordered table.settings.sorted rows)) (columns_of table))
+    (table : Table) (name : List ℕ) (rows : List (List Value)) → IsValidTable table
+    → IsSegmentName name → CanHold table rows
+    → KeepsAll table name (image 1 table name rows) (front_of 1 table
+    (ordered table.settings.sorted rows)) (map (dictionary_of table
+    (ordered table.settings.sorted rows)) (columns_of table))
 
 -- equal images under one table and name are of one format and of the same rows in their order
 abbrev pub ImagesTell : Type 0
 ImagesTell =
-    (table : Table) (name : List ℕ) (rows others : List (List Value)) (format other : ℕ) → IsValidTable table → IsSegmentName name → CanHold table rows → CanHold table others → format < 2 ^ 32 → other < 2 ^ 32
-    → image format table name rows ≡ image other table name others → (format ≡ other) × (ordered table.settings.sorted rows ≡ ordered table.settings.sorted others)
+    (table : Table) (name : List ℕ) (rows others : List (List Value)) (format other : ℕ)
+    → IsValidTable table → IsSegmentName name → CanHold table rows → CanHold table others
+    → format < 2 ^ 32 → other < 2 ^ 32
+    → image format table name rows ≡ image other table name others → (format ≡ other)
+    × (ordered table.settings.sorted rows ≡ ordered table.settings.sorted others)

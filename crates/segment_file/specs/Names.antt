@@ -4,7 +4,8 @@ use Rattle.std.specs.List.{list_all}
 
 -- a letter, a digit, `_` or `-`
 abbrev pub is_name_byte : ℕ → Bool
-is_name_byte byte = (nat_le 65 byte && nat_le byte 90) || (nat_le 97 byte && nat_le byte 122) || (nat_le 48 byte && nat_le byte 57) || byte == 95 || byte == 45
+is_name_byte byte = (nat_le 65 byte && nat_le byte 90) || (nat_le 97 byte && nat_le byte 122)
+    || (nat_le 48 byte && nat_le byte 57) || byte == 95 || byte == 45
 
 -- 1 to 64 of these bytes
 pub record IsSegmentName (name : List ℕ) : Type 0 where
@@ -14,7 +15,8 @@ pub record IsSegmentName (name : List ℕ) : Type 0 where
 
 -- the same as a test
 abbrev pub is_segment_name : List ℕ → Bool
-is_segment_name name = nat_lt 0 (length name) && nat_le (length name) 64 && list_all is_name_byte name
+is_segment_name name = nat_lt 0 (length name) && nat_le (length name) 64
+    && list_all is_name_byte name
 
 -- the file that a segment is published as
 abbrev pub file_of : List ℕ → List ℕ

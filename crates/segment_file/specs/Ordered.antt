@@ -1,4 +1,5 @@
--- The order of a segment's rows: by the sorted column, where there is one. Rows with equal values there stay in the order in which they came.
+-- The order of a segment's rows: by the sorted column, where there is one. Rows with equal values
+-- there stay in the order in which they came.
 use Rattle.std.specs.Prelude.{ℕ, pos, List, [], ◌∷◌, get_or, Option, Some, None}
 use Rattle.std.specs.Ordering.{match_ordering}
 use Rattle.values.specs.declared.value.Value.{Value}

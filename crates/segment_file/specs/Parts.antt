@@ -55,9 +55,11 @@ trees_of table = range_with_len 0 (length table.settings.trees)
 
 -- the sections of the head: the bounds, each field's dictionary, and each tree's nodes
 abbrev pub head_sections : Table → List Part
-head_sections table = parts.Bounds ∷ (map parts.Dictionary (columns_of table) ++ map parts.Nodes (trees_of table))
+head_sections table = parts.Bounds ∷ (map parts.Dictionary (columns_of table)
+    ++ map parts.Nodes (trees_of table))
 
--- the sections of the rows: each field's forward index, and the other indexes that the settings name
+-- the sections of the rows: each field's forward index, and the other indexes that the settings
+-- name
 abbrev pub raw_sections : Table → List Part
 raw_sections table =
     map parts.Forward (columns_of table)

@@ -25,7 +25,8 @@ abbrev pub IsFormat : ℕ → Type 0
 IsFormat format = format ≡ 1
 
 -- the bytes are those of this front, in a file that is as long as it says
-pub record IsFront (table : Table) (name bytes : List ℕ) (file_size : ℕ) (front : Front) : Type 0 where
+pub record IsFront (table : Table) (name bytes : List ℕ) (file_size : ℕ) (front : Front)
+    : Type 0 where
   pub known : IsFormat front.format
   pub few : front.rows ≤ most_rows (length table.schema.fields)
   pub each : length front.sizes ≡ length (sections_of table)
@@ -35,9 +36,11 @@ pub record IsFront (table : Table) (name bytes : List ℕ) (file_size : ℕ) (fr
 
 -- the file begins with this front, and is as long as it says
 abbrev pub HasFront : Table → List ℕ → List ℕ → Front → Type 0
-HasFront table name bytes front = IsFront table name (take (front_size table name) bytes) (length bytes) front
+HasFront table name bytes front = IsFront table name (take (front_size table name) bytes)
+    (length bytes) front
 
--- the bytes are those of this dictionary, which has some value where there are rows, and no more values than rows
+-- the bytes are those of this dictionary, which has some value where there are rows, and no more
+-- values than rows
 pub record IsSpelled (kind : FieldKind) (rows : ℕ) (bytes : List ℕ) (d : Distinct) : Type 0 where
   pub stands : IsDictionary d
   pub kind_is : d.kind ≡ kind
@@ -49,9 +52,11 @@ pub record IsSpelled (kind : FieldKind) (rows : ℕ) (bytes : List ℕ) (d : Dis
 abbrev pub section_bytes : List ℕ → Extent → List ℕ
 section_bytes bytes extent = take extent.size (drop extent.offset bytes)
 
--- the bytes of the sections of the head: the bounds, the dictionary of each field, and the nodes of each tree
+-- the bytes of the sections of the head: the bounds, the dictionary of each field, and the nodes of
+-- each tree
 abbrev pub heads_in : Table → List ℕ → Front → List ℕ → List (List ℕ)
-heads_in table name front bytes = map (section_bytes bytes) (take (length (head_sections table)) (extents_of table name front))
+heads_in table name front bytes = map (section_bytes bytes) (take (length (head_sections table))
+    (extents_of table name front))
 
 -- the bytes of the dictionary of a field, among those of the head
 abbrev pub dictionary_in : List (List ℕ) → ℕ → List ℕ
@@ -63,7 +68,8 @@ nodes_in table heads tree = slice_index_or heads (length table.schema.fields + 1
 
 -- fields have these dictionaries
 abbrev pub AreSpelled : Table → ℕ → List (List ℕ) → List ℕ → List Distinct → Type 0
-AreSpelled table rows heads columns dictionaries = AllZip (λ column d. IsSpelled (kind_at table column) rows (dictionary_in heads column) d) columns dictionaries
+AreSpelled table rows heads columns dictionaries = AllZip (λ column d.
+    IsSpelled (kind_at table column) rows (dictionary_in heads column) d) columns dictionaries
 
 -- how many values a dictionary has, as its first four bytes say
 abbrev pub count_in : List ℕ → ℕ
@@ -73,14 +79,16 @@ count_in bytes = from_be_bytes w32 (take 4 bytes)
 abbrev pub split_counts : List (List ℕ) → TreeSetting → List ℕ
 split_counts heads tree = map (λ column. count_in (dictionary_in heads column)) tree.split
 
--- the bytes are the nodes of a tree of this shape, of so many rows: they keep all rules, and there are no documents exactly where there are no rows
+-- the bytes are the nodes of a tree of this shape, of so many rows: they keep all rules, and there
+-- are no documents exactly where there are no rows
 pub record AreNodes (shape : TreeShape) (counts : List ℕ) (rows : ℕ) (bytes : List ℕ) : Type 0 where
   pub keep : KeepsSection shape counts bytes
   pub none : (number_at 0 bytes ≡ 0) ↔ (rows ≡ 0)
 
 -- the nodes of a tree are in its section
 abbrev pub HasNodes : Table → ℕ → List (List ℕ) → ℕ → Type 0
-HasNodes table rows heads t = IfSome (slice_get table.settings.trees t) (λ tree. AreNodes tree.shape (split_counts heads tree) rows (nodes_in table heads t))
+HasNodes table rows heads t = IfSome (slice_get table.settings.trees t)
+    (λ tree. AreNodes tree.shape (split_counts heads tree) rows (nodes_in table heads t))
 
 -- those of the first so many trees are
 abbrev pub HaveNodes : Table → ℕ → List (List ℕ) → ℕ → Type 0
@@ -101,10 +109,13 @@ size_for rows count other = 0
 
 -- how long a section after the head is, where these are the sections of the head
 abbrev pub size_in : Table → ℕ → List (List ℕ) → Part → ℕ
-size_in table rows heads (parts.Star t) = star_size (nodes_in table heads t) (slice_get table.settings.trees t)
-size_in table rows heads other = size_for rows (count_in (dictionary_in heads (owner_of other))) other
+size_in table rows heads (parts.Star t) = star_size (nodes_in table heads t)
+    (slice_get table.settings.trees t)
+size_in table rows heads other = size_for rows (count_in (dictionary_in heads
+    (owner_of other))) other
 
--- a section is as long as the rows, their values and the documents want, where these are the sections of the head
+-- a section is as long as the rows, their values and the documents want, where these are the
+-- sections of the head
 abbrev pub IsSized : Table → ℕ → List (List ℕ) → Extent → Type 0
 IsSized table rows heads extent = extent.size ≡ size_in table rows heads extent.part
 
@@ -113,16 +124,20 @@ abbrev pub raw_extents : Table → List ℕ → Front → List Extent
 raw_extents table name front = drop (length (head_sections table)) (extents_of table name front)
 
 -- the dictionaries are these, and the bounds are theirs
-pub record HasDictionaries (table : Table) (rows : ℕ) (heads : List (List ℕ)) (dictionaries : List Distinct) : Type 0 where
+pub record HasDictionaries (table : Table) (rows : ℕ) (heads : List (List ℕ))
+    (dictionaries : List Distinct) : Type 0 where
   pub spelled : AreSpelled table rows heads (columns_of table) dictionaries
   pub bounds : slice_index_or heads 0 [] ≡ bounds_bytes (bounds_of dictionaries)
 
 -- all rules of the head hold on the bytes of a file with this front and these dictionaries
-pub record KeepsAll (table : Table) (name bytes : List ℕ) (front : Front) (dictionaries : List Distinct) : Type 0 where
+pub record KeepsAll (table : Table) (name bytes : List ℕ) (front : Front)
+    (dictionaries : List Distinct) : Type 0 where
   pub front_is : HasFront table name bytes front
   pub heads : HasDictionaries table front.rows (heads_in table name front bytes) dictionaries
-  pub trees : HaveNodes table front.rows (heads_in table name front bytes) (length table.settings.trees)
-  pub sized : All (IsSized table front.rows (heads_in table name front bytes)) (raw_extents table name front)
+  pub trees : HaveNodes table front.rows (heads_in table name front bytes)
+      (length table.settings.trees)
+  pub sized : All (IsSized table front.rows (heads_in table name front bytes))
+      (raw_extents table name front)
 
 -- the rules hold up to the dictionary of this field, which is none
 pub record FailsDictionary (table : Table) (name bytes : List ℕ) (column : ℕ) : Type 0 where
@@ -130,16 +145,20 @@ pub record FailsDictionary (table : Table) (name bytes : List ℕ) (column : ℕ
   pub front_is : HasFront table name bytes front
   pub field : column < length table.schema.fields
   pub before : List Distinct
-  pub spelled : AreSpelled table front.rows (heads_in table name front bytes) (range_with_len 0 column) before
-  pub none : (d : Distinct) → ¬ IsSpelled (kind_at table column) front.rows (dictionary_in (heads_in table name front bytes) column) d
+  pub spelled : AreSpelled table front.rows (heads_in table name front bytes)
+      (range_with_len 0 column) before
+  pub none : (d : Distinct) → ¬ IsSpelled (kind_at table column) front.rows
+      (dictionary_in (heads_in table name front bytes) column) d
 
 -- the rules hold up to the bounds, which are not those of the dictionaries
 pub record FailsBounds (table : Table) (name bytes : List ℕ) : Type 0 where
   pub front : Front
   pub front_is : HasFront table name bytes front
   pub dictionaries : List Distinct
-  pub spelled : AreSpelled table front.rows (heads_in table name front bytes) (columns_of table) dictionaries
-  pub others : slice_index_or (heads_in table name front bytes) 0 [] ≢ bounds_bytes (bounds_of dictionaries)
+  pub spelled : AreSpelled table front.rows (heads_in table name front bytes)
+      (columns_of table) dictionaries
+  pub others : slice_index_or (heads_in table name front bytes) 0 []
+      ≢ bounds_bytes (bounds_of dictionaries)
 
 -- the rules hold up to the nodes of this tree, which are not in their section
 pub record FailsNodes (table : Table) (name bytes : List ℕ) (t : ℕ) : Type 0 where
@@ -157,7 +176,8 @@ pub record FailsSize (table : Table) (name bytes : List ℕ) (part : Part) : Typ
   pub front_is : HasFront table name bytes front
   pub dictionaries : List Distinct
   pub heads : HasDictionaries table front.rows (heads_in table name front bytes) dictionaries
-  pub trees : HaveNodes table front.rows (heads_in table name front bytes) (length table.settings.trees)
+  pub trees : HaveNodes table front.rows (heads_in table name front bytes)
+      (length table.settings.trees)
   pub before : List Extent
   pub failing : Extent
   pub after : List Extent
@@ -166,7 +186,8 @@ pub record FailsSize (table : Table) (name bytes : List ℕ) (part : Part) : Typ
   pub other : ¬ IsSized table front.rows (heads_in table name front bytes) failing
   pub is_of : failing.part ≡ part
 
--- the part of the first rule of the head that fails on the bytes: the front, the dictionary of each field, the bounds, the nodes of each tree, and then the size of each section after the head
+-- the part of the first rule of the head that fails on the bytes: the front, the dictionary of each
+-- field, the bounds, the nodes of each tree, and then the size of each section after the head
 abbrev pub FailsAt : Table → List ℕ → List ℕ → Part → Type 0
 FailsAt table name bytes parts.Table = ⊥
 FailsAt table name bytes parts.Head = (front : Front) → ¬ HasFront table name bytes front
@@ -177,4 +198,5 @@ FailsAt table name bytes other = FailsSize table name bytes other
 
 -- all rules of a head hold on the bytes
 abbrev pub KeepsRules : Table → List ℕ → List ℕ → Type 0
-KeepsRules table name bytes = (front : Front) × (dictionaries : List Distinct) × KeepsAll table name bytes front dictionaries
+KeepsRules table name bytes = (front : Front) × (dictionaries : List Distinct)
+    × KeepsAll table name bytes front dictionaries

@@ -1,11 +1,12 @@
--- The star-trees of a segment: each is the flat tree of the segment's rows, by the ids of its split dimensions and the numbers of its pairs.
+-- The star-trees of a segment: each is the flat tree of the segment's rows, by the ids of its split
+-- dimensions and the numbers of its pairs.
 use Rattle.std.specs.Prelude.{◌≤◌, ℕ, ℤ, pos, List, [], map, length, Option, Some, None}
 use Rattle.std.specs.Option.{option_map_or}
 use Rattle.values.specs.declared.value.Value.{Value}
 use Rattle.values.specs.declared.value.Value.TheVariants.{Whole, Text}
 use Rattle.agg_laws.specs.declared.states.AggState.{AggState}
 use Rattle.state_columns.specs.Docs.{Doc, projected}
-use Rattle.tree_laws.specs.Flat.{Flat, flat, tree_bytes}
+use Rattle.star_tree.specs.Flat.{Flat, flat, tree_bytes}
 use Rattle.agg_laws.specs.Rows.{merged_rows}
 use Rattle.agg_laws.specs.Tree.{Nodes, tree_of}
 use Rattle.table_schema.specs.declared.query.Agg.{Agg}

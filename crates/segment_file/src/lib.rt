@@ -19,15 +19,13 @@ pub use bounds::{Ends, push_ends};
 pub use fault::HeadFault;
 pub use front::{Front, front_size};
 pub use laws::{head_rules_law, image_keeps_law, images_tell_law};
-pub use name::is_segment_name;
+pub use name::{is_segment_name, segment_file_name};
 pub use numbers::four_at;
 pub use opening::{FrontRead, read_front, read_rest};
+pub use outside::NoMemory;
 pub use part::Part;
 pub use reading::{file_length, read_exactly};
 pub use section::Section;
 pub use sections::sections_of;
 pub use sizes::{check_sizes, size_for};
 pub use trees::{TreeNodes, check_tree};
-
-/// A growth was refused.
-pub type NoMemory = std::alloc::AllocError;

@@ -31,6 +31,7 @@ pub fn eight_at(bytes: &[u8], at: usize) -> u64
     ])
 }
 
+/// Appends a number of two bytes.
 #[tactic(auto, unfolding(crate::specs::Front::short))]
 pub fn push_two(number: u16, out: &mut Vec<u8>) -> Result<(), NoMemory>
     ensures { OnOk result (out.new.items ≡ out.old.items ++ short number) }
@@ -38,6 +39,7 @@ pub fn push_two(number: u16, out: &mut Vec<u8>) -> Result<(), NoMemory>
     out.extend_from_slice(&number.to_be_bytes())
 }
 
+/// Appends a number of four bytes.
 #[tactic(auto, unfolding(dictionary::specs::Spelling::counted))]
 pub fn push_four(number: u32, out: &mut Vec<u8>) -> Result<(), NoMemory>
     ensures { OnOk result (out.new.items ≡ out.old.items ++ counted number) }
@@ -45,6 +47,7 @@ pub fn push_four(number: u32, out: &mut Vec<u8>) -> Result<(), NoMemory>
     out.extend_from_slice(&number.to_be_bytes())
 }
 
+/// Appends a number of eight bytes.
 #[tactic(auto, unfolding(crate::specs::Front::long))]
 pub fn push_eight(number: u64, out: &mut Vec<u8>) -> Result<(), NoMemory>
     ensures { OnOk result (out.new.items ≡ out.old.items ++ long number) }

@@ -8,8 +8,7 @@ ghost use Rattle.segment_file.specs.declared.part.Part.{Part};
 ghost use Rattle.segment_file.specs.declared.part.Part.TheVariants as part;
 
 use crate::{HeadFault, Part};
-use file_reading::read_bytes;
-use outside::{Bytes, Shelf, ShelfFault};
+use outside::{Bytes, Shelf, ShelfFault, read_bytes};
 use std::alloc::Global;
 
 /// How many bytes a file has; one that is missing has none.

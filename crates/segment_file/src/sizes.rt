@@ -27,8 +27,8 @@ pub fn size_for(rows: u32, count: u32, part: Part) -> u64
     }
 }
 
-/// Whether each of these sections is as long as the rows, the dictionaries and the documents say, or
-/// the first that is not.
+/// Whether each of these sections is as long as the rows, the dictionaries and the documents say,
+/// or the first that is not.
 pub fn check_sizes(
     table: &Table,
     rows: u32,

@@ -1,5 +1,6 @@
 //! The nodes of a star-tree of a segment's file.
-ghost use Rattle.std.specs.Prelude.{◌≡◌, ◌≤◌, ◌<◌, ◌↔◌, length, MatchBool, IfOk, OnOk, IsErrOf};
+ghost use Rattle.std.specs.Prelude.{◌≡◌, ◌↔◌, MatchBool, IfOk, OnOk, IsErrOf};
+ghost use Rattle.star_file.specs.Rules.{IsCounted};
 ghost use Rattle.segment_file.specs.Reading.{nodes_said};
 ghost use Rattle.segment_file.specs.Rules.{AreNodes};
 
@@ -23,9 +24,7 @@ pub fn check_tree(
     rows: u32,
     bytes: &[u8],
 ) -> Result<TreeNodes, NodesFault>
-    requires counts { length counts.now ≡ shape.now.dims }
-    requires dims { shape.now.dims ≤ 16 }
-    requires kinds { length shape.now.kinds ≤ 16 }
+    requires { IsCounted shape.now counts.now }
     ensures said { IfOk result (λ tree. tree ≡ nodes_said bytes.now) }
     ensures ok { OnOk result (AreNodes shape.now counts.now rows bytes.now) }
     ensures bad { IsErrOf result NodesFault.BadNodes →

@@ -7,3 +7,5 @@ mod TreeSteps
 pub mod ImageTrees
 pub mod SectionBytes
 mod Loops
+pub mod FaultLemmas
+pub mod SectionLemmas

@@ -21,7 +21,8 @@ use Rattle.segment_file.specs.Parts.{is_same, sections_of}
 use Rattle.segment_file.specs.Rules.{HasFront, KeepsAll, heads_in}
 use Rattle.segment_file.specs.Reading.{trees_said}
 
--- a head: how many rows there are, where the sections are, the bounds of the columns where there are rows, and the dictionaries and the nodes of trees that were loaded
+-- a head: how many rows there are, where the sections are, the bounds of the columns where there
+-- are rows, and the dictionaries and the nodes of trees that were loaded
 pub record Seen : Type 0 where
   pub rows : ℕ
   pub sections : List Section
@@ -31,7 +32,14 @@ pub record Seen : Type 0 where
 
 -- a section as a part of its file
 abbrev pub placed : List ℕ → Extent → Section
-placed file extent = record { part = extent.part; place = record { file = file; offset = extent.offset; length = extent.size } }
+placed file extent = record {
+  part = extent.part;
+  place = record {
+    file = file;
+    offset = extent.offset;
+    length = extent.size;
+  };
+}
 
 -- each of these sections is a part of this file
 abbrev pub AreIn : List ℕ → List Section → Type 0
@@ -44,6 +52,11 @@ IsLoaded head column = (d : Distinct) × (slice_get head.dictionaries column ≡
 -- the nodes of a tree were loaded
 abbrev pub AreNodesLoaded : Seen → ℕ → Type 0
 AreNodesLoaded head t = (tree : TreeNodes) × (slice_get head.trees t ≡ Some (Some tree))
+
+-- no dictionary and no nodes of a tree are loaded
+pub record IsBare (head : Seen) : Type 0 where
+  pub none : (column : ℕ) → ¬ IsLoaded head column
+  pub no_nodes : (tree : ℕ) → ¬ AreNodesLoaded head tree
 
 -- where a section is, if there is such a one
 abbrev pub place_in : List Section → Part → Option Place
@@ -60,9 +73,11 @@ pub record IsOpened (table : Table) (name file bytes : List ℕ) (head : Seen) :
   pub has : HasFront table name bytes front
   pub rows_are : head.rows ≡ front.rows
   pub sections_are : head.sections ≡ map (placed file) (extents_of table name front)
-  pub bounds_are : AreBounds (bounded front.rows table.schema.fields) (slice_index_or (heads_in table name front bytes) 0 []) head.bounds
+  pub bounds_are : AreBounds (bounded front.rows table.schema.fields)
+      (slice_index_or (heads_in table name front bytes) 0 []) head.bounds
 
--- the head is that of the bytes of the file, of which all rules hold, with all dictionaries and nodes
+-- the head is that of the bytes of the file, of which all rules hold, with all dictionaries and
+-- nodes
 pub record IsHead (table : Table) (name file bytes : List ℕ) (head : Seen) : Type 0 where
   pub front : Front
   pub dictionaries : List Distinct
@@ -75,8 +90,10 @@ pub record IsHead (table : Table) (name file bytes : List ℕ) (head : Seen) : T
 
 -- ---- a head that is opened in steps
 
--- the rows and sections are those of this front, and there is room for a dictionary a field and for the nodes of each tree
-pub record IsPlaced (table : Table) (name file : List ℕ) (front : Front) (head : Seen) : Type 0 where
+-- the rows and sections are those of this front, and there is room for a dictionary a field and for
+-- the nodes of each tree
+pub record IsPlaced (table : Table) (name file : List ℕ) (front : Front) (head : Seen)
+    : Type 0 where
   pub rows_are : head.rows ≡ front.rows
   pub sections_are : head.sections ≡ map (placed file) (extents_of table name front)
   pub slots : length head.dictionaries ≡ length table.schema.fields
@@ -105,9 +122,11 @@ pub record IsPartOf (whole head : Seen) : Type 0 where
   pub slots : AllZip IsSlotOf whole.dictionaries head.dictionaries
   pub tree_slots : AllZip IsSlotOf whole.trees head.trees
 
--- where files are told: the whole head of which this is a part, if all rules hold of its file, has P
+-- where files are told: the whole head of which this is a part, if all rules hold of its file, has
+-- P
 abbrev pub OfWhole : Table → Option Files → Seen → (Seen → Type 0) → Type 0
-OfWhole table held head P = IfSome held (λ files. (name file : List ℕ) (whole : Seen) → IsHead table name file (bytes_of (Some files) file) whole → IsPartOf whole head → P whole)
+OfWhole table held head P = IfSome held (λ files. (name file : List ℕ) (whole : Seen)
+    → IsHead table name file (bytes_of (Some files) file) whole → IsPartOf whole head → P whole)
 
 -- the dictionary of a column of the head has so many values
 pub record HasCount (column count : ℕ) (head : Seen) : Type 0 where
@@ -126,17 +145,23 @@ pub record Loads (column : ℕ) (old new : Seen) : Type 0 where
   pub sections_same : new.sections ≡ old.sections
   pub bounds_same : new.bounds ≡ old.bounds
   pub trees_same : new.trees ≡ old.trees
-  pub others : (other : ℕ) → other ≢ column → slice_get new.dictionaries other ≡ slice_get old.dictionaries other
+  pub others : (other : ℕ) → other ≢ column → slice_get new.dictionaries other
+      ≡ slice_get old.dictionaries other
 
 -- the head with this dictionary of a column
 abbrev pub with_dictionary : ℕ → Distinct → Seen → Seen
-with_dictionary column d head = record head { dictionaries = slice_set head.dictionaries column (Some d) }
+with_dictionary column d head = record head {
+  dictionaries = slice_set head.dictionaries column
+      (Some d);
+}
 
--- the section of the dictionary of a column: the one after the bounds and the dictionaries before it
+-- the section of the dictionary of a column: the one after the bounds and the dictionaries before
+-- it
 abbrev pub dictionary_section : Seen → ℕ → Option Section
 dictionary_section head column = slice_get head.sections (column + 1)
 
--- the section of the nodes of a tree: the one after the bounds, the dictionaries and the nodes before it
+-- the section of the nodes of a tree: the one after the bounds, the dictionaries and the nodes
+-- before it
 abbrev pub nodes_section : Table → Seen → ℕ → Option Section
 nodes_section table head t = slice_get head.sections (length table.schema.fields + 1 + t)
 
@@ -151,34 +176,46 @@ split_of table t = option_map_or (λ tree. tree.split) (slice_get table.settings
 
 -- ---- what is read
 
--- reads up to this place are within what ends there; a file without a front has none past where its front would end
+-- reads up to this place are within what ends there; a file without a front has none past where its
+-- front would end
 abbrev pub IsWithin : (Table → List ℕ → Front → ℕ) → Table → List ℕ → List ℕ → ℕ → Type 0
-IsWithin end table name bytes to = (to ≤ front_size table name) ⊎ ((front : Front) × HasFront table name bytes front × (to ≤ end table name front))
+IsWithin end table name bytes to = (to ≤ front_size table name)
+    ⊎ ((front : Front) × HasFront table name bytes front × (to ≤ end table name front))
 
--- the told log grew by reads of the file that go back to back from its start, none of them past what ends there
-abbrev pub LogsWithin : (Table → List ℕ → Front → ℕ) → Table → List ℕ → List ℕ → Option Files → Option (List Entry) → Option (List Entry) → Type 0
-LogsWithin end table name file held old new = (to : ℕ) × LogsThrough file 0 to old new × IfSome held (λ files. IsWithin end table name (bytes_of (Some files) file) to)
+-- the told log grew by reads of the file that go back to back from its start, none of them past
+-- what ends there
+abbrev pub LogsWithin : (Table → List ℕ → Front → ℕ) → Table → List ℕ → List ℕ → Option Files
+    → Option (List Entry) → Option (List Entry) → Type 0
+LogsWithin end table name file held old new = (to : ℕ) × LogsThrough file 0 to old new
+    × IfSome held (λ files. IsWithin end table name (bytes_of (Some files) file) to)
 
 -- none of them past the head
-abbrev pub LogsHead : Table → List ℕ → List ℕ → Option Files → Option (List Entry) → Option (List Entry) → Type 0
+abbrev pub LogsHead : Table → List ℕ → List ℕ → Option Files → Option (List Entry)
+    → Option (List Entry) → Type 0
 LogsHead = LogsWithin head_end
 
 -- none of them past the bounds
-abbrev pub LogsOpened : Table → List ℕ → List ℕ → Option Files → Option (List Entry) → Option (List Entry) → Type 0
+abbrev pub LogsOpened : Table → List ℕ → List ℕ → Option Files → Option (List Entry)
+    → Option (List Entry) → Type 0
 LogsOpened = LogsWithin bounds_end
 
--- the told log grew by reads of the first four bytes of a column's dictionary, where it is not loaded
+-- the told log grew by reads of the first four bytes of a column's dictionary, where it is not
+-- loaded
 pub record LogsCount (head : Seen) (column : ℕ) (old new : Option (List Entry)) : Type 0 where
   pub still : IsLoaded head column → new ≡ old
-  pub first : IfSome (dictionary_section head column) (λ s. LogsUpTo s.place.file s.place.offset (s.place.offset + 4) old new)
+  pub first : IfSome (dictionary_section head column) (λ s. LogsUpTo s.place.file s.place.offset
+      (s.place.offset + 4) old new)
 
 -- it grew by those of these columns, one after the other
 abbrev pub LogsCounts : Seen → List ℕ → Option (List Entry) → Option (List Entry) → Type 0
 LogsCounts head [] old new = new ≡ old
-LogsCounts head (column ∷ columns) old new = (between : Option (List Entry)) × LogsCount head column old between × LogsCounts head columns between new
+LogsCounts head (column ∷ columns) old new = (between : Option (List Entry))
+    × LogsCount head column old between × LogsCounts head columns between new
 
 -- it grew by those of the split dimensions of a tree, and then by reads of its nodes
-pub record LogsTree (table : Table) (head : Seen) (t : ℕ) (old new : Option (List Entry)) : Type 0 where
+pub record LogsTree (table : Table) (head : Seen) (t : ℕ) (old new : Option (List Entry))
+    : Type 0 where
   pub between : Option (List Entry)
   pub counts : LogsCounts head (split_of table t) old between
-  pub nodes : IfSome (nodes_section table head t) (λ s. LogsUpTo s.place.file s.place.offset (s.place.offset + s.place.length) between new)
+  pub nodes : IfSome (nodes_section table head t) (λ s. LogsUpTo s.place.file s.place.offset
+      (s.place.offset + s.place.length) between new)

@@ -16,9 +16,13 @@ pub record IsTold (rows : List (List Value)) (tree : TreeSetting) (said : TreeNo
   pub documents_are : said.documents ≡ length (written rows tree).1
   pub nodes_are : said.nodes ≡ (written rows tree).0
 
--- what the head of an image says of a tree, where its nodes are loaded, is the flat tree of the rows in their order
+-- what the head of an image says of a tree, where its nodes are loaded, is the flat tree of the
+-- rows in their order
 abbrev pub HeadTellsTrees : Type 0
 HeadTellsTrees =
-    (table : Table) (name file : List ℕ) (rows : List (List Value)) (whole head : Seen) (t : ℕ) (tree : TreeSetting) (said : TreeNodes) → IsValidTable table → IsSegmentName name → CanHold table rows
-    → IsHead table name file (image 1 table name rows) whole → IsPartOf whole head → slice_get table.settings.trees t ≡ Some tree → slice_get head.trees t ≡ Some (Some said)
+    (table : Table) (name file : List ℕ) (rows : List (List Value)) (whole head : Seen) (t : ℕ)
+    (tree : TreeSetting) (said : TreeNodes) → IsValidTable table → IsSegmentName name
+    → CanHold table rows
+    → IsHead table name file (image 1 table name rows) whole → IsPartOf whole head
+    → slice_get table.settings.trees t ≡ Some tree → slice_get head.trees t ≡ Some (Some said)
     → IsTold (ordered table.settings.sorted rows) tree said

@@ -2,3 +2,4 @@ pub mod Reading
 pub mod Heads
 pub mod Laws
 pub mod Stored
+pub mod Faults

@@ -26,7 +26,8 @@ pub record StopsAt (table : Table) (rows : ℕ) (heads : List (List ℕ)) (colum
 
 -- the sections of the head, as its bytes say
 abbrev pub heads_read : Table → List Section → List ℕ → List (List ℕ)
-heads_read table sections bytes = heads_of (length table.schema.fields + 1 + length table.settings.trees) sections bytes
+heads_read table sections bytes = heads_of (length table.schema.fields + 1
+    + length table.settings.trees) sections bytes
 
 -- the nodes of this tree are the first that are not in their section
 pub record NodesStop (table : Table) (rows : ℕ) (heads : List (List ℕ)) (t : ℕ) : Type 0 where

@@ -11,8 +11,7 @@ use dictionary::Dictionary;
 use segment_file::{Ends, push_ends};
 use std::alloc::Global;
 use table_schema::Field;
-use value_columns::MOST_TEXT_BYTES;
-use values::Value;
+use values::{MOST_TEXT_BYTES, Value};
 
 /// Appends the bounds of columns with these dictionaries; a column without values has none.
 pub fn push_bounds(dictionaries: &[Dictionary], out: &mut Vec<u8>) -> Result<(), NoMemory>

@@ -132,7 +132,7 @@ fn placed(
     ensures { IfOk result (λ section. section
         ≡ placed file.now (record { part = part; offset = offset; size = length })) }
 {
-    let file = Name::from_string(String::from_str(alloc, file)?);
+    let file = Name::from_text(alloc, file)?;
     let place = Place {
         file,
         offset,

@@ -1,11 +1,12 @@
 //! The head of a segment's file.
-ghost use Rattle.std.specs.Prelude.{◌≡◌, MatchOption, None, Some, slice_get};
+ghost use Rattle.std.specs.Prelude.{◌≡◌, IfSome, MatchOption, None, Some, slice_get};
 ghost use Rattle.std.specs.Option.{option_copied};
-ghost use Rattle.segment_head.specs.Heads.{IsLoaded, place_in};
+ghost use Rattle.segment_head.specs.Heads.{AreNodesLoaded, IsLoaded, place_in};
 
 use dictionary::Dictionary;
 use outside::Place;
 use segment_file::{Ends, Part, Section, TreeNodes};
+use star_file::Nodes;
 use std::marker::Model;
 use values::Value;
 
@@ -74,6 +75,30 @@ impl Head {
     {
         match &self.dictionaries[column as usize] {
             Some(dictionary) => dictionary,
+            None => unreachable!(),
+        }
+    }
+
+    /// The nodes of a tree, which were loaded.
+    pub fn nodes(&self, tree: u8) -> &Nodes
+        requires { AreNodesLoaded self.now tree }
+        ensures { IfSome (slice_get self.now.trees tree)
+            (λ loaded. IfSome loaded (λ t. result.now ≡ t.nodes)) }
+    {
+        match &self.trees[tree as usize] {
+            Some(tree) => &tree.nodes,
+            None => unreachable!(),
+        }
+    }
+
+    /// How many documents a tree has, whose nodes were loaded.
+    pub fn documents(&self, tree: u8) -> u32
+        requires { AreNodesLoaded self.now tree }
+        ensures { IfSome (slice_get self.now.trees tree)
+            (λ loaded. IfSome loaded (λ t. result ≡ t.documents)) }
+    {
+        match &self.trees[tree as usize] {
+            Some(tree) => tree.documents,
             None => unreachable!(),
         }
     }

@@ -4,6 +4,7 @@
 mod bounds;
 mod check;
 mod dictionaries;
+mod fault;
 mod head;
 mod laws;
 mod loading;
@@ -15,11 +16,10 @@ mod trees;
 pub use bounds::{push_bounds, read_bounds};
 pub use check::check_head;
 pub use dictionaries::check_dictionary;
+pub use fault::{EngineFault, engine_fault};
 pub use head::Head;
 pub use laws::head_tells_trees_law;
 pub use opening::read_head;
+pub use outside::NoMemory;
 pub use stepwise::open_head;
 pub use tree_reading::OpenTree;
-
-/// A growth was refused.
-pub type NoMemory = std::alloc::AllocError;

@@ -17,8 +17,8 @@ use std::alloc::Global;
 use table_schema::Table;
 
 /// The head of a file that is to be the segment's of this name, with all dictionaries and nodes, or
-/// the part of the first rule that fails. A file that is missing is an empty one. No byte past the head is read,
-/// and none twice.
+/// the part of the first rule that fails. A file that is missing is an empty one. No byte past the
+/// head is read, and none twice.
 pub fn read_head<S: Shelf>(
     alloc: Global,
     shelf: &mut S,

@@ -1,5 +1,5 @@
 //! The head of a segment's file is opened without its dictionaries.
-ghost use Rattle.std.specs.Prelude.{◌≡◌, ◌<◌, ◌+◌, ◌^◌, [], ℕ, List, IfOk, IfErr, IfSome, IsErrOf, None, Some, length, map, replicate, slice_index_or, sum};
+ghost use Rattle.std.specs.Prelude.{◌≡◌, ◌<◌, ◌+◌, ◌^◌, [], List, IfOk, IfErr, IfSome, IsErrOf, None, Some, length, map, replicate, slice_index_or, sum};
 ghost use Rattle.outside.specs.Files.{bytes_of};
 ghost use Rattle.outside.specs.Reads.{LogsUpTo};
 ghost use Rattle.outside.specs.Seen.{OnlyReads, seen};
@@ -7,7 +7,7 @@ ghost use Rattle.table_schema.specs.ValidTable.{IsValidTable};
 ghost use Rattle.segment_file.specs.Bounds.{AreBounds, bounded};
 ghost use Rattle.segment_file.specs.Front.{bounds_end, extents_from, front_size};
 ghost use Rattle.segment_head.specs.Heads as spec;
-ghost use Rattle.segment_head.specs.Heads.{AreIn, AreNodesLoaded, IsHead, IsHeadOf, IsLoaded, IsOpened, IsPartOf, LogsOpened, placed};
+ghost use Rattle.segment_head.specs.Heads.{AreIn, IsBare, IsHead, IsHeadOf, IsOpened, IsPartOf, LogsOpened, placed};
 ghost use Rattle.segment_file.specs.Rules.{KeepsRules, heads_in};
 ghost use Rattle.segment_file.specs.Names.{IsSegmentName};
 ghost use Rattle.segment_file.specs.Reading.{IsFrontOf};
@@ -22,9 +22,9 @@ use segment_file::{Ends, FrontRead, HeadFault, Part, read_exactly, read_front, s
 use std::alloc::Global;
 use table_schema::{Field, Table};
 
-/// The head of a file that is to be the segment's of this name, without dictionaries and nodes. Only
-/// the front and the bounds are read and looked at; each dictionary, and the nodes of each tree, are
-/// looked at when they are loaded, and the other sections not at all.
+/// The head of a file that is to be the segment's of this name, without dictionaries and nodes.
+/// Only the front and the bounds are read and looked at; each dictionary, and the nodes of each
+/// tree, are looked at when they are loaded, and the other sections not at all.
 pub fn open_head<S: Shelf>(
     alloc: Global,
     shelf: &mut S,
@@ -35,8 +35,7 @@ pub fn open_head<S: Shelf>(
     requires valid { IsValidTable table.now }
     requires name { IsSegmentName name.now }
     ensures of { IfOk result (IsHeadOf table.now) }
-    ensures none { IfOk result (λ head. (column : ℕ) → ¬ IsLoaded head column) }
-    ensures no_nodes { IfOk result (λ head. (tree : ℕ) → ¬ AreNodesLoaded head tree) }
+    ensures bare { IfOk result IsBare }
     ensures placed { IfOk result (λ head. AreIn file.now head.sections) }
     ensures opened { IfOk result (λ head. IfSome (S.held shelf.old) (λ files.
         IsOpened table.now name.now file.now (bytes_of (Some files) file.now) head)) }

@@ -20,14 +20,12 @@ use Rattle.segment_file.specs.Names.{IsSegmentName, file_of}
 use Rattle.segment_file.specs.Ordered.{ordered}
 use Rattle.segment_file.specs.Parts.{columns_of, sections_of}
 use Rattle.segment_head.proofs.Composed.{made_count}
-use Rattle.segment_opening.specs.Logs.{DictionariesEnd, EndsBy, LogsThat}
-use Rattle.segment_opening.specs.Segments.{HasNoImage}
+use Rattle.segment_reads.specs.Logs.{DictionariesEnd, EndsBy, LogsThat}
+use Rattle.segment_head.specs.Stored.{HasNoImage}
 use Rattle.segment_opening.specs.Opened.{Grows, IsHeadIn, IsSpreadIn}
-use Rattle.segment_opening.proofs.LogLemmas.{through_ends}
+use Rattle.segment_reads.proofs.LogLemmas.{through_ends}
 use Rattle.std.specs.Prelude.{OnOk}
-
-pub rows_few : (table : Table) (head : Seen) → IsHeadOf table head → head.rows ≤ 1048576
-rows_few table head of = let few = of.few in let rows = of.has.rows_are in omega (arith, few, rows)
+use Rattle.segment_head.proofs.SectionLemmas.{if_some, rows_few, section_at}
 
 pub ok_so : {T E : Type 0} (r : Result T E) (A B : Type 0) → (A → B) → OnOk r A → OnOk r B
 ok_so (Ok t) A B f h = f h
@@ -148,15 +146,6 @@ unread_none table (Some files) head none name was = λ rows has.
     none i.name i.file i.whole (subst (λ bytes. IsHead table i.name i.file bytes i.whole) (sym i.stored) i.is_head) i.part
 
 -- ---- what is read of it
-
-pub section_at : (xs : List Section) (k : ℕ) → k < length xs → (s : Section) × (slice_get xs k ≡ Some s)
-section_at [] k lt = absurd (omega (arith, lt))
-section_at (x ∷ xs) zero lt = (x, refl)
-section_at (x ∷ xs) (suc k) lt = section_at xs k (omega (arith, lt))
-
-pub if_some : {X : Type 0} (o : Option X) (x : X) (P : X → Type 0) → o ≡ Some x → IfSome o P → P x
-if_some None x P is h = absurd cc
-if_some (Some y) x P is h = subst (λ o. IfSome o P) is h
 
 pub dictionary_log : (table : Table) (head : Seen) (column : ℕ) (file : List ℕ) (end : ℕ) (old new : Option (List Entry)) → IsHeadOf table head → column < length table.schema.fields → AreIn file head.sections → DictionariesEnd table head end
     → IfSome (dictionary_section head column) (λ s. LogsUpTo s.place.file s.place.offset (s.place.offset + s.place.length) old new) → LogsThat (EndsBy file end) old new

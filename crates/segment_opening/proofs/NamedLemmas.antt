@@ -26,22 +26,13 @@ use Rattle.segment_head.specs.Heads.{IsLoaded, Seen}
 use Rattle.segment_file.proofs.TreeChecks.{valid_at}
 use Rattle.segment_plan.specs.Factors.{AreWholeLoaded, is_whole}
 use Rattle.segment_plan.specs.Matched.{AreLoaded, is_filtered, is_on}
-use Rattle.star_answer.specs.Tasks.{AreGroupsLoaded}
+use Rattle.segment_plan.specs.Named.{AreGroupsLoaded, AreNamedLoaded, agg_names, conjunct_names, is_in, names_step, query_names, wide_names}
 use Rattle.segment_opening.specs.Wanted.{AreFactorsLoaded, is_detailed, is_keyed, is_wanted, is_whole_from, tree_at}
-use Rattle.segment_scan.specs.Images.{AreNamedLoaded}
-use Rattle.segment_scan.specs.Named.{agg_names, conjunct_names, is_in, names_step, query_names, wide_names}
+use Rattle.segment_head.proofs.SectionLemmas.{first_true, rest_true}
 
 either : (a b : Bool) (P : Type 0) → a || b ≡ true → (a ≡ true → P) → (b ≡ true → P) → P
 either true b P is here there = here refl
 either false b P is here there = there is
-
-pub first_true : (a b : Bool) → a && b ≡ true → a ≡ true
-first_true true b is = refl
-first_true false b is = is
-
-pub rest_true : (a b : Bool) → a && b ≡ true → b ≡ true
-rest_true true b is = is
-rest_true false b is = absurd (false≢true is)
 
 -- where some element passes one test and all pass another, one passes both
 some_passes : {X : Type 0} (p q : X → Bool) (P : Type 0) → ((x : X) → p x ≡ true → q x ≡ true → P) → (xs : List X) → list_any p xs ≡ true → list_all q xs ≡ true → P

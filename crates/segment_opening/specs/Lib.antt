@@ -1,6 +1,2 @@
-pub mod Logs
-pub mod Looked
 pub mod Opened
-pub mod Reads
-pub mod Segments
 pub mod Wanted

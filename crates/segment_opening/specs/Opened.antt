@@ -1,4 +1,4 @@
--- The head of a segment that is opened, and what its fault is for the answer of the segment.
+-- The head of a segment that is opened.
 use Rattle.std.specs.Prelude.{◌≡◌, ℕ, List, Option, IfSome, map}
 use Rattle.outside.specs.Files.{Files}
 use Rattle.values.specs.declared.value.Value.{Value}
@@ -8,26 +8,20 @@ use Rattle.segment_head.specs.Heads.{IsHeadOf, IsLoaded, Seen, placed}
 use Rattle.segment_file.specs.Image.{front_of}
 use Rattle.segment_file.specs.Names.{file_of}
 use Rattle.segment_file.specs.Ordered.{ordered}
-use Rattle.segment_file.specs.declared.fault.HeadFault.{HeadFault}
-use Rattle.segment_file.specs.declared.fault.HeadFault.TheVariants as head
-use Rattle.segment_scan.specs.Images.{IsOfImage}
-use Rattle.document_reading.specs.declared.fault.EngineFault.{EngineFault}
-use Rattle.document_reading.specs.declared.fault.EngineFault.TheVariants as engine
-use Rattle.segment_opening.specs.Segments.{HasImage}
+use Rattle.segment_head.specs.Stored.{IsOfImage, HasImage}
 
--- what the fault of a head is for the answer of its segment
-abbrev pub fault_of : HeadFault → EngineFault
-fault_of (head.NotASegment part) = engine.NotASegment part
-fault_of head.ReadFault = engine.ReadFault
-fault_of head.NoMemory = engine.NoMemory
-
--- where files are told: if the segment's file is the image of rows, this is its head, but for dictionaries that are not loaded
+-- where files are told: if the segment's file is the image of rows, this is its head, but for
+-- dictionaries that are not loaded
 abbrev pub IsHeadIn : Table → Option Files → List ℕ → Seen → Type 0
-IsHeadIn table held name head = IfSome held (λ files. (rows : List (List Value)) → HasImage table files name rows → IsOfImage table files rows head)
+IsHeadIn table held name head = IfSome held (λ files. (rows : List (List Value))
+    → HasImage table files name rows → IsOfImage table files rows head)
 
--- where files are told: if the segment's file is the image of rows, the head says where the sections of these are
+-- where files are told: if the segment's file is the image of rows, the head says where the
+-- sections of these are
 abbrev pub IsSpreadIn : Table → Option Files → List ℕ → Seen → Type 0
-IsSpreadIn table held name head = IfSome held (λ files. (rows : List (List Value)) → HasImage table files name rows → head.sections ≡ map (placed (file_of name)) (extents_of table name (front_of 1 table (ordered table.settings.sorted rows))))
+IsSpreadIn table held name head = IfSome held (λ files. (rows : List (List Value))
+    → HasImage table files name rows → head.sections ≡ map (placed (file_of name))
+    (extents_of table name (front_of 1 table (ordered table.settings.sorted rows))))
 
 -- a head before and after more dictionaries were loaded
 pub record Grows (table : Table) (held : Option Files) (old new : Seen) : Type 0 where

@@ -9,7 +9,7 @@ use Rattle.table_schema.specs.Columns.{is_member}
 use Rattle.segment_head.specs.Heads.{Seen}
 use Rattle.segment_plan.specs.Factors.{AreWholeLoaded, is_whole}
 use Rattle.segment_plan.specs.Matched.{is_filtered}
-use Rattle.segment_scan.specs.Named.{query_names}
+use Rattle.segment_plan.specs.Named.{query_names}
 
 -- ---- for an answer
 
@@ -26,12 +26,16 @@ is_wanted query by_tree column = if by_tree then is_keyed query column else quer
 -- a split dimension from this level on is the column, and all its values count for the bound
 abbrev pub is_whole_from : BoundQuery → TreeShape → ℕ → List ℕ → ℕ → Bool
 is_whole_from query shape level [] column = false
-is_whole_from query shape level (dimension ∷ split) column = (dimension == column && is_whole query (skips shape level) dimension) || is_whole_from query shape (level + 1) split column
+is_whole_from query shape level (dimension ∷ split) column =
+    (dimension == column && is_whole query (skips shape level) dimension)
+    || is_whole_from query shape (level + 1) split column
 
--- a conjunct names the column alone, or the bound on the documents of the tree that is picked, if one is, wants all its values
+-- a conjunct names the column alone, or the bound on the documents of the tree that is picked, if
+-- one is, wants all its values
 abbrev pub is_detailed : BoundQuery → Option TreeSetting → ℕ → Bool
 is_detailed query None column = is_filtered query.conjuncts column
-is_detailed query (Some tree) column = is_filtered query.conjuncts column || is_whole_from query tree.shape 0 tree.split column
+is_detailed query (Some tree) column = is_filtered query.conjuncts column
+    || is_whole_from query tree.shape 0 tree.split column
 
 -- the tree of this number, if there is one
 abbrev pub tree_at : Table → Option ℕ → Option TreeSetting

@@ -4,27 +4,24 @@ ghost use Rattle.outside.specs.Seen.{OnlyReads, seen};
 ghost use Rattle.segment_head.specs.Heads.{AreIn, IsHeadOf, IsLoaded};
 ghost use Rattle.segment_file.specs.declared.part.Part.{Part};
 ghost use Rattle.segment_plan.specs.Matched.{AreLoaded};
-ghost use Rattle.star_answer.specs.Tasks.{AreGroupsLoaded};
-ghost use Rattle.segment_scan.specs.Images.{AreNamedLoaded};
-ghost use Rattle.document_reading.specs.declared.fault.EngineFault.TheVariants.{NotASegment, ReadFault, TooManyGroups};
+ghost use Rattle.segment_plan.specs.Named.{AreGroupsLoaded, AreNamedLoaded};
+ghost use Rattle.segment_head.specs.declared.fault.EngineFault.TheVariants.{NotASegment, ReadFault, TooManyGroups};
 ghost use Rattle.table_schema.specs.ValidQuery.{IsValidQuery};
 ghost use Rattle.table_schema.specs.ValidTable.{IsValidTable};
-ghost use Rattle.segment_opening.specs.Logs.{DictionariesEnd, EndsBy, LogsThat};
-ghost use Rattle.segment_opening.specs.Segments.{HasNoImage};
+ghost use Rattle.segment_reads.specs.Logs.{DictionariesEnd, EndsBy, LogsThat};
+ghost use Rattle.segment_head.specs.Stored.{HasNoImage};
 ghost use Rattle.segment_opening.specs.Opened.{Grows, IsHeadIn};
 ghost use Rattle.segment_opening.specs.Wanted.{AreFactorsLoaded};
 
-use crate::opening::engine_fault;
 use crate::wanted::{detailed_columns, wanted_columns};
-use document_reading::EngineFault;
 use outside::Shelf;
-use segment_head::Head;
+use segment_head::{EngineFault, Head, engine_fault};
 use std::alloc::Global;
 use table_schema::{BoundQuery, Table};
 
 /// Loads the dictionaries that the answer of a segment wants, and no other: where a star-tree
-/// answers, of the columns that a conjunct names alone and of the group columns; else of each column
-/// that the query names.
+/// answers, of the columns that a conjunct names alone and of the group columns; else of each
+/// column that the query names.
 pub fn load_wanted<S: Shelf>(
     alloc: Global,
     shelf: &mut S,

@@ -1,20 +1,20 @@
 //! A segment of a table is opened.
-ghost use Rattle.std.specs.Prelude.{◌≡◌, ◌≢◌, Err, IfOk, IfSome, IsErrOf, string_bytes};
+ghost use Rattle.std.specs.Prelude.{◌≡◌, ◌≢◌, Err, IfOk, IfSome, IsErrOf};
 ghost use Rattle.outside.specs.Seen.{OnlyReads, seen};
 ghost use Rattle.segment_head.specs.Heads.{AreIn, IsHeadOf};
 ghost use Rattle.segment_file.specs.Names.{IsSegmentName, file_of};
 ghost use Rattle.segment_file.specs.declared.part.Part.{Part};
-ghost use Rattle.document_reading.specs.declared.fault.EngineFault.TheVariants.{NotASegment, ReadFault, TooManyGroups};
+ghost use Rattle.segment_head.specs.declared.fault.EngineFault.TheVariants.{NotASegment, ReadFault, TooManyGroups};
 ghost use Rattle.table_schema.specs.ValidTable.{IsValidTable};
-ghost use Rattle.segment_opening.specs.Logs.{EndsInHead, LogsHeadOf};
-ghost use Rattle.segment_opening.specs.Segments.{HasNoImage};
-ghost use Rattle.segment_opening.specs.Opened.{IsHeadIn, IsSpreadIn, fault_of};
+ghost use Rattle.segment_reads.specs.Logs.{EndsInHead, LogsHeadOf};
+ghost use Rattle.segment_head.specs.Stored.{HasNoImage};
+ghost use Rattle.segment_opening.specs.Opened.{IsHeadIn, IsSpreadIn};
+ghost use Rattle.segment_head.specs.Faults.{fault_of};
 
-use document_reading::EngineFault;
 use outside::Shelf;
-use segment_file::{HeadFault, image_keeps_law};
-use segment_head::{Head, open_head};
-use std::alloc::{AllocError, Global};
+use segment_file::{image_keeps_law, segment_file_name};
+use segment_head::{EngineFault, Head, engine_fault, open_head};
+use std::alloc::Global;
 use table_schema::Table;
 
 /// The head of the segment of this name, without its dictionaries.
@@ -46,24 +46,4 @@ pub fn open_segment<S: Shelf>(
         Ok(head) => Ok(head),
         Err(fault) => Err(engine_fault(fault)),
     }
-}
-
-/// What the fault of a head is for the scan of its segment.
-pub fn engine_fault(fault: HeadFault) -> EngineFault
-    ensures { result ≡ fault_of fault }
-{
-    match fault {
-        HeadFault::NotASegment(part) => EngineFault::NotASegment(part),
-        HeadFault::ReadFault => EngineFault::ReadFault,
-        HeadFault::NoMemory => EngineFault::NoMemory,
-    }
-}
-
-// The name of the file of a segment.
-fn segment_file_name(alloc: Global, name: &str) -> Result<String, AllocError>
-    ensures { IfOk result (λ file. string_bytes file ≡ file_of name.now) }
-{
-    let mut file = String::from_str(alloc, name)?;
-    file.push_str(".seg")?;
-    Ok(file)
 }

@@ -3,8 +3,7 @@ ghost use Rattle.std.specs.Prelude.{◌≡◌, ◌<◌, ◌≤◌, false, IfOk, 
 ghost use Rattle.segment_opening.specs.Wanted as spec;
 ghost use Rattle.table_schema.specs.ValidTable.{IsValidTable};
 
-use segment_plan::is_filtered;
-use segment_scan::named_columns;
+use segment_plan::{is_filtered, named_columns};
 use std::alloc::{AllocError, Global};
 use table_schema::{BoundQuery, Table, TreeSetting};
 

@@ -11,7 +11,7 @@ use Rattle.table_schema.specs.declared.query.Conjunct.TheVariants.{One, Many}
 use Rattle.table_schema.specs.declared.table.Table.{Table}
 use Rattle.table_schema.specs.Conditions.{all_hold, cell, conjunct_holds}
 use Rattle.value_ids.specs.Dictionary.{distinct}
-use Rattle.value_ids.proofs.Distinct.{distinct_members}
+use Rattle.value_ids.proofs.DistinctLemmas.{distinct_members}
 use Rattle.segment_head.specs.Heads.{IsLoaded, Seen}
 use Rattle.segment_file.specs.Image.{values_in}
 use Rattle.segment_file.specs.Ordered.{value_in}

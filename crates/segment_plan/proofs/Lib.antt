@@ -7,3 +7,4 @@ mod Images
 mod OnePlan
 mod OneFactors
 mod OverRows
+pub mod ServedLemmas

@@ -16,7 +16,7 @@ use Rattle.table_schema.specs.declared.query.Conjunct.TheVariants.{One, Many}
 use Rattle.table_schema.specs.declared.table.Table.{Table}
 use Rattle.table_schema.specs.Conditions.{all_hold, cell, conjunct_holds}
 use Rattle.value_ids.specs.Dictionary.{Ascends, distinct}
-use Rattle.value_ids.proofs.Distinct.{distinct_ascends, distinct_members}
+use Rattle.value_ids.proofs.DistinctLemmas.{distinct_ascends, distinct_members}
 use Rattle.segment_file.specs.declared.bounds.Ends.{Ends}
 use Rattle.segment_file.specs.Bounds.{bounds_of, ends_of}
 use Rattle.segment_file.specs.Image.{dictionary_of, values_in}

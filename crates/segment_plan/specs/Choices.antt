@@ -30,10 +30,12 @@ abbrev pub is_sorted_on : Option ℕ → ℕ → Bool
 is_sorted_on None column = false
 is_sorted_on (Some sorted) column = sorted == column
 
--- the first of these that serves: the sorted column, an inverted index, and a range index where the matching ids are consecutive
+-- the first of these that serves: the sorted column, an inverted index, and a range index where the
+-- matching ids are consecutive
 abbrev pub choice_of : Settings → Seen → Conjunct → IndexChoice
 choice_of settings head (One column condition) =
     if is_sorted_on settings.sorted column then Sorted else
     if is_set (slice_get settings.inverted column) then Inverted else
-    if is_set (slice_get settings.ranged column) && are_consecutive (matching condition (values_in head column)) then Range else Unindexed
+    if is_set (slice_get settings.ranged column) && are_consecutive
+    (matching condition (values_in head column)) then Range else Unindexed
 choice_of settings head (Many condition) = Unindexed

@@ -36,7 +36,8 @@ choice_word Range = codes "range"
 -- the word for each choice, with a space between them
 abbrev pub choices_text : List IndexChoice → List ℕ
 choices_text [] = codes "-"
-choices_text (first ∷ others) = choice_word first ++ flat_map (λ choice. 32 ∷ choice_word choice) others
+choices_text (first ∷ others) = choice_word first ++ flat_map
+    (λ choice. 32 ∷ choice_word choice) others
 
 -- the most documents of a leaf and the factors, with a star between them
 abbrev pub factors_text : ℕ → List ℕ → List ℕ
@@ -47,10 +48,12 @@ abbrev pub tree_text : BoundQuery → Seen → Option TreeSetting → List ℕ
 tree_text query head None = codes "-"
 tree_text query head (Some tree) = factors_text tree.shape.leaf (factors_of query head tree)
 
--- the detail of a plan: how the rows of each conjunct are found, or the bound on the documents of a tree as a product
+-- the detail of a plan: how the rows of each conjunct are found, or the bound on the documents of a
+-- tree as a product
 abbrev pub detail_text : BoundQuery → Table → Seen → SegmentPlan → List ℕ
 detail_text query table head (Scan plan) = choices_text plan.choices
-detail_text query table head (StarTree tree) = tree_text query head (slice_get table.settings.trees tree)
+detail_text query table head (StarTree tree) = tree_text query head
+    (slice_get table.settings.trees tree)
 detail_text query table head other = codes "-"
 
 -- a plan and its detail
@@ -67,7 +70,10 @@ explained_by query table head = plan_text query table head (plan_of query table 
 unfoldable pub explained_over : BoundQuery → Table → List (List Value) → List ℕ
 explained_over query table rows = explained_by query table (told_head table rows)
 
--- what the detail of a plan is made of: of a tree of the table, the dictionaries that its factors want were loaded
+-- what the detail of a plan is made of: of a tree of the table, the dictionaries that its factors
+-- want were loaded
 abbrev pub IsDetailed : BoundQuery → Table → Seen → SegmentPlan → Type 0
-IsDetailed query table head (StarTree tree) = (tree < length table.settings.trees) × AreLoaded query.conjuncts head × IfSome (slice_get table.settings.trees tree) (AreWholeLoaded query head)
+IsDetailed query table head (StarTree tree) = (tree < length table.settings.trees)
+    × AreLoaded query.conjuncts head × IfSome (slice_get table.settings.trees tree)
+    (AreWholeLoaded query head)
 IsDetailed query table head other = Unit {0}

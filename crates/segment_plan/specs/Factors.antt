@@ -12,24 +12,29 @@ use Rattle.segment_plan.specs.Matched.{is_filtered, matched, values_in}
 abbrev pub is_whole : BoundQuery → Bool → ℕ → Bool
 is_whole query skipped column = is_member query.groups column || skipped
 
--- the values that satisfy the conjuncts on a filtered dimension; all of one that is grouped or skipped; else one
+-- the values that satisfy the conjuncts on a filtered dimension; all of one that is grouped or
+-- skipped; else one
 abbrev pub factor : BoundQuery → Seen → Bool → ℕ → ℕ
 factor query head skipped column =
-    if is_filtered query.conjuncts column then matched query.conjuncts column (values_in head column) else
+    if is_filtered query.conjuncts column then matched query.conjuncts column
+    (values_in head column) else
     if is_whole query skipped column then length (values_in head column) else 1
 
 -- the factors of these dimensions, the first of which has this level
 abbrev pub factors_from : BoundQuery → Seen → TreeShape → ℕ → List ℕ → List ℕ
 factors_from query head shape level [] = []
-factors_from query head shape level (column ∷ split) = factor query head (skips shape level) column ∷ factors_from query head shape (level + 1) split
+factors_from query head shape level (column ∷ split) = factor query head (skips shape level) column
+    ∷ factors_from query head shape (level + 1) split
 
 -- the dictionary of a dimension that is grouped or skipped was loaded
 abbrev pub IsWholeLoaded : BoundQuery → Seen → Bool → ℕ → Type 0
-IsWholeLoaded query head skipped column = is_whole query skipped column ≡ true → IsLoaded head column
+IsWholeLoaded query head skipped column = is_whole query skipped column ≡ true
+    → IsLoaded head column
 
 -- the dictionary of each split dimension that is grouped or skipped was loaded
 abbrev pub AreWholeLoaded : BoundQuery → Seen → TreeSetting → Type 0
-AreWholeLoaded query head tree = (level column : ℕ) → slice_get tree.split level ≡ Some column → IsWholeLoaded query head (skips tree.shape level) column
+AreWholeLoaded query head tree = (level column : ℕ) → slice_get tree.split level ≡ Some column
+    → IsWholeLoaded query head (skips tree.shape level) column
 
 -- a factor for each split dimension of a tree
 abbrev pub factors_of : BoundQuery → Seen → TreeSetting → List ℕ

@@ -6,3 +6,6 @@ pub mod Factors
 pub mod Planned
 pub mod Explained
 pub mod Laws
+pub mod Served
+pub mod RowsLeft
+pub mod Named

@@ -39,7 +39,8 @@ is_in_all sets id = list_all (λ ids. has_id ids id) sets
 
 -- how many of these values of the column satisfy each conjunct that names it alone
 abbrev pub matched : List Conjunct → ℕ → List Value → ℕ
-matched conjuncts column values = length (filter (λ value. list_all (passes column value) conjuncts) values)
+matched conjuncts column values = length (filter (λ value. list_all
+    (passes column value) conjuncts) values)
 
 -- the values of a dictionary; one that is not loaded has none
 abbrev pub values_of : Option (Option Distinct) → List Value
@@ -50,6 +51,10 @@ values_of (Some (Some d)) = d.values
 -- the distinct values of a column, which a head has where they were loaded
 abbrev pub values_in : Seen → ℕ → List Value
 values_in head column = values_of (slice_get head.dictionaries column)
+
+-- how many distinct values the column has
+abbrev pub count_in : Seen → ℕ → ℕ
+count_in head column = length (values_in head column)
 
 -- the dictionary of each column that a conjunct names alone was loaded
 abbrev pub AreLoaded : List Conjunct → Seen → Type 0

@@ -15,7 +15,8 @@ use Rattle.segment_plan.specs.Pruning.{is_pruned}
 
 -- conjuncts name the column alone, and none of its values satisfies them all
 abbrev pub leaves_none : List Conjunct → Seen → ℕ → Bool
-leaves_none conjuncts head column = is_filtered conjuncts column && matched conjuncts column (values_in head column) == 0
+leaves_none conjuncts head column = is_filtered conjuncts column
+    && matched conjuncts column (values_in head column) == 0
 
 -- some column is left without a value
 abbrev pub is_emptied : List Conjunct → Table → Seen → Bool
@@ -28,7 +29,8 @@ tree_or scan (Some tree) = StarTree tree
 
 -- the scan, with a choice for each conjunct
 abbrev pub scan_of : BoundQuery → Table → Seen → SegmentPlan
-scan_of query table head = Scan (record { choices = map (choice_of table.settings head) query.conjuncts })
+scan_of query table head = Scan
+    (record { choices = map (choice_of table.settings head) query.conjuncts })
 
 -- the plan of a segment with this head: the first that applies
 abbrev pub plan_of : BoundQuery → Table → Seen → SegmentPlan

@@ -20,7 +20,7 @@ use Rattle.group_table.specs.Groups.{Groups, groups_of, has_key, key_of, key_ord
 use Rattle.group_table.specs.Shape.{shape_of}
 use Rattle.scan_engine.specs.Scanned.{selected}
 use Rattle.segment_scan.specs.Agreement.{Agree, AgreeAll, AgreeingAreSame}
-use Rattle.segment_scan.specs.Named.{agg_names, conjunct_names, is_in, names_step, query_names, wide_names}
+use Rattle.segment_plan.specs.Named.{agg_names, conjunct_names, is_in, names_step, query_names, wide_names}
 
 pub or_left : (a b : Bool) → a ≡ true → a || b ≡ true
 or_left a b e = ap (λ c. c || b) e

@@ -12,15 +12,15 @@ use Rattle.std.proofs.lemmas.List.FromFn.{get_or-map-range_with_len}
 use Rattle.outside.specs.Files.{Files}
 use Rattle.values.specs.declared.value.Value.{Value}
 use Rattle.values.specs.declared.value.Value.TheVariants.{Whole}
-use Rattle.value_columns.specs.Columns.{Counts, row_of, rows_of}
+use Rattle.values.specs.Columns.{Counts, row_of, rows_of}
 use Rattle.values.specs.Order.{value_eq, value_order}
 use Rattle.values.specs.Order.Laws.{value_eq-equiv}
 use Rattle.values.specs.Tests.{is_member}
 use Rattle.values.proofs.Bounds.{same_value}
-use Rattle.value_columns.proofs.RowLemmas.{length-rows, row-at}
+use Rattle.values.proofs.RowLemmas.{length-rows, row-at}
 use Rattle.value_ids.specs.Coding.{values_at}
 use Rattle.value_ids.specs.Dictionary.{distinct, put_in}
-use Rattle.value_ids.proofs.Distinct.{distinct_members}
+use Rattle.value_ids.proofs.DistinctLemmas.{distinct_members}
 use Rattle.bit_column.specs.Column.{ids_between, spelled, width_of}
 use Rattle.bit_column.specs.Sections.{Readable}
 use Rattle.bit_column.proofs.Spelling.{ids-written, readable-written}
@@ -46,9 +46,9 @@ use Rattle.segment_head.proofs.SectionBytes.{any_front, any_raw, cut_section, so
 use Rattle.segment_plan.specs.Laws.{HeadTells, TellsOf}
 use Rattle.segment_plan.specs.Matched.{values_in, values_of}
 use Rattle.segment_scan.specs.Agreement.{Agree, AgreeAll}
-use Rattle.document_reading.specs.Forward.{HasIds, forward_in}
-use Rattle.segment_scan.specs.Images.{AreNamedLoaded, ImagesRead, LoadedAreReadable, names_in}
-use Rattle.segment_scan.specs.Named.{query_names}
+use Rattle.column_reader.specs.Forward.{HasIds, forward_in}
+use Rattle.segment_scan.specs.Images.{ImagesRead, LoadedAreReadable}
+use Rattle.segment_plan.specs.Named.{AreNamedLoaded, names_in, query_names}
 use Rattle.segment_scan.specs.Scans.{column_read, columns_read, table_read, values_read}
 use Rattle.segment_scan.proofs.AgreementLemmas.{or_right}
 

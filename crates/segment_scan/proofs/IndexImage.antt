@@ -13,12 +13,12 @@ use Rattle.values.specs.declared.test.Test.{Test}
 use Rattle.values.specs.Tests.{holds}
 use Rattle.value_ids.specs.Dictionary.{distinct}
 use Rattle.value_ids.specs.Ids.{has_id, matching, satisfies}
-use Rattle.value_ids.proofs.Distinct.{distinct_ascends}
+use Rattle.value_ids.proofs.DistinctLemmas.{distinct_ascends}
 use Rattle.value_ids.proofs.IdLemmas.{each_matching}
 use Rattle.std.specs.List.Sorted.{IsNonDecreasing}
-use Rattle.index_reading.specs.Documents.{Tells, TellsRanged, is_doc_of}
-use Rattle.index_reading.specs.declared.kind.ListKind.{ListKind}
-use Rattle.index_reading.specs.declared.kind.ListKind.TheVariants as kinds
+use Rattle.index_reader.specs.Documents.{Tells, TellsRanged, is_doc_of}
+use Rattle.index_reader.specs.declared.kind.ListKind.{ListKind}
+use Rattle.index_reader.specs.declared.kind.ListKind.TheVariants as kinds
 use Rattle.table_schema.specs.declared.query.BoundQuery.{BoundQuery}
 use Rattle.table_schema.specs.declared.query.Conjunct.{Conjunct}
 use Rattle.table_schema.specs.declared.query.Conjunct.TheVariants.{One, Many}
@@ -42,15 +42,14 @@ use Rattle.segment_file.proofs.RuleLaws.{fronts_one}
 use Rattle.segment_head.proofs.SectionBytes.{any_back, any_front, any_raw, cut_section, some_place}
 use Rattle.segment_plan.specs.Choices.{are_consecutive, choice_of, is_sorted_on}
 use Rattle.segment_plan.specs.Laws.{HeadTells, TellsOf}
-use Rattle.segment_plan.specs.Matched.{values_in, values_of}
+use Rattle.segment_plan.specs.Matched.{values_in, values_of, count_in}
 use Rattle.segment_plan.specs.declared.plans.IndexChoice.{IndexChoice}
 use Rattle.segment_plan.specs.declared.plans.IndexChoice.TheVariants.{Unindexed, Sorted, Inverted, Range}
-use Rattle.document_reading.specs.Forward.{count_in}
-use Rattle.segment_scan.specs.Images.{AreNamedLoaded, ImagesLeave, choices_for}
-use Rattle.document_reading.specs.Indexes.{IsIndexed, IsRanged, IsReady, OfEach, OfIndex, TellsBuckets, TellsIds, all_leave, is_doc_near, is_unsure, leaves, part_of}
-use Rattle.segment_scan.specs.Named.{conjunct_names}
-use Rattle.coded_scan.specs.Served.{choice_at}
-use Rattle.document_reading.specs.Served.{Chosen, all_left, indexed, is_indexed, is_near, is_row_left, is_value_near}
+use Rattle.segment_scan.specs.Images.{ImagesLeave, choices_for}
+use Rattle.segment_plan.specs.Named.{AreNamedLoaded, conjunct_names}
+use Rattle.index_filter.specs.Indexes.{IsIndexed, IsRanged, IsReady, OfEach, OfIndex, TellsBuckets, TellsIds, all_leave, is_doc_near, is_unsure, leaves, part_of}
+use Rattle.segment_plan.specs.Served.{choice_at}
+use Rattle.segment_plan.specs.RowsLeft.{Chosen, all_left, indexed, is_indexed, is_near, is_row_left, is_value_near}
 use Rattle.segment_scan.proofs.AgreementLemmas.{conjuncts_in_names, or_left, or_right}
 use Rattle.segment_scan.proofs.ImageLemmas.{IsPlace, ids-below, ids-count, item_there, ordered_count, places}
 use Rattle.segment_scan.proofs.OrderLemmas.{sorted_ids}

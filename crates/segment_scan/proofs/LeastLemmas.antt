@@ -27,11 +27,11 @@ use Rattle.segment_file.specs.Rules.{IsSized, count_in, dictionary_in, heads_in,
 use Rattle.segment_file.proofs.Tails.{count_same}
 use Rattle.segment_plan.specs.Matched.{values_in, values_of}
 use Rattle.segment_plan.specs.Choices.{choice_of}
-use Rattle.document_reading.specs.Forward.{LogsColumns, LogsNamed, width_in}
-use Rattle.segment_scan.specs.Images.{AreNamedLoaded, LogsScan, indexed_for, names_in}
+use Rattle.column_reader.specs.Forward.{LogsColumns, LogsNamed, width_in}
+use Rattle.segment_scan.specs.Images.{LogsScan, indexed_for}
+use Rattle.segment_plan.specs.Named.{AreNamedLoaded, names_in, agg_names, conjunct_names, is_in, query_names}
 use Rattle.segment_scan.specs.LeastReads.{IsLookedThrough, forward_bytes, forward_length}
-use Rattle.segment_scan.specs.Named.{agg_names, conjunct_names, is_in, query_names}
-use Rattle.document_reading.specs.Served.{indexed}
+use Rattle.segment_plan.specs.RowsLeft.{indexed}
 use Rattle.segment_scan.proofs.ImageLemmas.{columns_few, forward_only, loaded_readable}
 use Rattle.segment_scan.proofs.SegmentLemmas.{mark_named}
 

@@ -11,10 +11,10 @@ use Rattle.std.specs.FinMap as finite
 use Rattle.outside.specs.Files.{Files}
 use Rattle.outside.specs.Reads.{Entry}
 use Rattle.values.specs.declared.value.Value.{Value}
-use Rattle.value_columns.specs.Columns.{Listed}
+use Rattle.values.specs.Columns.{Listed}
 use Rattle.values.specs.declared.test.Test.{Test}
 use Rattle.value_ids.specs.Dictionary.{distinct}
-use Rattle.index_reading.specs.declared.kind.ListKind.{ListKind}
+use Rattle.index_reader.specs.declared.kind.ListKind.{ListKind}
 use Rattle.table_schema.specs.declared.query.BoundQuery.{BoundQuery}
 use Rattle.table_schema.specs.declared.query.Conjunct.{Conjunct}
 use Rattle.table_schema.specs.declared.query.Conjunct.TheVariants.{One, Many}
@@ -39,20 +39,21 @@ use Rattle.segment_plan.specs.declared.plans.IndexChoice.{IndexChoice}
 use Rattle.segment_plan.specs.declared.plans.IndexChoice.TheVariants.{Unindexed, Sorted, Inverted, Range}
 use Rattle.segment_scan.specs.Agreement.{AgreeAll, AreSame}
 use Rattle.segment_scan.specs.Documents.{AddsDocs, selected_docs}
-use Rattle.document_reading.specs.Forward.{HasIds}
-use Rattle.segment_scan.specs.Images.{AddsImage, AddsWhole, AreDocs, AreLeftFor, AreNamedLoaded, AreParts, HasUnsureFor, ImagesLeave, ImagesRead, IsBadForward, IsBadIn, IsBadWhole, IsImageOverfull, IsNoImage, IsOfImage, IsWholeOverfull, LogsPartsPartly, choices_for, indexed_for, names_in, rest_for, sure_for}
-use Rattle.document_reading.specs.Indexes.{IsBadAny, IsBadIndex, LogsAt, LogsIndex, LogsRange, OfIndex, TellsIndexed, all_leave, is_unsure, leaves}
-use Rattle.segment_scan.specs.Named.{agg_names, conjunct_names, is_in, query_names}
+use Rattle.column_reader.specs.Forward.{HasIds}
+use Rattle.segment_scan.specs.Images.{AddsImage, AddsWhole, AreDocs, AreLeftFor, AreParts, HasUnsureFor, ImagesLeave, ImagesRead, IsBadForward, IsBadIn, IsBadWhole, IsImageOverfull, IsWholeOverfull, LogsPartsPartly, choices_for, indexed_for, rest_for, sure_for}
+use Rattle.segment_head.specs.Stored.{IsNoImage, IsOfImage}
+use Rattle.segment_plan.specs.Named.{AreNamedLoaded, names_in, agg_names, conjunct_names, is_in, query_names}
+use Rattle.index_filter.specs.Indexes.{IsBadAny, IsBadIndex, LogsAt, LogsIndex, LogsRange, OfIndex, TellsIndexed, all_leave, is_unsure, leaves}
 use Rattle.segment_scan.specs.Scans.{columns_read}
-use Rattle.segment_scan.specs.Series.{LogsTo}
-use Rattle.coded_scan.specs.Served.{choice_at, is_served, rest_of, unserved}
-use Rattle.document_reading.specs.Served.{Chosen, all_left, indexed, is_indexed, is_row_left, rows_left, sure_choices}
+use Rattle.outside.specs.Series.{LogsTo}
+use Rattle.segment_plan.specs.Served.{choice_at, is_served, rest_of, unserved}
+use Rattle.segment_plan.specs.RowsLeft.{Chosen, all_left, indexed, is_indexed, is_row_left, rows_left, sure_choices}
 use Rattle.segment_scan.proofs.AgreementLemmas.{agreeing_same}
 use Rattle.segment_scan.proofs.DocLemmas.{filter_both, rows_filtered}
 use Rattle.segment_scan.proofs.IndexImage.{again, place_at}
 use Rattle.segment_scan.proofs.ImageLemmas.{ordered_count}
-use Rattle.document_reading.proofs.MatchLemmas.{all_has}
-use Rattle.segment_scan.proofs.LeftLemmas.{one_chosen, part_all}
+use Rattle.index_filter.proofs.MatchLemmas.{all_has}
+use Rattle.index_filter.proofs.LeftLemmas.{one_chosen, part_all}
 use Rattle.segment_scan.proofs.PickLemmas.{docs_few}
 use Rattle.segment_scan.proofs.PartLemmas.{left_at, parts_count, parts_permuted, sure_all}
 use Rattle.segment_scan.proofs.NearLemmas.{value_near}

@@ -1,10 +1,7 @@
 pub mod ServedLemmas
 pub mod DocLemmas
-pub mod BlockSteps
 pub mod PickLemmas
-pub mod SeriesLemmas
 pub mod OrderLemmas
-pub mod LeftLemmas
 pub mod ScanLemmas
 pub mod AgreementLemmas
 pub mod ImageLemmas
@@ -12,7 +9,12 @@ pub mod IndexImage
 pub mod NearLemmas
 pub mod LeftImage
 pub mod SegmentLemmas
-pub mod LogLemmas
 pub mod ServedRows
 pub mod LeastLemmas
 pub mod PartLemmas
+pub mod PartPlaces
+pub mod WithinLogs
+pub mod IndexReads
+pub mod ForwardReads
+pub mod ScanReads
+pub mod ScanLogs

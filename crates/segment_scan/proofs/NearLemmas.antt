@@ -9,14 +9,14 @@ use Rattle.value_ids.specs.Ids.{has_id, matching, matching_from, satisfies}
 use Rattle.value_ids.proofs.IdLemmas.{each_matching}
 use Rattle.bit_column.specs.Postings.{bucket_of}
 use Rattle.doc_lists.specs.Sets.{Up}
-use Rattle.index_reading.specs.Buckets.{is_to_check, lies_within, overlaps}
-use Rattle.index_reading.specs.Documents.{is_doc_of}
+use Rattle.index_reader.specs.Buckets.{is_to_check, lies_within, overlaps}
+use Rattle.index_reader.specs.Documents.{is_doc_of}
 use Rattle.segment_file.specs.Columns.{place_of}
 use Rattle.segment_plan.specs.Choices.{are_consecutive, follow}
-use Rattle.document_reading.specs.Indexes.{is_doc_near}
-use Rattle.document_reading.specs.Served.{first_of, is_value_near, last_of}
+use Rattle.index_filter.specs.Indexes.{is_doc_near}
+use Rattle.segment_plan.specs.RowsLeft.{first_of, is_value_near, last_of}
 use Rattle.segment_scan.proofs.ImageLemmas.{IsPlace, item_there}
-use Rattle.document_reading.proofs.RangeLemmas.{both_true, in_bucket, left_true, right_true}
+use Rattle.index_filter.proofs.RangeLemmas.{both_true, in_bucket, left_true, right_true}
 
 -- ---- ids between the ends of a set
 

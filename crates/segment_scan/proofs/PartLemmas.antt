@@ -14,29 +14,11 @@ use Rattle.table_schema.specs.declared.query.Conjunct.TheVariants.{One, Many}
 use Rattle.segment_head.specs.Heads.{Seen}
 use Rattle.segment_plan.specs.declared.plans.IndexChoice.{IndexChoice}
 use Rattle.segment_plan.specs.declared.plans.IndexChoice.TheVariants.{Unindexed, Sorted, Inverted, Range}
-use Rattle.document_reading.specs.Indexes.{AddsUnsure, HasUnsure, is_unsure}
-use Rattle.coded_scan.specs.Served.{choice_at, is_served, unserved}
-use Rattle.document_reading.specs.Served.{indexed, is_indexed, sure_choices}
+use Rattle.index_filter.specs.Indexes.{AddsUnsure, HasUnsure, is_unsure}
+use Rattle.segment_plan.specs.Served.{choice_at, is_served, unserved}
+use Rattle.segment_plan.specs.RowsLeft.{indexed, is_indexed, sure_choices}
 use Rattle.segment_scan.proofs.DocLemmas.{filter_both, listed}
-use Rattle.segment_scan.proofs.LeftLemmas.{one_chosen}
-
--- ---- the documents that are not sure of conjuncts
-
-module _ (head : Seen) (choices : List IndexChoice) (conjuncts : List Conjunct) where
-  pub unsure_none : (told : Option Files) (docs : List ℕ) → HasUnsure told head choices conjuncts 0 docs
-  unsure_none None docs = tt
-  unsure_none (Some files) docs = λ ids tells at conjunct lt there doc is. absurd (omega (arith, lt))
-
-  pub unsure_next : (told : Option Files) (i : ℕ) (x : Conjunct) (old new : List ℕ) → slice_get conjuncts i ≡ Some x → HasUnsure told head choices conjuncts i old → AddsUnsure told head (choice_at choices i) x old new → HasUnsure told head choices conjuncts (i + 1) new
-  unsure_next None i x old new there first adds = tt
-  unsure_next (Some files) i x old new there first adds = λ ids tells at conjunct lt here doc is. elim (cases_lt at i) [
-    | inl less ↦ adds.kept doc (first ids tells at conjunct less here doc is)
-    | inr ge ↦
-        let same : i ≡ at = omega (arith, ge, lt) in
-        let both : Some x ≡ Some conjunct = sym there ∙ ap (slice_get conjuncts) same ∙ here in
-        let x_is : x ≡ conjunct = cc in
-        adds.told ids (tells i x there) doc ((λ j. is_unsure head ids doc (choice_at choices (same j)) (x_is j)) ∙ is)
-  ]
+use Rattle.index_filter.proofs.LeftLemmas.{one_chosen}
 
 -- ---- the conjuncts that are left for the documents that are sure
 

@@ -10,8 +10,8 @@ use Rattle.std.specs.List.{range_with_len}
 use Rattle.outside.specs.Files.{Files}
 use Rattle.values.specs.declared.value.Value.{Value}
 use Rattle.values.specs.declared.value.Value.TheVariants.{Whole}
-use Rattle.value_columns.specs.Columns.{row_of, rows_of}
-use Rattle.value_columns.proofs.RowLemmas.{length-rows, row-at}
+use Rattle.values.specs.Columns.{row_of, rows_of}
+use Rattle.values.proofs.RowLemmas.{length-rows, row-at}
 use Rattle.bit_column.specs.Column.{id_at, ids_between}
 use Rattle.value_ids.specs.Coding.{AreBelow}
 use Rattle.std.specs.List.Sorted.{IsStrictlyIncreasing}
@@ -27,13 +27,13 @@ use Rattle.coded_columns.specs.declared.coded.Coded.{Coded}
 use Rattle.coded_columns.specs.declared.coded.SegmentColumns.{SegmentColumns}
 use Rattle.coded_columns.specs.Coded.{AreCoded, IsCoded, listed, most_rows, table_of, values_of}
 use Rattle.segment_scan.specs.Documents.{selected_docs}
-use Rattle.document_reading.specs.Forward.{forward_in, width_in}
-use Rattle.document_reading.specs.Picked.{IsPicked}
+use Rattle.column_reader.specs.Forward.{forward_in, width_in}
+use Rattle.column_reader.specs.Picked.{IsPicked}
 use Rattle.segment_scan.specs.Scans.{IsCodedOf, columns_read, values_read}
 use Rattle.coded_columns.proofs.CodedLemmas.{counts, get_or-ids, zeros}
-use Rattle.coded_scan.specs.Served.{rest_of}
+use Rattle.segment_plan.specs.Served.{rest_of}
 use Rattle.segment_scan.proofs.DocLemmas.{increasing_up}
-use Rattle.document_reading.proofs.PickSteps.{ids_of_range}
+use Rattle.column_reader.proofs.PickSteps.{ids_of_range}
 
 -- so many ascending documents below a number
 pub up_few : (from n : ℕ) (docs : List ℕ) → Up from docs → from ≤ n → ((j : ℕ) → j < length docs → get_or docs j 0 < n) → from + length docs ≤ n
@@ -148,13 +148,3 @@ docs-overfull (Some files) query choices head named docs rows table is over = su
 -- documents of rows are as few as the rows
 pub docs_few : (docs : List ℕ) (n : ℕ) → IsStrictlyIncreasing docs → All (λ doc. doc < n) docs → length docs ≤ n
 docs_few docs n up below = let few = up_few 0 n docs (increasing_up 0 docs up (λ j lt. omega arith)) (omega arith) (λ j lt. below j 0 lt) in omega (arith, few)
-
--- what holds of the items of a list holds of one item more
-pub grown_at : {X : Type 0} (P : ℕ → X → Type 0) (d : X) (old new : List X) (x : X) (n : ℕ) → length old ≡ n → new ≡ old ++ x ∷ [] → ((k : ℕ) → k < n → P k (get_or old k d)) → P n x → (k : ℕ) → k < n + 1 → P k (get_or new k d)
-grown_at {X} P d old new x n long is each own k lt = elim (cases_lt k n) [
-  | inl less ↦ subst (P k) (sym (ap (λ (l : List X). get_or l k d) is ∙ get_or_append_left old (x ∷ []) d k (omega (arith, less, long)))) (each k less)
-  | inr ge ↦
-      let same : n ≡ k = omega (arith, ge, lt) in
-      let there : get_or new n d ≡ x = ap (λ (l : List X). get_or l n d) is ∙ ap (λ m. get_or (old ++ x ∷ []) m d) (sym long) ∙ get_or-append_seam old x [] d in
-      subst (λ m. P m (get_or new m d)) same (subst (P n) (sym there) own)
-]

@@ -4,7 +4,7 @@ use Rattle.std.proofs.lemmas.List.Elements.{All-from_get_or}
 use Rattle.std.specs.List.{All, list_any}
 use Rattle.outside.specs.Files.{Files}
 use Rattle.values.specs.declared.value.Value.{Value}
-use Rattle.value_columns.specs.Columns.{is_text, rows_of}
+use Rattle.values.specs.Columns.{is_text, rows_of}
 use Rattle.value_ids.specs.Coding.{AreBelow, values_at}
 use Rattle.table_schema.specs.declared.query.BoundQuery.{BoundQuery}
 use Rattle.segment_head.specs.Heads.{Seen}
@@ -13,7 +13,7 @@ use Rattle.scan_engine.specs.Scanned.{IsOverfull, selected}
 use Rattle.coded_columns.specs.declared.coded.Coded.{Coded}
 use Rattle.coded_columns.specs.declared.coded.SegmentColumns.{SegmentColumns}
 use Rattle.coded_columns.specs.Coded.{AreCoded, IsCoded, listed, most_rows, table_of, values_of}
-use Rattle.document_reading.specs.Forward.{IsRead}
+use Rattle.column_reader.specs.Forward.{IsRead}
 use Rattle.segment_scan.specs.Scans.{IsCodedOf, columns_read, selected_read, table_read, values_read}
 
 one-coded : (held : Option Files) (head : Seen) (column : ℕ) (named : Bool) (ids : Option (List ℕ)) (coded : Option Coded) → IsRead held head column named ids → IsCodedOf head column ids coded → IsCoded head.rows coded

@@ -7,7 +7,7 @@ use Rattle.std.proofs.lemmas.List.FromFn.{length-range_with_len}
 use Rattle.outside.specs.Files.{Files}
 use Rattle.outside.specs.Reads.{Entry}
 use Rattle.values.specs.declared.value.Value.{Value}
-use Rattle.value_columns.specs.Columns.{rows_of}
+use Rattle.values.specs.Columns.{rows_of}
 use Rattle.table_schema.specs.declared.query.BoundQuery.{BoundQuery}
 use Rattle.table_schema.specs.declared.table.Table.{Table}
 use Rattle.table_schema.specs.ValidTable.{IsValidTable}
@@ -17,9 +17,10 @@ use Rattle.segment_file.specs.declared.part.Part.{Part}
 use Rattle.segment_file.specs.declared.part.Part.TheVariants.{Forward}
 use Rattle.segment_head.specs.Heads.{IsHeadOf, Seen}
 use Rattle.segment_file.specs.Ordered.{ordered}
-use Rattle.document_reading.specs.Forward.{HasIds, LogsColumns}
-use Rattle.segment_scan.specs.Images.{AddsWhole, AreNamedLoaded, ImagesRead, IsBadWhole, IsWholeOverfull, IsOfImage, names_in}
-use Rattle.segment_scan.specs.Named.{query_names}
+use Rattle.column_reader.specs.Forward.{HasIds, LogsColumns}
+use Rattle.segment_scan.specs.Images.{AddsWhole, ImagesRead, IsBadWhole, IsWholeOverfull}
+use Rattle.segment_head.specs.Stored.{IsOfImage}
+use Rattle.segment_plan.specs.Named.{AreNamedLoaded, names_in, query_names}
 use Rattle.segment_scan.specs.Scans.{AddsSegment, selected_read, table_read}
 use Rattle.segment_scan.proofs.AgreementLemmas.{agreeing_same}
 use Rattle.segment_scan.proofs.ImageLemmas.{marked_named}

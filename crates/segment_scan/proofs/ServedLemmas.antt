@@ -5,8 +5,8 @@ use Rattle.std.specs.List.{list_any}
 use Rattle.table_schema.specs.declared.query.Conjunct.{Conjunct}
 use Rattle.segment_plan.specs.declared.plans.IndexChoice.{IndexChoice}
 use Rattle.table_schema.specs.declared.query.BoundQuery.{BoundQuery}
-use Rattle.segment_scan.specs.Named.{agg_names, conjunct_names, is_in, query_names}
-use Rattle.coded_scan.specs.Served.{choice_at, is_served, rest_of, unserved}
+use Rattle.segment_plan.specs.Named.{agg_names, conjunct_names, is_in, query_names}
+use Rattle.segment_plan.specs.Served.{choice_at, is_served, rest_of, unserved}
 use Rattle.segment_scan.proofs.AgreementLemmas.{or_left, or_right}
 
 -- one of some, of which the first is left out or not

@@ -13,8 +13,8 @@ use Rattle.scan_engine.specs.Scanned.{selected}
 use Rattle.segment_file.specs.Ordered.{ordered, placed, sorted_by, value_in}
 use Rattle.segment_plan.specs.declared.plans.IndexChoice.{IndexChoice}
 use Rattle.segment_plan.specs.declared.plans.IndexChoice.TheVariants.{Unindexed, Sorted, Inverted, Range}
-use Rattle.coded_scan.specs.Served.{unserved}
-use Rattle.document_reading.specs.Served.{all_left, indexed, rows_left}
+use Rattle.segment_plan.specs.Served.{unserved}
+use Rattle.segment_plan.specs.RowsLeft.{all_left, indexed, rows_left}
 
 -- an index that serves its conjunct leaves just the rows that satisfy it
 all_served : (rows : List (List Value)) (row : List Value) (choices : List IndexChoice) (conjuncts : List Conjunct) → unserved choices conjuncts ≡ [] → all_left rows row (indexed choices conjuncts) ≡ all_hold row conjuncts

@@ -12,15 +12,18 @@ use Rattle.segment_plan.specs.Choices.{choice_of}
 use Rattle.segment_plan.specs.declared.plans.IndexChoice.TheVariants.{Unindexed}
 
 -- the query has exactly one conjunct, which names this column alone and has no index
-pub record IsLookedThrough (query : BoundQuery) (table : Table) (head : Seen) (column : ℕ) : Type 0 where
+pub record IsLookedThrough (query : BoundQuery) (table : Table) (head : Seen) (column : ℕ)
+    : Type 0 where
   pub test : Test
   pub only : query.conjuncts ≡ One column test ∷ []
   pub unindexed : choice_of table.settings head (One column test) ≡ Unindexed
 
 -- how many bytes the forward section of a column has
 abbrev pub forward_length : Seen → ℕ → ℕ
-forward_length head column = option_map_or (λ place. place.length) (place_in head.sections (Forward column)) 0
+forward_length head column = option_map_or (λ place. place.length)
+    (place_in head.sections (Forward column)) 0
 
 -- how many bytes of it reads gave
 abbrev pub forward_bytes : Seen → ℕ → List Entry → ℕ
-forward_bytes head column entries = option_map_or (λ place. read_in entries place.file place.offset (place.offset + place.length)) (place_in head.sections (Forward column)) 0
+forward_bytes head column entries = option_map_or (λ place. read_in entries place.file place.offset
+    (place.offset + place.length)) (place_in head.sections (Forward column)) 0

@@ -1,6 +1,4 @@
 pub mod Scans
-pub mod Named
-pub mod Series
 pub mod Documents
 pub mod Agreement
 pub mod Images

@@ -4,7 +4,7 @@ use Rattle.std.specs.List.{list_any}
 use Rattle.outside.specs.Files.{Files}
 use Rattle.values.specs.declared.value.Value.{Value}
 use Rattle.values.specs.declared.value.Value.TheVariants.{Whole}
-use Rattle.value_columns.specs.Columns.{Listed, ListedColumns, is_text, rows_of}
+use Rattle.values.specs.Columns.{Listed, ListedColumns, is_text, rows_of}
 use Rattle.value_ids.specs.Coding.{values_at}
 use Rattle.bit_column.specs.Column.{ids_between}
 use Rattle.table_schema.specs.declared.query.BoundQuery.{BoundQuery}
@@ -13,26 +13,35 @@ use Rattle.segment_plan.specs.Matched.{values_in}
 use Rattle.group_table.specs.Kept.{KeptGroups}
 use Rattle.scan_engine.specs.Scanned.{AddsRows, selected}
 use Rattle.coded_columns.specs.declared.coded.Coded.{Coded}
-use Rattle.document_reading.specs.Forward.{forward_in, width_in}
+use Rattle.column_reader.specs.Forward.{forward_in, width_in}
 
 -- the values of the rows in a column, by the ids of its forward section; in one that is not named
 -- each is the number 0
 abbrev pub values_read : Files → Seen → ℕ → Bool → List Value
 values_read files head column false = replicate head.rows (Whole (pos 0))
-values_read files head column true = values_at (values_in head column) (ids_between (width_in head column) 0 head.rows (forward_in files head column))
+values_read files head column true = values_at (values_in head column)
+    (ids_between (width_in head column) 0 head.rows (forward_in files head column))
 
 -- one column of the segment, and whether its values are texts
 abbrev pub column_read : Files → Seen → ℕ → Bool → Listed
-column_read files head column named = record { are_texts = list_any is_text (values_read files head column named); values = values_read files head column named }
+column_read files head column named = record {
+  are_texts = list_any is_text
+      (values_read files head column named);
+  values = values_read files head column named;
+}
 
 -- the columns from one on
 abbrev pub columns_read : Files → Seen → ℕ → List Bool → List Listed
 columns_read files head column [] = []
-columns_read files head column (named ∷ rest) = column_read files head column named ∷ columns_read files head (suc column) rest
+columns_read files head column (named ∷ rest) = column_read files head column named
+    ∷ columns_read files head (suc column) rest
 
 -- the rows of a segment, in the columns that are named
 abbrev pub table_read : Files → Seen → List Bool → ListedColumns
-table_read files head named = record { columns = columns_read files head 0 named; count = head.rows }
+table_read files head named = record {
+  columns = columns_read files head 0 named;
+  count = head.rows;
+}
 
 -- the rows that satisfy the filter, of the rows of the segment
 abbrev pub selected_read : BoundQuery → Files → Seen → List Bool → List (List Value)
@@ -40,7 +49,8 @@ selected_read query files head named = selected query (rows_of (table_read files
 
 -- some rows were added, as many as the segment has at most; where files are told, the rows of the
 -- segment that satisfy the filter
-pub record AddsSegment (query : BoundQuery) (held : Option Files) (head : Seen) (named : List Bool) (old new : KeptGroups) : Type 0 where
+pub record AddsSegment (query : BoundQuery) (held : Option Files) (head : Seen) (named : List Bool)
+    (old new : KeptGroups) : Type 0 where
   pub rows : List (List Value)
   pub adds : AddsRows query head.rows rows old new
   pub told : IfSome held (λ files. rows ≡ selected_read query files head named)
@@ -50,4 +60,5 @@ abbrev pub IsCodedOf : Seen → ℕ → Option (List ℕ) → Option Coded → T
 IsCodedOf head column None None = Unit {0}
 IsCodedOf head column None (Some coded) = ⊥
 IsCodedOf head column (Some ids) None = ⊥
-IsCodedOf head column (Some ids) (Some coded) = (coded.ids.now ≡ ids) × (coded.dictionary.now.values ≡ values_in head column)
+IsCodedOf head column (Some ids) (Some coded) = (coded.ids.now ≡ ids)
+    × (coded.dictionary.now.values ≡ values_in head column)

@@ -8,19 +8,18 @@ ghost use Rattle.scan_engine.specs.Scanned.{HaveAtMost, IsOverfull};
 ghost use Rattle.segment_file.specs.declared.part.Part.{Part};
 ghost use Rattle.segment_file.specs.declared.part.Part.TheVariants.{Forward};
 ghost use Rattle.coded_columns.specs.Coded.{most_rows};
-ghost use Rattle.document_reading.specs.Forward.{HasIds, IsReadable};
+ghost use Rattle.column_reader.specs.Forward.{HasIds, IsReadable};
 ghost use Rattle.segment_scan.specs.Documents.{AddsDocs, LogsDocs, LogsDocsPartly, selected_docs};
-ghost use Rattle.document_reading.specs.declared.fault.EngineFault.TheVariants.{NotASegment, ReadFault, TooManyGroups};
+ghost use Rattle.segment_head.specs.declared.fault.EngineFault.TheVariants.{NotASegment, ReadFault, TooManyGroups};
 
-use crate::picking::pick_columns;
 use crate::scan::coded_columns;
 use coded_columns::SegmentColumns;
-use coded_scan::add_segment;
+use coded_scan::add_coded;
+use column_reader::pick_columns;
 use doc_lists::DocList;
-use document_reading::EngineFault;
 use group_table::{GroupTable, TableFault};
 use outside::Shelf;
-use segment_head::Head;
+use segment_head::{EngineFault, Head};
 use segment_plan::IndexChoice;
 use std::alloc::Global;
 use table_schema::BoundQuery;
@@ -72,7 +71,7 @@ pub fn scan_documents<S: Shelf>(
         columns: columns.as_slice(),
         count: docs.len(),
     };
-    match add_segment(alloc, query, choices, &segment, groups) {
+    match add_coded(alloc, query, choices, &segment, groups) {
         Ok(()) => Ok(()),
         Err(TableFault::TooManyGroups) => Err(EngineFault::TooManyGroups),
         Err(TableFault::NoMemory) => Err(EngineFault::NoMemory),

@@ -10,27 +10,26 @@ ghost use Rattle.scan_engine.specs.Scanned.{HaveAtMost, IsOverfull};
 ghost use Rattle.segment_head.specs.Heads.{IsHeadOf};
 ghost use Rattle.segment_file.specs.declared.part.Part.{Part};
 ghost use Rattle.segment_scan.specs.Documents.{AddsDocs, LogsDocs, LogsDocsPartly, selected_docs};
-ghost use Rattle.segment_scan.specs.Images.{AddsImage, AreDocs, AreLeftFor, AreNamedLoaded, HasUnsureFor, IsBadForward, IsImageOverfull, IsNoImage, LogsParts, LogsPartsPartly, choices_for, names_in, rest_for, sure_for};
-ghost use Rattle.coded_scan.specs.Served.{rest_of};
-ghost use Rattle.document_reading.specs.declared.fault.EngineFault.TheVariants.{NotASegment, ReadFault, TooManyGroups};
+ghost use Rattle.segment_scan.specs.Images.{AddsImage, AreDocs, AreLeftFor, HasUnsureFor, IsBadForward, IsImageOverfull, LogsParts, LogsPartsPartly, choices_for, rest_for, sure_for};
+ghost use Rattle.segment_head.specs.Stored.{IsNoImage};
+ghost use Rattle.segment_plan.specs.Named.{AreNamedLoaded, names_in};
+ghost use Rattle.segment_plan.specs.Served.{rest_of};
+ghost use Rattle.segment_head.specs.declared.fault.EngineFault.TheVariants.{NotASegment, ReadFault, TooManyGroups};
 
 use crate::documents::scan_documents;
 use crate::laws::{image_law, index_law};
-use crate::named::named_columns;
-use crate::serving::sure_choices;
 use doc_lists::{DocList, meet, without};
-use document_reading::EngineFault;
 use group_table::GroupTable;
 use outside::Shelf;
-use segment_head::Head;
-use segment_plan::IndexChoice;
+use segment_head::{EngineFault, Head};
+use segment_plan::{IndexChoice, named_columns, sure_choices};
 use std::alloc::Global;
 use table_schema::{BoundQuery, Table};
 
 /// Adds those of the rows that the indexes leave that satisfy the other conjuncts to the groups of
-/// a query, and answers how many rows the indexes leave. Of those that are not sure the ids are read
-/// of each column that is named beside the served conjuncts, and of the others those of each that is
-/// named beside the conjuncts of range indexes too, and nothing else.
+/// a query, and answers how many rows the indexes leave. Of those that are not sure the ids are
+/// read of each column that is named beside the served conjuncts, and of the others those of each
+/// that is named beside the conjuncts of range indexes too, and nothing else.
 pub fn scan_left<S: Shelf>(
     alloc: Global,
     shelf: &mut S,
@@ -87,9 +86,9 @@ pub fn scan_left<S: Shelf>(
     }
 }
 
-// Adds those of the rows of documents that satisfy the conjuncts that are not served to the groups of
-// a query. Of each column that is named beside the served ones the ids of these documents are read,
-// and nothing else.
+// Adds those of the rows of documents that satisfy the conjuncts that are not served to the groups
+// of a query. Of each column that is named beside the served ones the ids of these documents are
+// read, and nothing else.
 fn scan_part<S: Shelf>(
     alloc: Global,
     shelf: &mut S,

@@ -1,25 +1,15 @@
-//! The scan of a segment for a query: by the ids of its columns, the rows that satisfy the filter are
-//! added to the groups of the query.
+//! The scan of a segment for a query: by the ids of its columns, the rows that satisfy the filter
+//! are added to the groups of the query.
 #![tactic(auto)]
 
-mod candidates;
-mod columns;
 mod documents;
 mod laws;
 mod left;
-mod named;
-mod picking;
-mod reading;
 mod scan;
 mod scan_laws;
 mod segment;
-mod serving;
 mod whole;
 
-pub use columns::read_columns;
 pub use laws::{agreement_law, image_law, index_law, readable_law};
-pub use named::named_columns;
-pub use reading::read_column;
-pub use scan::scan_columns;
 pub use scan_laws::{least_read_law, served_law};
 pub use segment::scan_segment;

@@ -9,17 +9,16 @@ ghost use Rattle.segment_head.specs.Heads.{IsLoaded};
 ghost use Rattle.segment_file.specs.declared.part.Part.{Part};
 ghost use Rattle.segment_file.specs.declared.part.Part.TheVariants.{Forward};
 ghost use Rattle.coded_columns.specs.Coded.{most_rows};
-ghost use Rattle.document_reading.specs.Forward.{HasIds, IsReadable, LogsColumns, LogsSome};
+ghost use Rattle.column_reader.specs.Forward.{HasIds, IsReadable, LogsColumns, LogsSome};
 ghost use Rattle.segment_scan.specs.Scans.{AddsSegment, IsCodedOf, selected_read};
-ghost use Rattle.document_reading.specs.declared.fault.EngineFault.TheVariants.{NotASegment, ReadFault, TooManyGroups};
+ghost use Rattle.segment_head.specs.declared.fault.EngineFault.TheVariants.{NotASegment, ReadFault, TooManyGroups};
 
-use crate::columns::read_columns;
 use coded_columns::{Coded, Ids, SegmentColumns};
-use coded_scan::add_segment;
-use document_reading::EngineFault;
+use coded_scan::add_coded;
+use column_reader::read_columns;
 use group_table::{GroupTable, TableFault};
 use outside::Shelf;
-use segment_head::Head;
+use segment_head::{EngineFault, Head};
 use std::alloc::Global;
 use table_schema::BoundQuery;
 use values::NoMemory;
@@ -66,7 +65,7 @@ pub fn scan_columns<S: Shelf>(
         columns: columns.as_slice(),
         count: head.rows() as usize,
     };
-    match add_segment(alloc, query, &[], &segment, groups) {
+    match add_coded(alloc, query, &[], &segment, groups) {
         Ok(()) => Ok(head.rows()),
         Err(TableFault::TooManyGroups) => Err(EngineFault::TooManyGroups),
         Err(TableFault::NoMemory) => Err(EngineFault::NoMemory),

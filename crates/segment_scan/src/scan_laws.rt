@@ -9,10 +9,12 @@ ghost use Rattle.table_schema.specs.declared.table.Table.{Table};
 ghost use Rattle.scan_engine.specs.Scanned.{selected};
 ghost use Rattle.segment_head.specs.Heads.{IsHead, IsHeadOf, IsPartOf, Seen};
 ghost use Rattle.segment_plan.specs.declared.plans.IndexChoice.{IndexChoice};
-ghost use Rattle.segment_scan.specs.Images.{AreDocs, AreNamedLoaded, IsOfImage, LogsScan, choices_for};
+ghost use Rattle.segment_scan.specs.Images.{AreDocs, LogsScan, choices_for};
+ghost use Rattle.segment_head.specs.Stored.{IsOfImage};
+ghost use Rattle.segment_plan.specs.Named.{AreNamedLoaded};
 ghost use Rattle.segment_scan.specs.LeastReads.{IsLookedThrough, forward_bytes, forward_length};
-ghost use Rattle.coded_scan.specs.Served.{unserved};
-ghost use Rattle.document_reading.specs.Served.{rows_left};
+ghost use Rattle.segment_plan.specs.Served.{unserved};
+ghost use Rattle.segment_plan.specs.RowsLeft.{rows_left};
 
 /// Where every conjunct is served, by `Sorted` or `Inverted`, the rows that the indexes leave are
 /// those that satisfy the filter. So the answer of a scan of an image is then how many of its rows

@@ -8,18 +8,18 @@ ghost use Rattle.table_schema.specs.ValidTable.{IsValidTable};
 ghost use Rattle.scan_engine.specs.Scanned.{HaveAtMost};
 ghost use Rattle.segment_head.specs.Heads.{IsHeadOf};
 ghost use Rattle.segment_file.specs.declared.part.Part.{Part};
-ghost use Rattle.segment_scan.specs.Images.{AddsImage, AreDocs, AreNamedLoaded, IsBadIn, IsImageOverfull, LogsScan, LogsScanPartly, choices_for};
-ghost use Rattle.document_reading.specs.declared.fault.EngineFault.TheVariants.{NotASegment, ReadFault, TooManyGroups};
+ghost use Rattle.segment_scan.specs.Images.{AddsImage, AreDocs, IsBadIn, IsImageOverfull, LogsScan, LogsScanPartly, choices_for};
+ghost use Rattle.segment_plan.specs.Named.{AreNamedLoaded};
+ghost use Rattle.segment_head.specs.declared.fault.EngineFault.TheVariants.{NotASegment, ReadFault, TooManyGroups};
 
-use crate::candidates::documents;
 use crate::laws::{image_law, index_law};
 use crate::left::scan_left;
 use crate::whole::scan_whole;
 use doc_lists::DocList;
-use document_reading::EngineFault;
 use group_table::GroupTable;
+use index_filter::documents;
 use outside::Shelf;
-use segment_head::Head;
+use segment_head::{EngineFault, Head};
 use segment_plan::ScanPlan;
 use std::alloc::Global;
 use table_schema::{BoundQuery, Table};
@@ -27,10 +27,10 @@ use table_schema::{BoundQuery, Table};
 /// Adds the rows of a segment that satisfy the filter of a query to its groups, and answers how
 /// many rows the indexes leave. Where no conjunct is indexed, the forward section of each column
 /// that the query names is read once, one column after the other, and nothing else. Else what the
-/// indexes have of the matching ids is read, or of the buckets that overlap them, and then the ids of
-/// the documents that are left: of those to be checked in each column that is named beside the served
-/// conjuncts, and of those that are sure in each that is named beside the conjuncts of range indexes
-/// too.
+/// indexes have of the matching ids is read, or of the buckets that overlap them, and then the ids
+/// of the documents that are left: of those to be checked in each column that is named beside the
+/// served conjuncts, and of those that are sure in each that is named beside the conjuncts of range
+/// indexes too.
 pub fn scan_segment<S: Shelf>(
     alloc: Global,
     shelf: &mut S,

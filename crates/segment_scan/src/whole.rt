@@ -8,17 +8,17 @@ ghost use Rattle.table_schema.specs.ValidTable.{IsValidTable};
 ghost use Rattle.scan_engine.specs.Scanned.{HaveAtMost};
 ghost use Rattle.segment_head.specs.Heads.{IsHeadOf};
 ghost use Rattle.segment_file.specs.declared.part.Part.{Part};
-ghost use Rattle.document_reading.specs.Forward.{LogsColumns, LogsSome};
-ghost use Rattle.segment_scan.specs.Images.{AddsWhole, AreNamedLoaded, IsBadWhole, IsWholeOverfull, names_in};
-ghost use Rattle.document_reading.specs.declared.fault.EngineFault.TheVariants.{NotASegment, ReadFault, TooManyGroups};
+ghost use Rattle.column_reader.specs.Forward.{LogsColumns, LogsSome};
+ghost use Rattle.segment_scan.specs.Images.{AddsWhole, IsBadWhole, IsWholeOverfull};
+ghost use Rattle.segment_plan.specs.Named.{AreNamedLoaded, names_in};
+ghost use Rattle.segment_head.specs.declared.fault.EngineFault.TheVariants.{NotASegment, ReadFault, TooManyGroups};
 
 use crate::laws::image_law;
-use crate::named::named_columns;
 use crate::scan::scan_columns;
-use document_reading::EngineFault;
 use group_table::GroupTable;
 use outside::Shelf;
-use segment_head::Head;
+use segment_head::{EngineFault, Head};
+use segment_plan::named_columns;
 use std::alloc::Global;
 use table_schema::{BoundQuery, Table};
 

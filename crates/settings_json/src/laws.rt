@@ -7,8 +7,8 @@ ghost use Rattle.settings_json.specs.TableTexts.{settings_finding, settings_of};
 ghost use Rattle.table_schema.specs.Valid.{IsValidSchema};
 ghost use Rattle.table_schema.specs.ValidSettings.{IsValidSettings};
 
-/// A value in JSON that passes the checks of settings gives valid ones, with sorted columns, indexes and
-/// star-trees, beside a valid schema.
+/// A value in JSON that passes the checks of settings gives valid ones, with sorted columns,
+/// indexes and star-trees, beside a valid schema.
 pub fn settings_law()
     ensures accepted { (schema : Schema) (d : Data) → IsValidSchema schema
         → settings_finding schema.fields d ≡ None

@@ -1,6 +1,6 @@
 //! Settings in JSON.
 
-ghost use Rattle.std.specs.Prelude.{◌≡◌, ◌≢◌, ◌≤◌, length, IfOk, IfErr};
+ghost use Rattle.std.specs.Prelude.{◌≡◌, ◌≢◌, IfOk, IfErr};
 ghost use Rattle.serde_json.specs.View.{view};
 ghost use Rattle.settings_json.specs.TableTexts as spec;
 ghost use Rattle.json_keys.specs.Faults.{Gives};
@@ -12,7 +12,7 @@ use json_keys::{TextFault, key_of, read_json};
 use serde_json::Value as Json;
 use settings_parts::{INDEX_KEY, read_head, read_indexes, unindexed};
 use std::alloc::Global;
-use table_schema::{Field, Schema, Settings};
+use table_schema::{Fields, Schema, Settings};
 
 /// The settings that a text in JSON is, with the keys of Pinot's table configurations.
 ///
@@ -27,18 +27,19 @@ pub fn read_settings(alloc: Global, schema: &Schema, bytes: &[u8]) -> Result<Set
     ensures valid { IfOk result (λ settings. IsValidSettings schema.now.fields settings) }
 {
     let json = read_json(alloc, bytes)?;
-    settings_of(alloc, schema.fields.as_slice(), &json)
+    let all = schema.fields.as_slice();
+    let fields = Fields { all };
+    settings_of(alloc, fields, &json)
 }
 
-fn settings_of(alloc: Global, fields: &[Field], json: &Json) -> Result<Settings, TextFault>
-    requires { length fields.now ≤ 64 }
-    ensures { Gives (spec.settings_finding fields.now (view json.now))
-        (spec.settings_of fields.now (view json.now)) result }
+fn settings_of(alloc: Global, fields: Fields, json: &Json) -> Result<Settings, TextFault>
+    ensures { Gives (spec.settings_finding fields.entry.all.now (view json.now))
+        (spec.settings_of fields.entry.all.now (view json.now)) result }
 {
     let name = read_head(alloc, json)?;
     let table = Name::from_text(alloc, name)?;
     let Some(index) = key_of(json, INDEX_KEY) else {
-        return Ok(unindexed(alloc, fields, table)?);
+        return Ok(unindexed(alloc, fields.all, table)?);
     };
     read_indexes(alloc, fields, table, index)
 }

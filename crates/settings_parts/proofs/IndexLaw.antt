@@ -9,7 +9,7 @@ use Rattle.json_keys.specs.Keys.{optional, object_finding, refused_bool, items_a
 use Rattle.json_keys.specs.Faults.{below}
 use Rattle.table_schema.specs.Names.{is_column_name}
 use Rattle.table_schema.specs.Columns.{number_of}
-use Rattle.settings_keys.specs.NamedColumns.{columns_finding, named}
+use Rattle.json_keys.specs.NamedColumns.{columns_finding, named}
 use Rattle.settings_parts.specs.Trees.{TREES_KEY, trees_finding, tree_of}
 use Rattle.table_schema.specs.Valid.{no_repeat}
 use Rattle.settings_parts.specs.Indexes.{INDEX_KEY, INVERTED_KEY, RANGE_KEY, RAW_KEY, SORTED_KEY, sorted_finding, sorted_number, sorted_name, index_form, raw_finding, index_finding, indexed}

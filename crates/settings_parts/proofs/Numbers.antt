@@ -8,7 +8,7 @@ use Rattle.table_schema.specs.declared.field.Field.{Field}
 use Rattle.table_schema.specs.Names.{Text}
 use Rattle.json_keys.specs.Faults.{at_place}
 use Rattle.table_schema.specs.Columns.{number_of}
-use Rattle.settings_keys.specs.NamedColumns.{numbers_of, text_of}
+use Rattle.json_keys.specs.NamedColumns.{numbers_of, text_of}
 use Rattle.settings_parts.specs.Trees.{split_place, split_places, skip_place, skip_places}
 use Rattle.json_keys.proofs.Places.{done_more, places_done, passed_here}
 use Rattle.table_schema.specs.Firsts.{by_place}

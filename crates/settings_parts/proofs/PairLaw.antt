@@ -16,7 +16,7 @@ use Rattle.json_keys.specs.Faults.{at_place, fault_unless}
 use Rattle.table_schema.specs.Firsts.{by_place}
 use Rattle.json_keys.specs.Keys.{text_finding}
 use Rattle.table_schema.specs.Columns.{number_of, is_known}
-use Rattle.settings_keys.specs.NamedColumns.{text_of}
+use Rattle.json_keys.specs.NamedColumns.{text_of}
 use Rattle.table_schema.specs.Aggs.{same_agg}
 use Rattle.settings_parts.specs.Pairs.{function_named, mark_from, numeric_pair, pair_by, split_pair, pair_of, with_found, pairs_from, pair_finding}
 use Rattle.table_schema.specs.Roles.{is_numeric}

@@ -12,7 +12,7 @@ use Rattle.table_schema.specs.Names.{Text}
 use Rattle.json_keys.specs.Faults.{at_place}
 use Rattle.table_schema.specs.Firsts.{by_place}
 use Rattle.table_schema.specs.Columns.{number_of}
-use Rattle.settings_keys.specs.NamedColumns.{text_of, is_the_text, has_text, named}
+use Rattle.json_keys.specs.NamedColumns.{text_of, is_the_text, has_text, named}
 use Rattle.table_schema.specs.Roles.{is_metric_at}
 use Rattle.table_schema.specs.NeedIds.{is_set, needs_ids}
 use Rattle.settings_parts.specs.Indexes.{misfits, raw_place}

@@ -11,8 +11,8 @@ use Rattle.json_keys.specs.Faults.{at_place, below, fault_if, fault_unless}
 use Rattle.table_schema.specs.Firsts.{by_place}
 use Rattle.json_keys.specs.Keys.{required, object_finding, text_finding, unused_key, optional_array, items_at}
 use Rattle.table_schema.specs.Columns.{number_of, is_known, is_member}
-use Rattle.settings_keys.specs.NamedColumns.{text_of, numbers_of, column_finding}
-use Rattle.settings_keys.specs.Leaf.{count_of, LEAF_KEY, leaf_finding, leaf_size}
+use Rattle.json_keys.specs.NamedColumns.{text_of, numbers_of, column_finding}
+use Rattle.json_keys.specs.Leaf.{count_of, LEAF_KEY, leaf_finding, leaf_size}
 use Rattle.settings_parts.specs.Pairs.{pairs_of, pair_places, pairs_finding}
 use Rattle.settings_parts.specs.Trees.{some_items, needed_array, has_number, is_taken, split_place, split_places, SPLIT_KEY, split_finding, split_of, skip_finding, skips_of, bits_of, PAIRS_KEY, tree_pairs_finding, tree_finding, tree_of, TREES_KEY, tree_places, trees_finding}
 use Rattle.table_schema.specs.ValidSettings.{is_number_of, no_number_twice, IsValidTree}

@@ -13,7 +13,8 @@ use Rattle.table_schema.specs.Firsts.{first_of}
 
 -- without `_OFFLINE` at the end
 abbrev pub bare_name : Text → Text
-bare_name name = if ends_with nat_eq name (codes "_OFFLINE") then take (length name - 8) name else name
+bare_name name = if ends_with nat_eq name (codes "_OFFLINE") then take
+    (length name - 8) name else name
 
 -- the name that `tableName` gives, without the suffix of the type
 abbrev pub table_name : Data → Text

@@ -14,7 +14,7 @@ use Rattle.json_keys.specs.Json.{key_of, array_of}
 use Rattle.json_keys.specs.Faults.{Finding, below, at_place, fault_unless, fault_if}
 use Rattle.json_keys.specs.Keys.{optional, object_finding, refused_bool, items_at}
 use Rattle.table_schema.specs.Columns.{number_of, is_known}
-use Rattle.settings_keys.specs.NamedColumns.{text_of, columns_finding, named}
+use Rattle.json_keys.specs.NamedColumns.{text_of, columns_finding, named}
 use Rattle.settings_parts.specs.Trees.{trees_finding, trees_of}
 use Rattle.table_schema.specs.Firsts.{first_of, by_place}
 
@@ -62,7 +62,8 @@ sorted_value_finding fields path d = first_of (
 
 -- the check of `sortedColumn`, which may be absent
 abbrev pub sorted_finding : List Field → Text → Data → Finding
-sorted_finding fields base d = optional (sorted_value_finding fields (below base SORTED_KEY)) (key_of SORTED_KEY d)
+sorted_finding fields base d = optional (sorted_value_finding fields (below base SORTED_KEY))
+    (key_of SORTED_KEY d)
 
 -- the number of the field of that name; an empty name gives none
 abbrev pub sorted_number : List Field → Text → Option ℕ
@@ -70,7 +71,8 @@ sorted_number fields name = if length name == 0 then None else number_of fields 
 
 -- the number of the sorted field, if `sortedColumn` names one
 abbrev pub sorted_of : List Field → Data → Option ℕ
-sorted_of fields d = option_and_then (λ v. sorted_number fields (sorted_name v)) (key_of SORTED_KEY d)
+sorted_of fields d = option_and_then (λ v. sorted_number fields (sorted_name v))
+    (key_of SORTED_KEY d)
 
 -- ---- what stands under `tableIndexConfig`
 
@@ -130,11 +132,13 @@ HasFlags fields s = (length s.inverted ≡ length fields) × (length s.ranged �
 
 -- the column that a place of `noDictionaryColumns` names is no metric that needs a dictionary
 abbrev pub raw_place : List Field → Settings → Text → Data → Finding
-raw_place fields s path d = fault_if (misfits fields s (number_of fields (text_of d))) Unsupported path
+raw_place fields s path d = fault_if (misfits fields s (number_of fields
+    (text_of d))) Unsupported path
 
 -- each place of that array is so
 abbrev pub raw_places : List Field → Settings → Text → List Data → Finding
-raw_places fields s path ds = by_place (λ before d. raw_place fields s (at_place path (length before)) d) [] ds
+raw_places fields s path ds = by_place (λ before d. raw_place fields s
+    (at_place path (length before)) d) [] ds
 
 -- the check of `noDictionaryColumns` beside the indexes that the same settings name
 abbrev pub raw_finding : List Field → Settings → Data → Finding

@@ -14,14 +14,16 @@ use Rattle.table_schema.specs.Names.{Text}
 use Rattle.json_keys.specs.Faults.{Finding, at_place, fault_unless}
 use Rattle.json_keys.specs.Keys.{text_finding}
 use Rattle.table_schema.specs.Columns.{number_of, is_known}
-use Rattle.settings_keys.specs.NamedColumns.{text_of}
+use Rattle.json_keys.specs.NamedColumns.{text_of}
 use Rattle.table_schema.specs.Firsts.{first_of, by_place}
 
 -- the function of a name, in any case
 abbrev pub function_named : Text → Option AggKind
 function_named name =
-    if str_eq_ignore_ascii_case name (codes "COUNT") then Some Count else (if str_eq_ignore_ascii_case name (codes "SUM") then Some Sum
-    else (if str_eq_ignore_ascii_case name (codes "MIN") then Some Least else (if str_eq_ignore_ascii_case name (codes "MAX") then Some Greatest
+    if str_eq_ignore_ascii_case name (codes "COUNT") then Some Count else
+    (if str_eq_ignore_ascii_case name (codes "SUM") then Some Sum
+    else (if str_eq_ignore_ascii_case name (codes "MIN") then Some Least else
+    (if str_eq_ignore_ascii_case name (codes "MAX") then Some Greatest
     else (if str_eq_ignore_ascii_case name (codes "AVG") then Some Average else None))))
 
 -- the text begins with `_`
@@ -36,16 +38,21 @@ mark_from i (b ∷ bs) = if b == 95 && begins_low bs then Some i else mark_from 
 
 -- the function of the field of this number, if that is a field of numbers
 abbrev pub numeric_pair : List Field → AggKind → ℕ → Option Agg
-numeric_pair fields function n = if is_numeric (slice_get fields n) then Some (record { kind = function; column = Some n }) else None
+numeric_pair fields function n = if is_numeric (slice_get fields n) then Some
+    (record { kind = function; column = Some n }) else None
 
 -- COUNT takes `*` or any field, and counts; the others take a field of numbers
 abbrev pub pair_by : List Field → AggKind → Text → Option Agg
-pair_by fields Count column = if bytes_eq column (codes "*") || is_known fields column then Some (record { kind = Count; column = None }) else None
-pair_by fields function column = option_and_then (numeric_pair fields function) (number_of fields column)
+pair_by fields Count column = if bytes_eq column (codes "*")
+    || is_known fields column then Some (record { kind = Count; column = None }) else None
+pair_by fields function column = option_and_then (numeric_pair fields function)
+    (number_of fields column)
 
--- the pair of a text whose `__` is at this place, with the function before it and the column after it
+-- the pair of a text whose `__` is at this place, with the function before it and the column after
+-- it
 abbrev pub split_pair : List Field → Text → ℕ → Option Agg
-split_pair fields text at = option_and_then (λ function. pair_by fields function (drop (at + 2) text)) (function_named (take at text))
+split_pair fields text at = option_and_then (λ function. pair_by fields function
+    (drop (at + 2) text)) (function_named (take at text))
 
 -- the pair that a text is
 abbrev pub pair_of : List Field → Text → Option Agg
@@ -65,7 +72,8 @@ with_found kept (Some p) = with_pair kept p
 -- the pairs that an array gives, without those that an earlier place gives
 abbrev pub pairs_from : List Field → List Agg → List Data → List Agg
 pairs_from fields kept [] = kept
-pairs_from fields kept (d ∷ ds) = pairs_from fields (with_found kept (pair_of fields (text_of d))) ds
+pairs_from fields kept (d ∷ ds) = pairs_from fields (with_found kept
+    (pair_of fields (text_of d))) ds
 
 -- the pairs of an array, each once, in the order in which they first come
 abbrev pub pairs_of : List Field → List Data → List Agg
@@ -80,7 +88,8 @@ pair_finding fields path d = first_of (
 
 -- each place of an array has a text that is a pair
 abbrev pub pair_places : List Field → Text → List Data → Finding
-pair_places fields path ds = by_place (λ before d. pair_finding fields (at_place path (length before)) d) [] ds
+pair_places fields path ds = by_place (λ before d. pair_finding fields
+    (at_place path (length before)) d) [] ds
 
 -- the places of an array of pairs, of which at most 16 are kept
 abbrev pub pairs_finding : List Field → Text → List Data → Finding

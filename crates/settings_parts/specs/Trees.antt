@@ -12,8 +12,8 @@ use Rattle.json_keys.specs.Json.{key_of, array_of}
 use Rattle.json_keys.specs.Faults.{Finding, below, at_place, fault_unless, fault_if}
 use Rattle.json_keys.specs.Keys.{required, object_finding, text_finding, unused_key, optional_array, items_at}
 use Rattle.table_schema.specs.Columns.{number_of, is_member}
-use Rattle.settings_keys.specs.NamedColumns.{text_of, numbers_of, column_finding}
-use Rattle.settings_keys.specs.Leaf.{leaf_finding, leaf_of}
+use Rattle.json_keys.specs.NamedColumns.{text_of, numbers_of, column_finding}
+use Rattle.json_keys.specs.Leaf.{leaf_finding, leaf_of}
 use Rattle.settings_parts.specs.Pairs.{pairs_of, pairs_finding}
 use Rattle.table_schema.specs.Firsts.{first_of, by_place}
 
@@ -27,7 +27,8 @@ some_items path (Some (d ∷ ds)) = None
 
 -- the key has to be there, with such an array
 abbrev pub needed_array : Text → Text → Data → Finding
-needed_array base key d = required (below base key) (λ v. some_items (below base key) (array_of v)) (key_of key d)
+needed_array base key d = required (below base key) (λ v. some_items (below base key) (array_of v))
+    (key_of key d)
 
 -- ---- the split order
 
@@ -49,7 +50,8 @@ split_place fields path split d = first_of (
 
 -- each place of the split order is so
 abbrev pub split_places : List Field → Text → List Data → Finding
-split_places fields path ds = by_place (λ before d. split_place fields (at_place path (length before)) (numbers_of fields before) d) [] ds
+split_places fields path ds = by_place (λ before d. split_place fields
+    (at_place path (length before)) (numbers_of fields before) d) [] ds
 
 -- the key of the dimensions of a star-tree, from the root of the tree down
 abbrev pub SPLIT_KEY : Text
@@ -78,7 +80,8 @@ skip_place fields path split d = first_of (
 
 -- each place of the array is so
 abbrev pub skip_places : List Field → Text → List ℕ → List Data → Finding
-skip_places fields path split ds = by_place (λ before d. skip_place fields (at_place path (length before)) split d) [] ds
+skip_places fields path split ds = by_place (λ before d. skip_place fields
+    (at_place path (length before)) split d) [] ds
 
 -- the key of the split dimensions on which nodes have no star child
 abbrev pub SKIP_KEY : Text
@@ -141,7 +144,11 @@ shape_of fields d = record {
 
 -- the star-tree that an object describes
 abbrev pub tree_of : List Field → Data → TreeSetting
-tree_of fields d = record { split = split_of fields d; pairs = tree_pairs_of fields d; shape = shape_of fields d }
+tree_of fields d = record {
+  split = split_of fields d;
+  pairs = tree_pairs_of fields d;
+  shape = shape_of fields d;
+}
 
 -- the key of the array of star-trees
 abbrev pub TREES_KEY : Text
@@ -149,7 +156,8 @@ TREES_KEY = codes "starTreeIndexConfigs"
 
 -- each item of the array describes a star-tree
 abbrev pub tree_places : List Field → Text → List Data → Finding
-tree_places fields path ds = by_place (λ before d. tree_finding fields (at_place path (length before)) d) [] ds
+tree_places fields path ds = by_place (λ before d. tree_finding fields
+    (at_place path (length before)) d) [] ds
 
 -- where the key is there, it has an array of at most 8 star-trees
 abbrev pub trees_finding : List Field → Text → Data → Finding

@@ -1,34 +1,33 @@
 //! Arrays of columns that settings name.
 
-ghost use Rattle.std.specs.Prelude.{◌≡◌, ◌≤◌, ◌==◌, length, IfOk, IfErr, None, map};
+ghost use Rattle.std.specs.Prelude.{◌≡◌, ◌==◌, IfOk, IfErr, None, map};
 ghost use Rattle.serde_json.specs.Find.{as_str};
 ghost use Rattle.serde_json.specs.View.{view};
-ghost use Rattle.settings_keys.specs.NamedColumns as spec;
+ghost use Rattle.json_keys.specs.NamedColumns as spec;
 ghost use Rattle.json_keys.specs.Keys.{items_at};
 ghost use Rattle.json_keys.specs.Faults.{Passes, Refuses};
 
 use data_types::Seq;
-use json_keys::{TextFault, below, optional_array};
+use json_keys::{TextFault, below, column_at, optional_array};
 use serde_json::Value as Json;
-use settings_keys::column_at;
 use std::alloc::Global;
-use table_schema::Field;
+use table_schema::{Field, Fields};
 use values::NoMemory;
 
 /// The array of a key, each place of which has the name of a field.
 pub(crate) fn columns<'v>(
     alloc: Global,
-    fields: &[Field],
+    fields: Fields,
     base: &str,
     key: &str,
     json: &'v Json,
 ) -> Result<&'v [Json], TextFault>
-    requires { length fields.now ≤ 64 }
     ensures ok { IfOk result
-        (λ items. spec.columns_finding fields.now base.now key.now (view json.now) ≡ None) }
+        (λ items. spec.columns_finding fields.entry.all.now base.now key.now (view json.now)
+        ≡ None) }
     ensures items { IfOk result (λ items. map view items.now ≡ items_at key.now (view json.now)) }
     ensures err { IfErr result
-        (Refuses (spec.columns_finding fields.now base.now key.now (view json.now))) }
+        (Refuses (spec.columns_finding fields.entry.all.now base.now key.now (view json.now))) }
 {
     let items = optional_array(alloc, base, key, json)?;
     let path = below(alloc, base, key)?;
@@ -36,17 +35,12 @@ pub(crate) fn columns<'v>(
     Ok(items)
 }
 
-fn check_places(
-    alloc: Global,
-    fields: &[Field],
-    path: &str,
-    items: &[Json],
-) -> Result<(), TextFault>
-    requires { length fields.now ≤ 64 }
-    ensures { Passes (spec.column_places fields.now path.now (map view items.now)) result }
+fn check_places(alloc: Global, fields: Fields, path: &str, items: &[Json]) -> Result<(), TextFault>
+    ensures { Passes (spec.column_places fields.entry.all.now path.now
+        (map view items.now)) result }
 {
     for (place, item) in items.iter().enumerate() {
-        column_at(alloc, fields, path, place, item)?;
+        column_at(alloc, fields.all, path, place, item)?;
     }
     Ok(())
 }

@@ -1,4 +1,5 @@
-//! The settings beside `tableIndexConfig`: the name and the type of the table, and what is not supported.
+//! The settings beside `tableIndexConfig`: the name and the type of the table, and what is not
+//! supported.
 
 ghost use Rattle.std.specs.Prelude.{◌≡◌, IfOk, IfErr, None};
 ghost use Rattle.serde_json.specs.View.{view};

@@ -1,13 +1,13 @@
 //! What is under `tableIndexConfig`.
 
-ghost use Rattle.std.specs.Prelude.{◌≡◌, ◌∷◌, [], ◌<◌, ◌≤◌, length, IfOk, IfErr, map, None};
+ghost use Rattle.std.specs.Prelude.{◌≡◌, ◌∷◌, [], ◌<◌, length, IfOk, IfErr, map, None};
 ghost use Rattle.std.specs.List.{slice_get};
 ghost use Rattle.serde_json.specs.Data.{null};
 ghost use Rattle.serde_json.specs.View.{view};
 ghost use Rattle.json_keys.specs.Keys.{items_at};
 ghost use Rattle.settings_parts.specs.Indexes as spec;
 ghost use Rattle.settings_parts.specs.Trees.{trees_of, trees_finding};
-ghost use Rattle.settings_keys.specs.NamedColumns.{columns_finding};
+ghost use Rattle.json_keys.specs.NamedColumns.{columns_finding};
 ghost use Rattle.table_schema.specs.Firsts.{first_of};
 ghost use Rattle.table_schema.specs.NeedIds as ids;
 ghost use Rattle.json_keys.specs.Faults.{Gives, Passes, Refuses, at_place};
@@ -16,11 +16,12 @@ use crate::columns::{columns, named};
 use crate::sorted::read_sorted;
 use crate::trees::read_trees;
 use data_types::{Name, Seq};
-use json_keys::{KeyKind, TextFault, below, check_not, check_object, fault_at, place_fault};
+use json_keys::{
+    KeyKind, TextFault, below, check_not, check_object, fault_at, is_member, place_fault,
+};
 use serde_json::Value as Json;
-use settings_keys::is_member;
 use std::alloc::Global;
-use table_schema::{Field, Role, Settings, TreeSetting};
+use table_schema::{Field, Fields, Role, Settings, TreeSetting};
 use values::NoMemory;
 
 /// The key of the object that names the indexes.
@@ -35,13 +36,12 @@ const RAW_KEY: &str = "noDictionaryColumns";
 /// The settings of a table of that name.
 pub fn read_indexes(
     alloc: Global,
-    fields: &[Field],
+    fields: Fields,
     table: Name,
     json: &Json,
 ) -> Result<Settings, TextFault>
-    requires { length fields.now ≤ 64 }
-    ensures { Gives (spec.index_finding fields.now table (view json.now))
-        (spec.indexed fields.now table (view json.now)) result }
+    ensures { Gives (spec.index_finding fields.entry.all.now table (view json.now))
+        (spec.indexed fields.entry.all.now table (view json.now)) result }
 {
     let (settings, raw) = indexed(alloc, fields, table, json)?;
     let path = below(alloc, INDEX_KEY, RAW_KEY)?;
@@ -66,22 +66,21 @@ pub fn unindexed(alloc: Global, fields: &[Field], table: Name) -> Result<Setting
 /// The settings, with the columns that are to be kept without a dictionary.
 fn indexed<'v>(
     alloc: Global,
-    fields: &[Field],
+    fields: Fields,
     table: Name,
     json: &'v Json,
 ) -> Result<(Settings, &'v [Json]), TextFault>
-    requires { length fields.now ≤ 64 }
-    ensures ok { IfOk result (λ both. spec.index_form fields.now (view json.now) ≡ None) }
+    ensures ok { IfOk result (λ both. spec.index_form fields.entry.all.now (view json.now) ≡ None) }
     ensures settings { IfOk result
-        (λ both. both.0 ≡ spec.indexed fields.now table (view json.now)) }
+        (λ both. both.0 ≡ spec.indexed fields.entry.all.now table (view json.now)) }
     ensures raw { IfOk result
         (λ both. map view both.1.now ≡ items_at spec.RAW_KEY (view json.now)) }
-    ensures err { IfErr result (Refuses (spec.index_form fields.now (view json.now))) }
+    ensures err { IfErr result (Refuses (spec.index_form fields.entry.all.now (view json.now))) }
 {
     let keys = index_keys(alloc, fields, json)?;
-    let inverted = named(alloc, fields, keys.inverted)?;
-    let ranged = named(alloc, fields, keys.ranged)?;
-    let raw = named(alloc, fields, keys.raw)?;
+    let inverted = named(alloc, fields.all, keys.inverted)?;
+    let ranged = named(alloc, fields.all, keys.ranged)?;
+    let raw = named(alloc, fields.all, keys.raw)?;
     let settings = Settings {
         table,
         sorted: keys.sorted,
@@ -103,23 +102,19 @@ struct IndexKeys<'v> {
     trees: Seq<TreeSetting>,
 }
 
-fn index_keys<'v>(
-    alloc: Global,
-    fields: &[Field],
-    json: &'v Json,
-) -> Result<IndexKeys<'v>, TextFault>
-    requires { length fields.now ≤ 64 }
-    ensures ok { IfOk result (λ keys. spec.index_form fields.now (view json.now) ≡ None) }
+fn index_keys<'v>(alloc: Global, fields: Fields, json: &'v Json) -> Result<IndexKeys<'v>, TextFault>
+    ensures ok { IfOk result (λ keys. spec.index_form fields.entry.all.now (view json.now) ≡ None) }
     ensures sorted { IfOk result
-        (λ keys. keys.sorted ≡ spec.sorted_of fields.now (view json.now)) }
+        (λ keys. keys.sorted ≡ spec.sorted_of fields.entry.all.now (view json.now)) }
     ensures inverted { IfOk result
         (λ keys. map view keys.inverted.now ≡ items_at spec.INVERTED_KEY (view json.now)) }
     ensures ranged { IfOk result
         (λ keys. map view keys.ranged.now ≡ items_at spec.RANGE_KEY (view json.now)) }
     ensures raw { IfOk result
         (λ keys. map view keys.raw.now ≡ items_at spec.RAW_KEY (view json.now)) }
-    ensures trees { IfOk result (λ keys. keys.trees ≡ trees_of fields.now (view json.now)) }
-    ensures err { IfErr result (Refuses (spec.index_form fields.now (view json.now))) }
+    ensures trees { IfOk result (λ keys. keys.trees
+        ≡ trees_of fields.entry.all.now (view json.now)) }
+    ensures err { IfErr result (Refuses (spec.index_form fields.entry.all.now (view json.now))) }
 {
     check_object(alloc, INDEX_KEY, json)?;
     check_not(alloc, true, INDEX_KEY, "nullHandlingEnabled", json)?;
@@ -129,16 +124,15 @@ fn index_keys<'v>(
 
 fn index_lists<'v>(
     alloc: Global,
-    fields: &[Field],
+    fields: Fields,
     sorted: Option<u16>,
     json: &'v Json,
 ) -> Result<IndexKeys<'v>, TextFault>
-    requires { length fields.now ≤ 64 }
     ensures ok { IfOk result (λ keys. first_of
-        (columns_finding fields.now spec.INDEX_KEY spec.INVERTED_KEY (view json.now)
-        ∷ columns_finding fields.now spec.INDEX_KEY spec.RANGE_KEY (view json.now)
-        ∷ columns_finding fields.now spec.INDEX_KEY spec.RAW_KEY (view json.now)
-        ∷ trees_finding fields.now spec.INDEX_KEY (view json.now) ∷ []) ≡ None) }
+        (columns_finding fields.entry.all.now spec.INDEX_KEY spec.INVERTED_KEY (view json.now)
+        ∷ columns_finding fields.entry.all.now spec.INDEX_KEY spec.RANGE_KEY (view json.now)
+        ∷ columns_finding fields.entry.all.now spec.INDEX_KEY spec.RAW_KEY (view json.now)
+        ∷ trees_finding fields.entry.all.now spec.INDEX_KEY (view json.now) ∷ []) ≡ None) }
     ensures sorted { IfOk result (λ keys. keys.sorted ≡ sorted) }
     ensures inverted { IfOk result
         (λ keys. map view keys.inverted.now ≡ items_at spec.INVERTED_KEY (view json.now)) }
@@ -146,12 +140,13 @@ fn index_lists<'v>(
         (λ keys. map view keys.ranged.now ≡ items_at spec.RANGE_KEY (view json.now)) }
     ensures raw { IfOk result
         (λ keys. map view keys.raw.now ≡ items_at spec.RAW_KEY (view json.now)) }
-    ensures trees { IfOk result (λ keys. keys.trees ≡ trees_of fields.now (view json.now)) }
+    ensures trees { IfOk result (λ keys. keys.trees
+        ≡ trees_of fields.entry.all.now (view json.now)) }
     ensures err { IfErr result (Refuses (first_of
-        (columns_finding fields.now spec.INDEX_KEY spec.INVERTED_KEY (view json.now)
-        ∷ columns_finding fields.now spec.INDEX_KEY spec.RANGE_KEY (view json.now)
-        ∷ columns_finding fields.now spec.INDEX_KEY spec.RAW_KEY (view json.now)
-        ∷ trees_finding fields.now spec.INDEX_KEY (view json.now) ∷ []))) }
+        (columns_finding fields.entry.all.now spec.INDEX_KEY spec.INVERTED_KEY (view json.now)
+        ∷ columns_finding fields.entry.all.now spec.INDEX_KEY spec.RANGE_KEY (view json.now)
+        ∷ columns_finding fields.entry.all.now spec.INDEX_KEY spec.RAW_KEY (view json.now)
+        ∷ trees_finding fields.entry.all.now spec.INDEX_KEY (view json.now) ∷ []))) }
 {
     let inverted = columns(alloc, fields, INDEX_KEY, INVERTED_KEY, json)?;
     let ranged = columns(alloc, fields, INDEX_KEY, RANGE_KEY, json)?;
@@ -169,14 +164,14 @@ fn index_lists<'v>(
 /// No metric that is to be kept without a dictionary needs its ids.
 fn check_raw(
     alloc: Global,
-    fields: &[Field],
+    fields: Fields,
     settings: &Settings,
     path: &str,
     items: &[Json],
 ) -> Result<(), TextFault>
-    requires fields { length fields.now ≤ 64 }
-    requires flags { spec.HasFlags fields.now settings.now }
-    ensures { Passes (spec.raw_places fields.now settings.now path.now (map view items.now)) result }
+    requires { spec.HasFlags fields.all.now settings.now }
+    ensures { Passes (spec.raw_places fields.entry.all.now settings.now path.now
+        (map view items.now)) result }
 {
     for (place, item) in items.iter().enumerate() {
         check_raw_place(alloc, fields, settings, path, place, item)?;
@@ -186,20 +181,19 @@ fn check_raw(
 
 fn check_raw_place(
     alloc: Global,
-    fields: &[Field],
+    fields: Fields,
     settings: &Settings,
     path: &str,
     place: usize,
     json: &Json,
 ) -> Result<(), TextFault>
-    requires fields { length fields.now ≤ 64 }
-    requires flags { spec.HasFlags fields.now settings.now }
-    ensures { Passes (spec.raw_place fields.now settings.now (at_place path.now place)
+    requires { spec.HasFlags fields.all.now settings.now }
+    ensures { Passes (spec.raw_place fields.entry.all.now settings.now (at_place path.now place)
         (view json.now)) result }
 {
     let name = json.as_str().unwrap_or("");
-    match Field::number_of(fields, name.as_bytes()) {
-        Some(number) if misfits(fields, settings, number) => {
+    match Field::number_of(fields.all, name.as_bytes()) {
+        Some(number) if misfits(fields.all, settings, number) => {
             Err(place_fault(alloc, KeyKind::Unsupported, path, place))
         }
         _ => Ok(()),

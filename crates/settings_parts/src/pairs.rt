@@ -2,17 +2,16 @@
 
 ghost use Rattle.std.specs.Prelude.{◌≡◌, ◌<◌, ◌≤◌, ◌+◌, length, IfOk, IfErr, IfSome, OnOk, Some, None, map};
 ghost use Rattle.serde_json.specs.View.{view};
-ghost use Rattle.settings_keys.specs.NamedColumns.{text_of};
+ghost use Rattle.json_keys.specs.NamedColumns.{text_of};
 ghost use Rattle.settings_parts.specs.Pairs as spec;
 ghost use Rattle.json_keys.specs.Faults.{Gives, Refuses, at_place};
 
 use agg_laws::AggKind;
 use data_types::{FieldKind, Seq};
-use json_keys::{KeyKind, TextFault, fault_at, place_fault};
+use json_keys::{KeyKind, TextFault, fault_at, place_fault, text_at};
 use serde_json::Value as Json;
-use settings_keys::text_at;
 use std::alloc::Global;
-use table_schema::{Field, Pair};
+use table_schema::{Field, Fields, Pair};
 use values::NoMemory;
 
 /// The most pairs of a star-tree.
@@ -60,28 +59,28 @@ fn mark_of(text: &[u8]) -> Option<usize>
 }
 
 /// The pair that a text is. COUNT takes `*` or any field, the others a field of numbers.
-fn pair_of(fields: &[Field], text: &[u8]) -> Option<Pair>
-    requires { length fields.now ≤ 64 }
-    ensures { result ≡ spec.pair_of fields.now text.now }
+fn pair_of(fields: Fields, text: &[u8]) -> Option<Pair>
+    ensures { result ≡ spec.pair_of fields.entry.all.now text.now }
 {
     let at = mark_of(text)?;
     let function = function_named(&text[..at])?;
     pair_by(fields, function, &text[at + 2..])
 }
 
-fn pair_by(fields: &[Field], function: AggKind, column: &[u8]) -> Option<Pair>
-    requires { length fields.now ≤ 64 }
-    ensures { result ≡ spec.pair_by fields.now function column.now }
+fn pair_by(fields: Fields, function: AggKind, column: &[u8]) -> Option<Pair>
+    ensures { result ≡ spec.pair_by fields.entry.all.now function column.now }
 {
     match function {
-        AggKind::Count if column == b"*".as_slice() || Field::number_of(fields, column).is_some() =>
-            Some(Pair {
+        AggKind::Count
+            if column == b"*".as_slice() || Field::number_of(fields.all, column).is_some() => Some(
+            Pair {
                 kind: AggKind::Count,
                 column: None,
-            }),
+            },
+        ),
         AggKind::Count => None,
         AggKind::Sum | AggKind::Least | AggKind::Greatest | AggKind::Average => {
-            numeric_pair(fields, function, Field::number_of(fields, column)?)
+            numeric_pair(fields.all, function, Field::number_of(fields.all, column)?)
         }
     }
 }
@@ -110,18 +109,19 @@ fn keep_pair(kept: &mut Seq<Pair>, pair: Pair) -> Result<(), NoMemory>
 
 fn pair_at(
     alloc: Global,
-    fields: &[Field],
+    fields: Fields,
     path: &str,
     place: usize,
     json: &Json,
 ) -> Result<Pair, TextFault>
-    requires { length fields.now ≤ 64 }
     ensures ok { IfOk result
-        (λ pair. spec.pair_finding fields.now (at_place path.now place) (view json.now) ≡ None) }
+        (λ pair. spec.pair_finding fields.entry.all.now (at_place path.now place) (view json.now)
+        ≡ None) }
     ensures pair { IfOk result
-        (λ pair. spec.pair_of fields.now (text_of (view json.now)) ≡ Some pair) }
+        (λ pair. spec.pair_of fields.entry.all.now (text_of (view json.now)) ≡ Some pair) }
     ensures err { IfErr result
-        (Refuses (spec.pair_finding fields.now (at_place path.now place) (view json.now))) }
+        (Refuses (spec.pair_finding fields.entry.all.now (at_place path.now place)
+        (view json.now))) }
 {
     let text = text_at(alloc, path, place, json)?;
     match pair_of(fields, text.as_bytes()) {
@@ -133,13 +133,12 @@ fn pair_at(
 /// The pairs of the array at `path`, without those that an earlier place gives.
 pub(crate) fn read_pairs(
     alloc: Global,
-    fields: &[Field],
+    fields: Fields,
     path: &str,
     items: &[Json],
 ) -> Result<Seq<Pair>, TextFault>
-    requires { length fields.now ≤ 64 }
-    ensures { Gives (spec.pairs_finding fields.now path.now (map view items.now))
-        (spec.pairs_of fields.now (map view items.now)) result }
+    ensures { Gives (spec.pairs_finding fields.entry.all.now path.now (map view items.now))
+        (spec.pairs_of fields.entry.all.now (map view items.now)) result }
 {
     let kept = kept_pairs(alloc, fields, path, items)?;
     if kept.len() > MOST_PAIRS {
@@ -150,13 +149,12 @@ pub(crate) fn read_pairs(
 
 fn kept_pairs(
     alloc: Global,
-    fields: &[Field],
+    fields: Fields,
     path: &str,
     items: &[Json],
 ) -> Result<Seq<Pair>, TextFault>
-    requires { length fields.now ≤ 64 }
-    ensures { Gives (spec.pair_places fields.now path.now (map view items.now))
-        (spec.pairs_of fields.now (map view items.now)) result }
+    ensures { Gives (spec.pair_places fields.entry.all.now path.now (map view items.now))
+        (spec.pairs_of fields.entry.all.now (map view items.now)) result }
 {
     let mut kept = Seq::new(alloc);
     for (place, item) in items.iter().enumerate() {

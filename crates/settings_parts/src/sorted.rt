@@ -1,6 +1,6 @@
 //! The sorted column.
 
-ghost use Rattle.std.specs.Prelude.{◌≡◌, ◌≤◌, length, IfOk, IfErr, IfSome, None, map};
+ghost use Rattle.std.specs.Prelude.{◌≡◌, IfOk, IfErr, IfSome, None, map};
 ghost use Rattle.std.specs.List.{list_all};
 ghost use Rattle.serde_json.specs.View.{view};
 ghost use Rattle.settings_parts.specs.Indexes as spec;
@@ -9,20 +9,20 @@ ghost use Rattle.json_keys.specs.Faults.{Gives, Refuses};
 use json_keys::{KeyKind, TextFault, array_of, below, fault_at, key_of};
 use serde_json::Value as Json;
 use std::alloc::Global;
-use table_schema::Field;
+use table_schema::{Field, Fields};
 
 const SORTED_KEY: &str = "sortedColumn";
 
-/// The number of the sorted column: a text, or an array of at most one. An empty text names nothing.
+/// The number of the sorted column: a text, or an array of at most one. An empty text names
+/// nothing.
 pub(crate) fn read_sorted(
     alloc: Global,
-    fields: &[Field],
+    fields: Fields,
     base: &str,
     json: &Json,
 ) -> Result<Option<u16>, TextFault>
-    requires { length fields.now ≤ 64 }
-    ensures { Gives (spec.sorted_finding fields.now base.now (view json.now))
-        (spec.sorted_of fields.now (view json.now)) result }
+    ensures { Gives (spec.sorted_finding fields.entry.all.now base.now (view json.now))
+        (spec.sorted_of fields.entry.all.now (view json.now)) result }
 {
     let Some(value) = key_of(json, SORTED_KEY) else {
         return Ok(None);
@@ -33,19 +33,18 @@ pub(crate) fn read_sorted(
 
 fn read_value(
     alloc: Global,
-    fields: &[Field],
+    fields: Fields,
     path: &str,
     json: &Json,
 ) -> Result<Option<u16>, TextFault>
-    requires { length fields.now ≤ 64 }
-    ensures { Gives (spec.sorted_value_finding fields.now path.now (view json.now))
-        (spec.sorted_number fields.now (spec.sorted_name (view json.now))) result }
+    ensures { Gives (spec.sorted_value_finding fields.entry.all.now path.now (view json.now))
+        (spec.sorted_number fields.entry.all.now (spec.sorted_name (view json.now))) result }
 {
     let name = sorted_name(alloc, path, json)?;
     if name.is_empty() {
         return Ok(None);
     }
-    match Field::number_of(fields, name.as_bytes()) {
+    match Field::number_of(fields.all, name.as_bytes()) {
         Some(number) => Ok(Some(number)),
         None => Err(fault_at(alloc, KeyKind::UnknownColumn, path)),
     }

@@ -2,7 +2,7 @@
 
 ghost use Rattle.std.specs.Prelude.{◌≡◌, ◌<◌, ◌≤◌, ◌^◌, length, IfOk, IfErr, Some, None, map};
 ghost use Rattle.serde_json.specs.View.{view};
-ghost use Rattle.settings_keys.specs.NamedColumns.{text_of, numbers_of};
+ghost use Rattle.json_keys.specs.NamedColumns.{text_of, numbers_of};
 ghost use Rattle.table_schema.specs.Columns.{number_of as number};
 ghost use Rattle.json_keys.specs.Keys.{items_at};
 ghost use Rattle.settings_parts.specs.Trees as spec;
@@ -12,13 +12,12 @@ use crate::pairs::read_pairs;
 use agg_laws::{Kinds, TreeShape};
 use data_types::Seq;
 use json_keys::{
-    KeyKind, TextFault, array_of, at_place, below, check_object, check_unused, fault_at, key_fault,
-    key_of, optional_array, place_fault,
+    KeyKind, TextFault, array_of, at_place, below, check_object, check_unused, column_at, fault_at,
+    is_member, key_fault, key_of, optional_array, place_fault, read_leaf, text_at,
 };
 use serde_json::Value as Json;
-use settings_keys::{column_at, is_member, read_leaf, text_at};
 use std::alloc::Global;
-use table_schema::{Field, Pair, TreeSetting};
+use table_schema::{Field, Fields, Pair, TreeSetting};
 use values::NoMemory;
 
 /// The most split dimensions of a star-tree.
@@ -58,15 +57,9 @@ fn needed_array<'v>(
 }
 
 /// The numbers of the split dimensions.
-fn read_split(
-    alloc: Global,
-    fields: &[Field],
-    base: &str,
-    json: &Json,
-) -> Result<Seq<u16>, TextFault>
-    requires { length fields.now ≤ 64 }
-    ensures split { Gives (spec.split_finding fields.now base.now (view json.now))
-        (spec.split_of fields.now (view json.now)) result }
+fn read_split(alloc: Global, fields: Fields, base: &str, json: &Json) -> Result<Seq<u16>, TextFault>
+    ensures split { Gives (spec.split_finding fields.entry.all.now base.now (view json.now))
+        (spec.split_of fields.entry.all.now (view json.now)) result }
     ensures few { IfOk result (λ split. length split ≤ 16) }
 {
     let items = needed_array(alloc, base, SPLIT_KEY, json)?;
@@ -79,13 +72,12 @@ fn read_split(
 
 fn split_places(
     alloc: Global,
-    fields: &[Field],
+    fields: Fields,
     path: &str,
     items: &[Json],
 ) -> Result<Seq<u16>, TextFault>
-    requires { length fields.now ≤ 64 }
-    ensures split { Gives (spec.split_places fields.now path.now (map view items.now))
-        (numbers_of fields.now (map view items.now)) result }
+    ensures split { Gives (spec.split_places fields.entry.all.now path.now (map view items.now))
+        (numbers_of fields.entry.all.now (map view items.now)) result }
     ensures few { IfOk result (λ split. length split ≤ length items.now) }
 {
     let mut split = Seq::with_capacity(alloc, items.len())?;
@@ -99,21 +91,22 @@ fn split_places(
 /// A split dimension, which is none of those before it.
 fn split_place(
     alloc: Global,
-    fields: &[Field],
+    fields: Fields,
     path: &str,
     place: usize,
     split: &[u16],
     json: &Json,
 ) -> Result<u16, TextFault>
-    requires { length fields.now ≤ 64 }
-    ensures ok { IfOk result (λ number. spec.split_place fields.now (at_place path.now place)
+    ensures ok { IfOk result (λ number. spec.split_place fields.entry.all.now
+        (at_place path.now place)
         split.now (view json.now) ≡ None) }
     ensures number { IfOk result
-        (λ answer. number fields.now (text_of (view json.now)) ≡ Some answer) }
+        (λ answer. number fields.entry.all.now (text_of (view json.now)) ≡ Some answer) }
     ensures err { IfErr result (Refuses
-        (spec.split_place fields.now (at_place path.now place) split.now (view json.now))) }
+        (spec.split_place fields.entry.all.now (at_place path.now place) split.now
+        (view json.now))) }
 {
-    let number = column_at(alloc, fields, path, place, json)?;
+    let number = column_at(alloc, fields.all, path, place, json)?;
     if is_member(split, number) {
         return Err(place_fault(alloc, KeyKind::DuplicateColumn, path, place));
     }
@@ -123,14 +116,13 @@ fn split_place(
 /// The numbers of the dimensions for which no star child is made.
 fn read_skips(
     alloc: Global,
-    fields: &[Field],
+    fields: Fields,
     base: &str,
     split: &[u16],
     json: &Json,
 ) -> Result<Seq<u16>, TextFault>
-    requires { length fields.now ≤ 64 }
-    ensures { Gives (spec.skip_finding fields.now base.now split.now (view json.now))
-        (spec.skips_of fields.now (view json.now)) result }
+    ensures { Gives (spec.skip_finding fields.entry.all.now base.now split.now (view json.now))
+        (spec.skips_of fields.entry.all.now (view json.now)) result }
 {
     let items = optional_array(alloc, base, SKIP_KEY, json)?;
     let path = below(alloc, base, SKIP_KEY)?;
@@ -139,14 +131,13 @@ fn read_skips(
 
 fn skip_places(
     alloc: Global,
-    fields: &[Field],
+    fields: Fields,
     path: &str,
     split: &[u16],
     items: &[Json],
 ) -> Result<Seq<u16>, TextFault>
-    requires { length fields.now ≤ 64 }
-    ensures { Gives (spec.skip_places fields.now path.now split.now (map view items.now))
-        (numbers_of fields.now (map view items.now)) result }
+    ensures { Gives (spec.skip_places fields.entry.all.now path.now split.now (map view items.now))
+        (numbers_of fields.entry.all.now (map view items.now)) result }
 {
     let mut skips = Seq::new(alloc);
     for (place, item) in items.iter().enumerate() {
@@ -158,22 +149,23 @@ fn skip_places(
 
 fn skip_place(
     alloc: Global,
-    fields: &[Field],
+    fields: Fields,
     path: &str,
     place: usize,
     split: &[u16],
     json: &Json,
 ) -> Result<u16, TextFault>
-    requires { length fields.now ≤ 64 }
-    ensures ok { IfOk result (λ number. spec.skip_place fields.now (at_place path.now place)
+    ensures ok { IfOk result (λ number. spec.skip_place fields.entry.all.now
+        (at_place path.now place)
         split.now (view json.now) ≡ None) }
     ensures number { IfOk result
-        (λ answer. number fields.now (text_of (view json.now)) ≡ Some answer) }
+        (λ answer. number fields.entry.all.now (text_of (view json.now)) ≡ Some answer) }
     ensures err { IfErr result (Refuses
-        (spec.skip_place fields.now (at_place path.now place) split.now (view json.now))) }
+        (spec.skip_place fields.entry.all.now (at_place path.now place) split.now
+        (view json.now))) }
 {
     let name = text_at(alloc, path, place, json)?;
-    match Field::number_of(fields, name.as_bytes()) {
+    match Field::number_of(fields.all, name.as_bytes()) {
         Some(number) if is_member(split, number) => Ok(number),
         _ => Err(place_fault(alloc, KeyKind::UnknownColumn, path, place)),
     }
@@ -203,13 +195,12 @@ fn kinds_of(alloc: Global, pairs: &[Pair]) -> Result<Kinds, NoMemory>
 
 fn tree_pairs(
     alloc: Global,
-    fields: &[Field],
+    fields: Fields,
     base: &str,
     json: &Json,
 ) -> Result<Seq<Pair>, TextFault>
-    requires { length fields.now ≤ 64 }
-    ensures { Gives (spec.tree_pairs_finding fields.now base.now (view json.now))
-        (spec.tree_pairs_of fields.now (view json.now)) result }
+    ensures { Gives (spec.tree_pairs_finding fields.entry.all.now base.now (view json.now))
+        (spec.tree_pairs_of fields.entry.all.now (view json.now)) result }
 {
     let items = needed_array(alloc, base, PAIRS_KEY, json)?;
     let path = below(alloc, base, PAIRS_KEY)?;
@@ -218,13 +209,12 @@ fn tree_pairs(
 
 fn read_tree(
     alloc: Global,
-    fields: &[Field],
+    fields: Fields,
     base: &str,
     json: &Json,
 ) -> Result<TreeSetting, TextFault>
-    requires { length fields.now ≤ 64 }
-    ensures { Gives (spec.tree_finding fields.now base.now (view json.now))
-        (spec.tree_of fields.now (view json.now)) result }
+    ensures { Gives (spec.tree_finding fields.entry.all.now base.now (view json.now))
+        (spec.tree_of fields.entry.all.now (view json.now)) result }
 {
     check_object(alloc, base, json)?;
     check_unused(alloc, base, "aggregationConfigs", json)?;
@@ -248,13 +238,12 @@ fn read_tree(
 /// The star-trees of the object at `base`.
 pub(crate) fn read_trees(
     alloc: Global,
-    fields: &[Field],
+    fields: Fields,
     base: &str,
     json: &Json,
 ) -> Result<Seq<TreeSetting>, TextFault>
-    requires { length fields.now ≤ 64 }
-    ensures { Gives (spec.trees_finding fields.now base.now (view json.now))
-        (spec.trees_of fields.now (view json.now)) result }
+    ensures { Gives (spec.trees_finding fields.entry.all.now base.now (view json.now))
+        (spec.trees_of fields.entry.all.now (view json.now)) result }
 {
     let items = optional_array(alloc, base, TREES_KEY, json)?;
     if items.len() > MOST_TREES {
@@ -266,13 +255,12 @@ pub(crate) fn read_trees(
 
 fn tree_places(
     alloc: Global,
-    fields: &[Field],
+    fields: Fields,
     path: &str,
     items: &[Json],
 ) -> Result<Seq<TreeSetting>, TextFault>
-    requires { length fields.now ≤ 64 }
-    ensures { Gives (spec.tree_places fields.now path.now (map view items.now))
-        (map (spec.tree_of fields.now) (map view items.now)) result }
+    ensures { Gives (spec.tree_places fields.entry.all.now path.now (map view items.now))
+        (map (spec.tree_of fields.entry.all.now) (map view items.now)) result }
 {
     let mut trees = Seq::new(alloc);
     for (place, item) in items.iter().enumerate() {

@@ -4,13 +4,13 @@ use Rattle.std.proofs.lemmas.Bool.Decides.{nat_tests}
 use Rattle.values.specs.declared.value.Value.{Value}
 use Rattle.table_schema.specs.declared.query.BoundQuery.{BoundQuery}
 use Rattle.table_schema.specs.declared.table.Table.{Table}
-use Rattle.query_grammar.specs.Query.{parsed}
+use Rattle.query_parser.specs.Query.{parsed}
 use Rattle.query_tokens.specs.declared.tree.Query.{Query}
 use Rattle.query_tokens.specs.declared.fault.QueryFault.{QueryFault}
 use Rattle.query_tokens.specs.declared.fault.QueryFault.TheVariants as parse
-use Rattle.bound_parts.specs.Bound.{Bound, bound}
-use Rattle.query_where.specs.declared.fault.BindFault.{BindFault}
-use Rattle.query_where.specs.declared.fault.BindFault.TheVariants as bind
+use Rattle.query_bind.specs.Bound.{Bound, bound}
+use Rattle.query_bind.specs.declared.fault.BindFault.{BindFault}
+use Rattle.query_bind.specs.declared.fault.BindFault.TheVariants as bind
 use Rattle.sql_reply.specs.Asked.{Asked, Asks, asked, normal_asked, parsed_asked}
 use Rattle.sql_reply.specs.Laws.{UnaskedHasNone}
 use Rattle.sql_reply.specs.Parts.{IsBound, IsRead}

@@ -16,20 +16,20 @@ use Rattle.query_tokens.specs.declared.tree.Cond.TheOpen.{Cond-F}
 use Rattle.query_tokens.specs.declared.tree.Cond.TheFolds.{fold-roll-Cond, ind-Cond, map-Cond}
 use Rattle.query_tokens.specs.declared.tree.Cond.TheViews.{roll-Cond}
 use Rattle.query_tokens.specs.declared.tree.Query.{Query}
-use Rattle.query_where.specs.declared.fault.BindReason.{BindReason}
-use Rattle.query_where.specs.declared.fault.BindReason.TheVariants.{NotNumeric}
-use Rattle.query_where.specs.declared.fault.BindFault.{BindFault}
-use Rattle.query_where.specs.declared.fault.BindFault.TheVariants.{At, NoMemory}
-use Rattle.bound_parts.specs.declared.terms.TermAt.{TermAt}
-use Rattle.bound_parts.specs.declared.terms.KeyAt.{KeyAt}
-use Rattle.bound_parts.specs.declared.terms.ColumnAt.{ColumnAt}
-use Rattle.bound_parts.specs.declared.terms.Terms.{Terms}
-use Rattle.query_where.specs.Faults.{Finding, fault_if, fault_unless}
-use Rattle.query_where.specs.Names as names
-use Rattle.bound_parts.specs.Grouped as grouped
-use Rattle.bound_parts.specs.Limits.{aggs_finding, groups_finding, keys_finding, limits_finding}
-use Rattle.bound_parts.specs.Terms.{aggs_from, terms_of, with_agg, with_column}
-use Rattle.bound_parts.specs.Bound.{answer, bound, bound_of, query_finding}
+use Rattle.query_bind.specs.declared.fault.BindReason.{BindReason}
+use Rattle.query_bind.specs.declared.fault.BindReason.TheVariants.{NotNumeric}
+use Rattle.query_bind.specs.declared.fault.BindFault.{BindFault}
+use Rattle.query_bind.specs.declared.fault.BindFault.TheVariants.{At, NoMemory}
+use Rattle.query_bind.specs.declared.terms.TermAt.{TermAt}
+use Rattle.query_bind.specs.declared.terms.KeyAt.{KeyAt}
+use Rattle.query_bind.specs.declared.terms.ColumnAt.{ColumnAt}
+use Rattle.query_bind.specs.declared.terms.Terms.{Terms}
+use Rattle.query_bind.specs.Faults.{Finding, fault_if, fault_unless}
+use Rattle.query_bind.specs.Names as names
+use Rattle.query_bind.specs.Grouped as grouped
+use Rattle.query_bind.specs.Limits.{aggs_finding, groups_finding, keys_finding, limits_finding}
+use Rattle.query_bind.specs.Terms.{aggs_from, terms_of, with_agg, with_column}
+use Rattle.query_bind.specs.Bound.{answer, bound, bound_of, query_finding}
 
 -- a fault with its place
 abbrev Placed : BindFault → Type 0

@@ -16,10 +16,10 @@ use Rattle.query_tokens.specs.declared.tree.Func.{Func}
 use Rattle.query_tokens.specs.declared.tree.Query.{Query}
 use Rattle.query_tokens.specs.Lex.{Bytes}
 use Rattle.query_tokens.specs.Stream.{Stream, kind, number, tokens}
-use Rattle.token_cursor.specs.Reading.{Outcome, Parser, and_then, ◌>>=◌, ◌>>◌, ◌<$>◌, pure, refusal, refuse, too_deep, peek, take_token, sees, eat, expect, name, literal_by, literal, separated_from, separated}
-use Rattle.token_cursor.specs.Operators.{operator}
-use Rattle.query_grammar.specs.Cond as c
-use Rattle.query_grammar.specs.Query as q
+use Rattle.query_parser.specs.Reading.{Outcome, Parser, and_then, ◌>>=◌, ◌>>◌, ◌<$>◌, pure, refusal, refuse, too_deep, peek, take_token, sees, eat, expect, name, literal_by, literal, separated_from, separated}
+use Rattle.query_parser.specs.Operators.{operator}
+use Rattle.query_parser.specs.Cond as c
+use Rattle.query_parser.specs.Query as q
 
 -- what a rule of the grammar reads is no want of memory
 abbrev Tells : {A : Type 0} → Parser A → Type 0

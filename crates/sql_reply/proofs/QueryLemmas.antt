@@ -6,12 +6,12 @@ use Rattle.values.specs.declared.value.Value.{Value}
 use Rattle.table_schema.specs.Conditions.{all_hold}
 use Rattle.table_schema.specs.declared.query.BoundQuery.{BoundQuery}
 use Rattle.table_schema.specs.declared.table.Table.{Table}
-use Rattle.query_grammar.specs.Query.{parsed}
+use Rattle.query_parser.specs.Query.{parsed}
 use Rattle.query_tokens.specs.declared.tree.Query.{Query}
-use Rattle.bound_parts.specs.Bound.{Bound, answer, bound, bound_of, in_normal_form, query_finding}
-use Rattle.query_where.specs.Conjuncts.{KeepRows}
-use Rattle.query_where.specs.Faults.{Finding}
-use Rattle.query_where.specs.Written.{where_holds, where_written}
+use Rattle.query_bind.specs.Bound.{Bound, answer, bound, bound_of, in_normal_form, query_finding}
+use Rattle.query_bind.specs.Conjuncts.{KeepRows}
+use Rattle.query_bind.specs.Faults.{Finding}
+use Rattle.query_bind.specs.Written.{where_holds, where_written}
 use Rattle.group_table.specs.Groups.{groups_of}
 use Rattle.broker_merge.specs.Reply.{reply_over}
 use Rattle.sql_reply.specs.Parts.{IsBound, IsRead}

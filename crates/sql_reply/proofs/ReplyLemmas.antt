@@ -2,13 +2,13 @@
 use Rattle.std.proofs.Common.{◌≡◌, Bool, true, false, cond, nat_lt, List, length, Result, Ok, Err, refl}
 use Rattle.values.specs.declared.value.Value.{Value}
 use Rattle.table_schema.specs.declared.table.Table.{Table}
-use Rattle.query_grammar.specs.Query.{parsed}
+use Rattle.query_parser.specs.Query.{parsed}
 use Rattle.query_tokens.specs.declared.tree.Query.{Query}
 use Rattle.query_tokens.specs.declared.fault.QueryFault.{QueryFault}
 use Rattle.query_tokens.specs.declared.fault.QueryFault.TheVariants as parse
-use Rattle.bound_parts.specs.Bound.{Bound, bound}
-use Rattle.query_where.specs.declared.fault.BindFault.{BindFault}
-use Rattle.query_where.specs.declared.fault.BindFault.TheVariants as bind
+use Rattle.query_bind.specs.Bound.{Bound, bound}
+use Rattle.query_bind.specs.declared.fault.BindFault.{BindFault}
+use Rattle.query_bind.specs.declared.fault.BindFault.TheVariants as bind
 use Rattle.broker_merge.specs.Reply as groups
 use Rattle.sql_reply.specs.Reply.{reply_of}
 use Rattle.sql_reply.specs.Laws.{NeverForMemory}

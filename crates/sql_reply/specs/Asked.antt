@@ -2,11 +2,11 @@
 use Rattle.std.specs.Prelude.{◌≡◌, ◌≢◌, ℕ, Bool, nat_lt, List, length, Result, Ok, Err, if◌then◌else◌}
 use Rattle.table_schema.specs.declared.query.BoundQuery.{BoundQuery}
 use Rattle.table_schema.specs.declared.table.Table.{Table}
-use Rattle.query_grammar.specs.Query.{parsed}
+use Rattle.query_parser.specs.Query.{parsed}
 use Rattle.query_tokens.specs.declared.tree.Query.{Query}
 use Rattle.query_tokens.specs.declared.fault.QueryFault.{QueryFault}
-use Rattle.bound_parts.specs.Bound.{Bound, bound, in_normal_form}
-use Rattle.query_where.specs.declared.fault.BindFault.{BindFault}
+use Rattle.query_bind.specs.Bound.{Bound, bound, in_normal_form}
+use Rattle.query_bind.specs.declared.fault.BindFault.{BindFault}
 use Rattle.sql_reply.specs.SqlReply.{bind_fault, query_fault, sql_limit}
 use Rattle.sql_reply.specs.declared.fault.SqlFault.{SqlFault}
 use Rattle.sql_reply.specs.declared.fault.SqlFault.TheVariants.{LongQuery, NoMemory}
@@ -28,7 +28,8 @@ parsed_asked table any_table (Err wrong) = Err (query_fault wrong)
 -- the query that a text is over the columns of a table
 abbrev pub asked : Table → Bool → List ℕ → Asked
 asked table any_table sql =
-    if nat_lt sql_limit (length sql) then Err (LongQuery sql_limit) else parsed_asked table any_table (parsed sql)
+    if nat_lt sql_limit (length sql) then Err
+    (LongQuery sql_limit) else parsed_asked table any_table (parsed sql)
 
 -- what a call answers: the query, unless memory runs out
 abbrev pub Asks : Asked → Asked → Type 0

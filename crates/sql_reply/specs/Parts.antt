@@ -2,11 +2,11 @@
 use Rattle.std.specs.Prelude.{◌≡◌, ◌≤◌, Bool, ℕ, List, length, Ok}
 use Rattle.table_schema.specs.declared.query.BoundQuery.{BoundQuery}
 use Rattle.table_schema.specs.declared.table.Table.{Table}
-use Rattle.query_grammar.specs.Query.{parsed}
+use Rattle.query_parser.specs.Query.{parsed}
 use Rattle.query_tokens.specs.declared.tree.Query.{Query}
-use Rattle.bound_parts.specs.Bound.{Bound, bound, in_normal_form}
-use Rattle.query_where.specs.Conjuncts.{KeepRows}
-use Rattle.query_where.specs.Written.{where_written}
+use Rattle.query_bind.specs.Bound.{Bound, bound, in_normal_form}
+use Rattle.query_bind.specs.Conjuncts.{KeepRows}
+use Rattle.query_bind.specs.Written.{where_written}
 use Rattle.sql_reply.specs.SqlReply.{sql_limit}
 
 -- a text within the limit is this query
@@ -15,7 +15,8 @@ pub record IsRead (sql : List ℕ) (query : Query) : Type 0 where
   pub parsed_so : parsed sql ≡ Ok query
 
 -- a query of a table has a meaning by its names and types, and this is its normal form
-pub record IsBound (table : Table) (any_table : Bool) (query : Query) (found : BoundQuery) : Type 0 where
+pub record IsBound (table : Table) (any_table : Bool) (query : Query) (found : BoundQuery)
+    : Type 0 where
   pub meaning : Bound
   pub bound_so : bound table any_table query ≡ Ok meaning
   pub normal : found ≡ in_normal_form meaning

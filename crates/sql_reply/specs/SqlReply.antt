@@ -1,14 +1,15 @@
--- The reply to a query's text over the rows of a table, or the first thing that is wrong with the query.
+-- The reply to a query's text over the rows of a table, or the first thing that is wrong with the
+-- query.
 use Rattle.std.specs.Prelude.{◌≡◌, ◌≢◌, ℕ, Bool, nat_lt, List, length, Result, Ok, Err, if◌then◌else◌}
 use Rattle.values.specs.declared.value.Value.{Value}
 use Rattle.table_schema.specs.declared.table.Table.{Table}
-use Rattle.query_grammar.specs.Query.{parsed}
+use Rattle.query_parser.specs.Query.{parsed}
 use Rattle.query_tokens.specs.declared.tree.Query.{Query}
 use Rattle.query_tokens.specs.declared.fault.QueryFault.{QueryFault}
 use Rattle.query_tokens.specs.declared.fault.QueryFault.TheVariants as parse
-use Rattle.bound_parts.specs.Bound.{Bound, bound}
-use Rattle.query_where.specs.declared.fault.BindFault.{BindFault}
-use Rattle.query_where.specs.declared.fault.BindFault.TheVariants as bind
+use Rattle.query_bind.specs.Bound.{Bound, bound}
+use Rattle.query_bind.specs.declared.fault.BindFault.{BindFault}
+use Rattle.query_bind.specs.declared.fault.BindFault.TheVariants as bind
 use Rattle.broker_merge.specs.Reply as groups
 use Rattle.sql_reply.specs.Reply.{most_groups, reply_of}
 use Rattle.sql_reply.specs.declared.fault.SqlFault.{SqlFault}
@@ -52,7 +53,8 @@ abbrev pub bound_reply : List (List Value) → Result Bound BindFault → SqlRep
 bound_reply rows (Ok b) = replied (reply_of b rows)
 bound_reply rows (Err wrong) = Err (bind_fault wrong)
 
--- the reply to a query's text by what it is read as; where that is so, any name stands for the table
+-- the reply to a query's text by what it is read as; where that is so, any name stands for the
+-- table
 abbrev pub parsed_reply : Table → Bool → List (List Value) → Result Query QueryFault → SqlReply
 parsed_reply table any_table rows (Ok q) = bound_reply rows (bound table any_table q)
 parsed_reply table any_table rows (Err wrong) = Err (query_fault wrong)
@@ -60,7 +62,8 @@ parsed_reply table any_table rows (Err wrong) = Err (query_fault wrong)
 -- the reply to a query's text over rows of the table
 abbrev pub sql_reply : Table → Bool → List ℕ → List (List Value) → SqlReply
 sql_reply table any_table sql rows =
-    if nat_lt sql_limit (length sql) then Err (LongQuery sql_limit) else parsed_reply table any_table rows (parsed sql)
+    if nat_lt sql_limit (length sql) then Err
+    (LongQuery sql_limit) else parsed_reply table any_table rows (parsed sql)
 
 -- what a call answers: the reply, unless memory runs out
 abbrev pub Replies : SqlReply → SqlReply → Type 0

@@ -3,17 +3,16 @@ ghost use Rattle.std.specs.Prelude.{◌≡◌, ◌≤◌, Bool, List, Err, IfOk,
 ghost use Rattle.values.specs.declared.value.Value.{Value};
 ghost use Rattle.table_schema.specs.declared.table.Table.{Table};
 ghost use Rattle.table_schema.specs.ValidQuery.{IsValidQuery};
-ghost use Rattle.bound_parts.specs.Bound.{Spelled, bound};
+ghost use Rattle.query_bind.specs.Bound.{Spelled, bound};
 ghost use Rattle.sql_reply.specs.Asked.{Asks, asked, normal_asked};
 ghost use Rattle.sql_reply.specs.Parts.{IsBound, IsRead};
 ghost use Rattle.sql_reply.specs.Reply.{conjuncts_reply};
 ghost use Rattle.sql_reply.specs.SqlReply as spec;
 
 use crate::SqlFault;
-use query_bind::bind;
+use query_bind::{BindFault, bind};
 use query_parser::parse;
 use query_tokens::{Query, QueryFault};
-use query_where::BindFault;
 use std::alloc::Global;
 use table_schema::{BoundQuery, Table};
 
@@ -66,7 +65,7 @@ fn bind_to(
     table: &Table,
     any_table: bool,
 ) -> Result<BoundQuery, SqlFault>
-    requires few { length table.now.schema.fields ≤ 64 }
+    requires at_most { length table.now.schema.fields ≤ 64 }
     requires spelled { Spelled query.now }
     ensures bound { IfOk result (IsBound table.now any_table query.now) }
     ensures valid { IfOk result (IsValidQuery table.now) }

@@ -1,7 +1,7 @@
 //! Why a query's text has no reply.
 
+use query_bind::BindReason;
 use query_tokens::Reason;
-use query_where::BindReason;
 use std::alloc::AllocError;
 
 /// Why a query's text has no reply over the rows of a table.

@@ -1,19 +1,18 @@
--- The answer from a tree, by the documents that were taken.
-use Rattle.std.proofs.Common.{◌≡◌, ◌∙◌, ℕ, ◌+◌, ◌<◌, ◌≤◌, inr, All, List, []}
-use Rattle.std.proofs.Common.{◌∷◌, Option, Some, None, IfSome, length, refl, sym, ap, subst}
+-- The answer from a tree, by the documents that were selected.
+use Rattle.std.proofs.Common.{◌≡◌, ◌∙◌, ℕ, ◌+◌, ◌<◌, ◌≤◌, inr, All, List, [], ◌∷◌, Option, Some, None, IfSome, length, refl, sym, ap, subst}
 use Rattle.std.specs.FinMap as finite
 use Rattle.std.proofs.lemmas.List.Elements.{All-cons, All-head, All-nil, All-tail}
 use Rattle.outside.specs.Files.{Files}
-use Rattle.tree_laws.specs.declared.node.Node.{Node}
+use Rattle.star_tree.specs.declared.node.Node.{Node}
 use Rattle.agg_laws.specs.declared.tree_shape.TreeShape.{TreeShape}
-use Rattle.tree_laws.specs.NodeRules.{KeepsRules}
-use Rattle.tree_laws.specs.Picks as asks
-use Rattle.star_walk.specs.Joins.{joined}
+use Rattle.star_tree.specs.NodeRules.{KeepsRules}
+use Rattle.star_tree.specs.Picks as asks
+use Rattle.star_walk.specs.Coalescing.{coalesced}
 use Rattle.star_walk.specs.Walking.{tree_picks}
-use Rattle.star_walk.proofs.JoinSteps.{joined_within}
-use Rattle.index_reading.proofs.PostingSteps.{over_partly}
-use Rattle.star_taking.specs.Answers.{IsTree, LogsPicks, LogsSome, stretches_of}
-use Rattle.star_taking.proofs.ReadSteps.{nothing_read}
+use Rattle.star_walk.proofs.CoalesceSteps.{coalesced_within}
+use Rattle.outside.proofs.SeriesLemmas.{over_partly}
+use Rattle.star_reader.specs.Answers.{IsTree, LogsPicks, LogsSome, stretches_of, Answers, AreRead, IsBad, IsOverfull, asked_of, passed, picks_of, reads_of, selected_of}
+use Rattle.star_reader.proofs.ReadSteps.{nothing_read}
 use Rattle.outside.specs.Reads.{Entry}
 use Rattle.state_columns.specs.Docs.{Doc, Docs}
 use Rattle.agg_laws.specs.Merged.{weights}
@@ -24,19 +23,16 @@ use Rattle.star_walk.specs.declared.pick.Pick.{Pick}
 use Rattle.star_walk.specs.declared.task.Task.{Task}
 use Rattle.star_walk.specs.Images.{AreWithin, read_of}
 use Rattle.group_table.specs.Kept.{KeptGroups, groups_in}
-use Rattle.star_taking.specs.declared.asked.Asked.{Asked}
-use Rattle.star_taking.specs.declared.asked.GroupColumn.{GroupColumn}
-use Rattle.star_taking.specs.declared.tree_part.TreePart.{TreePart}
-use Rattle.star_taking.specs.Answers.{Answers, AreRead, IsBad, IsOverfull}
-use Rattle.star_taking.specs.Answers.{asked_of, passed, picks_of, reads_of, taken_of}
-use Rattle.star_taking.specs.Asked.{AreSound, HasKey, entries_of, key_of, value_of}
-use Rattle.star_taking.specs.Entries.{MergesEntries, with_entries}
-use Rattle.star_taking.specs.Taken.{AreKeyIds, ArePicked, MayBeTaken, key_ids, key_values, keyed}
-use Rattle.star_taking.specs.Taken.{taken_doc, taken_docs}
+use Rattle.star_reader.specs.declared.asked.Asked.{Asked}
+use Rattle.star_reader.specs.declared.asked.GroupColumn.{GroupColumn}
+use Rattle.star_reader.specs.declared.tree_part.TreePart.{TreePart}
+use Rattle.star_reader.specs.Asked.{AreSound, HasKey, entries_of, key_of, value_of}
+use Rattle.star_reader.specs.Entries.{MergesEntries, with_entries}
+use Rattle.star_reader.specs.Selected.{AreKeyIds, ArePicked, MayBeSelected, key_ids, key_values, keyed, selected_doc, selected_docs}
 use Rattle.star_answer.proofs.EntryLemmas.{merges_so}
-use Rattle.star_taking.proofs.TakeSteps.{keyed_back, keyed_from}
+use Rattle.star_reader.proofs.TakeSteps.{keyed_back, keyed_from}
 
--- ---- what documents that are taken give to groups
+-- ---- what documents that are selected give to groups
 
 values_of_ids : (columns : List GroupColumn) (ids : List ℕ)
     → key_values columns (key_ids columns ids) ≡ key_of columns ids
@@ -44,15 +40,15 @@ values_of_ids [] ids = refl
 values_of_ids (c ∷ cs) ids = ap (λ t. value_of c (dim c.dim ids) ∷ t) (values_of_ids cs ids)
 
 pub entries_keyed : (asked : Asked) (docs : List Doc)
-    → keyed asked.columns.now (taken_docs asked docs) ≡ entries_of asked docs
+    → keyed asked.columns.now (selected_docs asked docs) ≡ entries_of asked docs
 entries_keyed asked [] = refl
 entries_keyed asked (e ∷ es) =
-    λ i. (values_of_ids asked.columns.now e.0 i, (taken_doc asked e).1) ∷ entries_keyed asked es i
+    λ i. (values_of_ids asked.columns.now e.0 i, (selected_doc asked e).1) ∷ entries_keyed asked es i
 
 same_weights : (asked : Asked) (docs : List Doc)
-    → weights row_weight (taken_docs asked docs) ≡ weights row_weight (entries_of asked docs)
+    → weights row_weight (selected_docs asked docs) ≡ weights row_weight (entries_of asked docs)
 same_weights asked [] = refl
-same_weights asked (e ∷ es) = ap (λ n. row_weight (taken_doc asked e).1 + n) (same_weights asked es)
+same_weights asked (e ∷ es) = ap (λ n. row_weight (selected_doc asked e).1 + n) (same_weights asked es)
 
 module _ (asked : Asked) where
   abbrev HasOwn : Doc → Type 0
@@ -61,30 +57,30 @@ module _ (asked : Asked) where
   abbrev HasIds : Doc → Type 0
   HasIds e = AreKeyIds asked.columns.now e.0
 
-  all_own : (docs : List Doc) → All (λ e. AreKeyIds asked.columns.now e.0) (taken_docs asked docs)
+  all_own : (docs : List Doc) → All (λ e. AreKeyIds asked.columns.now e.0) (selected_docs asked docs)
       → All (λ e. HasKey asked.columns.now e.0) docs
   all_own [] h = All-nil HasOwn
   all_own (e ∷ es) h = All-cons HasOwn e es
-      (keyed_back asked.columns.now e.0 (All-head HasIds (taken_doc asked e) (taken_docs asked es) h))
-      (all_own es (All-tail HasIds (taken_doc asked e) (taken_docs asked es) h))
+      (keyed_back asked.columns.now e.0 (All-head HasIds (selected_doc asked e) (selected_docs asked es) h))
+      (all_own es (All-tail HasIds (selected_doc asked e) (selected_docs asked es) h))
 
   all_ids : (docs : List Doc) → All (λ e. HasKey asked.columns.now e.0) docs
-      → All (λ e. AreKeyIds asked.columns.now e.0) (taken_docs asked docs)
+      → All (λ e. AreKeyIds asked.columns.now e.0) (selected_docs asked docs)
   all_ids [] h = All-nil HasIds
-  all_ids (e ∷ es) h = All-cons HasIds (taken_doc asked e) (taken_docs asked es)
+  all_ids (e ∷ es) h = All-cons HasIds (selected_doc asked e) (selected_docs asked es)
       (keyed_from asked.columns.now e.0 (All-head HasOwn e es h))
       (all_ids es (All-tail HasOwn e es h))
 
-  -- documents may be merged just where they may be taken
+  -- documents may be merged just where they may be selected
   pub sound_so : (rows : ℕ) (docs : List Doc)
-      → MayBeTaken asked.columns.now rows (taken_docs asked docs) → AreSound asked rows docs
+      → MayBeSelected asked.columns.now rows (selected_docs asked docs) → AreSound asked rows docs
   sound_so rows docs h = record {
     keyed = all_own docs h.keyed;
     light = subst (λ n. n ≤ rows) (same_weights asked docs) h.light;
   }
 
   pub sound_back : (rows : ℕ) (docs : List Doc) → AreSound asked rows docs
-      → MayBeTaken asked.columns.now rows (taken_docs asked docs)
+      → MayBeSelected asked.columns.now rows (selected_docs asked docs)
   sound_back rows docs h = record {
     keyed = all_ids docs h.keyed;
     light = subst (λ n. n ≤ rows) (sym (same_weights asked docs)) h.light;
@@ -97,23 +93,23 @@ module _ (tree : TreePart) (task : Task) (asked : Asked) (rows : ℕ) (held : Op
   -- why documents are refused
   pub bad_so : IfSome held (λ files. (read : List (List Doc))
       → AreRead tree.shape.now tree.counts.now (section files tree.documents.now) ps read
-      → ¬ MayBeTaken asked.columns.now rows (taken_docs asked (passed (asked_of task)
+      → ¬ MayBeSelected asked.columns.now rows (selected_docs asked (passed (asked_of task)
       (length task.matched) ps read))) → IsBad tree task asked rows held
   bad_so bad = inr (by held (subst (λ l. IfSome held (λ files. (read : List (List Doc))
       → AreRead tree.shape.now tree.counts.now (section files tree.documents.now) l read
-      → ¬ MayBeTaken asked.columns.now rows (taken_docs asked (passed (asked_of task)
+      → ¬ MayBeSelected asked.columns.now rows (selected_docs asked (passed (asked_of task)
       (length task.matched) l read)))) is bad))
     where
       by : (h : Option Files) → IfSome h (λ files. (read : List (List Doc))
           → AreRead tree.shape.now tree.counts.now (section files tree.documents.now)
-          (reads_of tree task) read → ¬ MayBeTaken asked.columns.now rows
-          (taken_docs asked (taken_of tree task read)))
+          (reads_of tree task) read → ¬ MayBeSelected asked.columns.now rows
+          (selected_docs asked (selected_of tree task read)))
           → IfSome h (λ files. (read : List (List Doc))
           → AreRead tree.shape.now tree.counts.now (section files tree.documents.now)
-          (reads_of tree task) read → ¬ AreSound asked rows (taken_of tree task read))
+          (reads_of tree task) read → ¬ AreSound asked rows (selected_of tree task read))
       by None bad = tt
       by (Some files) bad = λ read are sound.
-          bad read are (sound_back asked rows (taken_of tree task read) sound)
+          bad read are (sound_back asked rows (selected_of tree task read) sound)
 
   module _ (table : Docs) (picked : ArePicked tree task asked rows held ps table) where
     own : ArePicked tree task asked rows held (reads_of tree task) table
@@ -126,14 +122,14 @@ module _ (tree : TreePart) (task : Task) (asked : Asked) (rows : ℕ) (held : Op
     answers old new few a = record {
       read = own.read;
       told = own.told;
-      sound = sound_so asked rows (taken_of tree task own.read)
-          (subst (MayBeTaken asked.columns.now rows) own.docs_are own.taken.may);
+      sound = sound_so asked rows (selected_of tree task own.read)
+          (subst (MayBeSelected asked.columns.now rows) own.docs_are own.selected.may);
       few = few;
       merged = subst (λ l. MergesEntries rows l old new)
           (ap (keyed asked.columns.now) own.docs_are
-          ∙ entries_keyed asked (taken_of tree task own.read))
+          ∙ entries_keyed asked (selected_of tree task own.read))
           (merges_so (weights row_weight table.docs) rows (keyed asked.columns.now table.docs)
-          (keyed asked.columns.now table.docs) old new own.taken.may.light (λ q. refl) a);
+          (keyed asked.columns.now table.docs) old new own.selected.may.light (λ q. refl) a);
     }
 
     -- they are too many
@@ -145,7 +141,7 @@ module _ (tree : TreePart) (task : Task) (asked : Asked) (rows : ℕ) (held : Op
       told = own.told;
       over = subst (λ l. old.most < finite.len (with_entries (groups_in old) l))
           (ap (keyed asked.columns.now) own.docs_are
-          ∙ entries_keyed asked (taken_of tree task own.read)) full;
+          ∙ entries_keyed asked (selected_of tree task own.read)) full;
     }
 
 -- ---- the picks, as they are read
@@ -156,10 +152,10 @@ PicksWithin = (t : asks.Task) (shape : TreeShape) (counts : List ℕ) (documents
     (ns : List Node) → ((at : ℕ) → at < length ns → KeepsRules shape shape.dims counts documents ns at)
     → AreWithin documents shape.dims (tree_picks t shape.dims ns)
 
--- what the law of joined picks says of how many documents they have
+-- what the law of coalesced picks says of how many documents they have
 abbrev pub AreAsMany : Type 0
 AreAsMany = (documents k : ℕ) (ps : List Pick) → AreWithin documents k ps
-    → read_of (joined ps) ≡ read_of ps
+    → read_of (coalesced ps) ≡ read_of ps
 
 module _ (tree : TreePart) (task : Task) (ok : IsTree tree task) (law : PicksWithin) where
   picks_within : AreWithin ok.documents (length task.matched) (picks_of tree task)
@@ -168,7 +164,7 @@ module _ (tree : TreePart) (task : Task) (ok : IsTree tree task) (law : PicksWit
       (law (asked_of task) tree.shape.now tree.counts.now ok.documents tree.nodes.now ok.keep.each)
 
   pub reads_within : AreWithin ok.documents (length task.matched) (reads_of tree task)
-  reads_within = joined_within ok.documents (length task.matched) (picks_of tree task) picks_within
+  reads_within = coalesced_within ok.documents (length task.matched) (picks_of tree task) picks_within
 
   pub nothing_logged : (log : Option (List Entry)) → LogsSome tree (reads_of tree task) log log
   nothing_logged log = nothing_read tree ok.documents (length task.matched) (reads_of tree task) log

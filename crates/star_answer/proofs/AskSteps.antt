@@ -1,7 +1,5 @@
 -- The group columns of a query among split dimensions, and its aggregates among pairs.
-use Rattle.std.proofs.Common.{◌≡◌, ◌∙◌, ◌<◌, ◌≤◌, ◌+◌, ℕ, Bool, true, false}
-use Rattle.std.proofs.Common.{List, [], ◌∷◌, ◌++◌, All, length, map, take, get_or, Some}
-use Rattle.std.proofs.Common.{refl, sym, ap, subst}
+use Rattle.std.proofs.Common.{◌≡◌, ◌∙◌, ◌<◌, ◌≤◌, ◌+◌, ℕ, Bool, true, false, List, [], ◌∷◌, ◌++◌, All, length, map, take, get_or, Some, refl, sym, ap, subst}
 use Rattle.std.specs.Prelude.{slice_get}
 use Rattle.std.specs.List.{list_any}
 use Rattle.std.proofs.lemmas.Bool.{false≢true}
@@ -12,8 +10,9 @@ use Rattle.table_schema.specs.declared.query.Agg.{Agg}
 use Rattle.value_ids.specs.Dictionary.{Distinct}
 use Rattle.segment_head.specs.Heads.{Seen}
 use Rattle.segment_plan.specs.Matched.{values_in, values_of}
-use Rattle.star_taking.specs.declared.asked.GroupColumn.{GroupColumn}
-use Rattle.star_answer.specs.Served.{field_of, pair_of}
+use Rattle.star_reader.specs.declared.asked.GroupColumn.{GroupColumn}
+use Rattle.star_answer.specs.Served.{pair_of}
+use Rattle.segment_reads.specs.Docs.{field_of}
 use Rattle.star_answer.specs.Tasks.{AreColumnsOf, ArePairsOf, split_values}
 
 -- what no item of a list is, is not in the list

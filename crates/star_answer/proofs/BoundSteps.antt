@@ -1,8 +1,5 @@
 -- The bound on what a query reads of a tree of rows, by the values of each split dimension.
-use Rattle.std.proofs.Common.{◌≡◌, ◌∙◌, ◌<◌, ◌≤◌, ◌+◌, ◌*◌, ◌==◌, ◌&&◌, ◌||◌, ℕ, zero, suc, Bool}
-use Rattle.std.proofs.Common.{true}
-use Rattle.std.proofs.Common.{false, List, [], ◌∷◌, cond, length, map, get_or, Option, Some, None}
-use Rattle.std.proofs.Common.{refl, sym, ap, subst, arith}
+use Rattle.std.proofs.Common.{◌≡◌, ◌∙◌, ◌<◌, ◌≤◌, ◌+◌, ◌*◌, ◌==◌, ◌&&◌, ◌||◌, ℕ, zero, suc, Bool, true, false, List, [], ◌∷◌, cond, length, map, get_or, Option, Some, None, refl, sym, ap, subst, arith}
 use Rattle.std.specs.Prelude.{pos, slice_get}
 use Rattle.std.specs.List.{AllByRecursion, filter, list_all, list_any}
 use Rattle.std.proofs.lemmas.Bool.{false≢true, ltb-true, or_parts}
@@ -15,10 +12,10 @@ use Rattle.values.specs.declared.value.Value.TheVariants.{Whole}
 use Rattle.agg_laws.specs.declared.tree_shape.TreeShape.{TreeShape}
 use Rattle.state_columns.specs.Docs.{Doc, HaveIds}
 use Rattle.state_columns.proofs.DocLemmas.{rows_join}
-use Rattle.tree_laws.specs.Picks as asks
-use Rattle.tree_laws.specs.Picks.{picks, read_of}
-use Rattle.tree_laws.specs.Reads as reads
-use Rattle.tree_laws.specs.Reads.{bound}
+use Rattle.star_tree.specs.Picks as asks
+use Rattle.star_tree.specs.Picks.{picks, read_of}
+use Rattle.star_tree.specs.Reads as reads
+use Rattle.star_tree.specs.Reads.{bound}
 use Rattle.agg_laws.specs.Rows.{merged_rows}
 use Rattle.agg_laws.specs.Tree.{HaveNoStar, ids_at, skips, tree_of}
 use Rattle.table_schema.specs.declared.field.Field.{Field}
@@ -43,9 +40,8 @@ use Rattle.segment_plan.specs.Plan.{is_emptied, leaves_none, scan_of, tree_or}
 use Rattle.segment_plan.specs.Planned.{factors_over, plan_over, told_head}
 use Rattle.segment_plan.specs.Pruning.{is_pruned}
 use Rattle.eligibility.specs.Rule.{picked}
-use Rattle.star_answer.specs.Docs.{DocsAreBounded, DocsAreFew, docs_in, docs_of, product}
-use Rattle.star_answer.specs.Docs.{task_over}
-use Rattle.star_answer.specs.Served.{field_of}
+use Rattle.star_answer.specs.DocLaws.{DocsAreBounded, DocsAreFew}
+use Rattle.segment_reads.specs.Docs.{docs_in, docs_of, product, task_over, field_of}
 use Rattle.star_answer.proofs.DocSteps.{tree_ids}
 use Rattle.star_answer.proofs.FewDocs.{few_read}
 use Rattle.star_answer.proofs.RowIds.{ids_are}

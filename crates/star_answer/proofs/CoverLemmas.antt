@@ -9,15 +9,15 @@ use Rattle.state_columns.specs.Docs.{Doc}
 use Rattle.state_columns.specs.Documents.{one_document}
 use Rattle.state_columns.specs.Region.{range}
 use Rattle.agg_laws.specs.Merged.{join_some, rekey, total, weights}
-use Rattle.tree_laws.specs.Picks.{ArePartedBy, HasDocs, HaveDocs, IsPartedBy, Task, holds_from}
-use Rattle.tree_laws.specs.Picks.{times_counted, times_covered}
-use Rattle.tree_laws.specs.Picks as nested
+use Rattle.star_tree.specs.Picks.{ArePartedBy, HasDocs, HaveDocs, IsPartedBy, Task, holds_from}
+use Rattle.star_tree.specs.Picks.{times_counted, times_covered}
+use Rattle.star_tree.specs.Picks as nested
 use Rattle.agg_laws.specs.Rows.{merged_rows, row_weight, weight_of}
 use Rattle.agg_laws.specs.Tree.{agrees, dims_order, rows_at, starred}
 use Rattle.state_columns.proofs.WeightLemmas.{weights-Merged, weights-append, weights-filter}
 use Rattle.star_walk.specs.declared.pick.Pick.{Pick}
 use Rattle.star_walk.specs.Images.{bare, passing, shown}
-use Rattle.star_taking.specs.Asked.{states_of}
+use Rattle.star_reader.specs.Asked.{states_of}
 
 abbrev States : Type 0
 States = List AggState

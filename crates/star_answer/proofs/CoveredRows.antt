@@ -1,13 +1,12 @@
 -- The rows that the picks of a tree cover.
-use Rattle.std.proofs.Common.{◌≡◌, ◌∙◌, ℕ, zero, suc, ◌<◌, ◌≤◌, MatchBool, All, ℤ, List, []}
-use Rattle.std.proofs.Common.{◌∷◌, length, get_or, count_by, refl, sym, ap, subst, arith}
+use Rattle.std.proofs.Common.{◌≡◌, ◌∙◌, ℕ, zero, suc, ◌<◌, ◌≤◌, MatchBool, All, ℤ, List, [], ◌∷◌, length, get_or, count_by, refl, sym, ap, subst, arith}
 use Rattle.std.specs.Prelude.{slice_get}
 use Rattle.values.specs.declared.value.Value.{Value}
 use Rattle.agg_laws.specs.declared.aggregate_kind.AggKind.{AggKind}
 use Rattle.agg_laws.specs.declared.tree_shape.TreeShape.{TreeShape}
 use Rattle.state_columns.specs.Docs.{Doc, HaveIds, projected}
-use Rattle.tree_laws.specs.Picks as asks
-use Rattle.tree_laws.specs.Picks.{holds_from}
+use Rattle.star_tree.specs.Picks as asks
+use Rattle.star_tree.specs.Picks.{holds_from}
 use Rattle.agg_laws.specs.Tree.{HaveNoStar, dim, star}
 use Rattle.table_schema.specs.declared.query.Agg.{Agg}
 use Rattle.table_schema.specs.declared.query.BoundQuery.{BoundQuery}

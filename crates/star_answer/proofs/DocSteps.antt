@@ -4,10 +4,10 @@ use Rattle.std.proofs.lemmas.List.{get_or-map}
 use Rattle.values.specs.declared.value.Value.{Value}
 use Rattle.agg_laws.specs.declared.tree_shape.TreeShape.{TreeShape}
 use Rattle.state_columns.specs.Docs.{Doc, HaveIds}
-use Rattle.tree_laws.specs.Flat.{flat, node_at}
-use Rattle.tree_laws.specs.NodeRules.{AreCounted, IsRoot, KeepsRules, count_at}
-use Rattle.tree_laws.specs.Picks as asks
-use Rattle.tree_laws.specs.Picks.{picks}
+use Rattle.star_tree.specs.Flat.{flat, node_at}
+use Rattle.star_tree.specs.NodeRules.{AreCounted, IsRoot, KeepsRules, count_at}
+use Rattle.star_tree.specs.Picks as asks
+use Rattle.star_tree.specs.Picks.{picks}
 use Rattle.agg_laws.specs.Rows.{merged_rows}
 use Rattle.agg_laws.specs.Tree.{HaveNoStar, star, tree_of}
 use Rattle.table_schema.specs.declared.field.Field.{Field}
@@ -19,7 +19,8 @@ use Rattle.segment_file.specs.Trees.{documents}
 use Rattle.segment_file.proofs.TreeRows.{tree_no_star}
 use Rattle.star_walk.specs.Images.{read_of}
 use Rattle.star_walk.specs.Walking.{tree_picks}
-use Rattle.star_answer.specs.Docs.{WalkReadsDocs, docs_of, row_values, task_over}
+use Rattle.star_answer.specs.DocLaws.{WalkReadsDocs}
+use Rattle.segment_reads.specs.Docs.{docs_of, row_values, task_over}
 use Rattle.star_answer.specs.Served.{AsksFor}
 use Rattle.star_answer.proofs.RowIds.{all_placed, are_counted, few_counts, have_ids}
 use Rattle.star_answer.proofs.SamePicks.{AskSame, picks_same}

@@ -16,7 +16,7 @@ use Rattle.group_table.specs.Kept.{IsNewKey, KeptGroups, Merges, groups_in}
 use Rattle.group_table.proofs.KeptLemmas.{key_same, key_total}
 use Rattle.scan_engine.specs.Scanned.{HaveAtMost}
 use Rattle.scan_engine.proofs.AddLemmas.{at_most_more, merged_fits, new_one}
-use Rattle.star_taking.specs.Entries.{MergesEntries, with_entries}
+use Rattle.star_reader.specs.Entries.{MergesEntries, with_entries}
 
 -- the states of a key among some entries
 abbrev pub states_at : List Value → List Group → Option (List AggState)

@@ -8,17 +8,17 @@ use Rattle.agg_laws.specs.declared.tree_shape.TreeShape.{TreeShape}
 use Rattle.state_columns.specs.Docs.{HaveIds}
 use Rattle.state_columns.specs.Documents.{total_doc}
 use Rattle.agg_laws.specs.Merged.{IsJoin, rekey}
-use Rattle.tree_laws.specs.Picks.{Pick, Task, is_taken, picks, picks_here, picks_of, quiet, read_of}
+use Rattle.star_tree.specs.Picks.{Pick, Task, is_taken, picks, picks_here, picks_of, quiet, read_of}
 use Rattle.agg_laws.specs.Tree.{HaveNoStar, Nodes, dim, docs_with, has_star, ids_at, kids_of}
 use Rattle.agg_laws.specs.Tree.{merged_docs, node, none, root_of, rows_at, set_star, skips, star}
 use Rattle.agg_laws.specs.Tree.{star_kid, starred, tree_of, under}
 use Rattle.state_columns.proofs.ListLemmas.{length-rekey, merged_fewer, merged_some}
-use Rattle.tree_laws.proofs.NodeLemmas.{total_is}
-use Rattle.tree_laws.proofs.PickLemmas.{has_star-kids, star_flag}
-use Rattle.tree_laws.proofs.ReadLemmas.{Above, Ascending, ids_ascend, one_whole}
-use Rattle.tree_laws.proofs.Runs.{Filled, all_filled}
-use Rattle.tree_laws.proofs.TreeLemmas.{Avoids, Avoids-ids, all_rows, length_more, own_docs}
-use Rattle.tree_laws.proofs.TreeLemmas.{star_docs}
+use Rattle.star_tree.proofs.NodeLemmas.{total_is}
+use Rattle.star_tree.proofs.PickLemmas.{has_star-kids, star_flag}
+use Rattle.star_tree.proofs.ReadLemmas.{Above, Ascending, ids_ascend, one_whole}
+use Rattle.star_tree.proofs.Runs.{Filled, all_filled}
+use Rattle.star_tree.proofs.TreeLemmas.{Avoids, Avoids-ids, all_rows, length_more, own_docs}
+use Rattle.star_tree.proofs.TreeLemmas.{star_docs}
 
 -- ---- documents of some ids are no more than all
 

@@ -1,18 +1,15 @@
 -- A row satisfies the filter of a query just where its ids pass the tests of their dimensions.
-use Rattle.std.proofs.Common.{◌≡◌, ◌∙◌, ℕ, zero, suc, ◌+◌, ◌<◌, ◌≤◌, Bool, true, false, cond, not}
-use Rattle.std.proofs.Common.{◌==◌, ◌⊎◌, inl, inr, List, [], ◌∷◌, length, pos}
-use Rattle.std.proofs.Common.{refl, sym, ap, subst, arith, ℤ}
+use Rattle.std.proofs.Common.{◌≡◌, ◌∙◌, ℕ, zero, suc, ◌+◌, ◌<◌, ◌≤◌, Bool, true, false, cond, not, ◌==◌, ◌⊎◌, inl, inr, List, [], ◌∷◌, length, pos, refl, sym, ap, subst, arith, ℤ}
 use Rattle.std.specs.List.{AllByRecursion, list_all, list_any}
-use Rattle.std.proofs.lemmas.Bool.{and_from, and_parts, cases_Bool, eq-eqb, eqb-true, or_cases, or_left}
-use Rattle.std.proofs.lemmas.Bool.{or_right, both_ways}
+use Rattle.std.proofs.lemmas.Bool.{and_from, and_parts, cases_Bool, eq-eqb, eqb-true, or_cases, or_left, or_right, both_ways}
 use Rattle.std.proofs.lemmas.Option.{get_or_from_slice_get, slice_get_within}
 use Rattle.std.proofs.lemmas.List.{get_or_default}
 use Rattle.values.specs.declared.value.Value.{Value}
 use Rattle.values.specs.declared.value.Value.TheVariants.{Whole}
 use Rattle.values.specs.Tests.{holds}
 use Rattle.agg_laws.specs.Tree.{dim}
-use Rattle.tree_laws.specs.Picks as asks
-use Rattle.tree_laws.specs.Picks.{holds_from}
+use Rattle.star_tree.specs.Picks as asks
+use Rattle.star_tree.specs.Picks.{holds_from}
 use Rattle.table_schema.specs.declared.query.Agg.{Agg}
 use Rattle.table_schema.specs.declared.query.BoundQuery.{BoundQuery}
 use Rattle.table_schema.specs.declared.query.Conjunct.{Conjunct}
@@ -20,7 +17,8 @@ use Rattle.table_schema.specs.declared.query.Conjunct.TheVariants.{One, Many}
 use Rattle.table_schema.specs.Conditions.{all_hold, cell, conjunct_holds}
 use Rattle.eligibility.specs.Rule.{IsFiltered}
 use Rattle.segment_plan.specs.Matched.{is_filtered, is_on, passes}
-use Rattle.star_answer.specs.Served.{AsksFor, IsProjected, field_of}
+use Rattle.star_answer.specs.Served.{AsksFor, IsProjected}
+use Rattle.segment_reads.specs.Docs.{field_of}
 
 -- two tests are the same where each holds with the other
 pub same_test : (a b : Bool) → (a ≡ true → b ≡ true) → (b ≡ true → a ≡ true) → a ≡ b

@@ -1,7 +1,5 @@
 -- A tree of a segment that is walked for a query, and the image of rows that it is of.
-use Rattle.std.proofs.Common.{◌≡◌, ◌∙◌, ◌<◌, ◌≤◌, ◌+◌, ◌*◌, ℕ, zero, suc, All, List}
-use Rattle.std.proofs.Common.{[], ◌∷◌, length, map, get_or, Option, Some, None}
-use Rattle.std.proofs.Common.{refl, sym, ap, subst, arith, mul-le-mul_left}
+use Rattle.std.proofs.Common.{◌≡◌, ◌∙◌, ◌<◌, ◌≤◌, ◌+◌, ◌*◌, ℕ, zero, suc, All, List, [], ◌∷◌, length, map, get_or, Option, Some, None, refl, sym, ap, subst, arith, mul-le-mul_left}
 use Rattle.std.specs.Prelude.{ℤ, slice_get}
 use Rattle.std.specs.List.{AllZip}
 use Rattle.std.specs.Option.{option_map_or}
@@ -11,7 +9,7 @@ use Rattle.values.specs.declared.value.Value.{Value}
 use Rattle.agg_laws.specs.declared.aggregate_kind.AggKind.TheVariants as kinds
 use Rattle.state_columns.specs.Docs.{Doc}
 use Rattle.state_columns.specs.Region.{range}
-use Rattle.tree_laws.specs.NodeRules.{count_at}
+use Rattle.star_tree.specs.NodeRules.{count_at}
 use Rattle.table_schema.specs.declared.query.Agg.{Agg}
 use Rattle.table_schema.specs.declared.query.BoundQuery.{BoundQuery}
 use Rattle.table_schema.specs.declared.settings.TreeSetting.{TreeSetting}
@@ -26,8 +24,7 @@ use Rattle.star_file.specs.Rules.{KeepAll, widths}
 use Rattle.star_file.proofs.DocLaws as docs
 use Rattle.segment_file.specs.declared.part.Part.TheVariants.{Star}
 use Rattle.segment_file.specs.declared.trees.TreeNodes.{TreeNodes}
-use Rattle.segment_head.specs.Heads.{AreKept, HasCount, HaveCounts, IsHead, IsHeadOf, IsPartOf}
-use Rattle.segment_head.specs.Heads.{IsSlotOf, OfWhole, Seen, bytes_in, place_in, split_of}
+use Rattle.segment_head.specs.Heads.{AreKept, HasCount, HaveCounts, IsHead, IsHeadOf, IsPartOf, IsSlotOf, OfWhole, Seen, bytes_in, place_in, split_of}
 use Rattle.segment_file.specs.Image.{count_of}
 use Rattle.segment_head.specs.Laws.{IsTold}
 use Rattle.segment_file.specs.Ordered.{ordered}
@@ -43,15 +40,17 @@ use Rattle.segment_plan.specs.Matched.{AreLoaded}
 use Rattle.star_walk.specs.declared.task.Task.{Task}
 use Rattle.star_walk.specs.Images.{read_of}
 use Rattle.star_walk.specs.Walking.{HasEach, tree_picks}
-use Rattle.star_taking.specs.declared.asked.Asked.{Asked}
-use Rattle.star_taking.specs.declared.asked.GroupColumn.{GroupColumn}
-use Rattle.star_taking.specs.declared.tree_part.TreePart.{TreePart}
-use Rattle.star_taking.specs.Answers.{IsTree, asked_of, picks_of}
-use Rattle.star_taking.specs.Asked.{AreAsked, IsTableFor, kinds_for}
-use Rattle.star_answer.specs.Docs.{WalkReadsDocs, docs_in, docs_read}
-use Rattle.star_answer.specs.OfRows.{entries_of, row_values}
-use Rattle.star_answer.specs.Served.{AsksFor, IsServed, IsTreeOf, field_of, flat_of, pair_of}
-use Rattle.star_answer.specs.Tasks.{AreColumnsOf, AreGroupsLoaded, ArePairsOf, split_values}
+use Rattle.star_reader.specs.declared.asked.Asked.{Asked}
+use Rattle.star_reader.specs.declared.asked.GroupColumn.{GroupColumn}
+use Rattle.star_reader.specs.declared.tree_part.TreePart.{TreePart}
+use Rattle.star_reader.specs.Answers.{IsTree, asked_of, picks_of}
+use Rattle.star_reader.specs.Asked.{AreAsked, IsTableFor, kinds_for}
+use Rattle.star_answer.specs.DocLaws.{WalkReadsDocs}
+use Rattle.segment_reads.specs.Docs.{docs_in, docs_read, row_values, field_of}
+use Rattle.star_answer.specs.OfRows.{entries_of}
+use Rattle.star_answer.specs.Served.{AsksFor, IsServed, IsTreeOf, flat_of, pair_of}
+use Rattle.star_answer.specs.Tasks.{AreColumnsOf, ArePairsOf, split_values}
+use Rattle.segment_plan.specs.Named.{AreGroupsLoaded}
 use Rattle.star_answer.proofs.RowSteps.{asks_of_rows, columns_of_rows, rows_projected}
 use Rattle.star_answer.proofs.TreeIds.{rows_ids, tree_ids}
 

@@ -8,17 +8,17 @@ use Rattle.std.specs.List.{list_any}
 use Rattle.std.proofs.lemmas.Bool.{eq-eqb, or_left, or_right}
 use Rattle.values.specs.declared.value.Value.{Value}
 use Rattle.state_columns.specs.Docs.{Doc}
-use Rattle.tree_laws.specs.Groups.{groups_of, key_from}
+use Rattle.star_tree.specs.Groups.{groups_of, key_from}
 use Rattle.agg_laws.specs.Merged.{rekey, total}
-use Rattle.tree_laws.specs.Picks.{Task}
+use Rattle.star_tree.specs.Picks.{Task}
 use Rattle.agg_laws.specs.Rows.{merged_rows}
 use Rattle.agg_laws.specs.Tree.{dim, dims_order, star}
 use Rattle.state_columns.proofs.DocLemmas.{rows_join}
 use Rattle.state_columns.proofs.MergedLemmas.{total-Merged, total-rekey, total_agree}
 use Rattle.state_columns.proofs.ListLemmas.{same_dims}
 use Rattle.table_schema.specs.Columns.{is_member}
-use Rattle.star_taking.specs.declared.asked.GroupColumn.{GroupColumn}
-use Rattle.star_taking.specs.Asked.{key_of, value_of}
+use Rattle.star_reader.specs.declared.asked.GroupColumn.{GroupColumn}
+use Rattle.star_reader.specs.Asked.{key_of, value_of}
 
 -- a combination that has a key: its ids in the dimensions that are grouped, and elsewhere the star
 abbrev first_id : List ℕ → ℕ

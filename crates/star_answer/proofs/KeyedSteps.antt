@@ -1,8 +1,6 @@
--- Each document that is taken of the tree of rows has a key, and together they stand for no more
+-- Each document that is selected of the tree of rows has a key, and together they stand for no more
 -- rows than there are.
-use Rattle.std.proofs.Common.{◌≡◌, ◌∙◌, ℕ, ◌<◌, ◌≤◌, Bool, true, false, cond}
-use Rattle.std.proofs.Common.{◌&&◌, not, nat_lt, All, ℤ, List, [], ◌∷◌, Option, Some, None}
-use Rattle.std.proofs.Common.{length, get_or, map, refl, sym, ap, arith}
+use Rattle.std.proofs.Common.{◌≡◌, ◌∙◌, ℕ, ◌<◌, ◌≤◌, Bool, true, false, cond, ◌&&◌, not, nat_lt, All, ℤ, List, [], ◌∷◌, Option, Some, None, length, get_or, map, refl, sym, ap, arith}
 use Rattle.std.specs.List.{list_all}
 use Rattle.std.proofs.lemmas.Bool.{and_from, and_parts, and_right, lt-ltb, ltb-true, not-false, not_from_true}
 use Rattle.std.proofs.lemmas.List.Elements.{All-cons, All-head, All-nil, All-tail}
@@ -13,10 +11,10 @@ use Rattle.agg_laws.specs.declared.states.AggState.{AggState}
 use Rattle.agg_laws.specs.declared.tree_shape.TreeShape.{TreeShape}
 use Rattle.state_columns.specs.Docs.{Doc, projected}
 use Rattle.state_columns.specs.Region.{range}
-use Rattle.tree_laws.specs.Groups.{groups_of, key_from, rows_that_hold}
+use Rattle.star_tree.specs.Groups.{groups_of, key_from, rows_that_hold}
 use Rattle.agg_laws.specs.Merged.{join_some, total, weights}
-use Rattle.tree_laws.specs.Picks as asks
-use Rattle.tree_laws.specs.Picks.{holds_from}
+use Rattle.star_tree.specs.Picks as asks
+use Rattle.star_tree.specs.Picks.{holds_from}
 use Rattle.agg_laws.specs.Rows.{merged_rows, row_of, row_weight}
 use Rattle.agg_laws.specs.Tree.{dim}
 use Rattle.agg_laws.specs.laws.Rows as rows_law
@@ -27,10 +25,10 @@ use Rattle.star_file.specs.Reading.{HasDocuments}
 use Rattle.star_walk.specs.declared.pick.Pick.{Pick}
 use Rattle.star_walk.specs.Images.{AreWithin}
 use Rattle.table_schema.specs.declared.query.Agg.{Agg}
-use Rattle.star_taking.specs.declared.asked.Asked.{Asked}
-use Rattle.star_taking.specs.declared.asked.GroupColumn.{GroupColumn}
-use Rattle.star_taking.specs.Answers.{AreRead}
-use Rattle.star_taking.specs.Asked.{HasKey, entries_of}
+use Rattle.star_reader.specs.declared.asked.Asked.{Asked}
+use Rattle.star_reader.specs.declared.asked.GroupColumn.{GroupColumn}
+use Rattle.star_reader.specs.Answers.{AreRead}
+use Rattle.star_reader.specs.Asked.{HasKey, entries_of}
 use Rattle.star_answer.specs.Served.{AreProjected, IsProjected}
 use Rattle.star_answer.proofs.CoverLemmas.{AreLight, picked_weight}
 use Rattle.star_answer.proofs.KeyLemmas.{AreGrouped, ids_total, spread, spread_dim}
@@ -155,23 +153,23 @@ module _ (split : List ℕ) (pairs : List Agg) (values : ℕ → List Value) (ks
   rows_many (row ∷ rows) (e ∷ es) h = let more = rows_many rows es h.1 in omega (arith, more)
 
   -- documents with the groups of the rows that hold have keys
-  pub taken_keyed : (t : asks.Task) (k : ℕ) (columns : List GroupColumn) (rows : List (List Value))
-      (entries : List (List ℕ × List ℤ)) (taken : List Doc)
+  pub selected_keyed : (t : asks.Task) (k : ℕ) (columns : List GroupColumn) (rows : List (List Value))
+      (entries : List (List ℕ × List ℤ)) (selected : List Doc)
       → AreProjected split pairs values rows entries → AreGrouped t k columns
       → All (λ column. column.dim < length split) columns
       → All (λ column. column.values.now.values ≡ values column.dim) columns
-      → groups_of merged_rows t k taken
+      → groups_of merged_rows t k selected
       ≡ groups_of merged_rows t k (rows_that_hold t k (projected ks entries))
-      → All (λ e. HasKey columns e.0) taken
-  taken_keyed t k columns rows entries taken h grouped dims same groups =
+      → All (λ e. HasKey columns e.0) selected
+  selected_keyed t k columns rows entries selected h grouped dims same groups =
       let p : List ℕ → Bool = λ x. not (has_values columns x) in
       let held : List ℕ → Bool = λ x. holds_from t k 0 x in
       let none : total merged_rows p (rows_that_hold t k (projected ks entries)) ≡ None =
       total-filter merged_rows rows_join p held (projected ks entries)
       ∙ none_there (λ x. held x && p x) (projected ks entries)
       (rows_keyed columns dims same held rows entries h) in
-      all_keyed columns taken (there_none p taken
-      (ids_total t k taken (rows_that_hold t k (projected ks entries)) groups p
+      all_keyed columns selected (there_none p selected
+      (ids_total t k selected (rows_that_hold t k (projected ks entries)) groups p
       (λ x. ap not (values_by_ids t k columns x grouped)) ∙ none))
 
 -- ---- weights

@@ -20,3 +20,5 @@ pub mod DocSteps
 pub mod BoundSteps
 pub mod FewDocs
 mod CoveredRows
+pub mod TreeReads
+pub mod TreeLogs

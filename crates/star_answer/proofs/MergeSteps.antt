@@ -1,9 +1,6 @@
--- Documents that were taken are merged into groups, one after the other.
-use Rattle.std.proofs.Common.{◌≡◌, ◌∙◌, ℕ, ◌+◌, ◌-◌, ◌<◌, ◌≤◌, List, [], ◌∷◌, ◌++◌, length}
-use Rattle.std.proofs.Common.{All, Some, None, get_or, take, drop, refl, sym, ap, subst, arith}
-use Rattle.std.proofs.lemmas.List.{drop-drop, drop_more, get_or-drop, map-append, take-append-drop}
-use Rattle.std.proofs.lemmas.List.{take_all, take_more}
-use Rattle.std.proofs.Common.{◌*◌, length-append, length-drop}
+-- Documents that were selected are merged into groups, one after the other.
+use Rattle.std.proofs.Common.{◌≡◌, ◌∙◌, ℕ, ◌+◌, ◌-◌, ◌<◌, ◌≤◌, List, [], ◌∷◌, ◌++◌, length, All, Some, None, get_or, take, drop, refl, sym, ap, subst, arith, ◌*◌, length-append, length-drop}
+use Rattle.std.proofs.lemmas.List.{drop-drop, drop_more, get_or-drop, map-append, take-append-drop, take_all, take_more}
 use Rattle.std.proofs.Math.Seq.{drop-append_seam}
 use Rattle.state_columns.specs.Region.{range}
 use Rattle.std.proofs.lemmas.List.Elements.{All-cons, All-head, All-nil, All-tail}
@@ -14,8 +11,7 @@ use Rattle.std.specs.declared.cmp.Ordering.{Ordering}
 use Rattle.std.specs.declared.cmp.Ordering.TheVariants.{Less, Equal, Greater}
 use Rattle.values.specs.declared.value.Value.{Value}
 use Rattle.agg_laws.specs.declared.states.AggState.{AggState}
-use Rattle.agg_laws.specs.declared.states.AggState.TheVariants.{Count, Sum, Least, Greatest}
-use Rattle.agg_laws.specs.declared.states.AggState.TheVariants.{Average}
+use Rattle.agg_laws.specs.declared.states.AggState.TheVariants.{Count, Sum, Least, Greatest, Average}
 use Rattle.agg_laws.specs.Numbers.{most_stored, most_values}
 use Rattle.agg_laws.specs.Rows.{RowFits, RowStored, merged_rows, row_weight}
 use Rattle.agg_laws.specs.States.{IsStored}
@@ -34,11 +30,10 @@ use Rattle.group_table.specs.Groups.{Group, Groups, key_order}
 use Rattle.group_table.specs.Kept.{HaveValues, IsNewKey, KeptGroups, Merges, groups_in}
 use Rattle.scan_engine.specs.Scanned.{HaveAtMost}
 use Rattle.scan_engine.proofs.AddLemmas.{at_most_more}
-use Rattle.star_taking.specs.declared.asked.GroupColumn.{GroupColumn}
-use Rattle.star_taking.specs.Entries.{MergesEntries, with_entries}
-use Rattle.star_taking.specs.Taken.{AreKeyIds, key_values, keyed}
-use Rattle.star_answer.proofs.EntryLemmas.{merges_next, merges_none, merges_so, no_room, same_entries}
-use Rattle.star_answer.proofs.EntryLemmas.{states_at}
+use Rattle.star_reader.specs.declared.asked.GroupColumn.{GroupColumn}
+use Rattle.star_reader.specs.Entries.{MergesEntries, with_entries}
+use Rattle.star_reader.specs.Selected.{AreKeyIds, key_values, keyed}
+use Rattle.star_answer.proofs.EntryLemmas.{merges_next, merges_none, merges_so, no_room, same_entries, states_at}
 
 -- ---- a document
 

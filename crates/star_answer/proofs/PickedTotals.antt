@@ -1,7 +1,5 @@
 -- The states of the aggregates, of documents that are joined.
-use Rattle.std.proofs.Common.{◌≡◌, ◌∙◌, ℕ, zero, suc, ◌<◌, Bool, true, false, cond, All, List, []}
-use Rattle.std.proofs.Common.{◌∷◌, Option, Some, None, IfSome, length, get_or, refl, sym, ap}
-use Rattle.std.proofs.Common.{arith}
+use Rattle.std.proofs.Common.{◌≡◌, ◌∙◌, ℕ, zero, suc, ◌<◌, Bool, true, false, cond, All, List, [], ◌∷◌, Option, Some, None, IfSome, length, get_or, refl, sym, ap, arith}
 use Rattle.std.specs.Option.{option_map}
 use Rattle.std.specs.Ordering.{eq_by_cmp}
 use Rattle.std.proofs.lemmas.List.Elements.{All-head, All-tail}
@@ -16,8 +14,8 @@ use Rattle.agg_laws.specs.States.{merged}
 use Rattle.state_columns.proofs.RowPlaces.{length-kinds_of}
 use Rattle.state_columns.proofs.RegionSteps.{kinds_merged}
 use Rattle.group_table.specs.Groups.{key_order}
-use Rattle.star_taking.specs.declared.asked.Asked.{Asked}
-use Rattle.star_taking.specs.Asked.{entries_of, key_of, states_of}
+use Rattle.star_reader.specs.declared.asked.Asked.{Asked}
+use Rattle.star_reader.specs.Asked.{entries_of, key_of, states_of}
 use Rattle.star_answer.proofs.EntryLemmas.{states_at}
 
 merged_at : (vs ws : List AggState) (i : ℕ) → length vs ≡ length ws → i < length vs

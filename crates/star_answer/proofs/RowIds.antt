@@ -1,6 +1,5 @@
 -- The ids of rows in a star-tree: the places of their values among the distinct ones of a column.
-use Rattle.std.proofs.Common.{◌≡◌, ◌∙◌, ◌<◌, ◌≤◌, ◌||◌, ℕ, zero, suc, Bool, true, false, All}
-use Rattle.std.proofs.Common.{List, [], ◌∷◌, length, map, get_or, Some, refl, sym, ap, subst, arith}
+use Rattle.std.proofs.Common.{◌≡◌, ◌∙◌, ◌<◌, ◌≤◌, ◌||◌, ℕ, zero, suc, Bool, true, false, All, List, [], ◌∷◌, length, map, get_or, Some, refl, sym, ap, subst, arith}
 use Rattle.std.specs.Prelude.{pos, slice_get, if◌then◌else◌}
 use Rattle.std.specs.Ordering.{MatchOrdering, match_ordering, nat_cmp, ordering_reverse}
 use Rattle.std.specs.FinMap.Entries.{by_order}
@@ -21,11 +20,11 @@ use Rattle.values.proofs.Bounds.{same_value}
 use Rattle.agg_laws.specs.declared.states.AggState.{AggState}
 use Rattle.state_columns.specs.Docs.{HaveIds}
 use Rattle.agg_laws.specs.Merged.{Merged, add, rekey}
-use Rattle.tree_laws.specs.NodeRules.{AreCounted, count_at}
+use Rattle.star_tree.specs.NodeRules.{AreCounted, count_at}
 use Rattle.agg_laws.specs.Rows.{merged_rows}
 use Rattle.agg_laws.specs.Tree.{dim, ids_at, star}
 use Rattle.value_ids.specs.Dictionary.{Ascends, distinct, put_in}
-use Rattle.value_ids.proofs.Distinct.{distinct_ascends, distinct_members}
+use Rattle.value_ids.proofs.DistinctLemmas.{distinct_ascends, distinct_members}
 use Rattle.table_schema.specs.declared.settings.TreeSetting.{TreeSetting}
 use Rattle.segment_file.specs.Columns.{count_of, place_of, values_in}
 use Rattle.segment_file.specs.Ordered.{value_in}
@@ -33,7 +32,7 @@ use Rattle.segment_file.specs.Trees.{documents, id_in}
 use Rattle.segment_file.proofs.Tails.{unmapped}
 use Rattle.segment_file.proofs.ImageRows.{few_values, members_all, not_true}
 use Rattle.segment_file.proofs.TreeRows.{made}
-use Rattle.star_answer.specs.Served.{field_of}
+use Rattle.segment_reads.specs.Docs.{field_of}
 
 -- ---- an id leads back to its value
 

@@ -1,7 +1,5 @@
 -- The rows of a segment as a star-tree has them, and a head that tells of them.
-use Rattle.std.proofs.Common.{◌≡◌, ◌∙◌, ◌<◌, ◌^◌, ◌||◌, ◌==◌, ℕ, zero, suc, Bool, true, false}
-use Rattle.std.proofs.Common.{All, List, [], ◌∷◌, length, map, get_or, Option, Some, None}
-use Rattle.std.proofs.Common.{refl, sym, ap, subst, arith, eq-eqb, ltb-true}
+use Rattle.std.proofs.Common.{◌≡◌, ◌∙◌, ◌<◌, ◌^◌, ◌||◌, ◌==◌, ℕ, zero, suc, Bool, true, false, All, List, [], ◌∷◌, length, map, get_or, Option, Some, None, refl, sym, ap, subst, arith, eq-eqb, ltb-true}
 use Rattle.std.specs.Prelude.{pos, negsuc, slice_get, if◌then◌else◌}
 use Rattle.std.specs.List.{list_all}
 use Rattle.std.specs.Option.{option_map_or}
@@ -10,8 +8,6 @@ use Rattle.std.proofs.lemmas.Int.{ints}
 use Rattle.std.proofs.lemmas.List.{get_or-map, length-map}
 use Rattle.std.proofs.lemmas.List.Elements.{All-head, All-tail}
 use Rattle.std.proofs.lemmas.List.Folds.{list_any_at}
-use Rattle.data_types.specs.declared.kind.FieldKind.{FieldKind}
-use Rattle.data_types.specs.declared.kind.FieldKind.TheVariants as kind
 use Rattle.values.specs.declared.value.Value.{Value}
 use Rattle.values.specs.declared.value.Value.TheVariants.{Whole, Text}
 use Rattle.values.specs.Kinds.{fits}
@@ -22,7 +18,7 @@ use Rattle.values.proofs.Bounds.{same_value}
 use Rattle.agg_laws.specs.Numbers.{AreWhole, IsWhole}
 use Rattle.agg_laws.specs.Tree.{star}
 use Rattle.value_ids.specs.Dictionary.{distinct}
-use Rattle.value_ids.proofs.Distinct.{distinct_members}
+use Rattle.value_ids.proofs.DistinctLemmas.{distinct_members}
 use Rattle.table_schema.specs.declared.field.Field.{Field}
 use Rattle.table_schema.specs.declared.query.Agg.{Agg}
 use Rattle.table_schema.specs.declared.settings.TreeSetting.{TreeSetting}
@@ -36,14 +32,15 @@ use Rattle.segment_head.specs.Laws.{HeadTellsTrees}
 use Rattle.segment_file.specs.Ordered.{value_in}
 use Rattle.segment_file.specs.Trees.{id_in, number_for, number_of, tree_row, written}
 use Rattle.segment_file.proofs.Tails.{unmapped}
+use Rattle.segment_file.proofs.WholeNumbers.{pair_whole}
 use Rattle.segment_file.proofs.ImageRows.{and_first, and_second, members_all, not_true}
 use Rattle.segment_plan.specs.Laws.{TellsOf}
 use Rattle.segment_plan.specs.Matched as head_values
 use Rattle.segment_plan.specs.Matched.{passes, values_of}
-use Rattle.star_taking.specs.declared.asked.GroupColumn.{GroupColumn}
-use Rattle.star_answer.specs.Served.{AreProjected, IsProjected, field_of}
-use Rattle.star_answer.specs.OfRows.{AsksOfRows, ColumnsOfRows, NodesOfRows}
-use Rattle.star_answer.specs.OfRows.{RowsAreProjected, row_values}
+use Rattle.star_reader.specs.declared.asked.GroupColumn.{GroupColumn}
+use Rattle.star_answer.specs.Served.{AreProjected, IsProjected}
+use Rattle.segment_reads.specs.Docs.{field_of, row_values}
+use Rattle.star_answer.specs.OfRows.{AsksOfRows, ColumnsOfRows, NodesOfRows, RowsAreProjected}
 use Rattle.star_answer.specs.Tasks.{split_values, value_at}
 
 -- ---- ids and values
@@ -92,39 +89,6 @@ same_numbers : (row : List Value) (pairs : List Agg)
     → map (number_for row) pairs ≡ map (λ pair. groups.number_for pair row) pairs
 same_numbers row [] = refl
 same_numbers row (p ∷ pairs) = λ i. one_number row p.column i ∷ same_numbers row pairs i
-
-whole_below : (n : ℕ) → n < 2 ^ 63 → IsWhole (pos n)
-whole_below n lt = (omega (arith, ints), omega (arith, ints, lt))
-
-whole_above : (n : ℕ) → n < 2 ^ 63 → IsWhole (negsuc n)
-whole_above n lt = (omega (arith, ints, lt), omega (arith, ints))
-
-whole_fits : (k : FieldKind) (v : Value) → fits k v ≡ true → IsWhole (number_of v)
-whole_fits kind.Int (Whole (pos n)) fit = whole_below n (omega (arith, ltb-true n (2 ^ 31) fit))
-whole_fits kind.Int (Whole (negsuc n)) fit =
-    whole_above n (omega (arith, ltb-true n (2 ^ 31) fit))
-whole_fits kind.Int (Text t) fit = absurd (false≢true fit)
-whole_fits kind.Long (Whole (pos n)) fit = whole_below n (ltb-true n (2 ^ 63) fit)
-whole_fits kind.Long (Whole (negsuc n)) fit = whole_above n (ltb-true n (2 ^ 63) fit)
-whole_fits kind.Long (Text t) fit = absurd (false≢true fit)
-whole_fits kind.Text (Whole z) fit = absurd (false≢true fit)
-whole_fits kind.Text (Text t) fit = whole_below 0 (omega arith)
-
-row_whole : (fields : List Field) (row : List Value) (c : ℕ) → is_row fields row ≡ true
-    → IsWhole (number_of (value_in c row))
-row_whole [] [] c is = whole_below 0 (omega arith)
-row_whole [] (v ∷ vs) c is = absurd (false≢true is)
-row_whole (f ∷ fs) [] c is = absurd (false≢true is)
-row_whole (f ∷ fs) (v ∷ vs) zero is =
-    whole_fits f.kind v (and_first (fits f.kind v) (is_row fs vs) is)
-row_whole (f ∷ fs) (v ∷ vs) (suc c) is =
-    row_whole fs vs c (and_second (fits f.kind v) (is_row fs vs) is)
-
-pair_whole : (fields : List Field) (row : List Value) (column : Option ℕ)
-    → is_row fields row ≡ true
-    → IsWhole (option_map_or (λ c. number_of (value_in c row)) column (pos 0))
-pair_whole fields row None is = whole_below 0 (omega arith)
-pair_whole fields row (Some c) is = row_whole fields row c is
 
 numbers_whole : (fields : List Field) (row : List Value) (pairs : List Agg)
     → is_row fields row ≡ true → AreWhole (map (number_for row) pairs)

@@ -4,12 +4,12 @@ use Rattle.std.proofs.Common.{true, false}
 use Rattle.std.proofs.Common.{cond, not, inl, inr, List, [], ◌∷◌, length, refl, sym, ap, subst}
 use Rattle.std.proofs.Common.{arith}
 use Rattle.std.proofs.lemmas.Bool.{eq-eqb, false≢true}
-use Rattle.tree_laws.specs.declared.node.Node.{Node}
+use Rattle.star_tree.specs.declared.node.Node.{Node}
 use Rattle.agg_laws.specs.declared.tree_shape.TreeShape.{TreeShape}
-use Rattle.tree_laws.specs.Flat.{node_at}
+use Rattle.star_tree.specs.Flat.{node_at}
 use Rattle.state_columns.specs.Region.{range}
-use Rattle.tree_laws.specs.NodeRules.{AreKnown, HaveLevel, IsRoot, KeepsRules, count_at}
-use Rattle.tree_laws.specs.Picks.{Task, is_taken, quiet}
+use Rattle.star_tree.specs.NodeRules.{AreKnown, HaveLevel, IsRoot, KeepsRules, count_at}
+use Rattle.star_tree.specs.Picks.{Task, is_taken, quiet}
 use Rattle.agg_laws.specs.Tree.{star}
 use Rattle.star_walk.specs.declared.pick.Pick.{Pick}
 use Rattle.star_walk.specs.Walking.{has_star_among, kids_of, leaf_pick, node_picks, taken}

@@ -1,7 +1,5 @@
 -- The answer of a segment from a star-tree of its file, by that from the tree.
-use Rattle.std.proofs.Common.{◌≡◌, ◌∙◌, ◌<◌, ◌≤◌, ◌+◌, ◌*◌, ℕ, List, [], ◌∷◌, length, map, Option, suc}
-use Rattle.std.proofs.Common.{Bool, true, false, Some, None, IfSome, inr, refl, sym, ap, subst, arith}
-use Rattle.std.proofs.Common.{drop, mul-le-mul_right, length-take}
+use Rattle.std.proofs.Common.{◌≡◌, ◌∙◌, ◌<◌, ◌≤◌, ◌+◌, ◌*◌, ℕ, List, [], ◌∷◌, length, map, Option, suc, Bool, true, false, Some, None, IfSome, inr, refl, sym, ap, subst, arith, drop, mul-le-mul_right, length-take}
 use Rattle.std.specs.Prelude.{if◌then◌else◌, slice_get}
 use Rattle.std.specs.List.{AllByRecursion}
 use Rattle.outside.specs.Files.{Files, bytes_of}
@@ -21,8 +19,7 @@ use Rattle.eligibility.specs.Rule.{is_eligible, picked, picked_from}
 use Rattle.star_file.specs.Reading.{doc_width, section}
 use Rattle.segment_file.specs.declared.trees.TreeNodes.{TreeNodes}
 use Rattle.segment_file.specs.declared.part.Part.TheVariants.{Star}
-use Rattle.segment_head.specs.Heads.{AreKept, HaveCounts, IsHeadOf, LogsTree, OfWhole, Seen}
-use Rattle.segment_head.specs.Heads.{place_in, split_of}
+use Rattle.segment_head.specs.Heads.{AreKept, HaveCounts, IsHeadOf, LogsTree, OfWhole, Seen, place_in, split_of}
 use Rattle.segment_file.specs.Ordered.{ordered}
 use Rattle.segment_head.specs.Stored.{IsNoImage, IsOfImage}
 use Rattle.segment_file.specs.Trees.{written}
@@ -30,24 +27,24 @@ use Rattle.segment_file.proofs.ImageRows.{ordered_count}
 use Rattle.segment_plan.specs.Laws.{HeadTells}
 use Rattle.segment_plan.specs.Matched.{AreLoaded}
 use Rattle.segment_file.proofs.TreeChecks.{valid_at}
-use Rattle.index_reading.specs.Stretches.{LogsOver, LogsPartly, Stretch}
+use Rattle.outside.specs.Stretches.{LogsOver, LogsPartly, Stretch}
 use Rattle.star_walk.specs.declared.pick.Pick.{Pick}
 use Rattle.star_walk.specs.declared.task.Task.{Task}
 use Rattle.star_walk.specs.Images.{AreWithin, read_of}
-use Rattle.star_walk.specs.Joins.{joined}
+use Rattle.star_walk.specs.Coalescing.{coalesced}
 use Rattle.star_walk.specs.Walking.{HasEach}
-use Rattle.star_walk.proofs.JoinSteps.{joined_same, read_numbers}
-use Rattle.star_taking.specs.declared.asked.Asked.{Asked}
-use Rattle.star_taking.specs.declared.asked.GroupColumn.{GroupColumn}
-use Rattle.star_taking.specs.declared.tree_part.TreePart.{TreePart}
-use Rattle.star_taking.specs.Answers.{Answers, IsBad, IsOverfull, IsTree, asked_of, picks_of}
-use Rattle.star_taking.specs.Answers.{LogsPicks, LogsSome, reads_of, stretch_of, stretches_of}
-use Rattle.star_taking.specs.Asked.{AreAsked, IsTableFor}
-use Rattle.star_answer.specs.Docs.{WalkReadsDocs, docs_read}
-use Rattle.star_answer.specs.Segments.{AddsAnswer, AreDocsRead, IsAnswerOverfull, IsInside}
-use Rattle.star_answer.specs.Segments.{LogsAnswer, LogsAnswerPartly, LogsDocs, stretches_in}
+use Rattle.star_walk.proofs.CoalesceSteps.{coalesced_same, read_numbers}
+use Rattle.star_reader.specs.declared.asked.Asked.{Asked}
+use Rattle.star_reader.specs.declared.asked.GroupColumn.{GroupColumn}
+use Rattle.star_reader.specs.declared.tree_part.TreePart.{TreePart}
+use Rattle.star_reader.specs.Answers.{Answers, IsBad, IsOverfull, IsTree, asked_of, picks_of, LogsPicks, LogsSome, reads_of, stretch_of, stretches_of}
+use Rattle.star_reader.specs.Asked.{AreAsked, IsTableFor}
+use Rattle.star_answer.specs.DocLaws.{WalkReadsDocs}
+use Rattle.segment_reads.specs.Docs.{docs_read}
+use Rattle.star_answer.specs.Segments.{AddsAnswer, AreDocsRead, IsAnswerOverfull, IsInside, LogsAnswer, LogsAnswerPartly, LogsDocs, stretches_in}
 use Rattle.star_answer.specs.Served.{AsksFor, IsServed}
-use Rattle.star_answer.specs.Tasks.{AreColumnsOf, AreGroupsLoaded, ArePairsOf, split_values}
+use Rattle.star_answer.specs.Tasks.{AreColumnsOf, ArePairsOf, split_values}
+use Rattle.segment_plan.specs.Named.{AreGroupsLoaded}
 use Rattle.star_answer.proofs.AnswerSteps.{PicksWithin, reads_many, reads_within}
 use Rattle.star_answer.proofs.ImageSteps as image
 use Rattle.star_answer.proofs.ImageSteps.{Stands}
@@ -292,8 +289,8 @@ module _ (query : BoundQuery) (table : Table) (head : Seen) (t : ℕ) (setting :
             let most : length (section files part.documents.now) ≤ part.documents.now.length =
             omega (arith, cutting) in (
               reads_many part task is-tree picks-within
-                  (λ documents k ps w. read_numbers (joined ps)
-                  ∙ ap length (joined_same documents k ps w) ∙ sym (read_numbers ps))
+                  (λ documents k ps w. read_numbers (coalesced ps)
+                  ∙ ap length (coalesced_same documents k ps w) ∙ sym (read_numbers ps))
                   (reads_of part task) refl
                   ∙ image.count_is query table head t setting part task asked said s law files rows
                   nodes counts of walk,
@@ -431,7 +428,7 @@ module _ (query : BoundQuery) (table : Table) (head : Seen) (t : ℕ) (setting :
     documents = logs_docs query table head t setting part task asked said r.stands law walk
         picks-within held r.nodes r.counts LogsOver between new logs;
     many = reads_many part task ready_tree picks-within
-        (λ documents k ps w. read_numbers (joined ps) ∙ ap length (joined_same documents k ps w)
+        (λ documents k ps w. read_numbers (coalesced ps) ∙ ap length (coalesced_same documents k ps w)
         ∙ sym (read_numbers ps))
         (reads_of part task) refl ∙ sym is;
   }

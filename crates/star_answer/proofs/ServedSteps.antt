@@ -1,9 +1,6 @@
 -- The answer from the tree of a segment's rows.
-use Rattle.std.proofs.Common.{◌≡◌, ◌∙◌, ℕ, zero, suc, ◌-◌, ◌<◌, ◌≤◌, Bool, true, false, cond}
-use Rattle.std.proofs.Common.{◌&&◌, All, ℤ, pos, List, [], ◌∷◌, ◌++◌, Some, None, length, get_or}
-use Rattle.std.proofs.Common.{◌*◌, map, drop, refl, sym, ap, subst, arith}
+use Rattle.std.proofs.Common.{◌≡◌, ◌∙◌, ℕ, zero, suc, ◌-◌, ◌<◌, ◌≤◌, Bool, true, false, cond, ◌&&◌, All, ℤ, pos, List, [], ◌∷◌, ◌++◌, Some, None, length, get_or, ◌*◌, map, drop, refl, sym, ap, subst, arith, inl, inr}
 use Rattle.std.proofs.lemmas.List.{length-map}
-use Rattle.std.proofs.Common.{inl, inr}
 use Rattle.std.specs.List.{filter}
 use Rattle.std.specs.Option.{option_map}
 use Rattle.std.specs.Ordering.{eq_by_cmp}
@@ -19,12 +16,12 @@ use Rattle.agg_laws.specs.declared.states.AggState.{AggState}
 use Rattle.agg_laws.specs.declared.tree_shape.TreeShape.{TreeShape}
 use Rattle.state_columns.specs.Docs.{Doc, HaveIds, projected}
 use Rattle.state_columns.specs.Docs as docs
-use Rattle.tree_laws.specs.Flat.{Flat}
+use Rattle.star_tree.specs.Flat.{Flat}
 use Rattle.state_columns.specs.Region.{range}
-use Rattle.tree_laws.specs.Groups.{groups_of, rows_that_hold}
+use Rattle.star_tree.specs.Groups.{groups_of, rows_that_hold}
 use Rattle.agg_laws.specs.Merged.{join_some, total}
-use Rattle.tree_laws.specs.Picks as asks
-use Rattle.tree_laws.specs.Picks.{ArePartedBy, HaveDocs, holds_from}
+use Rattle.star_tree.specs.Picks as asks
+use Rattle.star_tree.specs.Picks.{ArePartedBy, HaveDocs, holds_from}
 use Rattle.agg_laws.specs.laws.Rows as rows_law
 use Rattle.agg_laws.specs.Rows.{merged_rows, row_weight}
 use Rattle.agg_laws.specs.Tree.{HaveNoStar, dim, star}
@@ -35,9 +32,9 @@ use Rattle.star_file.proofs.DocLaws.{only}
 use Rattle.star_walk.specs.declared.pick.Pick.{Pick}
 use Rattle.star_walk.specs.declared.task.Task.{Task}
 use Rattle.star_walk.specs.Images.{AreWithin, bare, passing, read_of, shown}
-use Rattle.star_walk.specs.Joins.{joined}
+use Rattle.star_walk.specs.Coalescing.{coalesced}
 use Rattle.star_walk.specs.Walking.{tree_picks}
-use Rattle.star_walk.proofs.JoinSteps.{joined_passing, joined_within}
+use Rattle.star_walk.proofs.CoalesceSteps.{coalesced_passing, coalesced_within}
 use Rattle.star_walk.proofs.TreePicks.{within as walked}
 use Rattle.table_schema.specs.declared.query.Agg.{Agg}
 use Rattle.table_schema.specs.declared.query.BoundQuery.{BoundQuery}
@@ -50,21 +47,17 @@ use Rattle.group_table.specs.Shape.{shape_of}
 use Rattle.group_table.proofs.KeptLemmas.{key_same, key_total}
 use Rattle.scan_engine.specs.Scanned.{AddsRows, selected}
 use Rattle.scan_engine.specs.Scanned as scan
-use Rattle.star_taking.specs.declared.asked.Asked.{Asked}
-use Rattle.star_taking.specs.declared.asked.GroupColumn.{GroupColumn}
-use Rattle.star_taking.specs.declared.tree_part.TreePart.{TreePart}
-use Rattle.star_taking.specs.Answers.{Answers, AreRead, IsOverfull, IsTree, asked_of, left_of, passed}
-use Rattle.star_taking.specs.Answers.{picks_of, reads_of, taken_of}
-use Rattle.star_taking.specs.Asked.{AreAsked, entries_of, key_of, states_of, value_of}
-use Rattle.star_taking.specs.Entries.{with_entries}
-use Rattle.star_answer.specs.Served.{AreProjected, IsProjected, IsServed, field_of}
-use Rattle.star_answer.specs.Served.{flat_of}
+use Rattle.star_reader.specs.declared.asked.Asked.{Asked}
+use Rattle.star_reader.specs.declared.asked.GroupColumn.{GroupColumn}
+use Rattle.star_reader.specs.declared.tree_part.TreePart.{TreePart}
+use Rattle.star_reader.specs.Answers.{Answers, AreRead, IsOverfull, IsTree, asked_of, left_of, passed, picks_of, reads_of, selected_of, IsBad}
+use Rattle.star_reader.specs.Asked.{AreAsked, entries_of, key_of, states_of, value_of, AreSound}
+use Rattle.star_reader.specs.Entries.{with_entries}
+use Rattle.star_answer.specs.Served.{AreProjected, IsProjected, IsServed, flat_of}
+use Rattle.segment_reads.specs.Docs.{field_of}
 use Rattle.star_answer.proofs.EntryLemmas.{entries_at, states_at}
-use Rattle.star_taking.specs.Answers.{IsBad}
-use Rattle.star_taking.specs.Asked.{AreSound}
 use Rattle.star_answer.proofs.CoverLemmas.{all_below, passing_below, read_ones}
-use Rattle.star_answer.proofs.KeyedSteps.{entries_weight, picks_read, rows_light, rows_many, rows_ones}
-use Rattle.star_answer.proofs.KeyedSteps.{taken_keyed}
+use Rattle.star_answer.proofs.KeyedSteps.{entries_weight, picks_read, rows_light, rows_many, rows_ones, selected_keyed}
 use Rattle.star_answer.proofs.HoldLemmas.{holds_same}
 use Rattle.star_answer.proofs.KeyLemmas.{AreGrouped, members, same_total}
 use Rattle.star_answer.proofs.PickedTotals.{HaveKinds, entries_total}
@@ -248,21 +241,21 @@ module _ (query : BoundQuery) (tree : TreePart) (task : Task) (asked : Asked) (f
       ≡ tree_picks (asked_of task) tree.shape.now.dims (flat_of tree.shape.now s.entries).0
   picks_are = λ i. tree_picks t (ok.entries i) (s.of_rows.nodes_are i)
 
-  -- the documents that are taken
+  -- the documents that are selected
   taken_are : (read : List (List Doc)) → AreRead tree.shape.now tree.counts.now
       (section files tree.documents.now) (reads_of tree task) read
-      → taken_of tree task read
+      → selected_of tree task read
       ≡ passing (asked_of task) tree.shape.now.dims (flat_of tree.shape.now s.entries).1
       (tree_picks (asked_of task) tree.shape.now.dims (flat_of tree.shape.now s.entries).0)
   taken_are read are =
       let ps = tree_picks t k f.0 in
-      let reads : reads_of tree task ≡ joined ps = ap joined picks_are in
+      let reads : reads_of tree task ≡ coalesced ps = ap coalesced picks_are in
       (λ i. passed t (ok.entries i) (reads i) read)
       ∙ passed_of tree.shape.now tree.counts.now (section files tree.documents.now) f.1
-      s.of_rows.documents_are t k k (joined ps) read (joined_within (length f.1) k ps within)
+      s.of_rows.documents_are t k k (coalesced ps) read (coalesced_within (length f.1) k ps within)
       (subst (λ l. AreRead tree.shape.now tree.counts.now (section files tree.documents.now) l read)
       reads are)
-      ∙ joined_passing t k f.1 ps within
+      ∙ coalesced_passing t k f.1 ps within
 
   grouped : AreGrouped (asked_of task) tree.shape.now.dims asked.columns.now
   grouped i d lt =
@@ -293,7 +286,7 @@ module _ (query : BoundQuery) (tree : TreePart) (task : Task) (asked : Asked) (f
   -- the states of a key among what the documents give
   states_are : (read : List (List Doc)) → AreRead tree.shape.now tree.counts.now
       (section files tree.documents.now) (reads_of tree task) read → (q : List Value)
-      → states_at q (entries_of asked (taken_of tree task read))
+      → states_at q (entries_of asked (selected_of tree task read))
       ≡ some_states query.aggs (filter (has_key query.groups q) (selected query rows))
   states_are read are q =
       let ks = tree.shape.now.kinds in
@@ -302,7 +295,7 @@ module _ (query : BoundQuery) (tree : TreePart) (task : Task) (asked : Asked) (f
       let picked = option_map (states_of asked.pairs.now) in
       let few : length s.pairs ≡ length ks = sym (ap length s.kinds ∙ length-map s.pairs
       (λ (pair : Agg). pair.kind)) in
-      entries_total asked ks ask.pairs (taken_of tree task read)
+      entries_total asked ks ask.pairs (selected_of tree task read)
       (passed_kinds tree.shape.now tree.counts.now (section files tree.documents.now) t
       (length task.matched) (reads_of tree task) read are) q
       ∙ ap (λ l. picked (total merged_rows test l)) (taken_are read are)
@@ -323,13 +316,13 @@ module _ (query : BoundQuery) (tree : TreePart) (task : Task) (asked : Asked) (f
   groups_are : (read : List (List Doc)) → AreRead tree.shape.now tree.counts.now
       (section files tree.documents.now) (reads_of tree task) read → (old : Groups)
       (done : List (List Value)) → old ≡ table.groups_of (shape_of query) done
-      → with_entries old (entries_of asked (taken_of tree task read))
+      → with_entries old (entries_of asked (selected_of tree task read))
       ≡ table.groups_of (shape_of query) (done ++ selected query rows)
   groups_are read are old done so =
       finite.same_map key_total key_same
-      (with_entries old (entries_of asked (taken_of tree task read)))
+      (with_entries old (entries_of asked (selected_of tree task read)))
       (table.groups_of (shape_of query) (done ++ selected query rows))
-      (λ q. entries_at old (entries_of asked (taken_of tree task read)) q
+      (λ q. entries_at old (entries_of asked (selected_of tree task read)) q
       ∙ (λ i. join_some merged_rows (finite.get (so i) q) (states_are read are q i))
       ∙ sym (groups_more (shape_of query) done (selected query rows) q))
 
@@ -375,7 +368,7 @@ module _ (query : BoundQuery) (tree : TreePart) (task : Task) (asked : Asked) (f
 
     all_sound : (read : List (List Doc)) → AreRead tree.shape.now tree.counts.now
         (section files tree.documents.now) (reads_of tree task) read
-        → AreSound asked (length rows) (taken_of tree task read)
+        → AreSound asked (length rows) (selected_of tree task read)
     all_sound read are =
         let ps = tree_picks t k f.0 in
         let own_taken = passing t k f.1 ps in
@@ -385,7 +378,7 @@ module _ (query : BoundQuery) (tree : TreePart) (task : Task) (asked : Asked) (f
         (rows_light s.split s.pairs s.values tree.shape.now.kinds rows s.entries s.projects) parted has
         in
         subst (AreSound asked (length rows)) (sym (taken_are read are)) (record {
-          keyed = taken_keyed s.split s.pairs s.values tree.shape.now.kinds t k asked.columns.now rows
+          keyed = selected_keyed s.split s.pairs s.values tree.shape.now.kinds t k asked.columns.now rows
               s.entries own_taken s.projects grouped
               (λ i d lt. let h = ask.dims i d lt in omega (arith, h, s.dims)) s.of_query.columns walks;
           light = omega (arith, lighter, less, below, many);
@@ -395,10 +388,10 @@ module _ (query : BoundQuery) (tree : TreePart) (task : Task) (asked : Asked) (f
     served_fine (inl more) = omega (arith, more, few_read)
     served_fine (inr bad) =
         let ps = tree_picks t k f.0 in
-        let reads : reads_of tree task ≡ joined ps = ap joined picks_are in
-        let read = map (λ (p : Pick). range p.start p.end f.1) (joined ps) in
+        let reads : reads_of tree task ≡ coalesced ps = ap coalesced picks_are in
+        let read = map (λ (p : Pick). range p.start p.end f.1) (coalesced ps) in
         let are = subst (λ l. AreRead tree.shape.now tree.counts.now
         (section files tree.documents.now) l read) (sym reads)
         (picks_read tree.shape.now tree.counts.now (section files tree.documents.now) f.1
-        s.of_rows.documents_are k (joined ps) (joined_within (length f.1) k ps within)) in
+        s.of_rows.documents_are k (coalesced ps) (coalesced_within (length f.1) k ps within)) in
         bad read are (all_sound read are)

@@ -1,13 +1,10 @@
 -- What a query asks of the split dimensions, conjunct by conjunct and dimension by dimension.
-use Rattle.std.proofs.Common.{◌≡◌, ◌∙◌, ◌<◌, ◌+◌, ℕ, Bool, true, false, not, ◌&&◌, ◌||◌}
-use Rattle.std.proofs.Common.{◌==◌, List, [], ◌∷◌, ◌++◌, length, take, get_or, Option, Some, None}
-use Rattle.std.proofs.Common.{refl, sym, ap, subst, arith, inl, inr, length-append}
-use Rattle.std.specs.Prelude.{pos, ◌⊎◌}
+use Rattle.std.proofs.Common.{◌≡◌, ◌∙◌, ◌<◌, ◌+◌, ℕ, Bool, true, false, not, ◌&&◌, ◌||◌, ◌==◌, List, [], ◌∷◌, ◌++◌, length, take, get_or, Option, Some, None, refl, sym, ap, subst, arith, inl, inr, length-append}
+use Rattle.std.specs.Prelude.{pos, ◌⊎◌, slice_get}
 use Rattle.std.proofs.lemmas.Bool.{cases_lt}
 use Rattle.std.proofs.lemmas.List.{get_or_append_left, get_or_push}
 use Rattle.std.proofs.lemmas.List.Folds.{list_all_more, list_any_more, list_any_at}
 use Rattle.std.proofs.lemmas.Option.{slice_get-get_or}
-use Rattle.std.specs.Prelude.{slice_get}
 use Rattle.values.specs.declared.value.Value.{Value}
 use Rattle.values.specs.declared.value.Value.TheVariants.{Whole}
 use Rattle.values.specs.declared.test.Test.{Test}
@@ -22,21 +19,21 @@ use Rattle.segment_head.specs.Heads.{IsLoaded, Seen}
 use Rattle.segment_plan.specs.Matched.{AreLoaded, is_on, passes, values_in}
 use Rattle.eligibility.specs.Rule.{Serves}
 use Rattle.star_walk.specs.Walking.{is_among, some_ids, task_of}
-use Rattle.star_answer.specs.Served.{AsksFor, field_of}
-use Rattle.star_answer.specs.Tasks.{AreGrouped, AreMet, AreTested, Meets, split_values}
-use Rattle.star_answer.specs.Tasks.{value_at}
+use Rattle.star_answer.specs.Served.{AsksFor}
+use Rattle.segment_reads.specs.Docs.{field_of}
+use Rattle.star_answer.specs.Tasks.{AreGrouped, AreMatched, AreTested, Intersects, split_values, value_at}
 
 -- ---- one conjunct more
 
 -- no conjunct
-pub met_none : (column : ℕ) (values : List Value) → AreMet [] column values None
-met_none column values = record { some = refl; each = λ id below. refl }
+pub matched_none : (column : ℕ) (values : List Value) → AreMatched [] column values None
+matched_none column values = record { some = refl; each = λ id below. refl }
 
-pub met_more : (conjuncts : List Conjunct) (i column : ℕ) (values : List Value)
+pub matched_more : (conjuncts : List Conjunct) (i column : ℕ) (values : List Value)
     (old new : Option (List ℕ)) (conjunct : Conjunct) → i < length conjuncts
-    → conjunct ≡ get_or conjuncts i conjunct → AreMet (take i conjuncts) column values old
-    → Meets column values conjunct old new → AreMet (take (i + 1) conjuncts) column values new
-met_more conjuncts i column values old new conjunct lt at so_far meets = record {
+    → conjunct ≡ get_or conjuncts i conjunct → AreMatched (take i conjuncts) column values old
+    → Intersects column values conjunct old new → AreMatched (take (i + 1) conjuncts) column values new
+matched_more conjuncts i column values old new conjunct lt at so_far meets = record {
   some = meets.some ∙ (λ j. so_far.some j || is_on column (at j))
       ∙ sym (list_any_more (is_on column) conjuncts i conjunct lt);
   each = λ id below. meets.each id below
@@ -66,7 +63,7 @@ or_yes false = refl
 -- a conjunct on another column changes nothing
 pub meets_other : (column named : ℕ) (values : List Value) (condition : Test)
     (old : Option (List ℕ)) → (named == column) ≡ false
-    → Meets column values (One named condition) old old
+    → Intersects column values (One named condition) old old
 meets_other column named values condition old apart = record {
   some = sym (ap (λ b. some_ids old || b) apart ∙ or_no (some_ids old));
   each = λ id below. sym (ap (λ b. is_among old id && (not b || holds (value_at values id) condition))
@@ -76,7 +73,7 @@ meets_other column named values condition old apart = record {
 pub meets_many : (column : ℕ) (values : List Value) (conjunct : Conjunct) (old : Option (List ℕ))
     → is_on column conjunct ≡ false
     → ((value : Value) → passes column value conjunct ≡ true)
-    → Meets column values conjunct old old
+    → Intersects column values conjunct old old
 meets_many column values conjunct old apart all = record {
   some = sym (ap (λ b. some_ids old || b) apart ∙ or_no (some_ids old));
   each = λ id below. sym (ap (λ b. is_among old id && b) (all (value_at values id))
@@ -84,12 +81,12 @@ meets_many column values conjunct old apart all = record {
 }
 
 -- one on it leaves the ids that are in both sets
-pub meets_on : (column named : ℕ) (values : List Value) (condition : Test)
+pub intersects_on : (column named : ℕ) (values : List Value) (condition : Test)
     (old : Option (List ℕ)) (ids new : List ℕ) → (named == column) ≡ true
     → ((id : ℕ) → has_id ids id ≡ satisfies condition (slice_get values id))
     → AreThose (λ id. is_among old id && has_id ids id) new
-    → Meets column values (One named condition) old (Some new)
-meets_on column named values condition old ids new same matching those = record {
+    → Intersects column values (One named condition) old (Some new)
+intersects_on column named values condition old ids new same matching those = record {
   some = or_yes (some_ids old) ∙ sym (ap (λ b. some_ids old || b) same);
   each = λ id below. those id
       ∙ ap (λ b. is_among old id && b) (matching id
@@ -123,15 +120,15 @@ more_many xs new x n many is = omega (arith, ap length is, length-append xs (x �
 pub tested_more : (conjuncts : List Conjunct) (split : List ℕ) (head : Seen) (n column : ℕ)
     (old new : List (Option (List ℕ))) (ids : Option (List ℕ)) → column ≡ field_of split n
     → new ≡ old ++ ids ∷ [] → AreTested conjuncts split head n old
-    → AreMet conjuncts column (values_in head column) ids
+    → AreMatched conjuncts column (values_in head column) ids
     → AreTested conjuncts split head (n + 1) new
 tested_more conjuncts split head n column old new ids at is so_far met = record {
   many = more_many old new ids n so_far.many is;
-  each = subst (λ xs. (d : ℕ) → d < n + 1 → AreMet conjuncts (field_of split d)
+  each = subst (λ xs. (d : ℕ) → d < n + 1 → AreMatched conjuncts (field_of split d)
       (split_values head split d) (get_or xs d None)) (sym is)
-      (push_each (λ d x. AreMet conjuncts (field_of split d) (split_values head split d) x) None
+      (push_each (λ d x. AreMatched conjuncts (field_of split d) (split_values head split d) x) None
       old ids n so_far.many so_far.each
-      (subst (λ c. AreMet conjuncts c (values_in head c) ids) at met));
+      (subst (λ c. AreMatched conjuncts c (values_in head c) ids) at met));
 }
 
 pub grouped_more : (groups split : List ℕ) (n column : ℕ) (old new : List Bool) (b : Bool)

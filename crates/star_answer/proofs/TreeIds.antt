@@ -10,14 +10,14 @@ use Rattle.agg_laws.specs.declared.tree_shape.TreeShape.{TreeShape}
 use Rattle.state_columns.specs.Docs.{Doc, HaveIds}
 use Rattle.state_columns.specs.Documents.{aggregated, documents_of, star_docs, star_from, visit_of}
 use Rattle.state_columns.specs.Documents.{visits_of}
-use Rattle.tree_laws.specs.Flat.{flat}
+use Rattle.star_tree.specs.Flat.{flat}
 use Rattle.agg_laws.specs.Merged.{add, rekey}
-use Rattle.tree_laws.specs.NodeRules.{AreCounted, count_at}
+use Rattle.star_tree.specs.NodeRules.{AreCounted, count_at}
 use Rattle.agg_laws.specs.Rows.{merged_rows}
 use Rattle.agg_laws.specs.Tree.{Nodes, dim, dims_order, docs_with, has_star, ids_at, kids_of}
 use Rattle.agg_laws.specs.Tree.{merged_docs, node, none, root_of, set_star, skips, star, star_kid}
 use Rattle.agg_laws.specs.Tree.{tree_of, under}
-use Rattle.tree_laws.proofs.FlatLemmas.{flat_docs}
+use Rattle.star_tree.proofs.FlatLemmas.{flat_docs}
 use Rattle.star_file.specs.Reading.{AreIds, DocsHaveIds, IsId}
 
 -- ---- ids

@@ -1,10 +1,9 @@
 -- The rows that the picks of a tree cover, by what the query asks of their values.
-use Rattle.std.specs.Prelude.{◌≡◌, ℕ, ◌<◌, ◌≤◌, ℤ, true, List, [], length, map, MatchBool, All}
-use Rattle.std.specs.Prelude.{count_by, slice_get, slice_index_or, Some}
+use Rattle.std.specs.Prelude.{◌≡◌, ℕ, ◌<◌, ◌≤◌, ℤ, true, List, [], length, map, MatchBool, All, count_by, slice_get, slice_index_or, Some}
 use Rattle.values.specs.declared.value.Value.{Value}
 use Rattle.agg_laws.specs.declared.tree_shape.TreeShape.{TreeShape}
 use Rattle.state_columns.specs.Docs.{Doc}
-use Rattle.tree_laws.specs.Picks as asks
+use Rattle.star_tree.specs.Picks as asks
 use Rattle.agg_laws.specs.Tree.{dim, star}
 use Rattle.table_schema.specs.declared.query.Agg.{Agg}
 use Rattle.table_schema.specs.declared.query.BoundQuery.{BoundQuery}
@@ -12,7 +11,8 @@ use Rattle.table_schema.specs.Conditions.{all_hold, cell}
 use Rattle.star_walk.specs.Covering.{counts, covers, stands_for}
 use Rattle.star_walk.specs.Images.{shown}
 use Rattle.star_walk.specs.Walking.{tree_picks}
-use Rattle.star_answer.specs.Served.{AreProjected, AsksFor, field_of, flat_of}
+use Rattle.star_answer.specs.Served.{AreProjected, AsksFor, flat_of}
+use Rattle.segment_reads.specs.Docs.{field_of}
 
 -- the picks of the walk of the tree of some entries, each as its level and its documents
 abbrev pub shown_picks : asks.Task → TreeShape → List (List ℕ × List ℤ) → List (ℕ × List Doc)
@@ -35,8 +35,8 @@ HaveValuesOf t split values row ids docs =
     All (λ e. stands_for e ids ≡ true → (d : ℕ) → d < length split → t.grouped d ≡ true
     → slice_get (values d) (dim d e.0) ≡ Some (cell row (field_of split d))) docs
 
--- what is said of each row and its entry, where a tree is of rows with these entries and a task asks
--- of ids what a query asks of their values
+-- what is said of each row and its entry, where a tree is of rows with these entries and a task
+-- asks of ids what a query asks of their values
 abbrev pub OfEachRow : (BoundQuery → asks.Task → TreeShape → List ℕ → (ℕ → List Value)
     → List (List ℕ × List ℤ) → List Value → List ℕ → Type 0) → Type 0
 OfEachRow P = (query : BoundQuery) (shape : TreeShape) (split : List ℕ) (pairs : List Agg)

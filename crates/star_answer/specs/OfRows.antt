@@ -3,8 +3,8 @@ use Rattle.std.specs.Prelude.{◌≡◌, ℕ, ℤ, List, map, slice_get, Some}
 use Rattle.std.specs.List.{All}
 use Rattle.values.specs.declared.value.Value.{Value}
 use Rattle.value_ids.specs.Dictionary.{distinct}
-use Rattle.tree_laws.specs.Picks as asks
-use Rattle.tree_laws.specs.Picks as asks
+use Rattle.star_tree.specs.Picks as asks
+use Rattle.star_tree.specs.Picks as asks
 use Rattle.table_schema.specs.declared.field.Field.{Field}
 use Rattle.table_schema.specs.declared.query.BoundQuery.{BoundQuery}
 use Rattle.table_schema.specs.declared.settings.TreeSetting.{TreeSetting}
@@ -18,13 +18,11 @@ use Rattle.segment_file.specs.Ordered.{ordered}
 use Rattle.segment_file.specs.Trees.{tree_row}
 use Rattle.segment_plan.specs.Laws.{TellsOf}
 use Rattle.segment_plan.specs.Matched.{AreLoaded}
-use Rattle.star_taking.specs.declared.asked.GroupColumn.{GroupColumn}
-use Rattle.star_answer.specs.Served.{AreProjected, AsksFor, field_of, flat_of}
-use Rattle.star_answer.specs.Tasks.{AreColumnsOf, AreGroupsLoaded, split_values}
-
--- the distinct values of rows in a split dimension, ascending
-abbrev pub row_values : List (List Value) → List ℕ → ℕ → List Value
-row_values rows split d = distinct (values_in (field_of split d) rows)
+use Rattle.star_reader.specs.declared.asked.GroupColumn.{GroupColumn}
+use Rattle.star_answer.specs.Served.{AreProjected, AsksFor, flat_of}
+use Rattle.segment_reads.specs.Docs.{field_of, row_values}
+use Rattle.star_answer.specs.Tasks.{AreColumnsOf, split_values}
+use Rattle.segment_plan.specs.Named.{AreGroupsLoaded}
 
 -- the rows as a tree has them
 abbrev pub entries_of : List (List Value) → TreeSetting → List (List ℕ × List ℤ)

@@ -1,7 +1,6 @@
 -- The answer of a segment from a star-tree of its file: what it does to groups, how many documents
 -- are read, and what is read of the file.
-use Rattle.std.specs.Prelude.{◌≡◌, ◌≤◌, ◌+◌, ◌⊎◌, ℕ, List, map, length, slice_get, Option, Some}
-use Rattle.std.specs.Prelude.{IfSome}
+use Rattle.std.specs.Prelude.{◌≡◌, ◌≤◌, ◌+◌, ◌⊎◌, ℕ, List, map, length, slice_get, Option, Some, IfSome}
 use Rattle.std.specs.List.{AllByRecursion}
 use Rattle.outside.specs.Files.{Files}
 use Rattle.outside.specs.Reads.{Entry}
@@ -15,13 +14,13 @@ use Rattle.segment_file.specs.declared.part.Part.TheVariants.{Star}
 use Rattle.segment_head.specs.Heads.{LogsTree, Seen, place_in}
 use Rattle.segment_file.specs.Ordered.{ordered}
 use Rattle.segment_head.specs.Stored.{IsOfImage}
-use Rattle.index_reading.specs.Stretches.{LogsOver, LogsPartly, Stretch}
+use Rattle.outside.specs.Stretches.{LogsOver, LogsPartly, Stretch}
 use Rattle.star_walk.specs.declared.pick.Pick.{Pick}
 use Rattle.star_walk.specs.Images.{read_of}
 use Rattle.group_table.specs.Kept.{IsTableOf, KeptGroups, groups_in}
 use Rattle.scan_engine.specs.Scanned.{AddsRows, HaveAtMost, IsOverfull, selected}
-use Rattle.star_taking.specs.Answers.{stretch_of}
-use Rattle.star_answer.specs.Docs.{docs_read}
+use Rattle.star_reader.specs.Answers.{stretch_of}
+use Rattle.segment_reads.specs.Docs.{docs_read}
 
 -- the rows of an image that satisfy the filter, in their order
 abbrev pub rows_of_image : BoundQuery → Table → List (List Value) → List (List Value)

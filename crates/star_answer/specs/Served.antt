@@ -1,6 +1,5 @@
 -- A segment's rows beside its star-tree, and a query that the tree serves.
-use Rattle.std.specs.Prelude.{◌≡◌, ℕ, ◌<◌, ◌≤◌, pos, ℤ, true, List, [], ◌∷◌, length, map, slice_get}
-use Rattle.std.specs.Prelude.{slice_index_or, Some, None}
+use Rattle.std.specs.Prelude.{◌≡◌, ℕ, ◌<◌, ◌≤◌, pos, ℤ, true, List, [], ◌∷◌, length, map, slice_get, slice_index_or, Some, None}
 use Rattle.std.specs.List.{All, AllByRecursion, list_all}
 use Rattle.outside.specs.Files.{Files}
 use Rattle.values.specs.declared.value.Value.{Value}
@@ -13,9 +12,9 @@ use Rattle.agg_laws.specs.Rows.{merged_rows}
 use Rattle.state_columns.specs.Docs.{projected}
 use Rattle.agg_laws.specs.Tree.{dim, tree_of}
 use Rattle.agg_laws.specs.Tree as trees
-use Rattle.tree_laws.specs.Flat.{Flat, flat}
+use Rattle.star_tree.specs.Flat.{Flat, flat}
 use Rattle.state_columns.specs.Region.{range}
-use Rattle.tree_laws.specs.Picks as asks
+use Rattle.star_tree.specs.Picks as asks
 use Rattle.table_schema.specs.declared.query.Agg.{Agg}
 use Rattle.table_schema.specs.declared.query.BoundQuery.{BoundQuery}
 use Rattle.table_schema.specs.Columns.{is_member}
@@ -24,12 +23,9 @@ use Rattle.group_table.specs.Groups.{number_for}
 use Rattle.star_file.specs.Reading.{section, HasDocuments}
 use Rattle.eligibility.specs.Rule.{IsFiltered}
 use Rattle.segment_plan.specs.Matched.{is_filtered, passes}
-use Rattle.star_taking.specs.declared.asked.Asked.{Asked}
-use Rattle.star_taking.specs.declared.tree_part.TreePart.{TreePart}
-
--- the field of a split dimension, and the pair of an aggregate
-abbrev pub field_of : List ℕ → ℕ → ℕ
-field_of split d = slice_index_or split d 0
+use Rattle.star_reader.specs.declared.asked.Asked.{Asked}
+use Rattle.star_reader.specs.declared.tree_part.TreePart.{TreePart}
+use Rattle.segment_reads.specs.Docs.{field_of}
 
 -- the pair of the tree that answers an aggregate of the query, by its number
 abbrev pub pair_of : List Agg → ℕ → Agg

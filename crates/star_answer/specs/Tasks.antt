@@ -1,6 +1,5 @@
 -- What a query asks of a star-tree of a segment, of which a head has dictionaries.
-use Rattle.std.specs.Prelude.{◌≡◌, ℕ, ◌<◌, ◌&&◌, ◌||◌, true, false, pos, Bool, List, length, map}
-use Rattle.std.specs.Prelude.{Option, None, slice_index_or}
+use Rattle.std.specs.Prelude.{◌≡◌, ℕ, ◌<◌, ◌&&◌, ◌||◌, true, false, pos, Bool, List, length, map, Option, None, slice_index_or}
 use Rattle.std.specs.List.{All, list_all}
 use Rattle.values.specs.declared.value.Value.{Value}
 use Rattle.values.specs.declared.value.Value.TheVariants.{Whole}
@@ -10,8 +9,9 @@ use Rattle.table_schema.specs.Columns.{is_member}
 use Rattle.segment_head.specs.Heads.{IsLoaded, Seen}
 use Rattle.segment_plan.specs.Matched.{is_filtered, is_on, passes, values_in}
 use Rattle.star_walk.specs.Walking.{is_among, some_ids}
-use Rattle.star_taking.specs.declared.asked.GroupColumn.{GroupColumn}
-use Rattle.star_answer.specs.Served.{field_of, pair_of}
+use Rattle.star_reader.specs.declared.asked.GroupColumn.{GroupColumn}
+use Rattle.star_answer.specs.Served.{pair_of}
+use Rattle.segment_reads.specs.Docs.{field_of}
 
 -- the values of a split dimension, which a head has where they were loaded
 abbrev pub split_values : Seen → List ℕ → ℕ → List Value
@@ -22,7 +22,7 @@ abbrev pub value_at : List Value → ℕ → Value
 value_at values id = slice_index_or values id (Whole (pos 0))
 
 -- the ids of the values that satisfy each conjunct that names the column alone, if one does
-pub record AreMet (conjuncts : List Conjunct) (column : ℕ) (values : List Value)
+pub record AreMatched (conjuncts : List Conjunct) (column : ℕ) (values : List Value)
     (ids : Option (List ℕ)) : Type 0 where
   pub some : some_ids ids ≡ is_filtered conjuncts column
   pub each : (id : ℕ) → id < length values
@@ -30,7 +30,7 @@ pub record AreMet (conjuncts : List Conjunct) (column : ℕ) (values : List Valu
 
 -- of some ids, or of all where none are told, those whose values satisfy one more conjunct, if it
 -- names the column alone
-pub record Meets (column : ℕ) (values : List Value) (conjunct : Conjunct)
+pub record Intersects (column : ℕ) (values : List Value) (conjunct : Conjunct)
     (old new : Option (List ℕ)) : Type 0 where
   pub some : some_ids new ≡ (some_ids old || is_on column conjunct)
   pub each : (id : ℕ) → id < length values
@@ -41,7 +41,7 @@ pub record AreTested (conjuncts : List Conjunct) (split : List ℕ) (head : Seen
     (matched : List (Option (List ℕ))) : Type 0 where
   pub many : length matched ≡ count
   pub each : (d : ℕ) → d < count
-      → AreMet conjuncts (field_of split d) (split_values head split d)
+      → AreMatched conjuncts (field_of split d) (split_values head split d)
       (slice_index_or matched d None)
 
 -- for each of them, whether it is among the group columns
@@ -50,10 +50,6 @@ pub record AreGrouped (groups : List ℕ) (split : List ℕ) (count : ℕ) (grou
   pub many : length grouped ≡ count
   pub each : (d : ℕ) → d < count
       → slice_index_or grouped d false ≡ is_member groups (field_of split d)
-
--- the dictionary of each group column was loaded
-abbrev pub AreGroupsLoaded : List ℕ → Seen → Type 0
-AreGroupsLoaded groups head = (column : ℕ) → is_member groups column ≡ true → IsLoaded head column
 
 -- group columns are split dimensions, with the values of these
 pub record AreColumnsOf (groups : List ℕ) (split : List ℕ) (values : ℕ → List Value)

@@ -8,17 +8,17 @@ ghost use Rattle.agg_laws.specs.Numbers.{most_stored, most_values};
 ghost use Rattle.group_table.specs.Kept.{groups_in};
 ghost use Rattle.scan_engine.specs.Scanned.{HaveAtMost};
 ghost use Rattle.star_walk.specs.Images.{read_of};
-ghost use Rattle.star_taking.specs.declared.fault.AnswerFault.TheVariants.{BadDocs, ReadFault};
-ghost use Rattle.star_taking.specs.declared.fault.AnswerFault.TheVariants.{TooManyGroups};
-ghost use Rattle.star_taking.specs.Asked.{AreAsked, IsTableFor};
-ghost use Rattle.star_taking.specs.Answers.{Answers, IsBad, IsOverfull, IsTree, LogsPicks};
-ghost use Rattle.star_taking.specs.Answers.{LogsSome, picks_of, reads_of};
+ghost use Rattle.star_reader.specs.declared.fault.AnswerFault.TheVariants.{BadDocs, ReadFault};
+ghost use Rattle.star_reader.specs.declared.fault.AnswerFault.TheVariants.{TooManyGroups};
+ghost use Rattle.star_reader.specs.Asked.{AreAsked, IsTableFor};
+ghost use Rattle.star_reader.specs.Answers.{Answers, IsBad, IsOverfull, IsTree, LogsPicks};
+ghost use Rattle.star_reader.specs.Answers.{LogsSome, picks_of, reads_of};
 
 use crate::merging::merge_documents;
 use group_table::{GroupTable, TableFault};
 use outside::Shelf;
-use star_taking::{AnswerFault, Asked, TreePart, take_picks};
-use star_walk::{Pick, Task, joined, joined_law, walk, walkable_law};
+use star_reader::{AnswerFault, Asked, TreePart, take_picks};
+use star_walk::{Pick, Task, coalesced, coalesced_law, walk, walkable_law};
 use std::alloc::Global;
 
 /// Merges the states of the documents that a query reads of a star-tree, of those that pass their
@@ -55,17 +55,17 @@ pub fn answer_tree<S: Shelf>(
         (S.log shelf.old) (S.log shelf.new)) }
 {
     walkable_law();
-    joined_law();
+    coalesced_law();
     let picks = walk(alloc, tree.nodes, task)?;
-    let picks = joined(alloc, &picks)?;
+    let picks = coalesced(alloc, &picks)?;
     let Some(count) = count_within(picks.as_slice(), rows) else {
         return Err(AnswerFault::BadDocs);
     };
-    let taken = match take_picks(alloc, shelf, tree, task, asked, rows, picks.as_slice()) {
-        Ok(taken) => taken,
+    let selected = match take_picks(alloc, shelf, tree, task, asked, rows, picks.as_slice()) {
+        Ok(selected) => selected,
         Err(fault) => return Err(fault),
     };
-    match merge_documents(alloc, asked.columns, taken, groups) {
+    match merge_documents(alloc, asked.columns, selected, groups) {
         Ok(()) => Ok(count),
         Err(TableFault::TooManyGroups) => Err(AnswerFault::TooManyGroups),
         Err(TableFault::NoMemory) => Err(AnswerFault::NoMemory),

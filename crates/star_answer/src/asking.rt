@@ -3,13 +3,14 @@
 ghost use Rattle.std.specs.Prelude.{◌≡◌, ◌<◌, ◌≤◌, true, IfOk, length};
 ghost use Rattle.table_schema.specs.Columns.{is_member};
 ghost use Rattle.eligibility.specs.Rule.{is_eligible, is_kept};
-ghost use Rattle.star_answer.specs.Served.{field_of, pair_of};
-ghost use Rattle.star_answer.specs.Tasks.{AreColumnsOf, AreGroupsLoaded, ArePairsOf};
-ghost use Rattle.star_answer.specs.Tasks.{split_values};
+ghost use Rattle.star_answer.specs.Served.{pair_of};
+ghost use Rattle.segment_reads.specs.Docs.{field_of};
+ghost use Rattle.star_answer.specs.Tasks.{AreColumnsOf, ArePairsOf, split_values};
+ghost use Rattle.segment_plan.specs.Named.{AreGroupsLoaded};
 
 use crate::NoMemory;
 use segment_head::Head;
-use star_taking::GroupColumn;
+use star_reader::GroupColumn;
 use std::alloc::Global;
 use table_schema::{Agg, BoundQuery, TreeSetting};
 

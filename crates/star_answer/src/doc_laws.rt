@@ -1,10 +1,10 @@
 //! The laws of how many documents a query reads of a star-tree. Each is the contract of a function
 //! that does nothing of its own.
 
-ghost use Rattle.star_answer.specs.Docs.{DocsAreBounded, DocsAreFew, WalkReadsDocs};
+ghost use Rattle.star_answer.specs.DocLaws.{DocsAreBounded, DocsAreFew, WalkReadsDocs};
 
+use star_tree::{node_rules_law, reads_law};
 use star_walk::walk_law;
-use tree_laws::{node_rules_law, reads_law};
 
 /// A walk of the flat tree of a segment's rows reads just as many documents as the query reads of
 /// the nested tree, where the walk asks of ids what the query asks of their values.

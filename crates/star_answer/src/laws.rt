@@ -9,18 +9,17 @@ ghost use Rattle.group_table.specs.Kept.{IsTableOf, KeptGroups};
 ghost use Rattle.star_walk.specs.declared.task.Task.{Task};
 ghost use Rattle.scan_engine.specs.Scanned as scan;
 ghost use Rattle.scan_engine.specs.Scanned.{AddsRows, selected};
-ghost use Rattle.star_taking.specs.declared.asked.Asked.{Asked};
-ghost use Rattle.star_taking.specs.declared.tree_part.TreePart.{TreePart};
-ghost use Rattle.star_taking.specs.Answers.{Answers, IsBad, IsOverfull, IsTree, asked_of};
-ghost use Rattle.star_taking.specs.Asked.{AreAsked};
+ghost use Rattle.star_reader.specs.declared.asked.Asked.{Asked};
+ghost use Rattle.star_reader.specs.declared.tree_part.TreePart.{TreePart};
+ghost use Rattle.star_reader.specs.Answers.{Answers, IsBad, IsOverfull, IsTree, asked_of};
+ghost use Rattle.star_reader.specs.Asked.{AreAsked};
 ghost use Rattle.star_answer.specs.Covered.{RowsAreCovered, RowsKeepValues};
-ghost use Rattle.star_answer.specs.OfRows.{AsksOfRows, ColumnsOfRows, NodesOfRows};
-ghost use Rattle.star_answer.specs.OfRows.{RowsAreProjected};
+ghost use Rattle.star_answer.specs.OfRows.{AsksOfRows, ColumnsOfRows, NodesOfRows, RowsAreProjected};
 ghost use Rattle.star_answer.specs.Served.{IsServed};
 
 use segment_head::head_tells_trees_law;
+use star_tree::picks_law;
 use star_walk::walk_law;
-use tree_laws::picks_law;
 
 /// Where the tree is that of a segment's rows, and the query filters and groups by its dimensions
 /// alone and asks for its pairs, the answer adds the rows that satisfy the filter to the groups.
@@ -61,8 +60,8 @@ pub fn covered_law()
 
 /// A tree has of each row of its segment an id for each split dimension, among the distinct values
 /// of the rows there, and a number for each pair. Where a head tells of rows, a query asks of the
-/// tree by these values what it asks by those of the head; and on an image the nodes that are loaded
-/// are those of the tree of the rows.
+/// tree by these values what it asks by those of the head; and on an image the nodes that are
+/// loaded are those of the tree of the rows.
 pub fn rows_law()
     ensures projected { RowsAreProjected }
     ensures asks { AsksOfRows }

@@ -6,20 +6,14 @@
 mod answer;
 mod asking;
 mod doc_laws;
+mod intersection;
 mod laws;
-mod meeting;
 mod merging;
 mod segment;
-mod segment_fault;
 mod tasks;
+mod tree_fault;
 
-pub use answer::answer_tree;
-pub use asking::{group_columns, pair_numbers};
 pub use doc_laws::{docs_bound_law, docs_few_law, docs_read_law};
 pub use laws::{covered_law, rows_law, served_law};
+pub use outside::NoMemory;
 pub use segment::answer_segment;
-pub use segment_fault::SegmentFault;
-pub use tasks::tree_task;
-
-/// A growth was refused.
-pub type NoMemory = std::alloc::AllocError;

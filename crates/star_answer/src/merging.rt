@@ -1,4 +1,4 @@
-//! Documents that were taken are merged by their ids, and then into groups: a key for each.
+//! Documents that were selected are merged by their ids, and then into groups: a key for each.
 
 ghost use Rattle.std.specs.Prelude.{◌≡◌, ◌-◌, ◌^◌, ◌<◌, ◌≤◌, Err, IfOk, OnOk, drop, length};
 ghost use Rattle.std.specs.List.{All};
@@ -10,48 +10,48 @@ ghost use Rattle.agg_laws.specs.Merged.{weights};
 ghost use Rattle.group_table.specs.declared.fault.TableFault.TheVariants.{TooManyGroups};
 ghost use Rattle.group_table.specs.Kept.{groups_in};
 ghost use Rattle.scan_engine.specs.Scanned.{HaveAtMost};
-ghost use Rattle.star_taking.specs.Entries.{MergesEntries, with_entries};
-ghost use Rattle.star_taking.specs.Taken.{AreKeyIds, keyed};
+ghost use Rattle.star_reader.specs.Entries.{MergesEntries, with_entries};
+ghost use Rattle.star_reader.specs.Selected.{AreKeyIds, keyed};
 
-use document_table::StarTable;
 use group_table::{GroupTable, TableFault};
-use star_taking::{GroupColumn, key_at};
+use star_reader::{GroupColumn, key_at};
+use star_table::StarTable;
 use state_columns::StateRow;
 use std::alloc::Global;
 use values::NoMemory;
 
-/// Merges documents that were taken into the groups of their keys.
+/// Merges documents that were selected into the groups of their keys.
 pub fn merge_documents(
     alloc: Global,
     columns: &[GroupColumn<'_>],
-    taken: StarTable,
+    selected: StarTable,
     groups: &mut GroupTable,
 ) -> Result<(), TableFault>
-    requires few { length taken.docs ≤ most_stored }
-    requires dims { taken.dims ≡ length columns.now }
+    requires few { length selected.docs ≤ most_stored }
+    requires dims { selected.dims ≡ length columns.now }
     requires few_columns { length columns.now ≤ 16 }
-    requires keyed { All (λ e. AreKeyIds columns.now e.0) taken.docs }
-    requires light { weights row_weight taken.docs ≤ most_stored }
-    requires few_kinds { length taken.kinds ≤ 16 }
+    requires keyed { All (λ e. AreKeyIds columns.now e.0) selected.docs }
+    requires light { weights row_weight selected.docs ≤ most_stored }
+    requires few_kinds { length selected.kinds ≤ 16 }
     requires columns { groups.old.columns ≡ length columns.now }
-    requires kinds { groups.old.kinds ≡ taken.kinds }
-    requires fits { HaveAtMost (most_values - weights row_weight taken.docs)
+    requires kinds { groups.old.kinds ≡ selected.kinds }
+    requires fits { HaveAtMost (most_values - weights row_weight selected.docs)
         (groups_in groups.old) }
-    ensures ok { OnOk result (MergesEntries (weights row_weight taken.docs)
-        (keyed columns.now taken.docs) groups.old groups.new) }
+    ensures ok { OnOk result (MergesEntries (weights row_weight selected.docs)
+        (keyed columns.now selected.docs) groups.old groups.new) }
     ensures full { result ≡ Err TooManyGroups → groups.old.most < finite.len
-        (with_entries (groups_in groups.old) (keyed columns.now taken.docs)) }
+        (with_entries (groups_in groups.old) (keyed columns.now selected.docs)) }
     ensures filled { result ≡ Err TooManyGroups
         → finite.len (groups_in groups.new) ≡ groups.old.most }
 {
-    let mut taken = taken;
-    let count = taken.len() as u32;
+    let mut selected = selected;
+    let count = selected.len() as u32;
     if count == 0 {
         return Ok(());
     }
-    taken.reserve(count)?;
-    taken.append_merged(0, count)?;
-    merge_last(alloc, columns, &taken, count, groups)
+    selected.reserve(count)?;
+    selected.append_merged(0, count)?;
+    merge_last(alloc, columns, &selected, count, groups)
 }
 
 // Merges the last documents of a table, as many as there are from a number on, into the groups of
@@ -59,31 +59,31 @@ pub fn merge_documents(
 fn merge_last(
     alloc: Global,
     columns: &[GroupColumn<'_>],
-    taken: &StarTable,
+    selected: &StarTable,
     from: u32,
     groups: &mut GroupTable,
 ) -> Result<(), TableFault>
-    requires few { length taken.now.docs < 2 ^ 32 }
-    requires dims { taken.now.dims ≡ length columns.now }
+    requires few { length selected.now.docs < 2 ^ 32 }
+    requires dims { selected.now.dims ≡ length columns.now }
     requires few_columns { length columns.now ≤ 16 }
-    requires from { from ≤ length taken.now.docs }
-    requires keyed { All (λ e. AreKeyIds columns.now e.0) (drop from taken.now.docs) }
-    requires light { weights row_weight (drop from taken.now.docs) ≤ most_stored }
-    requires few_kinds { length taken.now.kinds ≤ 16 }
+    requires from { from ≤ length selected.now.docs }
+    requires keyed { All (λ e. AreKeyIds columns.now e.0) (drop from selected.now.docs) }
+    requires light { weights row_weight (drop from selected.now.docs) ≤ most_stored }
+    requires few_kinds { length selected.now.kinds ≤ 16 }
     requires columns { groups.old.columns ≡ length columns.now }
-    requires kinds { groups.old.kinds ≡ taken.now.kinds }
-    requires fits { HaveAtMost (most_values - weights row_weight (drop from taken.now.docs))
+    requires kinds { groups.old.kinds ≡ selected.now.kinds }
+    requires fits { HaveAtMost (most_values - weights row_weight (drop from selected.now.docs))
         (groups_in groups.old) }
-    ensures ok { OnOk result (MergesEntries (weights row_weight (drop from taken.now.docs))
-        (keyed columns.now (drop from taken.now.docs)) groups.old groups.new) }
+    ensures ok { OnOk result (MergesEntries (weights row_weight (drop from selected.now.docs))
+        (keyed columns.now (drop from selected.now.docs)) groups.old groups.new) }
     ensures full { result ≡ Err TooManyGroups → groups.old.most < finite.len (with_entries
-        (groups_in groups.old) (keyed columns.now (drop from taken.now.docs))) }
+        (groups_in groups.old) (keyed columns.now (drop from selected.now.docs))) }
     ensures filled { result ≡ Err TooManyGroups
         → finite.len (groups_in groups.new) ≡ groups.old.most }
 {
-    for at in from..taken.len() as u32 {
-        let key = key_at(alloc, columns, taken, at)?;
-        let states = states_at(alloc, taken, at)?;
+    for at in from..selected.len() as u32 {
+        let key = key_at(alloc, columns, selected, at)?;
+        let states = states_at(alloc, selected, at)?;
         if let Err(fault) = groups.merge_row(alloc, &key, &states) {
             return Err(fault);
         }
@@ -92,15 +92,15 @@ fn merge_last(
 }
 
 // The states of a document.
-fn states_at(alloc: Global, taken: &StarTable, at: u32) -> Result<StateRow, NoMemory>
-    requires at { at < length taken.now.docs }
-    requires shape { HaveShape taken.now.dims taken.now.kinds taken.now.docs }
-    requires few { length taken.now.kinds ≤ 16 }
-    ensures { IfOk result (λ states. states ≡ (doc_at taken.now.docs at).1) }
+fn states_at(alloc: Global, selected: &StarTable, at: u32) -> Result<StateRow, NoMemory>
+    requires at { at < length selected.now.docs }
+    requires shape { HaveShape selected.now.dims selected.now.kinds selected.now.docs }
+    requires few { length selected.now.kinds ≤ 16 }
+    ensures { IfOk result (λ states. states ≡ (doc_at selected.now.docs at).1) }
 {
     let mut states = StateRow::new(alloc);
-    for pair in 0..taken.kinds().len() {
-        states.push(taken.state(at, pair as u8))?;
+    for pair in 0..selected.kinds().len() {
+        states.push(selected.state(at, pair as u8))?;
     }
     Ok(states)
 }

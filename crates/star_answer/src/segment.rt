@@ -13,32 +13,29 @@ ghost use Rattle.segment_file.specs.declared.part.Part.TheVariants as parts;
 ghost use Rattle.segment_head.specs.Heads.{IsHeadOf, place_in};
 ghost use Rattle.segment_head.specs.Stored.{IsNoImage};
 ghost use Rattle.segment_plan.specs.Matched.{AreLoaded};
-ghost use Rattle.star_answer.specs.declared.segment_fault.SegmentFault.TheVariants.{NotASegment};
-ghost use Rattle.star_answer.specs.declared.segment_fault.SegmentFault.TheVariants.{ReadFault};
-ghost use Rattle.star_answer.specs.declared.segment_fault.SegmentFault.TheVariants.{TooManyGroups};
-ghost use Rattle.star_answer.specs.Segments.{AddsAnswer, AreDocsRead, IsAnswerOverfull};
-ghost use Rattle.star_answer.specs.Segments.{LogsAnswer, LogsAnswerPartly};
-ghost use Rattle.star_answer.specs.Tasks.{AreGroupsLoaded};
+ghost use Rattle.segment_head.specs.declared.fault.EngineFault.TheVariants.{NotASegment, ReadFault, TooManyGroups};
+ghost use Rattle.star_answer.specs.Segments.{AddsAnswer, AreDocsRead, IsAnswerOverfull, LogsAnswer, LogsAnswerPartly};
+ghost use Rattle.segment_plan.specs.Named.{AreGroupsLoaded};
 
 use crate::answer::answer_tree;
 use crate::asking::{group_columns, pair_numbers};
 use crate::doc_laws::docs_read_law;
 use crate::laws::served_law;
-use crate::segment_fault::{SegmentFault, of_head, of_tree};
 use crate::tasks::tree_task;
+use crate::tree_fault::of_tree;
 use group_table::GroupTable;
 use outside::{Place, Shelf};
 use segment_file::Part;
-use segment_head::Head;
+use segment_head::{EngineFault, Head, engine_fault};
 use segment_plan::head_tells_law;
-use star_taking::{Asked, TreePart};
+use star_reader::{Asked, TreePart};
 use star_walk::walkable_law;
 use std::alloc::Global;
 use table_schema::{BoundQuery, Table};
 
 /// Merges what a query reads of a star-tree of a segment into its groups, and answers how many
-/// documents were read. The nodes of the tree are read, and of its documents just those of the walk,
-/// each once; no row.
+/// documents were read. The nodes of the tree are read, and of its documents just those of the
+/// walk, each once; no row.
 pub fn answer_segment<S: Shelf>(
     alloc: Global,
     shelf: &mut S,
@@ -47,7 +44,7 @@ pub fn answer_segment<S: Shelf>(
     tree: u8,
     query: &BoundQuery,
     groups: &mut GroupTable,
-) -> Result<u32, SegmentFault>
+) -> Result<u32, EngineFault>
     requires valid { IsValidTable table.now }
     requires of_table { IsHeadOf table.now head.now }
     requires query { IsValidQuery table.now query.now }
@@ -77,7 +74,7 @@ pub fn answer_segment<S: Shelf>(
     head_tells_law();
     let opened = match head.read_tree(alloc, shelf, table, tree) {
         Ok(opened) => opened,
-        Err(fault) => return Err(of_head(fault)),
+        Err(fault) => return Err(engine_fault(fault)),
     };
     let setting = table.settings.trees.at(tree as usize);
     let task = tree_task(alloc, query, setting, head)?;

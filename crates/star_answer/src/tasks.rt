@@ -3,15 +3,15 @@
 ghost use Rattle.std.specs.Prelude.{◌≡◌, true, IfOk, length};
 ghost use Rattle.eligibility.specs.Rule.{is_eligible};
 ghost use Rattle.segment_plan.specs.Matched.{AreLoaded};
-ghost use Rattle.star_taking.specs.Answers.{asked_of};
+ghost use Rattle.star_reader.specs.Answers.{asked_of};
 ghost use Rattle.star_answer.specs.Served.{AsksFor};
 ghost use Rattle.star_walk.specs.Walking.{HasEach};
 ghost use Rattle.star_answer.specs.Tasks.{AreGrouped, AreTested, split_values};
 
 use crate::NoMemory;
-use crate::meeting::met_ids;
-use data_types::Seq;
+use crate::intersection::matched_ids;
 use eligibility::eligible_law;
+use outside::Seq;
 use segment_head::Head;
 use star_walk::Task;
 use std::alloc::Global;
@@ -52,7 +52,7 @@ fn tested(
 {
     let mut all = Seq::with_capacity(alloc, split.len())?;
     for level in 0..split.len() {
-        all.push(met_ids(alloc, conjuncts, split[level], head)?)?;
+        all.push(matched_ids(alloc, conjuncts, split[level], head)?)?;
     }
     Ok(all)
 }

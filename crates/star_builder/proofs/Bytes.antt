@@ -3,7 +3,7 @@ use Rattle.std.proofs.Common.{◌≡◌, ℕ, ◌+◌, ◌*◌, ◌≤◌, arith
 use Rattle.std.proofs.Math.Nat.{mul-le-mul_left, mul-le-mul_right}
 use Rattle.agg_laws.specs.declared.tree_shape.TreeShape.{TreeShape}
 use Rattle.star_file.specs.Rules.{widths}
-use Rattle.tree_laws.proofs.FlatLemmas.{Grows, more_docs}
+use Rattle.star_tree.proofs.FlatLemmas.{Grows, more_docs}
 use Rattle.star_builder.specs.Building.{Written, bytes_of}
 
 pub bytes_grow : (P : ℕ → Type 0) (shape : TreeShape) (f g : Written) → Grows P f g

@@ -26,7 +26,7 @@ use Rattle.state_columns.proofs.WeightLemmas.{weights-filter, weights-Merged}
 use Rattle.state_columns.proofs.DocLemmas.{rows_join}
 use Rattle.state_columns.proofs.MergedLemmas.{is_sorted-Merged}
 use Rattle.star_builder.specs.Building.{DocsAt, AtLeast, Rising, Ordinary, Proper}
-use Rattle.tree_laws.proofs.Runs.{equal_is, greater_is}
+use Rattle.star_tree.proofs.Runs.{equal_is, greater_is}
 
 pub as_T : (b : Bool) → b ≡ true → T b
 as_T b e = subst T (sym e) tt

@@ -5,11 +5,11 @@ use Rattle.state_columns.specs.Docs.{Doc}
 use Rattle.std.proofs.Common.{◌≡◌, ℕ, suc, ◌+◌, ◌-◌, ◌<◌, Bool, true, false, ◌&&◌, not, nat_lt}
 use Rattle.std.proofs.Common.{List, [], ◌∷◌, ◌++◌, length, refl, sym, ap, subst, ◌∙◌, arith}
 use Rattle.std.proofs.Common.{length-append, append_assoc}
-use Rattle.tree_laws.specs.declared.node.Node.{Node}
+use Rattle.star_tree.specs.declared.node.Node.{Node}
 use Rattle.agg_laws.specs.declared.tree_shape.TreeShape.{TreeShape}
 use Rattle.agg_laws.specs.Tree.{star, set_star, merged_docs, ids_at, skips, has_star}
 use Rattle.agg_laws.specs.Merged.{rekey}
-use Rattle.tree_laws.specs.Flat.{Flat, blank, node_at, opened}
+use Rattle.star_tree.specs.Flat.{Flat, blank, node_at, opened}
 use Rattle.state_columns.specs.Region.{range}
 use Rattle.state_columns.proofs.ListLemmas.{append_none}
 use Rattle.star_builder.specs.Building.{Proper, Rising, Ordinary, Standing, group_nodes, docs_at}

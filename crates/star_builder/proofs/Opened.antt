@@ -10,18 +10,18 @@ use Rattle.std.proofs.lemmas.List.{drop-drop, take-take, get_or_at, length-take-
 use Rattle.std.proofs.Math.Seq.{take-append_seam, drop-append_seam, take-length}
 use Rattle.std.proofs.lemmas.List.{take-append-le, drop-append-le}
 use Rattle.std.proofs.lemmas.Bool.{ne_eqb}
-use Rattle.tree_laws.specs.declared.node.Node.{Node}
+use Rattle.star_tree.specs.declared.node.Node.{Node}
 use Rattle.agg_laws.specs.Tree.{star, dim, set_star, merged_docs, Nodes, none, node, skips, ids_at}
 use Rattle.agg_laws.specs.Tree.{docs_with, kids_of, star_kid, under, has_star}
 use Rattle.agg_laws.specs.Merged.{rekey}
-use Rattle.tree_laws.specs.Flat.{Flat, blank, node_at, kid_nodes, opened}
+use Rattle.star_tree.specs.Flat.{Flat, blank, node_at, kid_nodes, opened}
 use Rattle.state_columns.specs.Region.{range}
 use Rattle.state_columns.specs.Documents.{star_docs}
 use Rattle.agg_laws.specs.declared.tree_shape.TreeShape.{TreeShape}
 use Rattle.star_builder.specs.Building.{Proper, Rising, Ordinary, StandsAt, Standing, split_kids}
 use Rattle.star_builder.specs.Building.{group_nodes}
 use Rattle.star_builder.proofs.Runs.{run_ids, none_after, joined_all}
-use Rattle.tree_laws.proofs.Runs.{RunOf, passing, other_docs, NoneBelow, joined, find_run}
+use Rattle.star_tree.proofs.Runs.{RunOf, passing, other_docs, NoneBelow, joined, find_run}
 use Rattle.state_columns.proofs.ListLemmas.{length-rekey, merged_some}
 use Rattle.star_builder.proofs.Children.{own_proper, star_proper}
 

@@ -3,8 +3,8 @@ use Rattle.std.proofs.Common.{◌≡◌, ℕ, suc, List, [], ◌∷◌, take, dr
 use Rattle.agg_laws.specs.declared.states.AggState.{AggState}
 use Rattle.agg_laws.specs.Tree.{dim, node, ids_at, docs_with, kids_of}
 use Rattle.state_columns.specs.Docs.{Doc}
-use Rattle.tree_laws.proofs.Runs as runs
-use Rattle.tree_laws.proofs.Runs.{RunOf, NoneBelow, other_docs}
+use Rattle.star_tree.proofs.Runs as runs
+use Rattle.star_tree.proofs.Runs.{RunOf, NoneBelow, other_docs}
 use Rattle.star_builder.specs.Building.{AtLeast, Rising, Tree}
 
 abbrev Join : Type 0

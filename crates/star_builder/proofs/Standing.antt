@@ -6,10 +6,10 @@ use Rattle.std.proofs.Common.{◌≡◌, ℕ, zero, suc, ◌+◌, ◌<◌, ◌�
 use Rattle.std.proofs.Common.{◌∙◌, arith, inr, length-append}
 use Rattle.agg_laws.specs.Tree.{Nodes, none, node, under}
 use Rattle.agg_laws.specs.declared.tree_shape.TreeShape.{TreeShape}
-use Rattle.tree_laws.specs.Flat.{Flat, node_at, count, visited, visited_one}
+use Rattle.star_tree.specs.Flat.{Flat, node_at, count, visited, visited_one}
 use Rattle.state_columns.specs.Region.{range}
 use Rattle.star_builder.specs.Building.{bytes_of, Proper, StandsAt, Standing, visit_at, drop_kids}
-use Rattle.tree_laws.proofs.FlatLemmas.{Grows, Outside, visit_grows, visited_grows, range-append}
+use Rattle.star_tree.proofs.FlatLemmas.{Grows, Outside, visit_grows, visited_grows, range-append}
 use Rattle.star_builder.proofs.Bytes.{bytes_grow}
 
 pub StandsAt-grows : (at i : ℕ) (docs : List Doc) (f g : Flat (List AggState))

@@ -8,11 +8,11 @@ use Rattle.std.proofs.Common.{length-drop, drop-cons, inl, inr}
 use Rattle.std.proofs.lemmas.List.{drop-take, drop-drop, length-take-le}
 use Rattle.std.proofs.lemmas.Bool.{cases_lt, ne_eqb}
 use Rattle.agg_laws.specs.Tree.{star, dim, Nodes, none, node, ids_at, kids_of}
-use Rattle.tree_laws.specs.Flat.{blank, kid_nodes}
+use Rattle.star_tree.specs.Flat.{blank, kid_nodes}
 use Rattle.state_columns.specs.Region.{range}
 use Rattle.star_builder.specs.Building.{id_of, Rising, Ordinary, group_nodes}
 use Rattle.star_builder.proofs.Runs.{run_ids, run_docs, kids_after, none_after}
-use Rattle.tree_laws.proofs.Runs.{RunOf, passing}
+use Rattle.star_tree.proofs.Runs.{RunOf, passing}
 
 none_taken : {X : Type 0} (n : ℕ) (xs : List X) → n ≡ 0 → take n xs ≡ []
 none_taken n xs h = ap (λ k. take k xs) h

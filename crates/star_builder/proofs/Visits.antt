@@ -7,22 +7,22 @@ use Rattle.std.proofs.Common.{◌==◌, nat_le, List, [], ◌∷◌, length, dro
 use Rattle.std.proofs.Common.{arith, length-append, length-drop, inl, inr, ◌↔◌, ◌≢◌}
 use Rattle.std.proofs.lemmas.List.{length-take-le}
 use Rattle.std.proofs.lemmas.Bool.{ne_eqb, eqb-false, cases_lt}
-use Rattle.tree_laws.specs.declared.node.Node.{Node}
+use Rattle.star_tree.specs.declared.node.Node.{Node}
 use Rattle.agg_laws.specs.declared.tree_shape.TreeShape.{TreeShape}
 use Rattle.agg_laws.specs.Tree.{dim, Nodes, none, node, has_star, kids_of, star_kid, under}
-use Rattle.tree_laws.specs.Flat.{Flat, node_at, count, kid_nodes, opened, filled, with_total}
-use Rattle.tree_laws.specs.Flat.{closed, visited, visited_one}
+use Rattle.star_tree.specs.Flat.{Flat, node_at, count, kid_nodes, opened, filled, with_total}
+use Rattle.star_tree.specs.Flat.{closed, visited, visited_one}
 use Rattle.state_columns.specs.Region.{range}
 use Rattle.star_builder.specs.Building.{bytes_of, Proper, drop_kids, Rising, Standing, split_kids}
 use Rattle.star_builder.specs.Building.{docs_at, kids_at, kids_in, NodeStands, leaf_closed}
 use Rattle.star_builder.specs.Building.{split_closed, is_leaf, visit_node}
-use Rattle.tree_laws.proofs.FlatLemmas.{Grows, Grows-trans, Outside, closed_grows, visited_grows}
-use Rattle.tree_laws.proofs.FlatLemmas.{visit_grows, opened_grows, length-kid_nodes, range-append}
+use Rattle.star_tree.proofs.FlatLemmas.{Grows, Grows-trans, Outside, closed_grows, visited_grows}
+use Rattle.star_tree.proofs.FlatLemmas.{visit_grows, opened_grows, length-kid_nodes, range-append}
 use Rattle.state_columns.proofs.ListLemmas.{append_none}
 use Rattle.star_builder.proofs.Bytes.{bytes_grow}
 use Rattle.star_builder.proofs.Standing.{First, first_of_rest, none_left, bytes_later}
 use Rattle.star_builder.proofs.Runs.{run_ids}
-use Rattle.tree_laws.proofs.Runs.{find_run}
+use Rattle.star_tree.proofs.Runs.{find_run}
 use Rattle.star_builder.proofs.Open.{children_stand, rising_at}
 
 left_part : (a b : Bool) → (a || b) ≡ true → b ≡ false → a ≡ true

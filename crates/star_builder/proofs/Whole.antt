@@ -7,9 +7,9 @@ use Rattle.std.proofs.Common.{◌∙◌, arith}
 use Rattle.std.proofs.Math.Seq.{take-length}
 use Rattle.agg_laws.specs.declared.tree_shape.TreeShape.{TreeShape}
 use Rattle.agg_laws.specs.Tree.{star, under, root_of}
-use Rattle.tree_laws.specs.Flat.{Flat, blank, flat, visited_one}
+use Rattle.star_tree.specs.Flat.{Flat, blank, flat, visited_one}
 use Rattle.star_builder.specs.Building.{bytes_of, Proper, docs_at, NodeStands, visit_node}
-use Rattle.tree_laws.proofs.FlatLemmas.{visit_grows}
+use Rattle.star_tree.proofs.FlatLemmas.{visit_grows}
 use Rattle.star_builder.proofs.Bytes.{bytes_grow}
 
 pub record Root (s : TreeShape) (docs : List Doc) (f : Flat (List AggState)) : Type 0 where

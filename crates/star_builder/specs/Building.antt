@@ -2,7 +2,7 @@
 use Rattle.std.specs.Prelude.{◌≡◌, ◌≢◌, ℕ, zero, suc, ◌+◌, ◌-◌, ◌*◌, ◌<◌, ◌≤◌, Bool, if◌then◌else◌}
 use Rattle.std.specs.Prelude.{nat_le, ◌==◌, ◌||◌, true, List, [], ◌∷◌, length, take}
 use Rattle.std.specs.FinMap.{is_sorted}
-use Rattle.tree_laws.specs.declared.node.Node.{Node}
+use Rattle.star_tree.specs.declared.node.Node.{Node}
 use Rattle.agg_laws.specs.declared.states.AggState.{AggState}
 use Rattle.agg_laws.specs.declared.tree_shape.TreeShape.{TreeShape}
 use Rattle.agg_laws.specs.Numbers.{most_stored}
@@ -11,7 +11,7 @@ use Rattle.agg_laws.specs.Merged.{weights}
 use Rattle.agg_laws.specs.Tree.{star, dims_order, dim, Nodes, none, node, ids_at, kids_of, star_kid}
 use Rattle.agg_laws.specs.Tree.{under}
 use Rattle.state_columns.specs.Docs.{Doc, doc_at}
-use Rattle.tree_laws.specs.Flat.{Flat, node_at, kid_nodes, visited_one, closed, filled, with_total}
+use Rattle.star_tree.specs.Flat.{Flat, node_at, kid_nodes, visited_one, closed, filled, with_total}
 use Rattle.state_columns.specs.Region.{range}
 use Rattle.star_file.specs.Rules.{widths}
 

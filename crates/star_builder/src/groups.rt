@@ -5,8 +5,8 @@ ghost use Rattle.state_columns.specs.Region.{range};
 ghost use Rattle.star_builder.specs.Building.{id_of, Rising, Ordinary, group_nodes};
 
 use crate::NoMemory;
-use document_table::StarTable;
-use tree_laws::Node;
+use star_table::StarTable;
+use star_tree::Node;
 
 /// Nodes of level `level + 1`, one for each id that the documents of a range have in a dimension.
 pub fn push_groups(

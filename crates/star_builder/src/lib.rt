@@ -4,11 +4,10 @@
 mod build;
 mod fault;
 mod groups;
+mod growing;
 mod growth;
 mod visit;
 
+pub use agg_laws::NoMemory;
 pub use build::{build_merged, build_tree};
 pub use fault::TreeFault;
-
-/// A growth was refused.
-pub type NoMemory = std::alloc::AllocError;

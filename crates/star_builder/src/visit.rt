@@ -1,26 +1,72 @@
-//! Visits of nodes: each node's children, their children and so on are made, and its total is found.
+//! Visits of nodes: each node's children, their children and so on are made, and its total is
+//! found.
 
-ghost use Rattle.std.specs.Prelude.{◌≡◌, ◌≢◌, ◌<◌, ◌≤◌, ◌+◌, ◌-◌, length, OnOk, IfOk, Err};
-ghost use Rattle.std.specs.Prelude.{not, nat_lt, ◌&&◌, vec_len};
+ghost use Rattle.std.specs.Prelude.{◌≡◌, ◌<◌, ◌≤◌, ◌+◌, OnOk, IfOk, not, nat_lt, ◌&&◌, vec_len};
 ghost use Rattle.agg_laws.specs.Rows.{merged_rows};
 ghost use Rattle.agg_laws.specs.Tree.{skips, has_star};
-ghost use Rattle.tree_laws.specs.Flat.{node_at, opened, filled, with_total, count, visited};
-ghost use Rattle.star_file.specs.Rules.{most_bytes};
-ghost use Rattle.star_builder.specs.Building.{bytes_of, docs_at, kids_at, kids_in, is_leaf};
-ghost use Rattle.star_builder.specs.Building.{leaf_closed, split_closed, visit_node, NodeStands};
-ghost use Rattle.star_builder.specs.Building.{Proper, Standing};
-ghost use Rattle.star_builder.specs.declared.fault.TreeFault.TheVariants as TreeFault;
+ghost use Rattle.star_table.specs.Tables.{KeepsShape};
+ghost use Rattle.star_tree.specs.Flat.{node_at, opened, filled, with_total, visited};
+ghost use Rattle.star_builder.specs.Building.{docs_at, kids_at, kids_in, is_leaf};
+ghost use Rattle.star_builder.specs.Building.{leaf_closed, split_closed, visit_node};
+ghost use Rattle.star_builder.specs.Growing.{AreOpenFrom, Becomes, IsOpenAt, written};
 
 use crate::NoMemory;
 use crate::fault::TreeFault;
 use crate::groups::push_groups;
+use crate::growing::Growing;
 use crate::growth::{add_starred, add_total, count_of, they_fit};
 use agg_laws::TreeShape;
-use document_table::StarTable;
+use star_tree::Node;
 use state_columns::STAR;
-use tree_laws::Node;
 
-/// The range of a node.
+/// Visits a node: its children, their children and so on are made, and each gets its total.
+#[cycle(visit)]
+pub fn visit(tree: &mut Growing, shape: &TreeShape, at: usize, level: u8) -> Result<(), TreeFault>
+    requires { IsOpenAt shape.now level at tree.old }
+    ensures { Becomes shape.now (visit_node shape.now level at (written tree.old))
+        tree.old tree.new result }
+{
+    let (start, end) = bounds(&tree.nodes, at);
+    if ends_here(shape, level, end - start) {
+        return close_leaf(tree, shape, at, level);
+    }
+    let first = tree.nodes.len();
+    let starred = open_node(tree, shape, at, level)?;
+    if !they_fit(shape, &tree.docs, tree.nodes.len()) {
+        return Err(TreeFault::TooLarge);
+    }
+    let children = tree.nodes.len() - first;
+    if let Err(fault) = visit_children(tree, shape, first, children, start, end, level) {
+        return Err(fault);
+    }
+    close_split(tree, shape, at, level, first, children, starred)
+}
+
+// Visits the children of a node with this range.
+#[cycle(visit)]
+fn visit_children(
+    tree: &mut Growing,
+    shape: &TreeShape,
+    first: usize,
+    children: usize,
+    start: u32,
+    end: u32,
+    level: u8,
+) -> Result<(), TreeFault>
+    requires { AreOpenFrom shape.now level start end first children tree.old }
+    ensures { Becomes shape.now (visited merged_rows (level + 1) first
+        (kids_in shape.now level start end (written tree.old)) (written tree.old))
+        tree.old tree.new result }
+{
+    for i in 0..children {
+        if let Err(fault) = visit(tree, shape, first + i, level + 1) {
+            return Err(fault);
+        }
+    }
+    Ok(())
+}
+
+// The range of a node.
 fn bounds(nodes: &Vec<Node>, at: usize) -> (u32, u32)
     requires { at < vec_len nodes.now }
     ensures start { result.0 ≡ (node_at nodes.now.items at).start }
@@ -30,7 +76,7 @@ fn bounds(nodes: &Vec<Node>, at: usize) -> (u32, u32)
     (node.start, node.end)
 }
 
-/// Whether a star child comes last, after so many others.
+// Whether a star child comes last, after so many others.
 fn takes_star(shape: &TreeShape, level: u8, groups: usize) -> bool
     requires { level < 16 }
     ensures { result ≡ (not (skips shape.now level) && nat_lt 1 groups) }
@@ -38,36 +84,25 @@ fn takes_star(shape: &TreeShape, level: u8, groups: usize) -> bool
     !shape.skips(level as usize) && 1 < groups
 }
 
-/// Gives the children of a node the next numbers, and says whether the last is a star child.
-fn open_node(
-    docs: &mut StarTable,
-    nodes: &mut Vec<Node>,
-    shape: &TreeShape,
-    at: usize,
-    level: u8,
-) -> Result<bool, NoMemory>
+// Gives the children of a node the next numbers, and says whether the last is a star child.
+fn open_node(tree: &mut Growing, shape: &TreeShape, at: usize, level: u8) -> Result<bool, NoMemory>
     requires levels { level < shape.now.dims }
-    requires few { shape.now.dims ≤ 16 }
-    requires dims { docs.old.dims ≡ shape.now.dims }
-    requires stands { NodeStands shape.now level at (nodes.old.items, docs.old.docs) }
-    requires small { bytes_of shape.now (nodes.old.items, docs.old.docs) ≤ most_bytes }
-    ensures opened { OnOk result ((nodes.new.items, docs.new.docs)
-        ≡ opened level at (kids_at shape.now level at (nodes.old.items, docs.old.docs))
-        (nodes.old.items, docs.old.docs)) }
+    requires tree { IsOpenAt shape.now level at tree.old }
+    ensures opens { OnOk result (written tree.new
+        ≡ opened level at (kids_at shape.now level at (written tree.old)) (written tree.old)) }
     ensures star { IfOk result (λ b. b
-        ≡ has_star (kids_at shape.now level at (nodes.old.items, docs.old.docs))) }
-    ensures dims { docs.new.dims ≡ docs.old.dims }
-    ensures kinds { docs.new.kinds ≡ docs.old.kinds }
+        ≡ has_star (kids_at shape.now level at (written tree.old))) }
+    ensures shape { KeepsShape tree.old.docs tree.new.docs }
 {
-    let (start, end) = bounds(nodes, at);
-    let first = nodes.len();
-    push_groups(docs, nodes, start, end, level)?;
-    if !takes_star(shape, level, nodes.len() - first) {
+    let (start, end) = bounds(&tree.nodes, at);
+    let first = tree.nodes.len();
+    push_groups(&tree.docs, &mut tree.nodes, start, end, level)?;
+    if !takes_star(shape, level, tree.nodes.len() - first) {
         return Ok(false);
     }
-    let from = count_of(shape, docs);
-    let more = add_starred(docs, start, end, level)?;
-    nodes.push(Node {
+    let from = count_of(shape, &tree.docs);
+    let more = add_starred(&mut tree.docs, start, end, level)?;
+    tree.nodes.push(Node {
         level: level as u32 + 1,
         id: STAR,
         start: from,
@@ -79,7 +114,7 @@ fn open_node(
     Ok(true)
 }
 
-/// What is known of a node once it is visited.
+// What is known of a node once it is visited.
 fn fill(nodes: &mut Vec<Node>, at: usize, total: u32, first: u32, children: u32)
     requires { at < vec_len nodes.old }
     ensures { nodes.new.items ≡ filled at total first children nodes.old.items }
@@ -96,70 +131,41 @@ fn fill(nodes: &mut Vec<Node>, at: usize, total: u32, first: u32, children: u32)
     };
 }
 
-/// Appends the aggregated document of a node.
+// Appends the aggregated document of a node.
 fn close_with_total(
-    docs: &mut StarTable,
-    nodes: &mut Vec<Node>,
+    tree: &mut Growing,
     shape: &TreeShape,
     at: usize,
     level: u8,
     first: u32,
     children: u32,
 ) -> Result<(), TreeFault>
-    requires dims { docs.old.dims ≡ shape.now.dims }
-    requires some_dims { 1 ≤ shape.now.dims }
-    requires few_kinds { length shape.now.kinds ≤ 16 }
-    requires levels { level ≤ shape.now.dims }
-    requires stands { NodeStands shape.now level at (nodes.old.items, docs.old.docs) }
-    requires small { bytes_of shape.now (nodes.old.items, docs.old.docs) ≤ most_bytes }
-    ensures ok { OnOk result ((nodes.new.items, docs.new.docs)
-        ≡ with_total merged_rows level at first children
-        (docs_at at (nodes.old.items, docs.old.docs)) (nodes.old.items, docs.old.docs)) }
-    ensures fits { OnOk result (bytes_of shape.now (nodes.new.items, docs.new.docs) ≤ most_bytes) }
-    ensures too_large { result ≡ Err TreeFault.TooLarge → most_bytes < bytes_of shape.now
-        (with_total merged_rows level at first children
-        (docs_at at (nodes.old.items, docs.old.docs)) (nodes.old.items, docs.old.docs)) }
-    ensures dims { docs.new.dims ≡ docs.old.dims }
-    ensures kinds { docs.new.kinds ≡ docs.old.kinds }
+    requires { IsOpenAt shape.now level at tree.old }
+    ensures { Becomes shape.now (with_total merged_rows level at first children
+        (docs_at at (written tree.old)) (written tree.old)) tree.old tree.new result }
 {
-    let (start, end) = bounds(nodes, at);
-    let total = count_of(shape, docs);
-    add_total(docs, start, end, level)?;
-    fill(nodes, at, total, first, children);
-    if !they_fit(shape, docs, nodes.len()) {
+    let (start, end) = bounds(&tree.nodes, at);
+    let total = count_of(shape, &tree.docs);
+    add_total(&mut tree.docs, start, end, level)?;
+    fill(&mut tree.nodes, at, total, first, children);
+    if !they_fit(shape, &tree.docs, tree.nodes.len()) {
         return Err(TreeFault::TooLarge);
     }
     Ok(())
 }
 
-/// Closes a leaf.
-fn close_leaf(
-    docs: &mut StarTable,
-    nodes: &mut Vec<Node>,
-    shape: &TreeShape,
-    at: usize,
-    level: u8,
-) -> Result<(), TreeFault>
-    requires dims { docs.old.dims ≡ shape.now.dims }
-    requires some_dims { 1 ≤ shape.now.dims }
-    requires few_kinds { length shape.now.kinds ≤ 16 }
-    requires levels { level ≤ shape.now.dims }
-    requires stands { NodeStands shape.now level at (nodes.old.items, docs.old.docs) }
-    requires small { bytes_of shape.now (nodes.old.items, docs.old.docs) ≤ most_bytes }
-    ensures ok { OnOk result ((nodes.new.items, docs.new.docs)
-        ≡ leaf_closed level at (nodes.old.items, docs.old.docs)) }
-    ensures fits { OnOk result (bytes_of shape.now (nodes.new.items, docs.new.docs) ≤ most_bytes) }
-    ensures too_large { result ≡ Err TreeFault.TooLarge → most_bytes < bytes_of shape.now
-        (leaf_closed level at (nodes.old.items, docs.old.docs)) }
-    ensures dims { docs.new.dims ≡ docs.old.dims }
-    ensures kinds { docs.new.kinds ≡ docs.old.kinds }
+// Closes a leaf.
+fn close_leaf(tree: &mut Growing, shape: &TreeShape, at: usize, level: u8) -> Result<(), TreeFault>
+    requires { IsOpenAt shape.now level at tree.old }
+    ensures { Becomes shape.now (leaf_closed level at (written tree.old))
+        tree.old tree.new result }
 {
-    let (start, end) = bounds(nodes, at);
+    let (start, end) = bounds(&tree.nodes, at);
     if end - start == 1 {
-        fill(nodes, at, start, 0, 0);
+        fill(&mut tree.nodes, at, start, 0, 0);
         return Ok(());
     }
-    close_with_total(docs, nodes, shape, at, level, 0, 0)
+    close_with_total(tree, shape, at, level, 0, 0)
 }
 
 fn total_of(nodes: &Vec<Node>, at: usize) -> u32
@@ -169,10 +175,9 @@ fn total_of(nodes: &Vec<Node>, at: usize) -> u32
     nodes[at].total
 }
 
-/// Closes a node that is split.
+// Closes a node that is split.
 fn close_split(
-    docs: &mut StarTable,
-    nodes: &mut Vec<Node>,
+    tree: &mut Growing,
     shape: &TreeShape,
     at: usize,
     level: u8,
@@ -180,117 +185,23 @@ fn close_split(
     children: usize,
     starred: bool,
 ) -> Result<(), TreeFault>
-    requires dims { docs.old.dims ≡ shape.now.dims }
-    requires some_dims { 1 ≤ shape.now.dims }
-    requires few_kinds { length shape.now.kinds ≤ 16 }
-    requires levels { level ≤ shape.now.dims }
-    requires stands { NodeStands shape.now level at (nodes.old.items, docs.old.docs) }
+    requires tree { IsOpenAt shape.now level at tree.old }
     requires some { 0 < children }
-    requires known { first + children ≤ vec_len nodes.old }
-    requires small { bytes_of shape.now (nodes.old.items, docs.old.docs) ≤ most_bytes }
-    ensures ok { OnOk result ((nodes.new.items, docs.new.docs)
-        ≡ split_closed level at first children starred (nodes.old.items, docs.old.docs)) }
-    ensures fits { OnOk result (bytes_of shape.now (nodes.new.items, docs.new.docs) ≤ most_bytes) }
-    ensures too_large { result ≡ Err TreeFault.TooLarge → most_bytes < bytes_of shape.now
-        (split_closed level at first children starred (nodes.old.items, docs.old.docs)) }
-    ensures dims { docs.new.dims ≡ docs.old.dims }
-    ensures kinds { docs.new.kinds ≡ docs.old.kinds }
+    requires known { first + children ≤ vec_len tree.old.nodes }
+    ensures { Becomes shape.now (split_closed level at first children starred (written tree.old))
+        tree.old tree.new result }
 {
     if starred {
-        let total = total_of(nodes, first + (children - 1));
-        fill(nodes, at, total, first as u32, children as u32);
+        let total = total_of(&tree.nodes, first + (children - 1));
+        fill(&mut tree.nodes, at, total, first as u32, children as u32);
         return Ok(());
     }
-    close_with_total(docs, nodes, shape, at, level, first as u32, children as u32)
+    close_with_total(tree, shape, at, level, first as u32, children as u32)
 }
 
-/// Whether a node with so many documents has no children.
+// Whether a node with so many documents has no children.
 fn ends_here(shape: &TreeShape, level: u8, documents: u32) -> bool
     ensures { result ≡ is_leaf shape.now level documents }
 {
     documents <= shape.leaf || level == shape.dims
-}
-
-/// Visits a node: its children, their children and so on are made, and each gets its total.
-#[cycle(visit)]
-pub fn visit(
-    docs: &mut StarTable,
-    nodes: &mut Vec<Node>,
-    shape: &TreeShape,
-    at: usize,
-    level: u8,
-) -> Result<(), TreeFault>
-    requires levels { level ≤ shape.now.dims }
-    requires few { shape.now.dims ≤ 16 }
-    requires some_dims { 1 ≤ shape.now.dims }
-    requires few_kinds { length shape.now.kinds ≤ 16 }
-    requires dims { docs.old.dims ≡ shape.now.dims }
-    requires stands { NodeStands shape.now level at (nodes.old.items, docs.old.docs) }
-    requires small { bytes_of shape.now (nodes.old.items, docs.old.docs) ≤ most_bytes }
-    ensures ok { OnOk result ((nodes.new.items, docs.new.docs)
-        ≡ visit_node shape.now level at (nodes.old.items, docs.old.docs)) }
-    ensures fits { OnOk result (bytes_of shape.now (nodes.new.items, docs.new.docs) ≤ most_bytes) }
-    ensures too_large { result ≡ Err TreeFault.TooLarge → most_bytes < bytes_of shape.now
-        (visit_node shape.now level at (nodes.old.items, docs.old.docs)) }
-    ensures dims { docs.new.dims ≡ docs.old.dims }
-    ensures kinds { docs.new.kinds ≡ docs.old.kinds }
-{
-    let (start, end) = bounds(nodes, at);
-    if ends_here(shape, level, end - start) {
-        return close_leaf(docs, nodes, shape, at, level);
-    }
-    let first = nodes.len();
-    let starred = open_node(docs, nodes, shape, at, level)?;
-    if !they_fit(shape, docs, nodes.len()) {
-        return Err(TreeFault::TooLarge);
-    }
-    let children = nodes.len() - first;
-    if let Err(fault) = visit_kids(docs, nodes, shape, first, children, start, end, level) {
-        return Err(fault);
-    }
-    close_split(docs, nodes, shape, at, level, first, children, starred)
-}
-
-/// Visits the children of a node with this range.
-#[cycle(visit)]
-fn visit_kids(
-    docs: &mut StarTable,
-    nodes: &mut Vec<Node>,
-    shape: &TreeShape,
-    first: usize,
-    children: usize,
-    start: u32,
-    end: u32,
-    level: u8,
-) -> Result<(), TreeFault>
-    requires levels { level < shape.now.dims }
-    requires few { shape.now.dims ≤ 16 }
-    requires few_kinds { length shape.now.kinds ≤ 16 }
-    requires dims { docs.old.dims ≡ shape.now.dims }
-    requires range { (start ≤ end) × (end ≤ length docs.old.docs) }
-    requires within { first + children ≤ vec_len nodes.old }
-    requires children { children ≡ count (kids_in shape.now level start end
-        (nodes.old.items, docs.old.docs)) }
-    requires stand { Standing shape.now (shape.now.dims - (level + 1)) (level + 1) first
-        (kids_in shape.now level start end (nodes.old.items, docs.old.docs))
-        (nodes.old.items, docs.old.docs) }
-    requires small { bytes_of shape.now (nodes.old.items, docs.old.docs) ≤ most_bytes }
-    ensures ok { OnOk result ((nodes.new.items, docs.new.docs)
-        ≡ visited merged_rows (level + 1) first
-        (kids_in shape.now level start end (nodes.old.items, docs.old.docs))
-        (nodes.old.items, docs.old.docs)) }
-    ensures fits { OnOk result (bytes_of shape.now (nodes.new.items, docs.new.docs) ≤ most_bytes) }
-    ensures too_large { result ≡ Err TreeFault.TooLarge → most_bytes < bytes_of shape.now
-        (visited merged_rows (level + 1) first
-        (kids_in shape.now level start end (nodes.old.items, docs.old.docs))
-        (nodes.old.items, docs.old.docs)) }
-    ensures dims { docs.new.dims ≡ docs.old.dims }
-    ensures kinds { docs.new.kinds ≡ docs.old.kinds }
-{
-    for i in 0..children {
-        if let Err(fault) = visit(docs, nodes, shape, first + i, level + 1) {
-            return Err(fault);
-        }
-    }
-    Ok(())
 }

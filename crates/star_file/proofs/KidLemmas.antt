@@ -4,11 +4,11 @@ use Rattle.std.proofs.Common.{◌==◌, if◌then◌else◌, MatchBool, List, []
 use Rattle.std.proofs.Common.{inl, inr, ◌⊎◌, refl, sym, ap, subst, ◌∙◌, arith, length-drop}
 use Rattle.std.proofs.Math.Seq.{drop-cons}
 use Rattle.std.proofs.lemmas.Bool.{eqb-true, eq-eqb}
-use Rattle.tree_laws.specs.declared.node.Node.{Node}
+use Rattle.star_tree.specs.declared.node.Node.{Node}
 use Rattle.agg_laws.specs.declared.tree_shape.TreeShape.{TreeShape}
 use Rattle.agg_laws.specs.Tree.{star, skips}
-use Rattle.tree_laws.specs.NodeRules.{count_at, HaveLevel, AreAbove, Ascend, AreKnown, StarIsLast}
-use Rattle.tree_laws.specs.NodeRules.{Cover, KeepKidsRules}
+use Rattle.star_tree.specs.NodeRules.{count_at, HaveLevel, AreAbove, Ascend, AreKnown, StarIsLast}
+use Rattle.star_tree.specs.NodeRules.{Cover, KeepKidsRules}
 use Rattle.star_file.specs.declared.kids.KidRules.{KidRules}
 use Rattle.star_file.specs.Kids.{KidKeeps}
 

@@ -17,9 +17,9 @@ use Rattle.agg_laws.specs.Tree.{root_of, tree_of}
 use Rattle.state_columns.specs.Docs.{Doc, HaveShape, AreStored}
 use Rattle.state_columns.specs.Documents.{aggregated, documents_of, star_docs, star_from, visit_of}
 use Rattle.state_columns.specs.Documents.{visits_of}
-use Rattle.tree_laws.specs.Flat.{flat}
+use Rattle.star_tree.specs.Flat.{flat}
 use Rattle.state_columns.proofs.DocLemmas.{stored-merged}
-use Rattle.tree_laws.proofs.FlatLemmas.{flat_docs}
+use Rattle.star_tree.proofs.FlatLemmas.{flat_docs}
 use Rattle.state_columns.proofs.RegionSteps.{kinds_merged}
 use Rattle.state_columns.proofs.WeightLemmas.{weights-Merged, weights-filter}
 use Rattle.star_file.specs.Bytes.{doc_bytes, state_bytes, words}

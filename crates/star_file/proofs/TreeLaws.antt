@@ -4,7 +4,7 @@ use Rattle.std.proofs.lemmas.Bool.Decides.{nat_tests}
 use Rattle.std.proofs.lemmas.List.{length-take-le}
 use Rattle.std.proofs.Math.Nat.{mul_comm}
 use Rattle.std.specs.Prelude.{◌↔◌}
-use Rattle.tree_laws.specs.declared.node.Node.{Node}
+use Rattle.star_tree.specs.declared.node.Node.{Node}
 use Rattle.agg_laws.specs.declared.states.AggState.{AggState}
 use Rattle.agg_laws.specs.declared.tree_shape.TreeShape.{TreeShape}
 use Rattle.agg_laws.specs.Rows.{merged_rows}
@@ -12,15 +12,15 @@ use Rattle.agg_laws.specs.Merged.{rekey}
 use Rattle.agg_laws.specs.Tree.{star, agrees, dim, merged_docs, root_of, rows_at, starred, tree_of}
 use Rattle.agg_laws.specs.Tree.{under, HaveNoStar}
 use Rattle.state_columns.specs.Docs.{Doc, HaveIds}
-use Rattle.tree_laws.specs.Flat.{Flat, blank, flat, node_at, tree_bytes}
+use Rattle.star_tree.specs.Flat.{Flat, blank, flat, node_at, tree_bytes}
 use Rattle.state_columns.specs.Region.{range}
-use Rattle.tree_laws.specs.FlatNodes.{IsOfTree}
-use Rattle.tree_laws.specs.NodeRules.{AreCounted, IsRoot, count_at}
+use Rattle.star_tree.specs.FlatNodes.{IsOfTree}
+use Rattle.star_tree.specs.NodeRules.{AreCounted, IsRoot, count_at}
 use Rattle.state_columns.proofs.DocLemmas.{rows_join}
-use Rattle.tree_laws.proofs.FlatLemmas.{Outside, same_unvisited, more_docs, visit_grows}
-use Rattle.tree_laws.proofs.FlatTrees.{nodes_of_tree}
-use Rattle.tree_laws.proofs.RuleLemmas.{rules_kept}
-use Rattle.tree_laws.proofs.TreeLemmas.{none_merged}
+use Rattle.star_tree.proofs.FlatLemmas.{Outside, same_unvisited, more_docs, visit_grows}
+use Rattle.star_tree.proofs.FlatTrees.{nodes_of_tree}
+use Rattle.star_tree.proofs.RuleLemmas.{rules_kept}
+use Rattle.star_tree.proofs.TreeLemmas.{none_merged}
 use Rattle.star_file.specs.Rules.{AreWords, KeepAll, most_bytes, widths}
 
 -- ---- the root, and where there are no rows

@@ -1,9 +1,9 @@
--- The bytes of nodes and documents: numbers of four bytes with the highest first, and states as they
--- are spelled.
-use Rattle.std.specs.Prelude.{◌≡◌, ℕ, List, [], ◌∷◌, ◌++◌}
+-- The bytes of nodes and documents: numbers of four bytes with the highest first, and states as
+-- they are spelled.
+use Rattle.std.specs.Prelude.{◌≡◌, ℕ, List, [], ◌∷◌, ◌++◌, Result, OnOk}
 use Rattle.std.specs.Int.{w32, to_be_bytes}
 use Rattle.agg_laws.specs.declared.states.AggState.{AggState}
-use Rattle.tree_laws.specs.declared.node.Node.{Node}
+use Rattle.star_tree.specs.declared.node.Node.{Node}
 use Rattle.agg_laws.specs.States.{spelling}
 use Rattle.state_columns.specs.Docs.{Doc}
 
@@ -38,3 +38,8 @@ doc_bytes (e ∷ es) = (words e.0 ++ state_bytes e.1) ++ doc_bytes es
 -- a list that was added to at its end
 abbrev pub IsExtended : List ℕ → List ℕ → Type 0
 IsExtended old new = (more : List ℕ) × (new ≡ old ++ more)
+
+-- a call has added these bytes to a list; where it was refused, it may have added others
+pub record Adds {E : Type 0} (bytes old new : List ℕ) (result : Result (Unit {0}) E) : Type 0 where
+  pub ok : OnOk result (new ≡ old ++ bytes)
+  pub kept : IsExtended old new

@@ -1,6 +1,6 @@
 -- What is asked of one child of a node, as they are looked at in turn.
 use Rattle.std.specs.Prelude.{◌≡◌, ◌≢◌, ℕ, suc, ◌-◌, ◌<◌, ◌≤◌, false}
-use Rattle.tree_laws.specs.declared.node.Node.{Node}
+use Rattle.star_tree.specs.declared.node.Node.{Node}
 use Rattle.agg_laws.specs.Tree.{star}
 use Rattle.star_file.specs.declared.kids.KidRules.{KidRules}
 

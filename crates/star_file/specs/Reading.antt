@@ -7,7 +7,7 @@ use Rattle.outside.specs.declared.place.Place.{Place}
 use Rattle.agg_laws.specs.declared.tree_shape.TreeShape.{TreeShape}
 use Rattle.agg_laws.specs.Rows.{kinds_of, RowStored}
 use Rattle.agg_laws.specs.Tree.{star}
-use Rattle.state_columns.specs.Docs.{Doc}
+use Rattle.state_columns.specs.Docs.{Doc, HaveShape, AreStored, Docs}
 use Rattle.star_file.specs.Bytes.{words, state_bytes}
 use Rattle.star_file.specs.Rules.{widths}
 
@@ -67,3 +67,15 @@ IsPart held name from to bytes =
 -- where files are told, the one of this name ends before this offset
 abbrev pub EndsBefore : Option Files → List ℕ → ℕ → Type 0
 EndsBefore held name to = IfSome held (λ files. length (bytes_of (Some files) name) < to)
+
+-- documents of a shape can be read, where each dimension has so many ids
+pub record AreReadable (shape : TreeShape) (counts : List ℕ) : Type 0 where
+  pub counts_are : length counts ≡ shape.dims
+  pub few : length shape.kinds ≤ 16
+
+-- a table has a document with this number, and its documents can be written
+pub record IsWritable (at : ℕ) (table : Docs) : Type 0 where
+  pub there : at < length table.docs
+  pub few_kinds : length table.kinds ≤ 16
+  pub shape : HaveShape table.dims table.kinds table.docs
+  pub stored : AreStored table.docs

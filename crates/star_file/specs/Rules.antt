@@ -3,11 +3,11 @@ use Rattle.std.specs.Prelude.{◌≡◌, ℕ, zero, suc, ◌+◌, ◌-◌, ◌*�
 use Rattle.std.specs.Prelude.{drop}
 use Rattle.std.specs.Int.{w32, from_be_bytes}
 use Rattle.agg_laws.specs.declared.aggregate_kind.AggKind.{AggKind}
-use Rattle.tree_laws.specs.declared.node.Node.{Node}
+use Rattle.star_tree.specs.declared.node.Node.{Node}
 use Rattle.agg_laws.specs.declared.tree_shape.TreeShape.{TreeShape}
 use Rattle.agg_laws.specs.Kind.{width_of}
-use Rattle.tree_laws.specs.Flat.{node_at}
-use Rattle.tree_laws.specs.NodeRules.{KeepsRules, IsRoot}
+use Rattle.star_tree.specs.Flat.{node_at}
+use Rattle.star_tree.specs.NodeRules.{KeepsRules, IsRoot}
 
 -- the bytes of states of some kinds
 abbrev pub widths : List AggKind → ℕ
@@ -61,3 +61,9 @@ count_in bytes = (length bytes - 4) / 28
 pub record KeepsSection (shape : TreeShape) (counts : List ℕ) (bytes : List ℕ) : Type 0 where
   pub long : length bytes ≡ 4 + 28 * count_in bytes
   pub keeps : KeepAll shape counts (number_at 0 bytes) (nodes_in (count_in bytes) (drop 4 bytes))
+
+-- a shape within its bounds, and how many ids each of its dimensions has
+pub record IsCounted (shape : TreeShape) (counts : List ℕ) : Type 0 where
+  pub few_dims : shape.dims ≤ 16
+  pub few_kinds : length shape.kinds ≤ 16
+  pub counts_are : length counts ≡ shape.dims

@@ -1,14 +1,15 @@
 //! Bytes read as the nodes of a tree.
 
 ghost use Rattle.std.specs.Prelude.{◌≡◌, ◌≤◌, ◌+◌, ◌-◌, ◌*◌, length, drop, IfOk, IfErr};
-ghost use Rattle.star_file.specs.Rules.{number_at, node_in, nodes_in, count_in, KeepsSection};
+ghost use Rattle.star_file.specs.Rules.{number_at, node_in, nodes_in, count_in};
+ghost use Rattle.star_file.specs.Rules.{IsCounted, KeepsSection};
 
 use crate::NoMemory;
 use crate::node_list::Nodes;
 use crate::rules::nodes_keep;
 use agg_laws::TreeShape;
+use star_tree::Node;
 use std::alloc::{AllocError, Global};
-use tree_laws::Node;
 
 /// Why bytes are no nodes of a tree.
 #[derive(Clone, Copy, Debug, PartialEq, Eq)]
@@ -75,9 +76,7 @@ pub fn check_nodes(
     counts: &[u32],
     bytes: &[u8],
 ) -> Result<(u32, Nodes), NodesFault>
-    requires counts { length counts.now ≡ shape.now.dims }
-    requires dims { shape.now.dims ≤ 16 }
-    requires kinds { length shape.now.kinds ≤ 16 }
+    requires { IsCounted shape.now counts.now }
     ensures documents { IfOk result (λ found. found.0 ≡ number_at 0 bytes.now) }
     ensures nodes { IfOk result (λ found. found.1
         ≡ nodes_in (count_in bytes.now) (drop 4 bytes.now)) }

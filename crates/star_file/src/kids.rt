@@ -1,13 +1,13 @@
 //! The rules on the children of a node.
 
 ghost use Rattle.std.specs.Prelude.{◌≡◌, ◌≤◌, ◌<◌, ◌+◌, ◌-◌, ◌==◌, ◌↔◌, IsTrue, if◌then◌else◌, length};
-ghost use Rattle.tree_laws.specs.NodeRules.{count_at, KeepKidsRules};
+ghost use Rattle.star_tree.specs.NodeRules.{KeepKidsRules};
 ghost use Rattle.agg_laws.specs.Tree.{skips, star};
 ghost use Rattle.star_file.specs.Kids.{KidKeeps};
 
 use agg_laws::TreeShape;
+use star_tree::Node;
 use state_columns::STAR;
-use tree_laws::Node;
 
 /// What is asked of each child of a node.
 #[derive(Clone, Copy)]

@@ -1,14 +1,14 @@
 //! The laws of nodes as bytes. Each is the contract of a function that does nothing of its own.
 
 ghost use Rattle.std.specs.Prelude.{◌≡◌, ℕ, ◌+◌, ◌*◌, ◌^◌, ◌<◌, ◌≤◌, List, length};
-ghost use Rattle.tree_laws.specs.declared.node.Node.{Node};
+ghost use Rattle.star_tree.specs.declared.node.Node.{Node};
 ghost use Rattle.agg_laws.specs.declared.tree_shape.TreeShape.{TreeShape};
 ghost use Rattle.agg_laws.specs.Rows.{merged_rows};
 ghost use Rattle.state_columns.specs.Docs.{Doc, HaveIds, HaveShape, AreStored};
 ghost use Rattle.agg_laws.specs.Tree.{star, tree_of, HaveNoStar};
-ghost use Rattle.tree_laws.specs.Flat.{flat, tree_bytes};
+ghost use Rattle.star_tree.specs.Flat.{flat, tree_bytes};
 ghost use Rattle.state_columns.specs.Region.{range};
-ghost use Rattle.tree_laws.specs.NodeRules.{count_at, AreCounted};
+ghost use Rattle.star_tree.specs.NodeRules.{count_at, AreCounted};
 ghost use Rattle.star_file.specs.Bytes.{doc_bytes, nodes_section};
 ghost use Rattle.star_file.specs.Reading.{DocsHaveIds, HasDocuments, SpellDocs};
 ghost use Rattle.star_file.specs.Rules.{widths, most_bytes, AreWords, KeepAll, KeepsSection};

@@ -19,11 +19,9 @@ pub use doc_reading::width_of;
 pub use docs_fault::DocsFault;
 pub use laws::{docs_law, nodes_law};
 pub use node_list::Nodes;
+pub use outside::NoMemory;
 pub use reading::read_docs;
 pub use rules::few_bytes;
+pub use star_tree::Node;
 pub use tree::StarTree;
-pub use tree_laws::Node;
 pub use writing::{write_docs, write_nodes};
-
-/// A growth was refused.
-pub type NoMemory = std::alloc::AllocError;

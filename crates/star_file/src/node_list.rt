@@ -4,9 +4,9 @@ ghost use Rattle.std.specs.Prelude.{◌≡◌, ◌<◌, ◌==◌, [], ◌∷◌,
 ghost use Rattle.std.specs.Prelude.{OnErr};
 
 use crate::NoMemory;
+use star_tree::Node;
 use std::alloc::Global;
 use std::marker::Model;
-use tree_laws::Node;
 
 /// The nodes of a star-tree, by number.
 #[derive(Drop)]
@@ -16,7 +16,7 @@ pub struct Nodes {
 
 impl Model for Nodes {
     ghost use Rattle.std.specs.Prelude.{List};
-    ghost use Rattle.tree_laws.specs.declared.node.Node.{Node};
+    ghost use Rattle.star_tree.specs.declared.node.Node.{Node};
 
     ghost Value = { List Node };
 

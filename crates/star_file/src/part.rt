@@ -1,13 +1,12 @@
 //! A part of a file is read.
-ghost use Rattle.std.specs.Prelude.{◌≡◌, ◌≤◌, ◌<◌, ◌+◌, ◌-◌, ◌^◌, ◌↔◌, IfOk, OnErr, IsErrOf};
+ghost use Rattle.std.specs.Prelude.{◌≡◌, ◌<◌, ◌+◌, ◌-◌, ◌^◌, ◌↔◌, IfOk, OnErr, IsErrOf};
 ghost use Rattle.std.specs.Prelude.{length};
 ghost use Rattle.outside.specs.Reads.{LogsOn, LogsUpTo};
 ghost use Rattle.outside.specs.Seen.{OnlyReads, seen};
 ghost use Rattle.star_file.specs.Reading.{IsPart, EndsBefore};
 
 use crate::docs_fault::DocsFault;
-use file_reading::read_bytes;
-use outside::{Bytes, Shelf, ShelfFault};
+use outside::{Bytes, Shelf, ShelfFault, read_bytes};
 use std::alloc::Global;
 
 /// The bytes of a file between two places after an offset. A file that is not there has no bytes.

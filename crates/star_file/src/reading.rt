@@ -5,15 +5,16 @@ ghost use Rattle.std.specs.Prelude.{length, List};
 ghost use Rattle.outside.specs.Reads.{LogsOn, LogsUpTo};
 ghost use Rattle.outside.specs.Seen.{OnlyReads, seen};
 ghost use Rattle.state_columns.specs.Docs.{Doc};
-ghost use Rattle.star_file.specs.Reading.{doc_width, section, HasDocuments};
+ghost use Rattle.star_file.specs.Reading.{doc_width, section, AreReadable, HasDocuments};
+ghost use Rattle.star_table.specs.Tables.{IsOfShape};
 ghost use Rattle.star_file.specs.declared.docs_fault.DocsFault.TheVariants as DocsFault;
 
 use crate::doc_reading::{docs_from, width_of};
 use crate::docs_fault::DocsFault;
 use crate::part::read_part;
 use agg_laws::TreeShape;
-use document_table::StarTable;
 use outside::{Place, Shelf};
+use star_table::StarTable;
 use std::alloc::Global;
 
 /// The documents of a section between two numbers, the second left out. It reads their bytes and no
@@ -29,13 +30,11 @@ pub fn read_docs<S: Shelf>(
 ) -> Result<StarTable, DocsFault>
     requires order { from ≤ to }
     requires dims { 1 ≤ shape.now.dims }
-    requires counts { length counts.now ≡ shape.now.dims }
-    requires few { length shape.now.kinds ≤ 16 }
+    requires shape { AreReadable shape.now counts.now }
     ensures docs { IfOk result (λ table. IfSome (S.held shelf.old) (λ files.
         HasDocuments shape.now counts.now from to (section files place.now) table.docs)) }
     ensures number { IfOk result (λ table. length table.docs ≡ to - from) }
-    ensures dims { IfOk result (λ table. table.dims ≡ shape.now.dims) }
-    ensures kinds { IfOk result (λ table. table.kinds ≡ shape.now.kinds) }
+    ensures shape { IfOk result (IsOfShape shape.now.dims shape.now.kinds) }
     ensures only_reads { OnlyReads (IsErrOf result DocsFault.ReadFault)
         (seen S.Shelf shelf.old) (seen S.Shelf shelf.new) }
     ensures log { IfOk result (λ table. LogsOn place.now.file

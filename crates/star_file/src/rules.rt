@@ -1,96 +1,50 @@
 //! The rules on the nodes of a tree.
 
-ghost use Rattle.std.specs.Prelude.{◌≡◌, ◌≤◌, ◌<◌, ◌+◌, ◌-◌, ◌*◌, ◌↔◌, ◌⊎◌, IsTrue, length, List, ℕ};
-ghost use Rattle.std.specs.Prelude.{IfOk, [], take};
+ghost use Rattle.std.specs.Prelude.{◌≡◌, ◌≤◌, ◌<◌, ◌+◌, ◌-◌, ◌*◌, ◌↔◌, ◌⊎◌, IsTrue, length, ℕ};
 ghost use Rattle.state_columns.specs.Region.{range};
-ghost use Rattle.tree_laws.specs.Flat.{node_at};
-ghost use Rattle.tree_laws.specs.NodeRules.{KeepKidsRules, KeepsRules, IsRoot};
-ghost use Rattle.star_file.specs.Rules.{widths, KeepAll};
+ghost use Rattle.star_tree.specs.NodeRules.{KeepKidsRules, KeepsRules, IsRoot};
+ghost use Rattle.star_file.specs.Rules.{widths, IsCounted, KeepAll};
 
 use crate::kids::kids_keep;
 use agg_laws::{AggKind, TreeShape};
+use star_tree::Node;
 use state_columns::STAR;
-use tree_laws::Node;
 
 const MOST_BYTES: u64 = 134217728;
 
-/// As many nodes as a tree may have.
+// As many nodes as a tree may have.
 const MOST_NODES: usize = 4793490;
 
-/// Whether a leaf keeps the rules on its documents.
-fn leaf_keeps(shape: &TreeShape, node: &Node) -> bool
-    ensures { IsTrue result ↔ ((node.now.first ≡ 0) × ((node.now.end - node.now.start
-        ≤ shape.now.leaf) ⊎ ((node.now.level ≡ shape.now.dims) × (node.now.end - node.now.start
-        ≡ 1)))) }
-{
-    let size = node.end.saturating_sub(node.start);
-    node.first == 0 && (size <= shape.leaf || (node.level == shape.dims as u32 && size == 1))
+// A tree whose nodes are checked: its shape, how many ids each dimension has, how many documents
+// there are, and its nodes.
+#[derive(Clone, Copy)]
+struct CheckedTree<'a> {
+    shape: &'a TreeShape,
+    counts: &'a [u32],
+    documents: u32,
+    nodes: &'a [Node],
+    ghost few_dims: { shape.now.dims ≤ 16 },
+    ghost counts_are: { length counts.now ≡ shape.now.dims },
 }
 
-/// Whether a split node keeps the rules on its children.
-fn split_keeps(shape: &TreeShape, counts: &[u32], nodes: &[Node], at: usize, node: &Node) -> bool
-    requires counts { length counts.now ≡ shape.now.dims }
-    requires dims { shape.now.dims ≤ 16 }
-    ensures { IsTrue result ↔ ((node.now.level < shape.now.dims) × (at < node.now.first)
-        × (node.now.first + node.now.children ≤ length nodes.now)
-        × KeepKidsRules shape.now counts.now node.now.level node.now.start node.now.end (range
-        node.now.first (node.now.first + node.now.children) nodes.now)) }
+/// Whether the nodes of a tree of so many documents keep all rules.
+pub fn nodes_keep(shape: &TreeShape, counts: &[u32], documents: u32, nodes: &[Node]) -> bool
+    requires { IsCounted shape.now counts.now }
+    ensures { IsTrue result ↔ KeepAll shape.now counts.now documents nodes.now }
 {
-    let first = node.first as usize;
-    let end = first + node.children as usize;
-    if node.level >= shape.dims as u32 || first <= at || end > nodes.len() {
+    if !few_bytes(shape, documents, nodes.len()) {
         return false;
     }
-    kids_keep(shape, counts, node, &nodes[first..end])
-}
-
-/// Whether a node keeps the rules.
-fn node_keeps(shape: &TreeShape, counts: &[u32], documents: u32, nodes: &[Node], at: usize) -> bool
-    requires at { at < length nodes.now }
-    requires counts { length counts.now ≡ shape.now.dims }
-    requires dims { shape.now.dims ≤ 16 }
-    ensures { IsTrue result ↔ KeepsRules shape.now shape.now.dims counts.now documents nodes.now at }
-{
-    let node = nodes[at];
-    if node.level > shape.dims as u32 || node.start >= node.end {
-        return false;
+    if nodes.is_empty() || documents == 0 {
+        return nodes.is_empty() && documents == 0;
     }
-    if node.end > documents || node.total >= documents {
-        return false;
-    }
-    if node.children == 0 {
-        leaf_keeps(shape, &node)
-    } else {
-        split_keeps(shape, counts, nodes, at, &node)
-    }
-}
-
-/// Whether each node does.
-fn each_keeps(shape: &TreeShape, counts: &[u32], documents: u32, nodes: &[Node]) -> bool
-    requires counts { length counts.now ≡ shape.now.dims }
-    requires dims { shape.now.dims ≤ 16 }
-    ensures { IsTrue result ↔ ((at : ℕ) → at < length nodes.now
-        → KeepsRules shape.now shape.now.dims counts.now documents nodes.now at) }
-{
-    for at in 0..nodes.len() {
-        if !node_keeps(shape, counts, documents, nodes, at) {
-            return false;
-        }
-    }
-    true
-}
-
-/// The bytes of states of some kinds.
-pub fn widths(kinds: &[AggKind]) -> u32
-    requires { length kinds.now ≤ 16 }
-    ensures value { result ≡ widths kinds.now }
-    ensures bound { result ≤ 384 }
-{
-    let mut sum: u32 = 0;
-    for i in 0..kinds.len() {
-        sum += kinds[i].width() as u32;
-    }
-    sum
+    let tree = CheckedTree {
+        shape,
+        counts,
+        documents,
+        nodes,
+    };
+    is_root(&nodes[0]) && each_keeps(&tree)
 }
 
 /// Whether a tree takes no more bytes than one may.
@@ -106,25 +60,82 @@ pub fn few_bytes(shape: &TreeShape, documents: u32, nodes: usize) -> bool
     documents as u64 * width as u64 + 28 * nodes as u64 <= MOST_BYTES
 }
 
-/// Whether the first node is a root.
+/// The bytes of states of some kinds.
+pub fn widths(kinds: &[AggKind]) -> u32
+    requires { length kinds.now ≤ 16 }
+    ensures value { result ≡ widths kinds.now }
+    ensures bound { result ≤ 384 }
+{
+    let mut sum: u32 = 0;
+    for i in 0..kinds.len() {
+        sum += kinds[i].width() as u32;
+    }
+    sum
+}
+
+// Whether a leaf keeps the rules on its documents.
+fn leaf_keeps(shape: &TreeShape, node: &Node) -> bool
+    ensures { IsTrue result ↔ ((node.now.first ≡ 0) × ((node.now.end - node.now.start
+        ≤ shape.now.leaf) ⊎ ((node.now.level ≡ shape.now.dims) × (node.now.end - node.now.start
+        ≡ 1)))) }
+{
+    let size = node.end.saturating_sub(node.start);
+    node.first == 0 && (size <= shape.leaf || (node.level == shape.dims as u32 && size == 1))
+}
+
+// Whether a split node keeps the rules on its children.
+fn split_keeps(tree: &CheckedTree<'_>, at: usize, node: &Node) -> bool
+    ensures { IsTrue result ↔ ((node.now.level < tree.now.shape.now.dims) × (at < node.now.first)
+        × (node.now.first + node.now.children ≤ length tree.now.nodes.now)
+        × KeepKidsRules tree.now.shape.now tree.now.counts.now node.now.level node.now.start
+        node.now.end (range node.now.first (node.now.first + node.now.children)
+        tree.now.nodes.now)) }
+{
+    let first = node.first as usize;
+    let end = first + node.children as usize;
+    if node.level >= tree.shape.dims as u32 || first <= at || end > tree.nodes.len() {
+        return false;
+    }
+    kids_keep(tree.shape, tree.counts, node, &tree.nodes[first..end])
+}
+
+// Whether a node keeps the rules.
+fn node_keeps(tree: &CheckedTree<'_>, at: usize) -> bool
+    requires { at < length tree.now.nodes.now }
+    ensures { IsTrue result ↔ KeepsRules tree.now.shape.now tree.now.shape.now.dims
+        tree.now.counts.now tree.now.documents tree.now.nodes.now at }
+{
+    let node = tree.nodes[at];
+    if node.level > tree.shape.dims as u32 || node.start >= node.end {
+        return false;
+    }
+    if node.end > tree.documents || node.total >= tree.documents {
+        return false;
+    }
+    if node.children == 0 {
+        leaf_keeps(tree.shape, &node)
+    } else {
+        split_keeps(tree, at, &node)
+    }
+}
+
+// Whether each node does.
+fn each_keeps(tree: &CheckedTree<'_>) -> bool
+    ensures { IsTrue result ↔ ((at : ℕ) → at < length tree.now.nodes.now
+        → KeepsRules tree.now.shape.now tree.now.shape.now.dims tree.now.counts.now
+        tree.now.documents tree.now.nodes.now at) }
+{
+    for at in 0..tree.nodes.len() {
+        if !node_keeps(tree, at) {
+            return false;
+        }
+    }
+    true
+}
+
+// Whether the first node is a root.
 fn is_root(node: &Node) -> bool
     ensures { IsTrue result ↔ IsRoot node.now }
 {
     node.level == 0 && node.id == STAR && node.start == 0
-}
-
-/// Whether the nodes of a tree of so many documents keep all rules.
-pub fn nodes_keep(shape: &TreeShape, counts: &[u32], documents: u32, nodes: &[Node]) -> bool
-    requires counts { length counts.now ≡ shape.now.dims }
-    requires dims { shape.now.dims ≤ 16 }
-    requires kinds { length shape.now.kinds ≤ 16 }
-    ensures { IsTrue result ↔ KeepAll shape.now counts.now documents nodes.now }
-{
-    if !few_bytes(shape, documents, nodes.len()) {
-        return false;
-    }
-    if nodes.is_empty() || documents == 0 {
-        return nodes.is_empty() && documents == 0;
-    }
-    is_root(&nodes[0]) && each_keeps(shape, counts, documents, nodes)
 }

@@ -1,7 +1,7 @@
 //! A star-tree, written flat.
 
 use crate::node_list::Nodes;
-use document_table::StarTable;
+use star_table::StarTable;
 
 /// A star-tree: its documents and its nodes, by number.
 #[derive(Drop)]

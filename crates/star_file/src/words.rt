@@ -1,25 +1,22 @@
 //! Numbers and states as bytes.
 
-ghost use Rattle.std.specs.Prelude.{◌≡◌, ◌∷◌, [], ◌++◌, OnOk, length};
-ghost use Rattle.agg_laws.specs.Kind.{width_of};
-ghost use Rattle.agg_laws.specs.States.{kind_of, spelling, IsStored};
-ghost use Rattle.star_file.specs.Bytes.{words, IsExtended};
+ghost use Rattle.std.specs.Prelude.{◌∷◌, []};
+ghost use Rattle.agg_laws.specs.States.{spelling, IsStored};
+ghost use Rattle.star_file.specs.Bytes.{words, Adds};
 
 use crate::NoMemory;
 use agg_laws::AggState;
 
 /// Appends a number of four bytes.
 pub fn push_word(word: u32, out: &mut Vec<u8>) -> Result<(), NoMemory>
-    ensures ok { OnOk result (out.new.items ≡ out.old.items ++ words (word ∷ [])) }
-    ensures kept { IsExtended out.old.items out.new.items }
+    ensures { Adds (words (word ∷ [])) out.old.items out.new.items result }
 {
     out.extend_from_slice(&word.to_be_bytes())
 }
 
 /// Appends numbers of four bytes.
 pub fn push_words(numbers: &[u32], out: &mut Vec<u8>) -> Result<(), NoMemory>
-    ensures ok { OnOk result (out.new.items ≡ out.old.items ++ words numbers.now) }
-    ensures kept { IsExtended out.old.items out.new.items }
+    ensures { Adds (words numbers.now) out.old.items out.new.items result }
 {
     for i in 0..numbers.len() {
         push_word(numbers[i], out)?;
@@ -30,8 +27,7 @@ pub fn push_words(numbers: &[u32], out: &mut Vec<u8>) -> Result<(), NoMemory>
 /// Appends a state.
 pub fn push_state(state: &AggState, out: &mut Vec<u8>) -> Result<(), NoMemory>
     requires { IsStored state.now }
-    ensures ok { OnOk result (out.new.items ≡ out.old.items ++ spelling state.now) }
-    ensures kept { IsExtended out.old.items out.new.items }
+    ensures { Adds (spelling state.now) out.old.items out.new.items result }
 {
     let mut room = [0u8; 24];
     let spelled = &mut room[..state.kind().width()];

@@ -1,15 +1,16 @@
 //! Star-trees are written.
 
-ghost use Rattle.std.specs.Prelude.{◌≡◌, ◌<◌, ◌≤◌, ◌^◌, ◌++◌, ◌∷◌, [], OnOk, OnErr, length, drop};
-ghost use Rattle.state_columns.specs.Docs.{doc_at, HaveShape, AreStored};
-ghost use Rattle.star_file.specs.Bytes.{words, node_words, node_bytes, nodes_section, state_bytes};
-ghost use Rattle.star_file.specs.Bytes.{doc_bytes, IsExtended};
+ghost use Rattle.std.specs.Prelude.{◌≡◌, ◌<◌, ◌≤◌, ◌^◌, ◌++◌, OnOk, OnErr, length};
+ghost use Rattle.state_columns.specs.Docs.{doc_at};
+ghost use Rattle.star_file.specs.Bytes.{words, node_words, nodes_section, state_bytes};
+ghost use Rattle.star_file.specs.Bytes.{doc_bytes, Adds};
+ghost use Rattle.star_file.specs.Reading.{IsWritable};
 
 use crate::NoMemory;
 use crate::tree::StarTree;
 use crate::words::{push_state, push_word, push_words};
-use document_table::StarTable;
-use tree_laws::Node;
+use star_table::StarTable;
+use star_tree::Node;
 
 /// Appends how many documents a tree has, and its nodes.
 pub fn write_nodes(tree: &StarTree, out: &mut Vec<u8>) -> Result<(), NoMemory>
@@ -28,9 +29,8 @@ pub fn write_nodes(tree: &StarTree, out: &mut Vec<u8>) -> Result<(), NoMemory>
 
 fn push_nodes(tree: &StarTree, out: &mut Vec<u8>) -> Result<(), NoMemory>
     requires { length tree.now.docs.docs < 2 ^ 32 }
-    ensures ok { OnOk result (out.new.items
-        ≡ out.old.items ++ nodes_section (length tree.now.docs.docs) tree.now.nodes) }
-    ensures kept { IsExtended out.old.items out.new.items }
+    ensures { Adds (nodes_section (length tree.now.docs.docs) tree.now.nodes)
+        out.old.items out.new.items result }
 {
     let nodes = tree.nodes.as_slice();
     out.reserve(nodes.len().saturating_mul(28).saturating_add(4))?;
@@ -42,8 +42,8 @@ fn push_nodes(tree: &StarTree, out: &mut Vec<u8>) -> Result<(), NoMemory>
 }
 
 fn push_node(node: &Node, out: &mut Vec<u8>) -> Result<(), NoMemory>
-    ensures ok { OnOk result (out.new.items ≡ out.old.items ++ words (node_words node.now)) }
-    ensures kept { IsExtended out.old.items out.new.items }
+    ensures { Adds (words (node_words node.now))
+        out.old.items out.new.items result }
 {
     let numbers = [
         node.level,
@@ -75,8 +75,8 @@ pub fn write_docs(tree: &StarTree, out: &mut Vec<u8>) -> Result<(), NoMemory>
 fn push_docs(docs: &StarTable, out: &mut Vec<u8>) -> Result<(), NoMemory>
     requires few { length docs.now.docs < 2 ^ 32 }
     requires kinds { length docs.now.kinds ≤ 16 }
-    ensures ok { OnOk result (out.new.items ≡ out.old.items ++ doc_bytes docs.now.docs) }
-    ensures kept { IsExtended out.old.items out.new.items }
+    ensures { Adds (doc_bytes docs.now.docs)
+        out.old.items out.new.items result }
 {
     for at in 0..docs.len() as u32 {
         push_doc(docs, at, out)?;
@@ -85,24 +85,19 @@ fn push_docs(docs: &StarTable, out: &mut Vec<u8>) -> Result<(), NoMemory>
 }
 
 fn push_doc(docs: &StarTable, at: u32, out: &mut Vec<u8>) -> Result<(), NoMemory>
-    requires at { at < length docs.now.docs }
-    requires kinds { length docs.now.kinds ≤ 16 }
-    requires shape { HaveShape docs.now.dims docs.now.kinds docs.now.docs }
-    requires stored { AreStored docs.now.docs }
-    ensures ok { OnOk result (out.new.items ≡ out.old.items
-        ++ (words (doc_at docs.now.docs at).0 ++ state_bytes (doc_at docs.now.docs at).1)) }
-    ensures kept { IsExtended out.old.items out.new.items }
+    requires { IsWritable at docs.now }
+    ensures { Adds (words (doc_at docs.now.docs at).0
+        ++ state_bytes (doc_at docs.now.docs at).1)
+        out.old.items out.new.items result }
 {
     push_ids(docs, at, out)?;
     push_states(docs, at, out)
 }
 
 fn push_ids(docs: &StarTable, at: u32, out: &mut Vec<u8>) -> Result<(), NoMemory>
-    requires at { at < length docs.now.docs }
-    requires shape { HaveShape docs.now.dims docs.now.kinds docs.now.docs }
-    ensures ok { OnOk result (out.new.items
-        ≡ out.old.items ++ words (doc_at docs.now.docs at).0) }
-    ensures kept { IsExtended out.old.items out.new.items }
+    requires { IsWritable at docs.now }
+    ensures { Adds (words (doc_at docs.now.docs at).0)
+        out.old.items out.new.items result }
 {
     for level in 0..docs.dims() {
         push_word(docs.dim(at, level), out)?;
@@ -111,13 +106,9 @@ fn push_ids(docs: &StarTable, at: u32, out: &mut Vec<u8>) -> Result<(), NoMemory
 }
 
 fn push_states(docs: &StarTable, at: u32, out: &mut Vec<u8>) -> Result<(), NoMemory>
-    requires at { at < length docs.now.docs }
-    requires kinds { length docs.now.kinds ≤ 16 }
-    requires shape { HaveShape docs.now.dims docs.now.kinds docs.now.docs }
-    requires stored { AreStored docs.now.docs }
-    ensures ok { OnOk result (out.new.items
-        ≡ out.old.items ++ state_bytes (doc_at docs.now.docs at).1) }
-    ensures kept { IsExtended out.old.items out.new.items }
+    requires { IsWritable at docs.now }
+    ensures { Adds (state_bytes (doc_at docs.now.docs at).1)
+        out.old.items out.new.items result }
 {
     for pair in 0..docs.kinds().len() as u8 {
         push_state(&docs.state(at, pair), out)?;

@@ -110,20 +110,20 @@ module _ (words : List ℕ) (from at : ℕ) (heads slots slots' : List ℕ)
   passed same = record {
     long = long';
     among = h.among;
-    place = λ k l turns. placed k (cases_lt k (at - from)) l turns;
+    place = λ k l other. placed k (cases_lt k (at - from)) l other;
   }
     where
       placed : (k : ℕ) → k < at - from ⊎ (at - from ≤ k) → k < at + 1 - from
           → (0 < from + k → key_in (get_or words (from + k - 1) 0) ≢ key_in (get_or words (from + k) 0))
           → (get_or slots' k 0 < length heads)
           × (get_or heads (get_or slots' k 0) 0 ≡ get_or words (from + k) 0)
-      placed k (inl l) _ turns =
-          let old = h.place k l turns in
+      placed k (inl l) _ other =
+          let old = h.place k l other in
           (omega (arith, old.0, before k l), ap (λ j. get_or heads j 0) (before k l) ∙ old.1)
-      placed k (inr l) more turns =
+      placed k (inr l) more other =
           let e : from + k ≡ at = omega (arith, l, more, lo) in
           absurd (subst (λ i. 0 < i → key_in (get_or words (i - 1) 0) ≢ key_in (get_or words i 0)) e
-          turns same.0 same.1)
+          other same.0 same.1)
 
   -- it has not
   pub taken : (heads' : List ℕ) → heads' ≡ heads ++ (get_or words at 0 ∷ [])
@@ -131,7 +131,7 @@ module _ (words : List ℕ) (from at : ℕ) (heads slots slots' : List ℕ)
   taken heads' more_is = record {
     long = long';
     among = λ n below. all_more n below;
-    place = λ k l turns. placed k (cases_lt k (at - from)) l turns;
+    place = λ k l other. placed k (cases_lt k (at - from)) l other;
   }
     where
       longer : length heads' ≡ length heads + 1
@@ -147,15 +147,15 @@ module _ (words : List ℕ) (from at : ℕ) (heads slots slots' : List ℕ)
           → (0 < from + k → key_in (get_or words (from + k - 1) 0) ≢ key_in (get_or words (from + k) 0))
           → (get_or slots' k 0 < length heads')
           × (get_or heads' (get_or slots' k 0) 0 ≡ get_or words (from + k) 0)
-      placed k (inl l) _ turns =
-          let old = h.place k l turns in (
+      placed k (inl l) _ other =
+          let old = h.place k l other in (
             omega (arith, old.0, before k l, longer),
             ap (λ (xs : List ℕ). get_or xs (get_or slots' k 0) 0) more_is
                 ∙ ap (λ j. get_or (heads ++ (get_or words at 0 ∷ [])) j 0) (before k l)
                 ∙ get_or_append_left heads (get_or words at 0 ∷ []) 0 (get_or slots k 0) old.0
                 ∙ old.1,
           )
-      placed k (inr l) more turns =
+      placed k (inr l) more other =
           let e : at - from ≡ k = omega (arith, l, more, lo) in
           let f : at ≡ from + k = omega (arith, l, more, lo) in
           let here : get_or slots' k 0 ≡ length heads = subst (λ j. get_or slots' j 0 ≡ length heads) e own in (
@@ -220,14 +220,14 @@ module _ {X : Type 0} (d : X) (words : List ℕ) (from to : ℕ) (le : from ≤ 
   module _ (heads slots : List ℕ) (are : AreHeads words from to heads slots)
       (is : block ≡ picked d heads columns) (i place : ℕ) (low : from ≤ i) (high : i < to)
       (place_is : place ≡ get_or slots (i - from) 0)
-      (turns : 0 < i → key_in (get_or words (i - 1) 0) ≢ key_in (get_or words i 0)) where
+      (other : 0 < i → key_in (get_or words (i - 1) 0) ≢ key_in (get_or words i 0)) where
     at : i ≡ from + (i - from)
     at = omega (arith, low)
 
     placed : (get_or slots (i - from) 0 < length heads)
         × (get_or heads (get_or slots (i - from) 0) 0 ≡ get_or words (from + (i - from)) 0)
     placed = are.place (i - from) (omega (arith, low, high))
-        (subst (λ j. 0 < j → key_in (get_or words (j - 1) 0) ≢ key_in (get_or words j 0)) at turns)
+        (subst (λ j. 0 < j → key_in (get_or words (j - 1) 0) ≢ key_in (get_or words j 0)) at other)
 
     pub head_row : row_at d place block ≡ row_at d (row_in (get_or words i 0)) columns
     head_row = ap (row_at d place) is

@@ -24,7 +24,7 @@ use Rattle.state_columns.proofs.WeightLemmas.{weights-add}
 use Rattle.state_columns.proofs.DocLemmas.{rows_join}
 use Rattle.state_columns.proofs.MergeSteps.{none_above, put_at_end}
 use Rattle.state_columns.proofs.PlaceMerge.{put_at}
-use Rattle.document_table.proofs.StarSteps.{length_numbers}
+use Rattle.star_table.proofs.StarSteps.{length_numbers}
 use Rattle.star_rows.specs.Columns.{row_at, rows_of}
 use Rattle.star_records.specs.Folding.{Ends}
 use Rattle.star_rows.specs.Words.{ids_at, row_in, key_in, states_at}

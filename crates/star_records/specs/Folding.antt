@@ -7,6 +7,7 @@ use Rattle.state_columns.specs.Docs.{Doc, Docs}
 use Rattle.agg_laws.specs.Merged.{weights}
 use Rattle.agg_laws.specs.Rows.{merged_rows, row_weight}
 use Rattle.agg_laws.specs.Tree.{merged_docs}
+use Rattle.star_rows.specs.Columns.{row_count}
 use Rattle.star_rows.specs.Words.{ids_at, key_in, row_in, states_at}
 
 -- some rows as documents
@@ -49,4 +50,26 @@ AllZero numbers = (i : ℕ) → i < length numbers → get_or numbers i (pos 0) 
 -- so many columns are known, and those that are marked have zeros alone
 pub record AreZero (marks : List Bool) (columns : List (List ℤ)) : Type 0 where
   pub long : length marks ≡ length columns
-  pub zero : (i : ℕ) → i < length columns → get_or marks i false ≡ true → AllZero (get_or columns i [])
+  pub zero : (i : ℕ) → i < length columns → get_or marks i false ≡ true
+      → AllZero (get_or columns i [])
+
+-- columns of ids and of numbers for a table, with an entry for each row
+pub record FitTable (ids : List (List ℕ)) (values : List (List ℤ)) (table : Docs) : Type 0 where
+  pub dims : length ids ≡ table.dims
+  pub metrics : length values ≡ length table.kinds
+  pub ids_long : All (λ c. length c ≡ row_count ids) ids
+  pub values_long : All (λ c. length c ≡ row_count ids) values
+
+-- the states of one row were merged into those of the last document
+pub record MergesRow (states : List AggState) (old new : Docs) : Type 0 where
+  pub merged : (front : List Doc) (e : Doc) → old.docs ≡ front ++ e ∷ []
+      → new.docs ≡ front ++ (e.0, merged_rows e.1 states) ∷ []
+  pub weighs : row_weight states ≤ 1
+  pub dims : new.dims ≡ old.dims
+  pub kinds : new.kinds ≡ old.kinds
+
+-- the documents of a table with those of equal ids merged
+pub record IsMergedOf (rows table : Docs) : Type 0 where
+  pub dims : table.dims ≡ rows.dims
+  pub kinds : table.kinds ≡ rows.kinds
+  pub docs_are : table.docs ≡ merged_docs merged_rows rows.docs

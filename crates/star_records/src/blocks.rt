@@ -11,6 +11,14 @@ use outside::Seq;
 use star_rows::{MOST_ROWS, NumberColumns, PairNumbers, repeats};
 use std::alloc::Global;
 
+/// The words from one number up to another.
+#[derive(Clone, Copy)]
+pub(crate) struct Block {
+    pub from: usize,
+    pub to: usize,
+    ghost ordered: { from ≤ to },
+}
+
 /// The words that have not the key of the one before them, and for each word how many of these came
 /// before it.
 #[derive(Drop)]
@@ -43,7 +51,8 @@ pub(crate) fn numbers_at(
     zeros: &[bool],
     words: &[u32],
 ) -> Result<Seq<Seq<i64>>, NoMemory>
-    requires below { All (λ column. All (λ word. row_in word < length column) words.now) columns.now }
+    requires below { All (λ column. All (λ word. row_in word
+        < length column) words.now) columns.now }
     requires known { AreZero zeros.now columns.now }
     ensures { IfOk result (λ block. (d : ℤ) → block ≡ picked d words.now columns.now) }
 {
@@ -66,21 +75,15 @@ pub(crate) fn zero_columns(alloc: Global, columns: &NumberColumns) -> Result<Vec
     Ok(zeros)
 }
 
-/// Those words of a range that have not the key of the one before them.
-pub(crate) fn heads_of(
-    alloc: Global,
-    words: &[u32],
-    from: usize,
-    to: usize,
-) -> Result<Heads, NoMemory>
-    requires range { from ≤ to }
-    requires within { to ≤ length words.now }
+/// Those words of a block that have not the key of the one before them.
+pub(crate) fn heads_of(alloc: Global, words: &[u32], block: Block) -> Result<Heads, NoMemory>
+    requires { block.to ≤ length words.now }
     ensures { IfOk result
-        (λ heads. AreHeads words.now from to heads.words.items heads.slots.items) }
+        (λ heads. AreHeads words.now block.from block.to heads.words.items heads.slots.items) }
 {
     let mut heads = Vec::new(alloc);
-    let mut slots = Vec::with_capacity(alloc, to - from)?;
-    for at in from..to {
+    let mut slots = Vec::with_capacity(alloc, block.to - block.from)?;
+    for at in block.from..block.to {
         slots.push(heads.as_slice().len())?;
         if !repeats(words, at) {
             heads.push(words[at])?;
@@ -92,13 +95,12 @@ pub(crate) fn heads_of(
     })
 }
 
-/// A range of words.
-pub(crate) fn part(words: &[u32], from: usize, to: usize) -> &[u32]
-    requires range { from ≤ to }
-    requires within { to ≤ length words.now }
-    ensures { result.now ≡ take (to - from) (drop from words.now) }
+/// The words of a block.
+pub(crate) fn part(words: &[u32], block: Block) -> &[u32]
+    requires { block.to ≤ length words.now }
+    ensures { result.now ≡ take (block.to - block.from) (drop block.from words.now) }
 {
-    &words[from..to]
+    &words[block.from..block.to]
 }
 
 // What a column has in the rows of some words.

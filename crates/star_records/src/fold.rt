@@ -1,23 +1,24 @@
 //! Rows that are in the order of their ids, merged one by one.
 
-ghost use Rattle.std.specs.Prelude.{◌≡◌, ◌+◌, ◌-◌, ◌≤◌, ◌<◌, ◌++◌, ◌∷◌, [], List, length};
+ghost use Rattle.std.specs.Prelude.{◌≡◌, ◌≤◌, ◌<◌, length};
 ghost use Rattle.std.specs.Prelude.{All, IfOk, OnOk};
 ghost use Rattle.agg_laws.specs.Numbers.{most_stored, AreWhole};
 ghost use Rattle.agg_laws.specs.Rows.{merged_rows, row_weight};
 ghost use Rattle.agg_laws.specs.Merged.{weights};
-ghost use Rattle.state_columns.specs.Docs.{projected, Doc};
+ghost use Rattle.state_columns.specs.Docs.{projected};
 ghost use Rattle.agg_laws.specs.Tree.{merged_docs};
 ghost use Rattle.star_rows.specs.Columns.{row_count, rows_of};
-ghost use Rattle.star_records.specs.Folding.{AreZero, HasMerged};
+ghost use Rattle.star_rows.specs.Projection.{GainsRow, HasColumns, HasRow, IsTableOf};
+ghost use Rattle.star_records.specs.Folding.{AreZero, FitTable, HasMerged, MergesRow};
 ghost use Rattle.star_rows.specs.Words.{ids_at, states_at};
 ghost use Rattle.star_records.specs.Words.{InOrder};
 
 use crate::NoMemory;
-use crate::blocks::{columns_at, heads_of, numbers_at, part, zero_columns};
+use crate::blocks::{Block, columns_at, heads_of, numbers_at, part, zero_columns};
 use agg_laws::TreeShape;
-use document_table::StarTable;
 use outside::Seq;
 use star_rows::{NumberColumns, read_row, repeats};
+use star_table::StarTable;
 use std::alloc::Global;
 
 // So many rows are gathered at once. Of fewer, each would be on a page of its own in its column.
@@ -32,34 +33,21 @@ pub(crate) fn merge_in_order(
     metrics: &NumberColumns,
     words: &[u32],
 ) -> Result<StarTable, NoMemory>
-    requires kinds { length shape.now.kinds ≤ 16 }
-    requires dims { length dims.now ≡ shape.now.dims }
-    requires metrics { length metrics.now ≡ length shape.now.kinds }
-    requires ids_long { All (λ c. length c ≡ row_count dims.now) dims.now }
-    requires values_long { All (λ c. length c ≡ row_count dims.now) metrics.now }
+    requires columns { HasColumns shape.now dims.now metrics.now }
     requires few { row_count dims.now ≤ most_stored }
     requires order { InOrder (row_count dims.now) dims.now words.now }
-    ensures dims { IfOk result (λ table. table.dims ≡ shape.now.dims) }
-    ensures kinds { IfOk result (λ table. table.kinds ≡ shape.now.kinds) }
-    ensures docs { IfOk result (λ table. table.docs ≡ merged_docs merged_rows (projected
-        shape.now.kinds (rows_of (row_count dims.now) dims.now metrics.now))) }
-    ensures light { IfOk result (λ table. weights row_weight table.docs ≤ row_count dims.now) }
+    ensures { IfOk result (IsTableOf shape.now (merged_docs merged_rows (projected
+        shape.now.kinds (rows_of (row_count dims.now) dims.now metrics.now)))
+        (row_count dims.now)) }
 {
     let mut table = StarTable::new(alloc, shape)?;
     let zeros = zero_columns(alloc, metrics)?;
     let mut from = 0;
     while from < words.len() {
         let to = block_end(from, words.len());
-        merge_block(
-            alloc,
-            &mut table,
-            dims,
-            metrics,
-            zeros.as_slice(),
-            words,
-            from,
-            to,
-        )?;
+        let block = Block { from, to };
+        let marks = zeros.as_slice();
+        merge_block(alloc, &mut table, dims, metrics, marks, words, block)?;
         from = to;
     }
     Ok(table)
@@ -85,40 +73,35 @@ fn merge_block(
     metrics: &NumberColumns,
     zeros: &[bool],
     words: &[u32],
-    from: usize,
-    to: usize,
+    block: Block,
 ) -> Result<(), NoMemory>
-    requires dims { length dims.now ≡ table.old.dims }
-    requires metrics { length metrics.now ≡ length table.old.kinds }
-    requires ids_long { All (λ c. length c ≡ row_count dims.now) dims.now }
-    requires values_long { All (λ c. length c ≡ row_count dims.now) metrics.now }
+    requires columns { FitTable dims.now metrics.now table.old }
     requires zeros { AreZero zeros.now metrics.now }
     requires few { row_count dims.now ≤ most_stored }
     requires order { InOrder (row_count dims.now) dims.now words.now }
-    requires range { from ≤ to }
-    requires within { to ≤ length words.now }
-    requires begun { HasMerged table.old.kinds dims.now metrics.now words.now from table.old }
+    requires within { block.to ≤ length words.now }
+    requires begun { HasMerged table.old.kinds dims.now metrics.now words.now block.from table.old }
     ensures merged { OnOk result
-        (HasMerged table.old.kinds dims.now metrics.now words.now to table.new) }
+        (HasMerged table.old.kinds dims.now metrics.now words.now block.to table.new) }
     ensures dims { OnOk result (table.new.dims ≡ table.old.dims) }
 {
-    let numbers = numbers_at(alloc, metrics, zeros, part(words, from, to))?;
-    let heads = heads_of(alloc, words, from, to)?;
+    let numbers = numbers_at(alloc, metrics, zeros, part(words, block))?;
+    let heads = heads_of(alloc, words, block)?;
     let ids = columns_at(alloc, dims, heads.words.as_slice())?;
     let slots = heads.slots.as_slice();
     let mut id_row = Vec::with_capacity(alloc, dims.len())?;
     let mut values = Vec::with_capacity(alloc, metrics.len())?;
-    for at in from..to {
+    for at in block.from..block.to {
         if repeats(words, at) {
-            merge_row(table, &numbers, at - from, &mut values)?;
+            merge_row(table, &numbers, at - block.from, &mut values)?;
         } else {
-            let place = slots[at - from];
+            let place = slots[at - block.from];
             append_row(
                 table,
                 &ids,
                 place,
                 &numbers,
-                at - from,
+                at - block.from,
                 &mut id_row,
                 &mut values,
             )?;
@@ -149,12 +132,8 @@ fn merge_row(
     requires long { All (λ c. row < length c) metrics.now }
     requires some { 0 < length table.old.docs }
     requires light { weights row_weight table.old.docs < most_stored }
-    ensures merged { OnOk result ((front : List Doc) (e : Doc) → table.old.docs ≡ front ++ e ∷ []
-        → table.new.docs
-        ≡ front ++ (e.0, merged_rows e.1 (states_at table.old.kinds metrics.now row)) ∷ []) }
-    ensures weighs { OnOk result (row_weight (states_at table.old.kinds metrics.now row) ≤ 1) }
-    ensures dims { OnOk result (table.new.dims ≡ table.old.dims) }
-    ensures kinds { OnOk result (table.new.kinds ≡ table.old.kinds) }
+    ensures { OnOk result (MergesRow (states_at table.old.kinds metrics.now row)
+        table.old table.new) }
 {
     read_row(metrics, row, values)?;
     are_whole(values.as_slice());
@@ -172,15 +151,9 @@ fn append_row(
     ids: &mut Vec<u32>,
     values: &mut Vec<i64>,
 ) -> Result<(), NoMemory>
-    requires dims { length dims.now ≡ table.old.dims }
-    requires metrics { length metrics.now ≡ length table.old.kinds }
-    requires ids_long { All (λ c. place < length c) dims.now }
-    requires values_long { All (λ c. row < length c) metrics.now }
-    ensures appended { OnOk result (table.new.docs ≡ table.old.docs
-        ++ (ids_at dims.now place, states_at table.old.kinds metrics.now row) ∷ []) }
-    ensures weighs { OnOk result (row_weight (states_at table.old.kinds metrics.now row) ≤ 1) }
-    ensures dims { OnOk result (table.new.dims ≡ table.old.dims) }
-    ensures kinds { OnOk result (table.new.kinds ≡ table.old.kinds) }
+    requires { HasRow place row dims.now metrics.now table.old }
+    ensures { OnOk result (GainsRow (ids_at dims.now place)
+        (states_at table.old.kinds metrics.now row) table.old table.new) }
 {
     read_row(dims, place, ids)?;
     read_row(metrics, row, values)?;

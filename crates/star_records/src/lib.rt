@@ -11,7 +11,5 @@ mod sorting;
 mod words;
 
 pub use merging::merge_equal;
+pub use outside::NoMemory;
 pub use projection::project_merged;
-
-/// A growth was refused.
-pub type NoMemory = std::alloc::AllocError;

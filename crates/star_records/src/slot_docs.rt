@@ -4,22 +4,22 @@ ghost use Rattle.std.specs.Prelude.{◌≡◌, ◌<◌, ◌≤◌, length, pos, 
 ghost use Rattle.std.specs.Prelude.{IfOk, OnOk};
 ghost use Rattle.state_columns.specs.Columns.{row_at};
 ghost use Rattle.state_columns.specs.Docs.{projected};
-ghost use Rattle.agg_laws.specs.Merged.{weights};
 ghost use Rattle.agg_laws.specs.Numbers.{most_stored, AreWhole};
-ghost use Rattle.agg_laws.specs.Rows.{merged_rows, row_weight};
+ghost use Rattle.agg_laws.specs.Rows.{merged_rows};
 ghost use Rattle.agg_laws.specs.States.{unit_of};
 ghost use Rattle.agg_laws.specs.Tree.{merged_docs};
 ghost use Rattle.star_rows.specs.Columns.{row_count, rows_of};
 ghost use Rattle.star_rows.specs.Numbers.{numbers_of};
-ghost use Rattle.star_records.specs.Slots.{AllHold, AreSlots, HoldsSlots};
+ghost use Rattle.star_rows.specs.Projection.{HasColumns, IsTableOf};
+ghost use Rattle.star_records.specs.Slots.{AllHold, AreSlots, AreSlotsOf, HoldsSlots, IsEmptyFor};
 
 use crate::NoMemory;
 use crate::blocks::columns_at;
 use crate::slots::Slots;
 use agg_laws::{AggKind, AggState, TreeShape};
-use document_table::StarTable;
 use outside::Seq;
 use star_rows::{NumberColumns, PairNumbers, read_row};
+use star_table::StarTable;
 use state_columns::StateColumn;
 use std::alloc::Global;
 
@@ -32,18 +32,11 @@ pub(crate) fn merge_slots(
     metrics: &NumberColumns,
     slots: Slots,
 ) -> Result<StarTable, NoMemory>
-    requires kinds { length shape.now.kinds ≤ 16 }
-    requires dims { length dims ≡ shape.now.dims }
-    requires metrics { length metrics.now ≡ length shape.now.kinds }
-    requires ids_long { All (λ c. length c ≡ row_count dims) dims }
-    requires values_long { All (λ c. length c ≡ row_count dims) metrics.now }
+    requires columns { HasColumns shape.now dims metrics.now }
     requires few { row_count dims ≤ most_stored }
     requires slots { AreSlots (row_count dims) dims slots.slots.items slots.rows.items }
-    ensures dims { IfOk result (λ table. table.dims ≡ shape.now.dims) }
-    ensures kinds { IfOk result (λ table. table.kinds ≡ shape.now.kinds) }
-    ensures docs { IfOk result (λ table. table.docs ≡ merged_docs merged_rows (projected
-        shape.now.kinds (rows_of (row_count dims) dims metrics.now))) }
-    ensures light { IfOk result (λ table. weights row_weight table.docs ≤ row_count dims) }
+    ensures { IfOk result (IsTableOf shape.now (merged_docs merged_rows (projected
+        shape.now.kinds (rows_of (row_count dims) dims metrics.now))) (row_count dims)) }
 {
     let kinds = shape.kinds.as_slice();
     let Slots { slots, rows } = slots;
@@ -76,8 +69,7 @@ fn fold_columns(
 ) -> Result<Vec<StateColumn>, NoMemory>
     requires metrics { length metrics.now ≡ length kinds.now }
     requires long { All (λ c. length c ≡ length slots.now) metrics.now }
-    requires few { length slots.now ≤ most_stored }
-    requires below { All (λ slot. slot < count) slots.now }
+    requires slots { AreSlotsOf count slots.now }
     ensures { IfOk result (λ columns. AllHold count slots.now kinds.now metrics.now columns.items) }
 {
     let mut columns = Vec::with_capacity(alloc, kinds.len())?;
@@ -97,8 +89,7 @@ fn fold_column(
     count: usize,
 ) -> Result<StateColumn, NoMemory>
     requires long { length (numbers_of numbers) ≡ length slots.now }
-    requires few { length slots.now ≤ most_stored }
-    requires below { All (λ slot. slot < count) slots.now }
+    requires slots { AreSlotsOf count slots.now }
     ensures states { IfOk result (HoldsSlots kind count slots.now (numbers_of numbers.entry)) }
     ensures whole { IfOk result (λ _. AreWhole (numbers_of numbers.entry)) }
 {
@@ -123,10 +114,7 @@ fn units(alloc: Global, kind: AggKind, count: usize) -> Result<StateColumn, NoMe
 // Adds the number of each row to the state in the row's slot.
 fn add_pair(column: &mut StateColumn, slots: &[u32], numbers: PairNumbers)
     requires long { length (numbers_of numbers) ≡ length slots.now }
-    requires few { length slots.now ≤ most_stored }
-    requires below { All (λ slot. slot < length column.old.states) slots.now }
-    requires empty { column.old.states
-        ≡ replicate (length column.old.states) (unit_of column.old.kind) }
+    requires slots { IsEmptyFor slots.now column.old }
     ensures states { HoldsSlots column.old.kind (length column.old.states) slots.now
         (numbers_of numbers.entry) column.new }
     ensures whole { AreWhole (numbers_of numbers.entry) }
@@ -140,10 +128,7 @@ fn add_pair(column: &mut StateColumn, slots: &[u32], numbers: PairNumbers)
 // The same, where the numbers are stored.
 fn add_numbers(column: &mut StateColumn, slots: &[u32], numbers: &[i64])
     requires long { length numbers.now ≡ length slots.now }
-    requires few { length slots.now ≤ most_stored }
-    requires below { All (λ slot. slot < length column.old.states) slots.now }
-    requires empty { column.old.states
-        ≡ replicate (length column.old.states) (unit_of column.old.kind) }
+    requires slots { IsEmptyFor slots.now column.old }
     ensures states { HoldsSlots column.old.kind (length column.old.states) slots.now numbers.now
         column.new }
     ensures whole { AreWhole numbers.now }
@@ -155,10 +140,7 @@ fn add_numbers(column: &mut StateColumn, slots: &[u32], numbers: &[i64])
 
 // The same, where they are zeros.
 fn add_zeros(column: &mut StateColumn, slots: &[u32])
-    requires few { length slots.now ≤ most_stored }
-    requires below { All (λ slot. slot < length column.old.states) slots.now }
-    requires empty { column.old.states
-        ≡ replicate (length column.old.states) (unit_of column.old.kind) }
+    requires { IsEmptyFor slots.now column.old }
     ensures states { HoldsSlots column.old.kind (length column.old.states) slots.now
         (replicate (length slots.now) (pos 0)) column.new }
     ensures whole { AreWhole (replicate (length slots.now) (pos 0)) }

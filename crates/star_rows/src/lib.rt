@@ -3,14 +3,12 @@
 #![tactic(auto)]
 
 mod compare;
+mod key_change;
 mod numbers;
 mod projection;
-mod turning;
 
 pub use compare::compare_dims;
+pub use key_change::{MOST_ROWS, changes_key, changes_wide_key, repeats};
 pub use numbers::{NumberColumns, PairNumbers};
+pub use outside::NoMemory;
 pub use projection::{project, read_row};
-pub use turning::{MOST_ROWS, repeats, turns, wide_turns};
-
-/// A growth was refused.
-pub type NoMemory = std::alloc::AllocError;

@@ -12,8 +12,8 @@ use Rattle.agg_laws.specs.Tree.{CoversRows, HaveNoStar}
 use Rattle.state_columns.specs.Docs.{HaveIds}
 use Rattle.state_columns.specs.Documents.{star_from, aggregated}
 use Rattle.state_columns.proofs.ListLemmas.{same_dims}
-use Rattle.tree_laws.proofs.TreeLemmas.{agrees_star}
-use Rattle.tree_laws.proofs.NodeLemmas.{dim-after}
+use Rattle.star_tree.proofs.TreeLemmas.{agrees_star}
+use Rattle.star_tree.proofs.NodeLemmas.{dim-after}
 
 -- these ids are those of one of the entries
 abbrev pub Among : {S : Type 0} → List ℕ → List (List ℕ × S) → Type 0

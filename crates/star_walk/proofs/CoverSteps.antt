@@ -15,10 +15,10 @@ use Rattle.state_columns.specs.Documents.{total_below, total_doc}
 use Rattle.agg_laws.specs.Tree.{star, dim, Nodes, none, node, has_star, agrees, CoversRows, Covers}
 use Rattle.agg_laws.specs.Tree.{CoversTree, HaveNoStar}
 use Rattle.state_columns.specs.Region.{range}
-use Rattle.tree_laws.specs.Picks.{Task, quiet, is_taken, holds_from, picks_here, picks_of, picks}
-use Rattle.tree_laws.specs.Picks.{times, KeepGroups, IsPartedBy, ArePartedBy}
-use Rattle.tree_laws.specs.Picks as nested
-use Rattle.tree_laws.proofs.TreeLemmas.{length_more}
+use Rattle.star_tree.specs.Picks.{Task, quiet, is_taken, holds_from, picks_here, picks_of, picks}
+use Rattle.star_tree.specs.Picks.{times, KeepGroups, IsPartedBy, ArePartedBy}
+use Rattle.star_tree.specs.Picks as nested
+use Rattle.star_tree.proofs.TreeLemmas.{length_more}
 use Rattle.star_walk.specs.declared.pick.Pick.{Pick}
 use Rattle.star_walk.specs.Images.{bare, shown, AreWithin}
 use Rattle.star_walk.specs.Covering.{covers, counts, IsCovered, AreCovered, HaveValues, has_number}

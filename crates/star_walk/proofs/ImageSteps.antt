@@ -5,15 +5,15 @@ use Rattle.std.proofs.Common.{arith, drop-cons}
 use Rattle.std.proofs.lemmas.Bool.{ne_eqb, eq-eqb}
 use Rattle.std.proofs.lemmas.List.{map-append}
 use Rattle.agg_laws.specs.declared.states.AggState.{AggState}
-use Rattle.tree_laws.specs.declared.node.Node.{Node}
+use Rattle.star_tree.specs.declared.node.Node.{Node}
 use Rattle.agg_laws.specs.Rows.{merged_rows}
 use Rattle.state_columns.specs.Docs.{Doc}
 use Rattle.state_columns.specs.Documents.{total_doc}
 use Rattle.agg_laws.specs.Tree.{star, Nodes, none, node, has_star}
-use Rattle.tree_laws.specs.Flat.{Flat, blank, node_at, count, KidsHaveDocs, IsNode, FlatAt}
+use Rattle.star_tree.specs.Flat.{Flat, blank, node_at, count, KidsHaveDocs, IsNode, FlatAt}
 use Rattle.state_columns.specs.Region.{range}
-use Rattle.tree_laws.specs.Picks.{Task, quiet, is_taken, picks_here, picks_of, picks}
-use Rattle.tree_laws.specs.Picks as nested
+use Rattle.star_tree.specs.Picks.{Task, quiet, is_taken, picks_here, picks_of, picks}
+use Rattle.star_tree.specs.Picks as nested
 use Rattle.star_walk.specs.declared.pick.Pick.{Pick}
 use Rattle.star_walk.specs.Walking.{whole_pick, has_star_among, taken}
 use Rattle.star_walk.specs.Walking.{node_picks, tree_picks}

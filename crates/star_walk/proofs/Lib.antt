@@ -4,6 +4,5 @@ pub mod WithinSteps
 pub mod TreePicks
 pub mod CoverLemmas
 pub mod CoverSteps
-pub mod JoinSteps
+pub mod CoalesceSteps
 pub mod TestSteps
-pub mod KeySteps

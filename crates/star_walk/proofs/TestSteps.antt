@@ -7,7 +7,7 @@ use Rattle.std.proofs.Math.Seq.{take-suc}
 use Rattle.std.proofs.lemmas.List.{map-append}
 use Rattle.state_columns.specs.Docs.{Doc, doc_at}
 use Rattle.agg_laws.specs.Tree.{dim}
-use Rattle.tree_laws.specs.Picks.{holds_from}
+use Rattle.star_tree.specs.Picks.{holds_from}
 use Rattle.state_columns.proofs.ListLemmas.{append_none}
 use Rattle.star_walk.specs.Walking.{task_of, some_ids, is_among, passes}
 

@@ -5,11 +5,11 @@ use Rattle.agg_laws.specs.declared.tree_shape.TreeShape.{TreeShape}
 use Rattle.agg_laws.specs.Rows.{merged_rows}
 use Rattle.state_columns.specs.Docs.{Doc, HaveIds}
 use Rattle.agg_laws.specs.Tree.{HaveNoStar, Nodes, none, merged_docs, root_of, tree_of}
-use Rattle.tree_laws.specs.Flat.{Flat, flat, node_at}
-use Rattle.tree_laws.specs.FlatNodes.{IsOfTree}
-use Rattle.tree_laws.specs.Picks.{Task, picks}
+use Rattle.star_tree.specs.Flat.{Flat, flat, node_at}
+use Rattle.star_tree.specs.FlatNodes.{IsOfTree}
+use Rattle.star_tree.specs.Picks.{Task, picks}
 use Rattle.state_columns.proofs.DocLemmas.{rows_join}
-use Rattle.tree_laws.proofs.FlatTrees.{nodes_of_tree, tree_flat}
+use Rattle.star_tree.proofs.FlatTrees.{nodes_of_tree, tree_flat}
 use Rattle.star_walk.specs.Walking.{tree_picks}
 use Rattle.star_walk.specs.Images.{bare, shown, AreWithin}
 use Rattle.star_walk.proofs.ImageSteps.{tree_same}

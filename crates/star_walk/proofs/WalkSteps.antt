@@ -7,10 +7,10 @@ use Rattle.std.proofs.Math.Seq.{take-suc}
 use Rattle.std.proofs.lemmas.Bool.{cases_lt}
 use Rattle.std.proofs.lemmas.List.{get_or-drop}
 use Rattle.state_columns.proofs.ListLemmas.{append_none}
-use Rattle.tree_laws.specs.declared.node.Node.{Node}
-use Rattle.tree_laws.specs.Flat.{blank, node_at}
+use Rattle.star_tree.specs.declared.node.Node.{Node}
+use Rattle.star_tree.specs.Flat.{blank, node_at}
 use Rattle.state_columns.specs.Region.{range}
-use Rattle.tree_laws.specs.Picks.{Task, quiet, is_taken}
+use Rattle.star_tree.specs.Picks.{Task, quiet, is_taken}
 use Rattle.star_walk.specs.declared.pick.Pick.{Pick}
 use Rattle.star_walk.specs.Walking.{whole_pick, leaf_pick, kids_of, has_star_among, taken}
 use Rattle.star_walk.specs.Walking.{node_picks}

@@ -5,13 +5,13 @@ use Rattle.std.proofs.Common.{arith, length-drop}
 use Rattle.std.specs.List.{filter}
 use Rattle.std.proofs.lemmas.List.{length-take-le}
 use Rattle.agg_laws.specs.declared.states.AggState.{AggState}
-use Rattle.tree_laws.specs.declared.node.Node.{Node}
+use Rattle.star_tree.specs.declared.node.Node.{Node}
 use Rattle.state_columns.specs.Docs.{Doc}
 use Rattle.state_columns.specs.Region.{range}
-use Rattle.tree_laws.specs.Flat.{node_at}
-use Rattle.tree_laws.specs.Picks.{Task, quiet, is_taken, holds_from}
-use Rattle.tree_laws.specs.Picks as nested
-use Rattle.tree_laws.specs.Groups as nested_groups
+use Rattle.star_tree.specs.Flat.{node_at}
+use Rattle.star_tree.specs.Picks.{Task, quiet, is_taken, holds_from}
+use Rattle.star_tree.specs.Picks as nested
+use Rattle.star_tree.specs.Groups as nested_groups
 use Rattle.star_walk.specs.declared.pick.Pick.{Pick}
 use Rattle.star_walk.specs.Walking.{whole_pick, leaf_pick, kids_of, has_star_among, taken}
 use Rattle.star_walk.specs.Walking.{node_picks, tree_picks}

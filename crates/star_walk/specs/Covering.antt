@@ -5,7 +5,7 @@ use Rattle.std.specs.Prelude.{count_by, nat_le, nat_lt}
 use Rattle.std.specs.List.{list_any}
 use Rattle.state_columns.specs.Docs.{Doc}
 use Rattle.agg_laws.specs.Tree.{dim, agrees}
-use Rattle.tree_laws.specs.Picks.{Task, holds_from}
+use Rattle.star_tree.specs.Picks.{Task, holds_from}
 use Rattle.star_walk.specs.declared.pick.Pick.{Pick}
 
 -- a document stands for a row that has its id on each dimension on which the document has no star

@@ -4,8 +4,8 @@ use Rattle.std.specs.List.{filter}
 use Rattle.agg_laws.specs.declared.states.AggState.{AggState}
 use Rattle.state_columns.specs.Docs.{Doc}
 use Rattle.state_columns.specs.Region.{range}
-use Rattle.tree_laws.specs.Picks.{Task, holds_from}
-use Rattle.tree_laws.specs.Picks as nested
+use Rattle.star_tree.specs.Picks.{Task, holds_from}
+use Rattle.star_tree.specs.Picks as nested
 use Rattle.star_walk.specs.declared.pick.Pick.{Pick}
 
 -- the level of a pick and its documents, of a nested tree and among the documents of a flat one

@@ -1,4 +1,4 @@
 pub mod Walking
 pub mod Images
-pub mod Joins
+pub mod Coalescing
 pub mod Covering

@@ -1,10 +1,10 @@
 -- What a walk picks of the nodes of a tree that is written flat.
 use Rattle.std.specs.Prelude.{◌≡◌, ℕ, zero, suc, ◌+◌, ◌<◌, ◌≤◌, Bool, true, false, if◌then◌else◌, ◌==◌, List, [], ◌∷◌, ◌++◌, length, Option, None, Some, slice_index_or}
-use Rattle.tree_laws.specs.declared.node.Node.{Node}
+use Rattle.star_tree.specs.declared.node.Node.{Node}
 use Rattle.agg_laws.specs.Tree.{star}
 use Rattle.state_columns.specs.Region.{range}
-use Rattle.tree_laws.specs.Flat.{node_at}
-use Rattle.tree_laws.specs.Picks.{Task, quiet, is_taken}
+use Rattle.star_tree.specs.Flat.{node_at}
+use Rattle.star_tree.specs.Picks.{Task, quiet, is_taken}
 use Rattle.value_ids.specs.Ids.{has_id}
 use Rattle.star_walk.specs.declared.pick.Pick.{Pick}
 

@@ -2,23 +2,23 @@
 
 ghost use Rattle.std.specs.Prelude.{◌≡◌, ℕ, ◌^◌, ◌<◌, ◌≤◌, [], List, length, map};
 ghost use Rattle.std.specs.Prelude.{All, count_by};
-ghost use Rattle.tree_laws.specs.declared.node.Node.{Node};
+ghost use Rattle.star_tree.specs.declared.node.Node.{Node};
 ghost use Rattle.agg_laws.specs.declared.states.AggState.{AggState};
 ghost use Rattle.agg_laws.specs.declared.tree_shape.TreeShape.{TreeShape};
 ghost use Rattle.agg_laws.specs.Rows.{merged_rows};
 ghost use Rattle.state_columns.specs.Docs.{Doc, HaveIds};
 ghost use Rattle.agg_laws.specs.Tree.{Nodes, none, agrees, tree_of, HaveNoStar};
-ghost use Rattle.tree_laws.specs.Flat.{Flat, FlatAt, flat};
-ghost use Rattle.tree_laws.specs.Picks.{Task, picks};
-ghost use Rattle.tree_laws.specs.Picks as nested;
-ghost use Rattle.tree_laws.specs.Reads.{factor, bound};
-ghost use Rattle.tree_laws.specs.Groups.{groups_of, rows_that_hold};
-ghost use Rattle.tree_laws.specs.NodeRules.{KeepsRules};
+ghost use Rattle.star_tree.specs.Flat.{Flat, FlatAt, flat};
+ghost use Rattle.star_tree.specs.Picks.{Task, picks};
+ghost use Rattle.star_tree.specs.Picks as nested;
+ghost use Rattle.star_tree.specs.Reads.{factor, bound};
+ghost use Rattle.star_tree.specs.Groups.{groups_of, rows_that_hold};
+ghost use Rattle.star_tree.specs.NodeRules.{KeepsRules};
 ghost use Rattle.star_walk.specs.declared.pick.Pick.{Pick};
 ghost use Rattle.star_walk.specs.Walking.{AreWalkable, tree_picks};
 ghost use Rattle.star_walk.specs.Images.{bare, shown, read_of, passing, AreWithin};
 ghost use Rattle.star_walk.specs.Covering.{covers, AreCovered, HaveValues, has_number};
-ghost use Rattle.star_walk.specs.Joins.{joined, numbers_of, AreApart};
+ghost use Rattle.star_walk.specs.Coalescing.{coalesced, numbers_of, AreApart};
 
 /// A walk goes through any nodes that keep the rules by which the nodes of a file are checked, and
 /// picks ranges of their documents.
@@ -66,7 +66,8 @@ pub fn walk_law()
 pub fn covered_law()
     ensures nested { (t : Task) (shape : TreeShape) (k : ℕ) (rows : List Doc) → HaveIds k rows
         → HaveNoStar k rows
-        → AreCovered t k (map bare (picks merged_rows t k (tree_of merged_rows shape k rows))) rows }
+        → AreCovered t k (map bare
+        (picks merged_rows t k (tree_of merged_rows shape k rows))) rows }
     ensures paths { (t : Task) (shape : TreeShape) (k : ℕ) (rows : List Doc) → HaveIds k rows
         → HaveNoStar k rows
         → All (λ p. All (λ row. covers row.0 (bare p) ≡ agrees p.path row.0) rows)
@@ -87,15 +88,15 @@ pub fn covered_law()
 {}
 
 /// Joined picks are of the same documents in the same order, with the same levels; and none of them
-/// could be joined to the next.
-pub fn joined_law()
+/// could be coalesced with the next.
+pub fn coalesced_law()
     ensures same { (documents k : ℕ) (ps : List Pick) → AreWithin documents k ps
-        → numbers_of (joined ps) ≡ numbers_of ps }
+        → numbers_of (coalesced ps) ≡ numbers_of ps }
     ensures within { (documents k : ℕ) (ps : List Pick) → AreWithin documents k ps
-        → AreWithin documents k (joined ps) }
-    ensures apart { (ps : List Pick) → AreApart (joined ps) }
+        → AreWithin documents k (coalesced ps) }
+    ensures apart { (ps : List Pick) → AreApart (coalesced ps) }
     ensures read { (documents k : ℕ) (ps : List Pick) → AreWithin documents k ps
-        → read_of (joined ps) ≡ read_of ps }
+        → read_of (coalesced ps) ≡ read_of ps }
     ensures passing { (t : Task) (k : ℕ) (docs : List Doc) (ps : List Pick)
-        → AreWithin (length docs) k ps → passing t k docs (joined ps) ≡ passing t k docs ps }
+        → AreWithin (length docs) k ps → passing t k docs (coalesced ps) ≡ passing t k docs ps }
 {}

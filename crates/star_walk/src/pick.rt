@@ -1,8 +1,7 @@
 //! Picks: ranges of documents that are to be read.
 
 ghost use Rattle.std.specs.Prelude.{◌≡◌, ◌<◌, ◌==◌, [], ◌∷◌, ◌++◌, length, slice_get, Some, OnOk};
-ghost use Rattle.std.specs.Prelude.{OnErr, ◌-◌, ◌^◌};
-ghost use Rattle.star_walk.specs.Images.{read_of};
+ghost use Rattle.std.specs.Prelude.{OnErr};
 
 use crate::NoMemory;
 use std::alloc::Global;
@@ -15,13 +14,6 @@ pub struct Pick {
     pub start: u32,
     pub end: u32,
     pub level: u32,
-}
-
-/// How many documents a pick has.
-fn size_of(pick: &Pick) -> u64
-    ensures { result ≡ pick.now.end - pick.now.start }
-{
-    pick.end.saturating_sub(pick.start) as u64
 }
 
 /// The picks of a walk, in its order.
@@ -71,19 +63,6 @@ impl Picks {
         ensures { result.now ≡ self.now }
     {
         self.picks.as_slice()
-    }
-
-    /// How many documents are read of the picks.
-    pub fn documents(&self) -> u64
-        requires { read_of self.now < 2 ^ 64 }
-        ensures { result ≡ read_of self.now }
-    {
-        let picks = self.picks.as_slice();
-        let mut sum: u64 = 0;
-        for i in 0..picks.len() {
-            sum += size_of(&picks[i]);
-        }
-        sum
     }
 
     pub fn push(&mut self, pick: Pick) -> Result<(), NoMemory>

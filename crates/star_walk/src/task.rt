@@ -1,7 +1,7 @@
 //! What a query asks of each split dimension of a star-tree.
 
 ghost use Rattle.std.specs.Prelude.{◌≡◌, ◌<◌, ◌≤◌, ◌-◌, ◌||◌, length};
-ghost use Rattle.tree_laws.specs.Picks.{quiet, is_taken};
+ghost use Rattle.star_tree.specs.Picks.{quiet, is_taken};
 ghost use Rattle.star_walk.specs.Walking.{task_of, is_tested, passes, is_grouped, HasEach};
 
 use data_types::Seq;
@@ -36,6 +36,7 @@ impl Task {
         }
     }
 
+    /// Whether a query groups by the dimension.
     pub fn is_grouped(&self, dim: usize) -> bool
         requires { dim < length self.now.grouped }
         ensures { result ≡ is_grouped self.now.grouped dim }
@@ -44,7 +45,7 @@ impl Task {
     }
 
     /// Whether a dimension is tested or grouped.
-    fn asks(&self, dim: usize) -> bool
+    fn constrains(&self, dim: usize) -> bool
         requires each { HasEach self.now.matched self.now.grouped }
         requires dim { dim < length self.now.matched }
         ensures { result ≡ (is_tested self.now.matched dim || is_grouped self.now.grouped dim) }
@@ -53,14 +54,14 @@ impl Task {
     }
 
     /// Whether no dimension from a level on is tested or grouped.
-    pub fn is_quiet(&self, level: usize) -> bool
+    pub fn is_unconstrained(&self, level: usize) -> bool
         requires each { HasEach self.now.matched self.now.grouped }
         requires level { level ≤ length self.now.matched }
         ensures { result ≡ quiet (task_of self.now.matched self.now.grouped)
             (length self.now.matched - level) level }
     {
         for dim in level..self.matched.len() {
-            if self.asks(dim) {
+            if self.constrains(dim) {
                 return false;
             }
         }

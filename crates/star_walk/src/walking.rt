@@ -1,18 +1,16 @@
 //! The walk through the nodes of a star-tree.
 
-ghost use Rattle.std.specs.Prelude.{◌≡◌, ◌≢◌, ◌<◌, ◌≤◌, ◌+◌, ◌-◌, ◌++◌, length, IfOk, OnOk, false};
-ghost use Rattle.state_columns.specs.Region.{range};
-ghost use Rattle.tree_laws.specs.Flat.{node_at};
-ghost use Rattle.tree_laws.specs.Picks.{quiet};
+ghost use Rattle.std.specs.Prelude.{◌≡◌, ◌<◌, ◌≤◌, ◌+◌, ◌-◌, ◌++◌, length, IfOk, OnOk, false};
+ghost use Rattle.star_tree.specs.Flat.{node_at};
 ghost use Rattle.star_walk.specs.Walking.{task_of, HasEach, AreWalkable, has_star_among, kids_of};
 ghost use Rattle.star_walk.specs.Walking.{taken, node_picks, tree_picks, whole_pick, leaf_pick};
 
 use crate::NoMemory;
 use crate::pick::{Pick, Picks};
 use crate::task::Task;
+use star_tree::Node;
 use state_columns::STAR;
 use std::alloc::Global;
-use tree_laws::Node;
 
 /// The documents that a query reads of a tree, where there are as many dimensions as the task has
 /// entries.
@@ -25,84 +23,88 @@ pub fn walk(alloc: Global, nodes: &[Node], task: &Task) -> Result<Picks, NoMemor
 {
     let mut picks = Picks::new(alloc);
     if !nodes.is_empty() {
-        push_node(nodes, task, 0, 0, &mut picks)?;
+        let walk = Traversal { nodes, task };
+        push_node(walk, 0, 0, &mut picks)?;
     }
     Ok(picks)
 }
 
-/// Adds the picks at a node of a level.
-#[cycle(push_node)]
-fn push_node(
-    nodes: &[Node],
-    task: &Task,
-    level: usize,
-    at: usize,
-    picks: &mut Picks,
-) -> Result<(), NoMemory>
-    requires each { HasEach task.now.matched task.now.grouped }
-    requires few { length task.now.matched ≤ 16 }
-    requires nodes { AreWalkable nodes.now }
-    requires level { level ≤ length task.now.matched }
-    requires at { at < length nodes.now }
-    ensures { OnOk result (picks.new ≡ picks.old ++ node_picks
-        (task_of task.now.matched task.now.grouped) (length task.now.matched) nodes.now
-        (length task.now.matched - level) level (node_at nodes.now at)) }
-{
-    if task.is_quiet(level) {
-        return picks.push(whole_pick(nodes, at, task.matched.len()));
-    }
-    if nodes[at].children == 0 {
-        return picks.push(leaf_pick(nodes, at, level));
-    }
-    push_kids(nodes, task, level, at, picks)
+// The nodes that are walked through, and what is asked of each dimension.
+#[derive(Clone, Copy)]
+struct Traversal<'a> {
+    nodes: &'a [Node],
+    task: &'a Task,
+    ghost each: { HasEach task.now.matched task.now.grouped },
+    ghost few: { length task.now.matched ≤ 16 },
+    ghost walkable: { AreWalkable nodes.now },
 }
 
-/// Adds the picks of those children of a node of a level that are taken.
+// Adds the picks at a node of a level.
 #[cycle(push_node)]
-fn push_kids(
-    nodes: &[Node],
-    task: &Task,
+fn push_node(
+    walk: Traversal<'_>,
     level: usize,
     at: usize,
     picks: &mut Picks,
 ) -> Result<(), NoMemory>
-    requires each { HasEach task.now.matched task.now.grouped }
-    requires few { length task.now.matched ≤ 16 }
-    requires nodes { AreWalkable nodes.now }
-    requires level { level < length task.now.matched }
-    requires at { at < length nodes.now }
-    ensures { OnOk result (picks.new ≡ picks.old ++ taken
-        (node_picks (task_of task.now.matched task.now.grouped) (length task.now.matched) nodes.now
-        (length task.now.matched - (level + 1)) (level + 1))
-        (task_of task.now.matched task.now.grouped)
-        (has_star_among (kids_of nodes.now (node_at nodes.now at))) level
-        (kids_of nodes.now (node_at nodes.now at))) }
+    requires level { level ≤ length walk.task.now.matched }
+    requires at { at < length walk.nodes.now }
+    ensures { OnOk result (picks.new ≡ picks.old ++ node_picks
+        (task_of walk.entry.task.now.matched walk.entry.task.now.grouped)
+        (length walk.entry.task.now.matched) walk.entry.nodes.now
+        (length walk.entry.task.now.matched - level) level (node_at walk.entry.nodes.now at)) }
 {
-    let (first, end) = kids_of(nodes, at);
-    let starred = has_star(&nodes[first..end]);
-    for kid in first..end {
-        if !task.takes(starred, level, nodes[kid].id) {
+    if walk.task.is_unconstrained(level) {
+        return picks.push(whole_pick(walk, at));
+    }
+    if walk.nodes[at].children == 0 {
+        return picks.push(leaf_pick(walk, at, level));
+    }
+    push_children(walk, level, at, picks)
+}
+
+// Adds the picks of those children of a node of a level that are selected.
+#[cycle(push_node)]
+fn push_children(
+    walk: Traversal<'_>,
+    level: usize,
+    at: usize,
+    picks: &mut Picks,
+) -> Result<(), NoMemory>
+    requires level { level < length walk.task.now.matched }
+    requires at { at < length walk.nodes.now }
+    ensures { OnOk result (picks.new ≡ picks.old ++ taken
+        (node_picks (task_of walk.entry.task.now.matched walk.entry.task.now.grouped)
+        (length walk.entry.task.now.matched) walk.entry.nodes.now
+        (length walk.entry.task.now.matched - (level + 1)) (level + 1))
+        (task_of walk.entry.task.now.matched walk.entry.task.now.grouped)
+        (has_star_among (kids_of walk.entry.nodes.now (node_at walk.entry.nodes.now at))) level
+        (kids_of walk.entry.nodes.now (node_at walk.entry.nodes.now at))) }
+{
+    let (first, end) = children_of(walk, at);
+    let starred = has_star(&walk.nodes[first..end]);
+    for child in first..end {
+        if !walk.task.takes(starred, level, walk.nodes[child].id) {
             continue;
         }
-        push_node(nodes, task, level + 1, kid, picks)?;
+        push_node(walk, level + 1, child, picks)?;
     }
     Ok(())
 }
 
-/// Where the children of a node begin and end.
-fn kids_of(nodes: &[Node], at: usize) -> (usize, usize)
-    requires nodes { AreWalkable nodes.now }
-    requires at { at < length nodes.now }
-    ensures first { result.0 ≡ (node_at nodes.now at).first }
-    ensures end { result.1 ≡ result.0 + (node_at nodes.now at).children }
-    ensures within { result.1 ≤ length nodes.now }
+// Where the children of a node begin and end.
+fn children_of(walk: Traversal<'_>, at: usize) -> (usize, usize)
+    requires at { at < length walk.nodes.now }
+    ensures first { result.0 ≡ (node_at walk.entry.nodes.now at).first }
+    ensures end { result.1 ≡ result.0 + (node_at walk.entry.nodes.now at).children }
+    ensures within { result.1 ≤ length walk.entry.nodes.now }
 {
-    let node = nodes[at];
+    let node = walk.nodes[at];
     let first = node.first as usize;
     (first, first + node.children as usize)
 }
 
-/// Whether one of some nodes is a star child.
+// Whether one of some nodes is a star child.
 fn has_star(kids: &[Node]) -> bool
     ensures { result ≡ has_star_among kids.now }
 {
@@ -114,28 +116,27 @@ fn has_star(kids: &[Node]) -> bool
     false
 }
 
-/// The document that stands for all of a node.
-fn whole_pick(nodes: &[Node], at: usize, dims: usize) -> Pick
-    requires nodes { AreWalkable nodes.now }
-    requires at { at < length nodes.now }
-    requires dims { dims ≤ 16 }
-    ensures { result ≡ whole_pick dims (node_at nodes.now at) }
+// The document that stands for all of a node.
+fn whole_pick(walk: Traversal<'_>, at: usize) -> Pick
+    requires { at < length walk.nodes.now }
+    ensures { result ≡ whole_pick (length walk.entry.task.now.matched)
+        (node_at walk.entry.nodes.now at) }
 {
-    let total = nodes[at].total;
+    let total = walk.nodes[at].total;
     Pick {
         start: total,
         end: total + 1,
-        level: dims as u32,
+        level: walk.task.matched.len() as u32,
     }
 }
 
-/// The documents of a leaf.
-fn leaf_pick(nodes: &[Node], at: usize, level: usize) -> Pick
-    requires at { at < length nodes.now }
+// The documents of a leaf.
+fn leaf_pick(walk: Traversal<'_>, at: usize, level: usize) -> Pick
+    requires at { at < length walk.nodes.now }
     requires level { level ≤ 16 }
-    ensures { result ≡ leaf_pick level (node_at nodes.now at) }
+    ensures { result ≡ leaf_pick level (node_at walk.entry.nodes.now at) }
 {
-    let node = nodes[at];
+    let node = walk.nodes[at];
     Pick {
         start: node.start,
         end: node.end,

@@ -65,7 +65,8 @@ pub fn push_states(columns: &mut [StateColumn], states: &[AggState], count: usiz
 pub fn push_values(columns: &mut [StateColumn], values: &[i64], count: usize)
     requires values { length values.now ≡ length columns.old }
     requires room { AreColumns count 1 columns.old }
-    ensures { columns.new ≡ row_pushed columns.old (row_of (kinds_in columns.old) (values.now ∷ [])) }
+    ensures { columns.new ≡ row_pushed columns.old (row_of (kinds_in columns.old)
+        (values.now ∷ [])) }
 {
     for i in 0..columns.len() {
         columns[i].push_one(values[i]);

@@ -6,6 +6,17 @@ ghost use Rattle.std.specs.Prelude.{vec_capacity};
 use agg_laws::NoMemory;
 use std::alloc::Global;
 
+/// Adds items, for which there is room.
+pub fn put_all<T: Copy>(out: &mut Vec<T>, items: &[T])
+    requires room { length out.old.items + length items.now ≤ vec_capacity out.old }
+    ensures items { out.new.items ≡ out.old.items ++ items.now }
+    ensures capacity { vec_capacity out.old ≤ vec_capacity out.new }
+{
+    for i in 0..items.len() {
+        put(out, items[i]);
+    }
+}
+
 /// Adds an item, for which there is room.
 #[inline(always)]
 pub(crate) fn put<T: Copy>(out: &mut Vec<T>, item: T)
@@ -15,17 +26,6 @@ pub(crate) fn put<T: Copy>(out: &mut Vec<T>, item: T)
 {
     if let Err(_) = out.push(item) {
         unreachable!();
-    }
-}
-
-/// Adds items, for which there is room.
-pub fn put_all<T: Copy>(out: &mut Vec<T>, items: &[T])
-    requires room { length out.old.items + length items.now ≤ vec_capacity out.old }
-    ensures items { out.new.items ≡ out.old.items ++ items.now }
-    ensures capacity { vec_capacity out.old ≤ vec_capacity out.new }
-{
-    for i in 0..items.len() {
-        put(out, items[i]);
     }
 }
 

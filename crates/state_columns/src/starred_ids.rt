@@ -6,14 +6,6 @@ ghost use Rattle.agg_laws.specs.Tree.{dim, dims_order, set_star};
 use crate::id_list::STAR;
 use std::cmp::Ordering;
 
-/// The id of a dimension, where one dimension is starred.
-pub(crate) fn starred_id(ids: &[u32], at: usize, level: usize) -> u32
-    requires { at < length ids.now }
-    ensures { result ≡ dim at (set_star level ids.now) }
-{
-    if at == level { STAR } else { ids[at] }
-}
-
 /// The order of two combinations, where one dimension is starred in both.
 pub fn compare_starred(x: &[u32], y: &[u32], level: usize) -> Ordering
     ensures { result ≡ dims_order (set_star level x.now) (set_star level y.now) }
@@ -28,6 +20,14 @@ pub fn compare_starred(x: &[u32], y: &[u32], level: usize) -> Ordering
         }
     }
     x.len().cmp(&y.len())
+}
+
+/// The id of a dimension, where one dimension is starred.
+pub(crate) fn starred_id(ids: &[u32], at: usize, level: usize) -> u32
+    requires { at < length ids.now }
+    ensures { result ≡ dim at (set_star level ids.now) }
+{
+    if at == level { STAR } else { ids[at] }
 }
 
 /// How a combination compares to another one in which a dimension is starred.

@@ -223,7 +223,8 @@ impl StateColumn {
     pub fn merge_at(&mut self, into: usize, from: usize)
         requires into { into < length self.old.states }
         requires from { from < length self.old.states }
-        requires fits { Fits (merged (state_at self.old into) (state_at self.old from)) most_values }
+        requires fits { Fits (merged (state_at self.old into)
+            (state_at self.old from)) most_values }
         ensures { self.new ≡ replaced into self.old
             (merged (state_at self.old into) (state_at self.old from)) }
     {

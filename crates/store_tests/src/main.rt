@@ -1,5 +1,6 @@
-//! Runs cases over the files of two small segments, which another program wrote: whether the same file is made of the
-//! rows, what its head costs, and what comes of it where it is cut or a byte of it is another one.
+//! Runs cases over the files of two small segments, which another program wrote: whether the same
+//! file is made of the rows, what its head costs, and what comes of it where it is cut or a byte of
+//! it is another one.
 #![tactic(auto)]
 
 ghost use Rattle.std.specs.Prelude.{IfSome};
@@ -17,11 +18,11 @@ use schema_json::read_schema;
 use settings_json::read_settings;
 use std::alloc::Global;
 use std::{fs, io};
-use store_state::open_table;
 use table_schema::Table;
+use table_store::open_table;
 
-// Runs everything over the file `NAME.seg` of the segment of a table, with the rows of `NAME.csv` and
-// the cases of `NAME.txt`.
+// Runs everything over the file `NAME.seg` of the segment of a table, with the rows of `NAME.csv`
+// and the cases of `NAME.txt`.
 fn run(rt: &HostRuntime, table: &Table, name: &str) -> io::Result<()>
     requires { IsValidTable table.now }
 {

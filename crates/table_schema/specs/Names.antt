@@ -13,7 +13,8 @@ is_name_byte b = nat_le 33 b && nat_le b 126 && not (b == 34) && not (b == 42) &
 
 -- 1 to 128 characters
 abbrev pub is_column_name : Text → Bool
-is_column_name name = nat_lt 0 (length name) && nat_le (length name) 128 && list_all is_name_byte name
+is_column_name name = nat_lt 0 (length name) && nat_le (length name) 128
+    && list_all is_name_byte name
 
 -- the name is one of these
 abbrev pub is_among : List Text → Text → Bool

@@ -21,4 +21,5 @@ is_split trees n = list_any (λ tree. is_member tree.split n) trees
 
 -- the column is looked up by its ids
 abbrev pub needs_ids : Settings → ℕ → Bool
-needs_ids s n = is_the_number n s.sorted || is_set (slice_get s.inverted n) || is_set (slice_get s.ranged n) || is_split s.trees n
+needs_ids s n = is_the_number n s.sorted || is_set (slice_get s.inverted n)
+    || is_set (slice_get s.ranged n) || is_split s.trees n

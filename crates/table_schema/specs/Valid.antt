@@ -23,12 +23,14 @@ default_fits kind v = fits kind v && is_short v
 
 -- the name keeps the rule of column names, no metric is of texts, and the default fits
 abbrev pub is_valid_field : Field → Bool
-is_valid_field f = is_column_name f.name && not (is_text_metric f.role f.kind) && default_fits f.kind f.default
+is_valid_field f = is_column_name f.name && not (is_text_metric f.role f.kind)
+    && default_fits f.kind f.default
 
 -- no name stands before
 abbrev pub no_repeat : List Text → List Text → Bool
 no_repeat before [] = true
-no_repeat before (name ∷ names) = not (is_among before name) && no_repeat (before ++ name ∷ []) names
+no_repeat before (name ∷ names) = not (is_among before name)
+    && no_repeat (before ++ name ∷ []) names
 
 -- 1 to 64 fields with distinct names, each of which is valid
 pub record IsValidSchema (s : Schema) : Type 0 where

@@ -1,4 +1,5 @@
--- Valid settings of a table: what each call that takes them may rely on, beside the fields of the schema.
+-- Valid settings of a table: what each call that takes them may rely on, beside the fields of the
+-- schema.
 use Rattle.std.specs.Prelude.{◌≡◌, ℕ, ◌<◌, ◌≤◌, ◌^◌, Bool, true, false, not, ◌&&◌, nat_lt, List, [], ◌∷◌, ◌++◌, map, length, Option, Some, None}
 use Rattle.std.specs.List.{list_all, slice_get, AllByRecursion}
 use Rattle.agg_laws.specs.declared.aggregate_kind.AggKind.{AggKind}

@@ -2,6 +2,7 @@
 #![tactic(auto)]
 
 mod field;
+mod fields;
 mod limits;
 mod names;
 mod query;
@@ -9,6 +10,7 @@ mod settings;
 mod table;
 
 pub use field::{Field, Role, Schema};
+pub use fields::Fields;
 pub use limits::most_rows;
 pub use names::is_column_name;
 pub use query::{Agg, BoundQuery, Conjunct, Item, OrderKey, Wide};

@@ -21,8 +21,8 @@ pub enum Conjunct {
     Many(Wide),
 }
 
-/// An aggregate of a field, or `None` for the count of rows: what a query asks for, and what a star-tree
-/// keeps of a group of rows.
+/// An aggregate of a field, or `None` for the count of rows: what a query asks for, and what a
+/// star-tree keeps of a group of rows.
 #[derive(Clone, Copy, Debug, PartialEq, Eq)]
 pub struct Agg {
     pub kind: AggKind,

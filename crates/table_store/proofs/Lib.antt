@@ -1,2 +1,10 @@
+pub mod CallLemmas
 pub mod FilesLemmas
 pub mod TableFileLemmas
+pub mod NameLemmas
+pub mod AcceptedLemmas
+pub mod CountLemmas
+pub mod SegmentLemmas
+mod OpenLemmas
+pub mod StandsLemmas
+pub mod KeyLemmas

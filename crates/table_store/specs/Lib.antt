@@ -1,3 +1,7 @@
 pub mod State
 pub mod TableFile
 pub mod Faults
+pub mod Segments
+pub mod Accepted
+pub mod Calls
+pub mod Stands

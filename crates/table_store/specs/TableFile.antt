@@ -7,10 +7,6 @@ use Rattle.table_store.specs.State.{Texts}
 abbrev pub table_name : List ℕ
 table_name = codes "table"
 
--- the part that each file is written as before it is published
-abbrev pub incoming : List ℕ
-incoming = codes "incoming"
-
 -- a text after its length, which is four bytes with the most significant first
 abbrev pub counted : List ℕ → List ℕ
 counted text = to_be_bytes w32 (length text) ++ text

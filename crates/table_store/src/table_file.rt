@@ -1,7 +1,7 @@
 //! The file of a table: its two texts, each after its length.
 
-ghost use Rattle.std.specs.Prelude.{◌≡◌, ◌≢◌, ◌≤◌, ◌++◌, IfOk, OnOk, OnErr, MatchOption, List, ℕ, length};
-ghost use Rattle.std.specs.Int.{w32, from_be_bytes};
+ghost use Rattle.std.specs.Prelude.{◌≡◌, ◌≢◌, ◌≤◌, ◌++◌, IfOk, OnOk, MatchOption, List, ℕ, length};
+ghost use Rattle.std.specs.Int.{from_be_bytes};
 ghost use Rattle.table_store.specs.State as state;
 ghost use Rattle.table_store.specs.TableFile.{FitsTable, counted, table_file, text_limit};
 
@@ -9,9 +9,6 @@ use std::alloc::{AllocError, Global};
 
 /// The name of the file.
 pub const NAME: &str = "table";
-
-/// The part that each file is written as before it is published.
-pub const INCOMING: &str = "incoming";
 
 /// The most bytes that a text of a table has.
 pub const TEXT_LIMIT: u64 = 1_048_576;

@@ -1,9 +1,11 @@
 -- What the functions that a reply is made by answer.
-use Rattle.std.specs.Prelude.{◌≡◌, ◌≢◌, ◌<◌, ◌⊎◌, Bool, true, false, List, Ok, Err, IsErrAnd}
+use Rattle.std.specs.Prelude.{◌≡◌, ◌≢◌, ◌≤◌, ◌<◌, ◌⊎◌, Bool, true, false, List, Ok, Err, IsErrAnd}
 use Rattle.std.specs.FinMap as finite
 use Rattle.values.specs.declared.value.Value.{Value}
 use Rattle.table_schema.specs.declared.query.BoundQuery.{BoundQuery}
-use Rattle.csv_ingest.specs.Blocks.{RowsOrFault}
+use Rattle.csv_ingest.specs.Blocks.{RowsOrFault, text_limit}
+use Rattle.csv_ingest.specs.NumberBlocks.{IsNumberBlocks}
+use Rattle.csv_ingest.specs.declared.blocks.NumberBlocks.{NumberBlocks}
 use Rattle.csv_row.specs.declared.fault.CsvFault.{CsvFault}
 use Rattle.group_table.specs.Groups.{groups_of}
 use Rattle.group_table.specs.Kept.{KeptGroups, groups_in}
@@ -15,19 +17,28 @@ use Rattle.text_scan.specs.TextReply.{Replies, TextReply, scan_reply, text_fault
 use Rattle.text_scan.specs.declared.fault.ScanFault.{ScanFault}
 use Rattle.text_scan.specs.declared.fault.ScanFault.TheVariants.{NoMemory}
 
+-- what is left of a text of whole numbers, with no more records than a text has bytes
+pub record IsText (blocks : NumberBlocks) : Type 0 where
+  pub of_numbers : IsNumberBlocks blocks
+  pub at_most : blocks.left ≤ text_limit
+
 -- a text is refused for its first fault, unless memory ran out
 abbrev pub IsTextFault : RowsOrFault → ScanFault → Type 0
-IsTextFault whole fault = fault ≢ NoMemory → (wrong : CsvFault) × (whole ≡ Err wrong) × (fault ≡ text_fault wrong)
+IsTextFault whole fault = fault ≢ NoMemory → (wrong : CsvFault) × (whole ≡ Err wrong)
+    × (fault ≡ text_fault wrong)
 
 -- the table has the groups over these rows, if there is room for them; else there are too many
 abbrev pub GroupsRows : Bool → BoundQuery → List (List Value) → KeptGroups → Type 0
-GroupsRows true query rows table = groups_in table ≡ groups_of (shape_of query) (selected query rows)
-GroupsRows false query rows table = most_groups < finite.len (groups_of (shape_of query) (selected query rows))
+GroupsRows true query rows table = groups_in table ≡ groups_of (shape_of query)
+    (selected query rows)
+GroupsRows false query rows table = most_groups < finite.len
+    (groups_of (shape_of query) (selected query rows))
 
 -- the reply to a query in its normal form over the rows of a text, or the text's fault
 abbrev pub RepliesOver : BoundQuery → RowsOrFault → TextReply → Type 0
 RepliesOver query whole result = ((rows : List (List Value)) × (whole ≡ Ok rows)
-    × Replies (scan_reply (replied (conjuncts_reply query rows))) result) ⊎ IsErrAnd result (IsTextFault whole)
+    × Replies (scan_reply (replied (conjuncts_reply query rows))) result)
+    ⊎ IsErrAnd result (IsTextFault whole)
 
 -- the same for whatever a text gives
 abbrev pub RepliesToAll : (RowsOrFault → Type 0) → BoundQuery → TextReply → Type 0

@@ -1,4 +1,5 @@
--- The reply to a query over the rows of a CSV text, or the first thing that is wrong: with the text, or else with the query.
+-- The reply to a query over the rows of a CSV text, or the first thing that is wrong: with the
+-- text, or else with the query.
 use Rattle.std.specs.Prelude.{◌≡◌, ◌≢◌, ℕ, false, List, [], length, replicate, true, None, Result, Ok, Err}
 use Rattle.values.specs.declared.value.Value.{Value}
 use Rattle.table_schema.specs.declared.field.Schema.{Schema}
@@ -13,10 +14,6 @@ use Rattle.sql_reply.specs.declared.fault.SqlFault.{SqlFault}
 use Rattle.sql_reply.specs.declared.fault.SqlFault.TheVariants as queries
 use Rattle.text_scan.specs.declared.fault.ScanFault.{ScanFault}
 use Rattle.text_scan.specs.declared.fault.ScanFault.TheVariants.{BadText, BadQuery, LongQuery, NoMemory, TooManyColumns, TooManyGroups, TooManyRows, Unbound}
-
--- the most bytes that a text may have
-abbrev pub text_limit : ℕ
-text_limit = 134217728
 
 -- ---- what is wrong
 

@@ -12,8 +12,8 @@ use sql_reply::SqlFault;
 use std::alloc::{AllocError, Global};
 use table_schema::{BoundQuery, Schema, Settings, Table};
 
-/// A query by its text, its names and its types, over the columns of a CSV text. Any name stands for
-/// the table.
+/// A query by its text, its names and its types, over the columns of a CSV text. Any name stands
+/// for the table.
 pub fn bound_query(alloc: Global, sql: &str, schema: Schema) -> Result<BoundQuery, ScanFault>
     requires { length schema.fields ≤ 64 }
     ensures reply { (rows : List (List Value)) → IfOk result (λ found.

@@ -1,12 +1,12 @@
 //! Why a query over a text has no reply.
 
 use csv_ingest::CsvKind;
+use query_bind::BindReason;
 use query_tokens::Reason;
-use query_where::BindReason;
 use std::alloc::AllocError;
 
-/// Why a query over a text has no reply. What is wrong with the text comes before what is wrong with
-/// the query.
+/// Why a query over a text has no reply. What is wrong with the text comes before what is wrong
+/// with the query.
 #[derive(Clone, Copy, Debug, PartialEq, Eq)]
 pub enum ScanFault {
     /// What is wrong with the text, in which record and in which column.

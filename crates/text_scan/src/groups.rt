@@ -1,15 +1,15 @@
 //! The groups of a query over the rows of a text, block after block.
 ghost use Rattle.std.specs.Prelude.{◌≡◌, ◌≤◌, ◌<◌, ◌+◌, true, List, [], Ok, IfOk, IfErr, IfSome, OnOk, MatchOption};
-ghost use Rattle.value_columns.specs.Columns.{rows_of as rows_of_columns};
+ghost use Rattle.values.specs.Columns.{rows_of as rows_of_columns};
 ghost use Rattle.values.specs.declared.value.Value.{Value};
 ghost use Rattle.csv_ingest.specs.Blocks.{RowsOrFault};
 ghost use Rattle.csv_row.specs.InOrder.{after};
 ghost use Rattle.csv_ingest.specs.NumberBlocks.{Gives, IsNumberBlocks};
 ghost use Rattle.group_table.specs.Kept.{IsNew, IsTableOf};
 ghost use Rattle.scan_engine.specs.Numbers.{AreNumbers};
-ghost use Rattle.text_scan.specs.Parts.{GroupsRows, IsTextFault};
+ghost use Rattle.text_scan.specs.Parts.{GroupsRows, IsText, IsTextFault};
 ghost use Rattle.sql_reply.specs.Reply.{most_groups};
-ghost use Rattle.text_scan.specs.TextReply.{text_fault, text_limit};
+ghost use Rattle.text_scan.specs.TextReply.{text_fault};
 
 use crate::ScanFault;
 use csv_ingest::{CsvFault, NumberBlocks};
@@ -17,7 +17,7 @@ use group_table::{GroupTable, TableFault};
 use scan_engine::add_block;
 use std::alloc::Global;
 use table_schema::BoundQuery;
-use value_columns::Columns;
+use values::Columns;
 
 // The most columns that a text of whole numbers may have.
 const MOST_COLUMNS: u32 = 64;
@@ -30,8 +30,7 @@ pub fn group_text(
     bound: &BoundQuery,
     table: &mut GroupTable,
 ) -> Result<bool, ScanFault>
-    requires blocks { IsNumberBlocks blocks.old }
-    requires few { blocks.old.left ≤ text_limit }
+    requires text { IsText blocks.old }
     requires table { IsNew bound.now most_groups table.old }
     ensures ok { IfOk result (λ room. (whole : RowsOrFault) → Gives blocks.old whole →
         (rows : List (List Value)) × (whole ≡ Ok rows)

@@ -1,11 +1,12 @@
 //! The reply to a query over a text.
 ghost use Rattle.std.specs.Prelude.{◌≤◌, length};
 ghost use Rattle.csv_ingest.specs.Blocks.{RowsOrFault};
-ghost use Rattle.csv_ingest.specs.NumberBlocks.{Gives, IsNumberBlocks};
+ghost use Rattle.csv_ingest.specs.Blocks.{text_limit};
+ghost use Rattle.csv_ingest.specs.NumberBlocks.{Gives};
 ghost use Rattle.csv_ingest.specs.Rows.{with_schema};
 ghost use Rattle.table_schema.specs.ValidQuery.{IsValidQuery};
-ghost use Rattle.text_scan.specs.Parts.{RepliesToAll};
-ghost use Rattle.text_scan.specs.TextReply.{Replies, rows_reply, text_limit, text_reply};
+ghost use Rattle.text_scan.specs.Parts.{IsText, RepliesToAll};
+ghost use Rattle.text_scan.specs.TextReply.{Replies, rows_reply, text_reply};
 
 use crate::ScanFault;
 use crate::bound::bound_query;
@@ -35,8 +36,7 @@ fn reply_to_rows(
     blocks: &mut NumberBlocks<'_>,
     sql: &str,
 ) -> Result<Bytes, ScanFault>
-    requires blocks { IsNumberBlocks blocks.old }
-    requires few { blocks.old.left ≤ text_limit }
+    requires { IsText blocks.old }
     ensures { (whole : RowsOrFault) → Gives blocks.old whole →
         Replies (rows_reply sql.now (with_schema blocks.old.header.fields whole)) result }
 {
@@ -59,8 +59,7 @@ fn group_reply(
     blocks: &mut NumberBlocks<'_>,
     bound: &BoundQuery,
 ) -> Result<Bytes, ScanFault>
-    requires blocks { IsNumberBlocks blocks.old }
-    requires few { blocks.old.left ≤ text_limit }
+    requires text { IsText blocks.old }
     requires valid { (over : Table) × IsValidQuery over bound.now }
     ensures { RepliesToAll (λ whole. Gives blocks.old whole) bound.now result }
 {

@@ -6,7 +6,8 @@ use crate::text::Text;
 use std::alloc::Global;
 use std::cell::Cell;
 
-/// How many cases a file has, the lines of those that are wrong, and what came so far of the case that runs.
+/// How many cases a file has, the lines of those that are wrong, and what came so far of the case
+/// that runs.
 #[derive(Clone, Copy)]
 pub struct Report<'a> {
     pub count: &'a Cell<u64>,

@@ -1,7 +1,7 @@
 //! A depot in memory that counts what is read of some parts of its files.
 
 use crate::text::{Text, string};
-use memory_depots::MemoryDepot;
+use memory_devices::MemoryDepot;
 use outside::{Depot, DepotFault, Name, Seq, Shelf, ShelfFault};
 use std::alloc::Global;
 

@@ -1,4 +1,5 @@
-//! What comes of a CSV text: each value and a `;`, a line a row, or `Kind record column` of the first fault.
+//! What comes of a CSV text: each value and a `;`, a line a row, or `Kind record column` of the
+//! first fault.
 
 use crate::schemas::show_fault;
 use crate::text::Text;
@@ -6,7 +7,7 @@ use csv_ingest::{CsvFault, defaults_fit, read_number_rows, read_rows};
 use schema_json::read_schema;
 use std::alloc::Global;
 use table_schema::Schema;
-use value_columns::{Row, Rows};
+use values::{Row, Rows};
 
 const MOST_BYTES: usize = 134_217_728;
 

@@ -3,13 +3,11 @@
 use crate::counting::{CountingDepot, Span, fresh_spans};
 use crate::inputs::Inputs;
 use crate::text::{Text, number, parted};
-use file_reading::read_all;
-use memory_depots::MemoryDepot;
-use memory_devices::{MemoryShelf, MemorySink};
-use outside::{Bytes, Name, NoMemory, Seq};
+use memory_devices::{MemoryDepot, MemoryShelf, MemorySink};
+use outside::{Bytes, Name, NoMemory, Seq, read_all};
 use pinot_run::run_command;
 use std::alloc::Global;
-use store_state::open_table;
+use table_store::open_table;
 
 /// Files by name.
 pub type Files = Seq<(Name, Bytes)>;
@@ -116,8 +114,9 @@ fn inputs_of(alloc: Global, files: Files, calls: &str) -> Result<Inputs, NoMemor
 }
 
 impl Devices {
-    /// Devices with these input files and published files. The calls that fail are `DEVICE:NUMBER`, from 0 on, with
-    /// blanks between them; where they are `long`, none fails, and every input file is too long.
+    /// Devices with these input files and published files. The calls that fail are `DEVICE:NUMBER`,
+    /// from 0 on, with blanks between them; where they are `long`, none fails, and every input file
+    /// is too long.
     pub fn new(alloc: Global, files: Files, stored: Files, spans: &[Span], calls: &str) -> Devices {
         Devices {
             inputs: inputs_of(alloc, files, calls),
@@ -126,7 +125,8 @@ impl Devices {
         }
     }
 
-    /// Runs a command, and adds its status, its reply and, after an exclamation mark, its note line.
+    /// Runs a command, and adds its status, its reply and, after an exclamation mark, its note
+    /// line.
     pub fn run(&mut self, alloc: Global, words: &[String], out: &Text) {
         let (Ok(inputs), Ok(depot), Ok(streams)) = (
             &mut self.inputs,

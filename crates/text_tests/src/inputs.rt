@@ -1,10 +1,12 @@
-//! Input files in memory, of which each may be said to be one byte longer than the longest that a command reads.
+//! Input files in memory, of which each may be said to be one byte longer than the longest that a
+//! command reads.
 
 use memory_devices::MemoryShelf;
 use outside::{Name, Seq, Shelf, ShelfFault};
 use std::alloc::Global;
 
-/// Files in memory. Where they are long, no name is missing, and each file is too long for every command.
+/// Files in memory. Where they are long, no name is missing, and each file is too long for every
+/// command.
 #[derive(Drop)]
 pub struct Inputs {
     pub files: MemoryShelf,

@@ -1,10 +1,10 @@
-//! Runs files of cases, of which each line says what has to come of a text, and prints how many there are and
-//! which are wrong.
+//! Runs files of cases, of which each line says what has to come of a text, and prints how many
+//! there are and which are wrong.
 #![tactic(auto)]
 
 mod bindings;
 mod cases;
-mod commands;
+mod command_cases;
 mod counting;
 mod csv_texts;
 mod devices;
@@ -18,7 +18,7 @@ mod text;
 mod trees;
 
 use cases::{Report, run_cases};
-use commands::run_commands;
+use command_cases::run_commands;
 use std::cell::Cell;
 use std::{env, fs, io};
 use subject::Subject;

@@ -55,8 +55,8 @@ fn repeated(alloc: Global, start: &str, (count, part): (u32, &str), end: &str) -
     whole.into_string()
 }
 
-/// The first word of what comes of a long text, spelled as a beginning, a number, a part that stands so many times,
-/// and an end, with `#` between them.
+/// The first word of what comes of a long text, spelled as a beginning, a number, a part that
+/// stands so many times, and an end, with `#` between them.
 pub fn long_outcome(alloc: Global, text: &str, out: &Text) {
     let (start, rest) = parted(text, '#');
     let (count, rest) = parted(rest, '#');

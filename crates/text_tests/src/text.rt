@@ -5,8 +5,8 @@ use std::cell::Cell;
 use std::fmt::{Debug, Write};
 use values::Value;
 
-/// What is written so far. All that write to it share it, so that it need not be lent anew for each piece. Without
-/// memory a piece is left out, and the case that it belongs to is wrong.
+/// What is written so far. All that write to it share it, so that it need not be lent anew for each
+/// piece. Without memory a piece is left out, and the case that it belongs to is wrong.
 #[derive(Drop)]
 pub struct Text {
     alloc: Global,

@@ -1,6 +1,6 @@
 pub mod Ascending
 pub mod CodingLemmas
-pub mod Distinct
+pub mod DistinctLemmas
 pub mod Found
 pub mod IdLemmas
 pub mod MaskLemmas

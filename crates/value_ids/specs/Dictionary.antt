@@ -1,4 +1,5 @@
--- The dictionary of a column: its distinct values, each before all those after it in the order of values.
+-- The dictionary of a column: its distinct values, each before all those after it in the order of
+-- values.
 use Rattle.std.specs.Prelude.{◌≡◌, ◌≤◌, ℕ, true, List, [], ◌∷◌, length}
 use Rattle.std.specs.List.{All}
 use Rattle.std.specs.List.Sorted.{IsStrictlySortedBy}
@@ -42,7 +43,8 @@ pub record IsDictionary (d : Distinct) : Type 0 where
 -- a value put in its place among ascending ones, unless it is there
 abbrev pub put_in : Value → List Value → List Value
 put_in value [] = value ∷ []
-put_in value (least ∷ others) = match_ordering (value_order value least) (value ∷ least ∷ others) (least ∷ others) (least ∷ put_in value others)
+put_in value (least ∷ others) = match_ordering (value_order value least) (value ∷ least ∷ others)
+    (least ∷ others) (least ∷ put_in value others)
 
 -- the distinct values of a column, ascending
 abbrev pub distinct : List Value → List Value

@@ -60,7 +60,8 @@ IsAboveLast ids id = IfSome (slice_get ids (length ids - 1)) (λ last. last < id
 -- the ids of the values that satisfy the test, where the first value has the id `first`
 abbrev pub matching_from : ℕ → Test → List Value → List ℕ
 matching_from first test [] = []
-matching_from first test (value ∷ values) = if holds value test then first ∷ matching_from (first + 1) test values else matching_from (first + 1) test values
+matching_from first test (value ∷ values) = if holds value test then first
+    ∷ matching_from (first + 1) test values else matching_from (first + 1) test values
 
 -- the ids of the values that satisfy a test, ascending
 abbrev pub matching : Test → List Value → List ℕ
@@ -84,11 +85,14 @@ abbrev pub negated_ids : Bool → ℕ → List ℕ → ℕ → Bool
 negated_ids true count ids = is_outside count ids
 negated_ids false count ids = has_id ids
 
--- ascending values are cut by a bound: those before `from` are less, those from `to` on are greater, and one between, if there is one, is the bound
+-- ascending values are cut by a bound: those before `from` are less, those from `to` on are
+-- greater, and one between, if there is one, is the bound
 pub record Cuts (values : List Value) (bound : Value) (from to : ℕ) : Type 0 where
   pub order : from ≤ to
   pub once : to ≤ from + 1
   pub within : to ≤ length values
   pub less : (id : ℕ) (d : Value) → id < from → value_order (get_or values id d) bound ≡ Less
-  pub equal : (id : ℕ) (d : Value) → from ≤ id → id < to → value_order (get_or values id d) bound ≡ Equal
-  pub greater : (id : ℕ) (d : Value) → to ≤ id → id < length values → value_order (get_or values id d) bound ≡ Greater
+  pub equal : (id : ℕ) (d : Value) → from ≤ id → id < to → value_order (get_or values id d) bound
+      ≡ Equal
+  pub greater : (id : ℕ) (d : Value) → to ≤ id → id < length values
+      → value_order (get_or values id d) bound ≡ Greater

@@ -1,4 +1,5 @@
--- What a value is printed as: a number in decimal, with a sign where it is negative, and a text as it is.
+-- What a value is printed as: a number in decimal, with a sign where it is negative, and a text as
+-- it is.
 use Rattle.std.specs.Prelude.{ℕ, List}
 use Rattle.std.specs.Fmt.{signed_decimal}
 use Rattle.values.specs.declared.value.Value.{Value}

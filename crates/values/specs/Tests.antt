@@ -78,21 +78,25 @@ one_of_may true members least greatest = not (value_eq least greatest && is_memb
 
 -- the two ranges meet; negated: the range of values does not lie within the other
 abbrev pub between_may : Bool → Value → Value → Value → Value → Bool
-between_may false low high least greatest = is_at_most low high && is_at_most low greatest && is_at_most least high
+between_may false low high least greatest = is_at_most low high && is_at_most low greatest
+    && is_at_most least high
 between_may true low high least greatest = not (is_at_most low least && is_at_most greatest high)
 
 -- one test, with whether each inner test may hold in its place
 abbrev pub may_step : Value → Value → Test-F Bool → Bool
 may_step least greatest (Test-F.Compare op bound) = compare_may op least bound greatest
 may_step least greatest (Test-F.OneOf members negated) = one_of_may negated members least greatest
-may_step least greatest (Test-F.Between low high negated) = between_may negated low high least greatest
+may_step least greatest (Test-F.Between low high negated) = between_may negated low high least
+    greatest
 may_step least greatest (Test-F.All inner) = all_true inner
 may_step least greatest (Test-F.Any inner) = any_true inner
 
--- whether a test may hold of some value between the least and the greatest; true where that is not known
+-- whether a test may hold of some value between the least and the greatest; true where that is not
+-- known
 abbrev pub may_hold : Value → Value → Test → Bool
 may_hold least greatest = fold-Test Bool (may_step least greatest)
 
 -- no value between the two satisfies the test
 abbrev pub NoneHolds : Value → Value → Test → Type 0
-NoneHolds least greatest test = (value : Value) → is_at_most least value ≡ true → is_at_most value greatest ≡ true → holds value test ≡ false
+NoneHolds least greatest test = (value : Value) → is_at_most least value ≡ true
+    → is_at_most value greatest ≡ true → holds value test ≡ false

@@ -6,25 +6,6 @@ ghost use Rattle.data_types.specs.Texts.{Placed};
 use data_types::{TextIndex, TextPool, hash_of, text_of};
 use std::alloc::AllocError;
 
-// Keeps one more text.
-#[inline(never)]
-fn keep(
-    pool: &mut TextPool,
-    index: &mut TextIndex,
-    hash: u64,
-    text: &str,
-) -> Result<u32, AllocError>
-    ensures ok { IfOk result (λ id. Placed text.now id pool.old pool.new) }
-    ensures err { OnErr result (pool.new ≡ pool.old) }
-{
-    let Ok(id) = u32::try_from(pool.len()) else {
-        return Err(AllocError);
-    };
-    index.note(pool, hash, id, text)?;
-    pool.push(text)?;
-    Ok(id)
-}
-
 /// The place of a text, which is kept unless it is there.
 #[inline(always)]
 pub fn place(pool: &mut TextPool, index: &mut TextIndex, text: &str) -> Result<u32, AllocError>
@@ -58,4 +39,23 @@ pub fn place_of_bytes(
         return Ok(None);
     };
     Ok(Some(keep(pool, index, hash, text)?))
+}
+
+// Keeps one more text.
+#[inline(never)]
+fn keep(
+    pool: &mut TextPool,
+    index: &mut TextIndex,
+    hash: u64,
+    text: &str,
+) -> Result<u32, AllocError>
+    ensures ok { IfOk result (λ id. Placed text.now id pool.old pool.new) }
+    ensures err { OnErr result (pool.new ≡ pool.old) }
+{
+    let Ok(id) = u32::try_from(pool.len()) else {
+        return Err(AllocError);
+    };
+    index.note(pool, hash, id, text)?;
+    pool.push(text)?;
+    Ok(id)
 }

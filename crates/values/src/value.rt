@@ -6,12 +6,9 @@ ghost use Rattle.values.specs.Order.{value_order, value_eq};
 ghost use Rattle.values.specs.Order.Laws.{value_eq-equiv, value_order-total, value_eq-ties, value_order-partial};
 ghost use Rattle.values.specs.Printed.{text_of};
 
-use data_types::Name;
-use std::alloc::{AllocError, Global};
+use data_types::{Name, NoMemory};
+use std::alloc::Global;
 use std::cmp::Ordering;
-
-/// What a call answers where a growth was refused.
-pub type NoMemory = AllocError;
 
 /// A whole number or a text.
 #[derive(Debug, Drop, Hash)]

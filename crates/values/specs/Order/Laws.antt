@@ -71,4 +71,5 @@ value_eq-equiv = record { refl = eq_refl; symm = eq_symm; congr = eq_congr }
 
 -- the order and the equality of values agree
 pub value_order-partial : IsPartialOrder value_eq (λ a b. Some (value_order a b))
-value_order-partial = partial_order_from_agreeing_total value_order value_order-total (λ a b. refl) value_eq-ties
+value_order-partial = partial_order_from_agreeing_total value_order value_order-total
+    (λ a b. refl) value_eq-ties

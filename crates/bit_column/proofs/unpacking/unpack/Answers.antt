@@ -31,31 +31,31 @@ pub returns-then-id-count-clause-bad : goal.returns-then-id-count-clause-bad
 returns-then-id-count-clause-bad c = λ all.
     let window : Window = c.filled-window-in-loop-i.result in
     let digits : List ℕ = bits_of 8 c.args.bytes.now in
-    let own : c.taken-id.result ≡ field c.args.width (taken_before window) digits = untaken_first c.args.bytes.now window c.args.width c.taken-id.result c.filled-window-in-loop-i.ensures.untaken c.filled-window-in-loop-i.ensures.have c.taken-id.ensures in
-    let there : taken_before window ≡ c.args.bit + c.loop-i.i * c.args.width = c.filled-window-in-loop-i.ensures.same ∙ c.loop-i.invariant.place in
-    let same : c.taken-id.result ≡ field c.args.width (c.args.bit + c.loop-i.i * c.args.width) digits = own ∙ ap (λ k. field c.args.width k digits) there in
-    let below = pieces-below c.args.width c.args.bit _ c.loop-i.i c.args.count digits c.loop-i-test.true all in
+    let own : c.taken-id.result ≡ field c.args.width.bits (taken_before window) digits = untaken_first c.args.bytes.now window c.args.width.bits c.taken-id.result c.filled-window-in-loop-i.ensures.untaken c.filled-window-in-loop-i.ensures.have c.taken-id.ensures in
+    let there : taken_before window ≡ c.args.bit + c.loop-i.i * c.args.width.bits = c.filled-window-in-loop-i.ensures.same ∙ c.loop-i.invariant.place in
+    let same : c.taken-id.result ≡ field c.args.width.bits (c.args.bit + c.loop-i.i * c.args.width.bits) digits = own ∙ ap (λ k. field c.args.width.bits k digits) there in
+    let below = pieces-below c.args.width.bits c.args.bit _ c.loop-i.i c.args.count digits c.loop-i-test.true all in
     absurd (omega (arith, below, same, c.if-id-count.true))
 
 pub loop-i-preserved : goal.loop-i-preserved
 loop-i-preserved c =
     let window : Window = c.filled-window-in-loop-i.result in
-    let less : Window = record { bits = window.bits; have = window.have - c.args.width; next = window.next } in
+    let less : Window = record { bits = window.bits; have = window.have - c.args.width.bits; next = window.next } in
     let digits : List ℕ = bits_of 8 c.args.bytes.now in
     let i : ℕ = c.loop-i.i in
     let id : ℕ = c.taken-id.result in
     let have = c.filled-window-in-loop-i.ensures.have in
-    let own : id ≡ field c.args.width (taken_before window) digits = untaken_first c.args.bytes.now window c.args.width id c.filled-window-in-loop-i.ensures.untaken have c.taken-id.ensures in
-    let there : taken_before window ≡ c.args.bit + i * c.args.width = c.filled-window-in-loop-i.ensures.same ∙ c.loop-i.invariant.place in
-    let next : i * c.args.width + c.args.width ≡ (i + 1) * c.args.width = grind arith in
+    let own : id ≡ field c.args.width.bits (taken_before window) digits = untaken_first c.args.bytes.now window c.args.width.bits id c.filled-window-in-loop-i.ensures.untaken have c.taken-id.ensures in
+    let there : taken_before window ≡ c.args.bit + i * c.args.width.bits = c.filled-window-in-loop-i.ensures.same ∙ c.loop-i.invariant.place in
+    let next : i * c.args.width.bits + c.args.width.bits ≡ (i + 1) * c.args.width.bits = grind arith in
     let more : take (i + 1) _ ≡ take i c.loop-i.ids ++ id ∷ [] = take_more_set c.loop-i.ids i id (omega (arith, c.loop-i-test.true, c.loop-i.auto.ids)) in
     record {
-      untaken = untaken_less c.args.bytes.now window less c.args.width c.filled-window-in-loop-i.ensures.untaken have refl refl refl;
+      untaken = untaken_less c.args.bytes.now window less c.args.width.bits c.filled-window-in-loop-i.ensures.untaken have refl refl refl;
       place = omega (arith, there, next, have, c.filled-window-in-loop-i.ensures.untaken.there);
       ids =
           more
           ∙ ap (λ ids. ids ++ id ∷ []) c.loop-i.invariant.ids
-          ∙ ap (λ x. pieces c.args.width c.args.bit i digits ++ x ∷ []) (own ∙ ap (λ k. field c.args.width k digits) there)
-          ∙ sym (pieces-more c.args.width c.args.bit i digits);
+          ∙ ap (λ x. pieces c.args.width.bits c.args.bit i digits ++ x ∷ []) (own ∙ ap (λ k. field c.args.width.bits k digits) there)
+          ∙ sym (pieces-more c.args.width.bits c.args.bit i digits);
       below = All-same (λ x. x < c.args.count) _ (take i c.loop-i.ids ++ id ∷ []) more (All-push (λ x. x < c.args.count) (take i c.loop-i.ids) id c.loop-i.invariant.below c.if-id-count.false);
     }

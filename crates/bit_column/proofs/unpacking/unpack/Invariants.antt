@@ -6,7 +6,7 @@ use Rattle.bit_column.proofs.unpacking.unpack.Given as goal
 abbrev pub invariant-loop-i : goal.invariant-loop-i
 invariant-loop-i l = record {
   untaken : HasUntaken l.bytes l.window;
-  place : taken_before l.window ≡ l.bit + l.i * l.width;
-  ids : take l.i l.ids ≡ pieces l.width l.bit l.i (bits_of 8 l.bytes);
+  place : taken_before l.window ≡ l.bit + l.i * l.width.bits;
+  ids : take l.i l.ids ≡ pieces l.width.bits l.bit l.i (bits_of 8 l.bytes);
   below : All (λ id. id < l.count) (take l.i l.ids);
 }

@@ -1,7 +1,7 @@
 use Rattle.std.proofs.Common.{◌≡◌, ◌∙◌, ◌+◌, ap, map, subst, take, drop}
 use Rattle.table_schema.specs.declared.query.BoundQuery.{BoundQuery}
 use Rattle.group_table.specs.Kept.{KeptGroups, group_at}
-use Rattle.group_order.specs.Ranked.{BeginInOrder}
+use Rattle.broker_merge.specs.Ranked.{BeginInOrder}
 use Rattle.broker_merge.specs.Answer.{item_cell}
 use Rattle.broker_merge.proofs.AnswerLemmas.{rows_are}
 use Rattle.broker_merge.proofs.rows.finish.Goals as goal

@@ -7,7 +7,7 @@ use Rattle.scan_engine.specs.Scanned.{IsOverfull}
 use Rattle.scan_engine.proofs.AddLemmas.{at_most_more}
 use Rattle.scan_engine.proofs.RunLemmas.{same_fault}
 use Rattle.coded_columns.specs.Coded.{table_of}
-use Rattle.row_marks.specs.RowFilters.{all_let, passing}
+use Rattle.coded_scan.specs.RowFilters.{all_let, passing}
 use Rattle.coded_scan.proofs.AddSteps.{none-added, passing-below, passing-few, some-added, stitched}
 use Rattle.coded_scan.proofs.adding.add_block.Goals as goal
 

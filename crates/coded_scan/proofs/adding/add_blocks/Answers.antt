@@ -8,7 +8,7 @@ use Rattle.scan_engine.specs.Scanned.{IsOverfull}
 use Rattle.scan_engine.proofs.AddLemmas.{adds_nothing, at_most_more}
 use Rattle.scan_engine.proofs.RunLemmas.{same_fault}
 use Rattle.coded_columns.specs.Coded.{table_of}
-use Rattle.row_marks.specs.RowFilters.{all_let, passing}
+use Rattle.coded_scan.specs.RowFilters.{all_let, passing}
 use Rattle.coded_scan.proofs.AddSteps.{add-next, add-overfull, blocks-enough, passing-below, passing-few, some-added}
 use Rattle.coded_scan.proofs.adding.add_blocks.Goals as goal
 

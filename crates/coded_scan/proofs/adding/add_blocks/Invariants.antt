@@ -2,7 +2,7 @@ use Rattle.std.proofs.Common.{◌≡◌, ◌≤◌, ◌+◌, ◌-◌, ◌*◌, �
 use Rattle.scan_engine.specs.Places.{rows_at}
 use Rattle.scan_engine.specs.Scanned.{AddsRows}
 use Rattle.coded_columns.specs.Coded.{table_of}
-use Rattle.row_marks.specs.RowFilters.{all_let, passing}
+use Rattle.coded_scan.specs.RowFilters.{all_let, passing}
 use Rattle.coded_scan.proofs.adding.add_blocks.Given as goal
 
 abbrev pub invariant-loop : goal.invariant-loop

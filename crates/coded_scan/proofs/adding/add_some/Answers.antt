@@ -4,7 +4,7 @@ use Rattle.scan_engine.proofs.AddLemmas.{adds_nothing}
 use Rattle.scan_engine.specs.Places.{rows_at}
 use Rattle.scan_engine.specs.Scanned.{AddsRows}
 use Rattle.coded_columns.specs.Coded.{table_of}
-use Rattle.slot_merge.proofs.MergeSteps.{none-left}
+use Rattle.coded_scan.proofs.MergeSteps.{none-left}
 use Rattle.coded_scan.proofs.adding.add_some.Goals as goal
 
 pub returns-then-is_empty-clause-ok : goal.returns-then-is_empty-clause-ok

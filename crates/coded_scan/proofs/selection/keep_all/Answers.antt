@@ -2,8 +2,8 @@ use Rattle.std.proofs.Common.{◌+◌, ℕ, List, false, get_or, subst, take, ar
 use Rattle.std.proofs.lemmas.List.{take_all}
 use Rattle.scan_engine.specs.Selection.{Keeps}
 use Rattle.scan_engine.proofs.SelectionLemmas.{all-more, and_true, keeps-both}
-use Rattle.row_marks.specs.declared.row_filter.RowFilter.{RowFilter}
-use Rattle.row_marks.specs.RowFilters.{all_let, covers, lets}
+use Rattle.coded_scan.specs.declared.row_filter.RowFilter.{RowFilter}
+use Rattle.coded_scan.specs.RowFilters.{all_let, covers, lets}
 use Rattle.coded_scan.proofs.RowFilterLemmas.{all_at}
 use Rattle.coded_scan.proofs.selection.keep_all.Goals as goal
 

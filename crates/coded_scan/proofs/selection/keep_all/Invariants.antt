@@ -1,6 +1,6 @@
 use Rattle.std.proofs.Common.{◌+◌, take}
 use Rattle.scan_engine.specs.Selection.{Keeps}
-use Rattle.row_marks.specs.RowFilters.{all_let}
+use Rattle.coded_scan.specs.RowFilters.{all_let}
 use Rattle.coded_scan.proofs.selection.keep_all.Given as goal
 
 abbrev pub invariant-loop-at : goal.invariant-loop-at

@@ -1,5 +1,5 @@
 use Rattle.std.proofs.Common.{◌∙◌, ◌+◌, ◌++◌, ◌∷◌, [], ℕ, List, true, ap, sym, append_assoc}
-use Rattle.row_marks.specs.RowFilters.{passing}
+use Rattle.coded_scan.specs.RowFilters.{passing}
 use Rattle.coded_scan.proofs.RowFilterLemmas.{passing-more}
 use Rattle.coded_scan.proofs.selection.push_all.Goals as goal
 

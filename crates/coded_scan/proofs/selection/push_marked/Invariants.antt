@@ -1,5 +1,5 @@
 use Rattle.std.proofs.Common.{◌≡◌, ◌<◌, ◌+◌, ◌++◌, ℕ, Bool, false, get_or}
-use Rattle.row_marks.specs.RowFilters.{passing}
+use Rattle.coded_scan.specs.RowFilters.{passing}
 use Rattle.coded_scan.proofs.selection.push_marked.Given as goal
 
 abbrev pub invariant-loop-at : goal.invariant-loop-at

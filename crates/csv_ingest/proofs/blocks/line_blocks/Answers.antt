@@ -1,4 +1,4 @@
-use Rattle.std.proofs.Common.{◌≡◌, ◌∙◌, ◌∷◌, List, ℕ, length, drop, ap, sym, subst}
+use Rattle.std.proofs.Common.{◌≡◌, ◌∙◌, ◌∷◌, rules, tests, List, ℕ, length, drop, ap, sym, subst}
 use Rattle.csv.specs.Reading.{default_config, records_from}
 use Rattle.csv.specs.Records.{fields_of}
 use Rattle.csv.specs.declared.parser.State.TheVariants as st
@@ -11,8 +11,8 @@ use Rattle.csv_ingest.proofs.LineBlocks.{no-lines}
 use Rattle.csv_ingest.proofs.NumberTextLemmas.{below-header}
 use Rattle.csv_ingest.proofs.blocks.line_blocks.Goals as goal
 
-pub returns-in-Ok-clause-ok : goal.returns-in-Ok-clause-ok
-returns-in-Ok-clause-ok c =
+pub returns-in-Ok : goal.returns-in-Ok
+returns-in-Ok c =
     let text = c.args.text.now in
     let n : ℕ = length text in
     let rest : List ℕ = drop c.args.end text in
@@ -22,15 +22,20 @@ returns-in-Ok-clause-ok c =
     let same : fields_of c.in_ok-names.names ≡ names = ap fields_of (sym c.in-Ok.ensures.names) in
     let first = first-line text c.args.end c.requires.end in
     record {
-      rows = rows_from 0 fields names (records_from default_config n st.StartRecord rest);
-      gives = record {
-        none = λ z. no-lines fields names 0 n rest z;
-        some = λ _. record {
-          at_end = subst AtLineEnd (sym c.from_place.ensures) first.at_end;
-          is = ap (λ t. rows_from 0 fields names (records_from default_config n st.StartRecord t)) (sym c.from_place.ensures);
+      blocks = record { header = h; few = search (rules, tests) };
+      at_most = c.requires.at_most;
+      ok = record {
+        rows = rows_from 0 fields names (records_from default_config n st.StartRecord rest);
+        gives = record {
+          none = λ z. no-lines fields names 0 n rest z;
+          some = λ _. record {
+            at_end = subst AtLineEnd (sym c.from_place.ensures) first.at_end;
+            is = ap (λ t. rows_from 0 fields names (records_from default_config n st.StartRecord t)) (sym c.from_place.ensures);
+          };
         };
+        is = ap (number_rows_in csv_limits) (c.in_ok-names.ensures n)
+            ∙ ap (λ row. number_rows_in csv_limits (row ∷ records_from default_config n st.StartRecord rest)) same
+            ∙ below-header names (records_from default_config n st.StartRecord rest) fields h.few h.fields;
       };
-      is = ap (number_rows_in csv_limits) (c.in_ok-names.ensures n)
-          ∙ ap (λ row. number_rows_in csv_limits (row ∷ records_from default_config n st.StartRecord rest)) same
-          ∙ below-header names (records_from default_config n st.StartRecord rest) fields h.few h.fields;
+      err = tt;
     }

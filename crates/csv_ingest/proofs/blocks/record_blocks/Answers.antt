@@ -1,4 +1,4 @@
-use Rattle.std.proofs.Common.{◌∙◌, ◌+◌, ℕ, List, length, refl, ap, sym}
+use Rattle.std.proofs.Common.{◌∙◌, ◌+◌, rules, tests, ℕ, List, length, refl, ap, sym}
 use Rattle.csv.specs.Reading.{strip_bom}
 use Rattle.csv.specs.Records.{fields_of}
 use Rattle.csv_ingest.specs.Blocks.{rows_from}
@@ -8,26 +8,36 @@ use Rattle.csv_ingest.specs.Rows.{number_rows_in, rows_of, with_schema}
 use Rattle.csv_ingest.proofs.BlockLemmas.{nothing-left}
 use Rattle.csv_ingest.proofs.blocks.record_blocks.Goals as goal
 
-pub returns-in-Ok-clause-ok : goal.returns-in-Ok-clause-ok
-returns-in-Ok-clause-ok c =
+pub returns-in-Ok : goal.returns-in-Ok
+returns-in-Ok c =
     let text : List ℕ = strip_bom c.args.bytes.now in
     let new = c.read_header.new.reader in
     let (left, reads, next) = c.in-Ok.ensures.ok text c.text_reader-reader.ensures.reads in
     let fields = c.in-Ok.header.fields in
     let names : List (List ℕ) = fields_of c.in-Ok.header.names in
     record {
-      rows = rows_from 0 fields names (records_left c.unmarked_len-left.result new left);
-      gives = record {
-        none = λ z. nothing-left fields names 0 c.unmarked_len-left.result new left z;
-        some = λ _. record { rest = left; reads = reads; is = refl };
+      blocks = search (rules, tests);
+      at_most = search (rules, tests);
+      ok = record {
+        rows = rows_from 0 fields names (records_left c.unmarked_len-left.result new left);
+        gives = record {
+          none = λ z. nothing-left fields names 0 c.unmarked_len-left.result new left z;
+          some = λ _. record { rest = left; reads = reads; is = refl };
+        };
+        is = ap (number_rows_in csv_limits) (sym (c.text_reader-reader.ensures.left (length text + 1)))
+            ∙ next (length text)
+            ∙ ap (λ k. with_schema fields (rows_of csv_limits fields names (records_left k new left))) (sym c.unmarked_len-left.ensures.value);
       };
-      is = ap (number_rows_in csv_limits) (sym (c.text_reader-reader.ensures.left (length text + 1)))
-          ∙ next (length text)
-          ∙ ap (λ k. with_schema fields (rows_of csv_limits fields names (records_left k new left))) (sym c.unmarked_len-left.ensures.value);
+      err = tt;
     }
 
-pub returns-clause-err : goal.returns-clause-err
-returns-clause-err c = λ real.
-    let text : List ℕ = strip_bom c.args.bytes.now in
-    ap (number_rows_in csv_limits) (sym (c.text_reader-reader.ensures.left (length text + 1)))
-    ∙ c.in-Err.ensures.err real text c.text_reader-reader.ensures.reads (length text)
+pub returns : goal.returns
+returns c = record {
+  blocks = tt;
+  at_most = tt;
+  ok = tt;
+  err = λ real.
+      let text : List ℕ = strip_bom c.args.bytes.now in
+      ap (number_rows_in csv_limits) (sym (c.text_reader-reader.ensures.left (length text + 1)))
+      ∙ c.in-Err.ensures.err real text c.text_reader-reader.ensures.reads (length text);
+}

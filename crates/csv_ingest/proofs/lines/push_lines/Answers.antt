@@ -1,9 +1,9 @@
-use Rattle.std.proofs.Common.{◌≡◌, ◌∙◌, ◌+◌, Bor, List, ℕ, map, length, ap, subst, sym, arith}
+use Rattle.std.proofs.Common.{◌≡◌, ◌∙◌, ◌+◌, rules, tests, Bor, List, ℕ, map, length, ap, subst, sym, arith}
 use Rattle.std.proofs.lemmas.List.{length-map}
 use Rattle.std.specs.List.{All}
-use Rattle.value_columns.specs.Columns.{Counts}
+use Rattle.values.specs.Columns.{Counts}
 use Rattle.values.specs.declared.value.Value.TheVariants.{Whole}
-use Rattle.value_columns.proofs.RowLemmas.{counts-push}
+use Rattle.values.proofs.RowLemmas.{counts-push}
 use Rattle.csv_ingest.specs.Lines.{IsLine}
 use Rattle.csv_row.proofs.ColumnLemmas.{sorts-stay, widths}
 use Rattle.csv_ingest.proofs.LineRows.{RowsSoFar, are-lines, line-row, no-rows-yet, number-columns, rows-more}
@@ -19,10 +19,10 @@ rows-init c =
       rows = no-rows-yet c.args.layout.now.fields.now (map now c.args.layout.now.names.now) c.args.before c.args.text.now c.args.columns.items c.requires.empty;
     }
 
-pub returns-in_default-clause-lines : goal.returns-in_default-clause-lines
-returns-in_default-clause-lines c =
+pub returns-in_default : goal.returns-in_default
+returns-in_default c =
     let now : Bor (List ℕ) → List ℕ = λ f. f.now in
-    are-lines c.args.layout.now.fields.now (map now c.args.layout.now.names.now) c.args.before c.args.text.now c.rows.columns.items c.rows.i c.rows.taken _ c.rows.invariant.rows c.new-columns.ensures
+    record { lines = are-lines c.args.layout.now.fields.now (map now c.args.layout.now.names.now) c.args.before c.args.text.now c.rows.columns.items c.rows.i c.rows.taken _ c.rows.invariant.rows c.new-columns.ensures; sorts = search (rules, tests); at_most = search (rules, tests) }
 
 pub push_numbers-requires-clause-width : goal.push_numbers-requires-clause-width
 push_numbers-requires-clause-width c = widths c.args.layout.now.fields.now c.rows.columns.items c.rows.invariant.sorts ∙ sym c.rows.invariant.width ∙ sym c.read_line.ensures.width
@@ -48,12 +48,16 @@ rows-preserved c =
       sorts = sorts-stay fields old (map Whole numbers) c.push_numbers.new.columns.items s.sorts new;
       rows = subst (λ columns. RowsSoFar fields header c.args.before c.args.text.now columns (c.rows.i + 1) (c.rows.taken + c.in-Some.len)) (sym new)
           (rows-more fields header c.args.before c.args.text.now old c.rows.i c.rows.taken c.in-Some.len numbers (map Whole numbers) s.rows line
-          (line-row c.args.layout.now c.requires.layout c.requires.straight _ numbers c.in-Some.len (1 + (c.args.before + c.rows.i)) line count (omega (arith, c.requires.few, c.rows-test.true))) wide s.counts);
+          (line-row c.args.layout.now c.requires.layout c.requires.straight _ numbers c.in-Some.len (1 + (c.args.before + c.rows.i)) line count (omega (arith, c.requires.at_most, c.rows-test.true))) wide s.counts);
     }
 
-pub returns-clause-lines : goal.returns-clause-lines
-returns-clause-lines c =
+pub returns : goal.returns
+returns c =
     let now : Bor (List ℕ) → List ℕ = λ f. f.now in
     let all : c.rows.i ≡ c.args.room = omega arith in
-    are-lines c.args.layout.now.fields.now (map now c.args.layout.now.names.now) c.args.before c.args.text.now c.rows.columns.items c.rows.i c.rows.taken _ c.rows.invariant.rows
-    (c.new-columns-2.ensures ∙ ap (λ k. record { columns = c.rows.columns.items; count = k }) (sym all))
+    record {
+      lines = are-lines c.args.layout.now.fields.now (map now c.args.layout.now.names.now) c.args.before c.args.text.now c.rows.columns.items c.rows.i c.rows.taken _ c.rows.invariant.rows
+          (c.new-columns-2.ensures ∙ ap (λ k. record { columns = c.rows.columns.items; count = k }) (sym all));
+      sorts = search (rules, tests);
+      at_most = search (rules, tests);
+    }

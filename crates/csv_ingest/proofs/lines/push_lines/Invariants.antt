@@ -1,6 +1,6 @@
 use Rattle.std.proofs.Common.{◌≡◌, length, map}
 use Rattle.std.specs.List.{All}
-use Rattle.value_columns.specs.Columns.{Counts}
+use Rattle.values.specs.Columns.{Counts}
 use Rattle.csv_row.specs.Columns.{OfSorts}
 use Rattle.csv_ingest.proofs.LineRows.{RowsSoFar}
 use Rattle.csv_ingest.proofs.lines.push_lines.Given as goal

@@ -1,6 +1,6 @@
 use Rattle.std.proofs.Common.{◌≡◌, ◌∙◌, ap, sym, map, take, get_or, pos, refl, rules, to_z, of_z, w64, arith}
-use Rattle.value_columns.proofs.RowLemmas.{push-nil}
-use Rattle.value_columns.specs.Columns.{pushed}
+use Rattle.values.proofs.RowLemmas.{push-nil}
+use Rattle.values.specs.Columns.{pushed}
 use Rattle.values.specs.declared.value.Value.TheVariants.{Whole}
 use Rattle.csv_ingest.proofs.LineRows.{number-more, still-numbers}
 use Rattle.csv_ingest.proofs.lines.push_numbers.Goals as goal

@@ -1,5 +1,5 @@
 use Rattle.std.proofs.Common.{◌≡◌, map, take}
-use Rattle.value_columns.specs.Columns.{row_pushed}
+use Rattle.values.specs.Columns.{row_pushed}
 use Rattle.values.specs.declared.value.Value.TheVariants.{Whole}
 use Rattle.csv_ingest.proofs.lines.push_numbers.Given as goal
 

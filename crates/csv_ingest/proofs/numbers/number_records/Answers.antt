@@ -1,6 +1,6 @@
 use Rattle.std.proofs.Common.{◌∙◌, ℕ, List, Ok, ap, subst, sym, arith}
 use Rattle.csv.specs.Records.{fields_of}
-use Rattle.value_columns.specs.Columns.{rows_of as rows_of_columns}
+use Rattle.values.specs.Columns.{rows_of as rows_of_columns}
 use Rattle.table_schema.specs.declared.field.Schema.{Schema}
 use Rattle.csv_ingest.specs.NumberBlocks.{AreNumbers}
 use Rattle.csv_ingest.specs.Rows.{with_schema}

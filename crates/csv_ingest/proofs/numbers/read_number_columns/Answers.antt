@@ -1,7 +1,7 @@
 use Rattle.std.proofs.Common.{◌≡◌, ◌+◌, ◌≤◌, List, ℕ, length, Ok}
 use Rattle.std.specs.List.{All}
 use Rattle.csv.specs.Reading.{strip_bom}
-use Rattle.value_columns.specs.Columns.{rows_of as rows_of_columns}
+use Rattle.values.specs.Columns.{rows_of as rows_of_columns}
 use Rattle.csv_ingest.specs.Reading.{Reads, records_left}
 use Rattle.csv_row.specs.Row.{csv_limits}
 use Rattle.csv_ingest.specs.Rows.{IsNumbers, number_rows_in}
@@ -19,8 +19,8 @@ returns-clause-numbers c =
     (λ table is. numbers-plain csv_limits (records_left (c.unmarked_len.result + 1) c.text_reader-reader.result (strip_bom c.args.bytes.now)) (table.0, rows_of_columns table.1) (is (strip_bom c.args.bytes.now) c.text_reader-reader.ensures.reads))
     c.number_records.ensures.ok
 
-pub returns-clause-few : goal.returns-clause-few
-returns-clause-few c =
+pub returns-clause-at_most : goal.returns-clause-at_most
+returns-clause-at_most c =
     ok-at c.number_records.result
     (λ table. (rest : List ℕ) → Reads c.text_reader-reader.result rest → number_rows_in csv_limits (records_left (c.unmarked_len.result + 1) c.text_reader-reader.result rest) ≡ Ok (table.0, rows_of_columns table.1))
     (λ table. length table.0.fields ≤ 64)

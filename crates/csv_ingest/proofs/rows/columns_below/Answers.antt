@@ -1,6 +1,6 @@
 use Rattle.std.proofs.Common.{◌≡◌, ℕ, List, Ok, subst}
 use Rattle.table_schema.specs.declared.field.Field.{Field}
-use Rattle.value_columns.specs.Columns.{rows_of as rows_of_columns}
+use Rattle.values.specs.Columns.{rows_of as rows_of_columns}
 use Rattle.csv_row.specs.Layouts.{header_of}
 use Rattle.csv_ingest.specs.Reading.{records_left}
 use Rattle.csv_row.specs.Row.{csv_limits}

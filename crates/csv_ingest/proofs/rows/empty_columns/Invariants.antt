@@ -1,6 +1,6 @@
 use Rattle.std.proofs.Common.{◌≡◌, map, take}
 use Rattle.std.specs.List.{All}
-use Rattle.value_columns.specs.Columns.{Counts}
+use Rattle.values.specs.Columns.{Counts}
 use Rattle.csv_row.specs.Columns.{is_text_kind}
 use Rattle.csv_ingest.proofs.rows.empty_columns.Given as goal
 

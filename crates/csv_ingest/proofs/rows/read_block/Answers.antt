@@ -1,8 +1,8 @@
 use Rattle.std.proofs.Common.{◌≡◌, ◌∙◌, ◌+◌, ◌++◌, ◌∷◌, [], Bor, ℕ, List, Ok, Err, refl, map, ap, sym, subst, arith}
 use Rattle.std.specs.List.{All}
 use Rattle.csv.specs.Records.{fields_of}
-use Rattle.value_columns.specs.Columns.{Counts, rows_in_columns}
-use Rattle.value_columns.proofs.RowLemmas.{counts-push, rows-push}
+use Rattle.values.specs.Columns.{Counts, rows_in_columns}
+use Rattle.values.proofs.RowLemmas.{counts-push, rows-push}
 use Rattle.csv_ingest.specs.Blocks.{IsBlock, IsFullBlock, IsLastBlock}
 use Rattle.csv_row.specs.Row.{csv_limits, row_at}
 use Rattle.csv_ingest.proofs.BlockLemmas.{begins, ends-all, one-fault, one-more, no-rows}

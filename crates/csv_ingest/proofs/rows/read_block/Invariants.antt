@@ -1,6 +1,6 @@
 use Rattle.std.proofs.Common.{ℕ, List, map}
 use Rattle.std.specs.List.{All}
-use Rattle.value_columns.specs.Columns.{Counts, rows_in_columns}
+use Rattle.values.specs.Columns.{Counts, rows_in_columns}
 use Rattle.csv_ingest.specs.Blocks.{IsBlock}
 use Rattle.csv_row.specs.Columns.{OfSorts}
 use Rattle.csv_ingest.specs.Reading.{Reads}

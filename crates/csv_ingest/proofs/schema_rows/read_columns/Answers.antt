@@ -1,6 +1,6 @@
 use Rattle.std.proofs.Common.{◌≡◌, ◌+◌, List, ℕ, Ok, sym, ap, ◌∙◌}
 use Rattle.csv.specs.Reading.{strip_bom}
-use Rattle.value_columns.specs.Columns.{rows_of as rows_of_columns}
+use Rattle.values.specs.Columns.{rows_of as rows_of_columns}
 use Rattle.table_schema.specs.ValidTable.{AreRows}
 use Rattle.csv_ingest.specs.Reading.{Reads, records_left}
 use Rattle.csv_row.specs.Row.{csv_limits}

@@ -1,7 +1,7 @@
 use Rattle.std.proofs.Common.{◌≡◌, ◌∙◌, Bor, ℕ, List, Ok, Err, IsOk, map, ap, subst}
 use Rattle.csv.specs.Records.{fields_of}
 use Rattle.csv_ingest.specs.Names.{schema_name}
-use Rattle.value_columns.specs.Columns.{rows_of as rows_of_columns}
+use Rattle.values.specs.Columns.{rows_of as rows_of_columns}
 use Rattle.csv_ingest.specs.Reading.{records_left}
 use Rattle.csv_row.specs.Row.{csv_limits}
 use Rattle.csv_ingest.specs.Rows.{header_of, rows_of}

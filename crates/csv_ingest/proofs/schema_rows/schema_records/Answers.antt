@@ -13,8 +13,8 @@ returns-then-not-branch-clause-err c = λ _ rest r.
     let none = rw c.if-not-branch.true at (c.in_ok-next_record.ensures rest r) in
     ap (rows_in csv_limits c.args.fields.now) (none c.args.most) ∙ no-names c.args.fields.now
 
-pub schema_columns-requires-clause-few : goal.schema_columns-requires-clause-few
-schema_columns-requires-clause-few c =
+pub schema_columns-requires-clause-at_most : goal.schema_columns-requires-clause-at_most
+schema_columns-requires-clause-at_most c =
     let (rest, reads, within) = c.requires.left in
     let (after, reads_on, next) = rw c.if-not-branch.false at (c.in_ok-next_record.ensures rest reads) in
     let few = cells-count c.args.reader.now rest (fields_of c.next_record.new.row) (records_left 0 c.next_record.new.reader after) (next 0) in

@@ -1,4 +1,4 @@
-use Rattle.value_ids.proofs.Distinct.{distinct_ascends, distinct_members, same_ascending}
+use Rattle.value_ids.proofs.DistinctLemmas.{distinct_ascends, distinct_members, same_ascending}
 use Rattle.dictionary.proofs.laws.distinct_law.Goals as goal
 
 pub returns : goal.returns

@@ -1,8 +1,8 @@
 use Rattle.std.proofs.Common.{◌∙◌, Some, ap, subst, sym}
 use Rattle.command_words.specs.CommandView.{IsNamed, command_view}
-use Rattle.command_reads.specs.Ran.{Ran}
+use Rattle.command_model.specs.Ran.{Ran}
 use Rattle.outside.specs.Seen.{seen}
-use Rattle.command_reads.specs.World.{devices}
+use Rattle.command_model.specs.World.{devices}
 use Rattle.pinot_run.proofs.run.reply_to.Goals as goal
 
 pub returns-in-Some-Scan : goal.returns-in-Some-Scan

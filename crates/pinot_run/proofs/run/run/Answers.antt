@@ -2,9 +2,9 @@ use Rattle.std.proofs.Common.{◌∙◌, Err, ap, map, string_bytes, subst, sym}
 use Rattle.command_words.specs.Command.{command_of}
 use Rattle.command_words.specs.Notes.{is_fault}
 use Rattle.pinot_run.specs.Promise.{Noted, Promise}
-use Rattle.command_reads.specs.Ran.{Ran}
+use Rattle.command_model.specs.Ran.{Ran}
 use Rattle.outside.specs.Seen.{Heard, heard}
-use Rattle.command_reads.specs.World.{devices, world}
+use Rattle.command_model.specs.World.{devices, world}
 use Rattle.pinot_run.proofs.PromiseLemmas.{after, fault_promise, faults_are, line_promise, text_promise}
 use Rattle.pinot_run.proofs.run.run.Goals as goal
 

@@ -1,16 +1,16 @@
 use Rattle.std.proofs.Common.{Ok, ap, ◌∙◌}
-use Rattle.query_where.specs.Names.{where_finding}
-use Rattle.query_where.specs.Written.{where_written}
-use Rattle.query_where.specs.Conjuncts.{where_conjuncts}
+use Rattle.query_bind.specs.Names.{where_finding}
+use Rattle.query_bind.specs.Written.{where_written}
+use Rattle.query_bind.specs.Conjuncts.{where_conjuncts}
 use Rattle.query_bind.proofs.BoundLemmas.{answers_bound, where_passes}
-use Rattle.bound_parts.proofs.ValidLemmas.{binds_valid}
+use Rattle.query_bind.proofs.ValidLemmas.{binds_valid}
 use Rattle.query_bind.proofs.bound.bind.Goals as goal
 
 pub returns-clause-bound : goal.returns-clause-bound
 returns-clause-bound c =
     let checked = c.in_ok-terms.ensures.checked in
-    let conjuncts = where_conjuncts (where_written c.as_slice-fields.result.now c.args.query.now.condition) in
-    let form = ap (λ fields. where_conjuncts (where_written fields c.args.query.now.condition)) c.as_slice-fields.ensures in
+    let conjuncts = where_conjuncts (where_written c.as_slice-all.result.now c.args.query.now.condition) in
+    let form = ap (λ fields. where_conjuncts (where_written fields c.args.query.now.condition)) c.as_slice-all.ensures in
     answers_bound c.args.table.now c.args.any_table c.args.query.now (c.in_ok-terms.terms, c.in_ok-terms.lists) conjuncts c.in_ok-bound.bound checked.0 checked.1 form c.in_ok-bound.ensures.bound
 
 pub returns-clause-valid : goal.returns-clause-valid
@@ -19,4 +19,4 @@ returns-clause-valid c = binds_valid c.args.table.now c.args.any_table c.args.qu
 pub assemble-requires-clause-checked : goal.assemble-requires-clause-checked
 assemble-requires-clause-checked c =
     let table = c.args.table.now in
-    ap (λ fields. where_finding fields c.args.query.now.condition) c.as_slice-fields.ensures ∙ where_passes table c.args.any_table c.args.query.now c.in_ok-terms.ensures.checked.0
+    ap (λ fields. where_finding fields c.args.query.now.condition) c.as_slice-all.ensures ∙ where_passes table c.args.any_table c.args.query.now c.in_ok-terms.ensures.checked.0

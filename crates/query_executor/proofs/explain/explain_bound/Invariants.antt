@@ -1,7 +1,7 @@
 use Rattle.outside.specs.Seen.{OnlyReads, seen}
-use Rattle.segment_pass.specs.Lines.{plan_line}
-use Rattle.segment_opening.specs.Logs.{LogsHeadsOf}
-use Rattle.segment_pass.specs.Steps.{HasLines}
+use Rattle.query_executor.specs.Lines.{plan_line}
+use Rattle.segment_reads.specs.Logs.{LogsHeadsOf}
+use Rattle.query_executor.specs.Steps.{HasLines}
 use Rattle.query_executor.proofs.explain.explain_bound.Given as goal
 
 abbrev pub invariant-names : goal.invariant-names

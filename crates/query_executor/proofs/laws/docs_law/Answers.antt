@@ -1,5 +1,5 @@
 use Rattle.std.proofs.Common.{◌∙◌, ap, length}
-use Rattle.segment_opening.specs.Looked.{docs_by}
+use Rattle.segment_reads.specs.Looked.{docs_by}
 use Rattle.query_executor.proofs.laws.docs_law.Goals as goal
 
 pub returns : goal.returns

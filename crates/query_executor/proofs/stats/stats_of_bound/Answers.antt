@@ -1,51 +1,79 @@
-use Rattle.std.proofs.Common.{false, length}
+use Rattle.std.proofs.Common.{◌∙◌, ◌++◌, ◌∷◌, ℕ, List, Err, IfSome, refl, sym, ap, subst}
 use Rattle.outside.specs.Seen.{Seen, seen}
-use Rattle.outside.proofs.ReadLemmas.{on-err}
 use Rattle.sql_reply.specs.declared.fault.SqlFault.TheVariants.{NoMemory}
-use Rattle.segment_opening.specs.Logs.{IsFileOf}
-use Rattle.segment_opening.specs.Reads.{LogsEach, ReadsPlanned}
-use Rattle.segment_pass.specs.declared.fault.ExecutorFault.TheVariants.{NotASegment, ReadFault, Sql}
-use Rattle.segment_pass.proofs.EndLemmas.{fault_if, fault_not, fault_ok, gives_fault, memory_refused, reads_unread}
-use Rattle.segment_pass.proofs.FaultLemmas.{memory_not_bad_at, memory_not_read_at}
-use Rattle.segment_opening.proofs.LogLemmas.{logs_none}
-use Rattle.segment_pass.proofs.Unread.{unread}
+use Rattle.query_executor.specs.Answers.{IsBoundReply}
+use Rattle.query_executor.specs.declared.fault.ExecutorFault.TheVariants.{Sql}
+use Rattle.query_executor.proofs.EndLemmas.{fault_if, gives_fault, memory_refused, no_fault, own_fault}
+use Rattle.query_executor.proofs.PassLemmas.{pass_done, pass_failed, pass_lacking}
+use Rattle.query_executor.proofs.ReplyLemmas.{all_answered, groups_no_text, too_many_refused}
+use Rattle.query_executor.proofs.StatedLemmas.{bound_stated}
 use Rattle.query_executor.proofs.stats.stats_of_bound.Goals as goal
 
-pub stats_over-reply-requires : goal.stats_over-reply-requires
-stats_over-reply-requires g c = record {
-  valid = c.requires.valid;
-  named = c.requires.named;
-  few = c.requires.few;
-  query = c.requires.query;
-  new = c.in_ok-pass.ensures.groups;
-  none = c.in_ok-pass.ensures.lines;
-  wants = c.in_ok-pass.ensures.wants;
+pub answer-requires : goal.answer-requires
+answer-requires g c = record {
+  table = c.in-Ok.ensures.made.of_query;
+  valid = (c.args.table.now, c.requires.query);
+  most = c.in-Ok.ensures.made.most;
 }
 
-pub returns-in_err-pass : goal.returns-in_err-pass
-returns-in_err-pass g c =
+pub returns-in-Err : goal.returns-in-Err
+returns-in-Err g c =
     let query = c.args.query.now in
     let table = c.args.table.now in
+    let names : List (List ℕ) = c.args.names.now in
     let a : Seen = seen g.S.Shelf c.args.shelf.now in
+    let b : Seen = seen g.S.Shelf c.pass_over.new.shelf in
+    let own = c.in-Err.fault in
+    record {
+      reply = tt;
+      refused = λ fault e real.
+          let (most, over) = c.in-Err.ensures.refused fault (ap Err (own_fault _ own (Sql fault) e)) real in
+          (groups_no_text fault 100000 most, subst (λ f. IfSome a.held (λ files. IsBoundReply table files names query (Err f))) (sym most) (too_many_refused query table names a.held over));
+      passes = pass_failed query table names _ _ own a b c.in-Err.ensures.passes;
+    }
+
+pub returns-in_err-reply : goal.returns-in_err-reply
+returns-in_err-reply g c =
+    let query = c.args.query.now in
+    let table = c.args.table.now in
+    let names : List (List ℕ) = c.args.names.now in
+    let a : Seen = seen g.S.Shelf c.args.shelf.now in
+    let b : Seen = seen g.S.Shelf c.pass_over.new.shelf in
     let r = c.from_residual.result in
     let is = gives_fault _ r (Sql NoMemory) c.from_residual.ensures.1 in
     record {
       reply = fault_if _ r (Sql NoMemory) _ is;
       refused = λ fault e real. absurd (memory_refused _ r fault is e real);
-      bad = λ at part e. absurd (fault_not _ r (Sql NoMemory) (NotASegment at part) (memory_not_bad_at at part) is e);
-      only_reads = reads_unread _ a (λ e. fault_not _ r (Sql NoMemory) ReadFault memory_not_read_at is e);
-      log = logs_none (IsFileOf c.args.names.now) a.log;
-      reads = fault_ok _ r (Sql NoMemory) _ is;
-      reads_of_fault = on-err r (LogsEach (ReadsPlanned query table false) table a.held c.args.names.now (length c.args.names.now) a.log a.log) (unread c.docs_bound_law.ensures.bound query table c.requires.valid a.held c.args.names.now a.log);
+      passes = pass_lacking query table names _ _ c.in-Ok.pass r a b is c.in-Ok.ensures.passes;
+    }
+
+pub returns-in_err-with_lines : goal.returns-in_err-with_lines
+returns-in_err-with_lines g c =
+    let query = c.args.query.now in
+    let table = c.args.table.now in
+    let names : List (List ℕ) = c.args.names.now in
+    let a : Seen = seen g.S.Shelf c.args.shelf.now in
+    let b : Seen = seen g.S.Shelf c.pass_over.new.shelf in
+    let r = c.from_residual-in_err-with_lines.result in
+    let is = gives_fault _ r (Sql NoMemory) c.from_residual-in_err-with_lines.ensures.1 in
+    record {
+      reply = fault_if _ r (Sql NoMemory) _ is;
+      refused = λ fault e real. absurd (memory_refused _ r fault is e real);
+      passes = pass_lacking query table names _ _ c.in-Ok.pass r a b is c.in-Ok.ensures.passes;
     }
 
 pub returns : goal.returns
-returns g c = record {
-  reply = c.stats_over-reply.ensures.reply;
-  refused = c.stats_over-reply.ensures.refused;
-  bad = c.stats_over-reply.ensures.bad;
-  only_reads = c.stats_over-reply.ensures.only_reads;
-  log = c.stats_over-reply.ensures.log;
-  reads = c.stats_over-reply.ensures.reads;
-  reads_of_fault = c.stats_over-reply.ensures.reads_of_fault;
-}
+returns g c =
+    let query = c.args.query.now in
+    let table = c.args.table.now in
+    let names : List (List ℕ) = c.args.names.now in
+    let a : Seen = seen g.S.Shelf c.args.shelf.now in
+    let b : Seen = seen g.S.Shelf c.pass_over.new.shelf in
+    let text : List ℕ = c.in_ok-reply.reply in
+    record {
+      reply = bound_stated query table names a.held text c.in-Ok.pass.lines.items _
+          (all_answered query table names a.held c.in-Ok.pass.groups text c.in-Ok.ensures.made.groups c.in_ok-reply.ensures) (c.in-Ok.ensures.made.lines refl)
+          (c.in_ok-with_lines.ensures ∙ ap (λ l. text ++ (10 ∷ l)) c.as_slice.ensures.value);
+      refused = λ fault e real. absurd (no_fault _ _ (Sql fault) e);
+      passes = pass_done query table names _ _ c.in-Ok.pass _ a b c.in-Ok.ensures.passes;
+    }

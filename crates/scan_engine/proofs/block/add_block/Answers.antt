@@ -2,26 +2,33 @@ use Rattle.std.proofs.Common.{◌≡◌, ◌∙◌, ◌≤◌, ◌-◌, ℕ, Lis
 use Rattle.std.proofs.lemmas.Result.{IfOk-weaker}
 use Rattle.agg_laws.specs.Numbers.{most_values}
 use Rattle.values.specs.declared.value.Value.{Value}
-use Rattle.value_columns.specs.Columns.{ListedColumns, rows_of}
+use Rattle.values.specs.Columns.{ListedColumns, rows_of}
 use Rattle.group_table.specs.Kept.{groups_in}
 use Rattle.table_schema.specs.declared.query.BoundQuery.{BoundQuery}
 use Rattle.scan_engine.specs.Places.{rows_at}
-use Rattle.scan_engine.specs.Scanned.{AddsRows, selected}
+use Rattle.scan_engine.specs.Scanned.{AddsRows, IsOverfull, selected}
 use Rattle.scan_engine.proofs.AddLemmas.{at_most_more}
 use Rattle.scan_engine.proofs.RunLemmas.{adds_as_more}
 use Rattle.scan_engine.proofs.block.add_block.Goals as goal
 
-pub add_places-requires-clause-fits : goal.add_places-requires-clause-fits
-add_places-requires-clause-fits c =
+pub add_places-requires : goal.add_places-requires
+add_places-requires c =
     let count : ℕ = c.args.block.now.count in
     let few : length c.as_slice.result.now ≤ count = subst (λ (l : List ℕ). length l ≤ count) (sym c.as_slice.ensures.value) c.in_ok-places.ensures.count in
-    at_most_more (groups_in c.args.table.now) (most_values - count) (most_values - length c.as_slice.result.now) (omega (arith, few)) c.requires.fits
+    record {
+      of_query = c.requires.room.of_query;
+      at_most = omega (arith, few, c.requires.room.at_most);
+      fits = at_most_more (groups_in c.args.table.now) (most_values - count) (most_values - length c.as_slice.result.now) (omega (arith, few)) c.requires.room.fits;
+    }
 
-pub returns-clause-ok : goal.returns-clause-ok
-returns-clause-ok c =
+pub returns : goal.returns
+returns c =
     let q : BoundQuery = c.args.query.now in
     let b : ListedColumns = c.args.block.now in
     let few : length c.as_slice.result.now ≤ b.count = subst (λ (l : List ℕ). length l ≤ b.count) (sym c.as_slice.ensures.value) c.in_ok-places.ensures.count in
     let rows : rows_at b.columns c.as_slice.result.now ≡ selected q (rows_of b) = ap (rows_at b.columns) c.as_slice.ensures.value ∙ c.in_ok-places.ensures.rows in
-    IfOk-weaker c.add_places.result _ _ (λ u a. subst (λ (l : List (List Value)). AddsRows q b.count l c.args.table.now c.add_places.new.table) rows
-    (adds_as_more q (length c.as_slice.result.now) b.count (rows_at b.columns c.as_slice.result.now) c.args.table.now c.add_places.new.table few a)) c.add_places.ensures.ok
+    record {
+      added = IfOk-weaker c.add_places.result _ _ (λ u a. subst (λ (l : List (List Value)). AddsRows q b.count l c.args.table.now c.add_places.new.table) rows
+          (adds_as_more q (length c.as_slice.result.now) b.count (rows_at b.columns c.as_slice.result.now) c.args.table.now c.add_places.new.table few a)) c.add_places.ensures.added;
+      full = λ bad. subst (λ (l : List (List Value)). IsOverfull q l c.args.table.now) rows (c.add_places.ensures.full bad);
+    }

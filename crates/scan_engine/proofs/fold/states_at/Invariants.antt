@@ -6,6 +6,6 @@ use Rattle.scan_engine.proofs.fold.states_at.Given as goal
 
 abbrev pub invariant-loop-agg : goal.invariant-loop-agg
 invariant-loop-agg l = record {
-  states : l.states ≡ states_of (take l.agg-index l.aggs) (rows_at l.block.columns l.places);
+  states : l.states ≡ states_of (take l.agg-index l.aggs) (rows_at l.block.columns.now.columns l.places);
   fits : RowFits l.states (length l.places);
 }

@@ -4,5 +4,5 @@ use Rattle.scan_engine.proofs.holds.numbers_of.Goals as goal
 
 pub returns : goal.returns
 returns c =
-    let got : slice_get c.args.table.now.columns c.args.field ≡ Some c.column.result.now = ap (slice_get c.args.table.now.columns) (sym c.from-field.ensures) ∙ c.column.ensures.place in
-    numbers-of c.args.table.now c.args.field c.column.result.now c.in-Some.numbers.now got c.column.ensures.count c.in-Some.ensures
+    let got : slice_get c.args.table.columns.now.columns c.args.field ≡ Some c.column.result.now = ap (slice_get c.args.table.columns.now.columns) (sym c.from-field.ensures) ∙ c.column.ensures.place in
+    numbers-of c.args.table.columns.now c.args.field c.column.result.now c.in-Some.numbers.now got c.column.ensures.count c.in-Some.ensures

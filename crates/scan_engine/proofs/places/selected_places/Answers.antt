@@ -1,8 +1,8 @@
 use Rattle.std.proofs.Common.{◌≡◌, ◌∙◌, ◌++◌, ◌<◌, ◌≤◌, ◌+◌, ℕ, Bool, List, ap, sym, subst, arith, length}
 use Rattle.std.proofs.lemmas.List.{take_all}
 use Rattle.values.specs.declared.value.Value.{Value}
-use Rattle.value_columns.specs.Columns.{ListedColumns, row_of, rows_of}
-use Rattle.value_columns.proofs.RowLemmas.{length-rows, row-at}
+use Rattle.values.specs.Columns.{ListedColumns, row_of, rows_of}
+use Rattle.values.proofs.RowLemmas.{length-rows, row-at}
 use Rattle.table_schema.specs.declared.query.BoundQuery.{BoundQuery}
 use Rattle.scan_engine.specs.Places.{rows_at}
 use Rattle.scan_engine.specs.Scanned.{marked, selected}
@@ -13,7 +13,7 @@ use Rattle.scan_engine.proofs.places.selected_places.Goals as goal
 pub loop-at-preserved : goal.loop-at-preserved
 loop-at-preserved c =
     let q : BoundQuery = c.args.query.now in
-    let b : ListedColumns = c.args.block.now in
+    let b : ListedColumns = c.args.block.columns.now in
     let at : ℕ = c.loop-at.at in
     let mark : Bool = c.index.result.now in
     let row : List Value = row_of b.columns at in
@@ -29,6 +29,6 @@ loop-at-preserved c =
 pub returns-clause-rows : goal.returns-clause-rows
 returns-clause-rows c =
     let q : BoundQuery = c.args.query.now in
-    let b : ListedColumns = c.args.block.now in
+    let b : ListedColumns = c.args.block.columns.now in
     let rows : length (rows_of b) ≡ b.count = length-rows b.count b.columns c.len-at-end.ensures.each in
     c.loop-at.invariant.rows ∙ ap (selected q) (take_all c.loop-at.at (rows_of b) (omega (arith, rows, c.len-at-end.ensures.count)))

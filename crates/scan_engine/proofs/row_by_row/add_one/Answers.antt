@@ -1,6 +1,6 @@
 use Rattle.std.proofs.Common.{◌≡◌, ◌∙◌, [], ◌∷◌, ℕ, map, subst, sym, ap}
 use Rattle.std.specs.Prelude.{ℤ, List}
-use Rattle.value_columns.specs.Columns.{row_of}
+use Rattle.values.specs.Columns.{row_of}
 use Rattle.agg_laws.specs.Numbers.{AreWhole}
 use Rattle.agg_laws.specs.Rows as laws
 use Rattle.group_table.specs.Groups.{key_of, number_for}
@@ -14,18 +14,24 @@ add_row-requires-clause-fits c =
     with_fits _ c.in_ok-key.key (laws.row_of c.args.table.now.kinds (c.deref.result.now ∷ [])) 536870911 1 c.requires.fits
     (row_fits c.args.table.now.kinds c.deref.result.now whole)
 
-pub returns-in-Err-clause-full : goal.returns-in-Err-clause-full
-returns-in-Err-clause-full c = λ bad.
-    let row = row_of c.args.block.now.columns c.args.at in
-    let key : c.in_ok-key.key ≡ key_of c.args.query.now.groups row = c.in_ok-key.ensures ∙ ap (λ (l : List ℕ). key_of l row) c.as_slice.ensures in
-    let full = c.add_row.ensures.full.0 (c.in-Err.is ∙ same_fault _ _ bad) in
-    no_room c.args.query.now row c.in_ok-key.key c.args.table.now key full.0 full.1
+pub returns-in-Err : goal.returns-in-Err
+returns-in-Err c = record {
+  added = tt;
+  full = λ bad.
+      let row = row_of c.args.block.columns.now.columns c.args.at in
+      let key : c.in_ok-key.key ≡ key_of c.args.query.now.groups row = c.in_ok-key.ensures ∙ ap (λ (l : List ℕ). key_of l row) c.as_slice.ensures in
+      let full = c.add_row.ensures.full.0 (c.in-Err.is ∙ same_fault _ _ bad) in
+      no_room c.args.query.now row c.in_ok-key.key c.args.table.now key full.0 full.1;
+}
 
-pub returns-clause-ok : goal.returns-clause-ok
-returns-clause-ok c =
-    let row = row_of c.args.block.now.columns c.args.at in
+pub returns : goal.returns
+returns c =
+    let row = row_of c.args.block.columns.now.columns c.args.at in
     let whole : AreWhole c.deref.result.now = subst (λ (l : List ℤ). AreWhole l) (sym c.deref.ensures.value) c.in_ok-fill_values.ensures.whole in
     let key : c.in_ok-key.key ≡ key_of c.args.query.now.groups row = c.in_ok-key.ensures ∙ ap (λ (l : List ℕ). key_of l row) c.as_slice.ensures in
     let values : c.deref.result.now ≡ map (λ agg. number_for agg row) c.args.query.now.aggs =
     c.deref.ensures.value ∙ c.in_ok-fill_values.ensures.values ∙ ap (map (λ agg. number_for agg row)) c.as_slice-2.ensures in
-    adds_one c.args.query.now row c.in_ok-key.key c.deref.result.now c.args.table.now c.add_row.new.self c.requires.table key values whole c.in_default.ensures.ok
+    record {
+      full = λ bad. absurd cc;
+      added = adds_one c.args.query.now row c.in_ok-key.key c.deref.result.now c.args.table.now c.add_row.new.self c.requires.of_query key values whole c.in_default.ensures.ok;
+    }

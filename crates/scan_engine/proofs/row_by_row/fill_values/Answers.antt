@@ -3,7 +3,7 @@ use Rattle.std.proofs.lemmas.Int.{to_z-of_z}
 use Rattle.std.specs.Prelude.{ℤ}
 use Rattle.std.proofs.lemmas.Grind.{common_steps}
 use Rattle.std.proofs.lemmas.List.{take_all}
-use Rattle.value_columns.specs.Columns.{row_of}
+use Rattle.values.specs.Columns.{row_of}
 use Rattle.agg_laws.specs.Numbers.{AreWhole}
 use Rattle.table_schema.specs.declared.query.Agg.{Agg}
 use Rattle.group_table.specs.Groups.{number_for}
@@ -18,5 +18,5 @@ loop-agg-preserved c = record {
 }
 
 pub returns-clause-values : goal.returns-clause-values
-returns-clause-values c = subst (λ (aggs : List Agg). c.loop-agg.values.items ≡ map (λ agg. number_for agg (row_of c.args.block.now.columns c.args.at)) aggs)
+returns-clause-values c = subst (λ (aggs : List Agg). c.loop-agg.values.items ≡ map (λ agg. number_for agg (row_of c.args.block.columns.now.columns c.args.at)) aggs)
     (take_all c.loop-agg.agg-index c.args.aggs.now c.loop-agg-test.false) c.loop-agg.invariant.values

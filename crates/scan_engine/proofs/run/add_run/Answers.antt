@@ -12,24 +12,24 @@ use Rattle.scan_engine.proofs.run.add_run.Goals as goal
 
 pub merge_row-requires-clause-kinds : goal.merge_row-requires-clause-kinds
 merge_row-requires-clause-kinds c =
-    let run = rows_at c.args.block.now.columns c.args.places.now in
-    ap kinds_of (c.in_ok-states.ensures.states ∙ ap (λ (aggs : List Agg). states_of aggs run) c.as_slice.ensures) ∙ kinds_states c.args.query.now.aggs run ∙ sym c.requires.table.kinds
+    let run = rows_at c.args.block.columns.now.columns c.args.places.now in
+    ap kinds_of (c.in_ok-states.ensures.states ∙ ap (λ (aggs : List Agg). states_of aggs run) c.as_slice.ensures) ∙ kinds_states c.args.query.now.aggs run ∙ sym c.requires.room.of_query.kinds
 
 pub merge_row-requires-clause-values : goal.merge_row-requires-clause-values
 merge_row-requires-clause-values c = λ lt.
-    let run = rows_at c.args.block.now.columns c.args.places.now in
-    subst (λ (s : List AggState). HaveValues s) (sym c.in_ok-states.ensures.states) (states_have c.as_slice.result.now run (c.requires.run.some (subst (λ n. 0 < n) c.requires.table.columns lt)))
+    let run = rows_at c.args.block.columns.now.columns c.args.places.now in
+    subst (λ (s : List AggState). HaveValues s) (sym c.in_ok-states.ensures.states) (states_have c.as_slice.result.now run (c.requires.run.some (subst (λ n. 0 < n) c.requires.room.of_query.columns lt)))
 
 pub merge_row-requires-clause-fits : goal.merge_row-requires-clause-fits
-merge_row-requires-clause-fits c = merged_within (groups_in c.args.table.now) c.args.key.now c.in_ok-states.states (length c.args.places.now) c.requires.few c.requires.fits c.in_ok-states.ensures.fits
+merge_row-requires-clause-fits c = merged_within (groups_in c.args.table.now) c.args.key.now c.in_ok-states.states (length c.args.places.now) c.requires.room.at_most c.requires.room.fits c.in_ok-states.ensures.fits
 
-pub returns-clause-ok : goal.returns-clause-ok
-returns-clause-ok c =
-    let run = rows_at c.args.block.now.columns c.args.places.now in
-    IfOk-weaker c.merge_row.result _ _ (λ u m. adds_run c.args.query.now (length c.args.places.now) run c.args.key.now c.in_ok-states.states c.args.table.now c.merge_row.new.self
-    c.requires.table c.requires.run (c.in_ok-states.ensures.states ∙ ap (λ (aggs : List Agg). states_of aggs run) c.as_slice.ensures) c.in_ok-states.ensures.fits m) c.merge_row.ensures.ok
-
-pub returns-clause-full : goal.returns-clause-full
-returns-clause-full c = λ bad.
-    let full = c.merge_row.ensures.full.0 bad in
-    no_room_for_run c.args.query.now (rows_at c.args.block.now.columns c.args.places.now) c.args.key.now c.args.table.now c.requires.run full.0 full.1
+pub returns : goal.returns
+returns c =
+    let run = rows_at c.args.block.columns.now.columns c.args.places.now in
+    record {
+      added = IfOk-weaker c.merge_row.result _ _ (λ u m. adds_run c.args.query.now (length c.args.places.now) run c.args.key.now c.in_ok-states.states c.args.table.now c.merge_row.new.self
+          c.requires.room.of_query c.requires.run (c.in_ok-states.ensures.states ∙ ap (λ (aggs : List Agg). states_of aggs run) c.as_slice.ensures) c.in_ok-states.ensures.fits m) c.merge_row.ensures.ok;
+      full = λ bad.
+          let full = c.merge_row.ensures.full.0 bad in
+          no_room_for_run c.args.query.now run c.args.key.now c.args.table.now c.requires.run full.0 full.1;
+    }

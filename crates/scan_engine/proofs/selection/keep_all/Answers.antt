@@ -1,6 +1,6 @@
 use Rattle.std.proofs.Common.{ℕ, Bool, List, subst, take}
 use Rattle.std.proofs.lemmas.List.{take_all}
-use Rattle.value_columns.specs.Columns.{row_of}
+use Rattle.values.specs.Columns.{row_of}
 use Rattle.table_schema.specs.Conditions.{all_hold, conjunct_holds}
 use Rattle.table_schema.specs.declared.query.Conjunct.{Conjunct}
 use Rattle.scan_engine.specs.Selection.{Keeps}
@@ -12,7 +12,7 @@ loop-conjunct-init c = λ at lt. and_true _
 
 pub loop-conjunct-preserved : goal.loop-conjunct-preserved
 loop-conjunct-preserved c =
-    let columns = c.args.table.now.columns in
+    let columns = c.args.table.columns.now.columns in
     let i = c.loop-conjunct.conjunct-index in
     let first : ℕ → Bool = λ at. all_hold (row_of columns at) (take i c.args.conjuncts.now) in
     let next : ℕ → Bool = λ at. conjunct_holds (row_of columns at) c.conjunct-item.result in
@@ -21,5 +21,5 @@ loop-conjunct-preserved c =
 
 pub returns : goal.returns
 returns c =
-    subst (λ (conjuncts : List Conjunct). Keeps (λ at. all_hold (row_of c.args.table.now.columns at) conjuncts) c.args.marks.now c.loop-conjunct.marks)
+    subst (λ (conjuncts : List Conjunct). Keeps (λ at. all_hold (row_of c.args.table.columns.now.columns at) conjuncts) c.args.marks.now c.loop-conjunct.marks)
     (take_all c.loop-conjunct.conjunct-index c.args.conjuncts.now c.loop-conjunct-test.false) c.loop-conjunct.invariant

@@ -1,5 +1,5 @@
 use Rattle.std.proofs.Common.{◌<◌, ◌∙◌, ◌&&◌, ℕ, Bool, false, get_or, length, ap, arith}
-use Rattle.value_columns.specs.Columns.{row_of}
+use Rattle.values.specs.Columns.{row_of}
 use Rattle.table_schema.specs.Conditions.{conjunct_holds}
 use Rattle.scan_engine.proofs.SelectionLemmas.{keeps-all, keeps-none, keeps-set}
 use Rattle.scan_engine.proofs.selection.keep_rows.Goals as goal
@@ -9,7 +9,7 @@ loop-at-init c = keeps-none _ _
 
 pub loop-at-preserved : goal.loop-at-preserved
 loop-at-preserved c =
-    let holds : ℕ → Bool = λ at. conjunct_holds (row_of c.args.table.now.columns at) c.args.conjunct.now in
+    let holds : ℕ → Bool = λ at. conjunct_holds (row_of c.args.table.columns.now.columns at) c.args.conjunct.now in
     let lt : c.loop-at.at < length c.args.marks.now = omega arith in
     keeps-set c.loop-at.at holds c.args.marks.now c.loop-at.marks c.is_kept.result lt
     (c.is_kept.ensures ∙ ap (λ b. get_or c.loop-at.marks c.loop-at.at false && b) c.conjunct_holds.ensures) c.loop-at.invariant

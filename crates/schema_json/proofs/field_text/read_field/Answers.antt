@@ -2,9 +2,9 @@ use Rattle.std.proofs.Common.{◌∷◌, [], map, length, codes, nat_lt, refl, a
 use Rattle.json_keys.specs.declared.fault.KeyKind.TheVariants.{TooMany, DuplicateColumn}
 use Rattle.json_keys.specs.Faults.{below, fault_if, fault_unless}
 use Rattle.json_keys.specs.Keys.{object_finding}
-use Rattle.field_json.specs.Defaults.{default_finding}
-use Rattle.field_json.specs.Entries.{seen}
-use Rattle.field_json.specs.Fields.{kind_of, name_of, name_finding, type_finding, support_finding}
+use Rattle.schema_json.specs.Defaults.{default_finding}
+use Rattle.schema_json.specs.Entries.{seen}
+use Rattle.schema_json.specs.Fields.{kind_of, name_of, name_finding, type_finding, support_finding}
 use Rattle.table_schema.specs.Firsts.{first_of}
 use Rattle.table_schema.specs.Names.{is_among}
 use Rattle.json_keys.proofs.Answered.{Gives-same}

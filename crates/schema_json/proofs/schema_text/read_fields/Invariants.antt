@@ -1,7 +1,7 @@
 use Rattle.std.proofs.Common.{◌≡◌, map, take, drop}
-use Rattle.field_json.specs.Fields.{field_of, name_of, field_finding}
+use Rattle.schema_json.specs.Fields.{field_of, name_of, field_finding}
 use Rattle.schema_json.specs.Schemas.{fields_finding}
-use Rattle.field_json.specs.Entries.{seen}
+use Rattle.schema_json.specs.Entries.{seen}
 use Rattle.schema_json.proofs.schema_text.read_fields.Given as goal
 use Rattle.table_schema.specs.Firsts.{by_place}
 

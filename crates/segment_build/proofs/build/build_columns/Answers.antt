@@ -10,7 +10,7 @@ overflow_cast-rows c =
 pub file_of-requires-clause-short : goal.file_of-requires-clause-short
 file_of-requires-clause-short c =
     built_short c.args.table.now c.args.name.now c.args.columns.now c.len-rows.result c.deref.result.now c.requires.valid c.requires.name
-    (record { width = c.requires.width; counts = c.len-rows.ensures.each; rows = c.requires.rows }) c.in-Ok.ensures.fits c.len-rows.ensures.count
+    (record { width = c.requires.width; counts = c.len-rows.ensures.each; rows = c.requires.rows }) c.in-Ok.ensures.built.fits c.len-rows.ensures.count
     (c.deref.ensures.value ∙ c.in-Ok.ensures.sections)
 
 pub returns-clause-image : goal.returns-clause-image

@@ -1,4 +1,4 @@
-use Rattle.segment_columns.proofs.Fits.{columns_fit}
+use Rattle.segment_build.proofs.Fits.{columns_fit}
 use Rattle.segment_build.proofs.laws.columns_fit_law.Goals as goal
 
 pub returns : goal.returns

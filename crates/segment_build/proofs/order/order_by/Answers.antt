@@ -1,7 +1,7 @@
 use Rattle.std.proofs.lemmas.List.Sorted.{non_decreasing_from_is_sorted}
 use Rattle.bit_column.specs.Postings.{entries}
 use Rattle.std.proofs.Common.{◌∙◌}
-use Rattle.segment_columns.proofs.Arranged.{order_given, order_places, tested_up}
+use Rattle.segment_build.proofs.Arranged.{order_given, order_places, tested_up}
 use Rattle.segment_build.proofs.order.order_by.Goals as goal
 
 pub returns-then-is_sorted : goal.returns-then-is_sorted

@@ -1,5 +1,5 @@
 use Rattle.std.proofs.Common.{◌≡◌, All, take}
-use Rattle.value_columns.specs.Columns.{rows_of}
+use Rattle.values.specs.Columns.{rows_of}
 use Rattle.segment_file.specs.Ordered.{ordered}
 use Rattle.segment_file.specs.Trees.{TreeFits}
 use Rattle.segment_build.specs.Growing.{nodes_grown, stars_grown}

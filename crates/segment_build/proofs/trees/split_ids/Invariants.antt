@@ -1,5 +1,5 @@
 use Rattle.std.proofs.Common.{◌≡◌, map, take}
-use Rattle.value_columns.specs.Columns.{rows_of}
+use Rattle.values.specs.Columns.{rows_of}
 use Rattle.segment_file.specs.Columns.{ids_of}
 use Rattle.segment_build.proofs.trees.split_ids.Given as goal
 

@@ -1,4 +1,4 @@
-use Rattle.std.proofs.Common.{◌≡◌, ◌∙◌, ℕ, List, [], length, map, get_or, replicate, Option, None, Some, IfSome, refl, ap, sym, subst, arith}
+use Rattle.std.proofs.Common.{◌≡◌, ◌∙◌, List, [], length, map, get_or, replicate, Option, None, Some, IfSome, refl, ap, sym, subst, arith}
 use Rattle.std.proofs.lemmas.List.{length-replicate}
 use Rattle.std.proofs.lemmas.List.Elements.{All-map}
 use Rattle.outside.specs.Files.{bytes_of}
@@ -10,7 +10,7 @@ use Rattle.segment_file.specs.declared.section.Section.{Section}
 use Rattle.segment_file.specs.declared.trees.TreeNodes.{TreeNodes}
 use Rattle.segment_file.specs.Bounds.{AreBounds, bounded}
 use Rattle.segment_file.specs.Front.{Extent, bounds_end, extents_from, front_size}
-use Rattle.segment_head.specs.Heads.{AreIn, AreNodesLoaded, IsHead, IsHeadOf, IsLoaded, IsOpened, IsPartOf, IsPlaced, Seen, placed}
+use Rattle.segment_head.specs.Heads.{AreIn, IsBare, IsHead, IsHeadOf, IsOpened, IsPartOf, IsPlaced, Seen, placed}
 use Rattle.segment_file.specs.Rules.{KeepsRules, heads_in}
 use Rattle.segment_file.specs.Parts.{sections_of}
 use Rattle.segment_file.specs.Reading.{IsFrontOf}
@@ -30,8 +30,7 @@ returns-in-Err-bounds_section g c =
     let between = seen g.S.Shelf c.read_front.new.shelf in
     record {
       of = tt;
-      none = tt;
-      no_nodes = tt;
+      bare = tt;
       placed = tt;
       opened = tt;
       part = tt;
@@ -59,8 +58,7 @@ returns-in_err-parts g c =
     let held = g.S.Shelf.held c.args.shelf.now in
     record {
       of = growth_ok (IsHeadOf table) c.from_residual.result c.from_residual.ensures;
-      none = growth_ok (λ head. (column : ℕ) → ¬ IsLoaded head column) c.from_residual.result c.from_residual.ensures;
-      no_nodes = growth_ok (λ head. (tree : ℕ) → ¬ AreNodesLoaded head tree) c.from_residual.result c.from_residual.ensures;
+      bare = growth_ok IsBare c.from_residual.result c.from_residual.ensures;
       placed = growth_ok (λ head. AreIn file head.sections) c.from_residual.result c.from_residual.ensures;
       opened = growth_ok (λ head. IfSome held (λ files. IsOpened table name file (bytes_of (Some files) file) head)) c.from_residual.result c.from_residual.ensures;
       part = growth_ok (λ head. IfSome held (λ files. (whole : Seen) → IsHead table name file (bytes_of (Some files) file) whole → IsPartOf whole head)) c.from_residual.result c.from_residual.ensures;
@@ -77,8 +75,7 @@ returns-in-Err g c =
     let held = g.S.Shelf.held c.args.shelf.now in
     record {
       of = tt;
-      none = tt;
-      no_nodes = tt;
+      bare = tt;
       placed = tt;
       opened = tt;
       part = tt;
@@ -99,8 +96,7 @@ returns-in_err-bare_head g c =
     let last = seen g.S.Shelf c.bounds_section.new.shelf in
     record {
       of = growth_ok (IsHeadOf table) c.from_residual-in_err-bare_head.result c.from_residual-in_err-bare_head.ensures;
-      none = growth_ok (λ head. (column : ℕ) → ¬ IsLoaded head column) c.from_residual-in_err-bare_head.result c.from_residual-in_err-bare_head.ensures;
-      no_nodes = growth_ok (λ head. (tree : ℕ) → ¬ AreNodesLoaded head tree) c.from_residual-in_err-bare_head.result c.from_residual-in_err-bare_head.ensures;
+      bare = growth_ok IsBare c.from_residual-in_err-bare_head.result c.from_residual-in_err-bare_head.ensures;
       placed = growth_ok (λ head. AreIn file head.sections) c.from_residual-in_err-bare_head.result c.from_residual-in_err-bare_head.ensures;
       opened = growth_ok (λ head. IfSome held (λ files. IsOpened table name file (bytes_of (Some files) file) head)) c.from_residual-in_err-bare_head.result c.from_residual-in_err-bare_head.ensures;
       part = growth_ok (λ head. IfSome held (λ files. (whole : Seen) → IsHead table name file (bytes_of (Some files) file) whole → IsPartOf whole head)) c.from_residual-in_err-bare_head.result c.from_residual-in_err-bare_head.ensures;
@@ -140,8 +136,7 @@ returns g c =
     let last = seen g.S.Shelf c.bounds_section.new.shelf in
     record {
       of = head_of table name file read.bytes.items held read.front head is has;
-      none = λ column. none_loaded head.dictionaries (length table.schema.fields) column free;
-      no_nodes = λ t. none_loaded head.trees (length table.settings.trees) t bare;
+      bare = record { none = λ column. none_loaded head.dictionaries (length table.schema.fields) column free; no_nodes = λ t. none_loaded head.trees (length table.settings.trees) t bare };
       placed = subst (AreIn file) (sym sections) (All-map (λ (s : Section). s.place.file ≡ file) (placed file) es (λ k d lt. refl));
       opened = opened;
       part = part_told table name file held head opened free bare;

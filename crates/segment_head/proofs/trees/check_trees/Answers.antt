@@ -1,4 +1,5 @@
 use Rattle.std.proofs.Common.{◌≡◌, ◌∙◌, ◌<◌, ◌+◌, ◌++◌, ◌∷◌, [], ℕ, All, Err, length, map, get_or, sym, ap, subst, arith}
+use Rattle.std.proofs.lemmas.List.{length-map}
 use Rattle.std.proofs.lemmas.List.FromFn.{map-range_with_len_more}
 use Rattle.std.proofs.lemmas.Option.{slice_get-get_or}
 use Rattle.std.specs.List.{range_with_len}
@@ -10,6 +11,7 @@ use Rattle.segment_head.specs.Reading.{NodesStop, heads_read}
 use Rattle.segment_file.specs.Rules.{HaveNodes, nodes_in}
 use Rattle.segment_file.proofs.Tails.{spelled_length}
 use Rattle.segment_file.proofs.Faults.{growth_bad, growth_ok, growth_read}
+use Rattle.segment_file.proofs.TreeChecks.{valid_at}
 use Rattle.segment_head.proofs.TreeChecks.{bad_nodes, few_dims, have_more, nodes_are, nodes_has, split_known, tree_read}
 use Rattle.segment_head.proofs.trees.check_trees.Goals as goal
 
@@ -70,21 +72,19 @@ returns c =
       bad = tt;
     }
 
-pub check_tree-requires-clause-dims : goal.check_tree-requires-clause-dims
-check_tree-requires-clause-dims c =
+pub check_tree-requires : goal.check_tree-requires
+check_tree-requires c =
     let table = c.args.table.now in
     let tree = c.index-settings-tree.result in
     let lt : c.loop-tree.tree < length table.settings.trees = omega (arith, c.loop-tree-test.true, ap length c.as_slice-settings.ensures) in
     let at : slice_get table.settings.trees c.loop-tree.tree ≡ Some tree = slice_get-get_or table.settings.trees c.loop-tree.tree tree lt ∙ ap Some (sym (c.index-settings-tree.is ∙ ap (λ xs. get_or xs c.loop-tree.tree tree) c.as_slice-settings.ensures)) in
-    (few_dims table c.loop-tree.tree tree c.requires.valid at).0
-
-pub check_tree-requires-clause-kinds : goal.check_tree-requires-clause-kinds
-check_tree-requires-clause-kinds c =
-    let table = c.args.table.now in
-    let tree = c.index-settings-tree.result in
-    let lt : c.loop-tree.tree < length table.settings.trees = omega (arith, c.loop-tree-test.true, ap length c.as_slice-settings.ensures) in
-    let at : slice_get table.settings.trees c.loop-tree.tree ≡ Some tree = slice_get-get_or table.settings.trees c.loop-tree.tree tree lt ∙ ap Some (sym (c.index-settings-tree.is ∙ ap (λ xs. get_or xs c.loop-tree.tree tree) c.as_slice-settings.ensures)) in
-    (few_dims table c.loop-tree.tree tree c.requires.valid at).1
+    let few = few_dims table c.loop-tree.tree tree c.requires.valid at in
+    let valid = valid_at table.schema.fields table.settings.trees c.loop-tree.tree tree c.requires.valid.settings.trees_valid at in
+    record {
+      few_dims = few.0;
+      few_kinds = few.1;
+      counts_are = ap length c.deref.ensures.value ∙ ap length c.in_ok-counts.ensures ∙ length-map c.as_slice.result.now (count_at c.args.dictionaries.now) ∙ ap length c.as_slice.ensures ∙ sym valid.has_dims;
+    }
 
 pub overflow_add-first : goal.overflow_add-first
 overflow_add-first c = omega (arith, c.len-first.ensures, c.requires.valid.schema.few)

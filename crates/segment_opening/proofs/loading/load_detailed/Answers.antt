@@ -2,7 +2,7 @@ use Rattle.std.proofs.Common.{◌∙◌, false, get_or, ap, arith}
 use Rattle.segment_plan.specs.Matched.{AreLoaded}
 use Rattle.segment_opening.specs.Wanted.{AreFactorsLoaded}
 use Rattle.segment_opening.proofs.NamedLemmas.{AreMarkedLoaded, factors_detailed, filtered_detailed}
-use Rattle.segment_scan.proofs.SegmentLemmas.{ok_so}
+use Rattle.segment_opening.proofs.HeadLemmas.{ok_so}
 use Rattle.segment_opening.proofs.loading.load_detailed.Goals as goal
 
 pub returns-clause-filtered : goal.returns-clause-filtered

@@ -1,6 +1,6 @@
 use Rattle.std.proofs.Common.{◌≡◌, ◌∙◌, sym}
-use Rattle.document_reading.specs.declared.fault.EngineFault.TheVariants as engine
-use Rattle.segment_opening.proofs.FaultLemmas.{bad_head}
+use Rattle.segment_head.specs.declared.fault.EngineFault.TheVariants as engine
+use Rattle.segment_head.proofs.FaultLemmas.{bad_head}
 use Rattle.segment_opening.proofs.HeadLemmas.{dictionary_log, grows_one, unread_none}
 use Rattle.segment_opening.proofs.loading.load_if.Goals as goal
 

@@ -1,11 +1,11 @@
 use Rattle.std.proofs.Common.{◌<◌, false, IfSome, length, get_or, sym, subst, arith}
 use Rattle.outside.specs.Seen.{Seen, seen}
 use Rattle.segment_head.specs.Heads.{AreIn}
-use Rattle.segment_opening.specs.Logs.{EndsBy}
-use Rattle.segment_opening.specs.Segments.{HasNoImage}
+use Rattle.segment_reads.specs.Logs.{EndsBy}
+use Rattle.segment_head.specs.Stored.{HasNoImage}
 use Rattle.segment_opening.specs.Opened.{Grows, IsHeadIn}
 use Rattle.segment_opening.proofs.HeadLemmas.{grows_none, grows_then, loaded_more}
-use Rattle.segment_opening.proofs.LogLemmas.{ends_still, entries_none, entries_then, reads_as, reads_none, reads_then}
+use Rattle.segment_reads.proofs.LogLemmas.{ends_still, entries_none, entries_then, reads_as, reads_none, reads_then}
 use Rattle.segment_opening.proofs.loading.load_marked.Goals as goal
 
 pub columns-init : goal.columns-init

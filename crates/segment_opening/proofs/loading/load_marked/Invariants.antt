@@ -1,7 +1,7 @@
 use Rattle.std.proofs.Common.{◌≡◌, ◌<◌, ℕ, true, false, List, get_or}
 use Rattle.outside.specs.Seen.{OnlyReads, seen}
 use Rattle.segment_head.specs.Heads.{AreIn, IsLoaded}
-use Rattle.segment_opening.specs.Logs.{DictionariesEnd, EndsBy, LogsThat}
+use Rattle.segment_reads.specs.Logs.{DictionariesEnd, EndsBy, LogsThat}
 use Rattle.segment_opening.specs.Opened.{Grows}
 use Rattle.segment_opening.proofs.loading.load_marked.Given as goal
 

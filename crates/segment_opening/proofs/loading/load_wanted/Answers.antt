@@ -1,9 +1,8 @@
 use Rattle.std.proofs.Common.{◌≡◌, ◌∙◌, false, get_or, ap, arith}
 use Rattle.segment_plan.specs.Matched.{AreLoaded}
-use Rattle.segment_scan.specs.Images.{AreNamedLoaded}
-use Rattle.star_answer.specs.Tasks.{AreGroupsLoaded}
+use Rattle.segment_plan.specs.Named.{AreNamedLoaded, AreGroupsLoaded}
 use Rattle.segment_opening.proofs.NamedLemmas.{AreMarkedLoaded, filtered_wanted, grouped_wanted, named_wanted}
-use Rattle.segment_scan.proofs.SegmentLemmas.{ok_so}
+use Rattle.segment_opening.proofs.HeadLemmas.{ok_so}
 use Rattle.segment_opening.proofs.loading.load_wanted.Goals as goal
 
 pub returns-clause-filtered : goal.returns-clause-filtered

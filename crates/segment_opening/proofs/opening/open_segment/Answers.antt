@@ -2,11 +2,11 @@ use Rattle.std.proofs.Common.{◌≡◌, ◌∙◌, Err, sym, ap, subst}
 use Rattle.outside.specs.Seen.{seen}
 use Rattle.segment_head.specs.Heads.{AreIn}
 use Rattle.segment_file.specs.declared.fault.HeadFault.TheVariants as head
-use Rattle.document_reading.specs.declared.fault.EngineFault.TheVariants as engine
-use Rattle.segment_opening.specs.Opened.{fault_of}
-use Rattle.segment_opening.proofs.FaultLemmas.{bad_head, never_full, read_head}
+use Rattle.segment_head.specs.declared.fault.EngineFault.TheVariants as engine
+use Rattle.segment_head.specs.Faults.{fault_of}
+use Rattle.segment_head.proofs.FaultLemmas.{bad_head, never_full, read_head}
 use Rattle.segment_opening.proofs.HeadLemmas.{broken_none, opened_image, opened_spread}
-use Rattle.segment_opening.proofs.LogLemmas.{opened_ends, opened_log, reads_as}
+use Rattle.segment_reads.proofs.LogLemmas.{opened_ends, opened_log, reads_as}
 use Rattle.segment_opening.proofs.opening.open_segment.Goals as goal
 
 pub returns-in-Ok-clause-placed : goal.returns-in-Ok-clause-placed

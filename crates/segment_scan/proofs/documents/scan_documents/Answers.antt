@@ -1,9 +1,9 @@
 use Rattle.std.proofs.Common.{◌≡◌, ◌∙◌, ◌<◌, ◌≤◌, ◌-◌, ℕ, Bool, List, Option, All, None, Err, inr, false, length, get_or, ap, sym, subst, arith}
-use Rattle.value_columns.specs.Columns.{rows_of}
+use Rattle.values.specs.Columns.{rows_of}
 use Rattle.agg_laws.specs.Numbers.{most_values}
 use Rattle.doc_lists.specs.Docs.{docs_of}
 use Rattle.group_table.specs.Kept.{groups_in}
-use Rattle.index_reading.proofs.RunLemmas.{lasts_below}
+use Rattle.index_reader.proofs.RunLemmas.{lasts_below}
 use Rattle.scan_engine.specs.Scanned.{selected}
 use Rattle.scan_engine.proofs.AddLemmas.{at_most_more}
 use Rattle.scan_engine.proofs.RunLemmas.{adds_as_more}
@@ -12,12 +12,12 @@ use Rattle.coded_columns.specs.declared.coded.Coded.{Coded}
 use Rattle.coded_columns.specs.declared.coded.SegmentColumns.{SegmentColumns}
 use Rattle.coded_columns.specs.Coded.{table_of}
 use Rattle.segment_scan.specs.Documents.{LogsDocsPartly}
-use Rattle.document_reading.specs.Picked.{IsPicked, LogsPicked, LogsPickedPartly}
+use Rattle.column_reader.specs.Picked.{IsPicked, LogsPicked, LogsPickedPartly}
 use Rattle.segment_scan.specs.Scans.{IsCodedOf}
-use Rattle.coded_scan.specs.Served.{rest_of}
-use Rattle.document_reading.proofs.FaultLemmas.{err_is}
+use Rattle.segment_plan.specs.Served.{rest_of}
+use Rattle.outside.proofs.SeenLemmas.{err_is}
 use Rattle.segment_scan.proofs.PickLemmas.{docs-coded, docs-overfull, docs-read, docs_few, picked-of}
-use Rattle.segment_scan.proofs.SeriesLemmas.{series_all}
+use Rattle.outside.proofs.SeriesLemmas.{series_all}
 use Rattle.segment_scan.proofs.documents.scan_documents.Goals as goal
 
 pub pick_columns-requires-clause-within : goal.pick_columns-requires-clause-within
@@ -31,8 +31,8 @@ coded_columns-requires-clause-loaded g c = λ column list lt got.
     let same : get_or c.in-Ok.ids.items column None ≡ get_or c.as_slice-ids.result.now column None = ap (λ (l : List (Option (List ℕ))). get_or l column None) (sym c.as_slice-ids.ensures.value) in
     (c.requires.readable column (picked-of (g.S.Shelf.held c.args.shelf.now) c.args.head.now column docs (get_or c.args.named.now column false) (get_or c.in-Ok.ids.items column None) list (c.in-Ok.ensures.ids column within) (same ∙ got))).loaded
 
-pub add_segment-requires-clause-coded : goal.add_segment-requires-clause-coded
-add_segment-requires-clause-coded g c =
+pub add_coded-requires-clause-coded : goal.add_coded-requires-clause-coded
+add_coded-requires-clause-coded g c =
     let held = g.S.Shelf.held c.args.shelf.now in
     let head : Seen = c.args.head.now in
     let named : List Bool = c.args.named.now in
@@ -50,15 +50,15 @@ add_segment-requires-clause-coded g c =
     let few : length docs ≤ head.rows = docs_few docs head.rows c.runs-runs.ensures.ascends c.requires.within in
     docs-coded held head named docs ids segment c.len-2.ensures (omega (arith, few, c.requires.few_rows)) c.requires.within long picked of
 
-pub add_segment-requires-clause-fits : goal.add_segment-requires-clause-fits
-add_segment-requires-clause-fits g c =
+pub add_coded-requires-clause-fits : goal.add_coded-requires-clause-fits
+add_coded-requires-clause-fits g c =
     at_most_more (groups_in c.args.groups.now) (most_values - length c.args.docs.now) (most_values - c.len-2.result) (omega (arith, c.len-2.ensures)) c.requires.fits
 
-pub returns-in-Ok-add_segment-clause-count : goal.returns-in-Ok-add_segment-clause-count
-returns-in-Ok-add_segment-clause-count g c = docs_few c.args.docs.now c.args.head.now.rows c.runs-runs.ensures.ascends c.requires.within
+pub returns-in-Ok-add_coded-clause-count : goal.returns-in-Ok-add_coded-clause-count
+returns-in-Ok-add_coded-clause-count g c = docs_few c.args.docs.now c.args.head.now.rows c.runs-runs.ensures.ascends c.requires.within
 
-pub returns-in-Ok-add_segment-clause-ok : goal.returns-in-Ok-add_segment-clause-ok
-returns-in-Ok-add_segment-clause-ok g c =
+pub returns-in-Ok-add_coded-clause-ok : goal.returns-in-Ok-add_coded-clause-ok
+returns-in-Ok-add_coded-clause-ok g c =
     let held = g.S.Shelf.held c.args.shelf.now in
     let head : Seen = c.args.head.now in
     let named : List Bool = c.args.named.now in
@@ -79,7 +79,7 @@ returns-in-Ok-add_segment-clause-ok g c =
     let rows = selected (rest_of query choices) (rows_of (table_of segment)) in
     record {
       rows = rows;
-      adds = adds_as_more query c.len-2.result (length docs) rows c.args.groups.now c.add_segment.new.table (omega (arith, c.len-2.ensures)) c.in-Ok-add_segment.ensures.ok;
+      adds = adds_as_more query c.len-2.result (length docs) rows c.args.groups.now c.add_coded.new.table (omega (arith, c.len-2.ensures)) c.in-Ok-add_coded.ensures.ok;
       told = docs-read held head named docs ids segment c.len-2.ensures (omega (arith, few, c.requires.few_rows)) c.requires.within long picked of query choices;
     }
 
@@ -104,7 +104,7 @@ returns-in-Err-TooManyGroups-clause-full g c = λ bad.
     let few : length docs ≤ head.rows = docs_few docs head.rows c.runs-runs.ensures.ascends c.requires.within in
     docs-overfull held query choices head named docs (selected (rest_of query choices) (rows_of (table_of segment))) c.args.groups.now
     (docs-read held head named docs ids segment c.len-2.ensures (omega (arith, few, c.requires.few_rows)) c.requires.within long picked of query choices)
-    (c.add_segment.ensures.full (c.in-Err-TooManyGroups.is ∙ ap Err c.in-Err-TooManyGroups.field-0-is))
+    (c.add_coded.ensures.full (c.in-Err-TooManyGroups.is ∙ ap Err c.in-Err-TooManyGroups.field-0-is))
 
 pub returns-in-Err-clause-log_of_fault : goal.returns-in-Err-clause-log_of_fault
 returns-in-Err-clause-log_of_fault g c = inr (c.runs-runs.result.now, c.runs-runs.ensures.apart, c.runs-runs.ensures.docs, c.in-Err.ensures.log_of_fault)

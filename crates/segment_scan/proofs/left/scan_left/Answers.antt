@@ -6,13 +6,15 @@ use Rattle.scan_engine.specs.Scanned.{IsOverfull}
 use Rattle.scan_engine.proofs.AddLemmas.{at_most_more}
 use Rattle.segment_head.specs.Heads.{Seen}
 use Rattle.segment_scan.specs.Documents.{AddsDocs, LogsDocs, LogsDocsPartly, selected_docs}
-use Rattle.segment_scan.specs.Images.{AreDocs, AreParts, IsBadForward, IsNoImage, LogsPartsPartly, choices_for, names_in, rest_for, sure_for}
-use Rattle.coded_scan.specs.Served.{rest_of}
-use Rattle.document_reading.specs.Served.{sure_choices}
-use Rattle.document_reading.specs.declared.fault.EngineFault.{EngineFault}
-use Rattle.document_reading.specs.declared.fault.EngineFault.TheVariants.{NotASegment, TooManyGroups}
+use Rattle.segment_scan.specs.Images.{AreDocs, AreParts, IsBadForward, LogsPartsPartly, choices_for, rest_for, sure_for}
+use Rattle.segment_head.specs.Stored.{IsNoImage}
+use Rattle.segment_plan.specs.Named.{names_in}
+use Rattle.segment_plan.specs.Served.{rest_of}
+use Rattle.segment_plan.specs.RowsLeft.{sure_choices}
+use Rattle.segment_head.specs.declared.fault.EngineFault.{EngineFault}
+use Rattle.segment_head.specs.declared.fault.EngineFault.TheVariants.{NotASegment, TooManyGroups}
 use Rattle.segment_scan.proofs.LeftImage.{PartsFit, check_full, left_docs, left_image, no_parts, parts_fit, sure_full, sure_names}
-use Rattle.document_reading.proofs.FaultLemmas.{err_is}
+use Rattle.outside.proofs.SeenLemmas.{err_is}
 use Rattle.segment_scan.proofs.left.scan_left.Goals as goal
 
 -- a fault is the same beside answers of another type

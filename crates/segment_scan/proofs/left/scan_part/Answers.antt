@@ -3,11 +3,11 @@ use Rattle.std.specs.Prelude.{OnOk, OnErr, IfOk, IfSome}
 use Rattle.segment_head.specs.Heads.{Seen}
 use Rattle.scan_engine.specs.Scanned.{IsOverfull}
 use Rattle.segment_scan.specs.Documents.{AddsDocs, LogsDocs, LogsDocsPartly, selected_docs}
-use Rattle.segment_scan.specs.Images.{names_in}
-use Rattle.coded_scan.specs.Served.{rest_of}
+use Rattle.segment_plan.specs.Named.{names_in}
+use Rattle.segment_plan.specs.Served.{rest_of}
 use Rattle.segment_scan.proofs.ImageLemmas.{loaded_readable}
 use Rattle.segment_scan.proofs.LeftImage.{bad_left, marks_left, rest_loaded}
-use Rattle.document_reading.proofs.FaultLemmas.{err_is}
+use Rattle.outside.proofs.SeenLemmas.{err_is}
 use Rattle.segment_scan.proofs.SegmentLemmas.{mark_named, marks_few}
 use Rattle.segment_scan.proofs.left.scan_part.Goals as goal
 

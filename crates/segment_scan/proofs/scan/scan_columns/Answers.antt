@@ -1,5 +1,5 @@
 use Rattle.std.proofs.Common.{◌≡◌, ◌∙◌, ◌<◌, ◌-◌, ℕ, Bool, List, Option, None, Err, false, length, get_or, ap, sym, subst, arith}
-use Rattle.value_columns.specs.Columns.{rows_of}
+use Rattle.values.specs.Columns.{rows_of}
 use Rattle.agg_laws.specs.Numbers.{most_values}
 use Rattle.group_table.specs.Kept.{groups_in}
 use Rattle.scan_engine.specs.Scanned.{AddsRows, HaveAtMost, selected}
@@ -7,11 +7,11 @@ use Rattle.segment_head.specs.Heads.{Seen}
 use Rattle.coded_columns.specs.declared.coded.Coded.{Coded}
 use Rattle.coded_columns.specs.declared.coded.SegmentColumns.{SegmentColumns}
 use Rattle.coded_columns.specs.Coded.{table_of}
-use Rattle.document_reading.specs.Forward.{LogsSome}
+use Rattle.column_reader.specs.Forward.{LogsSome}
 use Rattle.segment_scan.specs.Scans.{IsCodedOf}
 use Rattle.segment_scan.proofs.ScanLemmas.{coded-all, named-of, overfull-read, rows-read}
-use Rattle.document_reading.proofs.FaultLemmas.{err_is}
-use Rattle.segment_scan.proofs.LogLemmas.{logs_all}
+use Rattle.outside.proofs.SeenLemmas.{err_is}
+use Rattle.column_reader.proofs.LogLemmas.{logs_all}
 use Rattle.segment_scan.proofs.scan.scan_columns.Goals as goal
 
 pub coded_columns-requires-clause-loaded : goal.coded_columns-requires-clause-loaded
@@ -20,8 +20,8 @@ coded_columns-requires-clause-loaded g c = λ column list lt got.
     let same : get_or c.in-Ok.ids.items column None ≡ get_or c.as_slice-ids.result.now column None = ap (λ (l : List (Option (List ℕ))). get_or l column None) (sym c.as_slice-ids.ensures.value) in
     (c.requires.readable column (named-of (g.S.Shelf.held c.args.shelf.now) c.args.head.now column (get_or c.args.named.now column false) (get_or c.in-Ok.ids.items column None) list (c.in-Ok.ensures.ids column within) (same ∙ got))).loaded
 
-pub add_segment-requires-clause-coded : goal.add_segment-requires-clause-coded
-add_segment-requires-clause-coded g c =
+pub add_coded-requires-clause-coded : goal.add_coded-requires-clause-coded
+add_coded-requires-clause-coded g c =
     let held = g.S.Shelf.held c.args.shelf.now in
     let head : Seen = c.args.head.now in
     let named : List Bool = c.args.named.now in
@@ -35,11 +35,11 @@ add_segment-requires-clause-coded g c =
     (c.in_ok-columns.ensures.each column (within column lt))) in
     coded-all held head named ids segment c.rows.ensures c.requires.few_rows long c.in-Ok.ensures.ids of
 
-pub add_segment-requires-clause-fits : goal.add_segment-requires-clause-fits
-add_segment-requires-clause-fits g c = subst (λ n. HaveAtMost (most_values - n) (groups_in c.args.groups.now)) (sym c.rows.ensures) c.requires.fits
+pub add_coded-requires-clause-fits : goal.add_coded-requires-clause-fits
+add_coded-requires-clause-fits g c = subst (λ n. HaveAtMost (most_values - n) (groups_in c.args.groups.now)) (sym c.rows.ensures) c.requires.fits
 
-pub returns-in-Ok-add_segment-clause-ok : goal.returns-in-Ok-add_segment-clause-ok
-returns-in-Ok-add_segment-clause-ok g c =
+pub returns-in-Ok-add_coded-clause-ok : goal.returns-in-Ok-add_coded-clause-ok
+returns-in-Ok-add_coded-clause-ok g c =
     let held = g.S.Shelf.held c.args.shelf.now in
     let head : Seen = c.args.head.now in
     let named : List Bool = c.args.named.now in
@@ -53,7 +53,7 @@ returns-in-Ok-add_segment-clause-ok g c =
     (c.in_ok-columns.ensures.each column (within column lt))) in
     record {
       rows = selected c.args.query.now (rows_of (table_of segment));
-      adds = subst (λ n. AddsRows c.args.query.now n (selected c.args.query.now (rows_of (table_of segment))) c.args.groups.now c.add_segment.new.table) c.rows.ensures c.in-Ok-add_segment.ensures.ok;
+      adds = subst (λ n. AddsRows c.args.query.now n (selected c.args.query.now (rows_of (table_of segment))) c.args.groups.now c.add_coded.new.table) c.rows.ensures c.in-Ok-add_coded.ensures.ok;
       told = rows-read held head named ids segment c.rows.ensures c.requires.few_rows long c.in-Ok.ensures.ids of c.args.query.now;
     }
 
@@ -72,7 +72,7 @@ returns-in-Err-TooManyGroups-clause-full g c = λ bad.
     (c.in_ok-columns.ensures.each column (within column lt))) in
     overfull-read held c.args.query.now head named (selected c.args.query.now (rows_of (table_of segment))) c.args.groups.now
     (rows-read held head named ids segment c.rows.ensures c.requires.few_rows long c.in-Ok.ensures.ids of c.args.query.now)
-    (c.add_segment.ensures.full (c.in-Err-TooManyGroups.is ∙ ap Err c.in-Err-TooManyGroups.field-0-is))
+    (c.add_coded.ensures.full (c.in-Err-TooManyGroups.is ∙ ap Err c.in-Err-TooManyGroups.field-0-is))
 
 pub returns-in_err-columns-clause-log_of_fault : goal.returns-in_err-columns-clause-log_of_fault
 returns-in_err-columns-clause-log_of_fault g c =

@@ -7,16 +7,17 @@ use Rattle.outside.specs.Reads.{Entry}
 use Rattle.table_schema.specs.declared.query.Conjunct.{Conjunct}
 use Rattle.segment_head.specs.Heads.{Seen}
 use Rattle.segment_plan.specs.declared.plans.IndexChoice.{IndexChoice}
-use Rattle.document_reading.specs.Forward.{LogsColumns, LogsSome}
-use Rattle.segment_scan.specs.Images.{AddsImage, AddsWhole, IsBadWhole, IsWholeOverfull, LogsScanPartly, choices_for, indexed_for, names_in}
-use Rattle.document_reading.specs.Indexes.{IsBadAny, IsReady, Leaves, LogsAt, OfEach}
-use Rattle.segment_scan.specs.Series.{LogsTo}
-use Rattle.document_reading.specs.Served.{indexed}
-use Rattle.document_reading.specs.declared.fault.EngineFault.{EngineFault}
-use Rattle.document_reading.specs.declared.fault.EngineFault.TheVariants.{NotASegment}
+use Rattle.column_reader.specs.Forward.{LogsColumns, LogsSome}
+use Rattle.segment_scan.specs.Images.{AddsImage, AddsWhole, IsBadWhole, IsWholeOverfull, LogsScanPartly, choices_for, indexed_for}
+use Rattle.segment_plan.specs.Named.{names_in}
+use Rattle.index_filter.specs.Indexes.{IsBadAny, IsReady, Leaves, LogsAt, OfEach}
+use Rattle.outside.specs.Series.{LogsTo}
+use Rattle.segment_plan.specs.RowsLeft.{indexed}
+use Rattle.segment_head.specs.declared.fault.EngineFault.{EngineFault}
+use Rattle.segment_head.specs.declared.fault.EngineFault.TheVariants.{NotASegment}
 use Rattle.segment_scan.proofs.IndexImage.{ready_for}
 use Rattle.segment_scan.proofs.LeftImage.{bad_index, nothing_logged, whole_bad, whole_docs, whole_full, whole_image}
-use Rattle.segment_scan.proofs.LogLemmas.{err_so}
+use Rattle.column_reader.proofs.LogLemmas.{err_so}
 use Rattle.segment_scan.proofs.SegmentLemmas.{ok_so}
 use Rattle.segment_scan.proofs.segment.scan_segment.Goals as goal
 

@@ -1,11 +1,12 @@
 use Rattle.std.proofs.Common.{◌≡◌, ◌∙◌, Bool, List, Option, false, length, get_or, ap, arith}
 use Rattle.outside.specs.Files.{Files}
-use Rattle.document_reading.specs.Forward.{LogsColumns, LogsSome}
-use Rattle.segment_scan.specs.Images.{AddsWhole, names_in}
+use Rattle.column_reader.specs.Forward.{LogsColumns, LogsSome}
+use Rattle.segment_scan.specs.Images.{AddsWhole}
+use Rattle.segment_plan.specs.Named.{names_in}
 use Rattle.segment_scan.specs.Scans.{AddsSegment}
 use Rattle.segment_scan.proofs.ImageLemmas.{loaded_readable}
-use Rattle.document_reading.proofs.FaultLemmas.{err_is}
-use Rattle.segment_scan.proofs.LogLemmas.{err_so, logs_as, logs_none}
+use Rattle.outside.proofs.SeenLemmas.{err_is}
+use Rattle.column_reader.proofs.LogLemmas.{err_so, logs_as, logs_none}
 use Rattle.segment_scan.proofs.SegmentLemmas.{adds_whole, bad_whole, logs_names, mark_named, marks_are, marks_few, ok_so, overfull_whole}
 use Rattle.segment_scan.proofs.whole.scan_whole.Goals as goal
 

@@ -9,5 +9,5 @@ pub returns-clause-valid : goal.returns-clause-valid
 returns-clause-valid c =
     let d = view c.in_ok-json.json in
     let result = c.settings_of.result in
-    let given = subst (λ fields. Gives (settings_finding fields d) (settings_of fields d) result) c.as_slice.ensures c.settings_of.ensures in
+    let given = subst (λ fields. Gives (settings_finding fields d) (settings_of fields d) result) c.as_slice-all.ensures c.settings_of.ensures in
     gives_valid c.args.schema.now d result c.requires given

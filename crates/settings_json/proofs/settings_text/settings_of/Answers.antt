@@ -9,7 +9,7 @@ use Rattle.settings_json.proofs.settings_text.settings_of.Goals as goal
 
 pub returns : goal.returns
 returns c =
-    let fields = c.args.fields.now in
+    let fields = c.args.fields.all.now in
     let d = view c.args.json.now in
     let v = view c.in-Some.index.now in
     let table = c.in_ok-table.ensures ∙ c.in_ok-name.ensures.name in

@@ -1,6 +1,6 @@
 use Rattle.std.proofs.Common.{◌≡◌, map, drop}
 use Rattle.serde_json.specs.View.{view}
-use Rattle.settings_keys.specs.NamedColumns.{has_text}
+use Rattle.json_keys.specs.NamedColumns.{has_text}
 use Rattle.settings_parts.proofs.columns.has_text.Given as goal
 
 abbrev pub invariant-loop-item : goal.invariant-loop-item

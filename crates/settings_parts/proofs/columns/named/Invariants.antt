@@ -1,6 +1,6 @@
 use Rattle.std.proofs.Common.{◌≡◌, map, take}
 use Rattle.serde_json.specs.View.{view}
-use Rattle.settings_keys.specs.NamedColumns.{named}
+use Rattle.json_keys.specs.NamedColumns.{named}
 use Rattle.settings_parts.proofs.columns.named.Given as goal
 
 abbrev pub invariant-loop-field : goal.invariant-loop-field

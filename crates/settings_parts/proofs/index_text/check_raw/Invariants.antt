@@ -7,5 +7,5 @@ use Rattle.table_schema.specs.Firsts.{by_place}
 
 abbrev pub invariant-loop-place : goal.invariant-loop-place
 invariant-loop-place l =
-    by_place (λ before d. raw_place l.fields l.settings (at_place l.path (length before)) d) (map view (take l.place l.items)) (map view (drop l.place l.items))
-    ≡ raw_places l.fields l.settings l.path (map view l.items)
+    by_place (λ before d. raw_place l.fields.all.now l.settings (at_place l.path (length before)) d) (map view (take l.place l.items)) (map view (drop l.place l.items))
+    ≡ raw_places l.fields.all.now l.settings l.path (map view l.items)

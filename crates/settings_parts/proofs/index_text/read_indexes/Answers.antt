@@ -9,7 +9,7 @@ use Rattle.settings_parts.proofs.index_text.read_indexes.Goals as goal
 pub returns-in_err-check_raw : goal.returns-in_err-check_raw
 returns-in_err-check_raw c =
     let p = err_from_is_err_and c.from_residual-in_err-check_raw.result c.from_residual-in_err-check_raw.ensures.1 in
-    let fields = c.args.fields.now in
+    let fields = c.args.fields.all.now in
     let s = indexed fields c.args.table (view c.args.json.now) in
     let raw = map view c.in_ok-settings.raw.now in
     let same = ap (λ t. raw_places fields t c.as_str.result.now raw) c.in_ok-settings.ensures.settings
@@ -19,7 +19,7 @@ returns-in_err-check_raw c =
 
 pub returns : goal.returns
 returns c =
-    let fields = c.args.fields.now in
+    let fields = c.args.fields.all.now in
     let s = indexed fields c.args.table (view c.args.json.now) in
     let raw = map view c.in_ok-settings.raw.now in
     let same = ap (λ t. raw_places fields t c.as_str.result.now raw) c.in_ok-settings.ensures.settings

@@ -8,7 +8,7 @@ use Rattle.settings_parts.proofs.sorted.read_sorted.Goals as goal
 
 pub returns : goal.returns
 returns c =
-    let fields = c.args.fields.now in
+    let fields = c.args.fields.all.now in
     let v = view c.in-Some.value.now in
     let path = c.as_str.ensures ∙ c.in_ok-path.ensures in
     Gives-same _ _ _ _ c.read_value.result

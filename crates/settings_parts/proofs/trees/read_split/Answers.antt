@@ -1,7 +1,7 @@
 use Rattle.std.proofs.Common.{map, ap, ◌∙◌, arith}
 use Rattle.serde_json.specs.View.{view}
 use Rattle.json_keys.specs.Faults.{below}
-use Rattle.settings_keys.specs.NamedColumns.{numbers_of}
+use Rattle.json_keys.specs.NamedColumns.{numbers_of}
 use Rattle.json_keys.specs.Keys.{items_at}
 use Rattle.settings_parts.specs.Trees.{SPLIT_KEY, needed_array, split_places}
 use Rattle.json_keys.proofs.Answered.{Gives-same, third_of_three, fault_unless-few}
@@ -9,7 +9,7 @@ use Rattle.settings_parts.proofs.trees.read_split.Goals as goal
 
 pub returns-clause-split : goal.returns-clause-split
 returns-clause-split c =
-    let fields = c.args.fields.now in
+    let fields = c.args.fields.all.now in
     let base = c.args.base.now in
     let d = view c.args.json.now in
     let path = c.as_str.ensures ∙ c.in_ok-path.ensures in

@@ -6,7 +6,7 @@ use Rattle.settings_parts.proofs.trees.split_places.Goals as goal
 pub loop-place-preserved : goal.loop-place-preserved
 loop-place-preserved c =
     let l = c.loop-place in
-    let fields = c.args.fields.now in
+    let fields = c.args.fields.all.now in
     let path = c.args.path.now in
     let xs = c.args.items.now in
     let x = c.index-items-place.result in

@@ -8,7 +8,7 @@ use Rattle.settings_parts.proofs.trees.tree_pairs.Goals as goal
 
 pub returns : goal.returns
 returns c =
-    let fields = c.args.fields.now in
+    let fields = c.args.fields.all.now in
     let d = view c.args.json.now in
     let path = c.as_str.ensures ∙ c.in_ok-path.ensures in
     let items = c.in_ok-items.ensures.items in

@@ -7,6 +7,6 @@ use Rattle.table_schema.specs.Firsts.{by_place}
 
 abbrev pub invariant-loop-place : goal.invariant-loop-place
 invariant-loop-place l =
-    (by_place (λ before d. tree_finding l.fields (at_place l.path (length before)) d) (map view (take l.place l.items)) (map view (drop l.place l.items))
-    ≡ tree_places l.fields l.path (map view l.items))
-    × (l.trees ≡ map (tree_of l.fields) (map view (take l.place l.items)))
+    (by_place (λ before d. tree_finding l.fields.all.now (at_place l.path (length before)) d) (map view (take l.place l.items)) (map view (drop l.place l.items))
+    ≡ tree_places l.fields.all.now l.path (map view l.items))
+    × (l.trees ≡ map (tree_of l.fields.all.now) (map view (take l.place l.items)))

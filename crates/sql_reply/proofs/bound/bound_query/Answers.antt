@@ -1,5 +1,5 @@
 use Rattle.std.proofs.Common.{◌≡◌, IfOk, IfErr, Result, Ok, Err, subst, sym}
-use Rattle.bound_parts.specs.Bound.{bound}
+use Rattle.query_bind.specs.Bound.{bound}
 use Rattle.sql_reply.specs.Asked.{Asks, asked, normal_asked}
 use Rattle.sql_reply.specs.Parts.{IsBound}
 use Rattle.sql_reply.specs.Reply.{conjuncts_reply}

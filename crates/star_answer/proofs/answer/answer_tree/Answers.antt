@@ -3,16 +3,16 @@ use Rattle.outside.proofs.ReadLemmas.{on-err}
 use Rattle.agg_laws.specs.Numbers.{most_values}
 use Rattle.agg_laws.specs.Merged.{weights}
 use Rattle.agg_laws.specs.Rows.{row_weight}
-use Rattle.document_table.specs.declared.star_table.StarTable.{StarTable}
+use Rattle.star_table.specs.declared.star_table.StarTable.{StarTable}
 use Rattle.group_table.specs.Kept.{groups_in}
 use Rattle.scan_engine.proofs.AddLemmas.{at_most_more}
 use Rattle.star_walk.specs.Images.{AreWithin, read_of}
-use Rattle.star_walk.specs.Joins.{joined}
-use Rattle.star_taking.specs.Answers.{LogsSome, picks_of, reads_of}
-use Rattle.star_taking.specs.declared.fault.AnswerFault.{AnswerFault}
-use Rattle.star_taking.specs.declared.fault.AnswerFault.TheVariants.{BadDocs}
+use Rattle.star_walk.specs.Coalescing.{coalesced}
+use Rattle.star_reader.specs.Answers.{LogsSome, picks_of, reads_of}
+use Rattle.star_reader.specs.declared.fault.AnswerFault.{AnswerFault}
+use Rattle.star_reader.specs.declared.fault.AnswerFault.TheVariants.{BadDocs}
 use Rattle.star_answer.proofs.AnswerSteps as steps
-use Rattle.star_taking.proofs.FaultSteps.{same_fault}
+use Rattle.star_reader.proofs.FaultSteps.{same_fault}
 use Rattle.star_answer.proofs.answer.answer_tree.Goals as goal
 
 pub returns-in_err-picks-clause-log_of_fault : goal.returns-in_err-picks-clause-log_of_fault
@@ -32,9 +32,9 @@ returns-in_err-picks-2-clause-log_of_fault g c =
 pub returns-in_default-clause-bad : goal.returns-in_default-clause-bad
 returns-in_default-clause-bad g c is =
     let reads : c.as_slice.result.now ≡ reads_of c.args.tree.now c.args.task.now = c.as_slice.ensures
-    ∙ c.in_ok-picks-2.ensures ∙ ap joined c.in_ok-picks.ensures in
+    ∙ c.in_ok-picks-2.ensures ∙ ap coalesced c.in_ok-picks.ensures in
     let many = steps.reads_many c.args.tree.now c.args.task.now c.requires.tree
-    c.walkable_law.ensures.within c.joined_law.ensures.read c.as_slice.result.now reads in
+    c.walkable_law.ensures.within c.coalesced_law.ensures.read c.as_slice.result.now reads in
     inl (omega (arith, c.in_default.ensures, many))
 
 pub returns-in_default-clause-log_of_fault : goal.returns-in_default-clause-log_of_fault
@@ -45,7 +45,7 @@ returns-in_default-clause-log_of_fault g c =
 pub take_picks-requires-clause-within : goal.take_picks-requires-clause-within
 take_picks-requires-clause-within g c =
     let reads : c.as_slice-2.result.now ≡ reads_of c.args.tree.now c.args.task.now = c.as_slice-2.ensures
-    ∙ c.in_ok-picks-2.ensures ∙ ap joined c.in_ok-picks.ensures in (
+    ∙ c.in_ok-picks-2.ensures ∙ ap coalesced c.in_ok-picks.ensures in (
       c.requires.tree.documents,
       subst (AreWithin c.requires.tree.documents (length c.args.task.now.matched)) (sym reads)
           (steps.reads_within c.args.tree.now c.args.task.now c.requires.tree
@@ -55,53 +55,53 @@ take_picks-requires-clause-within g c =
 pub returns-in-Err-clause-bad : goal.returns-in-Err-clause-bad
 returns-in-Err-clause-bad g c is =
     let reads : c.as_slice-2.result.now ≡ reads_of c.args.tree.now c.args.task.now = c.as_slice-2.ensures
-    ∙ c.in_ok-picks-2.ensures ∙ ap joined c.in_ok-picks.ensures in
+    ∙ c.in_ok-picks-2.ensures ∙ ap coalesced c.in_ok-picks.ensures in
     steps.bad_so c.args.tree.now c.args.task.now c.args.asked.now c.args.rows
     (g.S.Shelf.held c.args.shelf.now) c.as_slice-2.result.now reads
     (c.in-Err.ensures.bad (same_fault ℕ StarTable AnswerFault c.in-Err.fault BadDocs is))
 
 pub merge_documents-requires-clause-fits : goal.merge_documents-requires-clause-fits
 merge_documents-requires-clause-fits g c =
-    let light = c.in-Ok.ensures.taken.taken.may.light in
+    let light = c.in-Ok.ensures.selected.selected.may.light in
     at_most_more (groups_in c.args.groups.now) (most_values - c.args.rows)
-    (most_values - weights row_weight c.in-Ok.taken.docs) (omega (arith, light)) c.requires.fits
+    (most_values - weights row_weight c.in-Ok.selected.docs) (omega (arith, light)) c.requires.fits
 
 pub returns-in-Ok-merge_documents-clause-count : goal.returns-in-Ok-merge_documents-clause-count
 returns-in-Ok-merge_documents-clause-count g c =
     let reads : c.as_slice.result.now ≡ reads_of c.args.tree.now c.args.task.now = c.as_slice.ensures
-    ∙ c.in_ok-picks-2.ensures ∙ ap joined c.in_ok-picks.ensures in
+    ∙ c.in_ok-picks-2.ensures ∙ ap coalesced c.in_ok-picks.ensures in
     c.in-Some.ensures.0
     ∙ steps.reads_many c.args.tree.now c.args.task.now c.requires.tree
-    c.walkable_law.ensures.within c.joined_law.ensures.read c.as_slice.result.now reads
+    c.walkable_law.ensures.within c.coalesced_law.ensures.read c.as_slice.result.now reads
 
 pub returns-in-Ok-merge_documents-clause-ok : goal.returns-in-Ok-merge_documents-clause-ok
 returns-in-Ok-merge_documents-clause-ok g c =
     let counted : c.as_slice.result.now ≡ reads_of c.args.tree.now c.args.task.now = c.as_slice.ensures
-    ∙ c.in_ok-picks-2.ensures ∙ ap joined c.in_ok-picks.ensures in
+    ∙ c.in_ok-picks-2.ensures ∙ ap coalesced c.in_ok-picks.ensures in
     let reads : c.as_slice-2.result.now ≡ reads_of c.args.tree.now c.args.task.now = c.as_slice-2.ensures
-    ∙ c.in_ok-picks-2.ensures ∙ ap joined c.in_ok-picks.ensures in
+    ∙ c.in_ok-picks-2.ensures ∙ ap coalesced c.in_ok-picks.ensures in
     let many = steps.reads_many c.args.tree.now c.args.task.now c.requires.tree
-    c.walkable_law.ensures.within c.joined_law.ensures.read c.as_slice.result.now counted in
+    c.walkable_law.ensures.within c.coalesced_law.ensures.read c.as_slice.result.now counted in
     let few : read_of (picks_of c.args.tree.now c.args.task.now) ≤ c.args.rows =
     omega (arith, many, c.in-Some.ensures.0, c.in-Some.ensures.1) in
     steps.answers c.args.tree.now c.args.task.now c.args.asked.now c.args.rows
-    (g.S.Shelf.held c.args.shelf.now) c.as_slice-2.result.now reads c.in-Ok.taken
-    c.in-Ok.ensures.taken c.args.groups.now c.merge_documents.new.groups few
+    (g.S.Shelf.held c.args.shelf.now) c.as_slice-2.result.now reads c.in-Ok.selected
+    c.in-Ok.ensures.selected c.args.groups.now c.merge_documents.new.groups few
     c.in-Ok-merge_documents.ensures.ok
 
 pub returns-in-Err-TooManyGroups-clause-full : goal.returns-in-Err-TooManyGroups-clause-full
 returns-in-Err-TooManyGroups-clause-full g c is =
     let reads : c.as_slice-2.result.now ≡ reads_of c.args.tree.now c.args.task.now = c.as_slice-2.ensures
-    ∙ c.in_ok-picks-2.ensures ∙ ap joined c.in_ok-picks.ensures in
+    ∙ c.in_ok-picks-2.ensures ∙ ap coalesced c.in_ok-picks.ensures in
     steps.over c.args.tree.now c.args.task.now c.args.asked.now c.args.rows
-    (g.S.Shelf.held c.args.shelf.now) c.as_slice-2.result.now reads c.in-Ok.taken
-    c.in-Ok.ensures.taken c.args.groups.now
+    (g.S.Shelf.held c.args.shelf.now) c.as_slice-2.result.now reads c.in-Ok.selected
+    c.in-Ok.ensures.selected c.args.groups.now
     (c.in-Err-TooManyGroups.ensures.full (ap Err c.in-Err-TooManyGroups.field-0-is))
 
 pub returns-in-Err-TooManyGroups-clause-log_of_fault : goal.returns-in-Err-TooManyGroups-clause-log_of_fault
 returns-in-Err-TooManyGroups-clause-log_of_fault g c =
     let reads : c.as_slice-2.result.now ≡ reads_of c.args.tree.now c.args.task.now = c.as_slice-2.ensures
-    ∙ c.in_ok-picks-2.ensures ∙ ap joined c.in_ok-picks.ensures in
+    ∙ c.in_ok-picks-2.ensures ∙ ap coalesced c.in_ok-picks.ensures in
     steps.logged_some c.args.tree.now c.as_slice-2.result.now
     (reads_of c.args.tree.now c.args.task.now) (g.S.Shelf.log c.args.shelf.now)
     (g.S.Shelf.log c.take_picks.new.shelf) reads c.in-Ok.ensures.log
@@ -109,7 +109,7 @@ returns-in-Err-TooManyGroups-clause-log_of_fault g c =
 pub returns-clause-log_of_fault : goal.returns-clause-log_of_fault
 returns-clause-log_of_fault g c =
     let reads : c.as_slice-2.result.now ≡ reads_of c.args.tree.now c.args.task.now = c.as_slice-2.ensures
-    ∙ c.in_ok-picks-2.ensures ∙ ap joined c.in_ok-picks.ensures in
+    ∙ c.in_ok-picks-2.ensures ∙ ap coalesced c.in_ok-picks.ensures in
     steps.logged_some c.args.tree.now c.as_slice-2.result.now
     (reads_of c.args.tree.now c.args.task.now) (g.S.Shelf.log c.args.shelf.now)
     (g.S.Shelf.log c.take_picks.new.shelf) reads c.in-Ok.ensures.log

@@ -1,5 +1,4 @@
-use Rattle.std.proofs.Common.{arith}
-use Rattle.std.proofs.Common.{◌==◌}
+use Rattle.std.proofs.Common.{arith, ◌==◌}
 use Rattle.star_answer.proofs.AskSteps.{not_among}
 use Rattle.star_answer.proofs.asking.place_of.Goals as goal
 

@@ -1,5 +1,4 @@
-use Rattle.star_answer.proofs.RowSteps.{asks_of_rows, columns_of_rows, nodes_of_rows}
-use Rattle.star_answer.proofs.RowSteps.{rows_projected}
+use Rattle.star_answer.proofs.RowSteps.{asks_of_rows, columns_of_rows, nodes_of_rows, rows_projected}
 use Rattle.star_answer.proofs.laws.rows_law.Goals as goal
 
 pub returns : goal.returns

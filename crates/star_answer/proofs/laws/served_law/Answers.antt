@@ -1,9 +1,9 @@
-use Rattle.tree_laws.specs.Picks.{picks}
+use Rattle.star_tree.specs.Picks.{picks}
 use Rattle.agg_laws.specs.Rows.{merged_rows}
 use Rattle.agg_laws.specs.Tree.{tree_of}
 use Rattle.state_columns.specs.Docs.{projected}
 use Rattle.star_walk.proofs.TreePicks.{same}
-use Rattle.star_taking.specs.Answers.{asked_of}
+use Rattle.star_reader.specs.Answers.{asked_of}
 use Rattle.star_answer.proofs.ServedSteps.{own_ids, own_no_star, served_adds, served_fine, served_over}
 use Rattle.star_answer.proofs.laws.served_law.Goals as goal
 

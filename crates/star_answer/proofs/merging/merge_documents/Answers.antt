@@ -10,16 +10,16 @@ use Rattle.star_answer.proofs.merging.merge_documents.Goals as goal
 
 pub merge_last-requires-clause-few : goal.merge_last-requires-clause-few
 merge_last-requires-clause-few c =
-    let docs = c.args.taken.docs in
-    let merged = steps.merged_table c.args.taken c.reserve.new.self c.append_merged.new.self
+    let docs = c.args.selected.docs in
+    let merged = steps.merged_table c.args.selected c.reserve.new.self c.append_merged.new.self
     c.len-count.result _ _ c.len-count.ensures.count c.in_ok-reserve.ensures.ok
     c.in_ok-append_merged.ensures.ok in
     omega (arith, merged.long, c.requires.few)
 
 pub merge_last-requires-clause-keyed : goal.merge_last-requires-clause-keyed
 merge_last-requires-clause-keyed c =
-    let docs = c.args.taken.docs in
-    let merged = steps.merged_table c.args.taken c.reserve.new.self c.append_merged.new.self
+    let docs = c.args.selected.docs in
+    let merged = steps.merged_table c.args.selected c.reserve.new.self c.append_merged.new.self
     c.len-count.result _ _ c.len-count.ensures.count c.in_ok-reserve.ensures.ok
     c.in_ok-append_merged.ensures.ok in
     steps.rest_keyed c.args.columns.now docs (drop c.len-count.result
@@ -27,8 +27,8 @@ merge_last-requires-clause-keyed c =
 
 pub merge_last-requires-clause-light : goal.merge_last-requires-clause-light
 merge_last-requires-clause-light c =
-    let docs = c.args.taken.docs in
-    let merged = steps.merged_table c.args.taken c.reserve.new.self c.append_merged.new.self
+    let docs = c.args.selected.docs in
+    let merged = steps.merged_table c.args.selected c.reserve.new.self c.append_merged.new.self
     c.len-count.result _ _ c.len-count.ensures.count c.in_ok-reserve.ensures.ok
     c.in_ok-append_merged.ensures.ok in
     let light = steps.rest_light c.args.columns.now docs (drop c.len-count.result
@@ -37,8 +37,8 @@ merge_last-requires-clause-light c =
 
 pub merge_last-requires-clause-fits : goal.merge_last-requires-clause-fits
 merge_last-requires-clause-fits c =
-    let docs = c.args.taken.docs in
-    let merged = steps.merged_table c.args.taken c.reserve.new.self c.append_merged.new.self
+    let docs = c.args.selected.docs in
+    let merged = steps.merged_table c.args.selected c.reserve.new.self c.append_merged.new.self
     c.len-count.result _ _ c.len-count.ensures.count c.in_ok-reserve.ensures.ok
     c.in_ok-append_merged.ensures.ok in
     let light = steps.rest_light c.args.columns.now docs (drop c.len-count.result
@@ -49,8 +49,8 @@ merge_last-requires-clause-fits c =
 
 pub returns-clause-ok : goal.returns-clause-ok
 returns-clause-ok c =
-    let docs = c.args.taken.docs in
-    let merged = steps.merged_table c.args.taken c.reserve.new.self c.append_merged.new.self
+    let docs = c.args.selected.docs in
+    let merged = steps.merged_table c.args.selected c.reserve.new.self c.append_merged.new.self
     c.len-count.result _ _ c.len-count.ensures.count c.in_ok-reserve.ensures.ok
     c.in_ok-append_merged.ensures.ok in
     on_ok_weaker c.merge_last.result (steps.rest_merges c.args.columns.now docs
@@ -59,8 +59,8 @@ returns-clause-ok c =
 
 pub returns-clause-full : goal.returns-clause-full
 returns-clause-full c is =
-    let docs = c.args.taken.docs in
-    let merged = steps.merged_table c.args.taken c.reserve.new.self c.append_merged.new.self
+    let docs = c.args.selected.docs in
+    let merged = steps.merged_table c.args.selected c.reserve.new.self c.append_merged.new.self
     c.len-count.result _ _ c.len-count.ensures.count c.in_ok-reserve.ensures.ok
     c.in_ok-append_merged.ensures.ok in
     steps.rest_over c.args.columns.now docs (drop c.len-count.result

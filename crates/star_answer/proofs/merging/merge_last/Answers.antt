@@ -6,14 +6,14 @@ use Rattle.state_columns.proofs.RegionSteps.{shape_at, stored_at}
 use Rattle.group_table.specs.Kept.{HaveValues}
 use Rattle.scan_engine.proofs.AddLemmas.{merged_within}
 use Rattle.scan_engine.proofs.RunLemmas.{same_fault}
-use Rattle.star_taking.specs.Taken.{keyed}
+use Rattle.star_reader.specs.Selected.{keyed}
 use Rattle.star_answer.proofs.MergeSteps as steps
 use Rattle.star_answer.proofs.MergeSteps.{upto}
 use Rattle.star_answer.proofs.merging.merge_last.Goals as goal
 
 pub key_at-requires-clause-ids : goal.key_at-requires-clause-ids
 key_at-requires-clause-ids c =
-    let docs = c.args.taken.now.docs in
+    let docs = c.args.selected.now.docs in
     let at = c.loop-at.at in
     let lt : at < length docs = omega (arith, c.loop-at-test.true, c.len-at-end.ensures.count) in
     let le : c.args.from ≤ at = omega (arith, c.loop-at.auto.at) in
@@ -21,7 +21,7 @@ key_at-requires-clause-ids c =
 
 pub merge_row-requires-clause-key : goal.merge_row-requires-clause-key
 merge_row-requires-clause-key c =
-    let docs = c.args.taken.now.docs in
+    let docs = c.args.selected.now.docs in
     let at = c.loop-at.at in
     let lt : at < length docs = omega (arith, c.loop-at-test.true, c.len-at-end.ensures.count) in
     let le : c.args.from ≤ at = omega (arith, c.loop-at.auto.at) in
@@ -32,7 +32,7 @@ merge_row-requires-clause-key c =
 
 pub merge_row-requires-clause-kinds : goal.merge_row-requires-clause-kinds
 merge_row-requires-clause-kinds c =
-    let t = c.args.taken.now in
+    let t = c.args.selected.now in
     let at = c.loop-at.at in
     let lt : at < length t.docs = omega (arith, c.loop-at-test.true, c.len-at-end.ensures.count) in
     ap kinds_of c.in_ok-states.ensures
@@ -41,7 +41,7 @@ merge_row-requires-clause-kinds c =
 
 pub merge_row-requires-clause-values : goal.merge_row-requires-clause-values
 merge_row-requires-clause-values c some =
-    let docs = c.args.taken.now.docs in
+    let docs = c.args.selected.now.docs in
     let at = c.loop-at.at in
     let lt : at < length docs = omega (arith, c.loop-at-test.true, c.len-at-end.ensures.count) in
     subst HaveValues (sym c.in_ok-states.ensures) (steps.values_stored (doc_at docs at).1
@@ -49,7 +49,7 @@ merge_row-requires-clause-values c some =
 
 pub merge_row-requires-clause-fits : goal.merge_row-requires-clause-fits
 merge_row-requires-clause-fits c =
-    let docs = c.args.taken.now.docs in
+    let docs = c.args.selected.now.docs in
     let from = c.args.from in
     let at = c.loop-at.at in
     let lt : at < length docs = omega (arith, c.loop-at-test.true, c.len-at-end.ensures.count) in
@@ -66,7 +66,7 @@ merge_row-requires-clause-fits c =
 
 pub returns-in-Err-clause-full : goal.returns-in-Err-clause-full
 returns-in-Err-clause-full c is =
-    let docs = c.args.taken.now.docs in
+    let docs = c.args.selected.now.docs in
     let from = c.args.from in
     let at = c.loop-at.at in
     let lt : at < length docs = omega (arith, c.loop-at-test.true, c.len-at-end.ensures.count) in
@@ -77,7 +77,7 @@ returns-in-Err-clause-full c is =
 
 pub loop-at-preserved : goal.loop-at-preserved
 loop-at-preserved c =
-    let docs = c.args.taken.now.docs in
+    let docs = c.args.selected.now.docs in
     let from = c.args.from in
     let at = c.loop-at.at in
     let lt : at < length docs = omega (arith, c.loop-at-test.true, c.len-at-end.ensures.count) in

@@ -1,11 +1,11 @@
 use Rattle.agg_laws.specs.Merged.{weights}
 use Rattle.agg_laws.specs.Rows.{row_weight}
-use Rattle.star_taking.specs.Entries.{MergesEntries}
-use Rattle.star_taking.specs.Taken.{keyed}
+use Rattle.star_reader.specs.Entries.{MergesEntries}
+use Rattle.star_reader.specs.Selected.{keyed}
 use Rattle.star_answer.proofs.MergeSteps.{upto}
 use Rattle.star_answer.proofs.merging.merge_last.Given as goal
 
 abbrev pub invariant-loop-at : goal.invariant-loop-at
 invariant-loop-at l =
-    MergesEntries (weights row_weight (upto l.taken.docs l.from l.at))
-    (keyed l.columns (upto l.taken.docs l.from l.at)) l.fn.groups l.groups
+    MergesEntries (weights row_weight (upto l.selected.docs l.from l.at))
+    (keyed l.columns (upto l.selected.docs l.from l.at)) l.fn.groups l.groups

@@ -15,7 +15,7 @@ overflow_cast-pair c =
 
 pub loop-pair-preserved : goal.loop-pair-preserved
 loop-pair-preserved c =
-    let t = c.args.taken.now in
+    let t = c.args.selected.now in
     let vs : List AggState = (doc_at t.docs c.args.at).1 in
     let i = c.loop-pair.pair in
     let kinds = (shape_at t.dims t.kinds t.docs c.args.at c.requires.shape c.requires.at).1 in
@@ -30,7 +30,7 @@ loop-pair-preserved c =
 
 pub returns : goal.returns
 returns c =
-    let t = c.args.taken.now in
+    let t = c.args.selected.now in
     let vs : List AggState = (doc_at t.docs c.args.at).1 in
     let kinds = (shape_at t.dims t.kinds t.docs c.args.at c.requires.shape c.requires.at).1 in
     let long : length vs ≡ length t.kinds = sym (length-kinds_of vs) ∙ ap length kinds in

@@ -3,4 +3,4 @@ use Rattle.state_columns.specs.Docs.{doc_at}
 use Rattle.star_answer.proofs.merging.states_at.Given as goal
 
 abbrev pub invariant-loop-pair : goal.invariant-loop-pair
-invariant-loop-pair l = l.states ≡ take l.pair (doc_at l.taken.docs l.at).1
+invariant-loop-pair l = l.states ≡ take l.pair (doc_at l.selected.docs l.at).1

@@ -1,8 +1,9 @@
-use Rattle.std.proofs.Common.{◌≡◌, ℕ, Option, Err, ap}
+use Rattle.std.proofs.Common.{◌≡◌, ◌∙◌, ℕ, Option, Err, ap, sym}
 use Rattle.outside.specs.Files.{Files}
 use Rattle.segment_head.specs.Heads.{Seen}
-use Rattle.star_taking.specs.declared.asked.Asked.{Asked}
-use Rattle.star_answer.specs.declared.segment_fault.SegmentFault.TheVariants as segments
+use Rattle.segment_head.proofs.FaultLemmas.{bad_head}
+use Rattle.star_reader.specs.declared.asked.Asked.{Asked}
+use Rattle.segment_head.specs.declared.fault.EngineFault.TheVariants as segments
 use Rattle.star_answer.proofs.SegmentSteps as steps
 use Rattle.star_answer.proofs.segment.answer_segment.Goals as goal
 
@@ -12,9 +13,9 @@ read_tree-requires-clause-tree g c =
 
 pub returns-in-Err-clause-bad : goal.returns-in-Err-clause-bad
 returns-in-Err-clause-bad g c part is =
-    let own : c.of_head.result ≡ segments.NotASegment part = cc in
+    let own : c.engine_fault.result ≡ segments.NotASegment part = cc in
     steps.none_whole c.args.table.now c.args.head.now (g.S.Shelf.held c.args.shelf.now)
-    (c.in-Err.ensures.refused part (c.of_head.ensures.bad part own))
+    (c.in-Err.ensures.refused part (bad_head c.in-Err.fault part (sym c.engine_fault.ensures ∙ own)))
 
 pub at-setting-requires : goal.at-setting-requires
 at-setting-requires g c =

@@ -1,8 +1,8 @@
 use Rattle.std.proofs.Common.{◌≡◌, ◌+◌, ◌*◌, ◌<◌, ◌≤◌, ◌∷◌, [], List, length, ap, subst, ◌∙◌, arith}
 use Rattle.std.proofs.Common.{rules, Err}
-use Rattle.tree_laws.specs.declared.node.Node.{Node}
+use Rattle.star_tree.specs.declared.node.Node.{Node}
 use Rattle.agg_laws.specs.Tree.{star}
-use Rattle.tree_laws.specs.Flat.{blank}
+use Rattle.star_tree.specs.Flat.{blank}
 use Rattle.star_file.specs.Rules.{most_bytes, widths}
 use Rattle.star_builder.specs.declared.fault.TreeFault.TheVariants.{TooLarge}
 use Rattle.star_builder.specs.Building.{Written, bytes_of}
@@ -38,24 +38,38 @@ returns-in-Err-clause-too_large c e =
     subst (λ (x : Written). most_bytes < bytes_of c.args.shape.now x) r.is
     (let same : c.in-Err.fault ≡ TooLarge = cc in c.in-Err.ensures.too_large (ap (λ x. Err x) same))
 
-pub returns-clause-flat : goal.returns-clause-flat
-returns-clause-flat c =
+pub visit-requires : goal.visit-requires
+visit-requires c =
     let docs = c.args.docs.docs in
     let f : Written = (c.in_ok-nodes.nodes.items, docs) in
     let nodes : c.in_ok-nodes.nodes.items ≡ blank 0 star 0 (length docs) ∷ [] =
     c.in_ok-nodes.ensures ∙ ap (λ n. blank 0 star 0 n ∷ []) c.len.ensures.count in
     let r : Root c.args.shape.now docs f = root c.args.shape.now docs f c.requires.some
     c.requires.proper (ap (λ (ns : List Node). (ns, docs)) nodes) in
-    ap (λ (ns : List Node). (ns, c.visit.new.docs.docs)) c.from_vec.ensures
-    ∙ c.in_default.ensures.ok ∙ r.is
+    let len : c.len-2.result ≡ length f.0 = search rules in
+    let w = 4 * c.args.shape.now.dims + widths c.args.shape.now.kinds in
+    record {
+      bounded = c.requires.bounded;
+      levels = omega arith;
+      dims = c.requires.dims;
+      stands = r.stands;
+      small = subst (λ n. w * length f.1 + 28 * n ≤ most_bytes) len
+          (c.they_fit.ensures.0 c.if-not-they_fit.false);
+    }
 
-pub returns-clause-fits : goal.returns-clause-fits
-returns-clause-fits c =
+pub returns-clause-grown : goal.returns-clause-grown
+returns-clause-grown c =
     let docs = c.args.docs.docs in
     let f : Written = (c.in_ok-nodes.nodes.items, docs) in
     let nodes : c.in_ok-nodes.nodes.items ≡ blank 0 star 0 (length docs) ∷ [] =
     c.in_ok-nodes.ensures ∙ ap (λ n. blank 0 star 0 n ∷ []) c.len.ensures.count in
     let r : Root c.args.shape.now docs f = root c.args.shape.now docs f c.requires.some
     c.requires.proper (ap (λ (ns : List Node). (ns, docs)) nodes) in
-    subst (λ (x : Written). bytes_of c.args.shape.now x ≤ most_bytes)
-    (c.in_default.ensures.ok ∙ r.is) c.in_default.ensures.fits
+    record {
+      flat_is = ap (λ (ns : List Node). (ns, c.visit.new.tree.docs.docs)) c.from_vec.ensures
+          ∙ c.in_default.ensures.ok ∙ r.is;
+      dims = c.in_default.ensures.dims;
+      kinds = c.in_default.ensures.kinds;
+      fits = subst (λ (x : Written). bytes_of c.args.shape.now x ≤ most_bytes)
+          (c.in_default.ensures.ok ∙ r.is) c.in_default.ensures.fits;
+    }

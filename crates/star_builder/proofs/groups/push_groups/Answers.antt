@@ -1,6 +1,6 @@
 use Rattle.std.proofs.Common.{◌+◌, ◌++◌, ◌∷◌, [], sym, ap, ◌∙◌, append_assoc}
 use Rattle.state_columns.specs.Region.{range}
-use Rattle.tree_laws.specs.Flat.{blank}
+use Rattle.star_tree.specs.Flat.{blank}
 use Rattle.star_builder.specs.Building.{group_nodes}
 use Rattle.star_builder.proofs.Steps.{group_step, Stepped}
 use Rattle.star_builder.proofs.groups.push_groups.Goals as goal

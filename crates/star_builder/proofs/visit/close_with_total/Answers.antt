@@ -7,7 +7,7 @@ use Rattle.star_builder.proofs.visit.close_with_total.Goals as goal
 
 pub add_total-requires-clause-alike : goal.add_total-requires-clause-alike
 add_total-requires-clause-alike c =
-    let docs = c.args.docs.now.docs in
+    let docs = c.args.tree.now.docs.docs in
     let start = c.bounds-start.ensures.start in
     let end = c.bounds-start.ensures.end in
     subst (λ (l : List Doc). AreAlike c.args.level l)

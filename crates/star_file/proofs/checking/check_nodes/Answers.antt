@@ -1,5 +1,5 @@
 use Rattle.std.proofs.Common.{List, ℕ, drop, ap, subst, ◌∙◌}
-use Rattle.tree_laws.specs.declared.node.Node.{Node}
+use Rattle.star_tree.specs.declared.node.Node.{Node}
 use Rattle.star_file.specs.Rules.{KeepAll, nodes_in, count_in}
 use Rattle.star_file.proofs.Written as steps
 use Rattle.star_file.proofs.checking.check_nodes.Goals as goal

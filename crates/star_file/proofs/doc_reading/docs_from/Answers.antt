@@ -39,7 +39,7 @@ pub append_parts-requires-clause-dims : goal.append_parts-requires-clause-dims
 append_parts-requires-clause-dims c =
     ap length c.as_slice.ensures.value
     ∙ steps.as_many c.args.counts.now c.read_doc.new.ids.items c.in_default.ensures.doc.ids_are
-    ∙ c.requires.counts ∙ sym c.loop-i.invariant.dims
+    ∙ c.requires.shape.counts_are ∙ sym c.loop-i.invariant.dims
 
 pub loop-i-preserved : goal.loop-i-preserved
 loop-i-preserved c =

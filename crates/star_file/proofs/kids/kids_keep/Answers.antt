@@ -1,6 +1,6 @@
 use Rattle.std.proofs.Common.{◌≡◌, ◌<◌, ◌≤◌, length, get_or, sym, ◌∙◌, refl, true, false}
 use Rattle.std.proofs.lemmas.Bool.{eqb-true, eq-eqb}
-use Rattle.tree_laws.specs.Flat.{blank}
+use Rattle.star_tree.specs.Flat.{blank}
 use Rattle.star_file.specs.declared.kids.KidRules.{KidRules}
 use Rattle.star_file.proofs.KidLemmas as kids
 use Rattle.star_file.proofs.kids.kids_keep.Goals as goal

@@ -1,5 +1,5 @@
 use Rattle.std.proofs.Common.{◌<◌, ◌++◌, ◌∷◌, [], length, refl}
-use Rattle.tree_laws.specs.declared.node.Node.{Node}
+use Rattle.star_tree.specs.declared.node.Node.{Node}
 use Rattle.state_columns.proofs.RegionLemmas.{any_default}
 use Rattle.star_file.specs.Bytes.{words, node_words, node_bytes}
 use Rattle.star_file.proofs.Written as steps

@@ -1,6 +1,6 @@
-use Rattle.std.proofs.Common.{◌∙◌, ◌++◌, ◌∷◌, ◌<◌, ◌≤◌, [], List, length, ap, arith}
+use Rattle.std.proofs.Common.{sym, ◌∙◌, ◌++◌, ◌∷◌, ◌<◌, ◌≤◌, [], List, length, ap, arith}
 use Rattle.std.proofs.lemmas.List.{take_all}
-use Rattle.state_columns.proofs.RegionLemmas.{any_default}
+use Rattle.std.proofs.lemmas.Option.{get_or_from_slice_get}
 use Rattle.star_records.specs.Folding.{picked}
 use Rattle.star_records.proofs.BlockSteps as steps
 use Rattle.star_records.proofs.blocks.columns_at.Goals as goal
@@ -12,7 +12,7 @@ loop-i-preserved g c = λ d.
     let i = c.loop-i.i in
     let lt : i < length columns = omega (arith, c.loop-i-test.true, c.len-i-end.ensures) in
     let column = c.as_slice.result.now in
-    let at = c.as_slice.ensures ∙ c.at.ensures ∙ any_default columns i c.at.result.now [] lt in
+    let at = c.as_slice.ensures ∙ sym (get_or_from_slice_get columns i c.at.result.now [] c.at.ensures) in
     let more = c.in_ok-push.ensures.items
     ∙ ap (λ (l : List g.row.T.Denot). c.loop-i.block.items ++ (l ∷ [])) c.from_vec.ensures in
     steps.columns_more d words columns i column c.in_ok-items.items.items c.loop-i.block.items

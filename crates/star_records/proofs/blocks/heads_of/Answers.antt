@@ -7,12 +7,12 @@ use Rattle.star_records.proofs.blocks.heads_of.Goals.{then-not-repeats+in_ok-pus
 pub loop-at-preserved : goal.loop-at-preserved
 loop-at-preserved c =
     let words = c.args.words.now in
-    let from = c.args.from in
+    let from = c.args.block.from in
     let at = c.loop-at.at in
     let heads = c.loop-at.heads.items in
     let slots = c.loop-at.slots.items in
     let slots' = c.push.new.self.items in
-    let lt : at < length words = omega (arith, c.loop-at-test.true, c.requires.within) in
+    let lt : at < length words = omega (arith, c.loop-at-test.true, c.requires) in
     let low : from ≤ at = omega (arith, c.loop-at.auto.at) in
     let is : slots' ≡ slots ++ (length heads ∷ []) = c.in_ok-push.ensures.items
     ∙ ap (λ (l : List ℕ). slots ++ (length l ∷ [])) c.as_slice.ensures.value in

@@ -6,8 +6,8 @@ use Rattle.star_rows.specs.Columns.{row_at}
 use Rattle.star_rows.proofs.RowLemmas as rows
 use Rattle.star_records.proofs.fold.append_row.Goals as goal
 
-pub returns-clause-appended : goal.returns-clause-appended
-returns-clause-appended c =
+pub returns : goal.returns
+returns c =
     let row = c.args.row in
     let place = c.args.place in
     let room = c.in_ok-reserve.ensures.ok in
@@ -20,17 +20,12 @@ returns-clause-appended c =
     ∙ rows.is_row (pos 0) row c.args.metrics.now c.read_row-2.new.out.items
     c.in_ok-read_row-2.ensures.items c.requires.values_long in
     let same = ap (λ (d : Docs). d.kinds) room in
-    ap (λ (d : Docs). d.docs) is
-    ∙ (λ i. (room i).docs ++ ((ids i, row_of (same i) (values i ∷ [])) ∷ []))
-
-pub returns-clause-weighs : goal.returns-clause-weighs
-returns-clause-weighs c =
-    let row = c.args.row in
-    let values : c.as_slice-2.result.now ≡ row_at (pos 0) row c.args.metrics.now =
-    c.as_slice-2.ensures.value
-    ∙ rows.is_row (pos 0) row c.args.metrics.now c.read_row-2.new.out.items
-    c.in_ok-read_row-2.ensures.items c.requires.values_long in
-    let same = ap (λ (d : Docs). d.kinds) c.in_ok-reserve.ensures.ok in
-    subst (λ xs. row_weight (row_of c.args.table.now.kinds (xs ∷ [])) ≤ 1) values
-    (subst (λ (ks : List AggKind). row_weight (row_of ks (c.as_slice-2.result.now ∷ [])) ≤ 1) same
-    c.append_values.ensures.light)
+    record {
+      appended = ap (λ (d : Docs). d.docs) is
+          ∙ (λ i. (room i).docs ++ ((ids i, row_of (same i) (values i ∷ [])) ∷ []));
+      weighs = subst (λ xs. row_weight (row_of c.args.table.now.kinds (xs ∷ [])) ≤ 1) values
+          (subst (λ (ks : List AggKind). row_weight (row_of ks (c.as_slice-2.result.now ∷ [])) ≤ 1)
+          same c.append_values.ensures.light);
+      dims = ap (λ (d : Docs). d.dims) is ∙ ap (λ (d : Docs). d.dims) room;
+      kinds = ap (λ (d : Docs). d.kinds) is ∙ same;
+    }

@@ -14,58 +14,55 @@ pub numbers_at-requires-clause-below : goal.numbers_at-requires-clause-below
 numbers_at-requires-clause-below c =
     let n = row_count c.args.dims.now in
     let words = c.args.words.now in
-    blocks.in_columns n c.part.result.now c.args.metrics.now c.requires.values_long
+    blocks.in_columns n c.part.result.now c.args.metrics.now c.requires.columns.values_long
     (subst (All (λ word. row_in word < n)) (sym c.part.ensures)
-    (blocks.part_below words c.args.from c.args.to c.requires.range c.requires.within n
+    (blocks.part_below words c.args.block.from c.args.block.to c.args.block.ordered c.requires.within n
     (blocks.all_below n words c.requires.order.all)))
 
 pub columns_at-requires : goal.columns_at-requires
 columns_at-requires c =
     let n = row_count c.args.dims.now in
     let words = c.args.words.now in
-    blocks.in_columns n c.as_slice.result.now c.args.dims.now c.requires.ids_long
+    blocks.in_columns n c.as_slice.result.now c.args.dims.now c.requires.columns.ids_long
     (subst (All (λ word. row_in word < n)) (sym c.as_slice.ensures.value)
     (c.in_ok-heads.ensures.among n (blocks.all_below n words c.requires.order.all)))
 
 pub merge_row-requires-clause-metrics : goal.merge_row-requires-clause-metrics
 merge_row-requires-clause-metrics c =
     ap length (c.in_ok-numbers.ensures (pos 0))
-    ∙ blocks.wide_picked (pos 0) c.part.result.now c.args.metrics.now ∙ c.requires.metrics
+    ∙ blocks.wide_picked (pos 0) c.part.result.now c.args.metrics.now ∙ c.requires.columns.metrics
     ∙ ap length (sym c.loop-at.invariant.merged.kinds)
-
-pub append_row-requires-clause-metrics : goal.append_row-requires-clause-metrics
-append_row-requires-clause-metrics c =
-    ap length (c.in_ok-numbers.ensures (pos 0))
-    ∙ blocks.wide_picked (pos 0) c.part.result.now c.args.metrics.now ∙ c.requires.metrics
-    ∙ ap length (sym c.loop-at.invariant.merged.kinds)
-
-pub append_row-requires-clause-dims : goal.append_row-requires-clause-dims
-append_row-requires-clause-dims c =
-    ap length (c.in_ok-ids.ensures 0) ∙ blocks.wide_picked 0 c.as_slice.result.now c.args.dims.now
-    ∙ c.requires.dims ∙ sym c.loop-at.invariant.dims
 
 pub merge_row-requires-clause-long : goal.merge_row-requires-clause-long
 merge_row-requires-clause-long c =
-    blocks.block_long (pos 0) c.args.words.now c.args.from c.args.to c.requires.range
+    blocks.block_long (pos 0) c.args.words.now c.args.block.from c.args.block.to c.args.block.ordered
     c.requires.within c.args.metrics.now c.in_ok-numbers.numbers c.part.result.now c.part.ensures
     (c.in_ok-numbers.ensures (pos 0)) c.loop-at.at c.loop-at.auto.at c.loop-at-test.true
 
-pub append_row-requires-clause-values_long : goal.append_row-requires-clause-values_long
-append_row-requires-clause-values_long c =
-    blocks.block_long (pos 0) c.args.words.now c.args.from c.args.to c.requires.range
-    c.requires.within c.args.metrics.now c.in_ok-numbers.numbers c.part.result.now c.part.ensures
-    (c.in_ok-numbers.ensures (pos 0)) c.loop-at.at c.loop-at.auto.at c.loop-at-test.true
-
-pub append_row-requires-clause-ids_long : goal.append_row-requires-clause-ids_long
-append_row-requires-clause-ids_long c =
-    blocks.head_long 0 c.args.words.now c.args.from c.args.to c.requires.range c.requires.within
-    c.args.dims.now c.in_ok-ids.ids c.in_ok-heads.heads.words.items
-    c.in_ok-heads.heads.slots.items c.in_ok-heads.ensures
-    (c.in_ok-ids.ensures 0 ∙ ap (λ ws. picked 0 ws c.args.dims.now) c.as_slice.ensures.value)
-    c.loop-at.at (get_or c.as_slice-slots.result.now (c.loop-at.at - c.args.from) 0)
-    c.loop-at.auto.at c.loop-at-test.true
-    (ap (λ (l : List ℕ). get_or l (c.loop-at.at - c.args.from) 0) c.as_slice-slots.ensures.value)
-    (c.repeats.ensures.other c.if-repeats.false)
+pub append_row-requires : goal.append_row-requires
+append_row-requires c =
+    record {
+      dims = ap length (c.in_ok-ids.ensures 0)
+          ∙ blocks.wide_picked 0 c.as_slice.result.now c.args.dims.now
+          ∙ c.requires.columns.dims ∙ sym c.loop-at.invariant.dims;
+      metrics = ap length (c.in_ok-numbers.ensures (pos 0))
+          ∙ blocks.wide_picked (pos 0) c.part.result.now c.args.metrics.now
+          ∙ c.requires.columns.metrics ∙ ap length (sym c.loop-at.invariant.merged.kinds);
+      ids_long = blocks.head_long 0 c.args.words.now c.args.block.from c.args.block.to
+          c.args.block.ordered c.requires.within
+          c.args.dims.now c.in_ok-ids.ids c.in_ok-heads.heads.words.items
+          c.in_ok-heads.heads.slots.items c.in_ok-heads.ensures
+          (c.in_ok-ids.ensures 0 ∙ ap (λ ws. picked 0 ws c.args.dims.now) c.as_slice.ensures.value)
+          c.loop-at.at (get_or c.as_slice-slots.result.now (c.loop-at.at - c.args.block.from) 0)
+          c.loop-at.auto.at c.loop-at-test.true
+          (ap (λ (l : List ℕ). get_or l (c.loop-at.at - c.args.block.from) 0)
+          c.as_slice-slots.ensures.value)
+          (c.repeats.ensures.other c.if-repeats.false);
+      values_long = blocks.block_long (pos 0) c.args.words.now c.args.block.from c.args.block.to
+          c.args.block.ordered c.requires.within c.args.metrics.now c.in_ok-numbers.numbers
+          c.part.result.now c.part.ensures (c.in_ok-numbers.ensures (pos 0)) c.loop-at.at
+          c.loop-at.auto.at c.loop-at-test.true;
+    }
 
 pub merge_row-requires-clause-some : goal.merge_row-requires-clause-some
 merge_row-requires-clause-some c =
@@ -97,8 +94,8 @@ loop-at-preserved c =
     let dims = c.args.dims.now in
     let ms = c.args.metrics.now in
     let words = c.args.words.now in
-    let from = c.args.from in
-    let to = c.args.to in
+    let from = c.args.block.from in
+    let to = c.args.block.to in
     let n = row_count dims in
     let i = c.loop-at.at in
     let row = row_in (get_or words i 0) in
@@ -112,7 +109,7 @@ loop-at-preserved c =
     let ids_next : ids_at dims row ≡ ids_at dims (row_in (get_or words (i + 1 - 1) 0)) =
     ap (λ k. ids_at dims (row_in (get_or words k 0))) next in
     let numbers : row_at (pos 0) (i - from) c.in_ok-numbers.numbers ≡ row_at (pos 0) row ms =
-    blocks.block_row (pos 0) words from to c.requires.range c.requires.within ms
+    blocks.block_row (pos 0) words from to c.args.block.ordered c.requires.within ms
     c.in_ok-numbers.numbers c.part.result.now c.part.ensures (c.in_ok-numbers.ensures (pos 0)) i low
     high in
     let states : states_at c.loop-at.table.kinds c.in_ok-numbers.numbers (i - from)
@@ -150,19 +147,19 @@ loop-at-preserved c =
             };
           }
       | else-repeats+in_ok-append_row w ↦
-          let turns = c.repeats.ensures.other w.if-repeats.false in
+          let other = c.repeats.ensures.other w.if-repeats.false in
           let place = get_or c.as_slice-slots.result.now (i - from) 0 in
           let ids : ids_at c.in_ok-ids.ids place ≡ ids_at dims row =
-          blocks.head_row 0 words from to c.requires.range c.requires.within dims c.in_ok-ids.ids
+          blocks.head_row 0 words from to c.args.block.ordered c.requires.within dims c.in_ok-ids.ids
           c.in_ok-heads.heads.words.items c.in_ok-heads.heads.slots.items c.in_ok-heads.ensures
           (c.in_ok-ids.ensures 0 ∙ ap (λ ws. picked 0 ws dims) c.as_slice.ensures.value) i
           place low high
-          (ap (λ (l : List ℕ). get_or l (i - from) 0) c.as_slice-slots.ensures.value) turns in
+          (ap (λ (l : List ℕ). get_or l (i - from) 0) c.as_slice-slots.ensures.value) other in
           let is : new ≡ old ++ ((ids_at dims row, states_at ks ms row) ∷ []) =
           ap (λ (t : Docs). t.docs) w.table-is ∙ w.in_ok-append_row.ensures.appended
           ∙ (λ j. old ++ ((ids j, states j) ∷ [])) in
           let added = is ∙ steps.appended_more ks dims ms n words c.requires.order i row lt refl old
-          inv.docs turns inv.last in
+          inv.docs other inv.last in
           record {
             dims = ap (λ (t : Docs). t.dims) w.table-is ∙ w.in_ok-append_row.ensures.dims
                 ∙ c.loop-at.invariant.dims;

@@ -18,8 +18,17 @@ merge_block-requires-clause-begun c =
 
 pub merge_block-requires-clause-zeros : goal.merge_block-requires-clause-zeros
 merge_block-requires-clause-zeros c =
-    subst (λ (l : List Bool). AreZero l c.args.metrics.now) (sym c.as_slice.ensures.value)
+    subst (λ (l : List Bool). AreZero l c.args.metrics.now) (sym c.as_slice-marks.ensures.value)
     c.in_ok-zeros.ensures
+
+pub merge_block-requires-clause-columns : goal.merge_block-requires-clause-columns
+merge_block-requires-clause-columns c =
+    record {
+      dims = c.requires.columns.dims ∙ sym c.loop-from.invariant.dims;
+      metrics = c.requires.columns.metrics ∙ ap length (sym c.loop-from.invariant.merged.kinds);
+      ids_long = c.requires.columns.ids_long;
+      values_long = c.requires.columns.values_long;
+    }
 
 pub loop-from-preserved : goal.loop-from-preserved
 loop-from-preserved c =
@@ -32,21 +41,23 @@ loop-from-preserved c =
           c.in_ok-merge_block.ensures.merged;
     }
 
-pub returns-clause-docs : goal.returns-clause-docs
-returns-clause-docs c =
+pub returns : goal.returns
+returns c =
     let words = c.args.words.now in
     let n = row_count c.args.dims.now in
     let l = length-map words row_in in
+    let inv = c.loop-from.invariant in
+    let count = steps.rows_count n words c.requires.order.all in
     let end : c.loop-from.from ≡ length (map row_in words) =
-    omega (arith, c.loop-from-test.false, c.loop-from.invariant.within, l) in
-    c.loop-from.invariant.merged.docs
-    ∙ ap (λ is. merged_docs merged_rows (steps.docs_of c.args.shape.now.kinds c.args.dims.now
-    c.args.metrics.now is)) (ap (λ k. take k (map row_in words)) end ∙ take-length (map row_in words))
-    ∙ steps.same_merged c.args.shape.now.kinds c.args.dims.now c.args.metrics.now n
-    (map row_in words) c.requires.order.all
-
-pub returns-clause-light : goal.returns-clause-light
-returns-clause-light c =
-    let count = steps.rows_count (row_count c.args.dims.now) c.args.words.now
-    c.requires.order.all in
-    omega (arith, count, c.loop-from.invariant.within, c.loop-from.invariant.merged.light)
+    omega (arith, c.loop-from-test.false, inv.within, l) in
+    record {
+      dims = inv.dims;
+      kinds = inv.merged.kinds;
+      docs_are = inv.merged.docs
+          ∙ ap (λ is. merged_docs merged_rows (steps.docs_of c.args.shape.now.kinds c.args.dims.now
+          c.args.metrics.now is))
+          (ap (λ k. take k (map row_in words)) end ∙ take-length (map row_in words))
+          ∙ steps.same_merged c.args.shape.now.kinds c.args.dims.now c.args.metrics.now n
+          (map row_in words) c.requires.order.all;
+      light = omega (arith, count, inv.within, inv.merged.light);
+    }

@@ -17,35 +17,26 @@ add_last-requires-clause-light c front e is =
     let b = weights-append row_weight front (e ∷ []) in
     omega (arith, a, b, c.requires.light)
 
-pub returns-clause-merged : goal.returns-clause-merged
-returns-clause-merged c front e is =
+pub returns : goal.returns
+returns c =
     let ks = c.args.table.now.kinds in
+    let row = row_at (pos 0) c.args.row c.args.metrics.now in
+    let last = parts c.args.table.now.docs c.requires.some in
+    let read : c.as_slice.result.now ≡ row_at (pos 0) c.args.row c.args.metrics.now =
+    c.as_slice.ensures.value
+    ∙ rows.is_row (pos 0) c.args.row c.args.metrics.now c.read_row.new.out.items
+    c.in_ok-read_row.ensures.items c.requires.long in
     let values : c.as_slice-2.result.now ≡ row_at (pos 0) c.args.row c.args.metrics.now =
     c.as_slice-2.ensures.value
     ∙ rows.is_row (pos 0) c.args.row c.args.metrics.now c.read_row.new.out.items
     c.in_ok-read_row.ensures.items c.requires.long in
-    ap (λ (d : Docs). d.docs) (c.add_last.ensures front e is)
-    ∙ ap (λ xs. front ++ ((e.0, merged_rows e.1 (row_of ks (xs ∷ []))) ∷ [])) values
-
-pub returns-clause-weighs : goal.returns-clause-weighs
-returns-clause-weighs c =
-    let ks = c.args.table.now.kinds in
-    let row = row_at (pos 0) c.args.row c.args.metrics.now in
-    let values : c.as_slice.result.now ≡ row_at (pos 0) c.args.row c.args.metrics.now =
-    c.as_slice.ensures.value
-    ∙ rows.is_row (pos 0) c.args.row c.args.metrics.now c.read_row.new.out.items
-    c.in_ok-read_row.ensures.items c.requires.long in
     let long : length c.as_slice.result.now ≡ length ks =
     ap length c.as_slice.ensures.value ∙ c.in_ok-read_row.ensures.length ∙ c.requires.metrics in
-    row_weight_least (row_of ks (row ∷ [])) 1
-    (fits_row ks row (ap length (sym values) ∙ long) (subst AreWhole values c.are_whole.ensures))
-
-pub returns-clause-dims : goal.returns-clause-dims
-returns-clause-dims c =
-    let last = parts c.args.table.now.docs c.requires.some in
-    ap (λ (d : Docs). d.dims) (c.add_last.ensures last.0 last.1.0 last.1.1)
-
-pub returns-clause-kinds : goal.returns-clause-kinds
-returns-clause-kinds c =
-    let last = parts c.args.table.now.docs c.requires.some in
-    ap (λ (d : Docs). d.kinds) (c.add_last.ensures last.0 last.1.0 last.1.1)
+    record {
+      merged = λ front e is. ap (λ (d : Docs). d.docs) (c.add_last.ensures front e is)
+          ∙ ap (λ xs. front ++ ((e.0, merged_rows e.1 (row_of ks (xs ∷ []))) ∷ [])) values;
+      weighs = row_weight_least (row_of ks (row ∷ [])) 1
+          (fits_row ks row (ap length (sym read) ∙ long) (subst AreWhole read c.are_whole.ensures));
+      dims = ap (λ (d : Docs). d.dims) (c.add_last.ensures last.0 last.1.0 last.1.1);
+      kinds = ap (λ (d : Docs). d.kinds) (c.add_last.ensures last.0 last.1.0 last.1.1);
+    }

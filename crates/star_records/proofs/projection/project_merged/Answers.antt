@@ -10,34 +10,41 @@ use Rattle.star_rows.specs.Columns.{row_count}
 use Rattle.star_records.proofs.FoldSteps.{fewer}
 use Rattle.star_records.proofs.projection.project_merged.Goals as goal
 
-pub returns-in_ok-documents-in-None-clause-light : goal.returns-in_ok-documents-in-None-clause-light
-returns-in_ok-documents-in-None-clause-light c =
+pub returns-in_ok-documents-in-None-clause-table : goal.returns-in_ok-documents-in-None-clause-table
+returns-in_ok-documents-in-None-clause-table c =
+    let of_rows = c.in_ok-documents-in-None.ensures.table in
     let rows = c.in_ok-documents-in-None.documents.docs in
     let less = weights-Merged row_weight dims_order merged_rows row_weight_both rows in
-    IfOk-weaker c.merge_equal.result _ _ (λ (table : Docs) is.
-    let same = ap (weights row_weight) is in
-    omega (arith, same, less, c.in_ok-documents-in-None.ensures.light)) c.merge_equal.ensures.docs
+    IfOk-weaker c.merge_equal.result _ _ (λ (table : Docs) made.
+    let same = ap (weights row_weight) made.docs_are in
+    record {
+      dims = made.dims ∙ of_rows.dims;
+      kinds = made.kinds ∙ of_rows.kinds;
+      docs_are = made.docs_are ∙ ap (merged_docs merged_rows) of_rows.docs_are;
+      light = omega (arith, same, less, of_rows.light);
+    }) c.merge_equal.ensures
 
 pub returns-in_ok-documents-in-None-clause-count : goal.returns-in_ok-documents-in-None-clause-count
 returns-in_ok-documents-in-None-clause-count c =
     let few = fewer c.args.shape.now.kinds c.args.dims c.args.metrics.now
     (row_count c.args.dims) in
-    IfOk-weaker c.merge_equal.result _ _ (λ (table : Docs) is.
-    let same = ap length (is ∙ ap (merged_docs merged_rows) c.in_ok-documents-in-None.ensures.docs) in
-    omega (arith, same, few)) c.merge_equal.ensures.docs
+    IfOk-weaker c.merge_equal.result _ _ (λ (table : Docs) made.
+    let same = ap length (made.docs_are
+    ∙ ap (merged_docs merged_rows) c.in_ok-documents-in-None.ensures.table.docs_are) in
+    omega (arith, same, few)) c.merge_equal.ensures
 
 pub returns-in-Some-clause-count : goal.returns-in-Some-clause-count
 returns-in-Some-clause-count c =
     let few = fewer c.args.shape.now.kinds c.args.dims c.args.metrics.now
     (row_count c.args.dims) in
-    IfOk-weaker c.merge_slots.result _ _ (λ (table : Docs) is.
-    let same = ap length is in
-    omega (arith, same, few)) c.merge_slots.ensures.docs
+    IfOk-weaker c.merge_slots.result _ _ (λ (table : Docs) made.
+    let same = ap length made.docs_are in
+    omega (arith, same, few)) c.merge_slots.ensures
 
 pub returns-in-Some-2-clause-count : goal.returns-in-Some-2-clause-count
 returns-in-Some-2-clause-count c =
     let few = fewer c.args.shape.now.kinds c.args.dims c.args.metrics.now
     (row_count c.args.dims) in
-    IfOk-weaker c.merge_in_order.result _ _ (λ (table : Docs) is.
-    let same = ap length is in
-    omega (arith, same, few)) c.merge_in_order.ensures.docs
+    IfOk-weaker c.merge_in_order.result _ _ (λ (table : Docs) made.
+    let same = ap length made.docs_are in
+    omega (arith, same, few)) c.merge_in_order.ensures

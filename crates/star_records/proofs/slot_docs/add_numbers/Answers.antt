@@ -24,8 +24,8 @@ add_at-requires-clause-fits c =
     let few = length-take-le k numbers (omega (arith, lt)) in
     steps.one-fits c.args.column.now.kind (length c.args.column.now.states) (take k slots)
     (take k numbers) c.loop-row.column (get_or slots k 0) c.loop-row.invariant.holds
-    (c.requires.below k 0 c.loop-row-test.true) z c.loop-row.invariant.whole whole
-    (omega (arith, few, lt, c.requires.few, c.requires.long))
+    (c.requires.slots.below k 0 c.loop-row-test.true) z c.loop-row.invariant.whole whole
+    (omega (arith, few, lt, c.requires.slots.few, c.requires.long))
 
 pub loop-row-preserved : goal.loop-row-preserved
 loop-row-preserved c =
@@ -45,7 +45,7 @@ loop-row-preserved c =
     length-take-le k slots (omega (arith, in_slots))
     ∙ sym (length-take-le k numbers (omega (arith, lt))) in
     let h = steps.holds-more kind count (take k slots) (take k numbers) c.loop-row.column slot
-    c.loop-row.invariant.holds (c.requires.below k 0 in_slots) z long in
+    c.loop-row.invariant.holds (c.requires.slots.below k 0 in_slots) z long in
     record {
       holds = subst (λ (ss : List ℕ). HoldsSlots kind count ss (take (k + 1) numbers) c.add_at.new.self)
           (sym (take_more slots k 0 in_slots))

@@ -23,7 +23,7 @@ columns_at-requires c =
     let n = row_count dims in
     subst (λ (known : List ℕ). All (λ (l : List ℕ). All (λ word. row_in word < length l) known) dims)
     (sym c.as_slice.ensures.value)
-    (blocks.in_columns n c.args.slots.rows.items dims c.requires.ids_long
+    (blocks.in_columns n c.args.slots.rows.items dims c.requires.columns.ids_long
     (blocks.own_rows n c.args.slots.rows.items (omega (arith, c.requires.few))
     c.requires.slots.rows_in))
 
@@ -46,7 +46,7 @@ read_states-requires c =
     let slot : ℕ = c.loop-slot.slot in
     let columns : List Column = c.in_ok-columns.columns.items in
     let long : All (λ (m : List ℤ). length m ≡ length S) metrics =
-    λ k d l. c.requires.values_long k d l
+    λ k d l. c.requires.columns.values_long k d l
     ∙ sym (ap length c.as_slice-2.ensures.value ∙ c.requires.slots.long) in
     subst (All (λ (d : Column). slot < length d.states)) (sym c.as_slice-in-loop-slot.ensures.value)
     (steps.long-columns N S K metrics columns slot c.in_ok-columns.ensures
@@ -56,7 +56,7 @@ pub append_parts-requires-clause-dims : goal.append_parts-requires-clause-dims
 append_parts-requires-clause-dims c =
     ap length c.as_slice-in-loop-slot-2.ensures.value ∙ c.in_ok-read_row.ensures.length
     ∙ ap length (c.in_ok-slot_ids.ensures 0) ∙ blocks.wide_picked 0 c.as_slice.result.now c.args.dims
-    ∙ c.requires.dims ∙ sym c.loop-slot.invariant.dims
+    ∙ c.requires.columns.dims ∙ sym c.loop-slot.invariant.dims
     ∙ sym (ap (λ (d : Docs). d.dims) c.in_ok-reserve-2.ensures.ok)
 
 pub append_parts-requires-clause-kinds : goal.append_parts-requires-clause-kinds
@@ -68,7 +68,7 @@ append_parts-requires-clause-kinds c =
     let slot : ℕ = c.loop-slot.slot in
     let columns : List Column = c.in_ok-columns.columns.items in
     let long : All (λ (m : List ℤ). length m ≡ length S) metrics =
-    λ k d l. c.requires.values_long k d l
+    λ k d l. c.requires.columns.values_long k d l
     ∙ sym (ap length c.as_slice-2.ensures.value ∙ c.requires.slots.long) in
     let states : c.as_slice-in-loop-slot-3.result.now ≡ columns_row columns slot =
     c.as_slice-in-loop-slot-3.ensures.value ∙ c.in_ok-read_states.ensures
@@ -88,7 +88,7 @@ append_parts-requires-clause-stored c =
     let slot : ℕ = c.loop-slot.slot in
     let columns : List Column = c.in_ok-columns.columns.items in
     let long : All (λ (m : List ℤ). length m ≡ length S) metrics =
-    λ k d l. c.requires.values_long k d l
+    λ k d l. c.requires.columns.values_long k d l
     ∙ sym (ap length c.as_slice-2.ensures.value ∙ c.requires.slots.long) in
     let states : c.as_slice-in-loop-slot-3.result.now ≡ columns_row columns slot =
     c.as_slice-in-loop-slot-3.ensures.value ∙ c.in_ok-read_states.ensures
@@ -113,7 +113,7 @@ loop-slot-preserved c =
     let slot : ℕ = c.loop-slot.slot in
     let columns : List Column = c.in_ok-columns.columns.items in
     let long : All (λ (m : List ℤ). length m ≡ length S) metrics =
-    λ k d l. c.requires.values_long k d l
+    λ k d l. c.requires.columns.values_long k d l
     ∙ sym (ap length c.as_slice-2.ensures.value ∙ c.requires.slots.long) in
     let states : c.as_slice-in-loop-slot-3.result.now ≡ columns_row columns slot =
     c.as_slice-in-loop-slot-3.ensures.value ∙ c.in_ok-read_states.ensures
@@ -168,31 +168,18 @@ merged kinds dims metrics n end all known docs are e is =
     (subst (λ k. AreSlots k dims all known) (sym are.long) are)
     ∙ ap (λ k. merged_docs merged_rows (projected kinds (rows_of k dims metrics))) are.long
 
-pub returns-clause-docs : goal.returns-clause-docs
-returns-clause-docs c =
-    let known : List ℕ = c.args.slots.rows.items in
-    let end : c.loop-slot.slot ≡ length known =
-    omega (
-      arith,
-      c.loop-slot-test.false,
-      c.loop-slot.auto.slot-end,
-      c.len-count.ensures,
-    ) in
-    merged c.args.shape.now.kinds c.args.dims c.args.metrics.now (row_count c.args.dims)
-    c.loop-slot.slot c.args.slots.slots.items known c.loop-slot.table.docs c.requires.slots end
-    c.loop-slot.invariant.docs
-
-pub returns-clause-light : goal.returns-clause-light
-returns-clause-light c =
+pub returns : goal.returns
+returns c =
     let N : ℕ = c.len-count.result in
     let S : List ℕ = c.as_slice-2.result.now in
     let K : List AggKind = c.as_slice-kinds.result.now in
     let metrics : List (List ℤ) = c.args.metrics.now in
     let dims : List (List ℕ) = c.args.dims in
     let known : List ℕ = c.args.slots.rows.items in
-    let many : length S ≡ row_count dims = ap length c.as_slice-2.ensures.value ∙ c.requires.slots.long in
+    let many : length S ≡ row_count dims =
+    ap length c.as_slice-2.ensures.value ∙ c.requires.slots.long in
     let long : All (λ (m : List ℤ). length m ≡ length S) metrics =
-    λ k d l. c.requires.values_long k d l ∙ sym many in
+    λ k d l. c.requires.columns.values_long k d l ∙ sym many in
     let end : c.loop-slot.slot ≡ length known =
     omega (
       arith,
@@ -200,11 +187,17 @@ returns-clause-light c =
       c.loop-slot.auto.slot-end,
       c.len-count.ensures,
     ) in
-    let docs = merged c.args.shape.now.kinds dims metrics (row_count dims) c.loop-slot.slot
+    let own = merged c.args.shape.now.kinds dims metrics (row_count dims) c.loop-slot.slot
     c.args.slots.slots.items known c.loop-slot.table.docs c.requires.slots end
-    c.loop-slot.invariant.docs
+    c.loop-slot.invariant.docs in
+    let docs = own
     ∙ (λ i. merged_docs merged_rows (projected (sym c.as_slice-kinds.ensures i)
     (rows_of (sym many i) dims metrics))) in
     let light = steps.merged-light N S K metrics c.in_ok-columns.columns.items dims
     c.loop-slot.table.docs c.in_ok-columns.ensures long docs in
-    omega (arith, light, many)
+    record {
+      dims = c.loop-slot.invariant.dims;
+      kinds = c.loop-slot.invariant.kinds;
+      docs_are = own;
+      light = omega (arith, light, many);
+    }

@@ -1,6 +1,6 @@
 use Rattle.std.proofs.Common.{◌≡◌, ◌+◌, ◌<◌, ◌∷◌, [], suc, List, map, Some, take, slice_get, length}
 use Rattle.std.proofs.Common.{sym, ap, subst, ◌∙◌, arith, length-append}
-use Rattle.state_columns.proofs.RegionLemmas.{any_default}
+use Rattle.std.proofs.lemmas.Option.{get_or_from_slice_get}
 use Rattle.star_rows.proofs.RowLemmas as rows
 use Rattle.star_rows.proofs.projection.read_row.Goals as goal
 
@@ -13,8 +13,8 @@ loop-i-preserved g c =
     let x = c.index-column-row.result in
     let n : suc i ≡ i + 1 = omega arith in
     let lt : i < length columns = omega (arith, c.loop-i-test.true, c.len-i-end.ensures) in
-    let is = c.as_slice-column.ensures ∙ c.at.ensures
-    ∙ any_default columns i c.at.result.now [] lt in
+    let is = c.as_slice-column.ensures
+    ∙ sym (get_or_from_slice_get columns i c.at.result.now [] c.at.ensures) in
     let in' : row < length column =
     subst (λ (c : List g.row.T.Denot). row < length c) (sym is) (c.requires i [] lt) in
     let items = c.in_ok-push.ensures.items in

@@ -3,11 +3,11 @@ use Rattle.agg_laws.specs.declared.tree_shape.TreeShape.{TreeShape}
 use Rattle.agg_laws.specs.Rows.{merged_rows}
 use Rattle.state_columns.specs.Docs.{Doc, HaveIds}
 use Rattle.agg_laws.specs.Tree.{HaveNoStar, agrees, tree_of}
-use Rattle.tree_laws.specs.Flat.{flat}
-use Rattle.tree_laws.specs.Picks.{Task, picks}
+use Rattle.star_tree.specs.Flat.{flat}
+use Rattle.star_tree.specs.Picks.{Task, picks}
 use Rattle.state_columns.proofs.DocLemmas.{rows_join}
-use Rattle.tree_laws.proofs.TreeLemmas.{tree_covers}
-use Rattle.tree_laws.proofs.GroupLemmas.{rows_parted, groups_kept}
+use Rattle.star_tree.proofs.TreeLemmas.{tree_covers}
+use Rattle.star_tree.proofs.GroupLemmas.{rows_parted, groups_kept}
 use Rattle.star_walk.specs.declared.pick.Pick.{Pick}
 use Rattle.star_walk.specs.Walking.{tree_picks}
 use Rattle.star_walk.specs.Images.{bare, shown}

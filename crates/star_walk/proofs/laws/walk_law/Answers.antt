@@ -3,14 +3,14 @@ use Rattle.agg_laws.specs.declared.tree_shape.TreeShape.{TreeShape}
 use Rattle.agg_laws.specs.Rows.{merged_rows}
 use Rattle.state_columns.specs.Docs.{Doc, HaveIds}
 use Rattle.agg_laws.specs.Tree.{HaveNoStar, tree_of}
-use Rattle.tree_laws.specs.Flat.{flat}
-use Rattle.tree_laws.specs.Reads.{factor, bound}
-use Rattle.tree_laws.specs.Picks.{Task, picks}
-use Rattle.tree_laws.specs.Picks as nested
-use Rattle.tree_laws.specs.Groups.{groups_of, rows_that_hold}
+use Rattle.star_tree.specs.Flat.{flat}
+use Rattle.star_tree.specs.Reads.{factor, bound}
+use Rattle.star_tree.specs.Picks.{Task, picks}
+use Rattle.star_tree.specs.Picks as nested
+use Rattle.star_tree.specs.Groups.{groups_of, rows_that_hold}
 use Rattle.state_columns.proofs.DocLemmas.{rows_join}
-use Rattle.tree_laws.proofs.ReadLemmas.{tree_read}
-use Rattle.tree_laws.proofs.AnswerLemmas.{same_groups}
+use Rattle.star_tree.proofs.ReadLemmas.{tree_read}
+use Rattle.star_tree.proofs.AnswerLemmas.{same_groups}
 use Rattle.star_walk.specs.Walking.{tree_picks}
 use Rattle.star_walk.specs.declared.pick.Pick.{Pick}
 use Rattle.star_walk.specs.Images.{read_of, passing}

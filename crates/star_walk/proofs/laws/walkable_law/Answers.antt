@@ -1,9 +1,9 @@
 use Rattle.std.proofs.Common.{ℕ, ◌+◌, ◌<◌, ◌≤◌, ◌^◌, List, length, arith, inl, inr}
 use Rattle.std.proofs.lemmas.Bool.{cases_lt}
-use Rattle.tree_laws.specs.declared.node.Node.{Node}
+use Rattle.star_tree.specs.declared.node.Node.{Node}
 use Rattle.agg_laws.specs.declared.tree_shape.TreeShape.{TreeShape}
-use Rattle.tree_laws.specs.Flat.{node_at}
-use Rattle.tree_laws.specs.NodeRules.{KeepsRules}
+use Rattle.star_tree.specs.Flat.{node_at}
+use Rattle.star_tree.specs.NodeRules.{KeepsRules}
 use Rattle.star_walk.specs.Walking.{StandsAmong}
 use Rattle.star_walk.proofs.WithinSteps.{InDocs, tree_in}
 use Rattle.star_walk.proofs.laws.walkable_law.Goals as goal

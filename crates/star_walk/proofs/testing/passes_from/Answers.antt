@@ -1,6 +1,6 @@
 use Rattle.std.proofs.Common.{◌≡◌, ◌<◌, ◌-◌, length, sym, ap, ◌∙◌, arith}
 use Rattle.state_columns.specs.Docs.{doc_at}
-use Rattle.tree_laws.specs.Picks.{holds_from}
+use Rattle.star_tree.specs.Picks.{holds_from}
 use Rattle.star_walk.specs.Walking.{task_of, passes}
 use Rattle.star_walk.proofs.TestSteps.{test_passed, test_failed, tests_done}
 use Rattle.star_walk.proofs.testing.passes_from.Goals as goal

@@ -1,6 +1,6 @@
 use Rattle.std.proofs.Common.{◌≡◌, ◌-◌, length}
 use Rattle.state_columns.specs.Docs.{doc_at}
-use Rattle.tree_laws.specs.Picks.{holds_from}
+use Rattle.star_tree.specs.Picks.{holds_from}
 use Rattle.star_walk.specs.Walking.{task_of}
 use Rattle.star_walk.proofs.testing.passes_from.Given as goal
 

@@ -2,23 +2,23 @@ use Rattle.std.proofs.Common.{◌≡◌, ◌<◌, ◌≤◌, ◌+◌, ◌-◌, �
 use Rattle.std.proofs.Common.{◌∙◌, arith, append_assoc}
 use Rattle.std.proofs.lemmas.Bool.{ne_eqb}
 use Rattle.state_columns.specs.Region.{range}
-use Rattle.tree_laws.specs.Flat.{node_at}
-use Rattle.tree_laws.specs.Picks.{is_taken}
+use Rattle.star_tree.specs.Flat.{node_at}
+use Rattle.star_tree.specs.Picks.{is_taken}
 use Rattle.star_walk.specs.Walking.{task_of, has_star_among, kids_of, taken, node_picks}
 use Rattle.star_walk.proofs.WalkSteps.{picks_split, kid_passed, kid_taken}
 use Rattle.star_walk.proofs.walking.+push_node.Goals as goal
 
-pub push_kids-loop-kid-preserved-then-not-takes : goal.push_kids-loop-kid-preserved-then-not-takes
-push_kids-loop-kid-preserved-then-not-takes t c =
-    let ns = c.args.nodes.now in
+pub push_children-loop-child-preserved-then-not-takes : goal.push_children-loop-child-preserved-then-not-takes
+push_children-loop-child-preserved-then-not-takes t c =
+    let ns = c.args.walk.nodes.now in
     let n = node_at ns c.args.at in
-    let task = task_of c.args.task.now.matched c.args.task.now.grouped in
-    let k = length c.args.task.now.matched in
-    let kid = c.loop-kid.kid in
-    let from = c.kids_of-first.result.0 in
-    let first : from ≡ n.first = c.kids_of-first.ensures.first in
-    let end : c.kids_of-first.result.1 ≡ n.first + n.children =
-    c.kids_of-first.ensures.end ∙ ap (λ m. m + n.children) first in
+    let task = task_of c.args.walk.task.now.matched c.args.walk.task.now.grouped in
+    let k = length c.args.walk.task.now.matched in
+    let kid = c.loop-child.child in
+    let from = c.children_of-first.result.0 in
+    let first : from ≡ n.first = c.children_of-first.ensures.first in
+    let end : c.children_of-first.result.1 ≡ n.first + n.children =
+    c.children_of-first.ensures.end ∙ ap (λ m. m + n.children) first in
     let among : has_star_among (kids_of ns n) ≡ c.has_star-starred.result =
     sym (c.has_star-starred.ensures ∙ (λ i. has_star_among (range (first i) (end i) ns))) in
     let passed : is_taken task (has_star_among (kids_of ns n)) c.args.level (node_at ns kid).id
@@ -27,22 +27,22 @@ push_kids-loop-kid-preserved-then-not-takes t c =
     ∙ sym c.takes.ensures ∙ c.if-not-takes.true in
     let le : from ≤ kid = omega arith in
     let lt : kid < length ns = omega arith in
-    c.loop-kid.invariant
+    c.loop-child.invariant
     ∙ ap (λ ps. c.args.picks.now ++ ps)
     (sym (kid_passed (node_picks task k ns (k - (c.args.level + 1)) (c.args.level + 1)) task
     (has_star_among (kids_of ns n)) c.args.level from kid ns le lt passed))
 
-pub push_kids-loop-kid-preserved : goal.push_kids-loop-kid-preserved
-push_kids-loop-kid-preserved t c =
-    let ns = c.args.nodes.now in
+pub push_children-loop-child-preserved : goal.push_children-loop-child-preserved
+push_children-loop-child-preserved t c =
+    let ns = c.args.walk.nodes.now in
     let n = node_at ns c.args.at in
-    let task = task_of c.args.task.now.matched c.args.task.now.grouped in
-    let k = length c.args.task.now.matched in
-    let kid = c.loop-kid.kid in
-    let from = c.kids_of-first.result.0 in
-    let first : from ≡ n.first = c.kids_of-first.ensures.first in
-    let end : c.kids_of-first.result.1 ≡ n.first + n.children =
-    c.kids_of-first.ensures.end ∙ ap (λ m. m + n.children) first in
+    let task = task_of c.args.walk.task.now.matched c.args.walk.task.now.grouped in
+    let k = length c.args.walk.task.now.matched in
+    let kid = c.loop-child.child in
+    let from = c.children_of-first.result.0 in
+    let first : from ≡ n.first = c.children_of-first.ensures.first in
+    let end : c.children_of-first.result.1 ≡ n.first + n.children =
+    c.children_of-first.ensures.end ∙ ap (λ m. m + n.children) first in
     let among : has_star_among (kids_of ns n) ≡ c.has_star-starred.result =
     sym (c.has_star-starred.ensures ∙ (λ i. has_star_among (range (first i) (end i) ns))) in
     let took =
@@ -53,7 +53,7 @@ push_kids-loop-kid-preserved t c =
     let below = node_picks task k ns (k - (c.args.level + 1)) (c.args.level + 1) in
     let star = has_star_among (kids_of ns n) in
     c.in_ok-push_node.ensures
-    ∙ ap (λ ps. ps ++ below (node_at ns kid)) c.loop-kid.invariant
+    ∙ ap (λ ps. ps ++ below (node_at ns kid)) c.loop-child.invariant
     ∙ append_assoc c.args.picks.now (taken below task star c.args.level (range from kid ns))
     (below (node_at ns kid))
     ∙ ap (λ ps. c.args.picks.now ++ ps)
@@ -61,11 +61,11 @@ push_kids-loop-kid-preserved t c =
 
 pub push_node-returns : goal.push_node-returns
 push_node-returns t c =
-    let ns = c.args.nodes.now in
+    let ns = c.args.walk.nodes.now in
     let n = node_at ns c.args.at in
-    let task = task_of c.args.task.now.matched c.args.task.now.grouped in
-    let k = length c.args.task.now.matched in
-    subst (λ ps. OnOk c.push_kids.result (c.push_kids.new.picks ≡ c.args.picks.now ++ ps))
-    (sym (picks_split task k ns c.args.level n (sym c.is_quiet.ensures ∙ c.if-is_quiet.false)
-    (ne_eqb n.children 0 (λ e. c.if-nodes-at-eq0.false e))))
-    c.push_kids.ensures
+    let task = task_of c.args.walk.task.now.matched c.args.walk.task.now.grouped in
+    let k = length c.args.walk.task.now.matched in
+    subst (λ ps. OnOk c.push_children.result (c.push_children.new.picks ≡ c.args.picks.now ++ ps))
+    (sym (picks_split task k ns c.args.level n (sym c.is_unconstrained.ensures ∙ c.if-is_unconstrained.false)
+    (ne_eqb n.children 0 (λ e. c.if-walk-at-eq0.false e))))
+    c.push_children.ensures

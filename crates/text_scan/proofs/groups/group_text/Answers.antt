@@ -1,6 +1,6 @@
 use Rattle.std.proofs.Common.{◌∙◌, ◌++◌, ◌+◌, ◌-◌, ◌≤◌, [], Err, sym, ap, subst, arith}
 use Rattle.csv_row.specs.InOrder.{after}
-use Rattle.value_columns.specs.Columns.{rows_of}
+use Rattle.values.specs.Columns.{rows_of}
 use Rattle.group_table.specs.Kept.{groups_in}
 use Rattle.group_table.specs.Groups.{Groups}
 use Rattle.group_table.specs.Shape.{shape_of}
@@ -13,18 +13,22 @@ use Rattle.text_scan.proofs.groups.group_text.Goals as goal
 
 pub reading-init : goal.reading-init
 reading-init c = record {
-  blocks = c.requires.blocks;
+  blocks = c.requires.text.of_numbers;
   table = c.requires.table.of_query;
   most = c.requires.table.most_is;
-  fits = (0, subst (λ (g : Groups). HaveAtMost 0 g) (sym c.requires.table.groups_are) (none_fit (shape_of c.args.bound.now)), omega (arith, c.requires.few));
+  fits = (0, subst (λ (g : Groups). HaveAtMost 0 g) (sym c.requires.table.groups_are) (none_fit (shape_of c.args.bound.now)), omega (arith, c.requires.text.at_most));
   so_far = λ whole h. ([], whole, h, after-none whole, c.requires.table.groups_are);
 }
 
-pub add_block-requires-clause-fits : goal.add_block-requires-clause-fits
-add_block-requires-clause-fits c =
+pub add_block-requires-clause-room : goal.add_block-requires-clause-room
+add_block-requires-clause-room c =
     let (n, h, le) = c.reading.invariant.fits in
     let count : c.in-Some.block.count + c.next_rows.new.blocks.left ≤ c.reading.blocks.left = rw c.in-Some.is at c.in_ok-block.ensures.count in
-    at_most_more (groups_in c.reading.table) n (536870912 - c.in-Some.block.count) (omega arith) h
+    record {
+      of_query = c.reading.invariant.table;
+      at_most = omega (arith, count, le);
+      fits = at_most_more (groups_in c.reading.table) n (536870912 - c.in-Some.block.count) (omega arith) h;
+    }
 
 pub returns-in-Err-TooManyGroups-clause-ok : goal.returns-in-Err-TooManyGroups-clause-ok
 returns-in-Err-TooManyGroups-clause-ok c = λ whole h.
@@ -40,7 +44,7 @@ returns-in-Err-TooManyGroups-clause-ok c = λ whole h.
 
 pub reading-preserved : goal.reading-preserved
 reading-preserved c =
-    let added = c.in-Ok.ensures.ok in
+    let added = c.in-Ok.ensures.added in
     let e = c.in_ok-block.ensures in
     let count : c.in-Some.block.count + c.next_rows.new.blocks.left ≤ c.reading.blocks.left = rw c.in-Some.is at e.count in
     record {

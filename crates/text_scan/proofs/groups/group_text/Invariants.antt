@@ -1,3 +1,4 @@
+use Rattle.csv_ingest.specs.Blocks.{text_limit}
 use Rattle.std.proofs.Common.{◌≡◌, ◌+◌, ◌≤◌, ℕ, List}
 use Rattle.values.specs.declared.value.Value.{Value}
 use Rattle.csv_ingest.specs.Blocks.{RowsOrFault}
@@ -15,7 +16,7 @@ invariant-reading l = record {
   blocks : IsNumberBlocks l.blocks;
   table : IsTableOf l.bound l.table;
   most : l.table.most ≡ most_groups;
-  fits : (n : ℕ) × HaveAtMost n (groups_in l.table) × (n + l.blocks.left ≤ 134217728);
+  fits : (n : ℕ) × HaveAtMost n (groups_in l.table) × (n + l.blocks.left ≤ text_limit);
   so_far : (whole : RowsOrFault) → Gives l.fn.blocks whole → (done : List (List Value)) × (more : RowsOrFault) × Gives l.blocks more × (whole ≡ after done more)
       × (groups_in l.table ≡ groups_of (shape_of l.bound) (selected l.bound done));
 }

@@ -1,7 +1,7 @@
 use Rattle.std.proofs.Common.{Option, Some, None, IfSome, List}
 use Rattle.csv_ingest.specs.NumberBlocks as csv
 use Rattle.table_schema.specs.declared.field.Field.{Field}
-use Rattle.value_columns.specs.Columns.{ListedColumns}
+use Rattle.values.specs.Columns.{ListedColumns}
 use Rattle.scan_engine.specs.Numbers.{AreNumbers}
 use Rattle.text_scan.proofs.TextLemmas.{stops-by}
 use Rattle.text_scan.proofs.groups.next_rows.Goals as goal

@@ -2,7 +2,7 @@ use Rattle.std.proofs.Common.{◌∙◌, ◌++◌, [], ap}
 use Rattle.csv_ingest.specs.Blocks.{RowsOrFault}
 use Rattle.csv_row.specs.InOrder.{after}
 use Rattle.csv_ingest.specs.NumberBlocks.{Gives}
-use Rattle.value_columns.specs.Columns.{rows_of}
+use Rattle.values.specs.Columns.{rows_of}
 use Rattle.text_scan.specs.Parts.{IsTextFault}
 use Rattle.text_scan.proofs.TextLemmas.{after-all, after-more, after-none, err-halted, stops-after}
 use Rattle.text_scan.proofs.groups.pass_over.Goals as goal

@@ -2,7 +2,7 @@ use Rattle.std.proofs.Common.{◌≡◌, ◌≤◌, ◌<◌, ◌+◌, ◌-◌, �
 use Rattle.csv.specs.Reading.{default_config, records_from}
 use Rattle.csv.specs.Records.{fields_of}
 use Rattle.csv.specs.declared.parser.State.TheVariants as st
-use Rattle.value_columns.specs.Columns.{rows_of as rows_of_columns}
+use Rattle.values.specs.Columns.{rows_of as rows_of_columns}
 use Rattle.csv_row.specs.InOrder.{after}
 use Rattle.csv_ingest.specs.Blocks.{rows_from}
 use Rattle.csv_ingest.specs.Lines.{AtLineEnd}
@@ -29,7 +29,7 @@ returns-clause-ok c = λ whole h.
     let columns = c.in_ok-columns.field-0.columns in
     let taken = c.in_ok-columns.field-0.taken in
     let count : columns.count ≡ c.len-count.result = sym c.len-count.ensures.count in
-    let le : columns.count ≤ me.left = omega (arith, c.in_ok-columns.ensures.most, c.requires.room) in
+    let le : columns.count ≤ me.left = omega (arith, c.in_ok-columns.ensures.at_most, c.requires.room) in
     let some : 0 < me.left = omega (arith, c.if-count-eq0.false, count, le) in
     let l = by-lines fields names me.before me.left whole me.source c.in-Lines.text c.in-Lines.is (h.some some) in
     let lines = c.in_ok-columns.ensures.lines in

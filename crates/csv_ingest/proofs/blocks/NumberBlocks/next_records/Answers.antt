@@ -10,8 +10,8 @@ use Rattle.csv_ingest.proofs.blocks.NumberBlocks.next_records.Goals as goal
 pub returns-then-last-clause-ok : goal.returns-then-last-clause-ok
 returns-then-last-clause-ok c = λ whole h.
     let me = c.args.self.now in
-    let some : 0 < me.left = omega (arith, c.requires.some, c.requires.room) in
-    let le : c.args.room ≤ me.left = c.requires.room in
+    let some : 0 < me.left = omega (arith, c.requires.room.0, c.requires.room.1) in
+    let le : c.args.room ≤ me.left = c.requires.room.1 in
     let r = by-records me.header.fields (fields_of me.header.names) me.before me.left whole me.source c.in-Records.reader c.in-Records.is (h.some some) in
     let e : c.in-Ok.field-0.last ≡ true = cc in
     let b = at-last c.in-Ok.field-0.last (IsLastBlock me.header.fields (fields_of me.header.names) me.before c.args.room c.in-Records.reader r.rest c.in-Ok.field-0.columns)
@@ -24,8 +24,8 @@ returns-then-last-clause-ok c = λ whole h.
 pub returns-else-last-clause-ok : goal.returns-else-last-clause-ok
 returns-else-last-clause-ok c = λ whole h.
     let me = c.args.self.now in
-    let some : 0 < me.left = omega (arith, c.requires.some, c.requires.room) in
-    let le : c.args.room ≤ me.left = c.requires.room in
+    let some : 0 < me.left = omega (arith, c.requires.room.0, c.requires.room.1) in
+    let le : c.args.room ≤ me.left = c.requires.room.1 in
     let r = by-records me.header.fields (fields_of me.header.names) me.before me.left whole me.source c.in-Records.reader c.in-Records.is (h.some some) in
     let e : c.in-Ok.field-0.last ≡ false = cc in
     let b = at-full c.in-Ok.field-0.last (IsLastBlock me.header.fields (fields_of me.header.names) me.before c.args.room c.in-Records.reader r.rest c.in-Ok.field-0.columns)

@@ -1,8 +1,8 @@
 use Rattle.std.proofs.Common.{◌≡◌, ◌∙◌, ◌<◌, ◌++◌, ◌∷◌, [], Bor, List, ℕ, length, map, ap, refl, sym, arith, length-append}
 use Rattle.std.proofs.lemmas.List.{length-map}
 use Rattle.csv.specs.Records.{fields_of}
-use Rattle.value_columns.specs.Columns.{Listed}
-use Rattle.value_columns.proofs.RowLemmas.{length-push, push-nil}
+use Rattle.values.specs.Columns.{Listed}
+use Rattle.values.proofs.RowLemmas.{length-push, push-nil}
 use Rattle.csv_row.specs.Row.{place_of, value_at}
 use Rattle.csv_row.proofs.InOrder.{after-none, item-one}
 use Rattle.csv_row.proofs.ColumnLemmas.{column-set, sort-at, sorts-stay, value-given, widths}
@@ -18,15 +18,14 @@ index_mut-column-requires c =
     let wide : length c.values.columns.items ≡ length c.args.self.now.fields.now = ap length are ∙ length-push c.args.columns.now.items done ∙ widths c.args.self.now.fields.now c.args.columns.now.items c.requires.sorts in
     omega (arith, c.values.columns.ok.0, wide, c.values-test.true)
 
-pub push_field-requires-clause-first : goal.push_field-requires-clause-first
-push_field-requires-clause-first c =
+pub push_field-requires-clause-place : goal.push_field-requires-clause-place
+push_field-requires-clause-place c =
     let now : Bor (List ℕ) → List ℕ = λ f. f.now in
-    places-first (map now c.args.self.now.names.now) c.args.self.now.fields.now c.as_slice-places.result.now c.values.i (c.as_slice-places.ensures.value ∙ c.requires.layout.places)
-
-pub push_field-requires-clause-within : goal.push_field-requires-clause-within
-push_field-requires-clause-within c =
-    let now : Bor (List ℕ) → List ℕ = λ f. f.now in
-    places-last (map now c.args.self.now.names.now) c.args.self.now.fields.now c.as_slice-places.result.now c.values.i (length (fields_of c.args.cells.now)) (c.as_slice-places.ensures.value ∙ c.requires.layout.places) (length-map c.args.self.now.names.now now ∙ sym c.requires.width)
+    record {
+      first = places-first (map now c.args.self.now.names.now) c.args.self.now.fields.now c.as_slice-places.result.now c.values.i (c.as_slice-places.ensures.value ∙ c.requires.layout.places);
+      within = places-last (map now c.args.self.now.names.now) c.args.self.now.fields.now c.as_slice-places.result.now c.values.i (length (fields_of c.args.cells.now)) (c.as_slice-places.ensures.value ∙ c.requires.layout.places) (length-map c.args.self.now.names.now now ∙ sym c.requires.width);
+      few = omega (arith, c.requires.width, c.requires.layout.few);
+    }
 
 pub push_field-requires-clause-sort : goal.push_field-requires-clause-sort
 push_field-requires-clause-sort c =

@@ -1,7 +1,7 @@
 use Rattle.std.proofs.Common.{◌≡◌, List, length, map, drop}
 use Rattle.csv.specs.Records.{fields_of}
 use Rattle.values.specs.declared.value.Value.{Value}
-use Rattle.value_columns.specs.Columns.{row_pushed}
+use Rattle.values.specs.Columns.{row_pushed}
 use Rattle.csv_row.specs.InOrder.{all_or_first, after}
 use Rattle.csv_row.specs.Row.{place_of, value_at, values_of}
 use Rattle.csv_row.proofs.layout.Layout.push_values.Given as goal

@@ -1,6 +1,6 @@
 use Rattle.std.proofs.Common.{◌∙◌, ap}
 use Rattle.value_ids.specs.Dictionary.{distinct}
-use Rattle.value_ids.proofs.Distinct.{members_so, stands_so}
+use Rattle.value_ids.proofs.DistinctLemmas.{members_so, stands_so}
 use Rattle.dictionary.proofs.dictionary.Dictionary.build.Goals as goal
 
 pub invariant_of-result : goal.invariant_of-result

@@ -3,7 +3,7 @@ use Rattle.values.specs.declared.value.Value.{Value}
 use Rattle.value_ids.specs.Coding.{AreAmong, AreBelow, Codes, renumbered}
 use Rattle.value_ids.specs.Dictionary.{Ascends, distinct, most_values}
 use Rattle.dictionary.proofs.CodedLemmas.{column_so, lent_back, ranks_all, renumbered_codes, seen_among}
-use Rattle.value_ids.proofs.Distinct.{members_so, stands_so}
+use Rattle.value_ids.proofs.DistinctLemmas.{members_so, stands_so}
 use Rattle.dictionary.proofs.dictionary.Dictionary.of_column.Goals as goal
 
 pub ranks-requires-clause-few : goal.ranks-requires-clause-few

@@ -66,25 +66,16 @@ returns-in-Err-read_exactly-clause-log g c =
       nodes = if_some _ s _ c.nodes_section.ensures (subst (λ f. LogsUpTo f s.place.offset (s.place.offset + s.place.length) between last) c.as_str-file.ensures c.in-Err-read_exactly.ensures.log_of_fault);
     }
 
-pub check_tree-requires-clause-counts : goal.check_tree-requires-clause-counts
-check_tree-requires-clause-counts g c =
+pub check_tree-requires : goal.check_tree-requires
+check_tree-requires g c =
     let table = c.args.table.now in
     let tree = c.at.result.now in
     let valid = valid_at table.schema.fields table.settings.trees c.args.tree tree c.requires.valid.settings.trees_valid c.at.ensures in
-    ap length c.deref.ensures.value ∙ c.in-Ok.ensures.each ∙ ap length (split_is table c.args.tree tree c.at.ensures) ∙ sym valid.has_dims
-
-pub check_tree-requires-clause-dims : goal.check_tree-requires-clause-dims
-check_tree-requires-clause-dims g c =
-    let table = c.args.table.now in
-    let tree = c.at.result.now in
-    let valid = valid_at table.schema.fields table.settings.trees c.args.tree tree c.requires.valid.settings.trees_valid c.at.ensures in
-    omega (arith, valid.has_dims, valid.few_split)
-
-pub check_tree-requires-clause-kinds : goal.check_tree-requires-clause-kinds
-check_tree-requires-clause-kinds g c =
-    let table = c.args.table.now in
-    let tree = c.at.result.now in
-    few_kinds table.schema.fields tree (valid_at table.schema.fields table.settings.trees c.args.tree tree c.requires.valid.settings.trees_valid c.at.ensures)
+    record {
+      few_dims = omega (arith, valid.has_dims, valid.few_split);
+      few_kinds = few_kinds table.schema.fields tree valid;
+      counts_are = ap length c.deref.ensures.value ∙ c.in-Ok.ensures.each ∙ ap length (split_is table c.args.tree tree c.at.ensures) ∙ sym valid.has_dims;
+    }
 
 pub returns-in-Ok-check_tree-clause-nodes : goal.returns-in-Ok-check_tree-clause-nodes
 returns-in-Ok-check_tree-clause-nodes g c =

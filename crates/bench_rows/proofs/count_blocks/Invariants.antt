@@ -1,8 +1,0 @@
-use Rattle.csv_ingest.specs.NumberBlocks.{IsNumberBlocks}
-use Rattle.bench_rows.proofs.count_blocks.Given as goal
-
-abbrev pub invariant-rows : goal.invariant-rows
-invariant-rows l = IsNumberBlocks l.blocks
-
-abbrev pub decreases-rows : goal.decreases-rows
-decreases-rows l = l.blocks.left

@@ -1,0 +1,32 @@
+-- What a call reads of a part of a file or of a range of ids, and when it is refused.
+use Rattle.std.specs.Prelude.{◌≡◌, ◌<◌, ℕ, ◌+◌, List, Result, IfOk, IfSome, IsErrOf, OnErr, OnOk}
+use Rattle.outside.specs.Reads.{LogsOn, LogsUpTo}
+use Rattle.outside.specs.Seen.{OnlyReads, Seen}
+use Rattle.outside.specs.declared.place.Place.{Place}
+use Rattle.bit_column.specs.Sections.{EndsBefore, IsPart, Readable, end_byte, first_byte, section}
+use Rattle.bit_column.specs.declared.fault.ColumnFault.{ColumnFault}
+use Rattle.bit_column.specs.declared.fault.ColumnFault.TheVariants.{BadId, ReadFault}
+
+-- the bytes of a file from one offset to another were read, each once, and are these; the file ends
+-- before them where the call is refused for it
+pub record ReadsPart (result : Result (Unit {0}) ColumnFault) (name : List ℕ) (from to : ℕ)
+    (bytes : List ℕ) (old new : Seen) : Type 0 where
+  pub part : OnOk result (IsPart old.held name from to bytes)
+  pub only_reads : OnlyReads (IsErrOf result ReadFault) old new
+  pub log : OnOk result (LogsOn name from to old.log new.log)
+  pub log_of_fault : OnErr result (LogsUpTo name from to old.log new.log)
+  pub short : IsErrOf result BadId → EndsBefore old.held name to
+
+-- the bytes of a section between two indexes of its ids were read, each once; a range past the end
+-- of the section is refused before anything is read, and one is bad just where the section has no
+-- such ids
+pub record ReadsRange {A : Type 0} (result : Result A ColumnFault) (place : Place)
+    (width count from to : ℕ) (old new : Seen) : Type 0 where
+  pub only_reads : OnlyReads (IsErrOf result ReadFault) old new
+  pub log : IfOk result (λ _. LogsOn place.file (place.offset + first_byte width from)
+      (place.offset + end_byte width from to) old.log new.log)
+  pub log_of_fault : OnErr result (LogsUpTo place.file (place.offset + first_byte width from)
+      (place.offset + end_byte width from to) old.log new.log)
+  pub past : place.length < end_byte width from to → from < to → new.log ≡ old.log
+  pub bad : IsErrOf result BadId → IfSome old.held (λ files.
+      ¬ Readable width count from to (section files place))

@@ -1,8 +1,0 @@
-use Rattle.std.proofs.Common.{◌≡◌, drop}
-use Rattle.query_where.specs.Names.{term_of}
-use Rattle.bound_parts.specs.Grouped.{term_grouped}
-use Rattle.bound_parts.proofs.checks.check_keys.Given as goal
-use Rattle.table_schema.specs.Firsts.{first_in}
-
-abbrev pub invariant-loop-key : goal.invariant-loop-key
-invariant-loop-key l = first_in (λ k. term_grouped l.names.query.now.groups (term_of l.names.query.now.items k.term)) (drop l.key-index l.keys) ≡ first_in (λ k. term_grouped l.names.query.now.groups (term_of l.names.query.now.items k.term)) l.keys

@@ -1,6 +1,0 @@
-use Rattle.std.proofs.Common.{◌≡◌, map}
-use Rattle.query_where.specs.Conjuncts.{test_of}
-use Rattle.bound_parts.proofs.conjuncts.+test_of.Given as goal
-
-abbrev pub invariant-tests_of-loop-wide : goal.invariant-tests_of-loop-wide
-invariant-tests_of-loop-wide l = l.tests ≡ map test_of l.yielded

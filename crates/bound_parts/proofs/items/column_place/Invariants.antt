@@ -1,6 +1,0 @@
-use Rattle.std.proofs.Common.{◌≡◌, ◌==◌, ◌+◌, drop}
-use Rattle.std.specs.List.{position_or_len}
-use Rattle.bound_parts.proofs.items.column_place.Given as goal
-
-abbrev pub invariant-loop-place : goal.invariant-loop-place
-invariant-loop-place l = position_or_len (λ g. g == l.column) l.groups ≡ l.place + position_or_len (λ g. g == l.column) (drop l.place l.groups)

@@ -1,8 +1,0 @@
-use Rattle.bound_parts.proofs.OnceLemmas.{groups_once, groups_named}
-use Rattle.bound_parts.proofs.laws.group_list_law.Goals as goal
-
-pub returns-clause-once : goal.returns-clause-once
-returns-clause-once c = groups_once
-
-pub returns-clause-named : goal.returns-clause-named
-returns-clause-named c = groups_named

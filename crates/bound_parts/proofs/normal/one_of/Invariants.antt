@@ -1,6 +1,0 @@
-use Rattle.std.proofs.Common.{◌≡◌, map, take}
-use Rattle.query_where.specs.Written.{value_in}
-use Rattle.bound_parts.proofs.normal.one_of.Given as goal
-
-abbrev pub invariant-loop-literal : goal.invariant-loop-literal
-invariant-loop-literal l = l.values ≡ map value_in (take l.literal-index l.literals)

@@ -1,9 +1,0 @@
-pub mod Joints
-pub mod Grouped
-pub mod Terms
-pub mod Limits
-pub mod Bound
-pub mod Places
-pub mod Firsts
-pub mod Once
-pub mod LookUps

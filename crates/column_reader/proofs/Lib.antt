@@ -1,0 +1,5 @@
+pub mod ByteLemmas
+pub mod PickSteps
+pub mod FaultLemmas
+pub mod BlockSteps
+pub mod LogLemmas

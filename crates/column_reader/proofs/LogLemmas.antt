@@ -1,0 +1,31 @@
+-- What was logged where a scan ended early.
+use Rattle.std.proofs.Common.{◌≡◌, ◌<◌, ℕ, suc, Bool, false, List, Option, Result, Ok, Err, inl, length, get_or, refl, subst, arith}
+use Rattle.std.specs.Prelude.{OnErr}
+use Rattle.outside.specs.Reads.{Entry}
+use Rattle.segment_head.specs.Heads.{Seen}
+use Rattle.column_reader.specs.Forward.{LogsColumns, LogsNamed, LogsPartly, LogsSome}
+
+-- nothing was read
+pub logs_none : (head : Seen) (named : List Bool) (log : Option (List Entry)) → LogsSome head named log log
+logs_none head named log = record { upto = 0; within = omega arith; between = log; before = refl; rest = inl refl }
+
+-- of this column a part was read
+pub logs_part : (head : Seen) (named : List Bool) (n : ℕ) (old mid new : Option (List Entry)) → n < length named → LogsColumns head named n old mid → LogsPartly head n (get_or named n false) mid new → LogsSome head named old new
+logs_part head named n old mid new lt first rest = record { upto = n; within = omega (arith, lt); between = mid; before = first; rest = rest }
+
+-- this column too was read
+pub logs_more : (head : Seen) (named : List Bool) (n : ℕ) (old mid new : Option (List Entry)) → n < length named → LogsColumns head named n old mid → LogsNamed head n (get_or named n false) mid new → LogsSome head named old new
+logs_more head named n old mid new lt first more = record { upto = suc n; within = omega (arith, lt); between = new; before = (mid, first, more); rest = inl refl }
+
+-- all columns were read
+pub logs_all : (head : Seen) (named : List Bool) (old new : Option (List Entry)) → LogsColumns head named (length named) old new → LogsSome head named old new
+logs_all head named old new first = record { upto = length named; within = omega arith; between = new; before = first; rest = inl refl }
+
+-- the same marks
+pub logs_as : (head : Seen) (named others : List Bool) (old new : Option (List Entry)) → named ≡ others → LogsSome head named old new → LogsSome head others old new
+logs_as head named others old new is logs = subst (λ (l : List Bool). LogsSome head l old new) is logs
+
+-- what follows from what holds of a fault
+pub err_so : {T E : Type 0} (r : Result T E) (A B : Type 0) → (A → B) → OnErr r A → OnErr r B
+err_so (Ok x) A B f h = tt
+err_so (Err e) A B f h = f h

@@ -1,0 +1,4 @@
+pub mod Forward
+pub mod Picked
+pub mod Bytes
+pub mod Faults

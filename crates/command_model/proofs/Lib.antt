@@ -1,0 +1,7 @@
+pub mod BuildLemmas
+pub mod CreateLemmas
+pub mod MachineLemmas
+pub mod RowsLemmas
+mod StopsLemmas
+pub mod StoredLemmas
+pub mod WritingLemmas

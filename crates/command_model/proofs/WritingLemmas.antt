@@ -1,0 +1,34 @@
+-- Words that may not write.
+use Rattle.std.proofs.Common.{◌≡◌, Option, None, Some, refl, ap, false}
+use Rattle.outside.specs.Files.{Files}
+use Rattle.outside.specs.Seen.{Seen}
+use Rattle.table_store.specs.State.{State}
+use Rattle.command_words.specs.Command.{Ask, Build, Command, Create, Listing, Scan, command_of, writes}
+use Rattle.command_model.specs.Profile.{profile}
+use Rattle.command_model.specs.Step.{step_of}
+use Rattle.command_model.specs.Touched.{Keeps}
+use Rattle.command_model.specs.Writing.{LeavesDepot, LeavesState, Unwritten}
+
+-- the step of a command that may not write leaves the state as it is
+step_leaves : (state : State) (command : Option Command) (inputs : Files) → writes command ≡ false → (step_of state command inputs).state ≡ state
+step_leaves state None inputs quiet = refl
+step_leaves state (Some (Scan file sql)) inputs quiet = refl
+step_leaves state (Some (Create schema settings)) inputs quiet = cc
+step_leaves state (Some (Build name csv)) inputs quiet = cc
+step_leaves state (Some Listing) inputs quiet = refl
+step_leaves state (Some (Ask about sql)) inputs quiet = refl
+
+pub leaves_state : LeavesState
+leaves_state state words inputs quiet = step_leaves state (command_of words) inputs quiet
+
+-- nor is its row one that writes
+keeps_depot : (command : Option Command) (old new : Seen) → writes command ≡ false → Keeps (profile command).store old new → Unwritten old new
+keeps_depot None old new quiet kept = record { held = ap (λ s. s.held) kept; parts = ap (λ s. s.parts) kept; writes = ap (λ s. s.write_faults) kept }
+keeps_depot (Some (Scan file sql)) old new quiet kept = record { held = ap (λ s. s.held) kept; parts = ap (λ s. s.parts) kept; writes = ap (λ s. s.write_faults) kept }
+keeps_depot (Some (Create schema settings)) old new quiet kept = cc
+keeps_depot (Some (Build name csv)) old new quiet kept = cc
+keeps_depot (Some Listing) old new quiet kept = record { held = kept.held; parts = kept.parts; writes = kept.writes }
+keeps_depot (Some (Ask about sql)) old new quiet kept = record { held = kept.held; parts = kept.parts; writes = kept.writes }
+
+pub leaves_depot : LeavesDepot
+leaves_depot words old new quiet touched = keeps_depot (command_of words) old.depot new.depot quiet touched.depot

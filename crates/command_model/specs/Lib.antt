@@ -1,0 +1,14 @@
+pub mod Writing
+pub mod Build
+pub mod Consulted
+pub mod Create
+pub mod Gives
+pub mod Places
+pub mod Profile
+pub mod Queried
+pub mod Ran
+pub mod Step
+pub mod Stored
+pub mod Touched
+pub mod World
+pub mod ScanNotes

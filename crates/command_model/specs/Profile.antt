@@ -1,0 +1,190 @@
+-- What each command has to do with the devices, and which refusals it may give: a row for each
+-- command.
+use Rattle.std.specs.Prelude.{ℕ, Bool, true, false, ◌||◌, List, [], ◌∷◌, Option, Some, None}
+use Rattle.csv_ingest.specs.Blocks as csv
+use Rattle.segment_file.specs.Names.{file_of}
+use Rattle.table_store.specs.TableFile.{table_name, text_limit}
+use Rattle.command_words.specs.Command.{Build, Command, Create, Listing, Scan, Ask}
+use Rattle.command_words.specs.declared.about.About.{About}
+use Rattle.command_words.specs.declared.about.About.TheVariants.{Plans, Rows, RowsAndPlans}
+use Rattle.command_words.specs.declared.note.Counted.{Counted}
+use Rattle.command_words.specs.declared.note.Counted.TheVariants as counted
+use Rattle.command_words.specs.declared.note.Note.{Note}
+use Rattle.command_words.specs.declared.note.Note.TheVariants as note
+
+-- the most bytes that a CSV file may have
+abbrev pub csv_limit : ℕ
+csv_limit = csv.text_limit
+
+-- the most bytes that the nodes and documents of a star-tree may take
+abbrev pub tree_limit : ℕ
+tree_limit = 134217728
+
+-- which stored files are opened: none, that of the table, or that and those of segments
+pub data Opens : Type 0 where
+  NoFile : Opens
+  TableFile : Opens
+  StoreFiles : Opens
+
+-- what a command has to do with the store: nothing, looks alone, or writes under these names
+pub data Store : Type 0 where
+  Apart : Store
+  Looks : (opens : Opens) → Store
+  Writes : (opens : Opens) (names : List (List ℕ)) → Store
+
+-- what a command has to do with the devices, and how it may end
+pub record Profile : Type 0 where
+  -- the input files that it reads, in their order, each with the most bytes of it
+  pub files : List (List ℕ × ℕ)
+  pub store : Store
+  -- whether it is ever done, and which notes it may end with
+  pub replies : Bool
+  pub refuses : Note → Bool
+
+-- the refusals of words that spell no command
+abbrev pub words_refuse : Note → Bool
+words_refuse note.BadWords = true
+words_refuse other = false
+
+-- the limits that `scan` has
+abbrev pub scan_counts : Counted → Bool
+scan_counts counted.JsonBytes = false
+scan_counts counted.Segments = false
+scan_counts counted.TreeBytes = false
+scan_counts what = true
+
+-- the refusals of `scan`
+abbrev pub scan_refuses : Note → Bool
+scan_refuses (note.NoInput file) = true
+scan_refuses (note.TooLarge what limit) = scan_counts what
+scan_refuses (note.BadCsv wrong row column) = true
+scan_refuses (note.BadQuery wrong place) = true
+scan_refuses (note.TooManyGroups most) = true
+scan_refuses other = false
+
+-- the limit of a file in JSON
+abbrev pub json_counts : Counted → Bool
+json_counts counted.JsonBytes = true
+json_counts what = false
+
+-- which refusals come of the two files of `create`
+abbrev pub texts_refuse : Note → Bool
+texts_refuse (note.NoInput file) = true
+texts_refuse (note.TooLarge what limit) = json_counts what
+texts_refuse (note.BadSchema wrong path) = true
+texts_refuse (note.BadSettings wrong path) = true
+texts_refuse other = false
+
+-- the refusals of `create`
+abbrev pub create_refuses : Note → Bool
+create_refuses note.TableExists = true
+create_refuses other = texts_refuse other
+
+-- the refusals of a store that is looked at
+abbrev pub store_refuses : Note → Bool
+store_refuses note.NoTable = true
+store_refuses (note.NotASegment name part) = true
+store_refuses other = false
+
+-- the limits of a CSV file over the fields of a table, and of the trees of its rows
+abbrev pub rows_count : Counted → Bool
+rows_count counted.CsvBytes = true
+rows_count counted.Rows = true
+rows_count counted.TreeBytes = true
+rows_count what = false
+
+-- which refusals of `build` come of its file
+abbrev pub rows_refuse : Note → Bool
+rows_refuse (note.NoInput file) = true
+rows_refuse (note.BadCsv wrong row column) = true
+rows_refuse (note.TooLarge what limit) = rows_count what
+rows_refuse other = false
+
+-- whether the number of segments passes its limit
+abbrev pub segments_count : Counted → Bool
+segments_count counted.Segments = true
+segments_count what = false
+
+-- which refusals of `build` come of the store, before its file is looked at
+abbrev pub place_refuses : Note → Bool
+place_refuses note.NoTable = true
+place_refuses (note.NotASegment name part) = true
+place_refuses (note.NameTaken name) = true
+place_refuses (note.TooLarge what limit) = segments_count what
+place_refuses other = false
+
+-- the refusals of `build`
+abbrev pub build_refuses : Note → Bool
+build_refuses line = place_refuses line || rows_refuse line
+
+-- the limit that the text of a query has
+abbrev pub sql_counts : Counted → Bool
+sql_counts counted.SqlBytes = true
+sql_counts what = false
+
+-- whether groups are made where a query is asked for this
+abbrev pub makes_groups : About → Bool
+makes_groups Rows = true
+makes_groups Plans = false
+makes_groups RowsAndPlans = true
+
+-- which refusals of a query come of its text, over the rows that there are
+abbrev pub sql_refuses : About → Note → Bool
+sql_refuses about (note.TooLarge what limit) = sql_counts what
+sql_refuses about (note.BadQuery wrong place) = true
+sql_refuses about (note.TooManyGroups most) = makes_groups about
+sql_refuses about other = false
+
+-- the refusals of `query`, `explain` and `stats`
+abbrev pub query_refuses : About → Note → Bool
+query_refuses about line = store_refuses line || sql_refuses about line
+
+-- the row of each command; words that spell none have one too
+abbrev pub profile : Option Command → Profile
+profile None = record { files = []; store = Apart; replies = false; refuses = words_refuse }
+profile (Some (Scan file sql)) = record {
+  files = (file, csv_limit) ∷ [];
+  store = Apart;
+  replies = true;
+  refuses = scan_refuses;
+}
+profile (Some (Create schema settings)) =
+    record {
+      files = (schema, text_limit) ∷ (settings, text_limit) ∷ [];
+      store = Writes NoFile (table_name ∷ []);
+      replies = true;
+      refuses = create_refuses;
+    }
+profile (Some (Build name csv)) =
+    record {
+      files = (csv, csv_limit) ∷ [];
+      store = Writes TableFile (file_of name ∷ []);
+      replies = true;
+      refuses = build_refuses;
+    }
+profile (Some Listing) = record {
+  files = [];
+  store = Looks StoreFiles;
+  replies = true;
+  refuses = store_refuses;
+}
+profile (Some (Ask about sql)) = record {
+  files = [];
+  store = Looks StoreFiles;
+  replies = true;
+  refuses = query_refuses about;
+}
+
+-- whether a command can end with a read fault
+abbrev pub opens_store : Store → Bool
+opens_store Apart = false
+opens_store store = true
+
+-- whether an input file is read
+abbrev pub reads_files : List (List ℕ × ℕ) → Bool
+reads_files [] = false
+reads_files files = true
+
+-- whether anything is read
+abbrev pub may_read : Profile → Bool
+may_read p = reads_files p.files || opens_store p.store

@@ -1,0 +1,153 @@
+-- What one command answers where no device fails and there is memory.
+use Rattle.std.specs.Prelude.{ℕ, Bool, true, false, nat_lt, List, [], ◌++◌, length, codes, Option, Some, None, Result, Ok, Err, if◌then◌else◌}
+use Rattle.std.specs.FinMap as map
+use Rattle.outside.specs.Files.{Files}
+use Rattle.values.specs.declared.value.Value.{Value}
+use Rattle.table_schema.specs.declared.table.Table.{Table}
+use Rattle.table_store.specs.Stands.{segment_of}
+use Rattle.table_store.specs.State.{Segments, State, Texts, NoTable, HasTable}
+use Rattle.table_store.specs.TableFile.{table_name}
+use Rattle.command_model.specs.Build.{built_text, new_rows, table_of}
+use Rattle.command_words.specs.Command.{Build, Command, Create, Listing, Scan, Ask, command_of}
+use Rattle.command_model.specs.Create.{Made, new_table}
+use Rattle.sql_reply.specs.SqlReply.{SqlReply}
+use Rattle.text_scan.specs.TextReply.{TextReply, text_reply}
+use Rattle.command_model.specs.Stored.{listed}
+use Rattle.command_model.specs.Queried.{reply_about}
+use Rattle.command_words.specs.Notes.{sql_note, status_of, note_text}
+use Rattle.command_model.specs.ScanNotes.{scan_note}
+use Rattle.command_model.specs.Profile.{csv_limit}
+use Rattle.command_words.specs.declared.about.About.{About}
+use Rattle.command_words.specs.declared.note.Counted.TheVariants as counted
+use Rattle.command_words.specs.declared.note.Note.{Note}
+use Rattle.command_words.specs.declared.note.Note.TheVariants as note
+use Rattle.command_words.specs.declared.status.Status.{Status}
+use Rattle.command_words.specs.declared.status.Status.TheVariants as status
+
+-- a text for `out`, or a refusal
+pub data Answer : Type 0 where
+  Replies : (text : List ℕ) → Answer
+  Refuses : (line : Note) → Answer
+
+-- the status of an answer
+abbrev pub status_after : Answer → Status
+status_after (Replies text) = status.Done
+status_after (Refuses line) = status_of line
+
+-- what an answer gives to the stream of replies
+abbrev pub text_of : Answer → List ℕ
+text_of (Replies text) = text
+text_of (Refuses line) = []
+
+-- what an answer gives to the notes
+abbrev pub line_of : Answer → List ℕ
+line_of (Replies text) = []
+line_of (Refuses line) = note_text line
+
+-- what a query over a text answers: its reply, or a refusal
+abbrev pub answered : TextReply → Answer
+answered (Ok text) = Replies text
+answered (Err wrong) = Refuses (scan_note wrong)
+
+-- the answer to a query over the bytes of a file, if there is one
+unfoldable pub scan_answer : List ℕ → List ℕ → Option (List ℕ) → Answer
+scan_answer file sql None = Refuses (note.NoInput file)
+scan_answer file sql (Some bytes) =
+    if nat_lt csv_limit (length bytes) then Refuses (note.TooLarge counted.CsvBytes csv_limit)
+    else answered (text_reply sql bytes)
+
+-- the answer to `create`, by whether there is a table, and by what its files make
+abbrev pub create_answer : Bool → Made → Answer
+create_answer true made = Refuses note.TableExists
+create_answer false (Err line) = Refuses line
+create_answer false (Ok (texts, table)) = Replies (codes "created " ++ table.settings.table
+    ++ codes "\n")
+
+-- whether a state has a table
+abbrev pub has_table : State → Bool
+has_table NoTable = false
+has_table (HasTable table segments) = true
+
+-- the store after `create`
+abbrev pub created : State → Made → State
+created (HasTable table segments) made = HasTable table segments
+created NoTable (Err line) = NoTable
+created NoTable (Ok (texts, table)) = HasTable texts map.empty
+
+-- the answer to `list`
+abbrev pub list_answer : State → Answer
+list_answer NoTable = Refuses note.NoTable
+list_answer (HasTable texts segments) = Replies (listed segments)
+
+-- what a query over rows answers: its reply, or a refusal
+abbrev pub sql_answered : SqlReply → Answer
+sql_answered (Ok text) = Replies text
+sql_answered (Err wrong) = Refuses (sql_note wrong)
+
+-- the answer to a query over the segments of a table; the texts of a store always have one
+abbrev pub rows_answer : About → Segments → List ℕ → Option Table → Answer
+rows_answer about segments sql None = Refuses (note.NotASegment table_name (codes "table"))
+rows_answer about segments sql (Some table) = sql_answered (reply_about about table sql segments)
+
+-- the answer to `query`, `explain` and `stats`
+abbrev pub query_answer : About → State → List ℕ → Answer
+query_answer about NoTable sql = Refuses note.NoTable
+query_answer about (HasTable texts segments) sql = rows_answer about segments sql (table_of texts)
+
+-- what a command leaves: its answer, and the state of the store
+pub record After : Type 0 where
+  pub answer : Answer
+  pub state : State
+
+-- the store after `build`, by the rows for its segment
+abbrev pub with_rows : Texts → Segments → List ℕ → Table → Result (List (List Value)) Note → After
+with_rows texts segments name table (Err line) = record {
+  answer = Refuses line;
+  state = HasTable texts segments;
+}
+with_rows texts segments name table (Ok rows) =
+    record {
+      answer = Replies (built_text name rows);
+      state = HasTable texts
+          (map.insert segments name (segment_of table rows));
+    }
+
+-- the same by the table of its texts; the texts of a store always have one
+abbrev pub with_table : Texts → Segments → List ℕ → List ℕ → Files → Option Table → After
+with_table texts segments name csv inputs None = record {
+  answer = Refuses
+      (note.NotASegment table_name (codes "table"));
+  state = HasTable texts segments;
+}
+with_table texts segments name csv inputs (Some table) = with_rows texts segments name table
+    (new_rows table segments name csv inputs)
+
+-- what `build` leaves
+abbrev pub built : State → List ℕ → List ℕ → Files → After
+built NoTable name csv inputs = record { answer = Refuses note.NoTable; state = NoTable }
+built (HasTable texts segments) name csv inputs = with_table texts segments name csv inputs
+    (table_of texts)
+
+-- what a command does to a store, over these input files
+abbrev pub step_of : State → Option Command → Files → After
+step_of state None inputs = record { answer = Refuses note.BadWords; state = state }
+step_of state (Some (Scan file sql)) inputs = record {
+  answer = scan_answer file sql
+      (map.get inputs file);
+  state = state;
+}
+step_of state (Some (Create schema settings)) inputs =
+    record {
+      answer = create_answer (has_table state) (new_table schema settings inputs);
+      state = created state (new_table schema settings inputs);
+    }
+step_of state (Some (Build name csv)) inputs = built state name csv inputs
+step_of state (Some Listing) inputs = record { answer = list_answer state; state = state }
+step_of state (Some (Ask about sql)) inputs = record {
+  answer = query_answer about state sql;
+  state = state;
+}
+
+-- what these words do
+abbrev pub step : State → List (List ℕ) → Files → After
+step state words inputs = step_of state (command_of words) inputs

@@ -1,0 +1,16 @@
+//! The step of each command, and what commands read: the input files, and what a store has.
+#![tactic(auto)]
+
+mod input;
+mod laws;
+mod new_table;
+mod part_name;
+mod rows;
+mod store;
+
+pub use input::{CSV_LIMIT, read_input};
+pub use laws::may_write_law;
+pub use new_table::{NewTable, read_table};
+pub use part_name::segment_stop;
+pub use rows::read_rows;
+pub use store::{stored_names, stored_table, table_with_place};

@@ -1,0 +1,116 @@
+//! What is looked at in a store.
+ghost use Rattle.std.specs.Prelude.{◌≡◌, ◌≤◌, codes, length, IfOk};
+ghost use Rattle.std.specs.List.{All};
+ghost use Rattle.outside.specs.Seen.{seen};
+ghost use Rattle.segment_file.specs.Names.{IsSegmentName};
+ghost use Rattle.table_schema.specs.ValidTable.{IsValidTable};
+ghost use Rattle.table_store.specs.Segments.{AreFirstNames};
+ghost use Rattle.table_store.specs.TableFile.{table_name};
+ghost use Rattle.command_model.specs.Gives.{FindsPlace, IsLookFault, IsStopOf, IsTakenStop, LooksFor};
+ghost use Rattle.command_model.specs.Places.{IsPlaceFault, IsPlaceStop};
+ghost use Rattle.command_model.specs.Profile.{TableFile};
+ghost use Rattle.command_model.specs.Stored.{HasTableFile, TableRefuses};
+
+use command_words::{Counted, Fault, Note, Stop};
+use outside::{Depot, Name, Seq};
+use std::alloc::{AllocError, Global};
+use table_schema::Table;
+use table_store::{MOST_SEGMENTS, StoreFault, find_room, open_table, segment_names};
+
+/// The table of the store.
+pub fn stored_table<D: Depot>(alloc: Global, depot: &mut D) -> Result<Table, Stop>
+    ensures looks { LooksFor HasTableFile TableRefuses TableFile
+        (seen D.Shelf depot.old) (seen D.Shelf depot.new) result }
+    ensures valid { IfOk result (λ table. IsValidTable table) }
+{
+    match open_table(alloc, depot) {
+        Ok(table) => Ok(table),
+        Err(fault) => Err(stop_of(alloc, fault)),
+    }
+}
+
+/// The names of the segments of the store, the first of them where there are more than the most.
+pub fn stored_names<D: Depot>(alloc: Global, depot: &mut D) -> Result<Seq<Name>, Stop>
+    ensures looks { LooksFor AreFirstNames TableRefuses TableFile
+        (seen D.Shelf depot.old) (seen D.Shelf depot.new) result }
+    ensures named { IfOk result (λ names. All IsSegmentName names) }
+    ensures few { IfOk result (λ names. length names ≤ 512) }
+{
+    match segment_names(alloc, depot) {
+        Ok(names) => Ok(names),
+        Err(fault) => Err(stop_of(alloc, fault)),
+    }
+}
+
+/// The table of the store, where there is no segment of this name, and fewer than the most.
+pub fn table_with_place<D: Depot>(alloc: Global, name: &str, depot: &mut D) -> Result<Table, Stop>
+    ensures place { FindsPlace name.now (seen D.Shelf depot.old) (seen D.Shelf depot.new) result }
+    ensures valid { IfOk result (λ table. IsValidTable table) }
+{
+    let table = stored_table(alloc, depot)?;
+    match find_room(alloc, depot, name) {
+        Ok(()) => Ok(table),
+        Err(fault) => Err(no_place(alloc, name, fault)),
+    }
+}
+
+// What a fault of a look for a place is for a command.
+fn no_place(alloc: Global, name: &str, fault: StoreFault) -> Stop
+    requires { IsPlaceFault fault }
+    ensures { IsPlaceStop name.now fault result }
+{
+    match fault {
+        StoreFault::NameTaken => name_taken(alloc, name),
+        StoreFault::TooManySegments => Stop::Refused(Note::TooLarge(
+            Counted::Segments,
+            MOST_SEGMENTS as u64,
+        )),
+        StoreFault::ReadFault => Stop::Fault(Fault::Read),
+        StoreFault::NoMemory => Stop::Fault(Fault::Memory),
+        StoreFault::TableExists
+        | StoreFault::NoTable
+        | StoreFault::TooLarge
+        | StoreFault::NotASegment(_)
+        | StoreFault::WriteFault => unreachable!(),
+    }
+}
+
+// The refusal of a name that a segment has.
+fn name_taken(alloc: Global, name: &str) -> Stop
+    ensures { IsTakenStop name.now result }
+{
+    match name.as_bytes().to_vec(alloc) {
+        Ok(name) => Stop::Refused(Note::NameTaken(Seq::from_vec(name))),
+        Err(_) => Stop::Fault(Fault::Memory),
+    }
+}
+
+// What a fault of a look at the store is for a command.
+fn stop_of(alloc: Global, fault: StoreFault) -> Stop
+    requires { IsLookFault fault }
+    ensures { IsStopOf fault result }
+{
+    match fault {
+        StoreFault::NoTable => Stop::Refused(Note::NoTable),
+        StoreFault::NotASegment(_) => match not_a_table(alloc) {
+            Ok(note) => Stop::Refused(note),
+            Err(_) => Stop::Fault(Fault::Memory),
+        },
+        StoreFault::ReadFault => Stop::Fault(Fault::Read),
+        StoreFault::NoMemory => Stop::Fault(Fault::Memory),
+        StoreFault::TableExists
+        | StoreFault::NameTaken
+        | StoreFault::TooManySegments
+        | StoreFault::TooLarge
+        | StoreFault::WriteFault => unreachable!(),
+    }
+}
+
+// The refusal of a table's file.
+fn not_a_table(alloc: Global) -> Result<Note, AllocError>
+    ensures { IfOk result (λ note. note ≡ Note.NotASegment table_name (codes "table")) }
+{
+    let name = Seq::from_vec(b"table".to_vec(alloc)?);
+    let part = Seq::from_vec(b"table".to_vec(alloc)?);
+    Ok(Note::NotASegment(name, part))
+}

@@ -1,0 +1,4 @@
+pub mod ScanLemmas
+pub mod ReadLemmas
+pub mod ListLemmas
+pub mod QueryLemmas

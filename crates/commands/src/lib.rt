@@ -1,0 +1,8 @@
+//! The commands: a query over a CSV file, the making of a store, what it has, and queries of it.
+#![tactic(auto)]
+
+pub mod build;
+pub mod create;
+pub mod list;
+pub mod query;
+pub mod scan;

@@ -1,5 +1,0 @@
-pub mod FaultLemmas
-pub mod PickSteps
-pub mod ByteLemmas
-pub mod MatchLemmas
-pub mod RangeLemmas

@@ -1,3 +1,0 @@
-pub mod Defaults
-pub mod Fields
-pub mod Entries

@@ -1,6 +1,0 @@
-use Rattle.std.proofs.Common.{◌≡◌, flat_map, take}
-use Rattle.group_order.specs.Rank.{places_of}
-use Rattle.group_order.proofs.order.all_places.Given as goal
-
-abbrev pub invariant-loop-at : goal.invariant-loop-at
-invariant-loop-at l = l.places.items ≡ flat_map (places_of l.order) (take l.at l.table.groups)

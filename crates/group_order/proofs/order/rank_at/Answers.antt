@@ -1,5 +1,0 @@
-use Rattle.group_order.proofs.RankLemmas.{fair_state}
-use Rattle.group_order.proofs.order.rank_at.Goals as goal
-
-pub returns-in-Agg-clause-fair : goal.returns-in-Agg-clause-fair
-returns-in-Agg-clause-fair c = λ some. fair_state c.args.table.now c.args.at c.in-Agg.place c.state_at.result.now c.requires.table c.requires.at some c.state_at.ensures

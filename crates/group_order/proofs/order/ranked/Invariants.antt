@@ -1,5 +1,0 @@
-use Rattle.group_order.specs.Ranked.{AreRanked}
-use Rattle.group_order.proofs.order.ranked.Given as goal
-
-abbrev pub invariant-loop-at : goal.invariant-loop-at
-invariant-loop-at l = AreRanked l.places l.width l.at l.ranked.items

@@ -1,0 +1,124 @@
+//! The documents that a range index leaves, and those that two indexes leave.
+
+ghost use Rattle.std.specs.Prelude.{◌≡◌, ◌≤◌, ◌||◌, ℕ, List, Err, IfOk, IfSome, IsErrOf, OnErr};
+ghost use Rattle.outside.specs.Seen.{OnlyReads, seen};
+ghost use Rattle.doc_lists.specs.Docs.{has_doc};
+ghost use Rattle.doc_lists.specs.Sets.{AreThose};
+ghost use Rattle.segment_file.specs.declared.part.Part.{Part};
+ghost use Rattle.segment_file.specs.declared.part.Part.TheVariants.{Range};
+ghost use Rattle.coded_columns.specs.Coded.{most_rows};
+ghost use Rattle.index_filter.specs.Faults.{list_fault};
+ghost use Rattle.index_filter.specs.Indexes.{AddsUnsure, AreEndsOf, AreInBoth, IsFoundNear, IsRanged, LogsRange, LogsRangePartly, TellsBuckets};
+ghost use Rattle.segment_head.specs.declared.fault.EngineFault.TheVariants.{NotASegment, ReadFault, TooManyGroups};
+
+use doc_lists::{DocList, join};
+use index_reader::{ListFault, docs_between};
+use outside::Shelf;
+use segment_file::Part;
+use segment_head::{EngineFault, Head};
+use segment_plan::IndexChoice;
+use std::alloc::Global;
+use table_schema::Conjunct;
+use value_ids::IdSet;
+use values::{NoMemory, Test};
+
+/// The documents in the buckets that overlap the ids of the values that satisfy a test, by the
+/// range index of a column: those that are sure, and those whose ids are to be checked. The latter
+/// are added to others. Of the section what it has of these buckets is read, and nothing else.
+pub fn docs_by_range<S: Shelf>(
+    alloc: Global,
+    shelf: &mut S,
+    head: &Head,
+    column: u16,
+    test: &Test,
+    unsure: &mut DocList,
+) -> Result<Option<DocList>, EngineFault>
+    requires rows { head.now.rows ≤ most_rows }
+    requires ready { IsRanged head.now column test.now }
+    ensures docs { IfOk result (IsFoundNear (S.held shelf.old) head.now column test.now) }
+    ensures unsure { IfOk result (λ _. AddsUnsure (S.held shelf.old) head.now IndexChoice.Range
+        (Conjunct.One column test.now) unsure.old unsure.new) }
+    ensures bad { (part : Part) → result ≡ Err (NotASegment part) → (part ≡ Range column)
+        × IfSome (S.held shelf.old) (λ files. (ids : List ℕ) →
+        TellsBuckets files head.now column ids → ⊥) }
+    ensures full { ¬ IsErrOf result TooManyGroups }
+    ensures only_reads { OnlyReads (IsErrOf result ReadFault)
+        (seen S.Shelf shelf.old) (seen S.Shelf shelf.new) }
+    ensures log { IfOk result (λ _. LogsRange (S.held shelf.old) head.now column test.now
+        (S.log shelf.old) (S.log shelf.new)) }
+    ensures log_of_fault { OnErr result (LogsRangePartly (S.held shelf.old) head.now column
+        test.now (S.log shelf.old) (S.log shelf.new)) }
+{
+    let dictionary = head.dictionary(column);
+    let ids = match dictionary.ids_matching(alloc, test) {
+        Ok(ids) => ids,
+        Err(_) => return Err(EngineFault::NoMemory),
+    };
+    let Some((low, high)) = ends(&ids) else {
+        unreachable!();
+    };
+    let Some(place) = head.place(Part::Range(column)) else {
+        unreachable!();
+    };
+    let count = dictionary.count();
+    let (sure, check) = match docs_between(alloc, shelf, place, count, head.rows(), low, high) {
+        Ok(docs) => docs,
+        Err(fault) => return Err(of_list(fault, Part::Range(column))),
+    };
+    match add_near(alloc, &sure, &check, unsure) {
+        Ok(docs) => Ok(Some(docs)),
+        Err(_) => Err(EngineFault::NoMemory),
+    }
+}
+
+// The documents that are sure and those to be checked, of which the latter are added to others.
+fn add_near(
+    alloc: Global,
+    sure: &DocList,
+    check: &DocList,
+    unsure: &mut DocList,
+) -> Result<DocList, NoMemory>
+    ensures docs { IfOk result (AreThose (λ doc. has_doc sure.now doc || has_doc check.now doc)) }
+    ensures unsure { IfOk result (λ _. AreThose
+        (λ doc. has_doc unsure.old doc || has_doc check.now doc) unsure.new) }
+{
+    *unsure = join(alloc, unsure, check)?;
+    join(alloc, sure, check)
+}
+
+// The first and the last of some ids, if there are any.
+fn ends(ids: &IdSet) -> Option<(u32, u32)>
+    ensures { AreEndsOf ids.now result }
+{
+    let ids = ids.as_slice();
+    match ids {
+        [] => None,
+        [first, ..] => Some((*first, ids[ids.len() - 1])),
+    }
+}
+
+/// What the fault of an index is for a scan, by its section.
+pub fn of_list(fault: ListFault, part: Part) -> EngineFault
+    ensures { result ≡ list_fault fault part }
+{
+    match fault {
+        ListFault::ReadFault => EngineFault::ReadFault,
+        ListFault::BadList => EngineFault::NotASegment(part),
+        ListFault::NoMemory => EngineFault::NoMemory,
+    }
+}
+
+/// The documents that are in both lists, or in the one that is there.
+pub fn in_both(
+    alloc: Global,
+    first: Option<DocList>,
+    second: Option<DocList>,
+) -> Result<Option<DocList>, NoMemory>
+    ensures { IfOk result (AreInBoth first second) }
+{
+    match (first, second) {
+        (None, second) => Ok(second),
+        (Some(first), None) => Ok(Some(first)),
+        (Some(first), Some(second)) => Ok(Some(doc_lists::meet(alloc, &first, &second)?)),
+    }
+}

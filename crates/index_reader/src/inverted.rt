@@ -1,0 +1,49 @@
+//! The documents of ids in an inverted index.
+ghost use Rattle.std.specs.Prelude.{◌≡◌, ◌≤◌, ◌<◌, ℕ, List, All, IfOk, IfSome};
+ghost use Rattle.outside.specs.Seen.{seen};
+ghost use Rattle.bit_column.specs.Sections.{section};
+ghost use Rattle.doc_lists.specs.Sets.{AreThose};
+ghost use Rattle.index_reader.specs.Documents.{TellsInverted, is_doc_of};
+ghost use Rattle.index_reader.specs.Entries.{LogsPostings, LogsPostingsPartly};
+ghost use Rattle.index_reader.specs.Reading.{NoneTells, ReadsSection};
+
+use crate::ListFault;
+use crate::list_size::ListSize;
+use crate::postings::{docs_of_parts, read_parts};
+use crate::runs::runs_of;
+use doc_lists::DocList;
+use outside::{Place, Shelf};
+use std::alloc::Global;
+use value_ids::IdSet;
+
+/// The documents whose ids are in a set, ascending, by the section of an inverted index. Of the
+/// section the offsets of these ids are read, and then their entries, both in one read a run of ids
+/// that follow one another, and nothing else.
+pub fn inverted_docs<S: Shelf>(
+    alloc: Global,
+    shelf: &mut S,
+    place: &Place,
+    size: ListSize,
+    ids: &IdSet,
+) -> Result<DocList, ListFault>
+    requires below { All (λ id. id < size.count) ids.now }
+    ensures docs { IfOk result (λ docs. IfSome (S.held shelf.old) (λ files. (told : List ℕ) →
+        TellsInverted size.count size.rows (section files place.now) told →
+        AreThose (is_doc_of ids.now told) docs)) }
+    ensures within { IfOk result (λ docs. All (λ doc. doc < size.rows) docs) }
+    ensures reads { ReadsSection result
+        (LogsPostings ids.now (S.held shelf.old) place.now size.count size.rows)
+        (LogsPostingsPartly ids.now (S.held shelf.old) place.now size.count size.rows)
+        (NoneTells (TellsInverted size.count size.rows) place.now)
+        (seen S.Shelf shelf.old) (seen S.Shelf shelf.new) }
+{
+    let list = match runs_of(alloc, ids) {
+        Ok(list) => list,
+        Err(_) => return Err(ListFault::NoMemory),
+    };
+    let parts = match read_parts(alloc, shelf, place, size, list.runs()) {
+        Ok(parts) => parts,
+        Err(fault) => return Err(fault),
+    };
+    docs_of_parts(alloc, shelf, place, size, &parts)
+}

@@ -1,6 +1,0 @@
-pub mod Buckets
-pub mod Documents
-pub mod Entries
-pub mod Logs
-pub mod Runs
-pub mod Stretches

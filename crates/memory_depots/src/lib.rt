@@ -1,6 +1,0 @@
-//! Depots in memory, which fail at the calls that they are given.
-#![tactic(auto)]
-
-mod memory_depot;
-
-pub use memory_depot::MemoryDepot;

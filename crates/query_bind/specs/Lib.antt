@@ -1,0 +1,14 @@
+pub mod Faults
+pub mod Written
+pub mod Conjuncts
+pub mod Names
+pub mod FaultTexts
+pub mod Joints
+pub mod Grouped
+pub mod Terms
+pub mod Limits
+pub mod Bound
+pub mod Places
+pub mod Firsts
+pub mod Once
+pub mod LookUps

@@ -1,0 +1,80 @@
+-- The groups of a query over the rows of segments, one segment after the other.
+use Rattle.std.proofs.Common.{◌≡◌, ◌∙◌, ◌+◌, ◌<◌, ◌++◌, ℕ, List, [], ◌∷◌, length, take, drop, get_or, Option, Some, None, IfSome, sym, ap, subst, arith, append-nil, add-one}
+use Rattle.std.specs.FinMap as finite
+use Rattle.std.specs.List.{flat_map}
+use Rattle.std.proofs.Math.Seq.{take-suc}
+use Rattle.std.proofs.lemmas.Grind.{flat_map-append}
+use Rattle.std.proofs.lemmas.List.{take-append-drop}
+use Rattle.std.proofs.lemmas.List.Elements.{filter-append}
+use Rattle.std.proofs.lemmas.Slice.Zip.{AllZip-long}
+use Rattle.outside.specs.Files.{Files}
+use Rattle.values.specs.declared.value.Value.{Value}
+use Rattle.table_schema.specs.Conditions.{all_hold}
+use Rattle.table_schema.specs.declared.query.BoundQuery.{BoundQuery}
+use Rattle.table_schema.specs.declared.table.Table.{Table}
+use Rattle.group_table.specs.Groups.{groups_of}
+use Rattle.group_table.specs.Kept.{IsNew, KeptGroups}
+use Rattle.group_table.specs.Shape.{shape_of}
+use Rattle.scan_engine.specs.Scanned.{selected}
+use Rattle.scan_engine.proofs.AddLemmas.{len_more}
+use Rattle.segment_file.specs.Ordered.{ordered}
+use Rattle.sql_reply.specs.Reply.{most_groups}
+use Rattle.segment_head.specs.Stored.{HasImage, stored_rows}
+use Rattle.query_executor.specs.Steps.{AddsGroups, AddsStored, HasGroups, HaveTooMany, IsStoredOverfull, selected_in}
+use Rattle.segment_reads.proofs.GrownLemmas.{zip_at}
+
+module _ (query : BoundQuery) (table : Table) where
+  abbrev here : List (List Value) → List (List Value)
+  here = ordered table.settings.sorted
+
+  both_selected : (xs ys : List (List Value)) → selected query xs ++ selected query ys ≡ selected query (xs ++ ys)
+  both_selected xs ys = sym (filter-append (λ row. all_hold row query.conjuncts) xs ys)
+
+  -- the rows of one segment more
+  stored_more : (segments : List (List (List Value))) (k : ℕ) → k < length segments → stored_rows table (take k segments) ++ here (get_or segments k []) ≡ stored_rows table (take (k + 1) segments)
+  stored_more segments k lt =
+      let one : flat_map here (get_or segments k [] ∷ []) ≡ here (get_or segments k []) = append-nil (here (get_or segments k [])) in
+      ap (λ l. stored_rows table (take k segments) ++ l) (sym one)
+      ∙ sym (flat_map-append here (take k segments) (get_or segments k [] ∷ []))
+      ∙ ap (flat_map here) (sym (take-suc segments k [] lt))
+      ∙ ap (λ n. stored_rows table (take n segments)) (sym (add-one k))
+
+  stored_rest : (segments : List (List (List Value))) (k : ℕ) → stored_rows table (take k segments) ++ stored_rows table (drop k segments) ≡ stored_rows table segments
+  stored_rest segments k = sym (flat_map-append here (take k segments) (drop k segments)) ∙ ap (stored_rows table) (take-append-drop k segments)
+
+  selected_more : (segments : List (List (List Value))) (k : ℕ) → k < length segments
+      → selected query (stored_rows table (take k segments)) ++ selected_in query table (get_or segments k []) ≡ selected query (stored_rows table (take (k + 1) segments))
+  selected_more segments k lt = both_selected (stored_rows table (take k segments)) (here (get_or segments k [])) ∙ ap (selected query) (stored_more segments k lt)
+
+  module _ (names : List (List ℕ)) where
+    pub no_groups : (held : Option Files) (groups : KeptGroups) → IsNew query most_groups groups → HasGroups query table held names 0 groups
+    no_groups None groups new = tt
+    no_groups (Some files) groups new = λ segments all. new.groups_are
+
+    pub one_more : (held : Option Files) (k : ℕ) (old new : KeptGroups) → k < length names → HasGroups query table held names k old → AddsStored query table held (get_or names k []) old new → HasGroups query table held names (k + 1) new
+    one_more held k old new lt so a = by held so a.told
+      where
+        by : (h : Option Files) → HasGroups query table h names k old → IfSome h (λ files. (rows : List (List Value)) → HasImage table files (get_or names k []) rows → AddsGroups query (selected_in query table rows) old new)
+            → HasGroups query table h names (k + 1) new
+        by None so told = tt
+        by (Some files) so told = λ segments all.
+            let few : k < length segments = omega (arith, lt, AllZip-long (HasImage table files) names segments all) in
+            let adds = told (get_or segments k []) (zip_at (HasImage table files) names segments k [] [] all lt) in
+            adds (selected query (stored_rows table (take k segments))) (so segments all)
+            ∙ ap (groups_of (shape_of query)) (selected_more segments k few)
+
+    pub too_many : (held : Option Files) (k : ℕ) (old : KeptGroups) → k < length names → old.most ≡ most_groups → HasGroups query table held names k old → IsStoredOverfull query table held (get_or names k []) old
+        → HaveTooMany query table held names most_groups
+    too_many None k old lt most so over = tt
+    too_many (Some files) k old lt most so over = λ segments all.
+        let few : k < length segments = omega (arith, lt, AllZip-long (HasImage table files) names segments all) in
+        let done : List (List Value) = selected query (stored_rows table (take k segments)) in
+        let now : List (List Value) = selected_in query table (get_or segments k []) in
+        let rest : List (List Value) = selected query (stored_rows table (drop (k + 1) segments)) in
+        let full : old.most < finite.len (groups_of (shape_of query) (done ++ now)) = over (get_or segments k []) (zip_at (HasImage table files) names segments k [] [] all lt) done (so segments all) in
+        let more = len_more (shape_of query) (done ++ now) rest in
+        let same : (done ++ now) ++ rest ≡ selected query (stored_rows table segments) =
+        ap (λ l. l ++ rest) (selected_more segments k few)
+        ∙ both_selected (stored_rows table (take (k + 1) segments)) (stored_rows table (drop (k + 1) segments))
+        ∙ ap (selected query) (stored_rest segments (k + 1)) in
+        subst (λ l. 100000 < finite.len (groups_of (shape_of query) l)) same (omega (arith, full, more, most))

@@ -1,0 +1,42 @@
+-- Segments of which nothing was read, and the query that a text asks.
+use Rattle.std.proofs.Common.{◌≡◌, ◌∙◌, [], ℕ, false, List, Option, Some, None, Ok, Err, Result, IfSome, OnErr, OnOk, length, sym, subst, arith}
+use Rattle.outside.specs.Files.{Files}
+use Rattle.outside.specs.Reads.{Entry}
+use Rattle.values.specs.declared.value.Value.{Value}
+use Rattle.table_schema.specs.declared.query.BoundQuery.{BoundQuery}
+use Rattle.table_schema.specs.declared.table.Table.{Table}
+use Rattle.table_schema.specs.ValidTable.{IsValidTable}
+use Rattle.segment_file.specs.Ordered.{ordered}
+use Rattle.sql_reply.specs.declared.fault.SqlFault.{SqlFault}
+use Rattle.star_answer.specs.DocLaws.{DocsAreBounded}
+use Rattle.segment_reads.specs.Reads.{LogsEach, ReadsPlanned}
+use Rattle.segment_head.specs.Stored.{HasImage}
+use Rattle.segment_reads.proofs.GrownLemmas.{each_none, each_rest, none_before}
+use Rattle.segment_reads.proofs.SpanLemmas.{planned_of_file}
+use Rattle.star_answer.proofs.TreeReads.{planned_head}
+
+-- of an image the rows are few
+pub nothing_read : DocsAreBounded → (query : BoundQuery) (table : Table) → IsValidTable table → (held : Option Files) → IfSome held (λ files. (name : List ℕ) (rows : List (List Value)) → HasImage table files name rows → ReadsPlanned query table false name (ordered table.settings.sorted rows) [])
+nothing_read law query table valid None = tt
+nothing_read law query table valid (Some files) = λ name rows has. planned_head law query table valid files name rows has [] (λ k d lt. absurd (omega (arith, lt)))
+
+-- before the first read
+pub unread : DocsAreBounded → (query : BoundQuery) (table : Table) → IsValidTable table → (held : Option Files) (names : List (List ℕ)) (log : Option (List Entry)) → LogsEach (ReadsPlanned query table false) table held names (length names) log log
+unread law query table valid held names log =
+    each_rest (ReadsPlanned query table false) table held names (planned_of_file query table false) 0 log log (omega arith) (nothing_read law query table valid held) (none_before names log)
+    (each_none (ReadsPlanned query table false) table held names log)
+
+-- what holds of a query in its normal form holds of the one that the text asks
+pub asked_ok : {T E : Type 0} (result : Result T E) (P : BoundQuery → Type 0) (text : Result BoundQuery SqlFault) (bound : BoundQuery) → text ≡ Ok bound → OnOk result (P bound) → OnOk result ((query : BoundQuery) → text ≡ Ok query → P query)
+asked_ok (Ok x) P text bound is h = λ query same.
+    let both : Ok bound ≡ Ok query = sym is ∙ same in
+    let one : bound ≡ query = cc in
+    subst P one h
+asked_ok (Err e) P text bound is h = tt
+
+pub asked_err : {T E : Type 0} (result : Result T E) (P : BoundQuery → Type 0) (text : Result BoundQuery SqlFault) (bound : BoundQuery) → text ≡ Ok bound → OnErr result (P bound) → OnErr result ((query : BoundQuery) → text ≡ Ok query → P query)
+asked_err (Ok x) P text bound is h = tt
+asked_err (Err e) P text bound is h = λ query same.
+    let both : Ok bound ≡ Ok query = sym is ∙ same in
+    let one : bound ≡ query = cc in
+    subst P one h

@@ -1,0 +1,74 @@
+//! The rows of a segment whose head is loaded are added to the groups of a query.
+ghost use Rattle.std.specs.Prelude.{◌≡◌, IfOk, List, ℕ};
+ghost use Rattle.outside.specs.Seen.{seen};
+ghost use Rattle.segment_file.specs.Names.{file_of};
+ghost use Rattle.segment_head.specs.Heads.{AreIn};
+ghost use Rattle.table_schema.specs.ValidQuery.{IsValidQuery};
+ghost use Rattle.table_schema.specs.ValidTable.{IsValidTable};
+ghost use Rattle.segment_reads.specs.Looked.{IsDoneIn};
+ghost use Rattle.segment_opening.specs.Opened.{IsHeadIn, IsSpreadIn};
+ghost use Rattle.query_executor.specs.Passes.{AddsSegment, HasRoomFor, IsLoadedFor};
+ghost use Rattle.query_executor.specs.Steps as spec;
+
+use crate::scanned::{Scanned, nothing};
+use group_table::GroupTable;
+use outside::Shelf;
+use segment_head::{EngineFault, Head};
+use segment_plan::{SegmentPlan, empty_law, head_tells_law, plan, plan_over_law, pruned_law};
+use segment_scan::{image_law, index_law, scan_segment};
+use star_answer::{answer_segment, docs_bound_law};
+use std::alloc::Global;
+use table_schema::{BoundQuery, Table};
+
+/// Adds the rows of a segment whose dictionaries are loaded, as its plan says.
+pub fn add_planned<S: Shelf>(
+    alloc: Global,
+    shelf: &mut S,
+    table: &Table,
+    head: &Head,
+    query: &BoundQuery,
+    groups: &mut GroupTable,
+) -> Result<Scanned, EngineFault>
+    requires valid { IsValidTable table.now }
+    requires query { IsValidQuery table.now query.now }
+    requires room { HasRoomFor query.now groups.old }
+    requires loaded { IsLoadedFor query.now table.now head.now }
+    ensures adds { (name : List ℕ) → IsHeadIn table.now (S.held shelf.old) name head.now →
+        IsSpreadIn table.now (S.held shelf.old) name head.now →
+        AreIn (file_of name) head.now.sections →
+        AddsSegment query.now table.now name groups.old groups.new
+        (seen S.Shelf shelf.old) (seen S.Shelf shelf.new) result }
+    ensures done { IfOk result (λ done. (name : List ℕ) →
+        IsHeadIn table.now (S.held shelf.old) name head.now →
+        IsDoneIn query.now table.now (S.held shelf.old) name done.plan done.docs) }
+{
+    docs_bound_law();
+    head_tells_law();
+    pruned_law();
+    empty_law();
+    plan_over_law();
+    image_law();
+    index_law();
+    match plan(alloc, query, table, head)? {
+        SegmentPlan::Scan(plan) => match scan_segment(
+            alloc, shelf, head, table, query, &plan, groups,
+        ) {
+            Ok(docs) => Ok(Scanned {
+                plan: SegmentPlan::Scan(plan),
+                docs,
+            }),
+            Err(fault) => Err(fault),
+        },
+        SegmentPlan::Pruned => Ok(nothing(SegmentPlan::Pruned)),
+        SegmentPlan::Empty => Ok(nothing(SegmentPlan::Empty)),
+        SegmentPlan::StarTree(tree) => match answer_segment(
+            alloc, shelf, head, table, tree, query, groups,
+        ) {
+            Ok(read) => Ok(Scanned {
+                plan: SegmentPlan::StarTree(tree),
+                docs: read,
+            }),
+            Err(fault) => Err(fault),
+        },
+    }
+}

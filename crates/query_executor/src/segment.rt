@@ -1,0 +1,54 @@
+//! The rows of a segment are added to the groups of a query.
+ghost use Rattle.std.specs.Prelude.{IfOk};
+ghost use Rattle.outside.specs.Seen.{seen};
+ghost use Rattle.segment_reads.specs.Looked.{IsDoneIn};
+ghost use Rattle.query_executor.specs.Passes.{AddsSegment, HasRoomFor, IsQueryOf};
+
+use crate::adding::add_planned;
+use crate::scanned::{Scanned, nothing};
+use eligibility::pick;
+use group_table::GroupTable;
+use outside::Shelf;
+use segment_head::EngineFault;
+use segment_opening::{load_wanted, open_segment};
+use segment_plan::{SegmentPlan, head_tells_law, plan_over_law, prune, pruned_law};
+use star_answer::docs_bound_law;
+use std::alloc::Global;
+use table_schema::{BoundQuery, Table};
+
+/// Adds the rows of the segment of this name that satisfy the filter of a query to its groups, by a
+/// star-tree where one serves the query. Of a segment that its bounds exclude no more than the
+/// front and the bounds is read.
+pub fn add_segment<S: Shelf>(
+    alloc: Global,
+    shelf: &mut S,
+    table: &Table,
+    name: &str,
+    query: &BoundQuery,
+    groups: &mut GroupTable,
+) -> Result<Scanned, EngineFault>
+    requires of_table { IsQueryOf query.now table.now name.now }
+    requires room { HasRoomFor query.now groups.old }
+    ensures adds { AddsSegment query.now table.now name.now groups.old groups.new
+        (seen S.Shelf shelf.old) (seen S.Shelf shelf.new) result }
+    ensures done { IfOk result (λ done. IsDoneIn query.now table.now (S.held shelf.old) name.now
+        done.plan done.docs) }
+{
+    docs_bound_law();
+    let mut head = match open_segment(alloc, shelf, table, name) {
+        Ok(head) => head,
+        Err(fault) => return Err(fault),
+    };
+    head_tells_law();
+    pruned_law();
+    plan_over_law();
+    if prune(query, &head) {
+        return Ok(nothing(SegmentPlan::Pruned));
+    }
+    let by_tree = pick(query, table.settings.trees.as_slice()).is_some();
+    match load_wanted(alloc, shelf, table, query, by_tree, &mut head) {
+        Ok(()) => {}
+        Err(fault) => return Err(fault),
+    }
+    add_planned(alloc, shelf, table, &head, query, groups)
+}

@@ -1,0 +1,19 @@
+//! What the fault of a segment is for a query.
+ghost use Rattle.std.specs.Prelude.{◌≡◌};
+ghost use Rattle.query_executor.specs.Steps as spec;
+
+use crate::ExecutorFault;
+use segment_head::EngineFault;
+use sql_reply::{MOST_GROUPS, SqlFault};
+
+/// What the fault of the scan of a segment, by its number, is for the query.
+pub fn fault_at(at: u32, fault: EngineFault) -> ExecutorFault
+    ensures { result ≡ spec.fault_at at fault }
+{
+    match fault {
+        EngineFault::TooManyGroups => ExecutorFault::Sql(SqlFault::TooManyGroups(MOST_GROUPS)),
+        EngineFault::NotASegment(part) => ExecutorFault::NotASegment(at, part),
+        EngineFault::ReadFault => ExecutorFault::ReadFault,
+        EngineFault::NoMemory => ExecutorFault::Sql(SqlFault::NoMemory),
+    }
+}

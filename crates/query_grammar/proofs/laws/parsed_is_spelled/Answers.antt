@@ -1,5 +1,0 @@
-use Rattle.query_grammar.proofs.FoundQuery.{query_found}
-use Rattle.query_grammar.proofs.laws.parsed_is_spelled.Goals as goal
-
-pub returns : goal.returns
-returns c = query_found

@@ -1,5 +1,0 @@
-use Rattle.query_grammar.proofs.Found.{condition_found}
-use Rattle.query_grammar.proofs.laws.read_is_spelled.Goals as goal
-
-pub returns : goal.returns
-returns c = condition_found

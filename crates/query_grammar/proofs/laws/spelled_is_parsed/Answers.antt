@@ -1,5 +1,0 @@
-use Rattle.query_grammar.proofs.AgainQuery.{query_again}
-use Rattle.query_grammar.proofs.laws.spelled_is_parsed.Goals as goal
-
-pub returns : goal.returns
-returns c = query_again

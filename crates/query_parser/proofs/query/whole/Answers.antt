@@ -1,8 +1,0 @@
-use Rattle.std.proofs.Common.{arith}
-use Rattle.query_grammar.specs.Query.{parsed}
-use Rattle.query_grammar.proofs.QueryParts.{query_is}
-use Rattle.query_parser.proofs.query.whole.Goals as goal
-
-pub returns : goal.returns
-unfolding parsed
-returns c = grind (arith, query_is)

@@ -1,0 +1,10 @@
+pub mod Cursor
+pub mod Reading
+pub mod Operators
+pub mod Cond
+pub mod Query
+pub mod Shrinks
+pub mod Spells
+pub mod SpellsQuery
+pub mod Final
+pub mod QueryParts

@@ -1,7 +1,0 @@
-use Rattle.std.proofs.Common.{◌≡◌, map, drop}
-use Rattle.query_where.specs.Names.{condition_finding}
-use Rattle.query_where.proofs.condition.+check_condition.Given as goal
-use Rattle.table_schema.specs.Firsts.{first_of}
-
-abbrev pub invariant-loop-member : goal.invariant-loop-member
-invariant-loop-member l = first_of (map (condition_finding l.fields) (drop l.member-index l.member-items)) ≡ condition_finding l.fields l.fn.condition

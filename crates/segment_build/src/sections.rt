@@ -1,0 +1,246 @@
+//! The sections of a segment's file are made, a column after the other.
+ghost use Rattle.std.specs.Prelude.{◌≡◌, ◌<◌, ◌≤◌, ◌++◌, true, [], length, IfOk, OnOk};
+ghost use Rattle.std.specs.List.Sorted.{IsNonDecreasing};
+ghost use Rattle.value_ids.specs.Coding.{AreBelow};
+ghost use Rattle.dictionary.specs.Spelling.{spelling};
+ghost use Rattle.bit_column.specs.Column.{spelled, width_of};
+ghost use Rattle.bit_column.specs.Postings.{inverted, ranged};
+ghost use Rattle.bit_column.specs.SortedRuns.{sorted_runs};
+ghost use Rattle.segment_build.specs.Sections.{in_order, made_of, only, with_column};
+ghost use Rattle.values.specs.Columns.{rows_of};
+ghost use Rattle.segment_file.specs.Ordered.{ordered};
+ghost use Rattle.segment_build.specs.Arranging.{Orders};
+ghost use Rattle.segment_build.specs.Fitting.{AreOfTable};
+
+use crate::coding::{RowOrder, coded_column};
+use crate::grown::Grown;
+use crate::indexes::{Indexes, indexes_at};
+use bit_column::width_for;
+use dictionary::Dictionary;
+use inverted_lists::{write_inverted, write_ranged, write_sorted};
+use outside::{Bytes, NoMemory, Seq};
+use segment_file::push_ends;
+use std::alloc::Global;
+use std::marker::Model;
+use std::mem::replace;
+use table_schema::Table;
+use values::Columns;
+
+/// The sections of the columns that were taken so far. The bounds are of all columns, and each
+/// column has a dictionary and a forward index; the sorted one has runs of places, inverted ones
+/// have lists of places, and ones with a range index have those of buckets.
+#[derive(Drop)]
+pub struct Sections {
+    bounds: Vec<u8>,
+    dictionaries: Vec<Bytes>,
+    forwards: Vec<Bytes>,
+    runs: Vec<Bytes>,
+    lists: Vec<Bytes>,
+    ranges: Vec<Bytes>,
+}
+
+impl Model for Sections {
+    ghost use Rattle.segment_build.specs.Sections.{Made};
+
+    ghost Value = { Made };
+
+    ghost view = { λ s. record {
+      bounds = s.bounds.items;
+      dictionaries = s.dictionaries.items;
+      forwards = s.forwards.items;
+      runs = s.runs.items;
+      lists = s.lists.items;
+      ranges = s.ranges.items;
+    } };
+}
+
+impl Sections {
+    /// The sections of no column yet, with room for those of so many.
+    pub fn with_capacity(alloc: Global, columns: usize) -> Result<Self, NoMemory>
+        ensures { IfOk result (λ s. s ≡ record {
+          bounds = [];
+          dictionaries = [];
+          forwards = [];
+          runs = [];
+          lists = [];
+          ranges = [];
+        }) }
+    {
+        Ok(Sections {
+            bounds: Vec::new(alloc),
+            dictionaries: Vec::with_capacity(alloc, columns)?,
+            forwards: Vec::with_capacity(alloc, columns)?,
+            runs: Vec::new(alloc),
+            lists: Vec::new(alloc),
+            ranges: Vec::new(alloc),
+        })
+    }
+
+    /// Adds those of a column that has this dictionary, these ids and these indexes.
+    pub fn push(
+        &mut self,
+        alloc: Global,
+        dictionary: &Dictionary,
+        ids: &[u32],
+        indexes: Indexes,
+    ) -> Result<(), NoMemory>
+        requires few { length ids.now ≤ 1048576 }
+        requires below { AreBelow (length dictionary.now.values) ids.now }
+        requires ascend { indexes.sorted ≡ true → IsNonDecreasing ids.now }
+        ensures { OnOk result (self.new ≡ with_column dictionary.now ids.now indexes self.old) }
+    {
+        let count = dictionary.count();
+        let coded = CodedIds { ids, count };
+        push_ends(dictionary, &mut self.bounds)?;
+        self.dictionaries
+            .push(dictionary_section(alloc, dictionary)?)?;
+        self.forwards.push(forward_section(alloc, coded)?)?;
+        push_runs(alloc, indexes.sorted, coded, &mut self.runs)?;
+        push_lists(alloc, indexes.inverted, coded, &mut self.lists)?;
+        push_ranges(alloc, indexes.ranged, coded, &mut self.ranges)?;
+        Ok(())
+    }
+
+    /// All of them with those of the star-trees, in the order of the file.
+    pub fn into_list(self, alloc: Global, trees: Grown) -> Result<Vec<Bytes>, NoMemory>
+        ensures { IfOk result (λ all. all.items
+            ≡ in_order self trees.nodes.items trees.stars.items) }
+    {
+        let mut sections = self;
+        let mut trees = trees;
+        let room = 1 + 2 * sections.dictionaries.len();
+        let mut all = Vec::with_capacity(alloc, room)?;
+        sections.move_to(alloc, &mut trees, &mut all)?;
+        Ok(all)
+    }
+
+    // Moves all of them, with those of the star-trees, to the end of a list.
+    fn move_to(
+        &mut self,
+        alloc: Global,
+        trees: &mut Grown,
+        all: &mut Vec<Bytes>,
+    ) -> Result<(), NoMemory>
+        ensures { OnOk result (all.new.items ≡ all.old.items
+            ++ in_order self.old trees.old.nodes.items trees.old.stars.items) }
+    {
+        let bounds = replace(&mut self.bounds, Vec::new(alloc));
+        all.push(Seq::from_vec(bounds))?;
+        all.append(&mut self.dictionaries)?;
+        all.append(&mut trees.nodes)?;
+        all.append(&mut self.forwards)?;
+        all.append(&mut self.runs)?;
+        all.append(&mut self.lists)?;
+        all.append(&mut self.ranges)?;
+        all.append(&mut trees.stars)?;
+        Ok(())
+    }
+}
+
+/// The sections of the columns, by their kinds.
+pub fn column_sections(
+    alloc: Global,
+    table: &Table,
+    columns: &Columns,
+    order: &RowOrder,
+) -> Result<Sections, NoMemory>
+    requires rows { AreOfTable table.now columns.now }
+    requires order { Orders table.now.settings.sorted (rows_of columns.now) order.now }
+    ensures { IfOk result (λ made. made ≡ made_of table.now
+        (ordered table.now.settings.sorted (rows_of columns.now))
+        (length table.now.schema.fields)) }
+{
+    let count = table.schema.fields.len();
+    let mut sections = Sections::with_capacity(alloc, count)?;
+    'columns: for at in 0..count {
+        let (dictionary, ids) = coded_column(alloc, table, columns, order, at)?;
+        let indexes = indexes_at(&table.settings, at);
+        sections.push(alloc, &dictionary, ids.as_slice(), indexes)?;
+    }
+    Ok(sections)
+}
+
+// The ids of the rows of a column, which has so many values.
+#[derive(Clone, Copy)]
+struct CodedIds<'a> {
+    ids: &'a [u32],
+    count: u32,
+    ghost few: { length ids.now ≤ 1048576 },
+    ghost below: { AreBelow count ids.now },
+}
+
+fn dictionary_section(alloc: Global, dictionary: &Dictionary) -> Result<Bytes, NoMemory>
+    ensures { IfOk result (λ bytes. bytes ≡ spelling dictionary.now) }
+{
+    let mut out = Vec::new(alloc);
+    dictionary.write(&mut out)?;
+    Ok(Seq::from_vec(out))
+}
+
+// The forward index of these ids.
+fn forward_section(alloc: Global, coded: CodedIds<'_>) -> Result<Bytes, NoMemory>
+    ensures { IfOk result (λ bytes. bytes
+        ≡ spelled (width_of coded.entry.count) coded.entry.ids.now) }
+{
+    let mut out = Vec::new(alloc);
+    bit_column::write(coded.ids, width_for(coded.count), &mut out)?;
+    Ok(Seq::from_vec(out))
+}
+
+// Adds the section of the sorted column, where the ids are its.
+fn push_runs(
+    alloc: Global,
+    is_sorted: bool,
+    coded: CodedIds<'_>,
+    out: &mut Vec<Bytes>,
+) -> Result<(), NoMemory>
+    requires { is_sorted ≡ true → IsNonDecreasing coded.ids.now }
+    ensures { OnOk result (out.new.items ≡ out.old.items
+        ++ only is_sorted (sorted_runs coded.entry.count coded.entry.ids.now)) }
+{
+    if !is_sorted {
+        return Ok(());
+    }
+    let mut bytes = Vec::new(alloc);
+    write_sorted(coded.ids, coded.count, &mut bytes)?;
+    out.push(Seq::from_vec(bytes))?;
+    Ok(())
+}
+
+// Adds the section of an inverted column, where the ids are those of one.
+fn push_lists(
+    alloc: Global,
+    is_inverted: bool,
+    coded: CodedIds<'_>,
+    out: &mut Vec<Bytes>,
+) -> Result<(), NoMemory>
+    ensures { OnOk result (out.new.items ≡ out.old.items
+        ++ only is_inverted (inverted coded.entry.count coded.entry.ids.now)) }
+{
+    if !is_inverted {
+        return Ok(());
+    }
+    let mut bytes = Vec::new(alloc);
+    write_inverted(coded.ids, coded.count, &mut bytes)?;
+    out.push(Seq::from_vec(bytes))?;
+    Ok(())
+}
+
+// Adds the section of a column with a range index, where the ids are those of one.
+fn push_ranges(
+    alloc: Global,
+    is_ranged: bool,
+    coded: CodedIds<'_>,
+    out: &mut Vec<Bytes>,
+) -> Result<(), NoMemory>
+    ensures { OnOk result (out.new.items ≡ out.old.items
+        ++ only is_ranged (ranged coded.entry.count coded.entry.ids.now)) }
+{
+    if !is_ranged {
+        return Ok(());
+    }
+    let mut bytes = Vec::new(alloc);
+    write_ranged(coded.ids, coded.count, &mut bytes)?;
+    out.push(Seq::from_vec(bytes))?;
+    Ok(())
+}

@@ -1,8 +1,0 @@
-use Rattle.std.proofs.Common.{take}
-use Rattle.std.specs.List.{All}
-use Rattle.value_columns.specs.Columns.{Counts}
-use Rattle.segment_columns.specs.RowColumns.{OfFields}
-use Rattle.segment_columns.proofs.columns.empty_columns.Given as goal
-
-abbrev pub invariant-loop-field : goal.invariant-loop-field
-invariant-loop-field l = OfFields (take l.field-index l.fields) l.columns.items × All (Counts 0) l.columns.items

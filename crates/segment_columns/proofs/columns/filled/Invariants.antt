@@ -1,6 +1,0 @@
-use Rattle.std.proofs.Common.{take}
-use Rattle.segment_columns.specs.RowColumns.{AreThose}
-use Rattle.segment_columns.proofs.columns.filled.Given as goal
-
-abbrev pub invariant-loop-row : goal.invariant-loop-row
-invariant-loop-row l = AreThose l.fields (take l.row-index l.rows) l.columns.items

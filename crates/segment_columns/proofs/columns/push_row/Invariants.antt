@@ -1,6 +1,0 @@
-use Rattle.std.proofs.Common.{◌≡◌, take}
-use Rattle.value_columns.specs.Columns.{row_pushed}
-use Rattle.segment_columns.proofs.columns.push_row.Given as goal
-
-abbrev pub invariant-values : goal.invariant-values
-invariant-values l = l.columns ≡ row_pushed l.fn.columns (take l.at l.row)

@@ -1,8 +1,0 @@
-use Rattle.std.proofs.Common.{◌≡◌}
-use Rattle.value_columns.specs.Columns.{rows_of}
-use Rattle.segment_file.specs.Ordered.{ordered}
-use Rattle.segment_columns.specs.Sections.{made_of}
-use Rattle.segment_columns.proofs.sections.column_sections.Given as goal
-
-abbrev pub invariant-columns : goal.invariant-columns
-invariant-columns l = l.sections ≡ made_of l.table (ordered l.table.settings.sorted (rows_of l.columns)) l.at

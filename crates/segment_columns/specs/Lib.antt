@@ -1,5 +1,0 @@
-pub mod Fitting
-pub mod Arranging
-pub mod Sections
-pub mod Numbers
-pub mod RowColumns

@@ -1,7 +1,0 @@
-pub mod DoneLemmas
-pub mod EndLemmas
-pub mod FaultLemmas
-pub mod GroupLemmas
-pub mod LineLemmas
-pub mod SegmentLemmas
-pub mod Unread

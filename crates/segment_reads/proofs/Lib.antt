@@ -1,0 +1,7 @@
+pub mod NameLemmas
+pub mod LogLemmas
+pub mod GrownLemmas
+pub mod PlaceLemmas
+pub mod SpanLemmas
+pub mod HeadReads
+pub mod PartLogs

@@ -1,0 +1,4 @@
+pub mod Docs
+pub mod Logs
+pub mod Looked
+pub mod Reads

@@ -1,6 +1,0 @@
-use Rattle.std.proofs.Common.{◌≡◌, map, take}
-use Rattle.document_reading.specs.Served.{sure_choice}
-use Rattle.segment_scan.proofs.serving.sure_choices.Given as goal
-
-abbrev pub invariant-loop-choice : goal.invariant-loop-choice
-invariant-loop-choice l = l.sure.items ≡ map sure_choice (take l.choice-index l.choices)

@@ -1,2 +1,0 @@
-pub mod NamedColumns
-pub mod Leaf

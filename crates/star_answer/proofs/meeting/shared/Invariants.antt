@@ -1,5 +1,0 @@
-use Rattle.value_ids.proofs.SetLemmas.{SharedUpTo}
-use Rattle.star_answer.proofs.meeting.shared.Given as goal
-
-abbrev pub invariant-loop-id : goal.invariant-loop-id
-invariant-loop-id l = SharedUpTo l.list l.b l.id-index l.ids

@@ -1,0 +1,4 @@
+pub mod Entries
+pub mod Asked
+pub mod Answers
+pub mod Selected

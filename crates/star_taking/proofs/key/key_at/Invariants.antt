@@ -1,7 +1,0 @@
-use Rattle.std.proofs.Common.{◌≡◌, take}
-use Rattle.state_columns.specs.Docs.{doc_at}
-use Rattle.star_taking.specs.Taken.{key_values}
-use Rattle.star_taking.proofs.key.key_at.Given as goal
-
-abbrev pub invariant-loop-i : goal.invariant-loop-i
-invariant-loop-i l = l.key ≡ key_values (take l.i l.columns) (doc_at l.taken.docs l.at).0

@@ -1,6 +1,0 @@
-use Rattle.std.proofs.Common.{◌≡◌, take}
-use Rattle.star_taking.specs.Asked.{kinds_for}
-use Rattle.star_taking.proofs.taking.kinds_for.Given as goal
-
-abbrev pub invariant-loop-pair : goal.invariant-loop-pair
-invariant-loop-pair l = l.all ≡ kinds_for (take l.pair-index l.pairs) l.kinds

@@ -1,4 +1,0 @@
-pub mod Entries
-pub mod Asked
-pub mod Answers
-pub mod Taken

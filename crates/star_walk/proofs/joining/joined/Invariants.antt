@@ -1,7 +1,0 @@
-use Rattle.std.proofs.Common.{◌≡◌, ◌++◌, drop}
-use Rattle.star_walk.specs.Joins.{joined_from, joined}
-use Rattle.star_walk.proofs.joining.joined.Given as goal
-
--- what was put, and what comes of the open pick and the ones left, is what comes of all
-abbrev pub invariant-loop-i : goal.invariant-loop-i
-invariant-loop-i l = l.all ++ joined_from l.held (drop l.i l.list) ≡ joined l.list

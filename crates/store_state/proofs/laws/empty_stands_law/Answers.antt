@@ -1,6 +1,0 @@
-use Rattle.std.specs.FinMap.{get-empty}
-use Rattle.outside.specs.Files.{name_order}
-use Rattle.store_state.proofs.laws.empty_stands_law.Goals as goal
-
-pub returns : goal.returns
-returns c = λ name. get-empty name_order name

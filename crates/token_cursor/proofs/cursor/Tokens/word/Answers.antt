@@ -1,5 +1,0 @@
-use Rattle.std.proofs.lemmas.Str.{IsUtf8-had}
-use Rattle.token_cursor.proofs.cursor.Tokens.word.Goals as goal
-
-pub value-requires : goal.value-requires
-value-requires c = IsUtf8-had c.self.inside.ahead.now c.self.invariant.text
