@@ -35,15 +35,19 @@ fn is_removed(rt: &HostRuntime, folder: &str) -> bool {
     fs::remove_dir_all(rt, folder).ok().is_some()
 }
 
-// Makes a folder anew with the file `a`, the file `z.part` and a folder `sub` that has the file
-// `c`.
+// Makes a folder anew with the file `a` and the file `z.part`.
 fn fill(rt: &HostRuntime, folder: &str, all: &Expectations) {
     let _was_there = is_removed(rt, folder);
-    let sub = path(rt.alloc(), folder, "sub");
-    all.expect(is_made(rt, sub.as_str()), "a folder is made");
-    drop(sub);
+    all.expect(is_made(rt, folder), "a folder is made");
     all.expect(is_written(rt, folder, "a"), "a file is written");
     all.expect(is_written(rt, folder, "z.part"), "a part is written");
+}
+
+// Makes a folder `sub` in it that has the file `c`.
+fn fill_sub(rt: &HostRuntime, folder: &str, all: &Expectations) {
+    let sub = path(rt.alloc(), folder, "sub");
+    all.expect(is_made(rt, sub.as_str()), "a folder in the folder");
+    drop(sub);
     all.expect(is_written(rt, folder, "sub/c"), "a file in a folder");
 }
 
@@ -120,6 +124,7 @@ fn expect_shelf_over(rt: &HostRuntime, folder: &str, all: &Expectations) {
 pub fn shelf_over_a_folder(rt: &HostRuntime, all: &Expectations) {
     let folder = folder_of(rt, "shelf");
     fill(rt, folder.as_str(), all);
+    fill_sub(rt, folder.as_str(), all);
     expect_shelf_over(rt, folder.as_str(), all);
     all.expect(is_removed(rt, folder.as_str()), "the folder is removed");
     drop(folder);
@@ -167,6 +172,10 @@ const BAD_PARTS: &[(DepotCall, &str)] = &[
         DepotCall::Shelf(ShelfCall::Length("sub", Err(ShelfFault::Failed))),
         "a folder is no file",
     ),
+    (
+        DepotCall::Shelf(ShelfCall::Names(&["b", "sub"])),
+        "its name is listed",
+    ),
 ];
 
 // Whether the file at a path has these bytes.
@@ -193,6 +202,9 @@ fn depot_over(rt: &HostRuntime, folder: &str) -> Result<FolderDepot<HostRuntime>
 fn expect_calls<D: Depot>(alloc: Global, depot: &mut D, all: &Expectations) {
     run_depot(alloc, depot, BEGUN, all);
     run_depot(alloc, depot, CALLS, all);
+}
+
+fn expect_refusals<D: Depot>(alloc: Global, depot: &mut D, all: &Expectations) {
     expect_bad_names(alloc, depot, all);
     run_depot(alloc, depot, BAD_PARTS, all);
 }
@@ -200,6 +212,8 @@ fn expect_calls<D: Depot>(alloc: Global, depot: &mut D, all: &Expectations) {
 // What a depot over a folder does; the part is there while the depot is still open.
 fn expect_depot<D: Depot + Drop>(rt: &HostRuntime, mut depot: D, folder: &str, all: &Expectations) {
     expect_calls(rt.alloc(), &mut depot, all);
+    fill_sub(rt, folder, all);
+    expect_refusals(rt.alloc(), &mut depot, all);
     expect_part(rt, folder, all);
     drop(depot);
 }
