@@ -38,7 +38,7 @@ pub data Nodes (S : Type 0) : Type 0 where
 -- nodes of which one is a star child
 abbrev pub has_star : {S : Type 0} → Nodes S → Bool
 has_star none = false
-has_star (node id docs kids rest) = if id == star then true else has_star rest
+has_star (node id docs subtrees rest) = if id == star then true else has_star rest
 
 -- no star child is made for this split dimension
 abbrev pub skips : TreeShape → ℕ → Bool
@@ -50,11 +50,12 @@ docs_with d v docs = filter (λ e. dim d e.0 == v) docs
 
 -- one node per id, and then the last ones; `below` gives the nodes below a node with these
 -- documents
-abbrev pub kids_of : {S : Type 0} → (List (List ℕ × S) → Nodes S) → ℕ → List (List ℕ × S) → Nodes S
+abbrev pub child_nodes_of : {S : Type 0} → (List (List ℕ × S) → Nodes S) → ℕ
+    → List (List ℕ × S) → Nodes S
     → List ℕ → Nodes S
-kids_of below d docs last [] = last
-kids_of below d docs last (v ∷ vs) =
-    node v (docs_with d v docs) (below (docs_with d v docs)) (kids_of below d docs last vs)
+child_nodes_of below d docs last [] = last
+child_nodes_of below d docs last (v ∷ vs) =
+    node v (docs_with d v docs) (below (docs_with d v docs)) (child_nodes_of below d docs last vs)
 
 module _ {S : Type 0} (join : S → S → S) where
   -- the ids of a dimension, ascending, each once
@@ -62,8 +63,9 @@ module _ {S : Type 0} (join : S → S → S) where
   ids_at d docs = map (λ e. e.0) (Merged nat_cmp join (rekey (dim d) docs))
 
   -- the star child, where there is one
-  abbrev pub star_kid : (List (List ℕ × S) → Nodes S) → TreeShape → ℕ → List (List ℕ × S) → Nodes S
-  star_kid below shape d docs = if not (skips shape d) && nat_lt 1 (length (ids_at d docs))
+  abbrev pub star_child : (List (List ℕ × S) → Nodes S) → TreeShape → ℕ → List (List ℕ × S)
+      → Nodes S
+  star_child below shape d docs = if not (skips shape d) && nat_lt 1 (length (ids_at d docs))
       then node star (merged_docs join (rekey (set_star d) docs))
       (below (merged_docs join (rekey (set_star d) docs))) none
       else none
@@ -72,8 +74,8 @@ module _ {S : Type 0} (join : S → S → S) where
   abbrev pub under : TreeShape → ℕ → ℕ → List (List ℕ × S) → Nodes S
   under shape zero d docs = none
   under shape (suc more) d docs = if nat_le (length docs) shape.leaf then none
-      else kids_of (under shape more (suc d)) d docs
-      (star_kid (under shape more (suc d)) shape d docs) (ids_at d docs)
+      else child_nodes_of (under shape more (suc d)) d docs
+      (star_child (under shape more (suc d)) shape d docs) (ids_at d docs)
 
   -- the tree of some rows: no node, or the root
   abbrev pub root_of : TreeShape → ℕ → List (List ℕ × S) → Nodes S
@@ -113,12 +115,12 @@ HaveNoStar k (e ∷ es) = ((d : ℕ) → d < k → dim d e.0 ≢ star) × HaveNo
 -- each of these nodes, under a path, and each node below them
 abbrev pub Covers : {S : Type 0} → (S → S → S) → List (List ℕ × S) → List ℕ → Nodes S → Type 0
 Covers join rows path none = Unit {0}
-Covers join rows path (node id docs kids rest) =
-    CoversRows join rows (path ++ (id ∷ [])) docs × Covers join rows (path ++ (id ∷ [])) kids
+Covers join rows path (node id docs subtrees rest) =
+    CoversRows join rows (path ++ (id ∷ [])) docs × Covers join rows (path ++ (id ∷ [])) subtrees
     × Covers join rows path rest
 
 -- the root has the empty path
 abbrev pub CoversTree : {S : Type 0} → (S → S → S) → List (List ℕ × S) → Nodes S → Type 0
 CoversTree join rows none = rows ≡ []
-CoversTree join rows (node id docs kids rest) = CoversRows join rows [] docs
-    × Covers join rows [] kids
+CoversTree join rows (node id docs subtrees rest) = CoversRows join rows [] docs
+    × Covers join rows [] subtrees

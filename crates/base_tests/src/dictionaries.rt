@@ -103,7 +103,7 @@ fn fits(kind: FieldKind, value: &Value) -> bool
 
 // The values that cells spell; it ends at a thousand.
 fn column(alloc: Global, kind: FieldKind, cells: &[&str]) -> Result<Seq<Value>, AllocError>
-    ensures few { IfOk result (λ column. length column ≤ most_values) }
+    ensures at_most { IfOk result (λ column. length column ≤ most_values) }
     ensures fit { IfOk result (λ column. All (Fits kind) column) }
 {
     let mut column = Seq::new(alloc);

@@ -34,7 +34,7 @@ fn fill(table: &mut StarTable, rows: u32, ids: [u32; 3])
     requires kinds { length table.old.kinds ≡ 2 }
     requires spare { rows ≤ table.old.spare }
     ensures rows { length table.new.docs ≡ rows }
-    ensures light { weights row_weight table.new.docs ≤ rows }
+    ensures weight_fits { weights row_weight table.new.docs ≤ rows }
     ensures dims { table.new.dims ≡ 3 }
     ensures kinds { table.new.kinds ≡ table.old.kinds }
 {
@@ -59,7 +59,7 @@ fn merge_on(
     level: u8,
 ) -> io::Result<u32>
     requires some { 1 ≤ rows }
-    requires few { rows ≤ 1000000 }
+    requires at_most { rows ≤ 1000000 }
     requires dims { shape.now.dims ≡ 3 }
     requires kinds { length shape.now.kinds ≡ 2 }
 {
@@ -89,7 +89,7 @@ fn pairs(rt: &HostRuntime) -> Result<Kinds, NoMemory>
 // How many rows a word asks for.
 fn asked(word: &str) -> u32
     ensures some { 1 ≤ result }
-    ensures few { result ≤ 1000000 }
+    ensures at_most { result ≤ 1000000 }
 {
     match word.parse::<u32>() {
         Ok(rows) => rows.clamp(1, MOST_ROWS),

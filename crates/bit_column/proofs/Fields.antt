@@ -11,7 +11,7 @@ use Rattle.bit_column.proofs.Windows.{joined, field-window}
 -- a window with one more byte
 pub window-more : (bytes : List ℕ) (i window : ℕ) → i < length bytes → length bytes ≤ 8 → get_or bytes i 0 < 2 ^ 8 → bits_of 8 (take i bytes) ≡ bits (i * 8) window
     → bits_of 8 (take (i + 1) bytes) ≡ bits ((i + 1) * 8) (bit_or (window * 2 ^ 8 % 2 ^ 64) (get_or bytes i 0))
-window-more bytes i window within few small is =
+window-more bytes i window within at_most small is =
     let byte = get_or bytes i 0 in
     let e : i * 8 + 8 ≡ (i + 1) * 8 = omega arith in
     ap (bits_of 8) (take_more bytes i 0 within)
@@ -128,9 +128,9 @@ pub field-in : (bytes : List ℕ) (bit width window : ℕ) → width ≤ 32 → 
     → window / 2 ^ (8 * length (take 8 (drop (bit / 8) bytes)) - bit % 8 - width) % 2 ^ width ≡ field width bit (bits_of 8 bytes)
 field-in bytes bit width window small held is =
     let head = take 8 (drop (bit / 8) bytes) in
-    let long : bit % 8 + width ≤ 8 * length head = head-long bytes bit width small held in
+    let lengths : bit % 8 + width ≤ 8 * length head = head-long bytes bit width small held in
     let rest = 8 * length head - bit % 8 - width in
-    let e : length head * 8 ≡ bit % 8 + width + rest = omega (arith, long) in
+    let e : length head * 8 ≡ bit % 8 + width + rest = omega (arith, lengths) in
     let first : bit - bit / 8 * 8 ≡ bit % 8 = omega arith in
     sym (field-window width (bit % 8) rest window (bits_of 8 head) (is ∙ ap (λ k. bits k window) e))
     ∙ ap (λ b. field width b (bits_of 8 head)) (sym first)
@@ -160,7 +160,7 @@ field-word bytes i word small held is =
     ∙ ap (λ b. field 32 b (bits_of 8 bytes)) start
 
 pub field-far : (i width number : ℕ) → i < number → number < 2 ^ 32 → width ≤ 32 → i * width ≤ 2 ^ 37
-field-far i width number within few small = omega (arith, mul-le i width (2 ^ 32) 32 (omega arith) small)
+field-far i width number within at_most small = omega (arith, mul-le i width (2 ^ 32) 32 (omega arith) small)
 
 -- one more piece
 pub pieces-more : (width first i : ℕ) (digits : List ℕ) → pieces width first (i + 1) digits ≡ pieces width first i digits ++ field width (first + i * width) digits ∷ []
@@ -169,7 +169,7 @@ pieces-more width first i digits = map-range_with_len_more (λ piece. field widt
 pub pieces-below : (width first count i limit : ℕ) (digits : List ℕ) → i < count → All (λ id. id < limit) (pieces width first count digits) → field width (first + i * width) digits < limit
 pieces-below width first count i limit digits within all =
     let f : ℕ → ℕ = λ piece. field width (first + piece * width) digits in
-    let long : length (pieces width first count digits) ≡ count = length-map-range_with_len f 0 count in
+    let lengths : length (pieces width first count digits) ≡ count = length-map-range_with_len f 0 count in
     subst (λ n. n < limit) (get_or-map-range_with_len f 0 count i i 0 within (omega arith)) (All-get_or (λ id. id < limit) (pieces width first count digits) i 0 (omega arith) all)
 
 -- ---- a field in the first bytes
@@ -184,20 +184,20 @@ same-front width bit count some bytes held same =
     sym (front-field width bit count some held) ∙ ap (λ part. field width bit (bits_of 8 part)) same ∙ front-field width bit count bytes held
 
 first-end : (width bit last : ℕ) (bytes : List ℕ) → 2 ≤ length bytes → bit + width ≤ 8 * 1 → field width bit (bits_of 8 (get_or bytes 0 0 ∷ last ∷ [])) ≡ field width bit (bits_of 8 bytes)
-first-end width bit last [] long held = absurd (omega (arith, long))
-first-end width bit last (a ∷ bytes) long held = same-front width bit 1 (a ∷ last ∷ []) (a ∷ bytes) held refl
+first-end width bit last [] lengths held = absurd (omega (arith, lengths))
+first-end width bit last (a ∷ bytes) lengths held = same-front width bit 1 (a ∷ last ∷ []) (a ∷ bytes) held refl
 
 both-ends : (width bit : ℕ) (bytes : List ℕ) → 2 ≤ length bytes → bit + width ≤ 8 * 2 → field width bit (bits_of 8 (get_or bytes 0 0 ∷ get_or bytes 1 0 ∷ [])) ≡ field width bit (bits_of 8 bytes)
-both-ends width bit [] long held = absurd (omega (arith, long))
-both-ends width bit (a ∷ []) long held = absurd (omega (arith, long))
-both-ends width bit (a ∷ b ∷ bytes) long held = same-front width bit 2 (a ∷ b ∷ []) (a ∷ b ∷ bytes) held refl
+both-ends width bit [] lengths held = absurd (omega (arith, lengths))
+both-ends width bit (a ∷ []) lengths held = absurd (omega (arith, lengths))
+both-ends width bit (a ∷ b ∷ bytes) lengths held = same-front width bit 2 (a ∷ b ∷ []) (a ∷ b ∷ bytes) held refl
 
 -- a field in the first byte or in two is found by the first and the last of them
 pub ends_found : (width bit size : ℕ) (bytes : List ℕ) → 1 ≤ width → size ≤ 2 → 2 ≤ length bytes → bit + width ≤ 8 * size
     → field width bit (bits_of 8 (get_or bytes 0 0 ∷ get_or bytes (size - 1) 0 ∷ [])) ≡ field width bit (bits_of 8 bytes)
-ends_found width bit zero bytes wide few long held = absurd (omega (arith, wide, held))
-ends_found width bit (suc zero) bytes wide few long held = first-end width bit (get_or bytes (suc zero - 1) 0) bytes long held
-ends_found width bit (suc (suc zero)) bytes wide few long held =
+ends_found width bit zero bytes wide at_most lengths held = absurd (omega (arith, wide, held))
+ends_found width bit (suc zero) bytes wide at_most lengths held = first-end width bit (get_or bytes (suc zero - 1) 0) bytes lengths held
+ends_found width bit (suc (suc zero)) bytes wide at_most lengths held =
     let last : suc (suc zero) - 1 ≡ 1 = omega arith in
-    ap (λ i. field width bit (bits_of 8 (get_or bytes 0 0 ∷ get_or bytes i 0 ∷ []))) last ∙ both-ends width bit bytes long held
-ends_found width bit (suc (suc (suc n))) bytes wide few long held = absurd (omega (arith, few))
+    ap (λ i. field width bit (bits_of 8 (get_or bytes 0 0 ∷ get_or bytes i 0 ∷ []))) last ∙ both-ends width bit bytes lengths held
+ends_found width bit (suc (suc (suc n))) bytes wide at_most lengths held = absurd (omega (arith, at_most))

@@ -148,7 +148,7 @@ between_offsets count key keys lt =
     ∙ ap (λ es. take (length own) (drop (length before) es)) all
     ∙ ap (take (length own)) (dropped before (own ++ after)) ∙ taken own after
 
-module _ (count key : ℕ) (keys : List ℕ) (all : All (λ k. k < count) keys) (few : length keys < 2 ^ 32) (known : key < count) where
+module _ (count key : ℕ) (keys : List ℕ) (all : All (λ k. k < count) keys) (at_most : length keys < 2 ^ 32) (known : key < count) where
   abbrev words : List ℕ
   words = offsets count keys ++ entries count keys
 
@@ -156,7 +156,7 @@ module _ (count key : ℕ) (keys : List ℕ) (all : All (λ k. k < count) keys) 
   front = length-map-range_with_len (offset keys) 0 (count + 1)
 
   small : All (λ p. p < 2 ^ 32) words
-  small = All-append (λ p. p < 2 ^ 32) (offsets count keys) (entries count keys) (offsets_below (2 ^ 32) keys few 0 (count + 1)) (entries_below count (2 ^ 32) keys (omega (arith, few)))
+  small = All-append (λ p. p < 2 ^ 32) (offsets count keys) (entries count keys) (offsets_below (2 ^ 32) keys at_most 0 (count + 1)) (entries_below count (2 ^ 32) keys (omega (arith, at_most)))
 
   offset_read : (n : ℕ) → n < count + 1 → id_at 32 n (postings count keys) ≡ offset keys n
   offset_read n lt =

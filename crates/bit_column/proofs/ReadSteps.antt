@@ -7,12 +7,12 @@ use Rattle.outside.proofs.ReadLemmas.{LogsOn-none, LogsOn-push, LogsOn-through, 
 
 -- a read fills the front of a buffer with what there is
 pub read-fills : (held : Option Files) (name : List ℕ) (offset n : ℕ) (old new : List ℕ) → length new ≡ length old → ReadsAt held name offset n old new → Fills held name offset n new
-read-fills None name offset n old new long reads = tt
-read-fills (Some files) name offset n old new long (file, got, (count, is)) =
+read-fills None name offset n old new lengths reads = tt
+read-fills (Some files) name offset n old new lengths (file, got, (count, is)) =
     let told : bytes_of (Some files) name ≡ file = there files name file got in
     let sizes : length (bytes_of (Some files) name) ≡ length file = ap length told in
     let size : length (take n (drop offset file)) ≡ n = omega (arith, length-take n (drop offset file), length-drop offset file, count) in
-    (omega (arith, count, sizes, long), ap (take n) is ∙ take_at (take n (drop offset file)) (drop n old) n size ∙ ap (λ bytes. take n (drop offset bytes)) (sym told))
+    (omega (arith, count, sizes, lengths), ap (take n) is ∙ take_at (take n (drop offset file)) (drop n old) n size ∙ ap (λ bytes. take n (drop offset bytes)) (sym told))
 
 -- ---- logs that grow one after another
 

@@ -123,12 +123,12 @@ eight n = omega arith
 pub sorted_length : (count : ℕ) (keys : List ℕ) → length (sorted_runs count keys) ≡ 8 * count
 sorted_length count keys = length-spelled 32 (runs count keys) ∙ ap (λ n. bytes_for (n * 32)) (runs_long count keys) ∙ eight count
 
-module _ (keys : List ℕ) (few : length keys < 2 ^ 32) where
+module _ (keys : List ℕ) (at_most : length keys < 2 ^ 32) where
   runs_small : (count : ℕ) → All (λ p. p < 2 ^ 32) (runs count keys)
   runs_small zero = All-nil (λ p. p < 2 ^ 32)
   runs_small (suc key) = All-append (λ p. p < 2 ^ 32) (runs key keys) (first_place keys key ∷ first_place keys (key + 1) ∷ []) (runs_small key)
-      (All-cons (λ p. p < 2 ^ 32) (first_place keys key) (first_place keys (key + 1) ∷ []) (omega (arith, less_few key keys, few))
-      (All-cons (λ p. p < 2 ^ 32) (first_place keys (key + 1)) [] (omega (arith, less_few (key + 1) keys, few)) (All-nil (λ p. p < 2 ^ 32))))
+      (All-cons (λ p. p < 2 ^ 32) (first_place keys key) (first_place keys (key + 1) ∷ []) (omega (arith, less_few key keys, at_most))
+      (All-cons (λ p. p < 2 ^ 32) (first_place keys (key + 1)) [] (omega (arith, less_few (key + 1) keys, at_most)) (All-nil (λ p. p < 2 ^ 32))))
 
   -- the first place of a key, and the place after its last
   stands_by : (key last : ℕ) → key < last → (get_or (runs last keys) (2 * key) 0 ≡ first_place keys key) × (get_or (runs last keys) (2 * key + 1) 0 ≡ first_place keys (key + 1))

@@ -51,8 +51,8 @@ pieces-of width first count ns tail within small =
 bits-pieces-from : (width a count : ℕ) (digits : List ℕ) → AreBits digits → (a + count) * width ≤ length digits
     → bits_of width (map (λ piece. field width (0 + piece * width) digits) (range_with_len a count)) ≡ take (count * width) (drop (a * width) digits)
 unfolding field
-bits-pieces-from width a zero digits h long = let none : 0 ≡ 0 * width = omega arith in ap (λ k. take k (drop (a * width) digits)) none
-bits-pieces-from width a (suc count) digits h long =
+bits-pieces-from width a zero digits h lengths = let none : 0 ≡ 0 * width = omega arith in ap (λ k. take k (drop (a * width) digits)) none
+bits-pieces-from width a (suc count) digits h lengths =
     let rest = drop (a * width) digits in
     let more = map (λ piece. field width (0 + piece * width) digits) (range_with_len (a + 1) count) in
     let here = take width rest in
@@ -72,7 +72,7 @@ bits-pieces-from width a (suc count) digits h long =
 
 -- the bits of the numbers of pieces are the digits
 pub bits-pieces : (width count : ℕ) (digits : List ℕ) → AreBits digits → count * width ≤ length digits → bits_of width (pieces width 0 count digits) ≡ take (count * width) digits
-bits-pieces width count digits h long =
+bits-pieces width count digits h lengths =
     let e : (0 + count) * width ≡ count * width = grind arith in
     let none : 0 * width ≡ 0 = omega arith in
     bits-pieces-from width 0 count digits h (omega (arith, e)) ∙ ap (λ k. take (count * width) (drop k digits)) none
@@ -93,7 +93,7 @@ spelled-bits width ids =
     let all : List ℕ = ones ++ replicate 7 0 in
     let n = length ids * width in
     let count : length ones ≡ n = length-bits_of width ids in
-    let long : length all ≡ n + 7 = omega (arith, length-append ones (replicate 7 0), count) in
+    let lengths : length all ≡ n + 7 = omega (arith, length-append ones (replicate 7 0), count) in
     let e : bytes_for n * 8 ≡ length ones + zeros_following n = omega (arith, count) in
     bits-pieces 8 (bytes_for n) all (AreBits-append ones (replicate 7 0) (AreBits-bits_of width ids) (AreBits-zeros 7)) (omega arith)
     ∙ ap (λ k. take k all) e
@@ -104,7 +104,7 @@ spelled-bits width ids =
 pub written : (old new ids : List ℕ) (width zeros : ℕ) → take (length old) new ≡ old → ((i : ℕ) → i < length new → get_or new i 0 < 2 ^ 8) → zeros < 8
     → bits_of 8 new ≡ bits_of 8 old ++ (bits_of width ids ++ replicate zeros 0) → new ≡ old ++ spelled width ids
 unfolding spelled
-written old new ids width zeros begins small few is =
+written old new ids width zeros begins small at_most is =
     let rest = drop (length old) new in
     let whole : new ≡ old ++ rest = sym (take-append-drop (length old) new) ∙ ap (λ xs. xs ++ rest) begins in
     let ones = bits_of width ids in

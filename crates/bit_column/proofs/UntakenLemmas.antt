@@ -35,7 +35,7 @@ untaken_more bytes window more count item at within room is next have joins =
     let before = take window.next bytes in
     let after = take count (drop window.next bytes) in
     let same : taken_before more ≡ n = omega (arith, next, have, at.there) in
-    let long : length (bits_of 8 before) ≡ window.next * 8 = length-bits_of 8 before ∙ ap (λ k. k * 8) (omega (arith, length-take window.next bytes, at.within)) in
+    let lengths : length (bits_of 8 before) ≡ window.next * 8 = length-bits_of 8 before ∙ ap (λ k. k * 8) (omega (arith, length-take window.next bytes, at.within)) in
     record {
       at_most = omega (arith, have, room);
       there = omega (arith, next, have, at.there);
@@ -45,7 +45,7 @@ untaken_more bytes window more count item at within room is next have joins =
           ∙ joins
           ∙ ap (λ ds. ds ++ bits (count * 8) item) at.untaken
           ∙ ap (λ ds. drop n (bits_of 8 before) ++ ds) is
-          ∙ sym (drop-append-le n (bits_of 8 before) (bits_of 8 after) (omega (arith, long, at.there)))
+          ∙ sym (drop-append-le n (bits_of 8 before) (bits_of 8 after) (omega (arith, lengths, at.there)))
           ∙ ap (drop n) (sym (flat_map-append (bits 8) before after))
           ∙ ap (λ xs. drop n (bits_of 8 xs)) (sym (take-add window.next count bytes))
           ∙ ap (λ k. drop n (bits_of 8 (take k bytes))) (sym next)

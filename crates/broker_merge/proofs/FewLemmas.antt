@@ -40,8 +40,8 @@ grouped t table two = by t.columns t.groups refl table.each table.once two
     by zero (a ∷ []) e each once h = absurd (omega arith)
     by zero (a ∷ b ∷ gs) e each once h = absurd (one_key a b gs (each.0.key ∙ sym e) (each.1.0.key ∙ sym e) once)
 
-pub few : (t : KeptGroups) (order : List OrderKey) (most : ℕ) → IsTable t → length t.groups < 2 → BeginInOrder t order most (range_with_len 0 (length t.groups))
-few t order most table h = record {
+pub at_most : (t : KeptGroups) (order : List OrderKey) (most : ℕ) → IsTable t → length t.groups < 2 → BeginInOrder t order most (range_with_len 0 (length t.groups))
+at_most t order most table h = record {
   below = all_below (length t.groups);
   groups = ap (take most) (sym (all_groups t) ∙ is_in_order order t.groups t.groups (IsPermutation-refl t.groups) table.once (λ k d low lt. absurd (omega arith)));
 }

@@ -245,7 +245,7 @@ module _ (t : KeptGroups) (order : List OrderKey) where
       → BeginInOrder t order most (map (λ (r : Entry). r.1) first)
   first_places most ranked front first back x table h p count split q s = record {
     below = below_places first begun;
-    groups = take_all most fs (omega (arith, long)) ∙ sym (take_at fs rs most long) ∙ ap (take most) (is_in_order order t.groups (fs ++ rs) moved table.once joined);
+    groups = take_all most fs (omega (arith, lengths)) ∙ sym (take_at fs rs most lengths) ∙ ap (take most) (is_in_order order t.groups (fs ++ rs) moved table.once joined);
   }
     where
       shown : AreShown (front ++ x ∷ back)
@@ -269,8 +269,8 @@ module _ (t : KeptGroups) (order : List OrderKey) where
       middle : Group
       middle = group_at t x.1
 
-      long : length fs ≡ most
-      long = length-map (map (λ (r : Entry). r.1) first) (group_at t) ∙ length-map first (λ (r : Entry). r.1) ∙ length_permutation front first q ∙ count
+      lengths : length fs ≡ most
+      lengths = length-map (map (λ (r : Entry). r.1) first) (group_at t) ∙ length-map first (λ (r : Entry). r.1) ∙ length_permutation front first q ∙ count
 
       parts : groups_at (front ++ x ∷ back) ≡ groups_at front ++ groups_at (x ∷ back)
       parts = ap (map (group_at t)) (map-append (λ (r : Entry). r.1) front (x ∷ back)) ∙ map-append (group_at t) (map (λ (r : Entry). r.1) front) (map (λ (r : Entry). r.1) (x ∷ back))

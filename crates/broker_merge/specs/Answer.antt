@@ -72,4 +72,4 @@ pub record IsWhole (answer : Answer) : Type 0 where
 pub record NamesPlaces (query : BoundQuery) : Type 0 where
   pub items : list_all (is_item query) query.items ≡ true
   pub keys : list_all (λ key. is_item query key.item) query.order ≡ true
-  pub few : length query.order ≤ 16
+  pub at_most : length query.order ≤ 16

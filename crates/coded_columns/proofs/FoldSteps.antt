@@ -45,10 +45,10 @@ holds-fits kind count slots numbers column slot h lt whole =
 
 pub one-fits : (kind : AggKind) (count : ℕ) (slots : List ℕ) (numbers : List ℤ) (column : Column) (slot : ℕ) (x : ℤ) → HoldsSlots kind count slots numbers column → slot < count → AreWhole numbers → IsWhole x
     → length numbers + 1 ≤ most_values → Fits (merged (state_at column slot) (state_of column.kind (x ∷ []))) most_values
-one-fits kind count slots numbers column slot x h lt whole own few =
+one-fits kind count slots numbers column slot x h lt whole own at_most =
     states.fits_more _ (length (in_slot slot slots numbers) + 1) most_values
     (states.fits_both (state_at column slot) (state_of column.kind (x ∷ [])) (length (in_slot slot slots numbers)) 1 (holds-fits kind count slots numbers column slot h lt whole) (states.fits_of column.kind (x ∷ []) (own, tt)))
-    (omega (arith, few, in_slot-few slot slots numbers))
+    (omega (arith, at_most, in_slot-few slot slots numbers))
 
 -- one number more
 pub holds-more : (kind : AggKind) (count : ℕ) (slots : List ℕ) (numbers : List ℤ) (column : Column) (slot : ℕ) (x : ℤ) → HoldsSlots kind count slots numbers column → slot < count → length slots ≡ length numbers

@@ -6,7 +6,7 @@ use Rattle.coded_columns.specs.Slots.{AreRanked, GivesSlot, IsLed, IsNewSlot}
 
 -- the first k of some rows have slots, to which their keys lead
 pub record RankState (key : ℕ → ℕ) (old : List ℕ) (k : ℕ) (look : ℕ → ℕ) (slots firsts : List ℕ) : Type 0 where
-  pub few : length firsts ≤ k
+  pub at_most : length firsts ≤ k
   pub lead : (q : ℕ) → 0 < look q → (look q ≤ length firsts) × (key (get_or firsts (look q - 1) 0) ≡ q)
   pub below : (j : ℕ) → j < k → get_or slots j 0 < length firsts
   pub keys : (j : ℕ) → j < k → key (get_or firsts (get_or slots j 0) 0) ≡ key j
@@ -32,7 +32,7 @@ module _ (key : ℕ → ℕ) (old : List ℕ) (k : ℕ) (look new : ℕ → ℕ)
       let within : slot < length firsts = omega (arith, t.there, l.0) in
       subst (RankState key old (k + 1) new (set slots k slot)) (sym t.firsts_same)
       (record {
-        few = omega (arith, st.few);
+        at_most = omega (arith, st.at_most);
         lead = λ q some.
             let e = t.same q in
             let own = st.lead q (omega (arith, some, e)) in
@@ -60,7 +60,7 @@ module _ (key : ℕ → ℕ) (old : List ℕ) (k : ℕ) (look new : ℕ → ℕ)
       let within : slot < length (firsts ++ k ∷ []) = omega (arith, longer, t.slot_is) in
       subst (RankState key old (k + 1) new (set slots k slot)) (sym t.firsts_are)
       (record {
-        few = omega (arith, st.few, longer);
+        at_most = omega (arith, st.at_most, longer);
         lead = λ q some.
             elim (cases_eq q (key k)) [
               | inl e ↦
@@ -114,7 +114,7 @@ module _ (key : ℕ → ℕ) (old : List ℕ) (k : ℕ) (look new : ℕ → ℕ)
 
 pub rank-none : (key : ℕ → ℕ) (look : ℕ → ℕ) (slots : List ℕ) → ((q : ℕ) → look q ≡ 0) → RankState key slots 0 look slots []
 rank-none key look slots none = record {
-  few = omega arith;
+  at_most = omega arith;
   lead = λ q some. absurd (omega (arith, some, none q));
   below = λ j lt. absurd (omega (arith, lt));
   keys = λ j lt. absurd (omega (arith, lt));
@@ -125,7 +125,7 @@ rank-none key look slots none = record {
 
 pub ranked : (key : ℕ → ℕ) (old : List ℕ) (k count : ℕ) (look : ℕ → ℕ) (slots firsts : List ℕ) → k ≡ count → RankState key old k look slots firsts → AreRanked key count slots firsts
 ranked key old k count look slots firsts e st = subst (λ n. AreRanked key n slots firsts) e (record {
-  few = st.few;
+  at_most = st.at_most;
   below = st.below;
   keys = st.keys;
   firsts_in = st.firsts_in;

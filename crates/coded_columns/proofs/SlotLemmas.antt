@@ -155,9 +155,9 @@ module _ (columns : List Listed) (groups : List ℕ) (group : ℕ) (places : Lis
       → ((k : ℕ) → k < length places → get_or ids (get_or places k 0) 0 < width)
       → ((j k : ℕ) → j < length places → k < length places → get_or ids (get_or places j 0) 0 ≡ get_or ids (get_or places k 0) 0 → cell (row_of columns (get_or places j 0)) group ≡ cell (row_of columns (get_or places k 0)) group)
       → AreSlots columns (groups ++ group ∷ []) places slots firsts
-  slots-refined old before slots firsts ids width st ranked long within cells = record {
-    count = long ∙ st.count;
-    few = omega (arith, ranked.few, st.count);
+  slots-refined old before slots firsts ids width st ranked lengths within cells = record {
+    count = lengths ∙ st.count;
+    at_most = omega (arith, ranked.at_most, st.count);
     below = λ k lt. ranked.below k (omega (arith, lt, st.count));
     same = λ j k j_lt k_lt e.
         let a = ranked.keys j (omega (arith, j_lt, st.count)) in
@@ -173,7 +173,7 @@ module _ (columns : List Listed) (groups : List ℕ) (group : ℕ) (places : Lis
   pub slots-unread : (slots firsts : List ℕ) → ((at : ℕ) → cell (row_of columns at) group ≡ Whole (pos 0)) → AreSlots columns groups places slots firsts → AreSlots columns (groups ++ group ∷ []) places slots firsts
   slots-unread slots firsts none st = record {
     count = st.count;
-    few = st.few;
+    at_most = st.at_most;
     below = st.below;
     same = λ j k j_lt k_lt e.
         key-more groups group (row_of columns (get_or places j 0)) (row_of columns (get_or places k 0)) (st.same j k j_lt k_lt e) (none (get_or places j 0) ∙ sym (none (get_or places k 0)));
@@ -190,7 +190,7 @@ zeros (suc n) (suc k) = zeros n k
 pub slots-none : (columns : List Listed) (places : List ℕ) → 0 < length places → AreSlots columns [] places (replicate (length places) 0) (0 ∷ [])
 slots-none columns places some = record {
   count = length-replicate (length places) 0;
-  few = omega (arith, some);
+  at_most = omega (arith, some);
   below = λ k lt. omega (arith, zeros (length places) k);
   same = λ j k j_lt k_lt e. refl;
   firsts_in = λ s lt. first s lt;

@@ -47,7 +47,7 @@ IsCoded count (Some column) =
 
 -- columns of so many rows, each with its ids
 pub record AreCoded (segment : SegmentColumns) : Type 0 where
-  pub few : segment.count ≤ most_rows
+  pub at_most : segment.count ≤ most_rows
   pub each : All (IsCoded segment.count) segment.columns.now
 
 -- the column has the values of a field, row by row

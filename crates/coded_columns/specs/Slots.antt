@@ -30,7 +30,7 @@ from_slot n (s ∷ slots) (x ∷ xs) = if nat_lt s n then from_slot n slots xs e
 -- the first so many of a list have slots: two have one slot just where they have one key, and the
 -- first of each slot is kept
 pub record AreRanked (key : ℕ → ℕ) (count : ℕ) (slots firsts : List ℕ) : Type 0 where
-  pub few : length firsts ≤ count
+  pub at_most : length firsts ≤ count
   pub below : (k : ℕ) → k < count → get_or slots k 0 < length firsts
   pub keys : (k : ℕ) → k < count → key (get_or firsts (get_or slots k 0) 0) ≡ key k
   pub firsts_in : (slot : ℕ) → slot < length firsts → get_or firsts slot 0 < count
@@ -67,7 +67,7 @@ packed slots width ids places k = get_or slots k 0 * width + get_or ids (get_or 
 -- rows by their places in slots, where those of one slot have one key; each slot has rows
 pub record AreSlots (columns : List Listed) (groups places slots firsts : List ℕ) : Type 0 where
   pub count : length slots ≡ length places
-  pub few : length firsts ≤ length places
+  pub at_most : length firsts ≤ length places
   pub below : (k : ℕ) → k < length places → get_or slots k 0 < length firsts
   pub same : (j k : ℕ) → j < length places → k < length places → get_or slots j 0 ≡ get_or slots k 0
       → key_of groups (row_of columns (get_or places j 0)) ≡ key_of groups

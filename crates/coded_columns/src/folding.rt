@@ -32,12 +32,12 @@ pub fn fold_slots(
     count: usize,
 ) -> Result<Vec<StateColumn>, NoMemory>
     requires coded { AreCoded segment.now }
-    requires few { length places.now ≤ most_rows }
+    requires at_most { length places.now ≤ most_rows }
     requires few_slots { count ≤ most_rows }
     requires rows { AreBelow segment.now.count places.now }
     requires same { length slots.now ≡ length places.now }
     requires below { AreBelow count slots.now }
-    ensures long { IfOk result (λ columns. All (λ c. length c.states ≡ count) columns.items) }
+    ensures lengths { IfOk result (λ columns. All (λ c. length c.states ≡ count) columns.items) }
     ensures states { IfOk result (λ columns. (slot : ℕ) → slot < count
         → row_at columns.items slot ≡ states_of aggs.now
         (in_slot slot slots.now (rows_at (table_of segment.now).columns places.now))) }
@@ -62,7 +62,7 @@ fn fold_agg(
     count: usize,
 ) -> Result<StateColumn, NoMemory>
     requires coded { AreCoded segment.now }
-    requires few { length places.now ≤ most_rows }
+    requires at_most { length places.now ≤ most_rows }
     requires few_slots { count ≤ most_rows }
     requires rows { AreBelow segment.now.count places.now }
     requires same { length slots.now ≡ length places.now }
@@ -94,7 +94,7 @@ fn with_numbers(
     ids: &Ids,
     numbers: &[i64],
 ) -> StateColumn
-    requires few { length places.now ≤ most_rows }
+    requires at_most { length places.now ≤ most_rows }
     requires same { length slots.now ≡ length places.now }
     requires below { AreBelow (length states.states) slots.now }
     requires empty { states.states ≡ replicate (length states.states) (unit_of states.kind) }
@@ -155,7 +155,7 @@ fn units(alloc: Global, kind: AggKind, count: usize) -> Result<StateColumn, NoMe
 
 // Adds the number of each row, by its id, to the state in the row's slot.
 fn add_numbers(column: &mut StateColumn, slots: &[u32], places: &[u32], ids: &Ids, numbers: &[i64])
-    requires few { length places.now ≤ most_rows }
+    requires at_most { length places.now ≤ most_rows }
     requires same { length slots.now ≡ length places.now }
     requires below { AreBelow (length column.old.states) slots.now }
     requires empty { column.old.states

@@ -153,7 +153,7 @@ fn widen(ids: &[u16], out: &mut [u32])
 // Copies ids into two bytes each.
 fn narrow(block: &[u32], ids: &mut [u16])
     requires same { length ids.old ≡ length block.now }
-    requires few { All (λ id. id < most_narrow) block.now }
+    requires at_most { All (λ id. id < most_narrow) block.now }
     ensures { ids.new ≡ block.now }
 {
     for at in 0..block.len() {

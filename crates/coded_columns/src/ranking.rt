@@ -30,7 +30,7 @@ pub fn refine(
     requires same { length places.now ≡ length slots.old }
     requires rows { AreBelow (length ids.now) places.now }
     requires ids { AreBelow width ids.now }
-    requires few { length slots.old ≤ most_rows }
+    requires at_most { length slots.old ≤ most_rows }
     requires few_slots { count ≤ most_rows }
     requires few_ids { width ≤ most_rows }
     ensures { IfOk result (λ firsts. AreRanked (packed slots.old width ids.now places.now)
@@ -54,7 +54,7 @@ fn refine_by_table(
     requires same { length places.now ≡ length slots.old }
     requires rows { AreBelow (length ids.now) places.now }
     requires ids { AreBelow width ids.now }
-    requires few { length slots.old ≤ most_rows }
+    requires at_most { length slots.old ≤ most_rows }
     requires few_slots { count ≤ most_rows }
     requires few_ids { width ≤ most_rows }
     requires few_keys { count * width ≤ most_rows }
@@ -78,7 +78,7 @@ fn rank_by_table(
     requires same { length places.now ≡ length slots.old }
     requires rows { AreBelow (length ids.now) places.now }
     requires ids { AreBelow width ids.now }
-    requires few { length slots.old ≤ most_rows }
+    requires at_most { length slots.old ≤ most_rows }
     requires few_slots { count ≤ most_rows }
     requires few_ids { width ≤ most_rows }
     requires few_keys { count * width ≤ most_rows }
@@ -114,7 +114,7 @@ fn slot_in_table(
     at: u32,
 ) -> Result<u32, NoMemory>
     requires key { key < length table.old }
-    requires few { length firsts.old.items < most_rows }
+    requires at_most { length firsts.old.items < most_rows }
     requires leads { slice_index table.old key ≤ length firsts.old.items }
     ensures slot { IfOk result (λ slot. GivesSlot (λ q. get_or table.old q 0)
         (λ q. get_or table.new q 0)
@@ -143,7 +143,7 @@ fn refine_by_map(
     requires same { length places.now ≡ length slots.old }
     requires rows { AreBelow (length ids.now) places.now }
     requires ids { AreBelow width ids.now }
-    requires few { length slots.old ≤ most_rows }
+    requires at_most { length slots.old ≤ most_rows }
     requires few_slots { count ≤ most_rows }
     requires few_ids { width ≤ most_rows }
     ensures { IfOk result (λ firsts. AreRanked (packed slots.old width ids.now places.now)

@@ -26,7 +26,7 @@ pub fn slots_of(
 ) -> Result<Slots, NoMemory>
     requires coded { AreCoded segment.now }
     requires some { 0 < length places.now }
-    requires few { length places.now ≤ segment.now.count }
+    requires at_most { length places.now ≤ segment.now.count }
     requires rows { AreBelow segment.now.count places.now }
     ensures { IfOk result (λ s. AreSlots (table_of segment.now).columns groups.now places.now
         s.slots.items s.firsts.items) }
@@ -49,7 +49,7 @@ fn refine_by_field(
     firsts: Vec<u32>,
 ) -> Result<Vec<u32>, NoMemory>
     requires coded { AreCoded segment.now }
-    requires few { length places.now ≤ segment.now.count }
+    requires at_most { length places.now ≤ segment.now.count }
     requires rows { AreBelow segment.now.count places.now }
     requires count { length slots.old ≡ length places.now }
     requires few_slots { length firsts.items ≤ length places.now }

@@ -72,8 +72,8 @@ module _ (query : BoundQuery) (columns : List Listed) (holds : ℕ → Bool) whe
   -- rows in places that are few, told with how many rows they are of
   pub some-added : (done n : ℕ) (places : List ℕ) (old new : KeptGroups) → places ≡ passing holds done n → AddsRows query (length places) (rows_at columns places) old new → AddsRows query n (rows done n) old new
   some-added done n places old new is a =
-      let few : length places ≤ n = subst (λ (l : List ℕ). length l ≤ n) (sym is) (passing-few holds done n) in
-      subst (λ (l : List ℕ). AddsRows query n (rows_at columns l) old new) is (adds_as_more query (length places) n (rows_at columns places) old new few a)
+      let at_most : length places ≤ n = subst (λ (l : List ℕ). length l ≤ n) (sym is) (passing-few holds done n) in
+      subst (λ (l : List ℕ). AddsRows query n (rows_at columns l) old new) is (adds_as_more query (length places) n (rows_at columns places) old new at_most a)
 
   pub add-next : (done next : ℕ) (old mid new : KeptGroups) → done ≤ next → AddsRows query done (rows 0 done) old mid → AddsRows query (next - done) (rows done (next - done)) mid new → AddsRows query next (rows 0 next) old new
   add-next done next old mid new le a b =

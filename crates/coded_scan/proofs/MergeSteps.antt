@@ -68,9 +68,9 @@ module _ (query : BoundQuery) (slots : List ℕ) (rows : List (List Value)) wher
   -- there is room for the values of the rows of a slot
   pub room-next : (n : ℕ) (old mid : KeptGroups) → length rows ≤ most_values → HaveAtMost (most_values - length rows) (groups_in old) → AddsRows query (length (before_slot n slots rows)) (before_slot n slots rows) old mid
       → HaveAtMost (most_values - length (in_slot n slots rows)) (groups_in mid)
-  room-next n old mid few h a =
+  room-next n old mid at_most h a =
       at_most_more (groups_in mid) ((most_values - length rows) + length (before_slot n slots rows)) (most_values - length (in_slot n slots rows))
-      (omega (arith, few, count-next n, before-few (n + 1) slots rows)) (a.fits (most_values - length rows) h)
+      (omega (arith, at_most, count-next n, before-few (n + 1) slots rows)) (a.fits (most_values - length rows) h)
 
 -- the rows of a slot have the key of its first row
 pub slot-run : (columns : List Listed) (groups places slots firsts : List ℕ) (slot : ℕ) (key : List Value) → AreSlots columns groups places slots firsts → slot < length firsts

@@ -167,7 +167,7 @@ fn add_some(
 ) -> Result<(), TableFault>
     requires coded { AreCoded segment.now }
     requires table { IsTableOf query.now table.old }
-    requires few { length places.now ≤ segment.now.count }
+    requires at_most { length places.now ≤ segment.now.count }
     requires rows { AreBelow segment.now.count places.now }
     requires fits { HaveAtMost (most_values - length places.now) (groups_in table.old) }
     ensures ok { OnOk result (AddsRows query.now (length places.now)
@@ -192,7 +192,7 @@ fn add_places(
     requires coded { AreCoded segment.now }
     requires table { IsTableOf query.now table.old }
     requires some { 0 < length places.now }
-    requires few { length places.now ≤ segment.now.count }
+    requires at_most { length places.now ≤ segment.now.count }
     requires rows { AreBelow segment.now.count places.now }
     requires fits { HaveAtMost (most_values - length places.now) (groups_in table.old) }
     ensures ok { OnOk result (AddsRows query.now (length places.now)

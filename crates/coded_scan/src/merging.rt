@@ -35,12 +35,12 @@ pub fn merge_slots(
 ) -> Result<(), TableFault>
     requires coded { AreCoded segment.now }
     requires table { IsTableOf query.now table.old }
-    requires few { length places.now ≤ most_values }
+    requires at_most { length places.now ≤ most_values }
     requires rows { AreBelow segment.now.count places.now }
     requires fits { HaveAtMost (most_values - length places.now) (groups_in table.old) }
     requires slots { AreSlots (table_of segment.now).columns query.now.groups places.now
         groups.now.slots.items groups.now.firsts.items }
-    requires long { All (λ c. length c.states ≡ length groups.now.firsts.items) states.now }
+    requires lengths { All (λ c. length c.states ≡ length groups.now.firsts.items) states.now }
     requires states { (slot : ℕ) → slot < length groups.now.firsts.items
         → row_at states.now slot ≡ states_of query.now.aggs (in_slot slot groups.now.slots.items
         (rows_at (table_of segment.now).columns places.now)) }
@@ -113,7 +113,7 @@ fn states_at(
     count: usize,
 ) -> Result<StateRow, NoMemory>
     requires slot { slot < count }
-    requires long { All (λ c. length c.states ≡ count) states.now }
+    requires lengths { All (λ c. length c.states ≡ count) states.now }
     ensures { IfOk result (λ row. row ≡ row_at states.now slot) }
 {
     let mut row = StateRow::new(alloc);

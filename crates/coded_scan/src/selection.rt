@@ -27,7 +27,7 @@ pub fn push_block(
 ) -> Result<(), NoMemory>
     requires covers { AllCover count row_filters.now }
     requires within { block.from + block.length ≤ count }
-    requires few { count ≤ most_rows }
+    requires at_most { count ≤ most_rows }
     ensures { OnOk result (places.new.items ≡ places.old.items
         ++ passing (λ at. all_let at row_filters.now) block.from block.length) }
 {
@@ -90,7 +90,7 @@ fn push_all(block: Block, places: &mut Vec<u32>) -> Result<(), NoMemory>
 // Adds the places of the rows of a block that are marked.
 fn push_marked(block: Block, marks: &[bool], places: &mut Vec<u32>) -> Result<(), NoMemory>
     requires count { length marks.now ≡ block.length }
-    requires few { block.from + block.length ≤ most_rows }
+    requires at_most { block.from + block.length ≤ most_rows }
     ensures { (holds : ℕ → _) → ((at : ℕ) → at < block.length
         → get_or marks.now at false ≡ holds (block.from + at))
         → OnOk result (places.new.items ≡ places.old.items

@@ -48,7 +48,7 @@ given_bytes file from to (x ∷ xs) give =
     reaches file a b (x ∷ xs) give = let more = reaches file (a + x.count) b xs give.3 in omega (arith, more)
 
 pub grows_on : (file : List ℕ) (from to most : ℕ) (old new : Option (List Entry)) → to - from ≤ most → LogsOn file from to old new → GrowsBy most old new
-grows_on file from to most old new le logs = (logs.0, logs.1, let few = given_bytes file from to logs.0 logs.2 in omega (arith, few, le))
+grows_on file from to most old new le logs = (logs.0, logs.1, let at_most = given_bytes file from to logs.0 logs.2 in omega (arith, at_most, le))
 
 -- a run of documents has at most four bytes a document
 sum_of : (a n w : ℕ) → (a + n) * w ≡ a * w + n * w
@@ -74,8 +74,8 @@ grows_runs file width offset key [] old new small apart logs = grows_same old ne
 grows_runs file width offset key (run ∷ runs) old new small apart logs =
     let own = short_run width run.first run.last apart.1 small in
     let size = length-append (docs_of_run run) (docs_of runs) in
-    let long = length-range_with_len run.first (run.last + 1 - run.first) in
-    grows_both (4 * (run.last + 1 - run.first)) (4 * length (docs_of runs)) (4 * length (docs_of (run ∷ runs))) old logs.0 new (omega (arith, size, long))
+    let lengths = length-range_with_len run.first (run.last + 1 - run.first) in
+    grows_both (4 * (run.last + 1 - run.first)) (4 * length (docs_of runs)) (4 * length (docs_of (run ∷ runs))) old logs.0 new (omega (arith, size, lengths))
     (grows_on file (offset + first_byte width run.first) (offset + end_byte width run.first (run.last + 1)) (4 * (run.last + 1 - run.first)) old logs.0 (omega (arith, own)) logs.1)
     (grows_runs file width offset (run.last + 2) runs logs.0 new small apart.3 logs.2)
 
@@ -91,10 +91,10 @@ bytes_more docs (b ∷ bs) (suc i) lt =
 
 -- what holds of the items of a list holds of one item more
 pub grown_at : {X : Type 0} (P : ℕ → X → Type 0) (d : X) (old new : List X) (x : X) (n : ℕ) → length old ≡ n → new ≡ old ++ x ∷ [] → ((k : ℕ) → k < n → P k (get_or old k d)) → P n x → (k : ℕ) → k < n + 1 → P k (get_or new k d)
-grown_at {X} P d old new x n long is each own k lt = elim (cases_lt k n) [
-  | inl less ↦ subst (P k) (sym (ap (λ (l : List X). get_or l k d) is ∙ get_or_append_left old (x ∷ []) d k (omega (arith, less, long)))) (each k less)
+grown_at {X} P d old new x n lengths is each own k lt = elim (cases_lt k n) [
+  | inl less ↦ subst (P k) (sym (ap (λ (l : List X). get_or l k d) is ∙ get_or_append_left old (x ∷ []) d k (omega (arith, less, lengths)))) (each k less)
   | inr ge ↦
       let same : n ≡ k = omega (arith, ge, lt) in
-      let there : get_or new n d ≡ x = ap (λ (l : List X). get_or l n d) is ∙ ap (λ m. get_or (old ++ x ∷ []) m d) (sym long) ∙ get_or-append_seam old x [] d in
+      let there : get_or new n d ≡ x = ap (λ (l : List X). get_or l n d) is ∙ ap (λ m. get_or (old ++ x ∷ []) m d) (sym lengths) ∙ get_or-append_seam old x [] d in
       subst (λ m. P m (get_or new m d)) same (subst (P n) (sym there) own)
 ]

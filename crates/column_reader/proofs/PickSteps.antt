@@ -44,9 +44,9 @@ part_readable width count rows from to bytes within readable = (
       let g : ℕ → ℕ = λ doc. id_at width doc bytes in
       let less : j < n = omega (arith, lt, length-map-range_with_len g from n) in
       let there : from + j < rows - 0 = omega (arith, less, within) in
-      let long : length (map g (range_with_len 0 (rows - 0))) ≡ rows - 0 = length-map-range_with_len g 0 (rows - 0) in
+      let lengths : length (map g (range_with_len 0 (rows - 0))) ≡ rows - 0 = length-map-range_with_len g 0 (rows - 0) in
       let all : All (λ id. id < count) (map g (range_with_len 0 (rows - 0))) = subst (All (λ id. id < count)) (ids_of_range width 0 rows bytes) readable.1 in
-      let own : get_or (map g (range_with_len 0 (rows - 0))) (from + j) d < count = all (from + j) d (omega (arith, there, long)) in
+      let own : get_or (map g (range_with_len 0 (rows - 0))) (from + j) d < count = all (from + j) d (omega (arith, there, lengths)) in
       subst (λ x. x < count) (get_or-map-range_with_len g 0 (rows - 0) (from + j) (from + j) d there (omega arith) ∙ sym (get_or-map-range_with_len g from n j (from + j) d less refl)) own),
 )
 
@@ -111,7 +111,7 @@ pub pick_next : (place : Place) (width values rows : ℕ) (runs left rest : List
     → OnlyReads ⊥ now next → LogsOn place.file (place.offset + first_byte width run.first) (place.offset + end_byte width run.first (run.last + 1)) now.log next.log
     → IsRunRead now.held place width values run more → length more ≡ run.last + 1 - run.first → All (λ id. id < values) more → new ≡ old ++ more
     → PickStep place width values rows runs rest first next new
-pick_next place width values rows runs left rest run first now next old more new step is reads logs read long small added =
+pick_next place width values rows runs left rest run first now next old more new step is reads logs read lengths small added =
     let at : PickStep place width values rows runs (run ∷ rest) first now old = subst (λ rs. PickStep place width values rows runs rs first now old) is step in
     record {
       reads = reads_after ⊥ first now next at.reads reads;
@@ -119,7 +119,7 @@ pick_next place width values rows runs left rest run first now next old more new
       partly = λ last over. at.partly last (inr (next.log, logs, over));
       apart = (run.last + 2, at.apart.1.3);
       within = All-tail (λ r. r.last < rows) run rest at.within;
-      count = omega (arith, at.count, length-append (docs_of_run run) (docs_of rest), length-range_with_len run.first (run.last + 1 - run.first), ap length added, length-append old more, long);
+      count = omega (arith, at.count, length-append (docs_of_run run) (docs_of rest), length-range_with_len run.first (run.last + 1 - run.first), ap length added, length-append old more, lengths);
       below = subst (All (λ id. id < values)) (sym added) (All-append (λ id. id < values) old more at.below small);
       told = next_told first.held now.held place width values run runs rest old more new at.reads.held read added at.told;
     }

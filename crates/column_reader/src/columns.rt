@@ -19,7 +19,7 @@ pub fn read_columns<S: Shelf>(
     head: &Head,
     named: &[bool],
 ) -> Result<Vec<Option<Ids>>, EngineFault>
-    requires few { length named.now ≤ 65535 }
+    requires at_most { length named.now ≤ 65535 }
     requires readable { (column : ℕ) → get_or named.now column false ≡ true
         → IsReadable head.now column }
     ensures count { IfOk result (λ all. length all.items ≡ length named.now) }

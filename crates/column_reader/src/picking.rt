@@ -29,7 +29,7 @@ pub fn pick_columns<S: Shelf>(
     runs: &[Run],
     count: usize,
 ) -> Result<Vec<Option<Ids>>, EngineFault>
-    requires few { length named.now ≤ 65535 }
+    requires at_most { length named.now ≤ 65535 }
     requires readable { (column : ℕ) → get_or named.now column false ≡ true
         → IsReadable head.now column }
     requires few_rows { head.now.rows ≤ most_rows }

@@ -274,7 +274,7 @@ module _ (name csv : List ℕ) (named : IsSegmentName name) (i j a d : Seen) whe
   acted answer over allowed = record { step = steps_over (Some (Build name csv)) i.held a.held answer d.held over; over = over; allowed = allowed }
 
   none : {F : Type 0} (b : Seen) → j.read_faults ≡ i.read_faults → OnlyReads F a b → ¬ F → d.read_faults ≡ b.read_faults → d.write_faults ≡ b.write_faults → NoFaults Old New
-  none b fine reads quiet still written = record { inputs = fine; depot_reads = still ∙ reads.still quiet; depot_writes = written ∙ reads.writes }
+  none b fine reads quiet unchanged written = record { inputs = fine; depot_reads = unchanged ∙ reads.unchanged quiet; depot_writes = written ∙ reads.writes }
 
 -- the store had no place, or was not read
 pub ran_unplaced : (name csv : List ℕ) (named : IsSegmentName name) (i a b : Seen) (why : Stop) → FindsPlace name a b (Err why)
@@ -318,7 +318,7 @@ module _ (name csv : List ℕ) (named : IsSegmentName name) (i j a b : Seen) (ta
   -- the file was not read, or has no rows
   pub ran_rowless : (why : Stop) → (why ≢ stop.Fault fault.Read → j.read_faults ≡ i.read_faults) → StopsRows table.schema.fields csv i.held (Rose i.read_faults j.read_faults) why
       → Ran (Some (Build name csv)) (record { inputs = i; depot = a }) (record { inputs = j; depot = b }) (Err why)
-  ran_rowless (stop.Refused line) still (may, none_told) =
+  ran_rowless (stop.Refused line) unchanged (may, none_told) =
       let told : IfSome i.held (Rows name csv table (Err line)) =
       told_each i.held (Text name csv table (Err line)) (Rows name csv table (Err line)) (λ inputs is. fitting_none table (TextOf name csv table inputs) line is) none_told in
       let over = told_each i.held (Rows name csv table (Err line)) (λ inputs. IfSome a.held (λ files. Builds name csv inputs files (Refuses line) b.held))
@@ -327,7 +327,7 @@ module _ (name csv : List ℕ) (named : IsSegmentName name) (i j a b : Seen) (ta
       record {
         reads = tt;
         touched = record { inputs = (j, reads, refl); depot = looked_alone (file_of name ∷ []) a b place.reads place.log };
-        counted = none name csv named i j a b b (still (λ e. cc)) place.reads quiet refl refl;
+        counted = none name csv named i j a b b (unchanged (λ e. cc)) place.reads quiet refl refl;
         ended = acted name csv named i j a b (Refuses line) over (
           either_second (place_refuses line) (rows_refuse line) may,
           rows_caused name csv table i.held a.held line may place.found told,
@@ -335,17 +335,17 @@ module _ (name csv : List ℕ) (named : IsSegmentName name) (i j a b : Seen) (ta
           λ e. apart line may e,
         );
       }
-  ran_rowless (stop.Fault fault.Read) still rose = record {
+  ran_rowless (stop.Fault fault.Read) unchanged rose = record {
     reads = tt;
     touched = record { inputs = (j, reads, refl); depot = looked_alone (file_of name ∷ []) a b place.reads place.log };
     counted = place.reads.writes;
     ended = record { kept = place.reads.held; cause = (refl, inl rose) };
   }
-  ran_rowless (stop.Fault fault.Write) still by = absurd by
-  ran_rowless (stop.Fault fault.Memory) still by = record {
+  ran_rowless (stop.Fault fault.Write) unchanged by = absurd by
+  ran_rowless (stop.Fault fault.Memory) unchanged by = record {
     reads = tt;
     touched = record { inputs = (j, reads, refl); depot = looked_alone (file_of name ∷ []) a b place.reads place.log };
-    counted = none name csv named i j a b b (still (λ e. cc)) place.reads quiet refl refl;
+    counted = none name csv named i j a b b (unchanged (λ e. cc)) place.reads quiet refl refl;
     ended = record { kept = place.reads.held; cause = tt };
   }
 
@@ -363,7 +363,7 @@ module _ (name csv : List ℕ) (named : IsSegmentName name) (i j a b : Seen) (ta
 
     -- the segment was published, or not
     pub ran_published : (result : Result (List ℕ) Stop) → (result ≢ Err (stop.Fault fault.Write) → d.write_faults ≡ b.write_faults) → Publishes table name rows b d result → Whole result
-    ran_published (Ok text) still (leaves, is, trees) =
+    ran_published (Ok text) unchanged (leaves, is, trees) =
         let test : trees_fit table rows ≡ true = (fit_tested table rows).1 trees in
         let said : IfSome i.held (Rows name csv table (Ok rows)) =
         told_each i.held (Text name csv table (Ok rows)) (Rows name csv table (Ok rows)) (λ inputs read. fitting_all table (TextOf name csv table inputs) rows read test) told in
@@ -372,10 +372,10 @@ module _ (name csv : List ℕ) (named : IsSegmentName name) (i j a b : Seen) (ta
         record {
           reads = tt;
           touched = record { inputs = (j, reads, refl); depot = looked_written (file_of name ∷ []) a b d place.reads place.log writes };
-          counted = none name csv named i j a d b fine place.reads quiet read (still (λ e. cc));
+          counted = none name csv named i j a d b fine place.reads quiet read (unchanged (λ e. cc));
           ended = acted name csv named i j a d (Replies text) over (refl, tt);
         }
-    ran_published (Err (stop.Refused line)) still (is, large, kept) =
+    ran_published (Err (stop.Refused line)) unchanged (is, large, kept) =
         let may : rows_refuse line ≡ true = subst (λ l. rows_refuse l ≡ true) (sym is) refl in
         let said : IfSome i.held (Rows name csv table (Err line)) =
         told_each i.held (Text name csv table (Ok rows)) (Rows name csv table (Err line)) (λ inputs read. fitting_large table (TextOf name csv table inputs) rows read large ∙ ap Err (sym is)) told in
@@ -385,7 +385,7 @@ module _ (name csv : List ℕ) (named : IsSegmentName name) (i j a b : Seen) (ta
         record {
           reads = tt;
           touched = record { inputs = (j, reads, refl); depot = looked_written (file_of name ∷ []) a b d place.reads place.log writes };
-          counted = none name csv named i j a d b fine place.reads quiet read (still (λ e. cc));
+          counted = none name csv named i j a d b fine place.reads quiet read (unchanged (λ e. cc));
           ended = acted name csv named i j a d (Refuses line) over (
             either_second (place_refuses line) (rows_refuse line) may,
             rows_caused name csv table i.held a.held line may place.found said,
@@ -393,17 +393,17 @@ module _ (name csv : List ℕ) (named : IsSegmentName name) (i j a b : Seen) (ta
             λ e. apart line may e,
           );
         }
-    ran_published (Err (stop.Fault fault.Read)) still by = absurd by
-    ran_published (Err (stop.Fault fault.Write)) still (kept, rose) = record {
+    ran_published (Err (stop.Fault fault.Read)) unchanged by = absurd by
+    ran_published (Err (stop.Fault fault.Write)) unchanged (kept, rose) = record {
       reads = tt;
       touched = record { inputs = (j, reads, refl); depot = looked_written (file_of name ∷ []) a b d place.reads place.log writes };
-      counted = (fine, read ∙ place.reads.still quiet);
+      counted = (fine, read ∙ place.reads.unchanged quiet);
       ended = record { kept = kept ∙ place.reads.held; cause = subst (λ n. Rose n d.write_faults) place.reads.writes rose };
     }
-    ran_published (Err (stop.Fault fault.Memory)) still kept = record {
+    ran_published (Err (stop.Fault fault.Memory)) unchanged kept = record {
       reads = tt;
       touched = record { inputs = (j, reads, refl); depot = looked_written (file_of name ∷ []) a b d place.reads place.log writes };
-      counted = none name csv named i j a d b fine place.reads quiet read (still (λ e. cc));
+      counted = none name csv named i j a d b fine place.reads quiet read (unchanged (λ e. cc));
       ended = record { kept = kept ∙ place.reads.held; cause = tt };
     }
 

@@ -155,12 +155,12 @@ module _ (schema settings : List ℕ) (inputs inputs_new depot : Seen) (reads : 
   -- the files were not read, or refused
   pub ran_stopped : (why : Stop) → Lacks depot.held table_name → StopsBy (option_map (new_table schema settings) inputs.held) (Rose inputs.read_faults inputs_new.read_faults) why → (why ≢ stop.Fault fault.Read → inputs_new.read_faults ≡ inputs.read_faults)
       → ((wrong : KeyKind) (path : List ℕ) → why ≡ stop.Refused (note.BadSchema wrong path) → ReadsFront schema text_limit inputs inputs_new) → Of schema settings inputs inputs_new depot depot (Err why)
-  ran_stopped (stop.Refused line) lacks by still alone =
+  ran_stopped (stop.Refused line) lacks by unchanged alone =
       let told = told_out inputs.held schema settings line by.1 in
       record {
         reads = tt;
         touched = record { inputs = reads; depot = unwritten depot };
-        counted = record { inputs = still (λ e. cc); depot_reads = refl; depot_writes = refl };
+        counted = record { inputs = unchanged (λ e. cc); depot_reads = refl; depot_writes = refl };
         ended = acted (Err line) (Refuses line) depot (record { there = false; known = lacks; answers = refl; leaves = refl }) told (
           allowed_line line by.0,
           caused_line schema settings inputs.held depot.held line by.0 told,
@@ -168,9 +168,9 @@ module _ (schema settings : List ℕ) (inputs inputs_new depot : Seen) (reads : 
           looked_line schema settings (record { inputs = inputs; depot = depot }) (record { inputs = inputs_new; depot = depot }) line by.0 (λ wrong path is. alone wrong path (ap stop.Refused is)),
         );
       }
-  ran_stopped (stop.Fault fault.Read) lacks by still alone = record { reads = tt; touched = record { inputs = reads; depot = unwritten depot }; counted = refl; ended = record { kept = refl; cause = (refl, inl by) } }
-  ran_stopped (stop.Fault fault.Write) lacks by still alone = absurd by
-  ran_stopped (stop.Fault fault.Memory) lacks by still alone = record { reads = tt; touched = record { inputs = reads; depot = unwritten depot }; counted = record { inputs = still (λ e. cc); depot_reads = refl; depot_writes = refl }; ended = record { kept = refl; cause = tt } }
+  ran_stopped (stop.Fault fault.Read) lacks by unchanged alone = record { reads = tt; touched = record { inputs = reads; depot = unwritten depot }; counted = refl; ended = record { kept = refl; cause = (refl, inl by) } }
+  ran_stopped (stop.Fault fault.Write) lacks by unchanged alone = absurd by
+  ran_stopped (stop.Fault fault.Memory) lacks by unchanged alone = record { reads = tt; touched = record { inputs = reads; depot = unwritten depot }; counted = record { inputs = unchanged (λ e. cc); depot_reads = refl; depot_writes = refl }; ended = record { kept = refl; cause = tt } }
 
   -- the table was made, or not
   pub ran_made : (texts : state.Texts) (table : Table) (depot_new : Seen) (result : Result (List ℕ) Stop) → NewTable (Ok (texts, table)) → WritesThese NoFile (table_name ∷ []) depot depot_new
@@ -200,7 +200,7 @@ earlier a b c le (inr end) = inr end
 
 -- ---- the store was looked at first
 
-module _ (schema settings : List ℕ) (inputs inputs_new depot looked depot_new : Seen) (looks : OnlyLooks NoFile depot looked) (still : looked.read_faults ≡ depot.read_faults) where
+module _ (schema settings : List ℕ) (inputs inputs_new depot looked depot_new : Seen) (looks : OnlyLooks NoFile depot looked) (unchanged : looked.read_faults ≡ depot.read_faults) where
   abbrev Before : Seen → Devices
   Before d = record { inputs = inputs; depot = d }
 
@@ -247,13 +247,13 @@ module _ (schema settings : List ℕ) (inputs inputs_new depot looked depot_new 
   moved_ended (Err (stop.Fault why)) failed = record { kept = failed.kept ∙ looks.held; cause = moved_cause why failed.cause }
 
   moved_none : NoFaults (Before looked) Now → NoFaults (Before depot) Now
-  moved_none none = record { inputs = none.inputs; depot_reads = none.depot_reads ∙ still; depot_writes = none.depot_writes ∙ looks.writes }
+  moved_none none = record { inputs = none.inputs; depot_reads = none.depot_reads ∙ unchanged; depot_writes = none.depot_writes ∙ looks.writes }
 
   moved_counts : (result : Result (List ℕ) Stop) → Counts result (Before looked) Now → Counts result (Before depot) Now
   moved_counts (Ok text) none = moved_none none
   moved_counts (Err (stop.Refused line)) none = moved_none none
   moved_counts (Err (stop.Fault fault.Read)) same = same ∙ looks.writes
-  moved_counts (Err (stop.Fault fault.Write)) same = (same.0, same.1 ∙ still)
+  moved_counts (Err (stop.Fault fault.Write)) same = (same.0, same.1 ∙ unchanged)
   moved_counts (Err (stop.Fault fault.Memory)) none = moved_none none
 
   pub ran_looked : (result : Result (List ℕ) Stop) → Of schema settings inputs inputs_new looked depot_new result → Of schema settings inputs inputs_new depot depot_new result
@@ -326,20 +326,20 @@ ran_unread schema settings inputs depot looked looks rose = record {
 }
 
 pub ran_no_memory : (schema settings : List ℕ) (inputs depot looked : Seen) → OnlyLooks NoFile depot looked → looked.read_faults ≡ depot.read_faults → Of schema settings inputs inputs depot looked (Err (stop.Fault fault.Memory))
-ran_no_memory schema settings inputs depot looked looks still = record {
+ran_no_memory schema settings inputs depot looked looks unchanged = record {
   reads = tt;
   touched = record { inputs = no_files schema settings inputs; depot = looked_at depot looked looks };
-  counted = record { inputs = refl; depot_reads = still; depot_writes = looks.writes };
+  counted = record { inputs = refl; depot_reads = unchanged; depot_writes = looks.writes };
   ended = record { kept = looks.held; cause = tt };
 }
 
 -- a look that stopped
 pub ran_no_look : (schema settings : List ℕ) (inputs depot looked : Seen) (why : Stop) → OnlyLooks NoFile depot looked → StopsLook (Rose depot.read_faults looked.read_faults) why → (why ≢ stop.Fault fault.Read → looked.read_faults ≡ depot.read_faults)
     → Of schema settings inputs inputs depot looked (Err why)
-ran_no_look schema settings inputs depot looked (stop.Refused line) looks by still = absurd by
-ran_no_look schema settings inputs depot looked (stop.Fault fault.Read) looks by still = ran_unread schema settings inputs depot looked looks by
-ran_no_look schema settings inputs depot looked (stop.Fault fault.Write) looks by still = absurd by
-ran_no_look schema settings inputs depot looked (stop.Fault fault.Memory) looks by still = ran_no_memory schema settings inputs depot looked looks (still (λ e. cc))
+ran_no_look schema settings inputs depot looked (stop.Refused line) looks by unchanged = absurd by
+ran_no_look schema settings inputs depot looked (stop.Fault fault.Read) looks by unchanged = ran_unread schema settings inputs depot looked looks by
+ran_no_look schema settings inputs depot looked (stop.Fault fault.Write) looks by unchanged = absurd by
+ran_no_look schema settings inputs depot looked (stop.Fault fault.Memory) looks by unchanged = ran_no_memory schema settings inputs depot looked looks (unchanged (λ e. cc))
 
 same_name : (x y : List ℕ) → name_order x y ≡ Equal → x ≡ y
 same_name = map.slice_cmp-IsAntisymmetric map.nat_cmp-IsAntisymmetric

@@ -182,7 +182,7 @@ module _ (stored : Files) (texts : state.Texts) (segments : Segments) (stands : 
   names_all names (all, are, first) =
       let keys : all ≡ map.keys segments = names_stand stored texts segments all stands are in
       let count : length (map.keys segments) ≡ map.len segments = length-map (map.entries segments) (λ e. e.0) ∙ sym (map.len-entries segments) in
-      first ∙ ap (take 512) keys ∙ take_all 512 (map.keys segments) (omega (arith, count, stands.valid.few))
+      first ∙ ap (take 512) keys ∙ take_all 512 (map.keys segments) (omega (arith, count, stands.valid.at_most))
 
   count_right : (table : Table) (name : List ℕ) (rows : ℕ) → HasTableFile stored table → has_segment stored name ≡ true → HasRows table stored name rows → rows ≡ count_in (map.get segments name)
   count_right table name rows is there has =
@@ -195,7 +195,7 @@ module _ (stored : Files) (texts : state.Texts) (segments : Segments) (stands : 
   key_named key (Some segment) got e =
       let n = stands.valid.named key segment got in
       let file : map.get stored (file_of key) ≡ Some (segment_file stands.table key segment) = segment_there stored texts segments stands key ∙ ap (option_map (segment_file stands.table key)) got in
-      (λ i. (n.some i && n.few i && n.each i) && is_some (file i))
+      (λ i. (n.some i && n.at_most i && n.each i) && is_some (file i))
 
   pub key_there : (k : ℕ) → k < length (map.keys segments) → has_segment stored (get_or (map.keys segments) k []) ≡ true
   key_there k lt =

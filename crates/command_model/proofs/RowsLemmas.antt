@@ -90,13 +90,13 @@ of_missing None fields file lacks = tt
 of_missing (Some files) fields file lacks = ap (csv_rows fields file) lacks ∙ not_there fields file
 
 of_long : (held : Option Files) (fields : List Field) (file : List ℕ) → IsTooLong held file 134217728 → IfSome held (AreOf fields file (Err (note.TooLarge counted.CsvBytes csv_limit)))
-of_long None fields file long = tt
+of_long None fields file lengths = tt
 of_long (Some files) fields file (told, got, lt) = ap (csv_rows fields file) got ∙ past_limit fields file told lt
 
 -- the file was not read
 pub rows_unread : (held : Option Files) (fields : List Field) (file : List ℕ) (F : Type 0) (why : Stop) → StopsRead file counted.CsvBytes csv_limit held F why → StopsRows fields file held F why
 rows_unread held fields file F (stop.Refused line) (inl (is, lacks)) = subst (λ l. StopsRows fields file held F (stop.Refused l)) (sym is) (refl, of_missing held fields file lacks)
-rows_unread held fields file F (stop.Refused line) (inr (is, long)) = subst (λ l. StopsRows fields file held F (stop.Refused l)) (sym is) (refl, of_long held fields file long)
+rows_unread held fields file F (stop.Refused line) (inr (is, lengths)) = subst (λ l. StopsRows fields file held F (stop.Refused l)) (sym is) (refl, of_long held fields file lengths)
 rows_unread held fields file F (stop.Fault fault.Read) by = by
 rows_unread held fields file F (stop.Fault fault.Write) by = by
 rows_unread held fields file F (stop.Fault fault.Memory) by = by

@@ -58,12 +58,12 @@ missing_json None file lacks = tt
 missing_json (Some files) file lacks = ap (json_bytes file) lacks
 
 long_json : (held : Option Files) (file : List ℕ) → IsTooLong held file 1048576 → IfSome (option_map (json_in file) held) (λ r. r ≡ Err (TooLarge JsonBytes text_limit))
-long_json None file long = tt
+long_json None file lengths = tt
 long_json (Some files) file (told, got, lt) = ap (json_bytes file) got ∙ past file told lt
 
 json_stop : (file : List ℕ) (held : Option Files) (F : Type 0) (why : Stop) → StopsRead file JsonBytes 1048576 held F why → StopsBy (option_map (json_in file) held) F why
 json_stop file held F (Refused line) (inl (is, lacks)) = subst (λ l. StopsBy (option_map (json_in file) held) F (Refused l)) (sym is) (refl, missing_json held file lacks)
-json_stop file held F (Refused line) (inr (is, long)) = subst (λ l. StopsBy (option_map (json_in file) held) F (Refused l)) (sym is) (refl, long_json held file long)
+json_stop file held F (Refused line) (inr (is, lengths)) = subst (λ l. StopsBy (option_map (json_in file) held) F (Refused l)) (sym is) (refl, long_json held file lengths)
 json_stop file held F (Fault Read) by = by
 json_stop file held F (Fault Write) by = by
 json_stop file held F (Fault Memory) by = by

@@ -51,18 +51,18 @@ told_both (Some files) P Q R f h k = f files h k
 -- ---- what is read
 
 pub reads_as : {F G : Type 0} (a b : Seen) → OnlyReads F a b → (G → F) → (F → G) → OnlyReads G a b
-reads_as a b o from to = record { held = o.held; parts = o.parts; writes = o.writes; later = o.later; rose = λ g. o.rose (from g); still = λ none. o.still (λ f. none (to f)) }
+reads_as a b o from to = record { held = o.held; parts = o.parts; writes = o.writes; later = o.later; rose = λ g. o.rose (from g); unchanged = λ none. o.unchanged (λ f. none (to f)) }
 
 pub reads_then : {G : Type 0} (a b c : Seen) → OnlyReads ⊥ a b → OnlyReads G b c → OnlyReads G a c
 reads_then a b c m n =
-    let same : b.read_faults ≡ a.read_faults = m.still (λ e. e) in
+    let same : b.read_faults ≡ a.read_faults = m.unchanged (λ e. e) in
     record {
       held = n.held ∙ m.held;
       parts = n.parts ∙ m.parts;
       writes = n.writes ∙ m.writes;
       later = omega (arith, m.later, n.later);
       rose = λ g. subst (λ k. Rose k c.read_faults) same (n.rose g);
-      still = λ none. n.still none ∙ same;
+      unchanged = λ none. n.unchanged none ∙ same;
     }
 
 of_file : (file : List ℕ) (from to : ℕ) (entries : List Entry) → Consecutive file from to entries → All (λ entry. entry.file ≡ file) entries

@@ -28,7 +28,7 @@ pub fn read_input<I: Shelf>(
         (Rose (I.read_faults inputs.old) (I.read_faults inputs.new))) }
     ensures no_schema { (wrong : KeyKind) (path : List ℕ) →
         ¬ IsErrOf result (Stop.Refused (Note.BadSchema wrong path)) }
-    ensures still { ¬ IsErrOf result (Stop.Fault Fault.Read) →
+    ensures unchanged { ¬ IsErrOf result (Stop.Fault Fault.Read) →
         I.read_faults inputs.new ≡ I.read_faults inputs.old }
     ensures reads { ReadsFront file.now limit (seen I.Shelf inputs.old) (seen I.Shelf inputs.new) }
 {

@@ -38,7 +38,7 @@ fn read_json<I: Shelf>(alloc: Global, file: &str, inputs: &mut I) -> Result<Byte
         ¬ IsErrOf result (Stop.Refused (Note.BadSchema wrong path)) }
     ensures stops { IfErr result (StopsBy (option_map (json_in file.now) (I.held inputs.old))
         (Rose (I.read_faults inputs.old) (I.read_faults inputs.new))) }
-    ensures still { ¬ IsErrOf result (Stop.Fault Fault.Read) →
+    ensures unchanged { ¬ IsErrOf result (Stop.Fault Fault.Read) →
         I.read_faults inputs.new ≡ I.read_faults inputs.old }
     ensures reads { ReadsFront file.now text_limit
         (seen I.Shelf inputs.old) (seen I.Shelf inputs.new) }
@@ -90,7 +90,7 @@ fn read_schema_file<I: Shelf>(
     ensures valid { IfOk result (λ r. IsValidSchema r.1) }
     ensures stops { IfErr result (StopsBy (option_map (schema_in file.now) (I.held inputs.old))
         (Rose (I.read_faults inputs.old) (I.read_faults inputs.new))) }
-    ensures still { ¬ IsErrOf result (Stop.Fault Fault.Read) →
+    ensures unchanged { ¬ IsErrOf result (Stop.Fault Fault.Read) →
         I.read_faults inputs.new ≡ I.read_faults inputs.old }
     ensures reads { ReadsFront file.now text_limit
         (seen I.Shelf inputs.old) (seen I.Shelf inputs.new) }
@@ -116,7 +116,7 @@ fn read_settings_file<I: Shelf>(
     ensures stops { IfErr result
         (StopsBy (option_map (settings_in schema.now file.now) (I.held inputs.old))
         (Rose (I.read_faults inputs.old) (I.read_faults inputs.new))) }
-    ensures still { ¬ IsErrOf result (Stop.Fault Fault.Read) →
+    ensures unchanged { ¬ IsErrOf result (Stop.Fault Fault.Read) →
         I.read_faults inputs.new ≡ I.read_faults inputs.old }
     ensures reads { ReadsFront file.now text_limit
         (seen I.Shelf inputs.old) (seen I.Shelf inputs.new) }
@@ -141,7 +141,7 @@ pub fn read_table<I: Shelf>(
     ensures stops { IfErr result
         (StopsBy (option_map (new_table schema.now settings.now) (I.held inputs.old))
         (Rose (I.read_faults inputs.old) (I.read_faults inputs.new))) }
-    ensures still { ¬ IsErrOf result (Stop.Fault Fault.Read) →
+    ensures unchanged { ¬ IsErrOf result (Stop.Fault Fault.Read) →
         I.read_faults inputs.new ≡ I.read_faults inputs.old }
     ensures schema_alone { (wrong : KeyKind) (path : List ℕ) →
         IsErrOf result (Stop.Refused (Note.BadSchema wrong path)) →

@@ -42,7 +42,7 @@ pub fn read_rows<I: Shelf>(
         All (λ row. All dictionary.IsUnicode row) (rows_of columns)) }
     ensures stops { IfErr result (StopsRows table.now.schema.fields csv.now (I.held inputs.old)
         (Rose (I.read_faults inputs.old) (I.read_faults inputs.new))) }
-    ensures still { ¬ IsErrOf result (Stop.Fault Fault.Read) →
+    ensures unchanged { ¬ IsErrOf result (Stop.Fault Fault.Read) →
         I.read_faults inputs.new ≡ I.read_faults inputs.old }
     ensures reads { ReadsFront csv.now csv_limit
         (seen I.Shelf inputs.old) (seen I.Shelf inputs.new) }

@@ -34,7 +34,7 @@ pub fn stored_names<D: Depot>(alloc: Global, depot: &mut D) -> Result<Seq<Name>,
     ensures looks { LooksFor AreFirstNames TableRefuses TableFile
         (seen D.Shelf depot.old) (seen D.Shelf depot.new) result }
     ensures named { IfOk result (λ names. All IsSegmentName names) }
-    ensures few { IfOk result (λ names. length names ≤ 512) }
+    ensures at_most { IfOk result (λ names. length names ≤ 512) }
 {
     match segment_names(alloc, depot) {
         Ok(names) => Ok(names),

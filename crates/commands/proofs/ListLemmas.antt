@@ -83,7 +83,7 @@ module _ (inputs old new : Seen) where
   looked reads log = record { held = reads.held; parts = reads.parts; writes = reads.writes; later = reads.later; log = log }
 
   pub none : {F : Type 0} → OnlyReads F old new → ¬ F → NoFaults Old New
-  none reads fine = record { inputs = refl; depot_reads = reads.still fine; depot_writes = reads.writes }
+  none reads fine = record { inputs = refl; depot_reads = reads.unchanged fine; depot_writes = reads.writes }
 
   acted : (answer : Answer) → new.held ≡ old.held → IfSome old.held (λ files. Lists files answer) → IsAllowed (Some Listing) Old New answer → Acted (Some Listing) Old New answer
   acted answer kept lists allowed =

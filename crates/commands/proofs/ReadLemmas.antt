@@ -61,13 +61,13 @@ one_first files a b (x, are_x, is_x) (y, are_y, is_y) =
 first_apart : (files : Files) (names : List (List ℕ)) → AreFirstNames files names → AreApart names
 first_apart files names (all, are, is) = λ i k less lt same.
     let count : length names ≡ length (take most_segments all) = ap length is in
-    let few = length-take most_segments all in
-    let at_i : get_or names i [] ≡ get_or all i [] = ap (λ ns. get_or ns i []) is ∙ get_or-take most_segments all i [] (omega (arith, count, few)) in
-    let at_k : get_or names k [] ≡ get_or all k [] = ap (λ ns. get_or ns k []) is ∙ get_or-take most_segments all k [] (omega (arith, count, few)) in
+    let at_most = length-take most_segments all in
+    let at_i : get_or names i [] ≡ get_or all i [] = ap (λ ns. get_or ns i []) is ∙ get_or-take most_segments all i [] (omega (arith, count, at_most)) in
+    let at_k : get_or names k [] ≡ get_or all k [] = ap (λ ns. get_or ns k []) is ∙ get_or-take most_segments all k [] (omega (arith, count, at_most)) in
     let names_same : get_or all i [] ≡ get_or all k [] = sym at_i ∙ same ∙ at_k in
     let test : eq_by_cmp name_order (get_or all i []) (get_or all k []) ≡ true =
     ap (eq_by_cmp name_order (get_or all i [])) (sym names_same) ∙ (eq_by_cmp_equiv nat_list_cmp_total).refl (get_or all i []) in
-    false≢true (sym (apart_from_distinct (eq_by_cmp name_order) all i k [] (IsDistinct-from_sorted name_order all are.ascend) less (omega (arith, count, few))) ∙ test)
+    false≢true (sym (apart_from_distinct (eq_by_cmp name_order) all i k [] (IsDistinct-from_sorted name_order all are.ascend) less (omega (arith, count, at_most))) ∙ test)
 
 -- the table's file is no segment's
 pub not_table : (name : List ℕ) → file_of name ≢ table_name

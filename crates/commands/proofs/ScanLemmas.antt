@@ -60,7 +60,7 @@ of_missing None file sql lacks = tt
 of_missing (Some files) file sql lacks = not_there file sql ∙ ap (scan_answer file sql) (sym lacks)
 
 of_long : (held : Option Files) (file sql : List ℕ) → IsTooLong held file 134217728 → IfSome held (IsOf file sql (Refuses (note.TooLarge counted.CsvBytes csv_limit)))
-of_long None file sql long = tt
+of_long None file sql lengths = tt
 of_long (Some files) file sql (told, got, lt) = past_limit file sql told lt ∙ ap (scan_answer file sql) (sym got)
 
 -- ---- which refusals the bytes of the file and of the query have
@@ -128,39 +128,39 @@ module _ (file sql : List ℕ) (inputs inputs_new depot : Seen) (reads : ReadsFr
   ran result counted ended = record { reads = tt; touched = record { inputs = (inputs_new, reads, refl); depot = refl }; counted = counted; ended = ended }
 
   none : inputs_new.read_faults ≡ inputs.read_faults → NoFaults Old New
-  none still = record { inputs = still; depot_reads = refl; depot_writes = refl }
+  none unchanged = record { inputs = unchanged; depot_reads = refl; depot_writes = refl }
 
   ran_missing : inputs_new.read_faults ≡ inputs.read_faults → Lacks inputs.held file → Of (Err (stop.Refused (note.NoInput file)))
-  ran_missing still lacks = ran _ (none still) (acted (Refuses (note.NoInput file)) (of_missing inputs.held file sql lacks) (refl, lacks, refl, tt))
+  ran_missing unchanged lacks = ran _ (none unchanged) (acted (Refuses (note.NoInput file)) (of_missing inputs.held file sql lacks) (refl, lacks, refl, tt))
 
   ran_long : inputs_new.read_faults ≡ inputs.read_faults → IsTooLong inputs.held file 134217728 → Of (Err (stop.Refused (note.TooLarge counted.CsvBytes csv_limit)))
-  ran_long still long =
-      let told = of_long inputs.held file sql long in
-      ran _ (none still) (acted (Refuses (note.TooLarge counted.CsvBytes csv_limit)) told (refl, few_caused file sql inputs.held depot.held (note.TooLarge counted.CsvBytes csv_limit) refl told, refl, tt))
+  ran_long unchanged lengths =
+      let told = of_long inputs.held file sql lengths in
+      ran _ (none unchanged) (acted (Refuses (note.TooLarge counted.CsvBytes csv_limit)) told (refl, few_caused file sql inputs.held depot.held (note.TooLarge counted.CsvBytes csv_limit) refl told, refl, tt))
 
   -- the file was not read
   pub ran_unread : (why : Stop) → StopsRead file counted.CsvBytes csv_limit inputs.held (Rose inputs.read_faults inputs_new.read_faults) why → (why ≢ stop.Fault fault.Read → inputs_new.read_faults ≡ inputs.read_faults) → Of (Err why)
-  ran_unread (stop.Refused line) (inl (is, lacks)) still = subst (λ l. Of (Err (stop.Refused l))) (sym is) (ran_missing (still (λ e. cc)) lacks)
-  ran_unread (stop.Refused line) (inr (is, long)) still = subst (λ l. Of (Err (stop.Refused l))) (sym is) (ran_long (still (λ e. cc)) long)
-  ran_unread (stop.Fault fault.Read) rose still = ran (Err (stop.Fault fault.Read)) refl (record { kept = refl; cause = (refl, inl rose) })
-  ran_unread (stop.Fault fault.Write) by still = absurd by
-  ran_unread (stop.Fault fault.Memory) by still = ran (Err (stop.Fault fault.Memory)) (none (still (λ e. cc))) (record { kept = refl; cause = tt })
+  ran_unread (stop.Refused line) (inl (is, lacks)) unchanged = subst (λ l. Of (Err (stop.Refused l))) (sym is) (ran_missing (unchanged (λ e. cc)) lacks)
+  ran_unread (stop.Refused line) (inr (is, lengths)) unchanged = subst (λ l. Of (Err (stop.Refused l))) (sym is) (ran_long (unchanged (λ e. cc)) lengths)
+  ran_unread (stop.Fault fault.Read) rose unchanged = ran (Err (stop.Fault fault.Read)) refl (record { kept = refl; cause = (refl, inl rose) })
+  ran_unread (stop.Fault fault.Write) by unchanged = absurd by
+  ran_unread (stop.Fault fault.Memory) by unchanged = ran (Err (stop.Fault fault.Memory)) (none (unchanged (λ e. cc))) (record { kept = refl; cause = tt })
 
   -- the file was read, and the query over it has this reply
   pub ran_replied : (bytes text : List ℕ) → inputs_new.read_faults ≡ inputs.read_faults → IsWhole inputs.held file 134217728 bytes → text_reply sql bytes ≡ Ok text → Of (Ok text)
-  ran_replied bytes text still whole is =
-      ran _ (none still) (acted (Replies text) (subst (λ r. IfSome inputs.held (IsOf file sql (answered r))) is (of_whole inputs.held file sql bytes whole)) (refl, tt))
+  ran_replied bytes text unchanged whole is =
+      ran _ (none unchanged) (acted (Replies text) (subst (λ r. IfSome inputs.held (IsOf file sql (answered r))) is (of_whole inputs.held file sql bytes whole)) (refl, tt))
 
   ran_refused : (bytes : List ℕ) (wrong : ScanFault) → inputs_new.read_faults ≡ inputs.read_faults → IsWhole inputs.held file 134217728 bytes → text_reply sql bytes ≡ Err wrong → Of (Err (stop.Refused (scan_note wrong)))
-  ran_refused bytes wrong still whole is =
+  ran_refused bytes wrong unchanged whole is =
       let line = scan_note wrong in
       let told = subst (λ r. IfSome inputs.held (IsOf file sql (answered r))) is (of_whole inputs.held file sql bytes whole) in
-      ran _ (none still) (acted (Refuses line) told (few_line line (few_note wrong), few_caused file sql inputs.held depot.held line (few_note wrong) told, refl, tt))
+      ran _ (none unchanged) (acted (Refuses line) told (few_line line (few_note wrong), few_caused file sql inputs.held depot.held line (few_note wrong) told, refl, tt))
 
   -- and it has none
   pub ran_stopped : (bytes : List ℕ) (wrong : ScanFault) → inputs_new.read_faults ≡ inputs.read_faults → IsWhole inputs.held file 134217728 bytes → RepliesTo (text_reply sql bytes) (Err wrong) → Of (Err (stop_of wrong))
-  ran_stopped bytes scan.NoMemory still whole is = ran (Err (stop.Fault fault.Memory)) (none still) (record { kept = refl; cause = tt })
-  ran_stopped bytes wrong still whole is = ran_refused bytes wrong still whole (is (λ e. cc))
+  ran_stopped bytes scan.NoMemory unchanged whole is = ran (Err (stop.Fault fault.Memory)) (none unchanged) (record { kept = refl; cause = tt })
+  ran_stopped bytes wrong unchanged whole is = ran_refused bytes wrong unchanged whole (is (λ e. cc))
 
   -- a stop on the way is the one of the whole
   pub ran_halted : (result : Result (List ℕ) Stop) (why : Stop) → IsErrAnd result (λ s. s ≡ why) → Of (Err why) → Of result

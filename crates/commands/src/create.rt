@@ -81,7 +81,7 @@ fn finds_table<D: Depot>(alloc: Global, depot: &mut D) -> Result<bool, Stop>
     ensures no { result ≡ Ok false → Lacks (D.held depot.old) table_name }
     ensures stops { IfErr result (StopsLook
         (Rose (D.read_faults depot.old) (D.read_faults depot.new))) }
-    ensures still { ¬ IsErrOf result (Stop.Fault Fault.Read) →
+    ensures unchanged { ¬ IsErrOf result (Stop.Fault Fault.Read) →
         D.read_faults depot.new ≡ D.read_faults depot.old }
     ensures looks { OnlyLooks NoFile (seen D.Shelf depot.old) (seen D.Shelf depot.new) }
 {

@@ -73,7 +73,7 @@ none_left n reader rest e = ap (λ k. records_left k reader rest) e
 pub whole-block : (fields : List Field) (header : List (List ℕ)) (most : ℕ) (old new : TextReader) (rest : List ℕ) (columns : ListedColumns) (last : Bool)
     → MatchBool last (IsLastBlock fields header 0 most old rest columns) (IsFullBlock fields header 0 most old new rest columns)
     → rows_of csv_limits fields header (records_left most old rest) ≡ Ok (rows_of_columns columns)
-whole-block fields header most old new rest columns true b = b.all most b.few
+whole-block fields header most old new rest columns true b = b.all most b.at_most
 whole-block fields header most old new rest columns false b =
     let all : 0 + columns.count ≡ most = omega (arith, b.full) in
     ap (λ k. rows_from 0 fields header (records_left k old rest)) (sym all)
@@ -108,8 +108,8 @@ fault-under fields fields' header header' before room old result f h b =
 pub next-last : (fields : List Field) (header : List (List ℕ)) (before room left : ℕ) (old : TextReader) (rest : List ℕ) (columns : ListedColumns) (whole : RowsOrFault) → room ≤ left
     → IsLastBlock fields header before room old rest columns → whole ≡ rows_from before fields header (records_left left old rest) → whole ≡ after (rows_of_columns columns) (Ok [])
 next-last fields header before room left old rest columns whole le b is =
-    let few : columns.count < left = omega (arith, b.few, le) in
-    is ∙ b.all left few ∙ sym (after-all (rows_of_columns columns))
+    let at_most : columns.count < left = omega (arith, b.at_most, le) in
+    is ∙ b.all left at_most ∙ sym (after-all (rows_of_columns columns))
 
 -- more rows
 pub next-full : (fields : List Field) (header : List (List ℕ)) (before room left : ℕ) (old new : TextReader) (rest : List ℕ) (columns : ListedColumns) (whole : RowsOrFault) → room ≤ left

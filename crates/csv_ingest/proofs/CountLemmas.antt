@@ -25,16 +25,16 @@ one_count : (b : Bool) (a : Action) (s : State) (fields : List (List ℕ)) (fiel
     → length p.0 ≤ length fields + suc (length rest) + 1
 one_count true a s fields field rest p more e so =
     let same : (fields_after a fields field, s, rest) ≡ p = cc in
-    let few = after_count a fields field in
-    subst (λ (q : Read). length q.0 ≤ length fields + suc (length rest) + 1) same (omega (arith, few))
+    let at_most = after_count a fields field in
+    subst (λ (q : Read). length q.0 ≤ length fields + suc (length rest) + 1) same (omega (arith, at_most))
 one_count false a s fields field rest p more e so =
-    let few = after_count a fields field in
+    let at_most = after_count a fields field in
     let left = so e in
-    omega (arith, few, left)
+    omega (arith, at_most, left)
 
 count : (s : State) (fields : List (List ℕ)) (field : List ℕ) (text : List ℕ) (p : Read) → next_record default_config s fields field text ≡ Some p → length p.0 ≤ length fields + length text + 1
 unfolding next_record
-count s fields field [] p e = let few = last_count (ends_at_end s) fields field p e in omega (arith, few)
+count s fields field [] p e = let at_most = last_count (ends_at_end s) fields field p e in omega (arith, at_most)
 count s fields field (c ∷ rest) p e =
     one_count (is_end (step default_config s c).1) (step default_config s c).1 (step default_config s c).0 fields field rest p
     (next_record default_config (step default_config s c).0 (fields_after (step default_config s c).1 fields field) (field_after (step default_config s c).1 c field) rest) e
@@ -50,4 +50,4 @@ first_count rest fields more next (Some p) so e =
 pub cells-count : (reader : TextReader) (rest : List ℕ) (fields : List (List ℕ)) (more : List (List (List ℕ))) → records_left 1 reader rest ≡ fields ∷ more → length fields ≤ length rest + 1
 unfolding records_from
 cells-count reader rest fields more e =
-    first_count rest fields more (records_from default_config 0) (next_record default_config (reader_state reader) [] [] rest) (λ p so. let few = count (reader_state reader) [] [] rest p so in omega (arith, few)) e
+    first_count rest fields more (records_from default_config 0) (next_record default_config (reader_state reader) [] [] rest) (λ p so. let at_most = count (reader_state reader) [] [] rest p so in omega (arith, at_most)) e

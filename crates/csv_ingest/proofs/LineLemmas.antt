@@ -9,7 +9,7 @@ use Rattle.csv.specs.Machine.{next_record}
 use Rattle.csv.specs.Reading.{default_config}
 use Rattle.csv.specs.declared.parser.State.{State}
 use Rattle.csv.specs.declared.parser.State.TheVariants as st
-use Rattle.data_types.proofs.Digits.{few}
+use Rattle.data_types.proofs.Digits.{at_most}
 use Rattle.data_types.specs.Numbers.{is_digit, negative, place_value, ranged, spelled_number, unsigned_number, whole_of}
 use Rattle.data_types.specs.declared.kind.FieldKind.TheVariants.{Long}
 use Rattle.csv_ingest.specs.Lines.{EndsCell, IsCell, IsStart, SpellsAt}
@@ -60,7 +60,7 @@ one-spelled text number i d lt got one s =
 
 -- the number so far leaves room for a digit
 pub room-left : (text : List ℕ) (number i : ℕ) → i ≤ 18 → Spelled text number i → number < 10 ^ 18
-room-left text number i le s = few 18 i number le s.small
+room-left text number i le s = at_most 18 i number le s.small
 
 pub spells-at : (text : List ℕ) (number i : ℕ) → i ≤ 18 → i < length text → Spelled text number i → SpellsAt text number i
 spells-at text number i le lt s = record { within = lt; digits = s.digits; value = s.value; small = room-left text number i le s }

@@ -171,7 +171,7 @@ module _ (layout : Layout) (is : IsLayout layout) (straight : IsStraight layout)
   -- the row of a line
   pub line-row : (text : List ℕ) (numbers : List ℤ) (len row : ℕ) (line : IsLine text numbers len) → length numbers ≡ length fields → row ≤ layout.most
       → row_at csv_limits fields (header_of layout) (row, line.cells) ≡ Ok (map Whole numbers)
-  line-row text numbers len row line width few =
+  line-row text numbers len row line width at_most =
       let count : length line.cells ≡ length numbers = sym (length-map line.cells cell_number) ∙ ap length line.spell ∙ length-map numbers Ok in
       let names : length (header_of layout) ≡ length layout.names.now = length-map layout.names.now (λ f. f.now) in
       let much : nat_lt (most_rows (length fields)) row ≡ false = let most = is.most in grind (arith, nat_tests) in

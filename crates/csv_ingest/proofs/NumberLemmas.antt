@@ -193,15 +193,15 @@ abbrev IsFew : Schema × List (List Value) → Type 0
 IsFew table = length table.0.fields ≤ 64
 
 schema_few : (fields : List Field) (rows : Result (List (List Value)) CsvFault) (table : Schema × List (List Value)) → with_schema fields rows ≡ Ok table → length fields ≤ 64 → IsFew table
-schema_few fields (Err fault) table is few = absurd cc
-schema_few fields (Ok rows) table is few =
+schema_few fields (Err fault) table is at_most = absurd cc
+schema_few fields (Ok rows) table is at_most =
     let same : (record { fields = fields }, rows) ≡ table = cc in
-    subst IsFew same few
+    subst IsFew same at_most
 
 under_few : (header : List (List ℕ)) (records : List (List (List ℕ))) (names : Result (List Field) CsvFault) (table : Schema × List (List Value))
     → ((fields : List Field) → names ≡ Ok fields → length fields ≤ 64) → under names (λ fields. with_schema fields (rows_of csv_limits fields header records)) ≡ Ok table → IsFew table
-under_few header records (Err fault) table few is = absurd cc
-under_few header records (Ok fields) table few is = schema_few fields (rows_of csv_limits fields header records) table is (few fields refl)
+under_few header records (Err fault) table at_most is = absurd cc
+under_few header records (Ok fields) table at_most is = schema_few fields (rows_of csv_limits fields header records) table is (at_most fields refl)
 
 columns_few : (many : Bool) (header : List (List ℕ)) (records : List (List (List ℕ))) (table : Schema × List (List Value)) → nat_lt 64 (length header) ≡ many
     → (if many then Err TooManyColumns else under (header_of number_name header) (λ fields. with_schema fields (rows_of csv_limits fields header records))) ≡ Ok table → IsFew table

@@ -62,4 +62,4 @@ pub header-read : (old new : TextReader) (rest left : List ℕ) (header : Number
 header-read old new rest left header names is same next n =
     ap (number_rows_in csv_limits) (next n)
     ∙ ap (λ row. number_rows_in csv_limits (row ∷ records_left n new left)) (sym same)
-    ∙ below-header (fields_of header.names) (records_left n new left) header.fields is.few is.fields
+    ∙ below-header (fields_of header.names) (records_left n new left) header.fields is.at_most is.fields

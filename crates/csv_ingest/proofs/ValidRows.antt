@@ -117,7 +117,7 @@ are_rows : (fields : List Field) (header : List (List ℕ)) (records : List (Lis
 are_rows fields header records rows own e =
     let count = few_from fields header 1 records rows (omega arith) e in record {
       each = All-from_recursion (IsRow fields) rows (rows_valid fields header records rows own e);
-      few = omega (arith, count);
+      at_most = omega (arith, count);
     }
 
 -- ---- the two laws

@@ -33,7 +33,7 @@ pub record IsBlock (fields : List Field) (header : List (List ℕ)) (before coun
 -- these are all rows that were left, and fewer than there was room for
 pub record IsLastBlock (fields : List Field) (header : List (List ℕ)) (before room : ℕ)
     (old : TextReader) (rest : List ℕ) (columns : ListedColumns) : Type 0 where
-  pub few : columns.count < room
+  pub at_most : columns.count < room
   pub all : (n : ℕ) → columns.count < n → rows_from before fields header (records_left n old rest)
       ≡ Ok (rows_of columns)
 

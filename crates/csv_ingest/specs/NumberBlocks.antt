@@ -23,13 +23,13 @@ use Rattle.csv_ingest.specs.Rows.{header_of, number_rows_in, with_schema}
 
 -- the fields are the columns that the names make
 pub record IsNumberHeader (header : NumberHeader) : Type 0 where
-  pub few : length (fields_of header.names) ≤ 64
+  pub at_most : length (fields_of header.names) ≤ 64
   pub fields : header_of number_name (fields_of header.names) ≡ Ok header.fields
 
 -- the header is one, and rows can be counted by 32-bit numbers
 pub record IsNumberBlocks (blocks : NumberBlocks) : Type 0 where
   pub header : IsNumberHeader blocks.header
-  pub few : blocks.before + blocks.left < 2 ^ 31
+  pub at_most : blocks.before + blocks.left < 2 ^ 31
 
 -- what the records that are left give, where some may be left
 pub record HasRows (fields : List Field) (header : List (List ℕ)) (reader : TextReader)

@@ -38,7 +38,7 @@ pub record Pushes (given : Result Value CsvFault) (old new : Listed) : Type 0 wh
 pub record HasPlace (cells : List (List ℕ)) (place : Option ℕ) : Type 0 where
   pub first : IfSome place (λ n. 1 ≤ n)
   pub within : IfSome place (λ n. n ≤ length cells)
-  pub few : length cells < 2 ^ 32
+  pub at_most : length cells < 2 ^ 32
 
 -- what was given is at the end of the column, or is the fault, unless memory ran out
 pub record PushesOr {A : Type 0} (given : Result Value CsvFault) (old new : Listed)

@@ -13,5 +13,5 @@ header_of layout = map (λ name. name.now) layout.names.now
 pub record IsLayout (layout : Layout) : Type 0 where
   pub places : layout.places.items ≡ map (place_of (header_of layout)) layout.fields.now
   pub most : layout.most ≡ most_rows (length layout.fields.now)
-  pub few : length layout.names.now < 2 ^ 32
+  pub at_most : length layout.names.now < 2 ^ 32
   pub defaults : DefaultsFit layout.fields.now

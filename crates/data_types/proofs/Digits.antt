@@ -86,8 +86,8 @@ tens (suc k) i =
     subst (λ m. 10 ^ i ≤ 10 ^ m) same no_less
 
 -- what so many digits spell, or fewer
-pub few : (most i n : ℕ) → i ≤ most → n < 10 ^ i → n < 10 ^ most
-few most i n within small =
+pub at_most : (most i n : ℕ) → i ≤ most → n < 10 ^ i → n < 10 ^ most
+at_most most i n within small =
     let all : most - i + i ≡ most = omega (arith, within) in
     let no_less : 10 ^ i ≤ 10 ^ most = subst (λ k. 10 ^ i ≤ 10 ^ k) all (tens (most - i) i) in
     omega (arith, small, no_less)

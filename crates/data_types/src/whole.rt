@@ -54,7 +54,7 @@ fn read_magnitude(digits: &[u8]) -> Result<u64, WholeFault>
 #[inline(always)]
 fn read_few(digits: &[u8]) -> Result<u64, WholeFault>
     requires some { 0 < length digits.now }
-    requires few { length digits.now ≤ 18 }
+    requires at_most { length digits.now ≤ 18 }
     ensures { result ≡ magnitude_of digits.now }
 {
     let mut number: u64 = 0;

@@ -28,7 +28,7 @@ counted_back n lt = from_be_bytes-to_be_bytes_4 n lt
 -- four bytes, read, are the spelling of the number
 pub counted_read : (bytes : List ℕ) (n : ℕ) → AreBytes bytes → 4 ≤ length bytes → n ≡ from_be_bytes w32 (take 4 bytes) → counted n ≡ take 4 bytes
 unfolding counted
-counted_read bytes n small long is = be_bytes_4 (take 4 bytes) n (omega (arith, length-take 4 bytes)) (take_small 4 bytes small) is
+counted_read bytes n small lengths is = be_bytes_4 (take 4 bytes) n (omega (arith, length-take 4 bytes)) (take_small 4 bytes small) is
 
 pub same_fronts : (a b x y : List ℕ) → length a ≡ length b → a ++ x ≡ b ++ y → a ≡ b
 same_fronts a b x y len e = sym (take-append_seam a x) ∙ ap (take (length a)) e ∙ ap (λ n. take n (b ++ y)) len ∙ take-append_seam b y
@@ -49,4 +49,4 @@ counted_following m n x y e = same_rests (counted m) (counted n) x y (same_lengt
 
 -- bytes, put together again from the number that was read and what is after it
 pub counted_whole : (bytes rest : List ℕ) (n : ℕ) → AreBytes bytes → 4 ≤ length bytes → n ≡ from_be_bytes w32 (take 4 bytes) → rest ≡ drop 4 bytes → bytes ≡ counted n ++ rest
-counted_whole bytes rest n small long is following = sym (take-append-drop 4 bytes) ∙ (λ i. sym (counted_read bytes n small long is) i ++ sym following i)
+counted_whole bytes rest n small lengths is following = sym (take-append-drop 4 bytes) ∙ (λ i. sym (counted_read bytes n small lengths is) i ++ sym following i)

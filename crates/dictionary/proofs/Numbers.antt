@@ -45,7 +45,7 @@ number_back z fit = ap (cast_signed w64) (from_be_bytes-to_be_bytes_8 (cast_unsi
 -- eight bytes, read, are spelled so
 pub number_read : (bytes : List ℕ) (n : ℕ) (z : ℤ) → length bytes ≡ 8 → AreBytes bytes → n < 2 ^ 64 → n ≡ from_be_bytes w64 bytes → z ≡ cast_signed w64 n → number_bytes (value.Whole z) ≡ bytes
 unfolding number_bytes
-number_read bytes n z long small below is cast = be_bytes_8 bytes (cast_unsigned w64 z) long small (ap (cast_unsigned w64) cast ∙ of_z-to_z w64 n below ∙ is)
+number_read bytes n z lengths small below is cast = be_bytes_8 bytes (cast_unsigned w64 z) lengths small (ap (cast_unsigned w64) cast ∙ of_z-to_z w64 n below ∙ is)
 
 pub within_range : (z : ℤ) → mag z < 2 ^ 63 → is_in_range kind.Long z ≡ true
 within_range (pos n) lt = lt-ltb n (2 ^ 63) lt
@@ -158,10 +158,10 @@ nothing [] e = refl
 nothing (x ∷ xs) e = absurd (omega arith)
 
 pub numbers_end : (k : FieldKind) (count : ℕ) (bytes rest : List ℕ) (vs : List Value) → count ≤ most_values → length rest < 8 → NumbersRead k count bytes rest vs → IsBody k count bytes vs
-numbers_end k count bytes rest vs few short r =
+numbers_end k count bytes rest vs at_most short r =
     let rsize = r.size in
-    body_read k count bytes (NumbersLeft count rest vs) vs few r.read (omega arith, nothing rest (omega arith))
+    body_read k count bytes (NumbersLeft count rest vs) vs at_most r.read (omega arith, nothing rest (omega arith))
 
 pub numbers_long : (k : FieldKind) (count : ℕ) (bytes : List ℕ) → k ≢ kind.Text → length bytes ≢ 8 * count → NoBody k count bytes
-numbers_long k count bytes other long all d n e =
-    long (ap length (e ∙ body_is_numbers k all other) ∙ length-numbers k all other d.fit ∙ ap (λ m. 8 * m) n)
+numbers_long k count bytes other lengths all d n e =
+    lengths (ap length (e ∙ body_is_numbers k all other) ∙ length-numbers k all other d.fit ∙ ap (λ m. 8 * m) n)

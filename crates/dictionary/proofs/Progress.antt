@@ -100,10 +100,10 @@ not_whole kind whole left vs r some none all d h =
 
 -- where nothing is left, the values are the body's
 pub body_read : (kind : FieldKind) (count : ℕ) (bytes : List ℕ) (left : List Value → Type 0) (vs : List Value) → count ≤ most_values → IsRead kind (Whole kind count bytes) left vs → left [] → IsBody kind count bytes vs
-body_read kind count bytes left vs few r none =
+body_read kind count bytes left vs at_most r none =
     let all : Whole kind count bytes vs = subst (Whole kind count bytes) (append-nil vs) (r.forth [] none) in
     record {
-      stands = record { few = omega (arith, all.0); fit = r.fit; unicode = r.unicode; ascends = r.ascends };
+      stands = record { at_most = omega (arith, all.0); fit = r.fit; unicode = r.unicode; ascends = r.ascends };
       counted = all.0;
       spelled = all.1;
     }

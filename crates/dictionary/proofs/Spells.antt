@@ -62,9 +62,9 @@ long_no_text : kind.Long ≢ kind.Text
 long_no_text e = cc
 
 bodies_once : (k : FieldKind) (vs ws : List Value) → length vs ≤ most_values → All (Fits k) vs → All (Fits k) ws → length vs ≡ length ws → body k vs ≡ body k ws → vs ≡ ws
-bodies_once kind.Int vs ws few fv fw n e = numbers_once kind.Int vs ws int_no_text fv fw e
-bodies_once kind.Long vs ws few fv fw n e = numbers_once kind.Long vs ws long_no_text fv fw e
-bodies_once kind.Text vs ws few fv fw n e =
+bodies_once kind.Int vs ws at_most fv fw n e = numbers_once kind.Int vs ws int_no_text fv fw e
+bodies_once kind.Long vs ws at_most fv fw n e = numbers_once kind.Long vs ws long_no_text fv fw e
+bodies_once kind.Text vs ws at_most fv fw n e =
     let len : length (offsets 0 vs) ≡ length (offsets 0 ws) = omega (arith, length-offsets 0 vs, length-offsets 0 ws) in
     texts_once 0 vs ws (omega arith) fv fw n (same_fronts (offsets 0 vs) (offsets 0 ws) (texts vs) (texts ws) len e) (same_rests (offsets 0 vs) (offsets 0 ws) (texts vs) (texts ws) len e)
 
@@ -72,10 +72,10 @@ bodies_once kind.Text vs ws few fv fw n e =
 
 pub spells_one : SpellsOne
 spells_one a b da db ke e =
-    let n : length a.values ≡ length b.values = counted_once (length a.values) (length b.values) (body a.kind a.values) (body b.kind b.values) (let f = da.few in omega arith) (let f = db.few in omega arith) e in
+    let n : length a.values ≡ length b.values = counted_once (length a.values) (length b.values) (body a.kind a.values) (body b.kind b.values) (let f = da.at_most in omega arith) (let f = db.at_most in omega arith) e in
     let bodies : body a.kind a.values ≡ body a.kind b.values = counted_following (length a.values) (length b.values) (body a.kind a.values) (body b.kind b.values) e ∙ ap (λ k. body k b.values) (sym ke) in
     let fb : All (Fits a.kind) b.values = subst (λ k. All (Fits k) b.values) (sym ke) db.fit in
-    let values : a.values ≡ b.values = bodies_once a.kind a.values b.values da.few da.fit fb n bodies in
+    let values : a.values ≡ b.values = bodies_once a.kind a.values b.values da.at_most da.fit fb n bodies in
     (λ i. record { kind = ke i; values = values i })
 
 pub whole_spelled : (k : FieldKind) (count : ℕ) (bytes rest : List ℕ) (values : List Value) → bytes ≡ counted count ++ rest → IsBody k count rest values → bytes ≡ spelling (record { kind = k; values = values })
@@ -85,15 +85,15 @@ abbrev pub SpellsNone : FieldKind → List ℕ → Type 0
 SpellsNone k bytes = (d : Distinct) → IsDictionary d → d.kind ≡ k → bytes ≢ spelling d
 
 pub too_short : (k : FieldKind) (bytes : List ℕ) → length bytes < 4 → SpellsNone k bytes
-too_short k bytes few d stands is e =
+too_short k bytes at_most d stands is e =
     omega (arith, ap length e, length-append (counted (length d.values)) (body d.kind d.values), length-counted (length d.values))
 
 counts : (count : ℕ) (bytes rest : List ℕ) (d : Distinct) → count < 2 ^ 32 → bytes ≡ counted count ++ rest → IsDictionary d → bytes ≡ spelling d → count ≡ length d.values
-counts count bytes rest d fits' front stands e = counted_once count (length d.values) rest (body d.kind d.values) fits' (let f = stands.few in omega arith) (sym front ∙ e)
+counts count bytes rest d fits' front stands e = counted_once count (length d.values) rest (body d.kind d.values) fits' (let f = stands.at_most in omega arith) (sym front ∙ e)
 
 pub too_many : (k : FieldKind) (count : ℕ) (bytes rest : List ℕ) → count < 2 ^ 32 → bytes ≡ counted count ++ rest → most_values < count → SpellsNone k bytes
 too_many k count bytes rest fits' front many d stands is e =
-    let f = stands.few in
+    let f = stands.at_most in
     omega (arith, counts count bytes rest d fits' front stands e)
 
 pub no_spelling : (k : FieldKind) (count : ℕ) (bytes rest : List ℕ) → count < 2 ^ 32 → bytes ≡ counted count ++ rest → NoBody k count rest → SpellsNone k bytes

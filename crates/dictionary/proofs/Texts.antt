@@ -51,17 +51,17 @@ end_is left n offs t more near short fits is h =
 -- ---- the next text
 
 pub no_offset : (left : Left) → length left.offsets < 4 → NoNext left
-no_offset left few t more short unicode h =
+no_offset left at_most t more short unicode h =
     omega (arith, ap length (offs_following left t more h), length-offsets (left.start + length t) more)
 
 pub ends_before : (left : Left) (n : ℕ) (offs : List ℕ) → left.start ≤ 536870912 → n < 2 ^ 32 → left.offsets ≡ counted n ++ offs → n < left.start → NoNext left
 ends_before left n offs near fits is before t more short unicode h = omega (arith, end_is left n offs t more near short fits is h)
 
 pub too_long : (left : Left) (n : ℕ) (offs : List ℕ) → left.start ≤ 536870912 → n < 2 ^ 32 → left.offsets ≡ counted n ++ offs → 512 < n - left.start → NoNext left
-too_long left n offs near fits is long t more short unicode h = omega (arith, end_is left n offs t more near short fits is h)
+too_long left n offs near fits is lengths t more short unicode h = omega (arith, end_is left n offs t more near short fits is h)
 
 pub bytes_end : (left : Left) (n : ℕ) (offs : List ℕ) → left.start ≤ 536870912 → n < 2 ^ 32 → left.offsets ≡ counted n ++ offs → length left.texts < n - left.start → NoNext left
-bytes_end left n offs near fits is few t more short unicode h =
+bytes_end left n offs near fits is at_most t more short unicode h =
     omega (arith, end_is left n offs t more near short fits is h, ap length h.1, length-append t (texts more))
 
 -- the bytes of the text
@@ -88,8 +88,8 @@ next_is left n offs text rest near fits split after short len front back unicode
         ap (λ o. counted left.start ++ o) (split ∙ h.0 ∙ ap (λ m. offsets m more) (sym end)),
         parts ∙ ap (λ r. text ++ r) h.1,
       );
-      back = λ other more few h.
-          let at : n ≡ left.start + length other = end_is left n offs other more near few fits split h in
+      back = λ other more at_most h.
+          let at : n ≡ left.start + length other = end_is left n offs other more near at_most fits split h in
           let same : length text ≡ length other = omega arith in
           let both : text ++ rest ≡ other ++ texts more = sym parts ∙ h.1 in
           (sym (same_fronts text other rest (texts more) same both), (sym split ∙ offs_following left other more h ∙ ap (λ m. offsets m more) (sym at), same_rests text other rest (texts more) same both));
@@ -98,7 +98,7 @@ next_is left n offs text rest near fits split after short len front back unicode
 -- ---- the body of texts
 
 pub no_room : (count : ℕ) (bytes : List ℕ) → length bytes < 4 * count + 4 → NoBody kind.Text count bytes
-no_room count bytes few all d n e =
+no_room count bytes at_most all d n e =
     omega (arith, ap length e, length-append (offsets 0 all) (texts all), length-offsets 0 all)
 
 front_offsets : (count : ℕ) (bytes : List ℕ) (all : List Value) → length all ≡ count → bytes ≡ body kind.Text all → take (4 * count + 4) bytes ≡ offsets 0 all
@@ -189,8 +189,8 @@ nothing [] e = refl
 nothing (x ∷ xs) e = absurd (omega arith)
 
 pub texts_end : (count done : ℕ) (bytes : List ℕ) (left : Left) (vs : List Value) → count ≤ most_values → left.texts ≡ [] → done ≡ count → TextsRead count bytes left vs done → IsBody kind.Text count bytes vs
-texts_end count done bytes left vs few none all_done r =
+texts_end count done bytes left vs at_most none all_done r =
     let rcount = r.reached in
     let rsize = r.size in
     let offs : left.offsets ≡ [] = nothing left.offsets (omega arith) in
-    body_read kind.Text count bytes (TextsLeft count left vs) vs few r.read (omega arith, (ap (λ o. counted left.start ++ o) offs ∙ append-nil (counted left.start), none))
+    body_read kind.Text count bytes (TextsLeft count left vs) vs at_most r.read (omega arith, (ap (λ o. counted left.start ++ o) offs ∙ append-nil (counted left.start), none))

@@ -70,7 +70,7 @@ begins_all start (w ∷ ws) =
 pub record Began (values : List Value) (i start : ℕ) (old out : List ℕ) : Type 0 where
   pub written : out ≡ old ++ begins 0 (take i values)
   pub size : start ≡ length (texts (take i values))
-  pub few : start ≤ 512 * i
+  pub at_most : start ≤ 512 * i
 
 text_few : (v : Value) → fits kind.Text v ≡ true → length (text_bytes v) ≤ 512
 text_few (value.Whole z) fit = absurd (false≢true fit)
@@ -83,8 +83,8 @@ pub begins_step : (values : List Value) (i : ℕ) (v : Value) (start next : ℕ)
     → Began values (i + 1) next old new
 begins_step values i v start next old out new fit within item b now is =
     let more : take (i + 1) values ≡ take i values ++ v ∷ [] = take_more values i v within ∙ ap (λ x. take i values ++ x ∷ []) (sym item) in
-    let few : length (text_bytes v) ≤ 512 = item_few values i v fit within item in
-    let bfew = b.few in
+    let at_most : length (text_bytes v) ≤ 512 = item_few values i v fit within item in
+    let bfew = b.at_most in
     let bsize = b.size in
     let ends : texts (take (i + 1) values) ≡ texts (take i values) ++ text_bytes v = ap texts more ∙ texts-append (take i values) (v ∷ []) ∙ ap (λ x. texts (take i values) ++ x) (append-nil (text_bytes v)) in
     let all : begins 0 (take (i + 1) values) ≡ begins 0 (take i values) ++ counted start =
@@ -92,7 +92,7 @@ begins_step values i v start next old out new fit within item b now is =
     record {
       written = now ∙ ap (λ x. x ++ counted start) b.written ∙ append_assoc old (begins 0 (take i values)) (counted start) ∙ ap (λ x. old ++ x) (sym all);
       size = omega (arith, ap length ends, length-append (texts (take i values)) (text_bytes v));
-      few = omega arith;
+      at_most = omega arith;
     }
 
 pub begins_end : (values : List Value) (i start : ℕ) (old out new : List ℕ) → length values ≤ i → Began values i start old out → new ≡ out ++ counted start → new ≡ old ++ offsets 0 values

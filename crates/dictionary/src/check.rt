@@ -66,7 +66,7 @@ fn read_numbers(
     count: usize,
     body: &[u8],
 ) -> Result<Vec<Value>, DictFault>
-    requires few { count ≤ most_values }
+    requires at_most { count ≤ most_values }
     requires numbers { kind ≢ FieldKind.Text }
     ensures ok { IfOk result (λ values. IsBody kind count body.now values.items) }
     ensures bad { IfErr result (λ fault. fault ≡ DictFault.BadDictionary →

@@ -73,7 +73,7 @@ pub fn code_column(alloc: Global, column: &Column) -> Result<Coded, NoMemory>
 
 /// For each of these values its place among ascending ones, which have them all.
 pub fn ranks(alloc: Global, values: &[Value], seen: &[Value]) -> Result<Vec<u32>, NoMemory>
-    requires few { length values.now ≤ most_values }
+    requires at_most { length values.now ≤ most_values }
     requires ascends { Ascends values.now }
     requires among { AreAmong values.now seen.now }
     ensures { IfOk result (λ ranks. Codes values.now ranks.items seen.now) }

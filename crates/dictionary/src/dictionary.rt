@@ -42,7 +42,7 @@ impl Dictionary {
         kind: FieldKind,
         column: &Seq<Value>,
     ) -> Result<Dictionary, NoMemory>
-        requires few { length column.now ≤ most_values }
+        requires at_most { length column.now ≤ most_values }
         requires fit { All (Fits kind) column.now }
         ensures kind { IfOk result (λ d. d.kind ≡ kind) }
         ensures distinct { IfOk result (λ d. d.values ≡ distinct column.now) }
@@ -60,7 +60,7 @@ impl Dictionary {
         kind: FieldKind,
         column: &Column,
     ) -> Result<(Dictionary, Vec<u32>), NoMemory>
-        requires few { length column.now.values ≤ most_values }
+        requires at_most { length column.now.values ≤ most_values }
         requires fit { All (Fits kind) column.now.values }
         ensures kind { IfOk result (λ r. r.0.kind ≡ kind) }
         ensures distinct { IfOk result (λ r. r.0.values ≡ distinct column.now.values) }

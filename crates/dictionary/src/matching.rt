@@ -13,7 +13,7 @@ use values::{NoMemory, Test, Value};
 
 /// The ids of the values that satisfy the test.
 pub fn matching_ids(alloc: Global, test: &Test, values: &[Value]) -> Result<IdSet, NoMemory>
-    requires few { length values.now ≤ most_values }
+    requires at_most { length values.now ≤ most_values }
     requires ascends { Ascends values.now }
     ensures { IfOk result (Picks (λ value. holds value test.now) values.now) }
 {
@@ -57,7 +57,7 @@ fn between(
     negated: bool,
     values: &[Value],
 ) -> Result<IdSet, NoMemory>
-    requires few { length values.now ≤ most_values }
+    requires at_most { length values.now ≤ most_values }
     requires ascends { Ascends values.now }
     ensures { IfOk result (Picks (λ value. negated_if negated (is_between low.now value high.now))
         values.now) }
@@ -68,7 +68,7 @@ fn between(
 
 // The place of each member that is there.
 fn places_of(alloc: Global, members: &[Value], values: &[Value]) -> Result<Vec<u32>, NoMemory>
-    requires few { length values.now ≤ most_values }
+    requires at_most { length values.now ≤ most_values }
     requires ascends { Ascends values.now }
     ensures { IfOk result (λ places. Picks (is_member members.now) values.now places.items) }
 {
@@ -89,7 +89,7 @@ fn one_of(
     negated: bool,
     values: &[Value],
 ) -> Result<IdSet, NoMemory>
-    requires few { length values.now ≤ most_values }
+    requires at_most { length values.now ≤ most_values }
     requires ascends { Ascends values.now }
     ensures { IfOk result (Picks (λ value. negated_if negated (is_member members.now value))
         values.now) }

@@ -66,7 +66,7 @@ fn push_number(value: &Value, out: &mut Vec<u8>) -> Result<(), NoMemory>
 }
 
 fn push_offsets(values: &[Value], out: &mut Vec<u8>) -> Result<(), NoMemory>
-    requires few { length values.now ≤ most_values }
+    requires at_most { length values.now ≤ most_values }
     requires fit { All (Fits FieldKind.Text) values.now }
     ensures ok { OnOk result (out.new.items ≡ out.old.items ++ offsets 0 values.now) }
     ensures kept { IsExtended out.old.items out.new.items }

@@ -154,7 +154,7 @@ runs_added old new count run size are added above order is = record {
   apart = added.apart;
   counted = (let add = length-append (docs_of old) (docs_of_run run) in let own = length-range_with_len run.first (run.last + 1 - run.first) in
       let whole : length (docs_of new) ≡ length (docs_of old ++ docs_of_run run) = ap length added.docs in omega (arith, are.counted, add, own, whole, is));
-  few = omega (arith, are.few, added.next, above, order, is);
+  at_most = omega (arith, are.at_most, added.next, above, order, is);
 }
 
 pub added_new : (runs new : List Run) (run : Run) → new ≡ runs ++ run ∷ [] → Apart 0 runs → (0 < length runs → next_from 0 runs < run.first) → run.first ≤ run.last → run.last < 2 ^ 32 → Added runs new run

@@ -31,8 +31,8 @@ next_within from (run ∷ runs) le apart =
 
 pub count_within : (runs : List Run) → Apart 0 runs → length (docs_of runs) ≤ 2 ^ 32
 count_within runs apart =
-    let few = count_few 0 runs apart in
-    let small = next_within 0 runs (omega arith) apart in omega (arith, few, small)
+    let at_most = count_few 0 runs apart in
+    let small = next_within 0 runs (omega arith) apart in omega (arith, at_most, small)
 
 pub order_at : (from i : ℕ) (runs : List Run) (d : Run) → Apart from runs → i < length runs → (get_or runs i d).first ≤ (get_or runs i d).last
 order_at from i [] d apart lt = absurd (omega (arith, lt))
@@ -69,12 +69,12 @@ runs_after old runs count size are after is =
     let apart = after_all 0 after.end old runs (omega arith) are.apart after.below after.apart in
     let parts : length (docs_of (old ++ runs)) ≡ length (docs_of old) + length (docs_of runs) = ap length (flat_map-append docs_of_run old runs) ∙ length-append (docs_of old) (docs_of runs) in
     let counted : count + size ≡ length (docs_of (old ++ runs)) = omega (arith, parts, are.counted, is) in
-    let few = count_few 0 (old ++ runs) apart in record { apart = apart; counted = counted; few = omega (arith, few, counted) }
+    let at_most = count_few 0 (old ++ runs) apart in record { apart = apart; counted = counted; at_most = omega (arith, at_most, counted) }
 
 -- ---- a list is swept to the end of runs
 
 next_least : (next : ℕ) (runs : List Run) → Apart next runs → next ≤ next_from next runs
-next_least next runs apart = let few = count_few next runs apart in omega (arith, few)
+next_least next runs apart = let at_most = count_few next runs apart in omega (arith, at_most)
 
 docs_below : (from : ℕ) (runs : List Run) → Apart from runs → All (λ x. x < next_from from runs) (docs_of runs)
 docs_below from [] apart = All-nil (λ x. x < from)

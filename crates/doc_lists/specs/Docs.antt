@@ -37,7 +37,7 @@ next_from next (run ∷ runs) = next_from (run.last + 1) runs
 pub record AreRuns (runs : List Run) (count : ℕ) : Type 0 where
   pub apart : Apart 0 runs
   pub counted : count ≡ length (docs_of runs)
-  pub few : count ≤ next_from 0 runs
+  pub at_most : count ≤ next_from 0 runs
 
 -- runs to which a run was added after them
 pub record Added (old new : List Run) (run : Run) : Type 0 where

@@ -22,7 +22,7 @@ pub fn eligible(query: &BoundQuery, tree: &TreeSetting) -> bool
 
 /// The number of the first tree that may answer the query. It takes no memory.
 pub fn pick(query: &BoundQuery, trees: &[TreeSetting]) -> Option<u8>
-    requires few { length trees.now ≤ 8 }
+    requires at_most { length trees.now ≤ 8 }
     ensures { result ≡ spec.picked query.now trees.now }
 {
     for number in 0..trees.len() {

@@ -129,7 +129,7 @@ module _ (t : KeptGroups) (key : List Value) (states : List AggState) where
 
   pub written_table : (w : List AggState) (groups : List Group) → IsTable t → IsGroup t.columns t.kinds (key, w) → Written w groups → IsTable (with_groups t groups)
   written_table w groups table group written = record {
-    few = subst (λ n. n ≤ t.most) (sym written.len) table.few;
+    at_most = subst (λ n. n ≤ t.most) (sym written.len) table.at_most;
     most_fits = table.most_fits;
     each = subst (AllByRecursion (IsGroup t.columns t.kinds)) (sym written.set) (each_set (IsGroup t.columns t.kinds) key w t.groups group table.each);
     once = subst (IsDistinct key_eq) (sym written.keys) table.once;
@@ -138,7 +138,7 @@ module _ (t : KeptGroups) (key : List Value) (states : List AggState) where
   pub pushed_table : (groups : List Group) → IsTable t → IsGroup t.columns t.kinds (key, states) → finite.len (groups_in t) < t.most
       → groups ≡ t.groups ++ (key, states) ∷ [] → IsDistinct key_eq (keys_of groups) → length groups ≡ length t.groups + 1 → IsTable (with_groups t groups)
   pushed_table groups table group room is once len = record {
-    few = omega (arith, room, len, len_once t.groups table.once);
+    at_most = omega (arith, room, len, len_once t.groups table.once);
     most_fits = table.most_fits;
     each = subst (AllByRecursion (IsGroup t.columns t.kinds)) (sym is) (each_push (IsGroup t.columns t.kinds) (key, states) t.groups group table.each);
     once = once;
@@ -157,7 +157,7 @@ pub full_at : (t : KeptGroups) → IsTable t → (n : ℕ) → n ≡ length t.gr
 full_at t table n len e = len_once t.groups table.once ∙ sym len ∙ eqb-true n t.most e
 
 pub room_at : (t : KeptGroups) → IsTable t → (n : ℕ) → n ≡ length t.groups → nat_eq n t.most ≡ false → finite.len (groups_in t) < t.most
-room_at t table n len e = omega (arith, len_once t.groups table.once, table.few, len, eqb-false n t.most e)
+room_at t table n len e = omega (arith, len_once t.groups table.once, table.at_most, len, eqb-false n t.most e)
 
 module _ (t : KeptGroups) (key : List Value) (states : List AggState) (table : IsTable t) where
   -- states merged into those of the group of a key

@@ -51,7 +51,7 @@ pub record IsGroup (columns : ℕ) (kinds : List AggKind) (group : Group) : Type
 
 -- what holds of each table: its groups are few enough and of its shape, and no key has two
 pub record IsTable (table : KeptGroups) : Type 0 where
-  pub few : length table.groups ≤ table.most
+  pub at_most : length table.groups ≤ table.most
   pub most_fits : table.most < 2 ^ 32
   pub each : AllByRecursion (IsGroup table.columns table.kinds) table.groups
   pub once : IsDistinct key_eq (keys_of table.groups)

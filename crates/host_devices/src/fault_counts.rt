@@ -9,7 +9,7 @@ pub fn count_read<T>(faults: &mut u64, answer: Result<T, ShelfFault>) -> Result<
     ensures answer { result ≡ answer }
     ensures later { faults.old ≤ faults.new }
     ensures rose { IsErrOf answer ShelfFault.Failed → Rose faults.old faults.new }
-    ensures still { ¬ IsErrOf answer ShelfFault.Failed → faults.new ≡ faults.old }
+    ensures unchanged { ¬ IsErrOf answer ShelfFault.Failed → faults.new ≡ faults.old }
 {
     if let Err(ShelfFault::Failed) = answer {
         *faults = faults.saturating_add(1);
@@ -22,7 +22,7 @@ pub fn count_write(faults: &mut u64, answer: Result<(), DepotFault>) -> Result<(
     ensures answer { result ≡ answer }
     ensures later { faults.old ≤ faults.new }
     ensures rose { IsErrOf answer DepotFault.Failed → Rose faults.old faults.new }
-    ensures still { ¬ IsErrOf answer DepotFault.Failed → faults.new ≡ faults.old }
+    ensures unchanged { ¬ IsErrOf answer DepotFault.Failed → faults.new ≡ faults.old }
 {
     if let Err(DepotFault::Failed) = answer {
         *faults = faults.saturating_add(1);

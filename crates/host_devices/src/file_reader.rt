@@ -30,7 +30,7 @@ pub struct FileReader<F: Read + Drop> {
     ahead: Vec<u8>,
     held: usize,
     ghost in_bounds: { held ≤ vec_len ahead },
-    ghost long: { vec_len ahead ≡ 65536 },
+    ghost capacity: { vec_len ahead ≡ 65536 },
 }
 
 impl<F: OpenFile + Read + Drop> FileReader<F> {

@@ -74,7 +74,7 @@ where
         ensures later { self.old.read_faults ≤ self.new.read_faults }
         ensures rose { IsErrOf result ShelfFault.Failed →
             Rose self.old.read_faults self.new.read_faults }
-        ensures still { ¬ IsErrOf result ShelfFault.Failed →
+        ensures unchanged { ¬ IsErrOf result ShelfFault.Failed →
             self.new.read_faults ≡ self.old.read_faults }
         ensures writes { self.new.write_faults ≡ self.old.write_faults }
     {

@@ -11,7 +11,7 @@ pub struct NameEnds {
     pub size: usize,
     pub first: u64,
     pub last: u64,
-    ghost long: { 8 ≤ size },
+    ghost at_least: { 8 ≤ size },
     ghost none: { 16 < size → size ≡ 18446744073709551615 },
 }
 

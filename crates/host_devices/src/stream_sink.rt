@@ -72,7 +72,7 @@ impl<W: Write + Drop> Sink for StreamSink<W> {
         ensures prefix { OnErr result (AppendsPrefix bytes.now None None) }
         ensures later { self.old.faults ≤ self.new.faults }
         ensures failed { OnErr result (Rose self.old.faults self.new.faults) }
-        ensures still { OnOk result (self.new.faults ≡ self.old.faults) }
+        ensures unchanged { OnOk result (self.new.faults ≡ self.old.faults) }
     {
         match write_through(&mut self.stream, bytes) {
             Ok(()) => Ok(()),

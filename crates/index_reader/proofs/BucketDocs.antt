@@ -101,7 +101,7 @@ sure_those count low high o ids docs is all those = record {
       let own = entries_of (buckets_for count) keys (part_between keys o.sure_from o.sure_to) in
       let inside = nat_lt doc (length ids) in
       those.those doc ∙ list_any-append (nat_eq doc) own [] ∙ or-false (has_doc own doc)
-      ∙ bucket_places count o.sure_from o.sure_to ids doc is.sure (omega (arith, is.after, is.few))
+      ∙ bucket_places count o.sure_from o.sure_to ids doc is.sure (omega (arith, is.after, is.at_most))
       ∙ in_rows inside (is_from_to o.sure_from o.sure_to bucket) (lies_within count low high bucket) (λ there. sym (is.inside bucket (bucket_below count ids doc all there)));
 }
 
@@ -152,8 +152,8 @@ check_those count low high o ids docs is all those = record {
       let two = entries_of (buckets_for count) keys (part_between keys o.sure_to o.end) in
       let inside = nat_lt doc (length ids) in
       those.those doc ∙ list_any-append (nat_eq doc) one (two ++ []) ∙ ap (λ t. has_doc one doc || t) (list_any-append (nat_eq doc) two [] ∙ or-false (has_doc two doc))
-      ∙ ap (λ t. t || has_doc two doc) (bucket_places count o.first o.sure_from ids doc is.before (omega (arith, is.sure, is.after, is.few)))
-      ∙ ap (λ t. (inside && is_from_to o.first o.sure_from bucket) || t) (bucket_places count o.sure_to o.end ids doc is.after is.few)
+      ∙ ap (λ t. t || has_doc two doc) (bucket_places count o.first o.sure_from ids doc is.before (omega (arith, is.sure, is.after, is.at_most)))
+      ∙ ap (λ t. (inside && is_from_to o.first o.sure_from bucket) || t) (bucket_places count o.sure_to o.end ids doc is.after is.at_most)
       ∙ spread inside (is_from_to o.first o.sure_from bucket) (is_from_to o.sure_to o.end bucket)
       ∙ ap (λ t. inside && t) (outer o.first o.sure_from o.sure_to o.end bucket is.before is.sure is.after)
       ∙ in_rows inside (is_from_to o.first o.end bucket && not (is_from_to o.sure_from o.sure_to bucket)) (overlaps count low high bucket && not (lies_within count low high bucket))

@@ -52,15 +52,15 @@ parts_same count o keys words order is =
 
 pub parts_told : (held : Option Files) (place : Place) (count rows : ℕ) (o : Overlap) (words : List ℕ) → InOrder count o → rows ≤ 1048576 → WordsRead held place o.first (o.end + 1) words
     → Told held place count rows (λ keys. parts_in words o ≡ parts_of keys o)
-parts_told None place count rows o words order few read = tt
-parts_told (Some files) place count rows o words order few read = λ keys tells.
-    let small : length keys < 2 ^ 32 = omega (arith, tells.0.1, few) in
+parts_told None place count rows o words order at_most read = tt
+parts_told (Some files) place count rows o words order at_most read = λ keys tells.
+    let small : length keys < 2 ^ 32 = omega (arith, tells.0.1, at_most) in
     parts_same count o keys words order (read (numbers count keys) (numbers_below count (2 ^ 32) keys small) (omega (arith, numbers_long count keys tells.0.0, order.within)) tells.1)
 
 pub offsets_bad : (held : Option Files) (place : Place) (count rows : ℕ) (o : Overlap) → InOrder count o → rows ≤ 1048576 → WordsBad held place (rows + 1) o.first (o.end + 1) → Told held place count rows (λ keys. ⊥)
-offsets_bad None place count rows o order few bad = tt
-offsets_bad (Some files) place count rows o order few bad = λ keys tells.
-    let small : length keys < 2 ^ 32 = omega (arith, tells.0.1, few) in
+offsets_bad None place count rows o order at_most bad = tt
+offsets_bad (Some files) place count rows o order at_most bad = λ keys tells.
+    let small : length keys < 2 ^ 32 = omega (arith, tells.0.1, at_most) in
     let fits : length keys < rows + 1 = omega (arith, tells.0.1) in
     let all = numbers_below count (rows + 1) keys fits in
     bad (numbers count keys) (numbers_below count (2 ^ 32) keys small)

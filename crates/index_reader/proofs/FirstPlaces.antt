@@ -71,10 +71,10 @@ pub runs_reach : (count : ℕ) (keys : List ℕ) (key : ℕ) → key < count →
 runs_reach count keys key lt = omega (arith, runs_long count keys, lt)
 
 pub runs_below : (keys : List ℕ) (limit : ℕ) → length keys < limit → (count : ℕ) → All (λ p. p < limit) (runs count keys)
-runs_below keys limit few zero = All-nil (λ p. p < limit)
-runs_below keys limit few (suc key) = All-append (λ p. p < limit) (runs key keys) (first_place keys key ∷ first_place keys (key + 1) ∷ []) (runs_below keys limit few key)
-    (All-cons (λ p. p < limit) (first_place keys key) (first_place keys (key + 1) ∷ []) (omega (arith, less_few key keys, few))
-    (All-cons (λ p. p < limit) (first_place keys (key + 1)) [] (omega (arith, less_few (key + 1) keys, few)) (All-nil (λ p. p < limit))))
+runs_below keys limit at_most zero = All-nil (λ p. p < limit)
+runs_below keys limit at_most (suc key) = All-append (λ p. p < limit) (runs key keys) (first_place keys key ∷ first_place keys (key + 1) ∷ []) (runs_below keys limit at_most key)
+    (All-cons (λ p. p < limit) (first_place keys key) (first_place keys (key + 1) ∷ []) (omega (arith, less_few key keys, at_most))
+    (All-cons (λ p. p < limit) (first_place keys (key + 1)) [] (omega (arith, less_few (key + 1) keys, at_most)) (All-nil (λ p. p < limit))))
 
 -- the first place of a key, and the place after its last
 abbrev BothAt : List ℕ → ℕ → ℕ → Type 0

@@ -77,9 +77,9 @@ split key (suc more) keys =
 pub offsets_ascend : (keys : List ℕ) (low high : ℕ) → low ≤ high → offset keys low ≤ offset keys high
 offsets_ascend keys low high le =
     let whole : low + (high - low) ≡ high = omega (arith, le) in
-    let long = ap length (split low (high - low) keys) ∙ length-append (entries low keys) (run_entries low (high - low) keys) in
+    let lengths = ap length (split low (high - low) keys) ∙ length-append (entries low keys) (run_entries low (high - low) keys) in
     let same = ap (offset keys) whole in
-    omega (arith, long, same)
+    omega (arith, lengths, same)
 
 -- whether a key is one of so many from another on
 abbrev among : ℕ → ℕ → ℕ → Bool

@@ -118,9 +118,9 @@ parts_start count rows place runs left shelf parts all none apart within =
 -- the offsets of a run of keys
 ends_are : (held : Option Files) (place : Place) (count rows a b : ℕ) (run : Run) → run.first ≤ run.last → run.last < count → rows ≤ 1048576 → EndsRead held place run.first (run.last + 2) a b
     → Told held place count rows (λ keys. (a ≡ offset keys run.first) × (b ≡ offset keys (run.last + 1)))
-ends_are None place count rows a b run order within few read = tt
-ends_are (Some files) place count rows a b run order within few read = λ keys tells.
-    let small : length keys < 2 ^ 32 = omega (arith, tells.0.1, few) in
+ends_are None place count rows a b run order within at_most read = tt
+ends_are (Some files) place count rows a b run order within at_most read = λ keys tells.
+    let small : length keys < 2 ^ 32 = omega (arith, tells.0.1, at_most) in
     let both = read (numbers count keys) (numbers_below count (2 ^ 32) keys small) (omega (arith, numbers_long count keys tells.0.0, within)) tells.1 in
     let last : run.last + 2 - 1 ≡ run.last + 1 = omega arith in (
       both.0 ∙ offset_at count keys run.first (omega (arith, order, within)),
@@ -128,9 +128,9 @@ ends_are (Some files) place count rows a b run order within few read = λ keys t
     )
 
 ends_bad : (held : Option Files) (place : Place) (count rows : ℕ) (run : Run) → run.last < count → rows ≤ 1048576 → EndsBad held place (rows + 1) (run.last + 2) → Told held place count rows (λ keys. ⊥)
-ends_bad None place count rows run within few bad = tt
-ends_bad (Some files) place count rows run within few bad = λ keys tells.
-    let small : length keys < 2 ^ 32 = omega (arith, tells.0.1, few) in
+ends_bad None place count rows run within at_most bad = tt
+ends_bad (Some files) place count rows run within at_most bad = λ keys tells.
+    let small : length keys < 2 ^ 32 = omega (arith, tells.0.1, at_most) in
     let fits : length keys < rows + 1 = omega (arith, tells.0.1) in
     bad (numbers count keys) (numbers_below count (2 ^ 32) keys small) (numbers_below count (rows + 1) keys fits) (omega (arith, numbers_long count keys tells.0.0, within)) tells.1
 
@@ -155,12 +155,12 @@ pub parts_next : (count rows : ℕ) (place : Place) (runs left rest : List Run) 
     → OnlyReads ⊥ now next → LogsOn place.file (place.offset + 4 * run.first) (place.offset + 4 * (run.last + 2)) now.log next.log
     → EndsRead now.held place run.first (run.last + 2) part.first part.last → rows ≤ 1048576 → part.last ≤ rows → end ≤ part.first → part.first ≤ part.last → new ≡ old ++ part ∷ []
     → PartsStep count rows place runs rest first next part.last new
-parts_next count rows place runs left rest run first now next end part old new step is reads log read few fits more order added =
+parts_next count rows place runs left rest run first now next end part old new step is reads log read at_most fits more order added =
     let at : PartsStep count rows place runs (run ∷ rest) first now end old = subst (λ rs. PartsStep count rows place runs rs first now end old) is step in
     let apart = at.after.1 in
     let own : run.last < count = All-head (λ r. r.last < count) run rest at.within in
-    let are = ends_are first.held place count rows part.first part.last run apart.1 own few (subst (λ h. EndsRead h place run.first (run.last + 2) part.first part.last) at.reads.held read) in
-    let long : length new ≡ length old + 1 = ap length added ∙ length-append old (part ∷ []) in
+    let are = ends_are first.held place count rows part.first part.last run apart.1 own at_most (subst (λ h. EndsRead h place run.first (run.last + 2) part.first part.last) at.reads.held read) in
+    let lengths : length new ≡ length old + 1 = ap length added ∙ length-append old (part ∷ []) in
     record {
       reads = reads_after ⊥ first now next at.reads reads;
       whole = λ last over. at.whole last (next.log, log, over);
@@ -174,7 +174,7 @@ parts_next count rows place runs left rest run first now next end part old new s
       within = All-tail (λ r. r.last < count) run rest at.within;
       bound = fits;
       rising = λ others rise. subst (Rising 0 rows) (sym (ap (λ ps. ps ++ others) added ∙ append_assoc old (part ∷ []) others)) (at.rising (part ∷ others) (more, order, fits, rise));
-      number = omega (arith, long, at.number);
+      number = omega (arith, lengths, at.number);
       told = told_both first.held place count rows (λ keys. old ++ map (part_of keys) (run ∷ rest) ≡ map (part_of keys) runs) (λ keys. (part.first ≡ offset keys run.first) × (part.last ≡ offset keys (run.last + 1)))
           (λ keys. new ++ map (part_of keys) rest ≡ map (part_of keys) runs)
           (λ keys told both. ap (λ ps. ps ++ map (part_of keys) rest) (added ∙ ap (λ p. old ++ p ∷ []) (part_is keys run part both.0 both.1)) ∙ append_assoc old (part_of keys run ∷ []) (map (part_of keys) rest) ∙ told)
@@ -193,17 +193,17 @@ parts_partly count rows place runs left rest run first now next end parts step i
 
 pub parts_read_bad : (count rows : ℕ) (place : Place) (runs left rest : List Run) (run : Run) (first now : Seen) (end : ℕ) (parts : List Ends)
     → PartsStep count rows place runs left first now end parts → left ≡ run ∷ rest → rows ≤ 1048576 → EndsBad now.held place (rows + 1) (run.last + 2) → Told first.held place count rows (λ keys. ⊥)
-parts_read_bad count rows place runs left rest run first now end parts step is few bad =
+parts_read_bad count rows place runs left rest run first now end parts step is at_most bad =
     let within = subst (All (λ r. r.last < count)) is step.within in
-    ends_bad first.held place count rows run (All-head (λ r. r.last < count) run rest within) few (subst (λ h. EndsBad h place (rows + 1) (run.last + 2)) step.reads.held bad)
+    ends_bad first.held place count rows run (All-head (λ r. r.last < count) run rest within) at_most (subst (λ h. EndsBad h place (rows + 1) (run.last + 2)) step.reads.held bad)
 
 pub parts_order_bad : (count rows : ℕ) (place : Place) (runs left rest : List Run) (run : Run) (first now : Seen) (end a b : ℕ) (parts : List Ends)
     → PartsStep count rows place runs left first now end parts → left ≡ run ∷ rest → rows ≤ 1048576 → EndsRead now.held place run.first (run.last + 2) a b → (a < end) ⊎ (b < a) → Told first.held place count rows (λ keys. ⊥)
-parts_order_bad count rows place runs left rest run first now end a b parts step is few read wrong =
+parts_order_bad count rows place runs left rest run first now end a b parts step is at_most read wrong =
     let at : PartsStep count rows place runs (run ∷ rest) first now end parts = subst (λ rs. PartsStep count rows place runs rs first now end parts) is step in
     let apart = at.after.1 in
     let own : run.last < count = All-head (λ r. r.last < count) run rest at.within in
-    let are = ends_are first.held place count rows a b run apart.1 own few (subst (λ h. EndsRead h place run.first (run.last + 2) a b) at.reads.held read) in
+    let are = ends_are first.held place count rows a b run apart.1 own at_most (subst (λ h. EndsRead h place run.first (run.last + 2) a b) at.reads.held read) in
     ends_order first.held place count rows end at.after.0 a b run apart.1 apart.0 wrong at.after.2 are
 
 -- what is known of all parts
@@ -264,15 +264,15 @@ part_numbers count keys part =
 
 pub words_are : (held : Option Files) (place : Place) (count rows : ℕ) (part : Ends) (words : List ℕ) → rows ≤ 1048576 → part.last ≤ rows → WordsRead held place (count + 1 + part.first) (count + 1 + part.last) words
     → Told held place count rows (λ keys. words ≡ entries_of count keys part)
-words_are None place count rows part words few fits read = tt
-words_are (Some files) place count rows part words few fits read = λ keys tells.
-    let small : length keys < 2 ^ 32 = omega (arith, tells.0.1, few) in
+words_are None place count rows part words at_most fits read = tt
+words_are (Some files) place count rows part words at_most fits read = λ keys tells.
+    let small : length keys < 2 ^ 32 = omega (arith, tells.0.1, at_most) in
     read (numbers count keys) (numbers_below count (2 ^ 32) keys small) (omega (arith, numbers_long count keys tells.0.0, tells.0.1, fits)) tells.1 ∙ part_numbers count keys part
 
 pub words_bad : (held : Option Files) (place : Place) (count rows : ℕ) (part : Ends) → rows ≤ 1048576 → part.last ≤ rows → WordsBad held place rows (count + 1 + part.first) (count + 1 + part.last) → Told held place count rows (λ keys. ⊥)
-words_bad None place count rows part few fits bad = tt
-words_bad (Some files) place count rows part few fits bad = λ keys tells.
-    let small : length keys < 2 ^ 32 = omega (arith, tells.0.1, few) in
+words_bad None place count rows part at_most fits bad = tt
+words_bad (Some files) place count rows part at_most fits bad = λ keys tells.
+    let small : length keys < 2 ^ 32 = omega (arith, tells.0.1, at_most) in
     let below : All (λ n. n < rows) (entries count keys) = entries_below count rows keys (omega (arith, tells.0.1)) in
     let own : All (λ n. n < rows) (entries_of count keys part) = All-take (λ n. n < rows) (part.last - part.first) (drop part.first (entries count keys)) (All-drop (λ n. n < rows) part.first (entries count keys) below) in
     bad (numbers count keys) (numbers_below count (2 ^ 32) keys small) (subst (All (λ n. n < rows)) (sym (part_numbers count keys part)) own) (omega (arith, numbers_long count keys tells.0.0, tells.0.1, fits)) tells.1
@@ -280,9 +280,9 @@ words_bad (Some files) place count rows part few fits bad = λ keys tells.
 -- the documents of a list that was read are those of the part
 pub part_listed : (held : Option Files) (place : Place) (count rows : ℕ) (part : Ends) (words list docs : List ℕ) → rows ≤ 1048576 → part.last ≤ rows → WordsRead held place (count + 1 + part.first) (count + 1 + part.last) words
     → list ≡ words → AreThose (has_doc list) docs → Told held place count rows (λ keys. AreThose (has_doc (entries_of count keys part)) docs)
-part_listed held place count rows part words list docs few fits read same those =
+part_listed held place count rows part words list docs at_most fits read same those =
     told_map held place count rows (λ keys. words ≡ entries_of count keys part) (λ keys. AreThose (has_doc (entries_of count keys part)) docs)
-    (λ keys own. subst (λ ds. AreThose (has_doc ds) docs) (same ∙ own) those) (words_are held place count rows part words few fits read)
+    (λ keys own. subst (λ ds. AreThose (has_doc ds) docs) (same ∙ own) those) (words_are held place count rows part words at_most fits read)
 
 -- the documents of the entries of parts that were read
 pub parts_listed : (held : Option Files) (place : Place) (count rows : ℕ) (parts : List Ends) (words docs : List ℕ) → Told held place count rows (λ keys. words ≡ entries_in count keys parts) → AreThose (has_doc words) docs
@@ -295,10 +295,10 @@ pub entries_next : (count rows : ℕ) (place : Place) (parts left rest : List En
     → OnlyReads ⊥ now next → LogsOn place.file (place.offset + 4 * (count + 1 + part.first)) (place.offset + 4 * (count + 1 + part.last)) now.log next.log
     → WordsRead now.held place (count + 1 + part.first) (count + 1 + part.last) words → rows ≤ 1048576 → All (λ n. n < rows) words → new ≡ old ++ words
     → EntriesStep count rows place parts rest first next new
-entries_next count rows place parts left rest part first now next old new words step is reads log read few all added =
+entries_next count rows place parts left rest part first now next old new words step is reads log read at_most all added =
     let at : EntriesStep count rows place parts (part ∷ rest) first now old = subst (λ ps. EntriesStep count rows place parts ps first now old) is step in
     let rise = at.rising.1 in
-    let are = words_are first.held place count rows part words few rise.2 (subst (λ h. WordsRead h place (count + 1 + part.first) (count + 1 + part.last) words) at.reads.held read) in
+    let are = words_are first.held place count rows part words at_most rise.2 (subst (λ h. WordsRead h place (count + 1 + part.first) (count + 1 + part.last) words) at.reads.held read) in
     record {
       reads = reads_after ⊥ first now next at.reads reads;
       whole = λ last over. at.whole last (next.log, log, over);
@@ -322,9 +322,9 @@ entries_partly count rows place parts left rest part first now next words step i
 pub entries_bad : (count rows : ℕ) (place : Place) (parts left rest : List Ends) (part : Ends) (first now : Seen) (words : List ℕ)
     → EntriesStep count rows place parts left first now words → left ≡ part ∷ rest → rows ≤ 1048576
     → WordsBad now.held place rows (count + 1 + part.first) (count + 1 + part.last) → Told first.held place count rows (λ keys. ⊥)
-entries_bad count rows place parts left rest part first now words step is few bad =
+entries_bad count rows place parts left rest part first now words step is at_most bad =
     let at : EntriesStep count rows place parts (part ∷ rest) first now words = subst (λ ps. EntriesStep count rows place parts ps first now words) is step in
-    words_bad first.held place count rows part few at.rising.1.2 (subst (λ h. WordsBad h place rows (count + 1 + part.first) (count + 1 + part.last)) at.reads.held bad)
+    words_bad first.held place count rows part at_most at.rising.1.2 (subst (λ h. WordsBad h place rows (count + 1 + part.first) (count + 1 + part.last)) at.reads.held bad)
 
 pub entries_end : (count rows : ℕ) (place : Place) (parts left : List Ends) (first now : Seen) (words : List ℕ) → EntriesStep count rows place parts left first now words → left ≡ []
     → Told first.held place count rows (λ keys. words ≡ entries_in count keys parts) × LogsOver place.file (map (entries_at place.offset count) parts) first.log now.log

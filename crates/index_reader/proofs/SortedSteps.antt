@@ -65,9 +65,9 @@ EndsBad held place limit to = IfSome held (λ files. (list : List ℕ) →
 -- the places of a run of ids
 pub ends_are : (held : Option Files) (place : Place) (count rows a b : ℕ) (run : Run) → run.first ≤ run.last → run.last < count → rows ≤ 1048576 → EndsRead held place (2 * run.first) (2 * run.last + 2) a b
     → IfSome held (λ files. (ids : List ℕ) → TellsSorted count rows (section files place) ids → (a ≡ first_place ids run.first) × (b ≡ first_place ids (run.last + 1)))
-ends_are None place count rows a b run order within few read = tt
-ends_are (Some files) place count rows a b run order within few read = λ ids tells.
-    let small : length ids < 2 ^ 32 = omega (arith, tells.0.1, few) in
+ends_are None place count rows a b run order within at_most read = tt
+ends_are (Some files) place count rows a b run order within at_most read = λ ids tells.
+    let small : length ids < 2 ^ 32 = omega (arith, tells.0.1, at_most) in
     let both = read (sorted.runs count ids) (runs_below ids (2 ^ 32) small count) (runs_reach count ids run.last within) tells.2 in
     let last : 2 * run.last + 2 - 1 ≡ 2 * run.last + 1 = omega arith in (
       both.0 ∙ (both_at ids run.first count (omega (arith, order, within))).0,
@@ -77,9 +77,9 @@ ends_are (Some files) place count rows a b run order within few read = λ ids te
 -- they are there
 pub ends_bad : (held : Option Files) (place : Place) (count rows : ℕ) (run : Run) → run.last < count → rows ≤ 1048576 → EndsBad held place (rows + 1) (2 * run.last + 2)
     → IfSome held (λ files. (ids : List ℕ) → TellsSorted count rows (section files place) ids → ⊥)
-ends_bad None place count rows run within few bad = tt
-ends_bad (Some files) place count rows run within few bad = λ ids tells.
-    let small : length ids < 2 ^ 32 = omega (arith, tells.0.1, few) in
+ends_bad None place count rows run within at_most bad = tt
+ends_bad (Some files) place count rows run within at_most bad = λ ids tells.
+    let small : length ids < 2 ^ 32 = omega (arith, tells.0.1, at_most) in
     let fits : length ids < rows + 1 = omega (arith, tells.0.1) in
     bad (sorted.runs count ids) (runs_below ids (2 ^ 32) small count) (runs_below ids (rows + 1) fits count) (runs_reach count ids run.last within) tells.2
 
@@ -126,12 +126,12 @@ pub sorted_next : (count rows : ℕ) (place : Place) (runs left rest : List Run)
     → OnlyReads ⊥ now next → LogsOn place.file (place.offset + 4 * (2 * run.first)) (place.offset + 4 * (2 * run.last + 2)) now.log next.log
     → EndsRead now.held place (2 * run.first) (2 * run.last + 2) a b → rows ≤ 1048576 → b ≤ rows → end ≤ a → a ≤ b → new ≡ old ++ range_with_len a (b - a)
     → SortedStep count rows place runs rest first next b new
-sorted_next count rows place runs left rest run first now next end a b old new step is reads logs read few fits more order added =
+sorted_next count rows place runs left rest run first now next end a b old new step is reads logs read at_most fits more order added =
     let at : SortedStep count rows place runs (run ∷ rest) first now end old = subst (λ rs. SortedStep count rows place runs rs first now end old) is step in
     let apart = at.after.1 in
     let held : now.held ≡ first.held = at.reads.held in
     let own : run.last < count = All-head (λ r. r.last < count) run rest at.within in
-    let are = ends_are first.held place count rows a b run apart.1 own few (subst (λ h. EndsRead h place (2 * run.first) (2 * run.last + 2) a b) held read) in
+    let are = ends_are first.held place count rows a b run apart.1 own at_most (subst (λ h. EndsRead h place (2 * run.first) (2 * run.last + 2) a b) held read) in
     let from : place.offset + 4 * (2 * run.first) ≡ place.offset + 8 * run.first = omega arith in
     let to : place.offset + 4 * (2 * run.last + 2) ≡ place.offset + 8 * (run.last + 1) = omega arith in
     let log : LogsOn place.file (place.offset + 8 * run.first) (place.offset + 8 * (run.last + 1)) now.log next.log =
@@ -171,19 +171,19 @@ pub sorted_read_bad : (count rows : ℕ) (place : Place) (runs left rest : List 
     → SortedStep count rows place runs left first now end docs → left ≡ run ∷ rest → rows ≤ 1048576
     → EndsBad now.held place (rows + 1) (2 * run.last + 2)
     → IfSome first.held (λ files. (ids : List ℕ) → TellsSorted count rows (section files place) ids → ⊥)
-sorted_read_bad count rows place runs left rest run first now end docs step is few bad =
+sorted_read_bad count rows place runs left rest run first now end docs step is at_most bad =
     let within = subst (All (λ r. r.last < count)) is step.within in
-    ends_bad first.held place count rows run (All-head (λ r. r.last < count) run rest within) few (subst (λ h. EndsBad h place (rows + 1) (2 * run.last + 2)) step.reads.held bad)
+    ends_bad first.held place count rows run (All-head (λ r. r.last < count) run rest within) at_most (subst (λ h. EndsBad h place (rows + 1) (2 * run.last + 2)) step.reads.held bad)
 
 pub sorted_order_bad : (count rows : ℕ) (place : Place) (runs left rest : List Run) (run : Run) (first now : Seen) (end a b : ℕ) (docs : List ℕ)
     → SortedStep count rows place runs left first now end docs → left ≡ run ∷ rest → rows ≤ 1048576
     → EndsRead now.held place (2 * run.first) (2 * run.last + 2) a b → (a < end) ⊎ (b < a)
     → IfSome first.held (λ files. (ids : List ℕ) → TellsSorted count rows (section files place) ids → ⊥)
-sorted_order_bad count rows place runs left rest run first now end a b docs step is few read wrong =
+sorted_order_bad count rows place runs left rest run first now end a b docs step is at_most read wrong =
     let at : SortedStep count rows place runs (run ∷ rest) first now end docs = subst (λ rs. SortedStep count rows place runs rs first now end docs) is step in
     let apart = at.after.1 in
     let own : run.last < count = All-head (λ r. r.last < count) run rest at.within in
-    let are = ends_are first.held place count rows a b run apart.1 own few (subst (λ h. EndsRead h place (2 * run.first) (2 * run.last + 2) a b) at.reads.held read) in
+    let are = ends_are first.held place count rows a b run apart.1 own at_most (subst (λ h. EndsRead h place (2 * run.first) (2 * run.last + 2) a b) at.reads.held read) in
     ends_order first.held place count rows end at.after.0 a b run apart.1 apart.0 at.after.2 are wrong
 
 end_told : (held : Option Files) (place : Place) (count rows : ℕ) (runs : List Run) (docs : List ℕ)

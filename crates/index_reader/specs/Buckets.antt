@@ -76,7 +76,7 @@ pub record IsOverlap (count low high : ℕ) (o : Overlap) : Type 0 where
   pub before : o.first ≤ o.sure_from
   pub sure : o.sure_from ≤ o.sure_to
   pub after : o.sure_to ≤ o.end
-  pub few : o.end ≤ buckets_for count
+  pub at_most : o.end ≤ buckets_for count
   pub inside : (bucket : ℕ) → bucket < buckets_for count → lies_within count low high bucket
       ≡ is_from_to o.sure_from o.sure_to bucket
   pub outer : (bucket : ℕ) → bucket < buckets_for count → overlaps count low high bucket

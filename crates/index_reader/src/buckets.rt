@@ -118,7 +118,7 @@ fn parts_at(offsets: &[u32], overlap: Overlap) -> BucketParts
     requires before { overlap.first ≤ overlap.sure_from }
     requires sure { overlap.sure_from ≤ overlap.sure_to }
     requires after { overlap.sure_to ≤ overlap.end }
-    requires long { overlap.end - overlap.first < length offsets.now }
+    requires lengths { overlap.end - overlap.first < length offsets.now }
     ensures { result ≡ parts_in offsets.now overlap }
 {
     let from = offsets[0];

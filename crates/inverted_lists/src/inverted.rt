@@ -9,7 +9,7 @@ use std::alloc::Global;
 
 /// Appends, for each id below the count, where its places begin, and then the places of each id.
 pub fn write_inverted(ids: &[u32], count: u32, out: &mut Vec<u8>) -> Result<(), NoMemory>
-    requires few { length ids.now ≤ 1048576 }
+    requires at_most { length ids.now ≤ 1048576 }
     requires below { All (λ id. id < count) ids.now }
     ensures ok { OnOk result (out.new.items ≡ out.old.items ++ inverted count ids.now) }
     ensures err { OnErr result (out.new.items ≡ out.old.items) }
@@ -19,7 +19,7 @@ pub fn write_inverted(ids: &[u32], count: u32, out: &mut Vec<u8>) -> Result<(), 
 
 /// The places of the ids, id by id: those of a lesser id come first, and those of one id ascend.
 pub fn places_by_id(alloc: Global, ids: &[u32], count: u32) -> Result<Vec<u32>, NoMemory>
-    requires few { length ids.now ≤ 1048576 }
+    requires at_most { length ids.now ≤ 1048576 }
     requires below { All (λ id. id < count) ids.now }
     ensures { IfOk result (λ places. places.items ≡ entries count ids.now) }
 {

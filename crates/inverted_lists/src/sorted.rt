@@ -11,7 +11,7 @@ use std::alloc::Global;
 /// Appends, for each id below the count, its first place in ascending ids and the place after its
 /// last one.
 pub fn write_sorted(ids: &[u32], count: u32, out: &mut Vec<u8>) -> Result<(), NoMemory>
-    requires few { length ids.now ≤ 1048576 }
+    requires at_most { length ids.now ≤ 1048576 }
     requires below { All (λ id. id < count) ids.now }
     requires ascend { IsNonDecreasing ids.now }
     ensures ok { OnOk result (out.new.items ≡ out.old.items ++ sorted_runs count ids.now) }
@@ -23,7 +23,7 @@ pub fn write_sorted(ids: &[u32], count: u32, out: &mut Vec<u8>) -> Result<(), No
 
 // The first place of each id below the count, and the place after its last one.
 fn run_ends(alloc: Global, ids: &[u32], count: u32) -> Result<Vec<u32>, NoMemory>
-    requires few { length ids.now ≤ 1048576 }
+    requires at_most { length ids.now ≤ 1048576 }
     requires ascend { IsNonDecreasing ids.now }
     ensures { IfOk result (λ ends. ends.items ≡ runs count ids.now) }
 {

@@ -72,7 +72,7 @@ impl Sink for MemorySink {
             (AppendsPrefix bytes.now (Some self.old.written) (Some self.new.written)) }
         ensures later { self.old.faults ≤ self.new.faults }
         ensures failed { OnErr result (Rose self.old.faults self.new.faults) }
-        ensures still { OnOk result (self.new.faults ≡ self.old.faults) }
+        ensures unchanged { OnOk result (self.new.faults ≡ self.old.faults) }
     {
         let fails = self.calls.fails();
         if fails || self.room - self.bytes.len() < bytes.len() {

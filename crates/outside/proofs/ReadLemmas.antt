@@ -57,7 +57,7 @@ front-starts (Some files) name offset into = (omega arith, refl)
 -- where a buffer has the front of a list, it has more of it after a read after that front
 front_of : (rest into new following : List ℕ) (done n k : ℕ) → done ≤ length into → done + n ≤ length rest → new ≡ take n (drop done rest) ++ following → take done into ≡ take done rest
     → take (done + n) (put_mid done k into new) ≡ take (done + n) rest
-front_of rest into new following done n k within long is before =
+front_of rest into new following done n k within lengths is before =
     let first : length (take done into) ≡ done = grind (arith, length-take done into) in
     let more : length (take n (drop done rest)) ≡ n = grind (arith, length-take n (drop done rest), length-drop done rest) in
     let tail : List ℕ = following ++ post_of done k into in
@@ -75,11 +75,11 @@ front-grows None name offset done n k into new within reads before = tt
 front-grows (Some files) name offset done n k into new within (file, got, (count, is)) before =
     let told : bytes_of (Some files) name ≡ file = there files name file got in
     let sizes : length (bytes_of (Some files) name) ≡ length file = ap length told in
-    let long : done + n ≤ length file - offset = omega (arith, count, before.0, sizes) in
+    let lengths : done + n ≤ length file - offset = omega (arith, count, before.0, sizes) in
     let rest = drop offset file in
     let shifted : new ≡ take n (drop done rest) ++ drop n (mid_of done k into) = is ∙ ap (λ ds. take n ds ++ drop n (mid_of done k into)) (sym (drop-drop done offset file)) in
     let front : take done into ≡ take done rest = before.1 ∙ ap (λ xs. take done (drop offset xs)) told in
-    (omega (arith, long, sizes), front_of rest into new (drop n (mid_of done k into)) done n k within (omega (arith, length-drop offset file, long)) shifted front ∙ ap (λ xs. take (done + n) (drop offset xs)) (sym told))
+    (omega (arith, lengths, sizes), front_of rest into new (drop n (mid_of done k into)) done n k within (omega (arith, length-drop offset file, lengths)) shifted front ∙ ap (λ xs. take (done + n) (drop offset xs)) (sym told))
 
 -- a file from which a read came is there
 pub ReadsAt-has : (held : Option Files) (name : List ℕ) (offset n : ℕ) (old new : List ℕ) → ReadsAt held name offset n old new → Has held name
@@ -89,12 +89,12 @@ ReadsAt-has (Some files) name offset n old new (file, got, is) = (file, got)
 -- a buffer that is cut after the bytes that were read has just the bytes of the file
 pub filled-bytes : (held : Option Files) (name : List ℕ) (offset n count size : ℕ) (into rest bytes : List ℕ) → length into ≡ size → size ≡ count → bytes ≡ take n (take size (into ++ rest)) → Fills held name offset n into
     → IfSome held (λ files. bytes ≡ bytes_at files name offset count)
-filled-bytes None name offset n count size into rest bytes long same is fills = tt
-filled-bytes (Some files) name offset n count size into rest bytes long same is (many, front) =
+filled-bytes None name offset n count size into rest bytes lengths same is fills = tt
+filled-bytes (Some files) name offset n count size into rest bytes lengths same is (many, front) =
     let file = bytes_of (Some files) name in
     let have : length (drop offset file) ≡ length file - offset = length-drop offset file in
-    let least : n ≡ min count (length (drop offset file)) = omega (arith, many, have, long, same) in
-    is ∙ ap (take n) (take_at into rest size long) ∙ front ∙ ap (λ k. take k (drop offset file)) least ∙ take_min count (drop offset file)
+    let least : n ≡ min count (length (drop offset file)) = omega (arith, many, have, lengths, same) in
+    is ∙ ap (take n) (take_at into rest size lengths) ∙ front ∙ ap (λ k. take k (drop offset file)) least ∙ take_min count (drop offset file)
 
 -- a read fits the buffer
 pub fits_after : (into new : List ℕ) (done n : ℕ) → done ≤ length into → length new ≡ length (mid_of done (length into - done) into) → n ≤ length (mid_of done (length into - done) into)
@@ -157,8 +157,8 @@ read_in-through [] file a b from to e = omega (arith, e)
 read_in-through (entry ∷ entries) file a b from to h =
     let rest : read_in entries file from to ≡ overlap (a + entry.count) b from to = read_in-through entries file (a + entry.count) b from to h.2 in
     let here : read_by entry file from to ≡ overlap a (a + entry.count) from to = read_by-same entry file from to h.0 ∙ ap (λ k. overlap k (k + entry.count) from to) h.1 in
-    let long : a + entry.count ≤ b = Consecutive-le file (a + entry.count) b entries h.2 in
-    read_in-cons entry entries file from to ∙ ap (λ k. k + read_in entries file from to) here ∙ ap (λ k. overlap a (a + entry.count) from to + k) rest ∙ touching a (a + entry.count) b from to (omega arith) long
+    let lengths : a + entry.count ≤ b = Consecutive-le file (a + entry.count) b entries h.2 in
+    read_in-cons entry entries file from to ∙ ap (λ k. k + read_in entries file from to) here ∙ ap (λ k. overlap a (a + entry.count) from to + k) rest ∙ touching a (a + entry.count) b from to (omega arith) lengths
 
 -- reads of other files add nothing
 pub read_in-others : (entries : List Entry) (file : List ℕ) (from to : ℕ) → All (λ entry. entry.file ≢ file) entries → read_in entries file from to ≡ 0
@@ -239,18 +239,18 @@ same_bytes : {b file : List ℕ} → Some b ≡ Some file → b ≡ file
 same_bytes e = cc
 
 -- the bytes of a whole file, as long as it is told to be
-pub whole-bytes : (held now : Option Files) (name bytes : List ℕ) (long limit : ℕ) → now ≡ held → IsLengthOf held name long → long ≤ limit → IfSome now (λ files. bytes ≡ bytes_at files name 0 long) → IsWhole held name limit bytes
-whole-bytes None now name bytes long limit same told within is = tt
-whole-bytes (Some files) now name bytes long limit same (file, got, count) within is =
-    let read : bytes ≡ bytes_at files name 0 long = subst (λ h. IfSome h (λ fs. bytes ≡ bytes_at fs name 0 long)) same is in
-    let whole : take long file ≡ file = take_all long file (omega (arith, count)) in
-    (file, got, (read ∙ ap (take long) (there files name file got) ∙ whole, omega (arith, count)))
+pub whole-bytes : (held now : Option Files) (name bytes : List ℕ) (lengths limit : ℕ) → now ≡ held → IsLengthOf held name lengths → lengths ≤ limit → IfSome now (λ files. bytes ≡ bytes_at files name 0 lengths) → IsWhole held name limit bytes
+whole-bytes None now name bytes lengths limit same told within is = tt
+whole-bytes (Some files) now name bytes lengths limit same (file, got, count) within is =
+    let read : bytes ≡ bytes_at files name 0 lengths = subst (λ h. IfSome h (λ fs. bytes ≡ bytes_at fs name 0 lengths)) same is in
+    let whole : take lengths file ≡ file = take_all lengths file (omega (arith, count)) in
+    (file, got, (read ∙ ap (take lengths) (there files name file got) ∙ whole, omega (arith, count)))
 
 -- of a told file as many bytes are read as it has
-pub LogsFilled-told : (held : Option Files) (name bytes : List ℕ) (long limit : ℕ) (first now : Option (List Entry)) → IsLengthOf held name long → IsWhole held name limit bytes
-    → LogsFilled name 0 (length bytes) long first now → IfSome held (λ _. LogsOn name 0 (length bytes) first now)
-LogsFilled-told None name bytes long limit first now told is filled = tt
-LogsFilled-told (Some files) name bytes long limit first now (file, got, count) (other, got', is) (inl (reached, on)) = on
-LogsFilled-told (Some files) name bytes long limit first now (file, got, count) (other, got', is) (inr (between, short, on, e)) =
+pub LogsFilled-told : (held : Option Files) (name bytes : List ℕ) (lengths limit : ℕ) (first now : Option (List Entry)) → IsLengthOf held name lengths → IsWhole held name limit bytes
+    → LogsFilled name 0 (length bytes) lengths first now → IfSome held (λ _. LogsOn name 0 (length bytes) first now)
+LogsFilled-told None name bytes lengths limit first now told is filled = tt
+LogsFilled-told (Some files) name bytes lengths limit first now (file, got, count) (other, got', is) (inl (reached, on)) = on
+LogsFilled-told (Some files) name bytes lengths limit first now (file, got, count) (other, got', is) (inr (between, short, on, e)) =
     let same : length file ≡ length bytes = ap length (same_bytes (sym got ∙ got') ∙ sym is.0) in
     absurd (omega (arith, count, same, short))

@@ -6,19 +6,19 @@ use Rattle.outside.specs.Seen.{OnlyReads, Seen}
 
 -- a call that was not made
 pub reads_none : (shelf : Seen) → OnlyReads ⊥ shelf shelf
-reads_none shelf = record { held = refl; parts = refl; writes = refl; later = le_refl _; rose = λ fails. absurd fails; still = λ _. refl }
+reads_none shelf = record { held = refl; parts = refl; writes = refl; later = le_refl _; rose = λ fails. absurd fails; unchanged = λ _. refl }
 
 -- a call after calls that ended well
 pub reads_after : (Fails : Type 0) (first between last : Seen) → OnlyReads ⊥ first between → OnlyReads Fails between last → OnlyReads Fails first last
 reads_after Fails first between last before now =
-    let same : between.read_faults ≡ first.read_faults = before.still (λ fails. fails) in
+    let same : between.read_faults ≡ first.read_faults = before.unchanged (λ fails. fails) in
     record {
       held = now.held ∙ before.held;
       parts = now.parts ∙ before.parts;
       writes = now.writes ∙ before.writes;
       later = omega (arith, before.later, now.later);
       rose = λ fails. subst (λ n. Rose n last.read_faults) same (now.rose fails);
-      still = λ fine. now.still fine ∙ same;
+      unchanged = λ fine. now.unchanged fine ∙ same;
     }
 
 -- the same call by another name of its failure
@@ -29,7 +29,7 @@ reads_so Fails Other old new to from reads = record {
   writes = reads.writes;
   later = reads.later;
   rose = λ fails. reads.rose (to fails);
-  still = λ fine. reads.still (λ fails. fine (from fails));
+  unchanged = λ fine. reads.unchanged (λ fails. fine (from fails));
 }
 
 -- what holds whatever the call returned

@@ -42,7 +42,7 @@ pub record OnlyReads (Fails : Type 0) (old new : Seen) : Type 0 where
   pub writes : new.write_faults ≡ old.write_faults
   pub later : old.read_faults ≤ new.read_faults
   pub rose : Fails → Rose old.read_faults new.read_faults
-  pub still : ¬ Fails → new.read_faults ≡ old.read_faults
+  pub unchanged : ¬ Fails → new.read_faults ≡ old.read_faults
 
 -- what a call that writes leaves of a depot beside its files and parts; its count of faults rose
 -- just where the call failed
@@ -51,7 +51,7 @@ pub record Writes (Fails : Type 0) (old new : Seen) : Type 0 where
   pub reads : new.read_faults ≡ old.read_faults
   pub later : old.write_faults ≤ new.write_faults
   pub rose : Fails → Rose old.write_faults new.write_faults
-  pub still : ¬ Fails → new.write_faults ≡ old.write_faults
+  pub unchanged : ¬ Fails → new.write_faults ≡ old.write_faults
 
 -- what a call that writes one part leaves of the rest of a depot; its count of faults rose just
 -- where the call failed
@@ -61,4 +61,4 @@ pub record OnlyWrites (Fails : Type 0) (part : List ℕ) (old new : Seen) : Type
   pub reads : new.read_faults ≡ old.read_faults
   pub later : old.write_faults ≤ new.write_faults
   pub rose : Fails → Rose old.write_faults new.write_faults
-  pub still : ¬ Fails → new.write_faults ≡ old.write_faults
+  pub unchanged : ¬ Fails → new.write_faults ≡ old.write_faults

@@ -16,7 +16,7 @@ LogsTo each (suc n) old new = (between : Option (List Entry)) × LogsTo each n o
 pub record LogsPartOf (each partly : ℕ → Logs) (count : ℕ) (old new : Option (List Entry))
     : Type 0 where
   pub upto : ℕ
-  pub few : upto ≤ count
+  pub at_most : upto ≤ count
   pub between : Option (List Entry)
   pub before : LogsTo each upto old between
   pub rest : (new ≡ between) ⊎ ((upto < count) × partly upto between new)

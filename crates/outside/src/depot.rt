@@ -43,7 +43,7 @@ pub trait Depot: Shelf {
         ensures later { Self.write_faults self.old ≤ Self.write_faults self.new }
         ensures failed { IsErrOf result Failed →
             Rose (Self.write_faults self.old) (Self.write_faults self.new) }
-        ensures still { ¬ IsErrOf result Failed →
+        ensures unchanged { ¬ IsErrOf result Failed →
             Self.write_faults self.new ≡ Self.write_faults self.old }
         ensures never_missing { ¬ IsErrOf result Missing };
 
@@ -61,7 +61,7 @@ pub trait Depot: Shelf {
         ensures later { Self.write_faults self.old ≤ Self.write_faults self.new }
         ensures failed { IsErrOf result Failed →
             Rose (Self.write_faults self.old) (Self.write_faults self.new) }
-        ensures still { ¬ IsErrOf result Failed →
+        ensures unchanged { ¬ IsErrOf result Failed →
             Self.write_faults self.new ≡ Self.write_faults self.old }
         ensures never_missing { ¬ IsErrOf result Missing };
 
@@ -81,7 +81,7 @@ pub trait Depot: Shelf {
         ensures later { Self.write_faults self.old ≤ Self.write_faults self.new }
         ensures failed { IsErrOf result Failed →
             Rose (Self.write_faults self.old) (Self.write_faults self.new) }
-        ensures still { ¬ IsErrOf result Failed →
+        ensures unchanged { ¬ IsErrOf result Failed →
             Self.write_faults self.new ≡ Self.write_faults self.old }
         ensures never_missing { ¬ IsErrOf result Missing };
 
@@ -96,7 +96,7 @@ pub trait Depot: Shelf {
         ensures later { Self.write_faults self.old ≤ Self.write_faults self.new }
         ensures failed { IsErrOf result Failed →
             Rose (Self.write_faults self.old) (Self.write_faults self.new) }
-        ensures still { ¬ IsErrOf result Failed →
+        ensures unchanged { ¬ IsErrOf result Failed →
             Self.write_faults self.new ≡ Self.write_faults self.old }
         ensures missing { IsErrOf result Missing → Lacks (Self.held self.old) name.now }
         ensures there { OnOk result (Has (Self.held self.old) name.now) }

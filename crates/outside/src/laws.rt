@@ -12,7 +12,7 @@ pub fn rises_compose()
         Rose between after → Rose before after }
     ensures none { (before between after : ℕ) → before ≤ between → between ≤ after →
         ¬ Rose before after → (¬ Rose before between) × (¬ Rose between after) }
-    ensures still { (before after : ℕ) → before ≤ after → ¬ Rose before after →
+    ensures unchanged { (before after : ℕ) → before ≤ after → ¬ Rose before after →
         after ≡ before }
 {}
 

@@ -56,7 +56,7 @@ pub trait Shelf {
         ensures later { read_faults self.old ≤ read_faults self.new }
         ensures failed { IsErrOf result Failed → Rose (read_faults self.old)
             (read_faults self.new) }
-        ensures still { ¬ IsErrOf result Failed → read_faults self.new ≡ read_faults self.old }
+        ensures unchanged { ¬ IsErrOf result Failed → read_faults self.new ≡ read_faults self.old }
         ensures never_missing { ¬ IsErrOf result Missing };
 
     /// The length of a file in bytes.
@@ -69,7 +69,7 @@ pub trait Shelf {
         ensures later { read_faults self.old ≤ read_faults self.new }
         ensures failed { IsErrOf result Failed → Rose (read_faults self.old)
             (read_faults self.new) }
-        ensures still { ¬ IsErrOf result Failed → read_faults self.new ≡ read_faults self.old }
+        ensures unchanged { ¬ IsErrOf result Failed → read_faults self.new ≡ read_faults self.old }
         ensures missing { IsErrOf result Missing → Lacks (held self.old) name.now }
         ensures present { IsErrOf result NoMemory → Has (held self.old) name.now };
 
@@ -93,7 +93,7 @@ pub trait Shelf {
         ensures later { read_faults self.old ≤ read_faults self.new }
         ensures failed { IsErrOf result Failed → Rose (read_faults self.old)
             (read_faults self.new) }
-        ensures still { ¬ IsErrOf result Failed → read_faults self.new ≡ read_faults self.old }
+        ensures unchanged { ¬ IsErrOf result Failed → read_faults self.new ≡ read_faults self.old }
         ensures missing { IsErrOf result Missing → Lacks (held self.old) name.now }
         ensures present { IsErrOf result NoMemory → Has (held self.old) name.now };
 }

@@ -27,5 +27,5 @@ pub trait Sink {
             (written self.new)) }
         ensures later { faults self.old ≤ faults self.new }
         ensures failed { OnErr result (Rose (faults self.old) (faults self.new)) }
-        ensures still { OnOk result (faults self.new ≡ faults self.old) };
+        ensures unchanged { OnOk result (faults self.new ≡ faults self.old) };
 }

@@ -25,7 +25,7 @@ fn of_shelf(fault: ShelfFault) -> ReadAllFault
     ensures missing { result ≡ ReadAllFault.Missing ↔ (fault ≡ ShelfFault.Missing) }
     ensures failed { result ≡ ReadAllFault.Failed ↔ (fault ≡ ShelfFault.Failed) }
     ensures memory { result ≡ ReadAllFault.NoMemory ↔ (fault ≡ ShelfFault.NoMemory) }
-    ensures long { ¬ (result ≡ ReadAllFault.TooLong) }
+    ensures too_long { ¬ (result ≡ ReadAllFault.TooLong) }
 {
     match fault {
         ShelfFault::Missing => ReadAllFault::Missing,
@@ -58,7 +58,7 @@ pub fn read_all<S: Shelf>(
     ensures log_of_fault { OnErr result
         (LogsFront name.now limit (S.log shelf.old) (S.log shelf.new)) }
     ensures missing { IsErrOf result ReadAllFault.Missing → Lacks (S.held shelf.old) name.now }
-    ensures long { IsErrOf result ReadAllFault.TooLong →
+    ensures too_long { IsErrOf result ReadAllFault.TooLong →
         IsTooLong (S.held shelf.old) name.now limit }
     ensures present { IsErrOf result ReadAllFault.NoMemory → Has (S.held shelf.old) name.now }
 {

@@ -30,11 +30,11 @@ same_held [] old new same = ap (λ s. s.held) same
 same_held (file ∷ others) old new (mid, front, rest) = same_held others mid new rest ∙ front.held
 
 pub compose : PromisesCompose
-compose first second old mid new ended later one two fine still =
+compose first second old mid new ended later one two fine unchanged =
     by_told old.devices.inputs.held old.devices.depot.held (λ state files. IsSomeAnd new.devices.depot.held (λ kept. Stands kept (step_of (step_of state first files).state second files).state))
     (λ state files kept told stored stands.
     let stepped = at old.devices.inputs.held old.devices.depot.held (λ state files. IsStep (step_of state first files) ended old mid) state files kept told stored stands (one.step fine) in
     let (between, there, stood) = told_one mid.devices.depot.held (λ files'. Stands files' (step_of state first files).state) stepped.stepped.stands in
     let told_on : mid.devices.inputs.held ≡ Some files = same_held (profile first).files old.devices.inputs mid.devices.inputs one.touched.inputs ∙ told in
-    let then = at mid.devices.inputs.held mid.devices.depot.held (λ state files. IsStep (step_of state second files) later mid new) (step_of state first files).state files between told_on there stood (two.step still) in
+    let then = at mid.devices.inputs.held mid.devices.depot.held (λ state files. IsStep (step_of state second files) later mid new) (step_of state first files).state files between told_on there stood (two.step unchanged) in
     then.stepped.stands)

@@ -45,7 +45,7 @@ pub record GaveText (text : List ℕ) (ended : Status) (out out_new notes notes_
   pub cut : ended ≡ status.WriteFault → Rose out.faults out_new.faults
   pub prefix : AppendsPrefix text out.written out_new.written
   pub later : out.faults ≤ out_new.faults
-  pub still : ended ≡ status.Done → out_new.faults ≡ out.faults
+  pub unchanged : ended ≡ status.Done → out_new.faults ≡ out.faults
   pub noted : Noted ended notes notes_new
 
 -- what was given of a refusal
@@ -86,8 +86,8 @@ module _ (command : Option Command) (old : World) (new : Devices) where
 
   -- no device failed before the answer was given
   fine_counted : (ended : Status) (out notes : Heard) → NoFaults old.devices new → (ended ≢ status.WriteFault → out.faults ≡ old.out.faults) → old.out.faults ≤ out.faults → Counted ended old (after new out notes)
-  fine_counted ended out notes none still later =
-      record { inputs = λ other. none.inputs; depot_reads = λ other. none.depot_reads; depot_writes = λ other. none.depot_writes; out = still; out_later = later }
+  fine_counted ended out notes none unchanged later =
+      record { inputs = λ other. none.inputs; depot_reads = λ other. none.depot_reads; depot_writes = λ other. none.depot_writes; out = unchanged; out_later = later }
 
   -- ---- a text
 
@@ -100,7 +100,7 @@ module _ (command : Option Command) (old : World) (new : Devices) where
         leaves = record { answer = Replies text; acted = ran.ended; given = given };
         complete = λ quiet. completes (Replies text) ran.ended;
         notes = gave.noted;
-        counted = fine_counted status.Done out notes ran.counted (λ other. gave.still refl) gave.later;
+        counted = fine_counted status.Done out notes ran.counted (λ other. gave.unchanged refl) gave.later;
         touched = ran.touched;
         reads = ran.reads;
       }
@@ -228,15 +228,15 @@ unnoted notes = record {
   line = λ none. ([], inl (Replies [], refl, refl), nothing_more notes.written);
   part = (status.Done, [], inl (Replies [], refl, refl), (0, omega arith, nothing_more notes.written));
   later = le_refl _;
-  still = λ fine. refl;
+  unchanged = λ fine. refl;
 }
 
 pub noted_line : (line : Note) (bytes : List ℕ) (old new : Heard) → bytes ≡ note_text line → new.written ≡ appended bytes old.written → AppendsPrefix bytes old.written new.written → old.faults ≤ new.faults → new.faults ≡ old.faults → Noted (status_of line) old new
-noted_line line bytes old new is whole prefix later still = record {
+noted_line line bytes old new is whole prefix later unchanged = record {
   line = λ none. (bytes, inl (Refuses line, refl, sym is), whole);
   part = (status_of line, bytes, inl (Refuses line, refl, sym is), prefix);
   later = later;
-  still = λ fine. still;
+  unchanged = λ fine. unchanged;
 }
 
 pub noted_cut : (line : Note) (bytes : List ℕ) (old new : Heard) → bytes ≡ note_text line → Rose old.faults new.faults → AppendsPrefix bytes old.written new.written → old.faults ≤ new.faults → Noted status.WriteFault old new
@@ -244,5 +244,5 @@ noted_cut line bytes old new is rose prefix later = record {
   line = λ none. absurd (none rose);
   part = (status_of line, bytes, inl (Refuses line, refl, sym is), prefix);
   later = later;
-  still = λ fine. absurd cc;
+  unchanged = λ fine. absurd cc;
 }

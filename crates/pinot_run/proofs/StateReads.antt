@@ -113,7 +113,7 @@ module _ (stored : Files) (texts : state.Texts) (segments : Segments) (stands : 
   keys_are : AreFirstNames stored (map.keys segments)
   keys_are =
       let count : length (map.keys segments) ≡ map.len segments = length-map (map.entries segments) (λ e. e.0) ∙ sym (map.len-entries segments) in
-      (map.keys segments, keys_stand stored texts segments stands, sym (take_all 512 (map.keys segments) (omega (arith, count, stands.valid.few))))
+      (map.keys segments, keys_stand stored texts segments stands, sym (take_all 512 (map.keys segments) (omega (arith, count, stands.valid.at_most))))
 
   -- the rows whose images the files of segments are, in their order
   images : (names : List (List ℕ)) → ((k : ℕ) → k < length names → has_segment stored (get_or names k []) ≡ true)

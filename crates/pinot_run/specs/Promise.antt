@@ -32,7 +32,7 @@ pub record Noted (ended : Status) (old new : Heard) : Type 0 where
   pub part : (other : Status) × (line : List ℕ) × IsLineOf other line
       × AppendsPrefix line old.written new.written
   pub later : old.faults ≤ new.faults
-  pub still : is_fault ended ≡ false → new.faults ≡ old.faults
+  pub unchanged : is_fault ended ≡ false → new.faults ≡ old.faults
 
 -- nothing was done to the store, and nothing given
 pub record IsUndone (old new : World) : Type 0 where

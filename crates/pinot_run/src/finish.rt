@@ -27,7 +27,7 @@ fn put_some<S: Sink>(bytes: &[u8], sink: &mut S) -> bool
     ensures prefix { AppendsPrefix bytes.now (S.written sink.old) (S.written sink.new) }
     ensures later { S.faults sink.old ≤ S.faults sink.new }
     ensures failed { result ≡ false → Rose (S.faults sink.old) (S.faults sink.new) }
-    ensures still { result ≡ true → S.faults sink.new ≡ S.faults sink.old }
+    ensures unchanged { result ≡ true → S.faults sink.new ≡ S.faults sink.old }
 {
     bytes.is_empty() || sink.put(bytes).is_ok()
 }
@@ -51,7 +51,7 @@ pub fn give_text<O: Sink, N: Sink>(text: &Bytes, out: &mut O, notes: &mut N) -> 
     ensures cut { result ≡ Status.WriteFault → Rose (O.faults out.old) (O.faults out.new) }
     ensures prefix { AppendsPrefix text.now (O.written out.old) (O.written out.new) }
     ensures later { O.faults out.old ≤ O.faults out.new }
-    ensures still { result ≡ Status.Done → O.faults out.new ≡ O.faults out.old }
+    ensures unchanged { result ≡ Status.Done → O.faults out.new ≡ O.faults out.old }
     ensures noted { Noted result (heard N.Sink notes.old) (heard N.Sink notes.new) }
 {
     if put_some(text.as_slice(), out) {

@@ -54,8 +54,8 @@ or_true false = refl
 
 few_passes : (m k at : ℕ) (later : Finding) → k ≤ m → or_else (fault_if (nat_lt m k) TooMany at) later ≡ later
 few_passes m k at later le =
-    let few : nat_lt m k ≡ false = search (rules, tests) in
-    ap (λ b. or_else (fault_if b TooMany at) later) few
+    let at_most : nat_lt m k ≡ false = search (rules, tests) in
+    ap (λ b. or_else (fault_if b TooMany at) later) at_most
 
 many_stops : (m k at : ℕ) (later : Finding) → m < k → or_else (fault_if (nat_lt m k) TooMany at) later ≡ Some (At TooMany at)
 many_stops m k at later lt =
@@ -65,19 +65,19 @@ many_stops m k at later lt =
 -- ---- group columns
 
 few_from : (kept : List ℕ) (ns : List ColumnAt) → length (columns_from kept ns) ≤ 8 → groups_finding kept ns ≡ None
-few_from kept [] few = refl
-few_from kept (n ∷ ns) few =
-    few_passes 8 (length (with_column kept n.column)) n.offset _ (omega (arith, columns_grow (with_column kept n.column) ns, few))
-    ∙ few_from (with_column kept n.column) ns few
+few_from kept [] at_most = refl
+few_from kept (n ∷ ns) at_most =
+    few_passes 8 (length (with_column kept n.column)) n.offset _ (omega (arith, columns_grow (with_column kept n.column) ns, at_most))
+    ∙ few_from (with_column kept n.column) ns at_most
 
 first_from : (kept : List ℕ) (before : List ColumnAt) (n : ColumnAt) (after : List ColumnAt)
     → length (columns_from kept before) ≤ 8
     → 8 < length (columns_from kept (before ++ n ∷ []))
     → groups_finding kept (before ++ n ∷ after) ≡ Some (At TooMany n.offset)
-first_from kept [] n after few many = many_stops 8 (length (with_column kept n.column)) n.offset _ many
-first_from kept (m ∷ before) n after few many =
-    few_passes 8 (length (with_column kept m.column)) m.offset _ (omega (arith, columns_grow (with_column kept m.column) before, few))
-    ∙ first_from (with_column kept m.column) before n after few many
+first_from kept [] n after at_most many = many_stops 8 (length (with_column kept n.column)) n.offset _ many
+first_from kept (m ∷ before) n after at_most many =
+    few_passes 8 (length (with_column kept m.column)) m.offset _ (omega (arith, columns_grow (with_column kept m.column) before, at_most))
+    ∙ first_from (with_column kept m.column) before n after at_most many
 
 pub few_groups : FewGroups
 few_groups = few_from []
@@ -88,19 +88,19 @@ first_group = first_from []
 -- ---- aggregates
 
 few_aggs_from : (kept : List Agg) (ts : List TermAt) → length (aggs_from kept ts) ≤ 16 → aggs_finding kept ts ≡ None
-few_aggs_from kept [] few = refl
-few_aggs_from kept (t ∷ ts) few =
-    few_passes 16 (length (with_agg kept t.meaning)) t.offset _ (omega (arith, aggs_grow (with_agg kept t.meaning) ts, few))
-    ∙ few_aggs_from (with_agg kept t.meaning) ts few
+few_aggs_from kept [] at_most = refl
+few_aggs_from kept (t ∷ ts) at_most =
+    few_passes 16 (length (with_agg kept t.meaning)) t.offset _ (omega (arith, aggs_grow (with_agg kept t.meaning) ts, at_most))
+    ∙ few_aggs_from (with_agg kept t.meaning) ts at_most
 
 first_agg_from : (kept : List Agg) (before : List TermAt) (t : TermAt) (after : List TermAt)
     → length (aggs_from kept before) ≤ 16
     → 16 < length (aggs_from kept (before ++ t ∷ []))
     → aggs_finding kept (before ++ t ∷ after) ≡ Some (At TooMany t.offset)
-first_agg_from kept [] t after few many = many_stops 16 (length (with_agg kept t.meaning)) t.offset _ many
-first_agg_from kept (s ∷ before) t after few many =
-    few_passes 16 (length (with_agg kept s.meaning)) s.offset _ (omega (arith, aggs_grow (with_agg kept s.meaning) before, few))
-    ∙ first_agg_from (with_agg kept s.meaning) before t after few many
+first_agg_from kept [] t after at_most many = many_stops 16 (length (with_agg kept t.meaning)) t.offset _ many
+first_agg_from kept (s ∷ before) t after at_most many =
+    few_passes 16 (length (with_agg kept s.meaning)) s.offset _ (omega (arith, aggs_grow (with_agg kept s.meaning) before, at_most))
+    ∙ first_agg_from (with_agg kept s.meaning) before t after at_most many
 
 pub few_aggs : FewAggs
 few_aggs = few_aggs_from []
@@ -134,30 +134,30 @@ one_more n m (inr p) = inr p
 
 few_keys_from : (others : ℕ) (kept : List Agg) (ks : List KeyAt) → others + length ks ≤ 16
     → length (aggs_from kept (map (λ k. k.term) ks)) ≤ 16 → keys_finding others kept ks ≡ None
-few_keys_from others kept [] some few = refl
-few_keys_from others kept (k ∷ ks) some few =
-    key_passes others (length (with_agg kept k.term.meaning)) k.term.offset _ (omega (arith, some)) (omega (arith, aggs_grow (with_agg kept k.term.meaning) (map (λ k. k.term) ks), few))
-    ∙ few_keys_from (others + 1) (with_agg kept k.term.meaning) ks (omega (arith, some)) few
+few_keys_from others kept [] some at_most = refl
+few_keys_from others kept (k ∷ ks) some at_most =
+    key_passes others (length (with_agg kept k.term.meaning)) k.term.offset _ (omega (arith, some)) (omega (arith, aggs_grow (with_agg kept k.term.meaning) (map (λ k. k.term) ks), at_most))
+    ∙ few_keys_from (others + 1) (with_agg kept k.term.meaning) ks (omega (arith, some)) at_most
 
 first_key_from : (others : ℕ) (kept : List Agg) (before : List KeyAt) (k : KeyAt) (after : List KeyAt)
     → others + length before ≤ 16
     → length (aggs_from kept (map (λ k. k.term) before)) ≤ 16
     → (16 ≤ others + length before) ⊎ (16 < length (aggs_from kept (map (λ k. k.term) (before ++ k ∷ []))))
     → keys_finding others kept (before ++ k ∷ after) ≡ Some (At TooMany k.term.offset)
-first_key_from others kept [] k after some few many = key_stops others (length (with_agg kept k.term.meaning)) k.term.offset _ (at_once others many)
-first_key_from others kept (j ∷ before) k after some few many =
-    key_passes others (length (with_agg kept j.term.meaning)) j.term.offset _ (omega (arith, some)) (omega (arith, aggs_grow (with_agg kept j.term.meaning) (map (λ k. k.term) before), few))
-    ∙ first_key_from (others + 1) (with_agg kept j.term.meaning) before k after (omega (arith, some)) few (one_more others (length before) many)
+first_key_from others kept [] k after some at_most many = key_stops others (length (with_agg kept k.term.meaning)) k.term.offset _ (at_once others many)
+first_key_from others kept (j ∷ before) k after some at_most many =
+    key_passes others (length (with_agg kept j.term.meaning)) j.term.offset _ (omega (arith, some)) (omega (arith, aggs_grow (with_agg kept j.term.meaning) (map (λ k. k.term) before), at_most))
+    ∙ first_key_from (others + 1) (with_agg kept j.term.meaning) before k after (omega (arith, some)) at_most (one_more others (length before) many)
 
 from_0 : {P : Type 0} (n : ℕ) → (16 ≤ n) ⊎ P → (16 ≤ 0 + n) ⊎ P
 from_0 n (inl le) = inl (omega (arith, le))
 from_0 n (inr p) = inr p
 
 pub few_keys : FewKeys
-few_keys = λ aggs ks some few. few_keys_from 0 aggs ks (omega (arith, some)) few
+few_keys = λ aggs ks some at_most. few_keys_from 0 aggs ks (omega (arith, some)) at_most
 
 pub first_key : FirstKey
-first_key = λ aggs before k after some few many. first_key_from 0 aggs before k after (omega (arith, some)) few (from_0 (length before) many)
+first_key = λ aggs before k after some at_most many. first_key_from 0 aggs before k after (omega (arith, some)) at_most (from_0 (length before) many)
 
 -- ---- what is kept where none is too many
 

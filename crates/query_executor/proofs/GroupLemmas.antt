@@ -58,23 +58,23 @@ module _ (query : BoundQuery) (table : Table) where
             → HasGroups query table h names (k + 1) new
         by None so told = tt
         by (Some files) so told = λ segments all.
-            let few : k < length segments = omega (arith, lt, AllZip-long (HasImage table files) names segments all) in
+            let at_most : k < length segments = omega (arith, lt, AllZip-long (HasImage table files) names segments all) in
             let adds = told (get_or segments k []) (zip_at (HasImage table files) names segments k [] [] all lt) in
             adds (selected query (stored_rows table (take k segments))) (so segments all)
-            ∙ ap (groups_of (shape_of query)) (selected_more segments k few)
+            ∙ ap (groups_of (shape_of query)) (selected_more segments k at_most)
 
     pub too_many : (held : Option Files) (k : ℕ) (old : KeptGroups) → k < length names → old.most ≡ most_groups → HasGroups query table held names k old → IsStoredOverfull query table held (get_or names k []) old
         → HaveTooMany query table held names most_groups
     too_many None k old lt most so over = tt
     too_many (Some files) k old lt most so over = λ segments all.
-        let few : k < length segments = omega (arith, lt, AllZip-long (HasImage table files) names segments all) in
+        let at_most : k < length segments = omega (arith, lt, AllZip-long (HasImage table files) names segments all) in
         let done : List (List Value) = selected query (stored_rows table (take k segments)) in
         let now : List (List Value) = selected_in query table (get_or segments k []) in
         let rest : List (List Value) = selected query (stored_rows table (drop (k + 1) segments)) in
         let full : old.most < finite.len (groups_of (shape_of query) (done ++ now)) = over (get_or segments k []) (zip_at (HasImage table files) names segments k [] [] all lt) done (so segments all) in
         let more = len_more (shape_of query) (done ++ now) rest in
         let same : (done ++ now) ++ rest ≡ selected query (stored_rows table segments) =
-        ap (λ l. l ++ rest) (selected_more segments k few)
+        ap (λ l. l ++ rest) (selected_more segments k at_most)
         ∙ both_selected (stored_rows table (take (k + 1) segments)) (stored_rows table (drop (k + 1) segments))
         ∙ ap (selected query) (stored_rest segments (k + 1)) in
         subst (λ l. 100000 < finite.len (groups_of (shape_of query) l)) same (omega (arith, full, more, most))

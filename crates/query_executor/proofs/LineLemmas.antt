@@ -49,14 +49,14 @@ module _ (line : List ℕ → List (List Value) → List ℕ) (table : Table) wh
   next_line : (names : List (List ℕ)) (segments : List (List (List Value))) (k : ℕ) → k < length names → k < length segments
       → lines_of line (drop k names) (drop k (in_order table segments))
       ≡ line (get_or names k []) (ordered table.settings.sorted (get_or segments k [])) ++ lines_of line (drop (k + 1) names) (drop (k + 1) (in_order table segments))
-  next_line names segments k lt few =
+  next_line names segments k lt at_most =
       let here : List (List Value) → List (List Value) = ordered table.settings.sorted in
       let rows : List (List (List Value)) = in_order table segments in
       let many : length rows ≡ length segments = length-map segments here in
       let first : drop k names ≡ get_or names k [] ∷ drop (k + 1) names = drop-cons names k [] lt ∙ ap (λ n. get_or names k [] ∷ drop n names) (sym (add-one k)) in
       let second : drop k rows ≡ here (get_or segments k []) ∷ drop (k + 1) rows =
-      drop-cons rows k [] (omega (arith, few, many))
-      ∙ ap (λ r. r ∷ drop (suc k) rows) (get_or-map here segments k [] [] few)
+      drop-cons rows k [] (omega (arith, at_most, many))
+      ∙ ap (λ r. r ∷ drop (suc k) rows) (get_or-map here segments k [] [] at_most)
       ∙ ap (λ n. here (get_or segments k []) ∷ drop n rows) (sym (add-one k)) in
       (λ i. lines_of line (first i) (second i))
 
@@ -68,14 +68,14 @@ module _ (line : List ℕ → List (List Value) → List ℕ) (table : Table) wh
     pub lines_more : (held : Option Files) (k : ℕ) (old new : List ℕ) → k < length names → HasLines line table held names k old → AddsLine line table held (get_or names k []) old new → HasLines line table held names (k + 1) new
     lines_more None k old new lt so adds = tt
     lines_more (Some files) k old new lt so adds = λ segments all.
-        let few : k < length segments = omega (arith, lt, AllZip-long (HasImage table files) names segments all) in
+        let at_most : k < length segments = omega (arith, lt, AllZip-long (HasImage table files) names segments all) in
         let rows : List (List Value) = get_or segments k [] in
         let own : List ℕ = line (get_or names k []) (ordered table.settings.sorted rows) in
         let rest : List ℕ = lines_of line (drop (k + 1) names) (drop (k + 1) (in_order table segments)) in
         let added : new ≡ old ++ own = adds rows (zip_at (HasImage table files) names segments k [] [] all lt) in
         ap (λ l. l ++ rest) added
         ∙ append_assoc old own rest
-        ∙ ap (λ l. old ++ l) (sym (next_line names segments k lt few))
+        ∙ ap (λ l. old ++ l) (sym (next_line names segments k lt at_most))
         ∙ so segments all
 
     pub lines_all : (files : Files) (text : List ℕ) → HasLines line table (Some files) names (length names) text → (segments : List (List (List Value))) → AllZip (HasImage table files) names segments → lines_of line names (in_order table segments) ≡ text

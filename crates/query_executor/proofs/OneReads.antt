@@ -37,8 +37,8 @@ use Rattle.star_answer.proofs.TreeReads.{answer_reads, answer_reads_partly, plan
 module _ (query : BoundQuery) (table : Table) (name : List ℕ) where
   -- a plan by which nothing is read after the head
   quiet_reads : (os : List (List Value)) (plan : SegmentPlan) (x : List Entry) → All (EndsBy (file_of name) (ends_at table name os)) x → (plan ≡ Pruned) ⊎ (plan ≡ Empty) → ReadsBy query table name os true x plan
-  quiet_reads os Pruned x all quiet = record { raw = head_raw query table name os x all; stars = λ t. head_star query table name os x t all }
-  quiet_reads os Empty x all quiet = record { raw = head_raw query table name os x all; stars = λ t. head_star query table name os x t all }
+  quiet_reads os Pruned x all are_unconstrained = record { raw = head_raw query table name os x all; stars = λ t. head_star query table name os x t all }
+  quiet_reads os Empty x all are_unconstrained = record { raw = head_raw query table name os x all; stars = λ t. head_star query table name os x t all }
   quiet_reads os (StarTree t) x all (inl is) = absurd cc
   quiet_reads os (StarTree t) x all (inr is) = absurd cc
   quiet_reads os (Scan plan) x all (inl is) = absurd cc
@@ -83,10 +83,10 @@ module _ (query : BoundQuery) (table : Table) (name : List ℕ) where
 
   -- a segment of which no row is looked at
   pub quiet_one : (held : Option Files) (plan : SegmentPlan) (docs : ℕ) (a b : Option (List Entry)) → IsDoneIn query table held name plan docs → (plan ≡ Pruned) ⊎ (plan ≡ Empty) → LogsHeadOne held a b → LogsOne (ReadsPlanned query table true) table held name a b
-  quiet_one None plan docs a b done quiet heads = λ before entries was now. tt
-  quiet_one (Some files) plan docs a b done quiet heads = λ before entries was now rows has.
+  quiet_one None plan docs a b done are_unconstrained heads = λ before entries was now. tt
+  quiet_one (Some files) plan docs a b done are_unconstrained heads = λ before entries was now rows has.
       let os : List (List Value) = ordered table.settings.sorted rows in
-      subst (ReadsBy query table name os true entries) (done rows has).0 (quiet_reads os plan entries (heads rows has before entries was now) quiet)
+      subst (ReadsBy query table name os true entries) (done rows has).0 (quiet_reads os plan entries (heads rows has before entries was now) are_unconstrained)
 
   module _ (law : DocsAreBounded) (valid : IsValidTable table) where
     -- one of which the head alone was read, before the query was given up

@@ -24,7 +24,7 @@ use Rattle.query_executor.proofs.PlanLemmas.{none_selected}
 use Rattle.segment_head.proofs.SectionLemmas.{rows_few}
 
 pub room : (table : Table) (head : Seen) (groups : KeptGroups) → IsHeadOf table head → HaveAtMost (most_values - 1048576) (groups_in groups) → HaveAtMost (most_values - head.rows) (groups_in groups)
-room table head groups of fits = let few = rows_few table head of in at_most_more (groups_in groups) (most_values - 1048576) (most_values - head.rows) (omega (arith, few)) fits
+room table head groups of fits = let at_most = rows_few table head of in at_most_more (groups_in groups) (most_values - 1048576) (most_values - head.rows) (omega (arith, at_most)) fits
 
 module _ (query : BoundQuery) (table : Table) (name : List ℕ) (head : Seen) where
   -- no row of the segment satisfies the query, and nothing is added
@@ -52,7 +52,7 @@ module _ (query : BoundQuery) (table : Table) (name : List ℕ) (head : Seen) wh
   adds_by held old new of of_query most fits told is = record {
     of_query = of_query;
     most = most;
-    fits = λ n few. let small = rows_few table head of in at_most_more (groups_in new) (n + head.rows) (n + 1048576) (omega (arith, small)) (fits n few);
+    fits = λ n at_most. let small = rows_few table head of in at_most_more (groups_in new) (n + head.rows) (n + 1048576) (omega (arith, small)) (fits n at_most);
     told = by held told is;
   }
     where

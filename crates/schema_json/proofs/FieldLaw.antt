@@ -32,7 +32,7 @@ use Rattle.table_schema.proofs.FirstLaws.{nones}
 -- a short text is a value of a field of texts
 short_fits : (text : Text) → nat_le (length text) 64 ≡ true → default_fits kind.Text (value.Text text) ≡ true
 short_fits text short =
-    let few : length text ≤ 64 = search (rules, tests) in
+    let at_most : length text ≤ 64 = search (rules, tests) in
     let fit : nat_le (length text) 512 ≡ true = search (rules, tests) in
     both_true (nat_le (length text) 512) (nat_le (length text) 64) fit short
 

@@ -9,7 +9,7 @@ use Rattle.table_schema.specs.Firsts.{or_else}
 use Rattle.table_schema.specs.Names.{Text}
 
 pub few_fields : (fields : List Field) (path : Text) → length fields < 64 → fault_unless (nat_lt (length (map (λ f. f.name) fields)) 64) TooMany path ≡ None
-few_fields fields path few =
+few_fields fields path at_most =
     let passes : nat_lt (length fields) 64 ≡ true = search (rules, tests) in
     ap (λ n. cond (nat_lt n 64) None (Some (At TooMany path))) (length-map (λ f. f.name) fields) ∙ ap (λ b. cond b None (Some (At TooMany path))) passes
 

@@ -21,8 +21,8 @@ use Rattle.table_schema.proofs.FirstLaws.{first_none, rest_none, nones}
 
 fields_good : (before es : List Entry) → by_place check before es ≡ None → length before ≤ 64
     → (list_all is_valid_field (map field_of es) ≡ true) × (no_repeat (map name_of before) (map name_of es) ≡ true) × (length before + length es ≤ 64)
-fields_good before [] none few = (refl, refl, omega arith)
-fields_good before (e ∷ es) none few =
+fields_good before [] none at_most = (refl, refl, omega arith)
+fields_good before (e ∷ es) none at_most =
     let here = first_none (check before e) (by_place check (before ++ e ∷ []) es) none in
     let left = rest_none (check before e) (by_place check (before ++ e ∷ []) es) none in
     let names = map name_of before in
@@ -54,7 +54,7 @@ schema_valid d none =
     let good = fields_good [] es all.1.1.0 (omega arith) in
     record {
       some = omega (arith, some_listed es listed, length-map field_of es);
-      few = omega (arith, good.2, length-map field_of es);
+      at_most = omega (arith, good.2, length-map field_of es);
       fields = good.0;
       apart = ap (no_repeat []) (names_of es) ∙ good.1;
     }

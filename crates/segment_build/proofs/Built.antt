@@ -43,7 +43,7 @@ modest_at fields t at field are lt =
     let values : values_in at (rows_of t) ≡ column.values = column_values t.count t.columns at no_column are.counts below in
     let fits : FitsKind (get_or fields at field).kind column = column_fit fields t at field no_column are lt in
     record {
-      few = subst (λ (vs : List Value). length vs ≤ most_values) (sym values) fits.few;
+      at_most = subst (λ (vs : List Value). length vs ≤ most_values) (sym values) fits.at_most;
       short = subst (λ (vs : List Value). All IsShort (distinct vs)) (sym values) (short_values (get_or fields at field).kind column.values fits.fit);
     }
 
@@ -54,7 +54,7 @@ modest (f ∷ fs) t at are lt = modest_at (f ∷ fs) t at f are lt
 -- rows in their order have the values of the rows as they came
 still_modest : (sorted : Option ℕ) (rows : List (List Value)) (at : ℕ) → IsModest rows at → IsModest (ordered sorted rows) at
 still_modest sorted rows at modest = record {
-  few = omega (arith, length-map (ordered sorted rows) (value_in at), length-map rows (value_in at), ordered_count sorted rows, modest.few);
+  at_most = omega (arith, length-map (ordered sorted rows) (value_in at), length-map rows (value_in at), ordered_count sorted rows, modest.at_most);
   short = subst (All IsShort) (sym (same_distinct at sorted rows)) modest.short;
 }
 
@@ -73,7 +73,7 @@ sections_small table t valid are fits =
     let limit = rows_limit table t are in
     let each = rows_each table t are in
     subst (All IsSmall) (made_all table (in_rows table t) valid)
-    (made_small table (in_rows table t) (length fields) (nodes_grown (in_rows table t) trees) (stars_grown (in_rows table t) trees) valid.schema.few (omega (arith, ordered_count sorted (rows_of t), rows_most fields t are))
+    (made_small table (in_rows table t) (length fields) (nodes_grown (in_rows table t) trees) (stars_grown (in_rows table t) trees) valid.schema.at_most (omega (arith, ordered_count sorted (rows_of t), rows_most fields t are))
     (λ c below. still_modest sorted (rows_of t) c (modest fields t c are below))
     (nodes_small fields (in_rows table t) trees valid.settings.trees_valid limit each fits)
     (stars_small fields (in_rows table t) trees valid.settings.trees_valid limit each fits))
@@ -104,8 +104,8 @@ built_image table name t rows sections file counts number are is =
 -- no table has more rows than 32 bits count
 pub rows_fit : (table : Table) (t : ListedColumns) (rows : ℕ) → All (Counts t.count) t.columns → AreRows table.schema.fields (rows_of t) → rows ≡ t.count → rows < 2 ^ 32
 rows_fit table t rows counts are number =
-    let few = rows_few t table.schema.fields counts are.few in
-    omega (arith, few, number)
+    let at_most = rows_few t table.schema.fields counts are.at_most in
+    omega (arith, at_most, number)
 
 -- ---- the sorted column
 

@@ -28,8 +28,8 @@ in_rows table t = ordered table.settings.sorted (rows_of t)
 
 pub rows_most : (fields : List Field) (t : ListedColumns) → AreColumns fields t → length (rows_of t) ≤ most_values
 rows_most fields t are =
-    let few = are.rows.few in
-    omega (arith, few)
+    let at_most = are.rows.at_most in
+    omega (arith, at_most)
 
 -- ---- the ids of one more column, and its sections
 

@@ -117,14 +117,14 @@ same_but_then name (Some files) (Some new) (Some now) a b = λ q ne. b q ne ∙ 
 
 pub writes_after : (Fails : Type 0) (part : List ℕ) (first between last : Seen) → OnlyWrites ⊥ part first between → OnlyWrites Fails part between last → OnlyWrites Fails part first last
 writes_after Fails part first between last before now =
-    let same : between.write_faults ≡ first.write_faults = before.still (λ fails. fails) in
+    let same : between.write_faults ≡ first.write_faults = before.unchanged (λ fails. fails) in
     record {
       parts = same_but_then part first.parts between.parts last.parts before.parts now.parts;
       log = now.log ∙ before.log;
       reads = now.reads ∙ before.reads;
       later = omega (arith, before.later, now.later);
       rose = λ fails. subst (λ n. Rose n last.write_faults) same (now.rose fails);
-      still = λ fine. now.still fine ∙ same;
+      unchanged = λ fine. now.unchanged fine ∙ same;
     }
 
 -- a fault that is handed on

@@ -29,11 +29,11 @@ else_false false other = refl
 module _ (rows : List (List Value)) where
   one_tested : (tree : TreeSetting) → TreeFits rows tree → tree_fits rows tree ≡ true
   unfolding tree_fits
-  one_tested tree fits = le_tested (tree_bytes merged_rows (doc_width tree.shape) (nested rows tree)) most_bytes fits.few
+  one_tested tree fits = le_tested (tree_bytes merged_rows (doc_width tree.shape) (nested rows tree)) most_bytes fits.at_most
 
   one_told : (tree : TreeSetting) → tree_fits rows tree ≡ true → TreeFits rows tree
   unfolding tree_fits
-  one_told tree test = record { few = le_told (tree_bytes merged_rows (doc_width tree.shape) (nested rows tree)) most_bytes test }
+  one_told tree test = record { at_most = le_told (tree_bytes merged_rows (doc_width tree.shape) (nested rows tree)) most_bytes test }
 
   all_tested : (trees : List TreeSetting) → All (TreeFits rows) trees → list_all (tree_fits rows) trees ≡ true
   all_tested [] all = refl

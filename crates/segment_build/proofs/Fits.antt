@@ -59,16 +59,16 @@ counted_at count (c ∷ cs) zero d counts lt = All-head (Counts count) c cs coun
 counted_at count (c ∷ cs) (suc at) d counts lt = counted_at count cs at d (All-tail (Counts count) c cs counts) (omega (arith, lt))
 
 pub rows_few : (t : ListedColumns) (fields : List Field) → All (Counts t.count) t.columns → length (rows_of t) ≤ most_rows (length fields) → t.count ≤ most_rows (length fields)
-rows_few t fields counts few = subst (λ n. n ≤ most_rows (length fields)) (length-rows t.count t.columns counts) few
+rows_few t fields counts at_most = subst (λ n. n ≤ most_rows (length fields)) (length-rows t.count t.columns counts) at_most
 
 -- a dictionary can be made of each column
 pub column_fit : (fields : List Field) (t : ListedColumns) (at : ℕ) (df : Field) (dc : Listed) → AreColumns fields t → at < length fields → FitsKind (get_or fields at df).kind (get_or t.columns at dc)
 column_fit fields t at df dc are lt =
     let below : at < length t.columns = omega (arith, lt, are.width) in
     let number : length (get_or t.columns at dc).values ≡ t.count = counted_at t.count t.columns at dc are.counts below in
-    let few : t.count ≤ most_rows (length fields) = rows_few t fields are.counts are.rows.few in
+    let at_most : t.count ≤ most_rows (length fields) = rows_few t fields are.counts are.rows.at_most in
     record {
-      few = omega (arith, number, few);
+      at_most = omega (arith, number, at_most);
       fit = column_fits t.count fields t.columns at df dc are.counts are.width are.rows.each lt;
     }
 

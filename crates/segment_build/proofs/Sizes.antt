@@ -125,19 +125,19 @@ abbrev pub IsSmall : List ℕ → Type 0
 IsSmall bytes = length bytes ≤ 2 ^ 30
 
 pub small_dictionary : (k : FieldKind) (vs : List Value) → length vs ≤ most_values → All IsShort (distinct vs) → IsSmall (spelling (record { kind = k; values = distinct vs }))
-small_dictionary k vs few all =
+small_dictionary k vs at_most all =
     let n : ℕ = length (distinct vs) in
-    omega (arith, length-append (counted n) (body k (distinct vs)), length-counted n, small_body k (distinct vs) all, few_distinct vs, few)
+    omega (arith, length-append (counted n) (body k (distinct vs)), length-counted n, small_body k (distinct vs) all, few_distinct vs, at_most)
 
 width_small : (count : ℕ) → count ≤ most_values → width_of count ≤ 20
-width_small count few =
-    let least : IsWidth count (width_of count) = width-least count (omega (arith, few)) in
-    least.2 20 (omega arith) (omega (arith, few))
+width_small count at_most =
+    let least : IsWidth count (width_of count) = width-least count (omega (arith, at_most)) in
+    least.2 20 (omega arith) (omega (arith, at_most))
 
 pub small_forward : (ids : List ℕ) (count : ℕ) → length ids ≤ most_values → count ≤ most_values → IsSmall (spelled (width_of count) ids)
-small_forward ids count few most =
+small_forward ids count at_most most =
     let width = width_small count most in
-    let bits : length ids * width_of count ≤ 1048576 * width_of count = mul-le-mul_right (width_of count) few in
+    let bits : length ids * width_of count ≤ 1048576 * width_of count = mul-le-mul_right (width_of count) at_most in
     omega (arith, length-spelled (width_of count) ids, bits, width)
 
 ends_small : (vs : List Value) → All IsShort vs → length (bounds_bytes (ends_of vs)) ≤ 1028
@@ -162,51 +162,51 @@ all_range P f a (suc n) each = All-cons P (f a) (map f (range_with_len (a + 1) n
 
 -- the values of rows in a column are few and short
 pub record IsModest (rows : List (List Value)) (column : ℕ) : Type 0 where
-  pub few : length (values_in column rows) ≤ most_values
+  pub at_most : length (values_in column rows) ≤ most_values
   pub short : All IsShort (distinct (values_in column rows))
 
 forward_modest : (rows : List (List Value)) (c : ℕ) → IsModest rows c → IsSmall (spelled (width_of (count_of rows c)) (ids_of rows c))
 forward_modest rows c modest =
     small_forward (ids_of rows c) (count_of rows c)
-    (omega (arith, length-map (values_in c rows) (place_of (distinct (values_in c rows))), modest.few))
-    (omega (arith, few_distinct (values_in c rows), modest.few))
+    (omega (arith, length-map (values_in c rows) (place_of (distinct (values_in c rows))), modest.at_most))
+    (omega (arith, few_distinct (values_in c rows), modest.at_most))
 
 every : (P : ℕ → Type 0) (cs : List ℕ) → ((c : ℕ) → P c) → All P cs
 every P [] each = All-nil P
 every P (c ∷ cs) each = All-cons P c cs (each c) (every P cs each)
 
 runs_small : (table : Table) (rows : List (List Value)) (c : ℕ) → length rows ≤ most_values → IsSmall (section_of table rows (parts.Sorted c))
-runs_small table rows c few = omega (arith, sorted_length (count_of rows c) (ids_of rows c), few_distinct (values_in c rows), length-map rows (value_in c), few)
+runs_small table rows c at_most = omega (arith, sorted_length (count_of rows c) (ids_of rows c), few_distinct (values_in c rows), length-map rows (value_in c), at_most)
 
 lists_small : (table : Table) (rows : List (List Value)) (c : ℕ) → length rows ≤ most_values → IsSmall (section_of table rows (parts.Inverted c))
-lists_small table rows c few = omega (arith, posting_length (count_of rows c) (ids_of rows c) (ids_below rows c), ids_count rows c, few_distinct (values_in c rows), length-map rows (value_in c), few)
+lists_small table rows c at_most = omega (arith, posting_length (count_of rows c) (ids_of rows c) (ids_below rows c), ids_count rows c, few_distinct (values_in c rows), length-map rows (value_in c), at_most)
 
 bucket_count : (ids : List ℕ) → length (map bucket_of ids) ≡ length ids
 bucket_count ids = length-map ids bucket_of
 
 ranges_small : (table : Table) (rows : List (List Value)) (c : ℕ) → length rows ≤ most_values → IsSmall (section_of table rows (parts.Range c))
-ranges_small table rows c few =
+ranges_small table rows c at_most =
     let count = count_of rows c in
     let long = posting_length (buckets_for count) (map bucket_of (ids_of rows c)) (buckets_in count (ids_of rows c) (ids_below rows c)) in
-    omega (arith, long, bucket_count (ids_of rows c), ids_count rows c, few_distinct (values_in c rows), length-map rows (value_in c), few)
+    omega (arith, long, bucket_count (ids_of rows c), ids_count rows c, few_distinct (values_in c rows), length-map rows (value_in c), at_most)
 
 -- nor are those of trees
 pub nodes_small : (columns : List Field) (rows : List (List Value)) (trees : List TreeSetting) → AllByRecursion (IsValidTree columns) trees → length rows ≤ 1048576 → All (IsRow columns) rows → All (TreeFits rows) trees → All IsSmall (nodes_grown rows trees)
-nodes_small columns rows [] valid few each fits = All-nil IsSmall
-nodes_small columns rows (t ∷ ts) valid few each fits =
-    let s = tree_sections columns rows t valid.0 few each (All-head (TreeFits rows) t ts fits) in
-    All-cons IsSmall (nodes_of rows (Some t)) (nodes_grown rows ts) (omega (arith, s.nodes_long, s.bytes)) (nodes_small columns rows ts valid.1 few each (All-tail (TreeFits rows) t ts fits))
+nodes_small columns rows [] valid at_most each fits = All-nil IsSmall
+nodes_small columns rows (t ∷ ts) valid at_most each fits =
+    let s = tree_sections columns rows t valid.0 at_most each (All-head (TreeFits rows) t ts fits) in
+    All-cons IsSmall (nodes_of rows (Some t)) (nodes_grown rows ts) (omega (arith, s.nodes_long, s.bytes)) (nodes_small columns rows ts valid.1 at_most each (All-tail (TreeFits rows) t ts fits))
 
 pub stars_small : (columns : List Field) (rows : List (List Value)) (trees : List TreeSetting) → AllByRecursion (IsValidTree columns) trees → length rows ≤ 1048576 → All (IsRow columns) rows → All (TreeFits rows) trees → All IsSmall (stars_grown rows trees)
-stars_small columns rows [] valid few each fits = All-nil IsSmall
-stars_small columns rows (t ∷ ts) valid few each fits =
-    let s = tree_sections columns rows t valid.0 few each (All-head (TreeFits rows) t ts fits) in
-    All-cons IsSmall (star_of rows (Some t)) (stars_grown rows ts) (omega (arith, s.docs_size, s.bytes)) (stars_small columns rows ts valid.1 few each (All-tail (TreeFits rows) t ts fits))
+stars_small columns rows [] valid at_most each fits = All-nil IsSmall
+stars_small columns rows (t ∷ ts) valid at_most each fits =
+    let s = tree_sections columns rows t valid.0 at_most each (All-head (TreeFits rows) t ts fits) in
+    All-cons IsSmall (star_of rows (Some t)) (stars_grown rows ts) (omega (arith, s.docs_size, s.bytes)) (stars_small columns rows ts valid.1 at_most each (All-tail (TreeFits rows) t ts fits))
 
 -- none of the sections of the first so many columns and of these trees is long
 pub made_small : (table : Table) (rows : List (List Value)) (count : ℕ) (nodes stars : List (List ℕ)) → count ≤ 64 → length rows ≤ most_values → ((c : ℕ) → c < count → IsModest rows c) → All IsSmall nodes → All IsSmall stars
     → All IsSmall (in_order (made_of table rows count) nodes stars)
-made_small table rows count nodes stars few most modest small_nodes small_stars =
+made_small table rows count nodes stars at_most most modest small_nodes small_stars =
     let columns : List ℕ = range_with_len 0 count in
     let ds : List Distinct = map (dictionary_of table rows) columns in
     let dictionaries : ℕ → List ℕ = λ c. section_of table rows (parts.Dictionary c) in
@@ -230,9 +230,9 @@ made_small table rows count nodes stars few most modest small_nodes small_stars 
     let raw : All IsSmall (map forwards columns ++ (map runs sorted ++ (map lists marks ++ map ranges others))) =
     All-append IsSmall (map forwards columns) (map runs sorted ++ (map lists marks ++ map ranges others)) (all_range IsSmall forwards 0 count (λ c below. forward_modest rows c (here c below))) more in
     let rest : List (List ℕ) = map forwards columns ++ (map runs sorted ++ (map lists marks ++ map ranges others)) in
-    All-cons IsSmall (bounds_bytes (bounds_of ds)) ((map dictionaries columns ++ nodes) ++ (rest ++ stars)) (omega (arith, bounds, number, few))
+    All-cons IsSmall (bounds_bytes (bounds_of ds)) ((map dictionaries columns ++ nodes) ++ (rest ++ stars)) (omega (arith, bounds, number, at_most))
     (All-append IsSmall (map dictionaries columns ++ nodes) (rest ++ stars)
-    (All-append IsSmall (map dictionaries columns) nodes (all_range IsSmall dictionaries 0 count (λ c below. small_dictionary (kind_at table c) (values_in c rows) (here c below).few (here c below).short)) small_nodes)
+    (All-append IsSmall (map dictionaries columns) nodes (all_range IsSmall dictionaries 0 count (λ c below. small_dictionary (kind_at table c) (values_in c rows) (here c below).at_most (here c below).short)) small_nodes)
     (All-append IsSmall rest stars raw small_stars))
 
 sum_by_small : (xs : List (List ℕ)) → All IsSmall xs → sum_by length xs ≤ 2 ^ 30 * length xs
@@ -247,6 +247,6 @@ pub file_short : (table : Table) (name : List ℕ) (rows : List (List Value)) �
 file_short table name rows valid named small =
     let total = sum_small (sections_of_rows table rows) small in
     let number : length (sections_of_rows table rows) ≡ length (sections_of table) = length-map (sections_of table) (section_of table rows) in
-    let few = few_sections table valid in
-    let short_name : length name ≤ 64 = leb-true (length name) 64 named.few in
-    omega (arith, total, number, few, short_name)
+    let at_most = few_sections table valid in
+    let short_name : length name ≤ 64 = leb-true (length name) 64 named.at_most in
+    omega (arith, total, number, at_most, short_name)

@@ -183,20 +183,20 @@ head_above (suc n) i row ids rows le =
 
 head_placed : (d : List Value) (column i n : ℕ) (row : List Value) (ids : List ℕ) (rows : List (List Value)) → Ascends d → Keyed d column ids rows → HasValue d column i row → i < n → n ≤ length d
     → grouped n (i ∷ ids) (row ∷ rows) ≡ placed column row (grouped n ids rows)
-head_placed d column i zero row ids rows up k own lt few = absurd (omega (arith, lt))
-head_placed d column i (suc n) row ids rows up k own lt few =
+head_placed d column i zero row ids rows up k own lt at_most = absurd (omega (arith, lt))
+head_placed d column i (suc n) row ids rows up k own lt at_most =
     let here : List (List Value) = picked n ids rows in
     let lower : List (List Value) = grouped n ids rows in
-    let follow : All (IsNotAfter column row) here = picked_not_after d column i n row ids rows up k (omega (arith, few)) own (omega (arith, lt)) in
+    let follow : All (IsNotAfter column row) here = picked_not_after d column i n row ids rows up k (omega (arith, at_most)) own (omega (arith, lt)) in
     elim (cases_lt i n) [
       | inl less ↦
-          ap₂ ◌++◌ (head_placed d column i n row ids rows up k own less (omega (arith, few))) (ap (λ b. cond b (row ∷ []) [] ++ here) (ne_eqb i n (λ e. omega (arith, e, less))))
+          ap₂ ◌++◌ (head_placed d column i n row ids rows up k own less (omega (arith, at_most))) (ap (λ b. cond b (row ∷ []) [] ++ here) (ne_eqb i n (λ e. omega (arith, e, less))))
           ∙ sym (placed_before column row lower here follow)
       | inr ge ↦
           let same : i ≡ n = omega (arith, lt, ge) in
           ap₂ ◌++◌ (head_above n i row ids rows ge) (ap (λ b. cond b (row ∷ []) [] ++ here) (eq-eqb i n same))
           ∙ ap (λ rest. lower ++ rest) (sym (placed_front column row here follow))
-          ∙ sym (placed_past column row lower here (grouped_after d column i n row ids rows up k (omega (arith, few, lt)) own ge))
+          ∙ sym (placed_past column row lower here (grouped_after d column i n row ids rows up k (omega (arith, at_most, lt)) own ge))
     ]
 
 sorted_grouped : (d : List Value) (column : ℕ) (ids : List ℕ) (rows : List (List Value)) → Ascends d → Keyed d column ids rows → sorted_by column rows ≡ grouped (length d) ids rows

@@ -21,7 +21,7 @@ pub record AreOfTable (table : Table) (t : ListedColumns) : Type 0 where
 
 -- the values of a column, of which a dictionary of the kind can be made
 pub record FitsKind (kind : FieldKind) (column : Listed) : Type 0 where
-  pub few : length column.values ≤ most_values
+  pub at_most : length column.values ≤ most_values
   pub fit : All (Fits kind) column.values
 
 -- a dictionary can be made of each of these columns, of the kind of its field

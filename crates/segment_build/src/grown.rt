@@ -22,7 +22,7 @@ pub fn push_tree(
     grown: &mut Grown,
 ) -> Result<(), NoMemory>
     requires shape { length shape.now.kinds ≤ 16 }
-    requires few { length tree.now.docs.docs < 2 ^ 32 }
+    requires at_most { length tree.now.docs.docs < 2 ^ 32 }
     requires kinds { length tree.now.docs.kinds ≤ 16 }
     ensures nodes { OnOk result (grown.new.nodes.items ≡ grown.old.nodes.items
         ++ nodes_section (length tree.now.docs.docs) tree.now.nodes ∷ []) }

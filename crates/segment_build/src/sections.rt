@@ -84,7 +84,7 @@ impl Sections {
         ids: &[u32],
         indexes: Indexes,
     ) -> Result<(), NoMemory>
-        requires few { length ids.now ≤ 1048576 }
+        requires at_most { length ids.now ≤ 1048576 }
         requires below { AreBelow (length dictionary.now.values) ids.now }
         requires ascend { indexes.sorted ≡ true → IsNonDecreasing ids.now }
         ensures { OnOk result (self.new ≡ with_column dictionary.now ids.now indexes self.old) }
@@ -165,7 +165,7 @@ pub fn column_sections(
 struct CodedIds<'a> {
     ids: &'a [u32],
     count: u32,
-    ghost few: { length ids.now ≤ 1048576 },
+    ghost at_most: { length ids.now ≤ 1048576 },
     ghost below: { AreBelow count ids.now },
 }
 

@@ -89,8 +89,8 @@ fn merged_of_tree(
     ensures kinds { IfOk result (λ docs. docs.kinds ≡ tree.now.shape.kinds) }
     ensures docs { IfOk result (λ docs. docs.docs ≡ merged_docs merged_rows
         (documents (rows_of columns.now) tree.now)) }
-    ensures few { IfOk result (λ docs. length docs.docs ≤ most_stored) }
-    ensures light { IfOk result (λ docs. weights row_weight docs.docs ≤ most_stored) }
+    ensures at_most { IfOk result (λ docs. length docs.docs ≤ most_stored) }
+    ensures weight_fits { IfOk result (λ docs. weights row_weight docs.docs ≤ most_stored) }
 {
     let dims = split_ids(alloc, table, columns, tree.split.as_slice())?;
     let metrics = pair_numbers(alloc, columns, tree.pairs.as_slice())?;

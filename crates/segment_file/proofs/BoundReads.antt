@@ -68,8 +68,8 @@ in_range kind.Long z other fit = fit
 in_range kind.Text z other fit = absurd (other refl)
 
 pub no_eight : (k : FieldKind) (bytes : List ℕ) → k ≢ kind.Text → length bytes < 8 → NoBound k bytes
-no_eight k bytes other few (Whole z) rest is = omega (arith, few, ap length is.spelled, length-append (number_bytes (Whole z)) rest, length-number z)
-no_eight k bytes other few (Text t) rest is = no_text k t other is.may.fit
+no_eight k bytes other at_most (Whole z) rest is = omega (arith, at_most, ap length is.spelled, length-append (number_bytes (Whole z)) rest, length-number z)
+no_eight k bytes other at_most (Text t) rest is = no_text k t other is.may.fit
 
 number_front : (bytes chunk following : List ℕ) (z : ℤ) → number_bytes (Whole z) ≡ chunk → chunk ≡ take 8 bytes → following ≡ drop 8 bytes → bytes ≡ number_bytes (Whole z) ++ following
 number_front bytes chunk following z spelled front back = sym (take-append-drop 8 bytes) ∙ (λ i. sym (spelled ∙ front) i ++ sym back i)
@@ -85,7 +85,7 @@ out_of_range k bytes chunk following z other spelled front back long out (Whole 
 -- ---- a text
 
 text_following : (n : ℕ) (t rest after : List ℕ) → n < 2 ^ 16 → length t ≤ 512 → short n ++ after ≡ bound_bytes (Text t) ++ rest → (n ≡ length t) × (after ≡ t ++ rest)
-text_following n t rest after fit few e =
+text_following n t rest after fit at_most e =
     let both : short n ++ after ≡ short (length t) ++ (t ++ rest) = e ∙ append_assoc (short (length t)) t rest in
     (short_once n (length t) after (t ++ rest) fit (omega arith) both, same_rests (short n) (short (length t)) after (t ++ rest) (same_short n (length t)) both)
 
@@ -93,21 +93,21 @@ no_whole : (z : ℤ) → fits kind.Text (Whole z) ≡ true → ⊥
 no_whole z e = false≢true e
 
 pub no_length : (bytes : List ℕ) → length bytes < 2 → NoBound kind.Text bytes
-no_length bytes few (Whole z) rest is = no_whole z is.may.fit
-no_length bytes few (Text t) rest is =
-    omega (arith, few, ap length is.spelled, length-append (short (length t) ++ t) rest, length-append (short (length t)) t, length-short (length t))
+no_length bytes at_most (Whole z) rest is = no_whole z is.may.fit
+no_length bytes at_most (Text t) rest is =
+    omega (arith, at_most, ap length is.spelled, length-append (short (length t) ++ t) rest, length-append (short (length t)) t, length-short (length t))
 
 pub too_long : (bytes after : List ℕ) (n : ℕ) → n < 2 ^ 16 → bytes ≡ short n ++ after → 512 < n → NoBound kind.Text bytes
 too_long bytes after n fit spelled long (Whole z) rest is = no_whole z is.may.fit
 too_long bytes after n fit spelled long (Text t) rest is =
-    let few = fits_short kind.Text (Text t) is.may.fit in
-    omega (arith, long, few, (text_following n t rest after fit few (sym spelled ∙ is.spelled)).0)
+    let at_most = fits_short kind.Text (Text t) is.may.fit in
+    omega (arith, long, at_most, (text_following n t rest after fit at_most (sym spelled ∙ is.spelled)).0)
 
 pub cut_off : (bytes after : List ℕ) (n : ℕ) → n < 2 ^ 16 → bytes ≡ short n ++ after → length after < n → NoBound kind.Text bytes
-cut_off bytes after n fit spelled few (Whole z) rest is = no_whole z is.may.fit
-cut_off bytes after n fit spelled few (Text t) rest is =
+cut_off bytes after n fit spelled at_most (Whole z) rest is = no_whole z is.may.fit
+cut_off bytes after n fit spelled at_most (Text t) rest is =
     let both = text_following n t rest after fit (fits_short kind.Text (Text t) is.may.fit) (sym spelled ∙ is.spelled) in
-    omega (arith, few, both.0, ap length both.1, length-append t rest)
+    omega (arith, at_most, both.0, ap length both.1, length-append t rest)
 
 pub not_unicode : (bytes after front : List ℕ) (n : ℕ) → n < 2 ^ 16 → bytes ≡ short n ++ after → front ≡ take n after → ¬ IsUtf8 front → NoBound kind.Text bytes
 not_unicode bytes after front n fit spelled cut other (Whole z) rest is = no_whole z is.may.fit
@@ -128,9 +128,9 @@ bound_following k (Whole a) (Whole b) x y first second e = same_rests (number_by
 bound_following k (Whole a) (Text t) x y first second e = absurd (two_kinds k a t first.fit second.fit)
 bound_following k (Text t) (Whole a) x y first second e = absurd (two_kinds k a t second.fit first.fit)
 bound_following k (Text s) (Text t) x y first second e =
-    let few = fits_short k (Text s) first.fit in
+    let at_most = fits_short k (Text s) first.fit in
     let whole : short (length s) ++ (s ++ x) ≡ bound_bytes (Text t) ++ y = sym (append_assoc (short (length s)) s x) ∙ e in
-    let both = text_following (length s) t y (s ++ x) (omega (arith, few)) (fits_short k (Text t) second.fit) whole in
+    let both = text_following (length s) t y (s ++ x) (omega (arith, at_most)) (fits_short k (Text t) second.fit) whole in
     same_rests s t x y both.0 both.1
 
 bound_once : (k : FieldKind) (v w : Value) (x y : List ℕ) → MayBound k v → MayBound k w → bound_bytes v ++ x ≡ bound_bytes w ++ y → v ≡ w
@@ -139,9 +139,9 @@ bound_once k (Whole a) (Whole b) x y first second e =
 bound_once k (Whole a) (Text t) x y first second e = absurd (two_kinds k a t first.fit second.fit)
 bound_once k (Text t) (Whole a) x y first second e = absurd (two_kinds k a t second.fit first.fit)
 bound_once k (Text s) (Text t) x y first second e =
-    let few = fits_short k (Text s) first.fit in
+    let at_most = fits_short k (Text s) first.fit in
     let whole : short (length s) ++ (s ++ x) ≡ bound_bytes (Text t) ++ y = sym (append_assoc (short (length s)) s x) ∙ e in
-    let both = text_following (length s) t y (s ++ x) (omega (arith, few)) (fits_short k (Text t) second.fit) whole in
+    let both = text_following (length s) t y (s ++ x) (omega (arith, at_most)) (fits_short k (Text t) second.fit) whole in
     ap Text (same_fronts s t x y both.0 both.1)
 
 -- bytes are the bounds of fields in one way
@@ -284,14 +284,14 @@ ends_each table rows heads a (f ∷ fs) (d ∷ ds) some kinds all =
     ends_more f fs d.values (bounds_of ds) (all.0.some some) (subst (λ k. All (Fits k) d.values) kind all.0.stands.fit) all.0.stands.unicode (ends_each table rows heads (a + 1) fs ds some later all.1)
 
 no_ends : (values : List Value) → length values ≤ 0 → ends_of values ≡ []
-no_ends [] few = refl
-no_ends (v ∷ vs) few = absurd (omega arith)
+no_ends [] at_most = refl
+no_ends (v ∷ vs) at_most = absurd (omega arith)
 
 no_bounds : (table : Table) (heads : List (List ℕ)) (columns : List ℕ) (ds : List Distinct) → AreSpelled table 0 heads columns ds → bounds_of ds ≡ []
 no_bounds table heads [] [] all = refl
 no_bounds table heads [] (d ∷ ds) all = absurd all
 no_bounds table heads (c ∷ cs) [] all = absurd all
-no_bounds table heads (c ∷ cs) (d ∷ ds) all = (λ i. no_ends d.values all.0.few i ++ no_bounds table heads cs ds all.1 i)
+no_bounds table heads (c ∷ cs) (d ∷ ds) all = (λ i. no_ends d.values all.0.at_most i ++ no_bounds table heads cs ds all.1 i)
 
 bounds_each : (table : Table) (rows : ℕ) (heads : List (List ℕ)) (ds : List Distinct) → AreSpelled table rows heads (columns_of table) ds → AllZip MayEnd (bounded rows table.schema.fields) (bounds_of ds)
 bounds_each table zero heads ds all = subst (AllZip MayEnd []) (sym (no_bounds table heads (columns_of table) ds all)) tt

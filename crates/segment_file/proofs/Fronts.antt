@@ -72,8 +72,8 @@ pub is_said : (table : Table) (name bytes : List ℕ) (size : ℕ) (f : Front) �
 is_said table name bytes size f is =
     let whole = is.whole in
     let small = is.small in
-    let few : f.rows < 2 ^ 32 = omega (arith, is.few) in
-    let rows : rows_in bytes ≡ f.rows = ap rows_in is.spelled ∙ rows_back table name f few in
+    let at_most : f.rows < 2 ^ 32 = omega (arith, is.at_most) in
+    let rows : rows_in bytes ≡ f.rows = ap rows_in is.spelled ∙ rows_back table name f at_most in
     let sizes : sizes_from (sections_of table) (drop (38 + length name) bytes) ≡ f.sizes =
     ap (λ b. sizes_from (sections_of table) (drop (38 + length name) b)) is.spelled
     ∙ ap (sizes_from (sections_of table)) (directory_following table name f)

@@ -68,7 +68,7 @@ bounded_few (suc rows) fields = omega arith
 
 -- ---- one table, and rows in their order
 
-module _ (table : Table) (name : List ℕ) (os : List (List Value)) (few : length os ≤ most_rows (length table.schema.fields)) (each : All (IsRow table.schema.fields) os) (unicode : All (λ row. All IsUnicode row) os) where
+module _ (table : Table) (name : List ℕ) (os : List (List Value)) (at_most : length os ≤ most_rows (length table.schema.fields)) (each : All (IsRow table.schema.fields) os) (unicode : All (λ row. All IsUnicode row) os) where
   -- the sections that the front finds in the file are those of the rows
   all-cut : map (section_bytes (file_of_rows 1 table name os)) (extents_of table name (front_of 1 table os)) ≡ map (section_of table os) (sections_of table)
   all-cut =
@@ -99,10 +99,10 @@ module _ (table : Table) (name : List ℕ) (os : List (List Value)) (few : lengt
 
   spelled-is : (column : ℕ) → column < length table.schema.fields → IsSpelled (kind_at table column) (length os) (dictionary_in (heads_in table name (front_of 1 table os) (file_of_rows 1 table name os)) column) (dictionary_of table os column)
   spelled-is column lt = record {
-    stands = column_dictionary table os column lt (omega (arith, few)) each unicode;
+    stands = column_dictionary table os column lt (omega (arith, at_most)) each unicode;
     kind_is = refl;
     spelled = dictionary-is column lt;
-    few = few_values os column;
+    at_most = few_values os column;
     some = λ some. some_values os column some;
   }
 
@@ -114,7 +114,7 @@ module _ (table : Table) (name : List ℕ) (os : List (List Value)) (few : lengt
   count-is : (column : ℕ) → column < length table.schema.fields → count_in (dictionary_in (heads_in table name (front_of 1 table os) (file_of_rows 1 table name os)) column) ≡ count_of os column
   count-is column lt =
       let is = spelled-is column lt in
-      let limit = is.stands.few in
+      let limit = is.stands.at_most in
       spelled_count (dictionary_in (heads_in table name (front_of 1 table os) (file_of_rows 1 table name os)) column) (dictionary_of table os column) (omega (arith, limit)) is.spelled
 
   -- the nodes of a tree are the section of the head that is said to be theirs
@@ -142,7 +142,7 @@ module _ (table : Table) (name : List ℕ) (os : List (List Value)) (few : lengt
 
   module _ (valid : IsValidTable table) (fits : All (TreeFits os) table.settings.trees) where
     pub tree-there : (t : ℕ) → t < length table.settings.trees → TreeThere table.schema.fields os table.settings.trees t
-    tree-there = there table os valid (omega (arith, few)) each fits
+    tree-there = there table os valid (omega (arith, at_most)) each fits
 
     has-nodes : (t : ℕ) → t < length table.settings.trees → HasNodes table (length os) (heads_in table name (front_of 1 table os) (file_of_rows 1 table name os)) t
     has-nodes t lt =
@@ -204,7 +204,7 @@ module _ (table : Table) (name : List ℕ) (os : List (List Value)) (few : lengt
       omega (arith, bounds_few (bounded (length os) table.schema.fields) (bounds_of ds) there.each, bounded_few (length os) table.schema.fields)
 
   pub rows_small : IsValidTable table → All (TreeFits os) table.settings.trees → length name ≤ 64 → file_end table name (front_of 1 table os) < 2 ^ 64
-  rows_small valid fits short_name = image_small table os valid (omega (arith, few)) each fits name short_name unicode bounds-length
+  rows_small valid fits short_name = image_small table os valid (omega (arith, at_most)) each fits name short_name unicode bounds-length
 
   has-front : IsValidTable table → All (TreeFits os) table.settings.trees → length name ≤ 64 → HasFront table name (file_of_rows 1 table name os) (front_of 1 table os)
   has-front valid fits short_name =
@@ -216,7 +216,7 @@ module _ (table : Table) (name : List ℕ) (os : List (List Value)) (few : lengt
       let small = rows_small valid fits short_name in
       record {
         known = refl;
-        few = few;
+        at_most = at_most;
         each = sizes;
         spelled = ap (λ n. take n (front_bytes table name f ++ rest)) (sym front) ∙ take-append_seam (front_bytes table name f) rest;
         whole = whole;
@@ -234,6 +234,6 @@ module _ (table : Table) (name : List ℕ) (os : List (List Value)) (few : lengt
 pub image_keeps : ImageKeeps
 image_keeps table name rows valid named can =
     let os : List (List Value) = ordered table.settings.sorted rows in
-    let limit = can.fit.few in
+    let limit = can.fit.at_most in
     rows_keep table name os (omega (arith, limit, ordered_count table.settings.sorted rows)) (ordered_all (IsRow table.schema.fields) table.settings.sorted rows can.fit.each) (ordered_all (λ row. All IsUnicode row) table.settings.sorted rows can.unicode) valid can.trees
-    (leb-true (length name) 64 named.few)
+    (leb-true (length name) 64 named.at_most)

@@ -138,8 +138,8 @@ pub some_values : (rows : List (List Value)) (column : ℕ) → 0 < length rows 
 some_values rows column some = distinct_some (values_in column rows) (omega (arith, some, length-map rows (value_in column)))
 
 pub column_dictionary : (table : Table) (rows : List (List Value)) (column : ℕ) → column < length table.schema.fields → length rows ≤ 1048576 → All (IsRow table.schema.fields) rows → All (λ row. All IsUnicode row) rows → IsDictionary (dictionary_of table rows column)
-column_dictionary table rows column lt few each unicode =
-    stands_so (kind_at table column) (values_in column rows) (distinct (values_in column rows)) (omega (arith, few, length-map rows (value_in column))) (values_fit table rows column lt each) refl
+column_dictionary table rows column lt at_most each unicode =
+    stands_so (kind_at table column) (values_in column rows) (distinct (values_in column rows)) (omega (arith, at_most, length-map rows (value_in column))) (values_fit table rows column lt each) refl
     (distinct_all IsUnicode (values_in column rows) (values_unicode table rows column lt each unicode))
 
 -- ---- ids

@@ -72,19 +72,19 @@ narrow : (count : ℕ) → width_of count ≤ 32
 narrow count = omega arith
 
 forward_few : (rows count : ℕ) → rows ≤ 1048576 → bytes_for (rows * width_of count) ≤ 1099511627776
-forward_few rows count few = omega (arith, mul-le rows (width_of count) 1048576 32 few (narrow count))
+forward_few rows count at_most = omega (arith, mul-le rows (width_of count) 1048576 32 at_most (narrow count))
 
 size_few : (rows count : ℕ) (p : Part) → rows ≤ 1048576 → count ≤ rows → size_for rows count p ≤ 1099511627776
-size_few rows count parts.Table few within = omega arith
-size_few rows count parts.Head few within = omega arith
-size_few rows count parts.Bounds few within = omega arith
-size_few rows count (parts.Dictionary column) few within = omega arith
-size_few rows count (parts.Nodes tree) few within = omega arith
-size_few rows count (parts.Star tree) few within = omega arith
-size_few rows count (parts.Forward column) few within = forward_few rows count few
-size_few rows count (parts.Sorted column) few within = omega arith
-size_few rows count (parts.Inverted column) few within = omega arith
-size_few rows count (parts.Range column) few within = omega arith
+size_few rows count parts.Table at_most within = omega arith
+size_few rows count parts.Head at_most within = omega arith
+size_few rows count parts.Bounds at_most within = omega arith
+size_few rows count (parts.Dictionary column) at_most within = omega arith
+size_few rows count (parts.Nodes tree) at_most within = omega arith
+size_few rows count (parts.Star tree) at_most within = omega arith
+size_few rows count (parts.Forward column) at_most within = forward_few rows count at_most
+size_few rows count (parts.Sorted column) at_most within = omega arith
+size_few rows count (parts.Inverted column) at_most within = omega arith
+size_few rows count (parts.Range column) at_most within = omega arith
 
 -- ---- the dictionaries
 
@@ -103,14 +103,14 @@ body_few kind.Text vs fit = omega (arith, length-append (offsets 0 vs) (texts vs
 
 spelling_few : (d : Distinct) → IsDictionary d → length (spelling d) ≤ 1099511627776
 spelling_few d stands =
-    let few = stands.few in
-    omega (arith, few, length-append (counted (length d.values)) (body d.kind d.values), length-counted (length d.values), body_few d.kind d.values stands.fit)
+    let at_most = stands.at_most in
+    omega (arith, at_most, length-append (counted (length d.values)) (body d.kind d.values), length-counted (length d.values), body_few d.kind d.values stands.fit)
 
 -- ---- the bounds
 
 bound_few : (k : FieldKind) (v : Value) → MayBound k v → length (bound_bytes v) ≤ 514
 bound_few k (Whole z) may = omega (arith, length-number z)
-bound_few k (Text t) may = let few = fits_short k (Text t) may.fit in omega (arith, few, length-append (short (length t)) t, length-short (length t))
+bound_few k (Text t) may = let at_most = fits_short k (Text t) may.fit in omega (arith, at_most, length-append (short (length t)) t, length-short (length t))
 
 pub bounds_few : (fields : List Field) (bounds : List Ends) → AllZip MayEnd fields bounds → length (bounds_bytes bounds) ≤ 1028 * length fields
 bounds_few [] [] all = omega arith
@@ -138,10 +138,10 @@ pub columns_all : (P : ℕ → Type 0) (a n limit : ℕ) → a + n ≤ limit →
 columns_all P a zero limit le each = All-nil P
 columns_all P a (suc n) limit le each = All-cons P a (range_with_len (a + 1) n) (each a (omega arith)) (columns_all P (a + 1) n limit (omega arith) each)
 
-module _ (table : Table) (os : List (List Value)) (valid : IsValidTable table) (few : length os ≤ 1048576) (each : All (IsRow table.schema.fields) os) (fits : All (TreeFits os) table.settings.trees) where
+module _ (table : Table) (os : List (List Value)) (valid : IsValidTable table) (at_most : length os ≤ 1048576) (each : All (IsRow table.schema.fields) os) (fits : All (TreeFits os) table.settings.trees) where
   -- the sections of a tree of the table
   pub there : (t : ℕ) → t < length table.settings.trees → TreeThere table.schema.fields os table.settings.trees t
-  there t lt = tree_there table.schema.fields os table.settings.trees t valid.settings.trees_valid fits few each lt
+  there t lt = tree_there table.schema.fields os table.settings.trees t valid.settings.trees_valid fits at_most each lt
 
   nodes_few : (t : ℕ) → t < length table.settings.trees → length (section_of table os (parts.Nodes t)) ≤ 1099511627776
   nodes_few t lt =
@@ -155,10 +155,10 @@ module _ (table : Table) (os : List (List Value)) (valid : IsValidTable table) (
   tail_few parts.Bounds is = absurd is
   tail_few (parts.Dictionary column) is = absurd is
   tail_few (parts.Nodes t) is = absurd is
-  tail_few (parts.Forward column) is = omega (arith, raw_size table os (parts.Forward column) refl, size_few (length os) (count_of os column) (parts.Forward column) few (few_values os column))
-  tail_few (parts.Sorted column) is = omega (arith, raw_size table os (parts.Sorted column) refl, size_few (length os) (count_of os column) (parts.Sorted column) few (few_values os column))
-  tail_few (parts.Inverted column) is = omega (arith, raw_size table os (parts.Inverted column) refl, size_few (length os) (count_of os column) (parts.Inverted column) few (few_values os column))
-  tail_few (parts.Range column) is = omega (arith, raw_size table os (parts.Range column) refl, size_few (length os) (count_of os column) (parts.Range column) few (few_values os column))
+  tail_few (parts.Forward column) is = omega (arith, raw_size table os (parts.Forward column) refl, size_few (length os) (count_of os column) (parts.Forward column) at_most (few_values os column))
+  tail_few (parts.Sorted column) is = omega (arith, raw_size table os (parts.Sorted column) refl, size_few (length os) (count_of os column) (parts.Sorted column) at_most (few_values os column))
+  tail_few (parts.Inverted column) is = omega (arith, raw_size table os (parts.Inverted column) refl, size_few (length os) (count_of os column) (parts.Inverted column) at_most (few_values os column))
+  tail_few (parts.Range column) is = omega (arith, raw_size table os (parts.Range column) refl, size_few (length os) (count_of os column) (parts.Range column) at_most (few_values os column))
   tail_few (parts.Star t) is =
       let th = there t is in
       let s = th.sections in
@@ -171,11 +171,11 @@ module _ (table : Table) (os : List (List Value)) (valid : IsValidTable table) (
       let m : ℕ = length table.settings.trees in
       let most : ℕ = 1099511627776 in
       let P : Part → Type 0 = λ p. length (section_of table os p) ≤ most in
-      let fields = valid.schema.few in
+      let fields = valid.schema.at_most in
       let ds : List Part = map parts.Dictionary (columns_of table) in
       let ns : List Part = map parts.Nodes (trees_of table) in
       let dictionaries : All P ds =
-      All-map P parts.Dictionary (columns_of table) (columns_all (λ c. length (section_of table os (parts.Dictionary c)) ≤ most) 0 n n (omega arith) (λ c lt. spelling_few (dictionary_of table os c) (column_dictionary table os c lt few each unicode))) in
+      All-map P parts.Dictionary (columns_of table) (columns_all (λ c. length (section_of table os (parts.Dictionary c)) ≤ most) 0 n n (omega arith) (λ c lt. spelling_few (dictionary_of table os c) (column_dictionary table os c lt at_most each unicode))) in
       let nodes : All P ns = All-map P parts.Nodes (trees_of table) (columns_all (λ t. length (section_of table os (parts.Nodes t)) ≤ most) 0 m m (omega arith) nodes_few) in
       let head : All P (head_sections table) = All-cons P parts.Bounds (ds ++ ns) (omega (arith, bounds, fields)) (All-append P ds ns dictionaries nodes) in
       let tail : All P (tail_sections table) = All-weaker (IsTailPart table) P tail_few (tail_sections table) (tail_parts table valid) in

@@ -84,11 +84,11 @@ column_back rows column d =
 
 -- ids are read back from their section
 ids_back : (rows : List (List Value)) (column : ℕ) → length rows ≤ 1048576 → ids_between (width_of (count_of rows column)) 0 (length rows) (spelled (width_of (count_of rows column)) (ids_of rows column)) ≡ ids_of rows column
-ids_back rows column few =
+ids_back rows column at_most =
     let count : ℕ = count_of rows column in
     let width : ℕ = width_of count in
     let ids : List ℕ = ids_of rows column in
-    let enough = (width-least count (omega (arith, few_values rows column, few))).1 in
+    let enough = (width-least count (omega (arith, few_values rows column, at_most))).1 in
     let small : All (λ id. id < 2 ^ width) ids = All-weaker (λ id. id < count) (λ id. id < 2 ^ width) (λ id lt. omega (arith, lt, enough)) ids (ids_below rows column) in
     ids-written width 0 (length rows) ids small (omega arith) (omega (arith, ids_count rows column))
     ∙ take_all (length rows - 0) ids (omega (arith, ids_count rows column))
@@ -152,17 +152,17 @@ forward_at table c lt =
 
 -- ---- the law
 
-module _ (table : Table) (os ps : List (List Value)) (few : length os ≤ 1048576) (long : length os ≡ length ps) (first : All (IsRow table.schema.fields) os) (second : All (IsRow table.schema.fields) ps) (unicode : All (λ row. All IsUnicode row) os) (others : All (λ row. All IsUnicode row) ps) (same : map (section_of table os) (sections_of table) ≡ map (section_of table ps) (sections_of table)) where
+module _ (table : Table) (os ps : List (List Value)) (at_most : length os ≤ 1048576) (long : length os ≡ length ps) (first : All (IsRow table.schema.fields) os) (second : All (IsRow table.schema.fields) ps) (unicode : All (λ row. All IsUnicode row) os) (others : All (λ row. All IsUnicode row) ps) (same : map (section_of table os) (sections_of table) ≡ map (section_of table ps) (sections_of table)) where
   column-same : (c : ℕ) → c < length table.schema.fields → section_of table os (parts.Dictionary c) ≡ section_of table ps (parts.Dictionary c) → section_of table os (parts.Forward c) ≡ section_of table ps (parts.Forward c) → values_in c os ≡ values_in c ps
   column-same c lt dictionary forward =
       let none : Value = Whole (pos 0) in
       let dictionaries : dictionary_of table os c ≡ dictionary_of table ps c =
-      spells_one (dictionary_of table os c) (dictionary_of table ps c) (column_dictionary table os c lt few first unicode) (column_dictionary table ps c lt (omega (arith, few, long)) second others) refl dictionary in
+      spells_one (dictionary_of table os c) (dictionary_of table ps c) (column_dictionary table os c lt at_most first unicode) (column_dictionary table ps c lt (omega (arith, at_most, long)) second others) refl dictionary in
       let values : distinct (values_in c os) ≡ distinct (values_in c ps) = ap (λ d. d.values) dictionaries in
       let ids : ids_of os c ≡ ids_of ps c =
-      sym (ids_back os c few)
+      sym (ids_back os c at_most)
       ∙ (λ i. ids_between (width_of (length (values i))) 0 (long i) (forward i))
-      ∙ ids_back ps c (omega (arith, few, long)) in
+      ∙ ids_back ps c (omega (arith, at_most, long)) in
       sym (column_back os c none) ∙ (λ i. map (λ id. get_or (values i) id none) (ids i)) ∙ column_back ps c none
 
   part-same : (p : Part) (i : ℕ) → i < length (sections_of table) → get_or (sections_of table) i parts.Head ≡ p → section_of table os p ≡ section_of table ps p
@@ -180,8 +180,8 @@ images_tell table name rows others format other valid named can also small below
     let sorted = table.settings.sorted in
     let os : List (List Value) = ordered sorted rows in
     let ps : List (List Value) = ordered sorted others in
-    let few = can.fit.few in
-    let less = also.fit.few in
+    let at_most = can.fit.at_most in
+    let less = also.fit.at_most in
     let first : All (IsRow table.schema.fields) os = ordered_all (IsRow table.schema.fields) sorted rows can.fit.each in
     let second : All (IsRow table.schema.fields) ps = ordered_all (IsRow table.schema.fields) sorted others also.fit.each in
     let unicode : All (λ row. All IsUnicode row) os = ordered_all (λ row. All IsUnicode row) sorted rows can.unicode in
@@ -193,10 +193,10 @@ images_tell table name rows others format other valid named can also small below
     let heads : length (front_bytes table name f) ≡ length (front_bytes table name g) = front_bytes_size table name f f_each ∙ sym (front_bytes_size table name g g_each) in
     let fronts : front_bytes table name f ≡ front_bytes table name g = same_fronts (front_bytes table name f) (front_bytes table name g) (concat (sections_of_rows table os)) (concat (sections_of_rows table ps)) heads e in
     let rests : concat (sections_of_rows table os) ≡ concat (sections_of_rows table ps) = same_rests (front_bytes table name f) (front_bytes table name g) (concat (sections_of_rows table os)) (concat (sections_of_rows table ps)) heads e in
-    let os_few : length os ≤ 1048576 = omega (arith, few, ordered_count sorted rows) in
+    let os_few : length os ≤ 1048576 = omega (arith, at_most, ordered_count sorted rows) in
     let ps_few : length ps ≤ 1048576 = omega (arith, less, ordered_count sorted others) in
-    let f_small = rows_small table name os (omega (arith, few, ordered_count sorted rows)) first unicode valid can.trees (leb-true (length name) 64 named.few) in
-    let g_small = rows_small table name ps (omega (arith, less, ordered_count sorted others)) second texts valid also.trees (leb-true (length name) 64 named.few) in
+    let f_small = rows_small table name os (omega (arith, at_most, ordered_count sorted rows)) first unicode valid can.trees (leb-true (length name) 64 named.at_most) in
+    let g_small = rows_small table name ps (omega (arith, less, ordered_count sorted others)) second texts valid also.trees (leb-true (length name) 64 named.at_most) in
     let tell : f ≡ g = fronts_tell table name f g small below (omega (arith, os_few)) (omega (arith, ps_few)) f_each g_each (omega (arith, f_small)) (omega (arith, g_small)) fronts in
     let sections : sections_of_rows table os ≡ sections_of_rows table ps = concat_tells (sections_of_rows table os) (sections_of_rows table ps) (ap (λ x. x.sizes) tell) rests in
     (ap (λ x. x.format) tell, sections_tell table os ps os_few (ap (λ x. x.rows) tell) first second unicode texts sections)

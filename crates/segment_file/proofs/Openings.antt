@@ -53,7 +53,7 @@ rest_up file start rest from limit old new starts ends (to, le, on) = (to, omega
 -- ---- the sizes that are allowed
 
 pub few_bytes : (name : List ℕ) → IsSegmentName name → length name ≤ 64
-few_bytes name is = leb-true (length name) 64 is.few
+few_bytes name is = leb-true (length name) 64 is.at_most
 
 -- ---- the reading of the front
 

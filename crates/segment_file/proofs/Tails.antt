@@ -44,10 +44,10 @@ spelled_length table rows heads ds all =
     sym (length-range_with_len 0 (length table.schema.fields)) ∙ zip_count (λ column d. IsSpelled (kind_at table column) rows (dictionary_in heads column) d) (columns_of table) ds all
 
 pub spelled_count : (bytes : List ℕ) (d : Distinct) → length d.values < 2 ^ 32 → bytes ≡ spelling d → count_in bytes ≡ length d.values
-spelled_count bytes d few is =
+spelled_count bytes d at_most is =
     ap count_in is
     ∙ ap (from_be_bytes w32) (ap (λ n. take n (counted (length d.values) ++ body d.kind d.values)) (sym (length-counted (length d.values))) ∙ take-append_seam (counted (length d.values)) (body d.kind d.values))
-    ∙ counted_back (length d.values) few
+    ∙ counted_back (length d.values) at_most
 
 pub count_same : (table : Table) (rows : ℕ) (heads : List (List ℕ)) (ds : List Distinct) (owner : ℕ) → AreSpelled table rows heads (columns_of table) ds → owner < length table.schema.fields → count_in (dictionary_in heads owner) ≡ count_at ds owner
 count_same table rows heads ds owner all lt =
@@ -55,7 +55,7 @@ count_same table rows heads ds owner all lt =
     let R : ℕ → Distinct → Type 0 = λ column d. IsSpelled (kind_at table column) rows (dictionary_in heads column) d in
     let found : IsSpelled (kind_at table owner) rows (dictionary_in heads owner) (get_or ds owner none) =
     (let e : 0 + owner ≡ owner = omega arith in subst (λ k. R k (get_or ds owner none)) e (zip_at R 0 (length table.schema.fields) owner ds none all lt)) in
-    let few = found.stands.few in
+    let at_most = found.stands.at_most in
     spelled_count (dictionary_in heads owner) (get_or ds owner none) (omega arith) found.spelled
     ∙ ap length (sym (get_or-map (λ x. x.values) ds owner none [] (omega (arith, spelled_length table rows heads ds all))))
 

@@ -127,13 +127,13 @@ counted_rows os tree [] each = tt
 counted_rows os tree (r ∷ rs) each = ((λ d lt. row_below os r tree.split d lt (All-head (Below os) r rs each)), counted_rows os tree rs (All-tail (Below os) r rs each))
 
 no_star_rows : (k : ℕ) (counts : List ℕ) (docs : List Doc) → AreCounted k counts docs → ((d : ℕ) → count_at counts d ≤ star) → HaveNoStar k docs
-no_star_rows k counts [] counted few = tt
-no_star_rows k counts (e ∷ es) counted few = ((λ d lt same. omega (arith, counted.0 d lt, few d, same)), no_star_rows k counts es counted.1 few)
+no_star_rows k counts [] counted at_most = tt
+no_star_rows k counts (e ∷ es) counted at_most = ((λ d lt same. omega (arith, counted.0 d lt, at_most d, same)), no_star_rows k counts es counted.1 at_most)
 
 few_counts : (os : List (List Value)) (split : List ℕ) (d : ℕ) → length os ≤ 1048576 → count_at (map (count_of os) split) d ≤ star
-few_counts os [] d few = omega arith
-few_counts os (c ∷ split) zero few = omega (arith, few, few_values os c)
-few_counts os (c ∷ split) (suc d) few = few_counts os split d few
+few_counts os [] d at_most = omega arith
+few_counts os (c ∷ split) zero at_most = omega (arith, at_most, few_values os c)
+few_counts os (c ∷ split) (suc d) at_most = few_counts os split d at_most
 
 -- each id of a row's document is below the number of values of its column
 tree_counted : (columns : List Field) (os : List (List Value)) (tree : TreeSetting) → IsValidTree columns tree → AreCounted tree.shape.dims (map (count_of os) tree.split) (documents os tree)
@@ -141,7 +141,7 @@ tree_counted columns os tree valid = subst (λ n. AreCounted n (map (count_of os
 
 -- and so none is the star
 pub tree_no_star : (columns : List Field) (os : List (List Value)) (tree : TreeSetting) → IsValidTree columns tree → length os ≤ 1048576 → HaveNoStar tree.shape.dims (documents os tree)
-tree_no_star columns os tree valid few = no_star_rows tree.shape.dims (map (count_of os) tree.split) (documents os tree) (tree_counted columns os tree valid) (λ d. few_counts os tree.split d few)
+tree_no_star columns os tree valid at_most = no_star_rows tree.shape.dims (map (count_of os) tree.split) (documents os tree) (tree_counted columns os tree valid) (λ d. few_counts os tree.split d at_most)
 
 -- ---- the sections of a tree
 
@@ -166,22 +166,22 @@ first_word n rest small = word_back n small
 
 pub tree_sections : (columns : List Field) (os : List (List Value)) (tree : TreeSetting) → IsValidTree columns tree → length os ≤ 1048576 → All (IsRow columns) os → TreeFits os tree → TreeSections os tree
 unfolding written
-tree_sections columns os tree valid few each fits =
+tree_sections columns os tree valid at_most each fits =
     let docs : List Doc = documents os tree in
     let counts : List ℕ = map (count_of os) tree.split in
     let k : ℕ = tree.shape.dims in
     let f = flat merged_rows (nested os tree) in
     let dims : length tree.split ≡ k = sym valid.has_dims in
-    let limit : (d : ℕ) → count_at counts d ≤ star = λ d. few_counts os tree.split d few in
+    let limit : (d : ℕ) → count_at counts d ≤ star = λ d. few_counts os tree.split d at_most in
     let ids : HaveIds k docs = subst (λ n. HaveIds n docs) dims (ids_rows os tree os) in
     let counted = tree_counted columns os tree valid in
-    let no_star = tree_no_star columns os tree valid few in
+    let no_star = tree_no_star columns os tree valid at_most in
     let good : Good k tree.shape.kinds docs = record {
       shape = subst (λ n. HaveShape n tree.shape.kinds docs) dims (shape_rows os tree os);
       stored = stored_rows columns os tree valid os each;
-      light = omega (arith, light_rows columns os tree valid os each, few);
+      weight_fits = omega (arith, light_rows columns os tree valid os each, at_most);
     } in
-    let keep : KeepAll tree.shape counts (length f.1) f.0 = tree_keeps tree.shape docs counts ids no_star limit counted fits.few in
+    let keep : KeepAll tree.shape counts (length f.1) f.0 = tree_keeps tree.shape docs counts ids no_star limit counted fits.at_most in
     let word : AreWords f.0 = tree_words tree.shape docs counts (omega (arith, valid.some_split, dims)) (omega (arith, valid.few_split, dims)) ids no_star limit counted keep in
     let wide : 1 ≤ doc_width tree.shape = omega (arith, valid.some_split, dims) in
     let number : length f.1 < 2 ^ 32 = (let m = mul-le-mul_left (length f.1) wide in omega (arith, m, keep.bytes)) in
@@ -216,8 +216,8 @@ pub record TreeThere (columns : List Field) (os : List (List Value)) (trees : Li
   pub sections : TreeSections os tree
 
 pub tree_there : (columns : List Field) (os : List (List Value)) (trees : List TreeSetting) (t : ℕ) → AllByRecursion (IsValidTree columns) trees → All (TreeFits os) trees → length os ≤ 1048576 → All (IsRow columns) os → t < length trees → TreeThere columns os trees t
-tree_there columns os [] t all fits few each lt = absurd (omega (arith, lt))
-tree_there columns os (x ∷ xs) zero all fits few each lt = record { tree = x; at = refl; valid = all.0; sections = tree_sections columns os x all.0 few each (All-head (TreeFits os) x xs fits) }
-tree_there columns os (x ∷ xs) (suc t) all fits few each lt =
-    let there = tree_there columns os xs t all.1 (All-tail (TreeFits os) x xs fits) few each (omega (arith, lt)) in
+tree_there columns os [] t all fits at_most each lt = absurd (omega (arith, lt))
+tree_there columns os (x ∷ xs) zero all fits at_most each lt = record { tree = x; at = refl; valid = all.0; sections = tree_sections columns os x all.0 at_most each (All-head (TreeFits os) x xs fits) }
+tree_there columns os (x ∷ xs) (suc t) all fits at_most each lt =
+    let there = tree_there columns os xs t all.1 (All-tail (TreeFits os) x xs fits) at_most each (omega (arith, lt)) in
     record { tree = there.tree; at = there.at; valid = there.valid; sections = there.sections }

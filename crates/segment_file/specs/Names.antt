@@ -10,7 +10,7 @@ is_name_byte byte = (nat_le 65 byte && nat_le byte 90) || (nat_le 97 byte && nat
 -- 1 to 64 of these bytes
 pub record IsSegmentName (name : List ℕ) : Type 0 where
   pub some : nat_lt 0 (length name) ≡ true
-  pub few : nat_le (length name) 64 ≡ true
+  pub at_most : nat_le (length name) 64 ≡ true
   pub each : list_all is_name_byte name ≡ true
 
 -- the same as a test

@@ -28,7 +28,7 @@ IsFormat format = format ≡ 1
 pub record IsFront (table : Table) (name bytes : List ℕ) (file_size : ℕ) (front : Front)
     : Type 0 where
   pub known : IsFormat front.format
-  pub few : front.rows ≤ most_rows (length table.schema.fields)
+  pub at_most : front.rows ≤ most_rows (length table.schema.fields)
   pub each : length front.sizes ≡ length (sections_of table)
   pub spelled : bytes ≡ front_bytes table name front
   pub whole : file_size ≡ file_end table name front
@@ -45,7 +45,7 @@ pub record IsSpelled (kind : FieldKind) (rows : ℕ) (bytes : List ℕ) (d : Dis
   pub stands : IsDictionary d
   pub kind_is : d.kind ≡ kind
   pub spelled : bytes ≡ spelling d
-  pub few : length d.values ≤ rows
+  pub at_most : length d.values ≤ rows
   pub some : 0 < rows → 0 < length d.values
 
 -- the bytes of a section

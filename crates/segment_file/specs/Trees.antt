@@ -59,4 +59,4 @@ star_of rows (Some tree) = doc_bytes (written rows tree).1
 
 -- the tree of the rows takes no more bytes than one may
 pub record TreeFits (rows : List (List Value)) (tree : TreeSetting) : Type 0 where
-  pub few : tree_bytes merged_rows (doc_width tree.shape) (nested rows tree) ≤ most_bytes
+  pub at_most : tree_bytes merged_rows (doc_width tree.shape) (nested rows tree) ≤ most_bytes

@@ -31,8 +31,8 @@ head_tells_trees table name file rows whole head t tree said valid named can is 
     let os : List (List Value) = ordered table.settings.sorted rows in
     let bytes : List ℕ = image 1 table name rows in
     let front : Front = front_of 1 table os in
-    let limit = can.fit.few in
-    let few : length os ≤ most_rows (length table.schema.fields) = omega (arith, limit, ordered_count table.settings.sorted rows) in
+    let limit = can.fit.at_most in
+    let at_most : length os ≤ most_rows (length table.schema.fields) = omega (arith, limit, ordered_count table.settings.sorted rows) in
     let each : All (IsRow table.schema.fields) os = ordered_all (IsRow table.schema.fields) table.settings.sorted rows can.fit.each in
     let unicode : All (λ row. All IsUnicode row) os = ordered_all (λ row. All IsUnicode row) table.settings.sorted rows can.unicode in
     let keeps = image_keeps table name rows valid named can in
@@ -45,13 +45,13 @@ head_tells_trees table name file rows whole head t tree said valid named can is 
     let found : Some (get_or (trees_said table heads) t none) ≡ Some said =
     sym (get_or-map Some (trees_said table heads) t none (Some none) (omega (arith, lt, said_count table heads))) ∙ get_or_from_slice_get (map Some (trees_said table heads)) t (Some said) (Some none) there in
     let own : get_or (trees_said table heads) t none ≡ said = cc in
-    let th = tree-there table name os few each unicode valid can.trees t lt in
+    let th = tree-there table name os at_most each unicode valid can.trees t lt in
     let trees : Some th.tree ≡ Some tree = sym th.at ∙ setting in
     let that : th.tree ≡ tree = cc in
     let told : said ≡ record { documents = length (written os th.tree).1; nodes = (written os th.tree).0 } =
     sym own
     ∙ said_at table heads t none lt
-    ∙ ap nodes_said (nodes-are table name os few each unicode t lt ∙ ap (nodes_of os) th.at)
+    ∙ ap nodes_said (nodes-are table name os at_most each unicode t lt ∙ ap (nodes_of os) th.at)
     ∙ th.sections.nodes_told in
     subst (λ x. IsTold os x said) that (record { documents_are = ap (λ x. x.documents) told; nodes_are = ap (λ x. x.nodes) told })
 
@@ -59,11 +59,11 @@ head_tells_trees table name file rows whole head t tree said valid named can is 
 pub image_tree : (table : Table) (files : Files) (rows : List (List Value)) (head : Seen) (t : ℕ) (tree : TreeSetting) → IsValidTable table → IsOfImage table files rows head → slice_get table.settings.trees t ≡ Some tree → TreeSections (ordered table.settings.sorted rows) tree
 image_tree table files rows head t tree valid of setting =
     let os : List (List Value) = ordered table.settings.sorted rows in
-    let limit = of.can.fit.few in
-    let few : length os ≤ most_rows (length table.schema.fields) = omega (arith, limit, ordered_count table.settings.sorted rows) in
+    let limit = of.can.fit.at_most in
+    let at_most : length os ≤ most_rows (length table.schema.fields) = omega (arith, limit, ordered_count table.settings.sorted rows) in
     let each : All (IsRow table.schema.fields) os = ordered_all (IsRow table.schema.fields) table.settings.sorted rows of.can.fit.each in
     let unicode : All (λ row. All IsUnicode row) os = ordered_all (λ row. All IsUnicode row) table.settings.sorted rows of.can.unicode in
-    let th = tree-there table of.name os few each unicode valid of.can.trees t (slice_get_within table.settings.trees t tree setting) in
+    let th = tree-there table of.name os at_most each unicode valid of.can.trees t (slice_get_within table.settings.trees t tree setting) in
     let trees : Some th.tree ≡ Some tree = sym th.at ∙ setting in
     let that : th.tree ≡ tree = cc in
     subst (TreeSections os) that th.sections

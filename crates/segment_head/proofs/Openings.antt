@@ -17,7 +17,7 @@ use Rattle.segment_file.proofs.Openings.{has_front}
 pub head_of : (table : Table) (name file bytes : List ℕ) (held : Option Files) (front : Front) (head : Seen) → IsFrontOf table name file held bytes front → IsPlaced table name file front head → IsHeadOf table head
 head_of table name file bytes held front head is has =
     let front_is = is.front_is in
-    record { name = name; file = file; front = front; few = front_is.few; each = front_is.each; small = omega (arith, front_is.whole, front_is.small); has = has }
+    record { name = name; file = file; front = front; at_most = front_is.at_most; each = front_is.each; small = omega (arith, front_is.whole, front_is.small); has = has }
 
 -- ---- the log
 
@@ -62,4 +62,4 @@ told_head P table name file bytes cut (Some files) front is cut_is each = each (
 -- ---- the sizes that are allowed
 
 pub few_rows : (table : Table) (rows : ℕ) → rows ≤ most_rows (length table.schema.fields) → rows ≤ 1048576
-few_rows table rows few = grind arith
+few_rows table rows at_most = grind arith

@@ -6,7 +6,7 @@ use Rattle.segment_file.specs.declared.section.Section.{Section}
 use Rattle.segment_head.specs.Heads.{IsHeadOf, Seen}
 
 pub rows_few : (table : Table) (head : Seen) → IsHeadOf table head → head.rows ≤ 1048576
-rows_few table head of = let few = of.few in let rows = of.has.rows_are in omega (arith, few, rows)
+rows_few table head of = let at_most = of.at_most in let rows = of.has.rows_are in omega (arith, at_most, rows)
 
 pub section_at : (xs : List Section) (k : ℕ) → k < length xs → (s : Section) × (slice_get xs k ≡ Some s)
 section_at [] k lt = absurd (omega (arith, lt))

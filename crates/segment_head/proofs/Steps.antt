@@ -161,10 +161,10 @@ module _ (table : Table) (head : Seen) (column : ℕ) (s : Section) (field : col
 
   -- the file ends before, so there is no whole head
   pub section_cut : (held : Option Files) (count : ℕ) → count ≤ s.place.length → IfSome held (λ files. length (bytes_of (Some files) s.place.file) < s.place.offset + count) → OfWhole table held head (λ whole. ⊥)
-  section_cut None count few short = tt
-  section_cut (Some files) count few short = λ name file whole full part.
+  section_cut None count at_most short = tt
+  section_cut (Some files) count at_most short = λ name file whole full part.
       let t = there name file (bytes_of (Some files) file) whole full part in
-      omega (arith, few, short, t.within, ap (λ f. length (bytes_of (Some files) f)) t.file_is)
+      omega (arith, at_most, short, t.within, ap (λ f. length (bytes_of (Some files) f)) t.file_is)
 
   -- ---- how many values there are
 
@@ -172,11 +172,11 @@ module _ (table : Table) (head : Seen) (column : ℕ) (s : Section) (field : col
   four_or_more bytes d e = omega (arith, ap length e, length-append (counted (length d.values)) (body d.kind d.values), length-counted (length d.values))
 
   pub section_few : (held : Option Files) → s.place.length < 4 → OfWhole table held head (λ whole. ⊥)
-  section_few None few = tt
-  section_few (Some files) few = λ name file whole full part.
+  section_few None at_most = tt
+  section_few (Some files) at_most = λ name file whole full part.
       let whole_bytes : List ℕ = bytes_of (Some files) file in
       let t = there name file whole_bytes whole full part in
-      omega (arith, few, four_or_more (take s.place.length (drop s.place.offset whole_bytes)) t.d t.spelled.spelled, length-take s.place.length (drop s.place.offset whole_bytes))
+      omega (arith, at_most, four_or_more (take s.place.length (drop s.place.offset whole_bytes)) t.d t.spelled.spelled, length-take s.place.length (drop s.place.offset whole_bytes))
 
   -- the number that the first four bytes spell is that of the values, and it may be
   counted_there : (files : Files) (bytes : List ℕ) (n : ℕ) → 4 ≤ s.place.length → bytes ≡ bytes_at files s.place.file s.place.offset 4 → n ≡ from_be_bytes w32 (take 4 bytes) → (name file : List ℕ) (whole : Seen) → IsHead table name file (bytes_of (Some files) file) whole → IsPartOf whole head
@@ -186,11 +186,11 @@ module _ (table : Table) (head : Seen) (column : ℕ) (s : Section) (field : col
       let t = there name file whole_bytes whole full part in
       let rest : List ℕ = drop s.place.offset whole_bytes in
       let d : Distinct = t.d in
-      let limit = t.spelled.stands.few in
+      let limit = t.spelled.stands.at_most in
       let front : take 4 bytes ≡ take 4 (take s.place.length rest) =
       ap (take 4) (read ∙ ap (λ f. bytes_at files f s.place.offset 4) t.file_is) ∙ take-take 4 4 rest (omega arith) ∙ sym (take-take 4 s.place.length rest long) in
       let count : n ≡ length d.values = says ∙ ap (from_be_bytes w32) front ∙ spelled_count (take s.place.length rest) d (omega (arith, limit)) t.spelled.spelled in
-      (record { d = d; at = t.at; many = count }, omega (arith, count, t.spelled.few), λ some. omega (arith, count, t.spelled.some some))
+      (record { d = d; at = t.at; many = count }, omega (arith, count, t.spelled.at_most), λ some. omega (arith, count, t.spelled.some some))
 
   pub count_whole : (held : Option Files) (bytes : List ℕ) (n : ℕ) → 4 ≤ s.place.length → IfSome held (λ files. bytes ≡ bytes_at files s.place.file s.place.offset 4) → n ≡ from_be_bytes w32 (take 4 bytes) → OfWhole table held head (HasCount column n)
   count_whole None bytes n long read says = tt
@@ -381,7 +381,7 @@ kept_head table head column d is = record {
   name = is.name;
   file = is.file;
   front = is.front;
-  few = is.few;
+  at_most = is.at_most;
   each = is.each;
   small = is.small;
   has = record { rows_are = is.has.rows_are; sections_are = is.has.sections_are; slots = length-set head.dictionaries column (Some d) ∙ is.has.slots; tree_slots = is.has.tree_slots };

@@ -158,7 +158,7 @@ logs_more head (x ∷ columns) c old between new logs one = (logs.0, logs.1, log
 
 pub logs_none : (head : Seen) (columns : List ℕ) (log : Option (List Entry)) → LogsCounts head columns log log
 logs_none head [] log = refl
-logs_none head (x ∷ columns) log = (log, record { still = λ loaded. refl; first = none_read (dictionary_section head x) (λ s. 4) log }, logs_none head columns log)
+logs_none head (x ∷ columns) log = (log, record { unchanged = λ loaded. refl; first = none_read (dictionary_section head x) (λ s. 4) log }, logs_none head columns log)
 
 logs_rest : (head : Seen) (columns more : List ℕ) (old new : Option (List Entry)) → LogsCounts head columns old new → LogsCounts head (columns ++ more) old new
 logs_rest head [] more old new logs = subst (λ l. LogsCounts head more old l) (sym logs) (logs_none head more old)

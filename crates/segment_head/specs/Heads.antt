@@ -104,7 +104,7 @@ pub record IsHeadOf (table : Table) (head : Seen) : Type 0 where
   pub name : List ℕ
   pub file : List ℕ
   pub front : Front
-  pub few : front.rows ≤ most_rows (length table.schema.fields)
+  pub at_most : front.rows ≤ most_rows (length table.schema.fields)
   pub each : length front.sizes ≡ length (sections_of table)
   pub small : file_end table name front < 2 ^ 64
   pub has : IsPlaced table name file front head
@@ -202,7 +202,7 @@ LogsOpened = LogsWithin bounds_end
 -- the told log grew by reads of the first four bytes of a column's dictionary, where it is not
 -- loaded
 pub record LogsCount (head : Seen) (column : ℕ) (old new : Option (List Entry)) : Type 0 where
-  pub still : IsLoaded head column → new ≡ old
+  pub unchanged : IsLoaded head column → new ≡ old
   pub first : IfSome (dictionary_section head column) (λ s. LogsUpTo s.place.file s.place.offset
       (s.place.offset + 4) old new)
 

@@ -72,7 +72,7 @@ impl Head {
         ensures log { IfSome (dictionary_section self.now column) (λ s.
             LogsUpTo s.place.file s.place.offset (s.place.offset + 4)
             (S.log shelf.old) (S.log shelf.new)) }
-        ensures still { IsLoaded self.now column → S.log shelf.new ≡ S.log shelf.old }
+        ensures unchanged { IsLoaded self.now column → S.log shelf.new ≡ S.log shelf.old }
     {
         match self.loaded(column) {
             Some(dictionary) => Ok(dictionary.count()),
@@ -92,7 +92,7 @@ impl Head {
         requires column { column < length table.now.schema.fields }
         ensures count { IfOk result (λ n. OfWhole table.now (S.held shelf.old) self.now
             (HasCount column n)) }
-        ensures few { IfOk result (λ n. n ≤ self.now.rows) }
+        ensures at_most { IfOk result (λ n. n ≤ self.now.rows) }
         ensures refused { IfErr result (λ fault. (p : Part) → fault ≡ NotASegment p →
             OfWhole table.now (S.held shelf.old) self.now (λ _. ⊥)) }
         ensures only_reads { OnlyReads (IsErrOf result HeadFault.ReadFault)

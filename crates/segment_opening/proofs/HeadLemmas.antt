@@ -150,12 +150,12 @@ unread_none table (Some files) head none name was = λ rows has.
 pub dictionary_log : (table : Table) (head : Seen) (column : ℕ) (file : List ℕ) (end : ℕ) (old new : Option (List Entry)) → IsHeadOf table head → column < length table.schema.fields → AreIn file head.sections → DictionariesEnd table head end
     → IfSome (dictionary_section head column) (λ s. LogsUpTo s.place.file s.place.offset (s.place.offset + s.place.length) old new) → LogsThat (EndsBy file end) old new
 dictionary_log table head column file end old new of lt within ends logs =
-    let few : column + 1 < length head.sections = omega (arith, lt, made_count table of.name of.file of.front (sections_of table) head.sections refl of.each of.has.sections_are) in
-    let (s, at) = section_at head.sections (column + 1) few in
+    let at_most : column + 1 < length head.sections = omega (arith, lt, made_count table of.name of.file of.front (sections_of table) head.sections refl of.each of.has.sections_are) in
+    let (s, at) = section_at head.sections (column + 1) at_most in
     let (to, le, through) = if_some (dictionary_section head column) s (λ s. LogsUpTo s.place.file s.place.offset (s.place.offset + s.place.length) old new) at logs in
     let before : s.place.offset + s.place.length ≤ end = if_some (dictionary_section head column) s (λ s. s.place.offset + s.place.length ≤ end) at (ends column lt) in
     let here : get_or head.sections (column + 1) s ≡ s = get_or_from_slice_get head.sections (column + 1) s s at in
-    let own : s.place.file ≡ file = subst (λ (x : Section). x.place.file ≡ file) here (within (column + 1) s few) in
+    let own : s.place.file ≡ file = subst (λ (x : Section). x.place.file ≡ file) here (within (column + 1) s at_most) in
     subst (λ f. LogsThat (EndsBy f end) old new) own (through_ends s.place.file s.place.offset to end old new (omega (arith, le, before)) through)
 
 -- ---- one column after the other
@@ -163,10 +163,10 @@ dictionary_log table head column file end old new of lt within ends logs =
 -- those before a column, and this one
 pub loaded_more : (names : ℕ → Bool) (old new : Seen) (n : ℕ) → ((k : ℕ) → IsLoaded old k → IsLoaded new k) → ((k : ℕ) → k < n → names k ≡ true → IsLoaded old k) → (names n ≡ true → IsLoaded new n)
     → (k : ℕ) → k < n + 1 → names k ≡ true → IsLoaded new k
-loaded_more names old new n still before now k lt named = by (k == n) refl
+loaded_more names old new n unchanged before now k lt named = by (k == n) refl
   where
     by : (b : Bool) → k == n ≡ b → IsLoaded new k
     by true is =
         let same : k ≡ n = eqb-true k n is in
         subst (IsLoaded new) (sym same) (now (ap names (sym same) ∙ named))
-    by false is = let other = not_same k n is in still k (before k (omega (arith, lt, other)) named)
+    by false is = let other = not_same k n is in unchanged k (before k (omega (arith, lt, other)) named)

@@ -47,7 +47,7 @@ pub fn detailed_columns(
 ) -> Result<Vec<bool>, AllocError>
     requires valid { IsValidTable table.now }
     requires tree { IfSome tree (λ n. n < length table.now.settings.trees) }
-    requires few { count ≤ 65535 }
+    requires at_most { count ≤ 65535 }
     ensures count { IfOk result (λ marks. length marks.items ≡ count) }
     ensures each { IfOk result (λ marks. (column : ℕ) → column < count → get_or marks.items column
         false ≡ spec.is_detailed query.now (spec.tree_at table.now tree) column) }
@@ -87,7 +87,7 @@ fn tree_columns(
     count: usize,
 ) -> Result<Vec<bool>, AllocError>
     requires split { length tree.now.split ≤ 16 }
-    requires few { count ≤ 65535 }
+    requires at_most { count ≤ 65535 }
     ensures count { IfOk result (λ marks. length marks.items ≡ count) }
     ensures each { IfOk result (λ marks. (column : ℕ) → column < count → get_or marks.items column
         false ≡ spec.is_detailed query.now (Some tree.now) column) }

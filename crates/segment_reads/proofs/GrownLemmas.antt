@@ -88,28 +88,28 @@ module _ (P : List ℕ → List (List Value) → List Entry → Type 0) (table :
         apart i k (omega (arith, before, le)) lt (same_name (get_or names i []) (get_or names k []) (sym is ∙ same))
 
     other_this : AreApart names → (n k : ℕ) → k < n → n < length names → (y : List Entry) → All (λ e. e.file ≡ file_of (get_or names n [])) y → All (λ e. e.file ≢ file_of (get_or names k [])) y
-    other_this apart n k lt few y all = λ j d within same.
-        apart k n lt few (same_name (get_or names k []) (get_or names n []) (sym same ∙ all j d within))
+    other_this apart n k lt at_most y all = λ j d within same.
+        apart k n lt at_most (same_name (get_or names k []) (get_or names n []) (sym same ∙ all j d within))
 
     both_each : (files : Files) (n : ℕ) → n < length names → (x y : List Entry) → All (λ e. IsFileBefore names n e.file) x → All (λ e. e.file ≡ file_of (get_or names n [])) y
         → Each files n x → ((rows : List (List Value)) → HasImage table files (get_or names n []) rows → P (get_or names n []) (ordered table.settings.sorted rows) y) → Each files (n + 1) (x ++ y)
-    both_each files n few x y first second told one = λ segments all apart k lt. by segments all apart k lt (k == n) refl
+    both_each files n at_most x y first second told one = λ segments all apart k lt. by segments all apart k lt (k == n) refl
       where
         by : (segments : List (List (List Value))) → AllZip (HasImage table files) names segments → AreApart names → (k : ℕ) → k < n + 1 → (b : Bool) → k == n ≡ b → P (get_or names k []) (ordered table.settings.sorted (get_or segments k [])) (x ++ y)
         by segments all apart k lt true is =
             let same : k ≡ n = eqb-true k n is in
             subst (λ j. P (get_or names j []) (ordered table.settings.sorted (get_or segments j [])) (x ++ y)) (sym same)
-            (closed.before (get_or names n []) (ordered table.settings.sorted (get_or segments n [])) x y (others_before apart n n (omega arith) few x first)
-            (one (get_or segments n []) (zip_at (HasImage table files) names segments n [] [] all few)))
+            (closed.before (get_or names n []) (ordered table.settings.sorted (get_or segments n [])) x y (others_before apart n n (omega arith) at_most x first)
+            (one (get_or segments n []) (zip_at (HasImage table files) names segments n [] [] all at_most)))
         by segments all apart k lt false is =
             let other : k ≢ n = λ same. false≢true (sym is ∙ eq-eqb k n same) in
             let less : k < n = omega (arith, lt, other) in
-            closed.after (get_or names k []) (ordered table.settings.sorted (get_or segments k [])) x y (other_this apart n k less few y second) (told segments all apart k less)
+            closed.after (get_or names k []) (ordered table.settings.sorted (get_or segments k [])) x y (other_this apart n k less at_most y second) (told segments all apart k less)
 
     -- one segment more
     pub each_more : (now : Option Files) (n : ℕ) (name : List ℕ) (a b c : Option (List Entry)) → n < length names → name ≡ get_or names n [] → now ≡ held → LogsWhere (IsFileBefore names n) a b → LogsIn (file_of name) b c
         → LogsEach P table held names n a b → LogsOne P table now name b c → LogsEach P table held names (n + 1) a c
-    each_more now n name a b c few is same (x, made, first) (y, then, second) each one =
+    each_more now n name a b c at_most is same (x, made, first) (y, then, second) each one =
         let own : All (λ e. e.file ≡ file_of (get_or names n [])) y = λ j d lt. second j d lt ∙ ap file_of is in
         grown_then (λ l. (l ≡ x) × IfSome held (λ files. Each files n l)) (λ l. (l ≡ y) × IfSome held (λ files. (rows : List (List Value)) → HasImage table files (get_or names n []) rows → P (get_or names n []) (ordered table.settings.sorted rows) l))
         (λ l. IfSome held (λ files. Each files (n + 1) l)) a b c x y made then
@@ -129,12 +129,12 @@ module _ (P : List ℕ → List (List Value) → List Entry → Type 0) (table :
             → All (λ e. e.file ≡ file_of (get_or names n [])) y → IfSome h (λ files. Each files (n + 1) (l ++ m))
         joined None l m is_l is_m told one own = tt
         joined (Some files) l m is_l is_m told one own =
-            both_each files n few l m (subst (All (λ e. IsFileBefore names n e.file)) (sym is_l) first) (subst (All (λ e. e.file ≡ file_of (get_or names n []))) (sym is_m) own) told one
+            both_each files n at_most l m (subst (All (λ e. IsFileBefore names n e.file)) (sym is_l) first) (subst (All (λ e. e.file ≡ file_of (get_or names n []))) (sym is_m) own) told one
 
     -- of the segments after these nothing was read
     pub each_rest : (n : ℕ) (a b : Option (List Entry)) → n ≤ length names → IfSome held (λ files. (name : List ℕ) (rows : List (List Value)) → HasImage table files name rows → P name (ordered table.settings.sorted rows) [])
         → LogsWhere (IsFileBefore names n) a b → LogsEach P table held names n a b → LogsEach P table held names (length names) a b
-    each_rest n a b few nothing (x, made, first) each = λ before entries was now.
+    each_rest n a b at_most nothing (x, made, first) each = λ before entries was now.
         let both : Some (before ++ entries) ≡ Some (before ++ x) = sym now ∙ told_so a b before x was made in
         let same : entries ≡ x = append_cancel_left before entries x (let lists : before ++ entries ≡ before ++ x = cc in lists) in
         by held entries same nothing (each before entries was now)

@@ -210,7 +210,7 @@ module _ (query : BoundQuery) (table : Table) (name : List ℕ) (os : List (List
     }
     after_by (Scan plan) p = record {
       stars = λ t. star_after t ∙ p.stars t;
-      forward = let few = p.forward in let same = forward_after in omega (arith, few, same);
+      forward = let at_most = p.forward in let same = forward_after in omega (arith, at_most, same);
     }
 
     -- reads of the head before them change nothing

@@ -22,21 +22,21 @@ use Rattle.segment_reads.specs.Logs.{DictionariesEnd, EndsBy, EndsInHead, IsHead
 -- ---- what a call leaves of a shelf
 
 pub reads_as : {F G : Type 0} (a b : outside.Seen) → OnlyReads F a b → (G → F) → (F → G) → OnlyReads G a b
-reads_as a b o from to = record { held = o.held; parts = o.parts; writes = o.writes; later = o.later; rose = λ g. o.rose (from g); still = λ none. o.still (λ f. none (to f)) }
+reads_as a b o from to = record { held = o.held; parts = o.parts; writes = o.writes; later = o.later; rose = λ g. o.rose (from g); unchanged = λ none. o.unchanged (λ f. none (to f)) }
 
 pub reads_none : (a : outside.Seen) → OnlyReads ⊥ a a
-reads_none a = record { held = refl; parts = refl; writes = refl; later = omega arith; rose = λ e. absurd e; still = λ none. refl }
+reads_none a = record { held = refl; parts = refl; writes = refl; later = omega arith; rose = λ e. absurd e; unchanged = λ none. refl }
 
 pub reads_then : {G : Type 0} (a b c : outside.Seen) → OnlyReads ⊥ a b → OnlyReads G b c → OnlyReads G a c
 reads_then a b c m n =
-    let same : b.read_faults ≡ a.read_faults = m.still (λ e. e) in
+    let same : b.read_faults ≡ a.read_faults = m.unchanged (λ e. e) in
     record {
       held = n.held ∙ m.held;
       parts = n.parts ∙ m.parts;
       writes = n.writes ∙ m.writes;
       later = omega (arith, m.later, n.later);
       rose = λ g. subst (λ k. Rose k c.read_faults) same (n.rose g);
-      still = λ none. n.still none ∙ same;
+      unchanged = λ none. n.unchanged none ∙ same;
     }
 
 -- ---- the log
@@ -111,9 +111,9 @@ fewer_summed [] (suc m) (suc n) le = omega arith
 fewer_summed (x ∷ xs) zero n le = omega arith
 fewer_summed (x ∷ xs) (suc m) zero le = absurd (omega (arith, le))
 fewer_summed (x ∷ xs) (suc m) (suc n) le =
-    let few : sum (take (suc m) (x ∷ xs)) ≡ x + sum (take m xs) = sum_by-cons (λ n. n) x (take m xs) in
+    let at_most : sum (take (suc m) (x ∷ xs)) ≡ x + sum (take m xs) = sum_by-cons (λ n. n) x (take m xs) in
     let more : sum (take (suc n) (x ∷ xs)) ≡ x + sum (take n xs) = sum_by-cons (λ n. n) x (take n xs) in
-    omega (arith, few, more, fewer_summed xs m n (omega (arith, le)))
+    omega (arith, at_most, more, fewer_summed xs m n (omega (arith, le)))
 
 bounds_before : (table : Table) (name : List ℕ) (front : Front) → bounds_end table name front ≤ head_end table name front
 bounds_before table name front =

@@ -64,11 +64,11 @@ module _ (table : Table) (name : List ℕ) (head : Seen) (rows : List (List Valu
   width_small : (column : ℕ) → IsLoaded head column → width_in head column ≤ 20
   width_small column loaded =
       let same = count_are table name head rows sections tells column loaded in
-      let few = distinct_few (segment.values_in column rows) in
+      let at_most = distinct_few (segment.values_in column rows) in
       let long = length-map rows (value_in column) in
       let many = rows_few table head of_table in
       let count = tells.rows_are in
-      (width-least (count_in head column) (omega (arith, same, few, long, many, count))).2 20 (omega arith) (omega (arith, same, few, long, many, count))
+      (width-least (count_in head column) (omega (arith, same, at_most, long, many, count))).2 20 (omega arith) (omega (arith, same, at_most, long, many, count))
 
   module _ (column : ℕ) (is : IsReadable head column) where
     ids_end : (place : Place) → IsRawPlace table name rows (Forward column) place → (first to : ℕ) → first ≤ head.rows → to ≤ head.rows → place.offset + end_byte (width_in head column) first to ≤ high
@@ -76,15 +76,15 @@ module _ (table : Table) (name : List ℕ) (head : Seen) (rows : List (List Valu
         let last = raw.ends in
         let long = raw.long in
         let size = forward_size table rows column in
-        let few = end_few (width_in head column) first to head.rows begins ends in
+        let at_most = end_few (width_in head column) first to head.rows begins ends in
         let same : bytes_for (head.rows * width_in head column) ≡ bytes_for (length rows * width_of (count_of rows column)) = (λ i. bytes_for (tells.rows_are i * width_of (count_are table name head rows sections tells column is.loaded i))) in
-        omega (arith, last, long, size, few, same)
+        omega (arith, last, long, size, at_most, same)
 
     whole_few : end_byte (width_in head column) 0 head.rows - first_byte (width_in head column) 0 ≤ 4 * head.rows
     whole_few =
-        let few = end_few (width_in head column) 0 head.rows head.rows (omega arith) (omega arith) in
+        let at_most = end_few (width_in head column) 0 head.rows head.rows (omega arith) (omega arith) in
         let most = mul-le head.rows (width_in head column) head.rows 20 (omega arith) (width_small column is.loaded) in
-        omega (arith, few, most)
+        omega (arith, at_most, most)
 
     forward_place : (P : Place → Type 0) (Q : Type 0) → IfSome (place_in head.sections (Forward column)) P → ((place : Place) → IsRawPlace table name rows (Forward column) place → P place → Q) → Q
     forward_place P Q logs f = placed_raw table name head rows sections tells (Forward column) (omega arith) (omega arith) is.placed P Q logs f
@@ -105,15 +105,15 @@ module _ (table : Table) (name : List ℕ) (head : Seen) (rows : List (List Valu
 
       forward_grows : LogsForward head column old new → GrowsBy (4 * head.rows) old new
       forward_grows logs =
-          let few = whole_few in
+          let at_most = whole_few in
           forward_place _ (GrowsBy (4 * head.rows) old new) logs (λ place raw h.
-          grows_on place.file (place.offset + first_byte (width_in head column) 0) (place.offset + end_byte (width_in head column) 0 head.rows) (4 * head.rows) old new (omega (arith, few)) h)
+          grows_on place.file (place.offset + first_byte (width_in head column) 0) (place.offset + end_byte (width_in head column) 0 head.rows) (4 * head.rows) old new (omega (arith, at_most)) h)
 
       part_bytes : LogsPart head column old new → GrowsBy (4 * head.rows) old new
       part_bytes logs =
-          let few = whole_few in
+          let at_most = whole_few in
           forward_place _ (GrowsBy (4 * head.rows) old new) logs (λ place raw h.
-          grows_up place.file (place.offset + first_byte (width_in head column) 0) (place.offset + end_byte (width_in head column) 0 head.rows) (4 * head.rows) old new (omega (arith, few)) h)
+          grows_up place.file (place.offset + first_byte (width_in head column) 0) (place.offset + end_byte (width_in head column) 0 head.rows) (4 * head.rows) old new (omega (arith, at_most)) h)
 
       -- ---- of runs of documents
 
@@ -157,7 +157,7 @@ module _ (table : Table) (name : List ℕ) (head : Seen) (rows : List (List Valu
     to_series (suc n) old new (between, before, last) = (between, to_series n old between before, last)
 
     to_part : (old new : Option (List Entry)) → LogsSome head named old new → LogsPartOf Each Part (length named) old new
-    to_part old new s = record { upto = s.upto; few = s.within; between = s.between; before = to_series s.upto old s.between s.before; rest = rest s.rest }
+    to_part old new s = record { upto = s.upto; at_most = s.within; between = s.between; before = to_series s.upto old s.between s.before; rest = rest s.rest }
       where
         rest : LogsPartly head s.upto (get_or named s.upto false) s.between new → (new ≡ s.between) ⊎ ((s.upto < length named) × Part s.upto s.between new)
         rest (inl same) = inl same
@@ -194,7 +194,7 @@ module _ (table : Table) (name : List ℕ) (head : Seen) (rows : List (List Valu
 
     module _ (docs : List ℕ) (within : All (λ doc. doc < head.rows) docs) where
       pub docs_grow : (old new : Option (List Entry)) → LogsDocs head named docs old new → GrowsBy (4 * length docs * marked_count named) old new
-      docs_grow old new (runs, apart, are, logs, few) = subst (λ n. GrowsBy n old new) (marks_bytes named docs) few
+      docs_grow old new (runs, apart, are, logs, at_most) = subst (λ n. GrowsBy n old new) (marks_bytes named docs) at_most
 
       module _ (runs : List Run) (apart : Apart 0 runs) (are : docs_of runs ≡ docs) where
         abbrev here : All (λ doc. doc < head.rows) (docs_of runs)
@@ -221,7 +221,7 @@ module _ (table : Table) (name : List ℕ) (head : Seen) (rows : List (List Valu
             grows_less (4 * length (docs_of runs)) (4 * length docs * one_if true) a b (omega (arith, same)) (runs_grow column (readable column is) a b runs apart here h)
 
       pub docs_before : (old new : Option (List Entry)) → LogsDocs head named docs old new → LogsThat LiesBefore old new
-      docs_before old new (runs, apart, are, logs, few) =
+      docs_before old new (runs, apart, are, logs, at_most) =
           series_that LiesBefore (LogsPicked head runs named) (length named) (λ at lt a b h. picked_before runs apart are (get_or named at false) at refl a b h) (length named) (omega arith) old new logs
 
       pub partly_before : (old new : Option (List Entry)) → LogsDocsPartly head named docs old new → LogsThat LiesBefore old new

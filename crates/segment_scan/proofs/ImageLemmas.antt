@@ -155,10 +155,10 @@ module _ (os : List (List Value)) (column : ℕ) where
   pub ids-count : length (ids_of os column) ≡ length os
   ids-count = length-map own (place_of (distinct own)) ∙ length-map os (value_in column)
 
-  module _ (few : count_of os column < 2 ^ 32) where
+  module _ (at_most : count_of os column < 2 ^ 32) where
     ids-small : All (λ id. id < 2 ^ width_of (count_of os column)) (ids_of os column)
     ids-small =
-        let enough = (width-least (count_of os column) few).1 in
+        let enough = (width-least (count_of os column) at_most).1 in
         All-weaker (λ id. id < count_of os column) (λ id. id < 2 ^ width_of (count_of os column)) (λ id lt. omega (arith, lt, enough)) (ids_of os column) ids-below
 
     ids-back : ids_between (width_of (count_of os column)) 0 (length os) (spelled (width_of (count_of os column)) (ids_of os column)) ≡ ids_of os column
@@ -258,7 +258,7 @@ moved vs ws n m bs cs v r b h =
     subst (λ (l : List Value). Readable (width_of (length l)) (length l) 0 n bs) (sym v)
     (subst (λ k. Readable (width_of (length ws)) (length ws) 0 k bs) (sym r) (subst (λ (l : List ℕ). Readable (width_of (length ws)) (length ws) 0 m l) (sym b) h))
 
-module _ (table : Table) (os : List (List Value)) (files : Files) (head : Seen) (few : length os ≤ 1048576) (tells : TellsOf table os head) (forward : (c : ℕ) → c < length table.schema.fields → forward_in files head c ≡ section_of table os (parts.Forward c)) (is : IsHeadOf table head) where
+module _ (table : Table) (os : List (List Value)) (files : Files) (head : Seen) (at_most : length os ≤ 1048576) (tells : TellsOf table os head) (forward : (c : ℕ) → c < length table.schema.fields → forward_in files head c ≡ section_of table os (parts.Forward c)) (is : IsHeadOf table head) where
   values-are : (c : ℕ) → IsLoaded head c → values_in head c ≡ distinct (segment.values_in c os)
   values-are c loaded = ap values_of loaded.1 ∙ ap (λ x. x.values) (tells.dictionaries_are c loaded.0 loaded.1)
 
@@ -266,7 +266,7 @@ module _ (table : Table) (os : List (List Value)) (files : Files) (head : Seen) 
   bytes-are c loaded = forward c (columns_few table head c is loaded)
 
   count-few : (c : ℕ) → count_of os c < 2 ^ 32
-  count-few c = let rows : length (segment.values_in c os) ≡ length os = length-map os (value_in c) in omega (arith, few, rows, distinct_few (segment.values_in c os))
+  count-few c = let rows : length (segment.values_in c os) ≡ length os = length-map os (value_in c) in omega (arith, at_most, rows, distinct_few (segment.values_in c os))
 
   column-read : (c : ℕ) → IsLoaded head c → values_read files head c true ≡ segment.values_in c os
   column-read c loaded =
@@ -326,10 +326,10 @@ images_read law query table files rows head valid is loaded of =
     let forward : (c : ℕ) → c < length table.schema.fields → forward_in files head c ≡ section_of table os (parts.Forward c) =
     (λ c lt. ap (λ (s : List Section). bytes_in files (place_in s (parts.Forward c))) sections
     ∙ cut_section files of.file (section_of table os) (parts.Forward c) (λ p same. forward_only p c same) (front_bytes table of.name front) (front_size table of.name) (sections_of table) (front_bytes_size table of.name front sizes) of.stored (has_forward table c lt)) in
-    let few : length os ≤ 1048576 = omega (arith, tells.rows_are, is.few, is.has.rows_are) in
+    let at_most : length os ≤ 1048576 = omega (arith, tells.rows_are, is.at_most, is.has.rows_are) in
     record {
       count = tells.rows_are ∙ ordered_count table.settings.sorted rows;
-      agree = rows-agree table os files head few tells forward is query loaded;
-      readable = λ column named. column-readable table os files head few tells forward is column (loaded column named);
-      each = λ at lt. each-agrees table os files head few tells forward is query loaded at (omega (arith, lt, ordered_count table.settings.sorted rows));
+      agree = rows-agree table os files head at_most tells forward is query loaded;
+      readable = λ column named. column-readable table os files head at_most tells forward is column (loaded column named);
+      each = λ at lt. each-agrees table os files head at_most tells forward is query loaded at (omega (arith, lt, ordered_count table.settings.sorted rows));
     }

@@ -78,11 +78,11 @@ module _ (table : Table) (name : List ℕ) (head : Seen) (rows : List (List Valu
 
   -- what holds of the place of a section of the rows
   pub placed_raw : (p : Part) → 0 < kind_of p → kind_of p < 8 → IsSome (place_in head.sections p) → (P : Place → Type 0) (Q : Type 0) → IfSome (place_in head.sections p) P → ((place : Place) → IsRawPlace table name rows p place → P place → Q) → Q
-  placed_raw p some few is P Q logs f = by (place_in head.sections p) refl is logs
+  placed_raw p some at_most is P Q logs f = by (place_in head.sections p) refl is logs
     where
       by : (o : Option Place) → place_in head.sections p ≡ o → IsSome o → IfSome o P → Q
       by None at is logs = absurd cc
-      by (Some place) at is logs = f place (raw_place table name rows p place some few (ap (λ s. place_in s p) (sym sections) ∙ at)) logs
+      by (Some place) at is logs = f place (raw_place table name rows p place some at_most (ap (λ s. place_in s p) (sym sections) ∙ at)) logs
 
   -- a read between the forward indexes and the documents of the star-trees
   abbrev pub LiesBehind : Entry → Type 0

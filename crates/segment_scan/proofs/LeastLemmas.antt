@@ -122,7 +122,7 @@ ends rows width = by (nat_lt 0 rows) refl
     by : (b : Bool) → nat_lt 0 rows ≡ b → bytes_for (rows * width) ≤ (if b then bytes_for (rows * width) else first_byte width 0)
     by true is = omega arith
     by false is =
-        let none : rows ≡ 0 = (let few : rows ≤ 0 = ltb-false 0 rows is in omega (arith, few)) in
+        let none : rows ≡ 0 = (let at_most : rows ≤ 0 = ltb-false 0 rows is in omega (arith, at_most)) in
         subst (λ r. bytes_for (r * width) ≤ first_byte width 0) (sym none) (omega arith)
 
 -- a section that is there
@@ -182,13 +182,13 @@ module _ (head : Seen) (named : List Bool) (limit : ℕ) (all : (other : ℕ) �
     where
       by : (y : List Entry) → Consecutive other.file (other.offset + first_byte (width_in head n) 0) (other.offset + end_byte (width_in head n) 0 head.rows) y
           → (b : Bool) → nat_lt column n ≡ b → column < suc n → given (g.entries ++ y) ≡ given g.entries + given y → place.length ≤ given (g.entries ++ y)
-      by y on true here lt sum = let few = g.least (ltb-true column n here) in omega (arith, few, sum)
+      by y on true here lt sum = let at_most = g.least (ltb-true column n here) in omega (arith, at_most, sum)
       by y on false past lt sum =
           let le : n ≤ column = ltb-false column n past in
           let own : n ≡ column = omega (arith, le, lt) in
-          let few = own_given other (ap (λ k. place_in head.sections (parts.Forward k)) (sym own) ∙ is) y
+          let at_most = own_given other (ap (λ k. place_in head.sections (parts.Forward k)) (sym own) ∙ is) y
           (subst (λ k. Consecutive other.file (other.offset + first_byte (width_in head k) 0) (other.offset + end_byte (width_in head k) 0 head.rows) y) own on) in
-          omega (arith, few, sum)
+          omega (arith, at_most, sum)
 
   columns_give : (n : ℕ) → n ≤ limit → (before : List Entry) (new : Option (List Entry)) → LogsColumns head named n (Some before) new → Gives n before new
   columns_give zero le before new logs = record { entries = []; made = logs ∙ ap Some (sym (append-nil before)); least = λ lt. absurd (omega arith) }
@@ -203,8 +203,8 @@ module _ (head : Seen) (named : List Bool) (limit : ℕ) (all : (other : ℕ) �
   all_given lt before entries logs =
       let g = columns_give limit (omega arith) before (Some (before ++ entries)) logs in
       let same : before ++ entries ≡ before ++ g.entries = some_same g.made in
-      let few : place.length ≤ given entries = subst (λ l. place.length ≤ given l) (sym (append_cancel_left before entries g.entries same)) (g.least lt) in
-      subst (λ o. option_map_or (λ (p : Place). p.length) o 0 ≤ option_map_or (λ (p : Place). read_in entries p.file p.offset (p.offset + p.length)) o 0) (sym at) few
+      let at_most : place.length ≤ given entries = subst (λ l. place.length ≤ given l) (sym (append_cancel_left before entries g.entries same)) (g.least lt) in
+      subst (λ o. option_map_or (λ (p : Place). p.length) o 0 ≤ option_map_or (λ (p : Place). read_in entries p.file p.offset (p.offset + p.length)) o 0) (sym at) at_most
     where
       some_same : {X : Type 0} {x y : X} → Some x ≡ Some y → x ≡ y
       some_same e = cc
@@ -226,13 +226,13 @@ module _ (query : BoundQuery) (table : Table) (head : Seen) (column : ℕ) (look
       → LogsScan query table held head count (Some before) (Some (before ++ entries)) → forward_length head column ≤ forward_bytes head column entries
   least_read name file bytes whole held count before entries full part of_table loaded (inl (none, logs)) =
       let own = loaded column names_it in
-      let few = columns_few table head column of_table own in
+      let at_most = columns_few table head column of_table own in
       let n : ℕ = length table.schema.fields in
       let plain : 0 + column ≡ column = omega arith in
-      let marked : get_or (names_in query table) column false ≡ true = get_or-map-range_with_len (query_names query) 0 n column column false few plain ∙ names_it in
+      let marked : get_or (names_in query table) column false ≡ true = get_or-map-range_with_len (query_names query) 0 n column column false at_most plain ∙ names_it in
       let here = there_is {P = λ _. Unit {0}} (place_in head.sections (parts.Forward column)) (loaded_readable table head column of_table own).placed (any_place (place_in head.sections (parts.Forward column))) in
       all_given head (names_in query table) n (λ other lt is. (loaded_readable table head other of_table (loaded other (mark_named query table (names_in query table) refl other is))).placed)
-      column here.0 here.1 (section_long table name file bytes whole head full part of_table column own here.0 here.1) marked few before entries logs
+      column here.0 here.1 (section_long table name file bytes whole head full part of_table column own here.0 here.1) marked at_most before entries logs
     where
       any_place : (o : Option Place) → IfSome o (λ _. Unit {0})
       any_place None = tt

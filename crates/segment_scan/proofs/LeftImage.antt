@@ -285,13 +285,13 @@ module _ (law : ImagesRead) (leave : ImagesLeave) (query : BoundQuery) (table : 
 
       pub left_adds : (one two : List (List Value)) (old mid new : KeptGroups) → one ≡ selected_docs query choices files head (names_in rest table) check → two ≡ selected_docs query (sure_choices choices) files head (names_in others table) sure
           → length docs ≤ head.rows → AddsRows query (length check) one old mid → AddsRows query (length sure) two mid new → (head.rows ≡ length rows) × AddsRows query (length rows) (selected query os) old new
-      left_adds one two old mid new one_is two_is few first second =
-          let long : head.rows ≡ length rows = rows_long ∙ ordered_count table.settings.sorted rows in
+      left_adds one two old mid new one_is two_is at_most first second =
+          let lengths : head.rows ≡ length rows = rows_long ∙ ordered_count table.settings.sorted rows in
           let a = part_adds law query table head valid of_table loaded choices files rows of (length check) check check_within one old mid one_is first in
           let b = part_adds law query table head valid of_table loaded (sure_choices choices) files rows of (length sure) sure sure_within two mid new two_is second in
           let both = adds_both query (length check) (length sure) (selected rest (map at_doc check)) (selected others (map at_doc sure)) old mid new a b in (
-            long,
-            adds_as_more query (length check + length sure) (length rows) (selected query os) old new (omega (arith, long, few, count_parts))
+            lengths,
+            adds_as_more query (length check + length sure) (length rows) (selected query os) old new (omega (arith, lengths, at_most, count_parts))
                 (permuted_adds query (length check + length sure) (length check + length sure) (selected query os) (selected rest (map at_doc check) ++ selected others (map at_doc sure)) old new refl permuted both),
           )
 
@@ -311,17 +311,17 @@ module _ (law : ImagesRead) (leave : ImagesLeave) (query : BoundQuery) (table : 
   -- both parts were added
   pub left_image : (held : Option Files) (unsure check sure : List ℕ) → AreLeftFor query table held head docs → HasUnsureFor query table held head unsure → AreParts docs unsure check sure → length docs ≤ head.rows → length check + length sure ≡ length docs
       → (old mid new : KeptGroups) → AddsDocs query choices held head (names_in rest table) check old mid → AddsDocs query (sure_choices choices) held head (names_in others table) sure mid new → AddsImage query table held head old new
-  left_image None unsure check sure left has parts few count old mid new one two = record {
+  left_image None unsure check sure left has parts at_most count old mid new one two = record {
     added = one.rows ++ two.rows;
-    adds = adds_as_more query (length check + length sure) head.rows (one.rows ++ two.rows) old new (omega (arith, few, count)) (adds_both query (length check) (length sure) one.rows two.rows old mid new one.adds two.adds);
+    adds = adds_as_more query (length check + length sure) head.rows (one.rows ++ two.rows) old new (omega (arith, at_most, count)) (adds_both query (length check) (length sure) one.rows two.rows old mid new one.adds two.adds);
     read = tt;
     told = tt;
   }
-  left_image (Some files) unsure check sure left has parts few count old mid new one two = record {
+  left_image (Some files) unsure check sure left has parts at_most count old mid new one two = record {
     added = one.rows ++ two.rows;
-    adds = adds_as_more query (length check + length sure) head.rows (one.rows ++ two.rows) old new (omega (arith, few, count)) (adds_both query (length check) (length sure) one.rows two.rows old mid new one.adds two.adds);
+    adds = adds_as_more query (length check + length sure) head.rows (one.rows ++ two.rows) old new (omega (arith, at_most, count)) (adds_both query (length check) (length sure) one.rows two.rows old mid new one.adds two.adds);
     read = inr (record { docs = docs; unsure = unsure; check = check; sure = sure; left = left; has = has; parts = parts; rows_are = (λ i. one.told i ++ two.told i) });
-    told = λ rows of. left_adds files rows of left unsure check sure has parts one.rows two.rows old mid new one.told two.told few one.adds two.adds;
+    told = λ rows of. left_adds files rows of left unsure check sure has parts one.rows two.rows old mid new one.told two.told at_most one.adds two.adds;
   }
 
   -- there are too many groups with the documents to be checked
@@ -351,7 +351,7 @@ module _ (law : ImagesRead) (leave : ImagesLeave) (query : BoundQuery) (table : 
   )
 
   pub left_docs : (held : Option Files) → AreLeftFor query table held head docs → length docs ≤ head.rows → AreDocs query table held head (length docs)
-  left_docs held left few = record { few = few; all = λ none. absurd (let some = left.some in omega (arith, some, ap length none)); told = go held left }
+  left_docs held left at_most = record { at_most = at_most; all = λ none. absurd (let some = left.some in omega (arith, some, ap length none)); told = go held left }
     where
       go : (told : Option Files) → AreLeftFor query table told head docs → IfSome told (λ files. (rows : List (List Value)) → IsOfImage table files rows head → length docs ≡ length (rows_left query (choices_for query table head) (ordered table.settings.sorted rows)))
       go None left = tt
@@ -399,7 +399,7 @@ nothing_indexed (c ∷ cs) (y ∷ ys) i x none there = go (is_indexed c y) refl 
     go : (b : Bool) → is_indexed c y ≡ b → (if b then one_chosen c y ∷ indexed cs ys else indexed cs ys) ≡ [] → (i : ℕ) → slice_get (y ∷ ys) i ≡ Some x
         → (Unit {0} → (i : ℕ) (x : Conjunct) → indexed cs ys ≡ [] → slice_get ys i ≡ Some x → is_indexed (choice_at cs i) x ≡ false)
         → is_indexed (choice_at (c ∷ cs) i) x ≡ false
-    go true is none i there later = absurd (let long : suc (length (indexed cs ys)) ≡ 0 = ap length none in omega (arith, long))
+    go true is none i there later = absurd (let lengths : suc (length (indexed cs ys)) ≡ 0 = ap length none in omega (arith, lengths))
     go false is none zero there later = (let same : y ≡ x = cc in subst (λ z. is_indexed c z ≡ false) same is)
     go false is none (suc i) there later = later tt i x none there
 
@@ -441,7 +441,7 @@ all_kept (x ∷ xs) = ap suc (all_kept xs)
 
 pub whole_docs : (law : ImagesRead) (leave : ImagesLeave) (query : BoundQuery) (table : Table) (held : Option Files) (head : Seen) → IsValidTable table → IsHeadOf table head → AreNamedLoaded query head → indexed_for query table head ≡ [] → (n : ℕ) → n ≡ head.rows
     → AreDocs query table held head n
-whole_docs law leave query table held head valid of_table loaded none n is = record { few = omega (arith, is); all = λ same. is; told = go held }
+whole_docs law leave query table held head valid of_table loaded none n is = record { at_most = omega (arith, is); all = λ same. is; told = go held }
   where
     go : (told : Option Files) → IfSome told (λ files. (rows : List (List Value)) → IsOfImage table files rows head → n ≡ length (rows_left query (choices_for query table head) (ordered table.settings.sorted rows)))
     go None = tt
@@ -457,7 +457,7 @@ all_unserved (c ∷ cs) [] none = refl
 all_unserved (c ∷ cs) (y ∷ ys) none = go (is_indexed c y) (is_served c y) refl refl none (all_unserved cs ys)
   where
     go : (b s : Bool) → is_indexed c y ≡ b → is_served c y ≡ s → (if b then one_chosen c y ∷ indexed cs ys else indexed cs ys) ≡ [] → (indexed cs ys ≡ [] → unserved cs ys ≡ ys) → (if s then unserved cs ys else y ∷ unserved cs ys) ≡ y ∷ ys
-    go true s b_is s_is none later = absurd (let long : suc (length (indexed cs ys)) ≡ 0 = ap length none in omega (arith, long))
+    go true s b_is s_is none later = absurd (let lengths : suc (length (indexed cs ys)) ≡ 0 = ap length none in omega (arith, lengths))
     go false true b_is s_is none later = absurd (false≢true (sym b_is ∙ served_indexed c y s_is))
     go false false b_is s_is none later = ap (λ (l : List Conjunct). y ∷ l) (later none)
 
@@ -480,15 +480,15 @@ whole_bad query table held head part none bad =
 
 pub marks_left : (query : BoundQuery) (table : Table) (choices : List IndexChoice) (named items : List Bool) (n : ℕ) → n ≡ length table.schema.fields → named ≡ items → length items ≡ n
     → ((column : ℕ) → column < n → get_or items column false ≡ query_names (rest_of query choices) column) → named ≡ names_in (rest_of query choices) table
-marks_left query table cs named items n fields same long each =
-    marks_are (rest_of query cs) table named n fields (ap length same ∙ long) (λ column lt. ap (λ (l : List Bool). get_or l column false) same ∙ each column lt)
+marks_left query table cs named items n fields same lengths each =
+    marks_are (rest_of query cs) table named n fields (ap length same ∙ lengths) (λ column lt. ap (λ (l : List Bool). get_or l column false) same ∙ each column lt)
 
 -- ---- both parts of the documents that are left
 
 -- parts of documents of so many rows
 pub record PartsFit (rows : ℕ) (docs check sure : List ℕ) : Type 0 where
   pub count : length check + length sure ≡ length docs
-  pub few : length docs ≤ rows
+  pub at_most : length docs ≤ rows
   pub check_within : All (λ doc. doc < rows) check
   pub sure_within : All (λ doc. doc < rows) sure
 
@@ -498,7 +498,7 @@ parts_fit docs unsure check sure rows up within parts =
     let second = part_all (λ doc. doc < rows) docs sure (λ d. not (has_doc unsure d)) parts.sures within in
     record {
       count = parts_count docs unsure sure check rows (record { ascend = up; those = λ doc. refl }) within parts.sures parts.checks second first;
-      few = docs_few docs rows up within;
+      at_most = docs_few docs rows up within;
       check_within = first;
       sure_within = second;
     }

@@ -32,7 +32,7 @@ use Rattle.segment_head.proofs.SectionLemmas.{first_true, rest_true}
 -- the place of a part is that of a section that is the same
 record Found (file : List ℕ) (offset : ℕ) (ps : List Part) (sizes : List ℕ) (p : Part) (place : Place) : Type 0 where
   at : ℕ
-  few : at < length ps
+  at_most : at < length ps
   same : is_same (get_or ps at parts.Table) p ≡ true
   file_is : place.file ≡ file
   from : place.offset ≡ offset + sum (take at sizes)
@@ -55,15 +55,15 @@ found_at file p place offset (q ∷ qs) (size ∷ sizes) is = go (is_same q p) r
         let from : place.offset ≡ offset = ap (λ x. x.offset) (sym own) in
         let long : place.length ≡ size = ap (λ x. x.length) (sym own) in
         let one : sum (take 1 (size ∷ sizes)) ≡ size + sum (take 0 sizes) = sum_by-cons (λ n. n) size (take 0 sizes) in
-        record { at = 0; few = omega arith; same = same; file_is = ap (λ x. x.file) (sym own); from = omega (arith, from); to = omega (arith, from, long, one); long = long }
+        record { at = 0; at_most = omega arith; same = same; file_is = ap (λ x. x.file) (sym own); from = omega (arith, from); to = omega (arith, from, long, one); long = long }
     go false same is later =
         let f = later is in
         let from = f.from in
         let to = f.to in
-        let few = f.few in
+        let at_most = f.at_most in
         let one : sum (take (suc f.at) (size ∷ sizes)) ≡ size + sum (take f.at sizes) = sum_by-cons (λ n. n) size (take f.at sizes) in
         let two : sum (take (suc (suc f.at)) (size ∷ sizes)) ≡ size + sum (take (suc f.at) sizes) = sum_by-cons (λ n. n) size (take (suc f.at) sizes) in
-        record { at = suc f.at; few = omega (arith, few); same = f.same; file_is = f.file_is; from = omega (arith, from, one); to = omega (arith, to, two); long = f.long }
+        record { at = suc f.at; at_most = omega (arith, at_most); same = f.same; file_is = f.file_is; from = omega (arith, from, one); to = omega (arith, to, two); long = f.long }
 
 -- ---- kinds of sections
 
@@ -146,20 +146,20 @@ index_after table at kind =
 
 -- a section that belongs to no star-tree's documents stands before these
 not_after : (at : ℕ) (xs ys : List Part) → All (λ p. 7 < kind_of p) ys → at < length (xs ++ ys) → kind_of (get_or (xs ++ ys) at parts.Table) < 8 → at < length xs
-not_after at xs ys all few kind = by (nat_lt at (length xs)) refl
+not_after at xs ys all at_most kind = by (nat_lt at (length xs)) refl
   where
     by : (v : Bool) → nat_lt at (length xs) ≡ v → at < length xs
     by true is = ltb-true at (length xs) is
     by false is =
         let le : length xs ≤ at = ltb-false at (length xs) is in
-        let high = all (at - length xs) parts.Table (omega (arith, few, le, length-append xs ys)) in
+        let high = all (at - length xs) parts.Table (omega (arith, at_most, le, length-append xs ys)) in
         let same = ap kind_of (get_or-append_right xs ys (length xs) at parts.Table refl le) in
         absurd (omega (arith, high, same, kind))
 
 raw_before : (table : Table) (at : ℕ) → at < length (sections_of table) → kind_of (get_or (sections_of table) at parts.Table) < 8 → at < length (head_sections table) + length (raw_sections table)
-raw_before table at few kind =
+raw_before table at at_most kind =
     let here : at < length (head_sections table ++ raw_sections table) =
-    not_after at (head_sections table ++ raw_sections table) (map parts.Star (trees_of table)) (star_kinds table) (subst (λ l. at < length l) (stars_last table) few) (subst (λ l. kind_of (get_or l at parts.Table) < 8) (stars_last table) kind) in
+    not_after at (head_sections table ++ raw_sections table) (map parts.Star (trees_of table)) (star_kinds table) (subst (λ l. at < length l) (stars_last table) at_most) (subst (λ l. kind_of (get_or l at parts.Table) < 8) (stars_last table) kind) in
     omega (arith, here, length-append (head_sections table) (raw_sections table))
 
 -- ---- the sections of the rows of an image
@@ -181,13 +181,13 @@ module _ (table : Table) (name : List ℕ) (rows : List (List Value)) where
   size_at (p ∷ ps) (suc at) lt = size_at ps at (omega (arith, lt))
 
   pub raw_place : (p : Part) (place : Place) → 0 < kind_of p → kind_of p < 8 → place_in (map (placed (file_of name)) (extents_of table name front)) p ≡ Some place → IsRawPlace table name rows p place
-  raw_place p place some few is =
+  raw_place p place some at_most is =
       let f = found_at (file_of name) p place (front_size table name) (sections_of table) front.sizes is in
       let from = f.from in
       let to = f.to in
-      let within = f.few in
+      let within = f.at_most in
       let own : kind_of (get_or (sections_of table) f.at parts.Table) ≡ kind_of p = same_kind (get_or (sections_of table) f.at parts.Table) p f.same in
-      let before = raw_before table f.at within (omega (arith, own, few)) in
+      let before = raw_before table f.at within (omega (arith, own, at_most)) in
       let sums = fewer_summed front.sizes (suc f.at) (length (head_sections table) + length (raw_sections table)) (omega (arith, before)) in
       record {
         file_is = f.file_is;

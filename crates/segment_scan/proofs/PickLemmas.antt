@@ -75,11 +75,11 @@ module _ (files : Files) (head : Seen) (docs : List ℕ) (k : ℕ) (lt : k < len
       let range : all ≡ map at (range_with_len 0 (head.rows - 0)) = ids_of_range w 0 head.rows bytes in
       let own : get_or ids k 0 ≡ at doc = ap (λ (l : List ℕ). get_or l k 0) picked.told ∙ get_or-map at docs k 0 0 lt in
       let whole : get_or all doc 0 ≡ at doc = ap (λ (l : List ℕ). get_or l doc 0) range ∙ get_or-map-range_with_len at 0 (head.rows - 0) doc doc 0 (omega (arith, there)) (omega arith) in
-      let long : length all ≡ head.rows = ap length range ∙ length-map (range_with_len 0 (head.rows - 0)) at ∙ ranged (head.rows - 0) ∙ plain in
+      let lengths : length all ≡ head.rows = ap length range ∙ length-map (range_with_len 0 (head.rows - 0)) at ∙ ranged (head.rows - 0) ∙ plain in
       get_or-ids coded.dictionary.now.values coded.ids.now k (omega (arith, lt, ap length of.0, picked.count))
       ∙ (λ i. get_or (of.1 i) (get_or (of.0 i) k 0) (Whole (pos 0)))
       ∙ ap (λ id. get_or vs id (Whole (pos 0))) (own ∙ sym whole)
-      ∙ sym (get_or-ids vs all doc (omega (arith, there, long)))
+      ∙ sym (get_or-ids vs all doc (omega (arith, there, lengths)))
     where
       ranged : (n : ℕ) → length (range_with_len 0 n) ≡ n
       ranged n = length-range_with_len 0 n
@@ -99,15 +99,15 @@ module _ (files : Files) (head : Seen) (docs : List ℕ) (k : ℕ) (lt : k < len
       (λ i. here i ∷ rest i)
 
 module _ (held : Option Files) (head : Seen) (named : List Bool) (docs : List ℕ) (ids : List (Option (List ℕ))) (segment : SegmentColumns)
-    (count_is : segment.count ≡ length docs) (few : length docs ≤ most_rows) (within : All (λ doc. doc < head.rows) docs) (long : length segment.columns.now ≡ length named)
+    (count_is : segment.count ≡ length docs) (at_most : length docs ≤ most_rows) (within : All (λ doc. doc < head.rows) docs) (lengths : length segment.columns.now ≡ length named)
     (picked : (column : ℕ) → column < length named → IsPicked held head column docs (get_or named column false) (get_or ids column None))
     (of : (column : ℕ) → column < length named → IsCodedOf head column (get_or ids column None) (get_or segment.columns.now column None)) where
   pub docs-coded : AreCoded segment
   docs-coded = record {
-    few = omega (arith, count_is, few);
+    at_most = omega (arith, count_is, at_most);
     each = subst (λ n. All (IsCoded n) segment.columns.now) (sym count_is)
         (All-from_get_or (IsCoded (length docs)) segment.columns.now None
-        (λ k lt. let less : k < length named = omega (arith, lt, long) in one-coded held head k docs (get_or named k false) (get_or ids k None) (get_or segment.columns.now k None) (picked k less) (of k less)));
+        (λ k lt. let less : k < length named = omega (arith, lt, lengths) in one-coded held head k docs (get_or named k false) (get_or ids k None) (get_or segment.columns.now k None) (picked k less) (of k less)));
   }
 
   pub docs-read : (query : BoundQuery) (choices : List IndexChoice) → IfSome held (λ files. selected (rest_of query choices) (rows_of (table_of segment)) ≡ selected_docs query choices files head named docs)
@@ -121,8 +121,8 @@ module _ (held : Option Files) (head : Seen) (named : List Bool) (docs : List �
           let there : k < length docs = omega (arith, less, count_is) in
           get_or_from_slice_get (rows_of (table_of segment)) k (row_of (table_of segment).columns k) [] (row-at segment.count k (table_of segment).columns less (counts segment docs-coded))
           ∙ ap (λ n. row_of (map (listed n) segment.columns.now) k) count_is
-          ∙ one-row files head docs k there (within k 0 there) 0 named segment.columns.now long
-          (λ j few. one-value files head docs k there (within k 0 there) j (get_or named j false) (get_or ids j None) (get_or segment.columns.now j None) (picked j few) (of j few)
+          ∙ one-row files head docs k there (within k 0 there) 0 named segment.columns.now lengths
+          (λ j at_most. one-value files head docs k there (within k 0 there) j (get_or named j false) (get_or ids j None) (get_or segment.columns.now j None) (picked j at_most) (of j at_most)
           ∙ ap (λ m. get_or (values_read files head m (get_or named j false)) (get_or docs k 0) (Whole (pos 0))) (none j))
           ∙ sym (get_or-map (row_of (columns_read files head 0 named)) docs k 0 [] there))
         where
@@ -147,4 +147,4 @@ docs-overfull (Some files) query choices head named docs rows table is over = su
 
 -- documents of rows are as few as the rows
 pub docs_few : (docs : List ℕ) (n : ℕ) → IsStrictlyIncreasing docs → All (λ doc. doc < n) docs → length docs ≤ n
-docs_few docs n up below = let few = up_few 0 n docs (increasing_up 0 docs up (λ j lt. omega arith)) (omega arith) (λ j lt. below j 0 lt) in omega (arith, few)
+docs_few docs n up below = let at_most = up_few 0 n docs (increasing_up 0 docs up (λ j lt. omega arith)) (omega arith) (λ j lt. below j 0 lt) in omega (arith, at_most)

@@ -49,15 +49,15 @@ all-read files head n (b ∷ bs) (c ∷ cs) e h =
     next n k = omega arith
 
 module _ (held : Option Files) (head : Seen) (named : List Bool) (ids : List (Option (List ℕ))) (segment : SegmentColumns)
-    (count_is : segment.count ≡ head.rows) (few : head.rows ≤ most_rows) (long : length segment.columns.now ≡ length named)
+    (count_is : segment.count ≡ head.rows) (at_most : head.rows ≤ most_rows) (lengths : length segment.columns.now ≡ length named)
     (read : (column : ℕ) → column < length named → IsRead held head column (get_or named column false) (get_or ids column None))
     (of : (column : ℕ) → column < length named → IsCodedOf head column (get_or ids column None) (get_or segment.columns.now column None)) where
   pub coded-all : AreCoded segment
   coded-all = record {
-    few = omega (arith, count_is, few);
+    at_most = omega (arith, count_is, at_most);
     each = subst (λ n. All (IsCoded n) segment.columns.now) (sym count_is)
         (All-from_get_or (IsCoded head.rows) segment.columns.now None
-        (λ k lt. let within : k < length named = omega (arith, lt, long) in one-coded held head k (get_or named k false) (get_or ids k None) (get_or segment.columns.now k None) (read k within) (of k within)));
+        (λ k lt. let within : k < length named = omega (arith, lt, lengths) in one-coded held head k (get_or named k false) (get_or ids k None) (get_or segment.columns.now k None) (read k within) (of k within)));
   }
 
   pub rows-read : (query : BoundQuery) → IfSome held (λ files. selected query (rows_of (table_of segment)) ≡ selected_read query files head named)
@@ -66,7 +66,7 @@ module _ (held : Option Files) (head : Seen) (named : List Bool) (ids : List (Op
       told : (files : Files) → ((column : ℕ) → column < length named → IsRead (Some files) head column (get_or named column false) (get_or ids column None)) → table_of segment ≡ table_read files head named
       told files read = (λ i. record { columns = map (listed (count_is i)) segment.columns.now; count = count_is i })
           ∙ (λ i. record {
-            columns = all-read files head 0 named segment.columns.now long (λ k lt. one-read files head k (get_or named k false) (get_or ids k None) (get_or segment.columns.now k None) (read k lt) (of k lt) ∙ ap (λ m. values_read files head m (get_or named k false)) (none k)) i;
+            columns = all-read files head 0 named segment.columns.now lengths (λ k lt. one-read files head k (get_or named k false) (get_or ids k None) (get_or segment.columns.now k None) (read k lt) (of k lt) ∙ ap (λ m. values_read files head m (get_or named k false)) (none k)) i;
             count = head.rows;
           })
         where

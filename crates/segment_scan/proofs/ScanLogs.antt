@@ -117,14 +117,14 @@ buckets_partly held place count rows low high old new (inr (parts, are, partly))
 -- reads that are made one after the other
 module _ (file : List ℕ) (each : ℕ → Logs) (count : ℕ) (of_each : (at : ℕ) → at < count → (old new : Option (List Entry)) → each at old new → LogsIn file old new) where
   series_in_file : (n : ℕ) → n ≤ count → (old new : Option (List Entry)) → LogsTo each n old new → LogsIn file old new
-  series_in_file zero few old new logs = same_in_file file old new logs
-  series_in_file (suc n) few old new (between, before, last) = logs_then (λ other. other ≡ file) old between new (series_in_file n (omega (arith, few)) old between before) (of_each n (omega (arith, few)) between new last)
+  series_in_file zero at_most old new logs = same_in_file file old new logs
+  series_in_file (suc n) at_most old new (between, before, last) = logs_then (λ other. other ≡ file) old between new (series_in_file n (omega (arith, at_most)) old between before) (of_each n (omega (arith, at_most)) between new last)
 
 -- a part of them: the next one is there, or nothing more was read
 module _ (file : List ℕ) (each partly : ℕ → Logs) (count : ℕ) (of_each : (at : ℕ) → at < count → (old new : Option (List Entry)) → each at old new → LogsIn file old new)
     (of_part : (at : ℕ) → at < count → (old new : Option (List Entry)) → partly at old new → LogsIn file old new) where
   series_partly : (old new : Option (List Entry)) → LogsPartOf each partly count old new → LogsIn file old new
-  series_partly old new s = logs_then (λ other. other ≡ file) old s.between new (series_in_file file each count of_each s.upto s.few old s.between s.before) (rest s.rest)
+  series_partly old new s = logs_then (λ other. other ≡ file) old s.between new (series_in_file file each count of_each s.upto s.at_most old s.between s.before) (rest s.rest)
     where
       rest : (new ≡ s.between) ⊎ ((s.upto < count) × partly s.upto s.between new) → LogsIn file s.between new
       rest (inl same) = same_in_file file s.between new same
@@ -209,7 +209,7 @@ module _ (head : Seen) (file : List ℕ) (within : AreIn file head.sections) (na
 
 module _ (head : Seen) (file : List ℕ) (within : AreIn file head.sections) (named : List Bool) (readable : (column : ℕ) → get_or named column false ≡ true → IsReadable head column) (docs : List ℕ) where
   docs_in_file : (old new : Option (List Entry)) → LogsDocs head named docs old new → LogsIn file old new
-  docs_in_file old new (runs, apart, are, logs, few) =
+  docs_in_file old new (runs, apart, are, logs, at_most) =
       series_in_file file (LogsPicked head runs named) (length named) (picked_in_file head file within named readable runs) (length named) (omega arith) old new logs
 
   docs_partly : (old new : Option (List Entry)) → LogsDocsPartly head named docs old new → LogsIn file old new

@@ -95,19 +95,19 @@ module _ (query : BoundQuery) (table : Table) (name : List ℕ) (head : Seen) (r
   LogsMost most old new = (x : List Entry) × (new ≡ option_map (λ l. l ++ x) old) × (bytes_read x name (forward_span table name rows) ≤ most)
 
   most_grown : (most : ℕ) (a b : Option (List Entry)) → GrowsBy most a b → LogsMost most a b
-  most_grown most a b (x, made, few) = (x, made, let less = read_few x (file_of name) (forward_span table name rows).from (forward_span table name rows).to in omega (arith, less, few))
+  most_grown most a b (x, made, at_most) = (x, made, let less = read_few x (file_of name) (forward_span table name rows).from (forward_span table name rows).to in omega (arith, less, at_most))
 
   none_behind : (a b : Option (List Entry)) → LogsThat Behind a b → LogsMost 0 a b
   none_behind a b (x, made, all) =
       (x, made, let none = after_part (file_of name) (forward_span table name rows).to (forward_span table name rows).from (forward_span table name rows).to (raw_span table name rows).to x (omega arith) all in omega (arith, none))
 
   most_then : (most : ℕ) (a b c : Option (List Entry)) → LogsMost 0 a b → LogsMost most b c → LogsMost most a c
-  most_then most a b c (x, made, none) (y, next, few) =
+  most_then most a b c (x, made, none) (y, next, at_most) =
       let sum = read_in-append x y (file_of name) (forward_span table name rows).from (forward_span table name rows).to in
-      (x ++ y, next ∙ ap (option_map (λ l. l ++ y)) made ∙ join_logs a x y, omega (arith, sum, none, few))
+      (x ++ y, next ∙ ap (option_map (λ l. l ++ y)) made ∙ join_logs a x y, omega (arith, sum, none, at_most))
 
   most_less : (less most : ℕ) (a b : Option (List Entry)) → less ≤ most → LogsMost less a b → LogsMost most a b
-  most_less less most a b le (x, made, few) = (x, made, omega (arith, few, le))
+  most_less less most a b le (x, made, at_most) = (x, made, omega (arith, at_most, le))
 
   early_behind : (a b : Option (List Entry)) → LogsThat Behind a b → LogsThat Early a b
   early_behind a b logs = entries_as Behind Early a b (λ entry l. record { file_is = l.file_is; begins = omega arith; ends = l.ends }) logs
@@ -163,7 +163,7 @@ module _ (query : BoundQuery) (table : Table) (name : List ℕ) (head : Seen) (r
           indexed_partly table name head rows sections tells held a b (choice_at (choices_for query table head) at) conjunct (ready_for query table head of_table loaded at conjunct is) (logs conjunct is)
 
   -- so many documents are left by the indexes: all rows where there is none
-  module _ (n : ℕ) (all : indexed_for query table head ≡ [] → head.rows ≡ n) (few : (docs : List ℕ) → AreLeftFor query table held head docs → length docs ≡ n) where
+  module _ (n : ℕ) (all : indexed_for query table head ≡ [] → head.rows ≡ n) (at_most : (docs : List ℕ) → AreLeftFor query table held head docs → length docs ≡ n) where
     abbrev most : ℕ
     most = 4 * n * marked_count (names_in rest table)
 
@@ -172,7 +172,7 @@ module _ (query : BoundQuery) (table : Table) (name : List ℕ) (head : Seen) (r
     all_most none = (λ i. 4 * all none i * marked_count (names_in (sym (rest_is query (choices_for query table head) none) i) table))
 
     docs_most : (docs : List ℕ) → AreLeftFor query table held head docs → 4 * length docs * marked_count (names_in rest table) ≡ most
-    docs_most docs left = ap (λ k. 4 * k * marked_count (names_in rest table)) (few docs left)
+    docs_most docs left = ap (λ k. 4 * k * marked_count (names_in rest table)) (at_most docs left)
 
     -- what both parts of the documents that are left take
     parts_most : (docs check sure : List ℕ) → AreLeftFor query table held head docs → length check + length sure ≡ length docs

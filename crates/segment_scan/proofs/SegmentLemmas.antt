@@ -28,26 +28,26 @@ use Rattle.segment_scan.proofs.ImageLemmas.{marked_named}
 -- ---- the marks of the columns that a query names
 
 marks_from : (p : ℕ → Bool) (from n : ℕ) (marks : List Bool) → length marks ≡ n → ((k : ℕ) → k < n → get_or marks k false ≡ p (from + k)) → marks ≡ map p (range_with_len from n)
-marks_from p from zero [] long each = refl
-marks_from p from zero (b ∷ bs) long each = absurd (omega (arith, long))
-marks_from p from (suc n) [] long each = absurd (omega (arith, long))
-marks_from p from (suc n) (b ∷ bs) long each =
+marks_from p from zero [] lengths each = refl
+marks_from p from zero (b ∷ bs) lengths each = absurd (omega (arith, lengths))
+marks_from p from (suc n) [] lengths each = absurd (omega (arith, lengths))
+marks_from p from (suc n) (b ∷ bs) lengths each =
     let plain : from + 0 ≡ from = omega arith in
     let next : (k : ℕ) → from + suc k ≡ from + 1 + k = (λ k. omega arith) in
     let here : b ≡ p from = each 0 (omega arith) ∙ ap p plain in
-    let more : bs ≡ map p (range_with_len (from + 1) n) = marks_from p (from + 1) n bs (omega (arith, long)) (λ k lt. each (suc k) (omega (arith, lt)) ∙ ap p (next k)) in
+    let more : bs ≡ map p (range_with_len (from + 1) n) = marks_from p (from + 1) n bs (omega (arith, lengths)) (λ k lt. each (suc k) (omega (arith, lt)) ∙ ap p (next k)) in
     (λ i. here i ∷ more i)
 
 pub marks_are : (query : BoundQuery) (table : Table) (named : List Bool) (count : ℕ) → count ≡ length table.schema.fields → length named ≡ count → ((column : ℕ) → column < count → get_or named column false ≡ query_names query column) → named ≡ names_in query table
-marks_are query table named count is long each =
+marks_are query table named count is lengths each =
     let plain : (k : ℕ) → k ≡ 0 + k = (λ k. omega arith) in
-    marks_from (query_names query) 0 count named long (λ k lt. each k lt ∙ ap (query_names query) (plain k)) ∙ ap (λ n. map (query_names query) (range_with_len 0 n)) is
+    marks_from (query_names query) 0 count named lengths (λ k lt. each k lt ∙ ap (query_names query) (plain k)) ∙ ap (λ n. map (query_names query) (range_with_len 0 n)) is
 
 names_count : (query : BoundQuery) (table : Table) → length (names_in query table) ≡ length table.schema.fields
 names_count query table = length-map (range_with_len 0 (length table.schema.fields)) (query_names query) ∙ length-range_with_len 0 (length table.schema.fields)
 
 pub marks_few : (query : BoundQuery) (table : Table) (named : List Bool) → named ≡ names_in query table → IsValidTable table → length named ≤ 65535
-marks_few query table named is valid = let few = valid.schema.few in omega (arith, few, ap length is, names_count query table)
+marks_few query table named is valid = let at_most = valid.schema.at_most in omega (arith, at_most, ap length is, names_count query table)
 
 pub mark_named : (query : BoundQuery) (table : Table) (named : List Bool) → named ≡ names_in query table → (column : ℕ) → get_or named column false ≡ true → query_names query column ≡ true
 mark_named query table named is column marked =

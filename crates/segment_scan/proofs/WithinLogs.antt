@@ -106,7 +106,7 @@ pub grows_up : (file : List ℕ) (from limit most : ℕ) (old new : Option (List
 grows_up file from limit most old new le (to, before, (entries, is, through)) = (entries, is, let sum = given_few file from to entries through in omega (arith, sum, before, le))
 
 pub grows_less : (less most : ℕ) (old new : Option (List Entry)) → less ≤ most → GrowsBy less old new → GrowsBy most old new
-grows_less less most old new le (entries, is, few) = (entries, is, omega (arith, few, le))
+grows_less less most old new le (entries, is, at_most) = (entries, is, omega (arith, at_most, le))
 
 -- ---- bytes of documents
 
@@ -177,11 +177,11 @@ module _ (P : Entry → Type 0) (each : ℕ → Logs) (count : ℕ) (of_each : (
   none_that old new same = subst (LogsThat P old) (sym same) (entries_none P old)
 
   pub series_that : (n : ℕ) → n ≤ count → (old new : Option (List Entry)) → LogsTo each n old new → LogsThat P old new
-  series_that zero few old new logs = none_that old new logs
-  series_that (suc n) few old new (between, before, last) = entries_then P old between new (series_that n (omega (arith, few)) old between before) (of_each n (omega (arith, few)) between new last)
+  series_that zero at_most old new logs = none_that old new logs
+  series_that (suc n) at_most old new (between, before, last) = entries_then P old between new (series_that n (omega (arith, at_most)) old between before) (of_each n (omega (arith, at_most)) between new last)
 
   pub part_that : (partly : ℕ → Logs) → ((at : ℕ) → at < count → (old new : Option (List Entry)) → partly at old new → LogsThat P old new) → (old new : Option (List Entry)) → LogsPartOf each partly count old new → LogsThat P old new
-  part_that partly of_part old new s = entries_then P old s.between new (series_that s.upto s.few old s.between s.before) (rest s.rest)
+  part_that partly of_part old new s = entries_then P old s.between new (series_that s.upto s.at_most old s.between s.before) (rest s.rest)
     where
       rest : (new ≡ s.between) ⊎ ((s.upto < count) × partly s.upto s.between new) → LogsThat P s.between new
       rest (inl same) = none_that s.between new same
@@ -190,11 +190,11 @@ module _ (P : Entry → Type 0) (each : ℕ → Logs) (count : ℕ) (of_each : (
 -- at most so many bytes a column that is marked
 module _ (most : ℕ) (named : List Bool) (each : ℕ → Logs) (of_each : (at : ℕ) → at < length named → (old new : Option (List Entry)) → each at old new → GrowsBy (most * one_if (get_or named at false)) old new) where
   pub series_grows : (n : ℕ) → n ≤ length named → (old new : Option (List Entry)) → LogsTo each n old new → GrowsBy (most * marked_count (take n named)) old new
-  series_grows zero few old new logs = grows_less 0 (most * marked_count (take zero named)) old new (omega arith) (grows_same old new logs)
-  series_grows (suc n) few old new (between, before, last) =
-      let more = marks_more named n (omega (arith, few)) in
+  series_grows zero at_most old new logs = grows_less 0 (most * marked_count (take zero named)) old new (omega arith) (grows_same old new logs)
+  series_grows (suc n) at_most old new (between, before, last) =
+      let more = marks_more named n (omega (arith, at_most)) in
       grows_both (most * marked_count (take n named)) (most * one_if (get_or named n false)) (most * marked_count (take (suc n) named)) old between new (joined (marked_count (take n named)) (one_if (get_or named n false)) (marked_count (take (suc n) named)) more)
-      (series_grows n (omega (arith, few)) old between before) (of_each n (omega (arith, few)) between new last)
+      (series_grows n (omega (arith, at_most)) old between before) (of_each n (omega (arith, at_most)) between new last)
     where
       joined : (a b c : ℕ) → a + b ≡ c → most * a + most * b ≤ most * c
       joined a b c is = subst (λ m. most * a + most * b ≤ most * m) is (omega arith)
@@ -207,12 +207,12 @@ module _ (most : ℕ) (named : List Bool) (each : ℕ → Logs) (of_each : (at :
       fewer n = mul-le most (marked_count (take n named)) most (marked_count named) (omega arith) (marks_few named n)
 
       rest : (new ≡ s.between) ⊎ ((s.upto < length named) × partly s.upto s.between new) → GrowsBy (most * marked_count named) old new
-      rest (inl same) = subst (GrowsBy (most * marked_count named) old) (sym same) (grows_less (most * marked_count (take s.upto named)) (most * marked_count named) old s.between (fewer s.upto) (series_grows s.upto s.few old s.between s.before))
+      rest (inl same) = subst (GrowsBy (most * marked_count named) old) (sym same) (grows_less (most * marked_count (take s.upto named)) (most * marked_count named) old s.between (fewer s.upto) (series_grows s.upto s.at_most old s.between s.before))
       rest (inr (lt, part)) =
           grows_less (most * marked_count (take (suc s.upto) named)) (most * marked_count named) old new (fewer (suc s.upto))
           (grows_both (most * marked_count (take s.upto named)) (most * one_if (get_or named s.upto false)) (most * marked_count (take (suc s.upto) named)) old s.between new
           (joined (marked_count (take s.upto named)) (one_if (get_or named s.upto false)) (marked_count (take (suc s.upto) named)) (marks_more named s.upto lt))
-          (series_grows s.upto s.few old s.between s.before) (of_part s.upto lt s.between new part))
+          (series_grows s.upto s.at_most old s.between s.before) (of_part s.upto lt s.between new part))
         where
           joined : (a b c : ℕ) → a + b ≡ c → most * a + most * b ≤ most * c
           joined a b c is = subst (λ m. most * a + most * b ≤ most * m) is (omega arith)

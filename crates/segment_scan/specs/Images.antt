@@ -163,7 +163,7 @@ IsImageOverfull query table held head old =
 -- those that each index leaves
 pub record AreDocs (query : BoundQuery) (table : Table) (held : Option Files) (head : Seen)
     (count : ℕ) : Type 0 where
-  pub few : count ≤ head.rows
+  pub at_most : count ≤ head.rows
   pub all : indexed_for query table head ≡ [] → count ≡ head.rows
   pub told : IfSome held (λ files. (rows : List (List Value)) → IsOfImage table files rows head
       → count ≡ length (rows_left query (choices_for query table head)

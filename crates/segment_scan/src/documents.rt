@@ -37,7 +37,7 @@ pub fn scan_documents<S: Shelf>(
     docs: &DocList,
     groups: &mut GroupTable,
 ) -> Result<(), EngineFault>
-    requires few { length named.now ≤ 65535 }
+    requires at_most { length named.now ≤ 65535 }
     requires few_rows { head.now.rows ≤ most_rows }
     requires within { All (λ doc. doc < head.now.rows) docs.now }
     requires readable { (column : ℕ) → get_or named.now column false ≡ true

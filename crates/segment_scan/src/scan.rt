@@ -34,7 +34,7 @@ pub fn scan_columns<S: Shelf>(
     query: &BoundQuery,
     groups: &mut GroupTable,
 ) -> Result<u32, EngineFault>
-    requires few { length named.now ≤ 65535 }
+    requires at_most { length named.now ≤ 65535 }
     requires few_rows { head.now.rows ≤ most_rows }
     requires readable { (column : ℕ) → get_or named.now column false ≡ true
         → IsReadable head.now column }
@@ -78,7 +78,7 @@ pub fn coded_columns<'a>(
     head: &'a Head,
     ids: &'a [Option<Ids>],
 ) -> Result<Vec<Option<Coded<'a>>>, NoMemory>
-    requires few { length ids.now ≤ 65535 }
+    requires at_most { length ids.now ≤ 65535 }
     requires loaded { (column : ℕ) → (list : List ℕ) → column < length ids.now
         → get_or ids.now column None ≡ Some list → IsLoaded head.now column }
     ensures count { IfOk result (λ columns. length columns.items ≡ length ids.now) }

@@ -134,10 +134,10 @@ module _ (fields : List Field) where
       pair_places fields (below base PAIRS_KEY) pairs
       ∷ fault_unless (nat_le (length (pairs_of fields pairs)) 16) TooMany (below base PAIRS_KEY)
       ∷ []) kept.1.0 in
-      let few = few_by (length items) 16 (unless_none (nat_le (length items) 16) TooMany (below base SPLIT_KEY) split.1.0) in
+      let at_most = few_by (length items) 16 (unless_none (nat_le (length items) 16) TooMany (below base SPLIT_KEY) split.1.0) in
       record {
         some_split = some_split fields (below base SPLIT_KEY) items (needed_some base SPLIT_KEY d split.0) split.1.1.0;
-        few_split = omega (arith, few, shorter fields items);
+        few_split = omega (arith, at_most, shorter fields items);
         split_known = all_in fields items;
         split_apart = apart fields (below base SPLIT_KEY) [] items split.1.1.0;
         some_pairs = some_pair fields (below base PAIRS_KEY) pairs (needed_some base PAIRS_KEY d kept.0) found.0;

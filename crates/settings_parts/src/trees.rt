@@ -60,7 +60,7 @@ fn needed_array<'v>(
 fn read_split(alloc: Global, fields: Fields, base: &str, json: &Json) -> Result<Seq<u16>, TextFault>
     ensures split { Gives (spec.split_finding fields.entry.all.now base.now (view json.now))
         (spec.split_of fields.entry.all.now (view json.now)) result }
-    ensures few { IfOk result (λ split. length split ≤ 16) }
+    ensures at_most { IfOk result (λ split. length split ≤ 16) }
 {
     let items = needed_array(alloc, base, SPLIT_KEY, json)?;
     if items.len() > MOST_SPLITS {
@@ -78,7 +78,7 @@ fn split_places(
 ) -> Result<Seq<u16>, TextFault>
     ensures split { Gives (spec.split_places fields.entry.all.now path.now (map view items.now))
         (numbers_of fields.entry.all.now (map view items.now)) result }
-    ensures few { IfOk result (λ split. length split ≤ length items.now) }
+    ensures at_most { IfOk result (λ split. length split ≤ length items.now) }
 {
     let mut split = Seq::with_capacity(alloc, items.len())?;
     for (place, item) in items.iter().enumerate() {

@@ -37,7 +37,7 @@ parsed_none : (table : Table) (any_table : Bool) (r : Result Query QueryFault) (
 parsed_none table any_table (Ok q) rows fault is = normal_none (bound table any_table q) rows fault is
 parsed_none table any_table (Err wrong) rows fault is = same_fault (query_fault wrong) fault is
 
-long_none : (long : Bool) (a : Asked) (r : SqlReply) (most : SqlFault) (fault : SqlFault) → (a ≡ Err fault → r ≡ Err fault) → cond long (Err most) a ≡ Err fault → cond long (Err most) r ≡ Err fault
+long_none : (lengths : Bool) (a : Asked) (r : SqlReply) (most : SqlFault) (fault : SqlFault) → (a ≡ Err fault → r ≡ Err fault) → cond lengths (Err most) a ≡ Err fault → cond lengths (Err most) r ≡ Err fault
 long_none true a r most fault same is = same_fault most fault is
 long_none false a r most fault same is = same is
 
@@ -57,7 +57,7 @@ parsed_text table any_table (Ok q) fault is real = normal_text (bound table any_
 parsed_text table any_table (Err (parse.At wrong place)) fault is real = let same : BadQuery wrong place ≡ fault = cc in subst IsOfText same tt
 parsed_text table any_table (Err parse.NoMemory) fault is real = absurd (real cc)
 
-long_text : (long : Bool) (a : Asked) (fault : SqlFault) → (a ≡ Err fault → IsOfText fault) → cond long (Err (LongQuery 65536)) a ≡ Err fault → IsOfText fault
+long_text : (lengths : Bool) (a : Asked) (fault : SqlFault) → (a ≡ Err fault → IsOfText fault) → cond lengths (Err (LongQuery 65536)) a ≡ Err fault → IsOfText fault
 long_text true a fault of is = let same : LongQuery 65536 ≡ fault = cc in subst IsOfText same tt
 long_text false a fault of is = of is
 

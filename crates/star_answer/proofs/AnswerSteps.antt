@@ -76,14 +76,14 @@ module _ (asked : Asked) where
       → MayBeSelected asked.columns.now rows (selected_docs asked docs) → AreSound asked rows docs
   sound_so rows docs h = record {
     keyed = all_own docs h.keyed;
-    light = subst (λ n. n ≤ rows) (same_weights asked docs) h.light;
+    weight_fits = subst (λ n. n ≤ rows) (same_weights asked docs) h.weight_fits;
   }
 
   pub sound_back : (rows : ℕ) (docs : List Doc) → AreSound asked rows docs
       → MayBeSelected asked.columns.now rows (selected_docs asked docs)
   sound_back rows docs h = record {
     keyed = all_ids docs h.keyed;
-    light = subst (λ n. n ≤ rows) (sym (same_weights asked docs)) h.light;
+    weight_fits = subst (λ n. n ≤ rows) (sym (same_weights asked docs)) h.weight_fits;
   }
 
 -- ---- the answer
@@ -119,17 +119,17 @@ module _ (tree : TreePart) (task : Task) (asked : Asked) (rows : ℕ) (held : Op
     pub answers : (old new : KeptGroups) → read_of (picks_of tree task) ≤ rows
         → MergesEntries (weights row_weight table.docs) (keyed asked.columns.now table.docs) old new
         → Answers tree task asked rows held old new
-    answers old new few a = record {
+    answers old new at_most a = record {
       read = own.read;
       told = own.told;
       sound = sound_so asked rows (selected_of tree task own.read)
           (subst (MayBeSelected asked.columns.now rows) own.docs_are own.selected.may);
-      few = few;
+      at_most = at_most;
       merged = subst (λ l. MergesEntries rows l old new)
           (ap (keyed asked.columns.now) own.docs_are
           ∙ entries_keyed asked (selected_of tree task own.read))
           (merges_so (weights row_weight table.docs) rows (keyed asked.columns.now table.docs)
-          (keyed asked.columns.now table.docs) old new own.selected.may.light (λ q. refl) a);
+          (keyed asked.columns.now table.docs) old new own.selected.may.weight_fits (λ q. refl) a);
     }
 
     -- they are too many

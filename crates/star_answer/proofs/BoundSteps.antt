@@ -231,7 +231,7 @@ ReadsAreBounded = (t : asks.Task) (shape : TreeShape) (k : ℕ) (docs : List Doc
 
 pub docs_bounded : ReadsAreBounded → DocsAreBounded
 unfolding docs_of
-docs_bounded most query table rows t tree valid few plan at =
+docs_bounded most query table rows t tree valid at_most plan at =
     let fields = table.schema.fields in
     let fine : IsValidTree fields tree =
     valid_at (IsValidTree fields) table.settings.trees t tree valid.settings.trees_valid at in
@@ -242,7 +242,7 @@ docs_bounded most query table rows t tree valid few plan at =
     let k = tree.shape.dims in
     let leaf : 1 ≤ tree.shape.leaf = fine.has_leaf in
     let own = most task tree.shape k docs (tree_ids fields rows tree fine)
-    (tree_no_star fields rows tree fine few) leaf
+    (tree_no_star fields rows tree fine at_most) leaf
     (λ d lt. factor_some query table rows tree fine parts.0 parts.1 d (omega (arith, lt, dims))) in
     let factors : reads.factors_from merged_rows task tree.shape docs k 0
     ≡ product (factors_over query table rows tree) =
@@ -256,7 +256,7 @@ docs_bounded most query table rows t tree valid few plan at =
 
 pub docs_few : DocsAreFew
 unfolding docs_of
-docs_few query table rows t valid few = by (slice_get table.settings.trees t) refl
+docs_few query table rows t valid at_most = by (slice_get table.settings.trees t) refl
   where
     by : (o : Option TreeSetting) → slice_get table.settings.trees t ≡ o
         → docs_in query rows o ≤ length rows
@@ -268,5 +268,5 @@ docs_few query table rows t valid few = by (slice_get table.settings.trees t) re
         let size = count_rows rows tree rows in
         let own = few_read merged_rows rows_join (task_over query rows tree.split) tree.shape.dims
         tree.shape (documents rows tree) (tree_ids fields rows tree fine)
-        (tree_no_star fields rows tree fine few) in
+        (tree_no_star fields rows tree fine at_most) in
         omega (arith, own, size)

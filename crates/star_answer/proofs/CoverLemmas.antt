@@ -87,15 +87,15 @@ module _ (w : List AggState → ℕ) (adds : (a b : List AggState) → w (merged
   -- one row more counts once for each pick that covers it
   one_row : (ps : List (nested.Pick (List AggState))) (e : Doc) (es : List Doc) → w e.1 ≤ 1
       → rows_of_all ps (e ∷ es) ≤ times_covered e.0 ps + rows_of_all ps es
-  one_row [] e es light = omega arith
-  one_row (p ∷ ps) e es light =
-      let more = one_row ps e es light in
+  one_row [] e es weight_fits = omega arith
+  one_row (p ∷ ps) e es weight_fits =
+      let more = one_row ps e es weight_fits in
       let own = by (agrees p.path e.0) in
       omega (arith, more, own)
     where
       by : (b : Bool) → weights w (cond b (e ∷ rows_at p.path es) (rows_at p.path es))
           ≤ cond (b && true) 1 0 + weights w (rows_at p.path es)
-      by true = omega (arith, light)
+      by true = omega (arith, weight_fits)
       by false = omega arith
 
   no_row : (ps : List (nested.Pick (List AggState))) → rows_of_all ps [] ≡ 0
@@ -118,21 +118,21 @@ module _ (w : List AggState → ℕ) (adds : (a b : List AggState) → w (merged
 
   rows_below : (t : Task) (k : ℕ) (ps : List (nested.Pick (List AggState))) (rows : List Doc)
       → AreLight rows → ArePartedBy t k ps rows → rows_of_all ps rows ≤ length rows
-  rows_below t k ps [] light h = let none = no_row ps in omega (arith, none)
-  rows_below t k ps (e ∷ es) light h =
-      let own = one_row ps e es light.0 in
+  rows_below t k ps [] weight_fits h = let none = no_row ps in omega (arith, none)
+  rows_below t k ps (e ∷ es) weight_fits h =
+      let own = one_row ps e es weight_fits.0 in
       let one = once t k ps e.0 h.0 in
-      let more = rows_below t k ps es light.1 h.1 in
+      let more = rows_below t k ps es weight_fits.1 h.1 in
       omega (arith, own, one, more)
 
   -- so all documents of the picks stand for no more rows than there are
   pub all_below : (t : Task) (k : ℕ) (ps : List (nested.Pick (List AggState))) (rows : List Doc)
       → AreLight rows → ArePartedBy t k ps rows → HaveDocs merged_rows k rows ps
       → docs_of_all ps ≤ length rows
-  all_below t k ps rows light parted has =
+  all_below t k ps rows weight_fits parted has =
       let below = docs_below k rows ps has in
-      let few = rows_below t k ps rows light parted in
-      omega (arith, below, few)
+      let at_most = rows_below t k ps rows weight_fits parted in
+      omega (arith, below, at_most)
 
   -- ---- the same of the picks of a flat tree
 

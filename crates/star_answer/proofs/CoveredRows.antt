@@ -52,7 +52,7 @@ same_ids ks (e ∷ es) (suc at) = same_ids ks es at
 module _ (query : BoundQuery) (shape : TreeShape) (split : List ℕ) (pairs : List Agg)
     (values : ℕ → List Value) (t : asks.Task) (rows : List (List Value))
     (entries : List (List ℕ × List ℤ)) (dims : shape.dims ≡ length split)
-    (few : (d : ℕ) → d < length split → length (values d) ≤ star)
+    (at_most : (d : ℕ) → d < length split → length (values d) ≤ star)
     (asks_for : AsksFor query split values t)
     (projects : AreProjected split pairs values rows entries) where
   abbrev own : List Doc
@@ -64,7 +64,7 @@ module _ (query : BoundQuery) (shape : TreeShape) (split : List ℕ) (pairs : Li
 
   pub own_no_star : HaveNoStar shape.dims own
   own_no_star = subst (λ n. HaveNoStar n own) (sym dims)
-      (no_star split pairs values shape.kinds few rows entries projects)
+      (no_star split pairs values shape.kinds at_most rows entries projects)
 
   module _ (at : ℕ) (lt : at < length rows) where
     abbrev row : List Value

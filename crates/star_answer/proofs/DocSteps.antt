@@ -78,7 +78,7 @@ WalkCounts = (t : asks.Task) (shape : TreeShape) (k : ℕ) (docs : List Doc)
 
 pub walk_reads : NodesKeep → RootIsFirst → WalkCounts → WalkReadsDocs
 unfolding docs_of
-walk_reads keep root count query columns rows tree t valid few asked =
+walk_reads keep root count query columns rows tree t valid at_most asked =
     let shape = tree.shape in
     let k = shape.dims in
     let docs : List Doc = documents rows tree in
@@ -86,8 +86,8 @@ walk_reads keep root count query columns rows tree t valid few asked =
     let u = task_over query rows tree.split in
     let f = flat merged_rows (tree_of merged_rows shape k docs) in
     let ids = tree_ids columns rows tree valid in
-    let no_star = tree_no_star columns rows tree valid few in
-    let limit : (d : ℕ) → count_at counts d ≤ star = λ d. few_counts rows tree.split d few in
+    let no_star = tree_no_star columns rows tree valid at_most in
+    let limit : (d : ℕ) → count_at counts d ≤ star = λ d. few_counts rows tree.split d at_most in
     ap read_of (picks_same t u k counts (asked_same columns rows tree valid query t asked) f.0
     shape (length f.1)
     (keep shape k docs counts ids no_star limit (tree_counted columns rows tree valid))

@@ -8,13 +8,13 @@ use Rattle.agg_laws.specs.declared.tree_shape.TreeShape.{TreeShape}
 use Rattle.state_columns.specs.Docs.{HaveIds}
 use Rattle.state_columns.specs.Documents.{total_doc}
 use Rattle.agg_laws.specs.Merged.{IsJoin, rekey}
-use Rattle.star_tree.specs.Picks.{Pick, Task, is_taken, picks, picks_here, picks_of, quiet, read_of}
-use Rattle.agg_laws.specs.Tree.{HaveNoStar, Nodes, dim, docs_with, has_star, ids_at, kids_of}
+use Rattle.star_tree.specs.Picks.{Pick, Task, is_selected, picks, picks_here, picks_of, are_unconstrained, read_of}
+use Rattle.agg_laws.specs.Tree.{HaveNoStar, Nodes, dim, docs_with, has_star, ids_at, child_nodes_of}
 use Rattle.agg_laws.specs.Tree.{merged_docs, node, none, root_of, rows_at, set_star, skips, star}
-use Rattle.agg_laws.specs.Tree.{star_kid, starred, tree_of, under}
+use Rattle.agg_laws.specs.Tree.{star_child, starred, tree_of, under}
 use Rattle.state_columns.proofs.ListLemmas.{length-rekey, merged_fewer, merged_some}
 use Rattle.star_tree.proofs.NodeLemmas.{total_is}
-use Rattle.star_tree.proofs.PickLemmas.{has_star-kids, star_flag}
+use Rattle.star_tree.proofs.PickLemmas.{has_star-subtrees, star_flag}
 use Rattle.star_tree.proofs.ReadLemmas.{Above, Ascending, ids_ascend, one_whole}
 use Rattle.star_tree.proofs.Runs.{Filled, all_filled}
 use Rattle.star_tree.proofs.TreeLemmas.{Avoids, Avoids-ids, all_rows, length_more, own_docs}
@@ -49,11 +49,11 @@ one_hit id [] up = omega arith
 one_hit id (v ∷ vs) up = by (id == v) refl (one_hit id vs up.1)
   where
     by : (b : Bool) → (id == v) ≡ b → hits id vs ≤ 1 → cond b 1 0 + hits id vs ≤ 1
-    by true e few =
+    by true e at_most =
         let same : id ≡ v = eqb-true id v e in
         let rest = no_hit id v vs (omega (arith, same)) up.0 in
         omega (arith, rest)
-    by false e few = omega (arith, few)
+    by false e at_most = omega (arith, at_most)
 
 one_longer : {X : Type 0} (b : Bool) (x : X) (xs : List X)
     → length (cond b (x ∷ xs) xs) ≡ cond b 1 0 + length xs
@@ -113,27 +113,27 @@ both_few false n m r h k = omega (arith, k)
 
 module _ {S : Type 0} (join : S → S → S) (j : IsJoin join) (t : Task) (k : ℕ) (shape : TreeShape)
     (rows : List (List ℕ × S)) (ids : HaveIds k rows) (no_star : HaveNoStar k rows) where
-  here_few : (d : ℕ) (path : List ℕ) (docs : List (List ℕ × S)) (kids : Nodes S)
-      (below : List (Pick S)) (n : ℕ) → length (total_doc join d docs kids) ≤ n
-      → (kids ≡ none → length docs ≤ n) → read_of below ≤ n
-      → read_of (picks_here join t k d path docs kids below) ≤ n
+  here_few : (d : ℕ) (path : List ℕ) (docs : List (List ℕ × S)) (subtrees : Nodes S)
+      (below : List (Pick S)) (n : ℕ) → length (total_doc join d docs subtrees) ≤ n
+      → (subtrees ≡ none → length docs ≤ n) → read_of below ≤ n
+      → read_of (picks_here join t k d path docs subtrees below) ≤ n
   here_few d path docs none below n one leaf more =
-      elim (quiet t (k - d) d) as (λ b. read_of (cond b
+      elim (are_unconstrained t (k - d) d) as (λ b. read_of (cond b
       (record { path = path; level = k; docs = total_doc join d docs none } ∷ [])
       (record { path = path; level = d; docs = docs } ∷ [])) ≤ n) [
         | true ↦ omega (arith, one)
         | false ↦ omega (arith, leaf refl)
       ]
-  here_few d path docs (node id own kids rest) below n one leaf more =
-      elim (quiet t (k - d) d) as (λ b. read_of (cond b
-      (record { path = path; level = k; docs = total_doc join d docs (node id own kids rest) } ∷ [])
+  here_few d path docs (node id own subtrees rest) below n one leaf more =
+      elim (are_unconstrained t (k - d) d) as (λ b. read_of (cond b
+      (record { path = path; level = k; docs = total_doc join d docs (node id own subtrees rest) } ∷ [])
       below) ≤ n) [ true ↦ omega (arith, one) | false ↦ more ]
 
   taken_read : (b : Bool) (ps : List (Pick S)) → read_of (cond b ps []) ≡ cond b (read_of ps) 0
   taken_read true ps = refl
   taken_read false ps = refl
 
-  kids_few : (s : Bool) (d : ℕ) (path : List ℕ) (docs : List (List ℕ × S))
+  children_few : (s : Bool) (d : ℕ) (path : List ℕ) (docs : List (List ℕ × S))
       (below : List (List ℕ × S) → Nodes S) (last : Nodes S)
       → ((v : ℕ) → (v == star) ≡ false → 0 < length (docs_with d v docs)
       → read_of (picks_here join t k (suc d) (path ++ (v ∷ [])) (docs_with d v docs)
@@ -141,20 +141,20 @@ module _ {S : Type 0} (join : S → S → S) (j : IsJoin join) (t : Task) (k : �
       (picks_of join t k (has_star (below (docs_with d v docs))) (suc d) (path ++ (v ∷ []))
       (below (docs_with d v docs)))) ≤ length (docs_with d v docs))
       → (vs : List ℕ) → Avoids vs → Filled join d docs vs
-      → read_of (picks_of join t k s d path (kids_of below d docs last vs))
+      → read_of (picks_of join t k s d path (child_nodes_of below d docs last vs))
       ≤ cond (is_open t s d) (with_ids d docs vs) 0 + read_of (picks_of join t k s d path last)
-  kids_few s d path docs below last each [] av fill =
+  children_few s d path docs below last each [] av fill =
       elim (is_open t s d) as (λ b. read_of (picks_of join t k s d path last)
       ≤ cond b 0 0 + read_of (picks_of join t k s d path last))
       [ true ↦ omega arith | false ↦ omega arith ]
-  kids_few s d path docs below last each (v ∷ vs) av fill =
+  children_few s d path docs below last each (v ∷ vs) av fill =
       let own = below (docs_with d v docs) in
       let here = picks_here join t k (suc d) (path ++ (v ∷ [])) (docs_with d v docs) own
       (picks_of join t k (has_star own) (suc d) (path ++ (v ∷ [])) own) in
-      let rest = picks_of join t k s d path (kids_of below d docs last vs) in
-      let parts = read_both (cond (is_taken t s d v) here []) rest in
-      let first = taken_read (is_taken t s d v) here in
-      let step : cond (is_taken t s d v) (read_of here) 0
+      let rest = picks_of join t k s d path (child_nodes_of below d docs last vs) in
+      let parts = read_both (cond (is_selected t s d v) here []) rest in
+      let first = taken_read (is_selected t s d v) here in
+      let step : cond (is_selected t s d v) (read_of here) 0
       + cond (is_open t s d) (with_ids d docs vs) 0
       ≤ cond (is_open t s d) (length (docs_with d v docs) + with_ids d docs vs) 0 =
       subst (λ b. cond (cond (t.filtered d) (not b && t.passes d v)
@@ -163,23 +163,23 @@ module _ {S : Type 0} (join : S → S → S) (j : IsJoin join) (t : Task) (k : �
       ≤ cond (is_open t s d) (length (docs_with d v docs) + with_ids d docs vs) 0) (sym av.0)
       (open_taken (t.filtered d) (t.grouped d) s (t.passes d v) (read_of here)
       (length (docs_with d v docs)) (with_ids d docs vs) (each v av.0 fill.0)) in
-      omega (arith, parts, first, step, kids_few s d path docs below last each vs av.1 fill.1)
+      omega (arith, parts, first, step, children_few s d path docs below last each vs av.1 fill.1)
 
-  star_few : (s : Bool) (d : ℕ) (path : List ℕ) (n : ℕ) (sd : List (List ℕ × S)) (kids : Nodes S)
-      → read_of (picks_here join t k (suc d) (path ++ (star ∷ [])) sd kids
-      (picks_of join t k (has_star kids) (suc d) (path ++ (star ∷ [])) kids)) ≤ n
-      → read_of (picks_of join t k s d path (cond s (node star sd kids none) none))
+  star_few : (s : Bool) (d : ℕ) (path : List ℕ) (n : ℕ) (sd : List (List ℕ × S)) (subtrees : Nodes S)
+      → read_of (picks_here join t k (suc d) (path ++ (star ∷ [])) sd subtrees
+      (picks_of join t k (has_star subtrees) (suc d) (path ++ (star ∷ [])) subtrees)) ≤ n
+      → read_of (picks_of join t k s d path (cond s (node star sd subtrees none) none))
       ≤ cond (is_open t s d) 0 n
-  star_few false d path n sd kids h = none_read (is_open t false d)
+  star_few false d path n sd subtrees h = none_read (is_open t false d)
     where
       none_read : (b : Bool) → 0 ≤ cond b 0 n
       none_read true = omega arith
       none_read false = omega arith
-  star_few true d path n sd kids h =
-      let here = picks_here join t k (suc d) (path ++ (star ∷ [])) sd kids
-      (picks_of join t k (has_star kids) (suc d) (path ++ (star ∷ [])) kids) in
-      let parts = read_both (cond (is_taken t true d star) here []) [] in
-      let first = taken_read (is_taken t true d star) here in
+  star_few true d path n sd subtrees h =
+      let here = picks_here join t k (suc d) (path ++ (star ∷ [])) sd subtrees
+      (picks_of join t k (has_star subtrees) (suc d) (path ++ (star ∷ [])) subtrees) in
+      let parts = read_both (cond (is_selected t true d star) here []) [] in
+      let first = taken_read (is_selected t true d star) here in
       let step = star_taken (t.filtered d) (t.grouped d) (t.passes d star) (read_of here) n h in
       omega (arith, parts, first, step)
 
@@ -198,9 +198,9 @@ module _ {S : Type 0} (join : S → S → S) (j : IsJoin join) (t : Task) (k : �
       let below = under join shape more (suc d) in
       let sd = merged_docs join (rekey (set_star d) docs) in
       let s = not (skips shape d) && nat_lt 1 (length (ids_at join d docs)) in
-      let last = star_kid join below shape d docs in
+      let last = star_child join below shape d docs in
       let vs = ids_at join d docs in
-      let kids = kids_of below d docs last vs in
+      let subtrees = child_nodes_of below d docs last vs in
       let lt : length path < k = omega (arith, at, sum) in
       let av : Avoids vs = subst (λ n. Avoids (ids_at join n docs)) (sym at)
       (Avoids-ids join j path rows docs is k lt no_star) in
@@ -216,29 +216,29 @@ module _ {S : Type 0} (join : S → S → S) (j : IsJoin join) (t : Task) (k : �
       (ap (λ n. merged_docs join (rekey (set_star n) docs)) at
       ∙ star_docs join j path rows docs is)
       (merged_some join (rekey (set_star d) docs) (omega (arith, size, some))) in
-      let flag : has_star kids ≡ s = has_star-kids below d docs last vs av
+      let flag : has_star subtrees ≡ s = has_star-subtrees below d docs last vs av
       ∙ star_flag s sd (below sd) in
-      let ordinary = kids_few s d path docs below last each vs av (all_filled join d docs) in
+      let ordinary = children_few s d path docs below last each vs av (all_filled join d docs) in
       let end = star_few s d path (length docs) sd (below sd)
       (omega (arith, starry, size, fewer)) in
-      let both : read_of (picks_of join t k s d path kids) ≤ length docs =
+      let both : read_of (picks_of join t k s d path subtrees) ≤ length docs =
       both_few (is_open t s d) (length docs) (with_ids d docs vs)
-      (read_of (picks_of join t k s d path kids))
+      (read_of (picks_of join t k s d path subtrees))
       (few_with d docs vs (ids_ascend join j d docs)) (omega (arith, ordinary, end)) in
-      let all : read_of (picks_of join t k (has_star kids) d path kids) ≤ length docs =
-      subst (λ b. read_of (picks_of join t k b d path kids) ≤ length docs) (sym flag) both in
+      let all : read_of (picks_of join t k (has_star subtrees) d path subtrees) ≤ length docs =
+      subst (λ b. read_of (picks_of join t k b d path subtrees) ≤ length docs) (sym flag) both in
       let w : length (total_doc join d docs (under join shape (suc more) d docs)) ≤ 1 =
       one_whole join t k rows path _
       (total_is join j k shape rows ids no_star (suc more) d path docs at sum is) in
       elim (nat_le (length docs) shape.leaf) as
-      (λ b. length (total_doc join d docs (cond b none kids)) ≤ 1
-      → read_of (picks_here join t k d path docs (cond b none kids)
-      (picks_of join t k (has_star (cond b none kids)) d path (cond b none kids)))
+      (λ b. length (total_doc join d docs (cond b none subtrees)) ≤ 1
+      → read_of (picks_here join t k d path docs (cond b none subtrees)
+      (picks_of join t k (has_star (cond b none subtrees)) d path (cond b none subtrees)))
       ≤ length docs) [
         | true ↦ λ w. here_few d path docs none [] (length docs) (omega (arith, w, some))
             (λ _. omega arith) (omega arith)
-        | false ↦ λ w. here_few d path docs kids
-            (picks_of join t k (has_star kids) d path kids) (length docs)
+        | false ↦ λ w. here_few d path docs subtrees
+            (picks_of join t k (has_star subtrees) d path subtrees) (length docs)
             (omega (arith, w, some)) (λ _. omega arith) all
       ] w
 

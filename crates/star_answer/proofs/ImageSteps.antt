@@ -148,7 +148,7 @@ module _ (query : BoundQuery) (table : Table) (head : Seen) (t : ℕ) (setting :
       let same = ap (λ x. x.dims) s.shape_is in
       record {
         documents = said.documents;
-        few = omega (arith, many, bytes);
+        at_most = omega (arith, many, bytes);
         keep = subst (λ sh. KeepAll sh part.counts.now said.documents part.nodes.now) (sym s.shape_is)
             (subst (KeepAll setting.shape part.counts.now said.documents) (sym s.nodes_are) keep);
         some_dims = omega (arith, dims-are, v.some_split);
@@ -303,7 +303,7 @@ module _ (query : BoundQuery) (table : Table) (head : Seen) (t : ℕ) (setting :
           projects = rows_projected table.schema.fields os setting each-row;
           of_rows = is-tree-of;
           asks_for = asks-rows;
-          no_star = λ d lt. (let few = sections.few_ids d in omega (arith, values-many d lt, few));
+          no_star = λ d lt. (let at_most = sections.few_ids d in omega (arith, values-many d lt, at_most));
           of_query = record {
             groups = columns.groups_are;
             columns = columns.values_are;
@@ -313,16 +313,16 @@ module _ (query : BoundQuery) (table : Table) (head : Seen) (t : ℕ) (setting :
 
     few-rows : length os ≤ 1048576
     few-rows =
-        let few = s.of_table.few in
+        let at_most = s.of_table.at_most in
         let many = s.of_table.has.rows_are in
         let same = tells.rows_are in
-        omega (arith, few, many, same)
+        omega (arith, at_most, many, same)
 
     -- as many documents are read as the query reads of the tree of the rows
     pub count_is : WalkReadsDocs
         → read_of (picks_of part task) ≡ docs_read query table (ordered table.settings.sorted rows) t
     count_is reads =
-        let long : length task.matched ≡ setting.shape.dims = s.entries ∙ sym tree-valid.has_dims in
-        (λ i. read_of (tree_picks (asked_of task) (long i) (nodes-rows i)))
+        let lengths : length task.matched ≡ setting.shape.dims = s.entries ∙ sym tree-valid.has_dims in
+        (λ i. read_of (tree_picks (asked_of task) (lengths i) (nodes-rows i)))
         ∙ reads query table.schema.fields os setting (asked_of task) tree-valid few-rows asks-rows
         ∙ ap (docs_in query os) (sym s.at)

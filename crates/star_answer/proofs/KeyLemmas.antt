@@ -117,6 +117,6 @@ member_at (n ∷ ns) (suc i) d lt = or_right (eqb n (get_or ns i d))
 
 pub members : {X : Type 0} (f : X → ℕ) (xs : List X) → All (λ x. is_member (map f xs) (f x) ≡ true) xs
 members f xs i d lt =
-    let long = length-map xs f in
+    let lengths = length-map xs f in
     subst (λ n. is_member (map f xs) n ≡ true) (get_or-map f xs i d 0 lt)
-    (member_at (map f xs) i 0 (omega (arith, long, lt)))
+    (member_at (map f xs) i 0 (omega (arith, lengths, lt)))

@@ -105,8 +105,8 @@ module _ (split : List ℕ) (pairs : List Agg) (values : ℕ → List Value) (ks
   row_key row entry is columns dims same i d lt =
       let c : GroupColumn = get_or columns i d in
       let there = slice_get_within (values c.dim) (dim c.dim entry.0) _ (is.ids c.dim (dims i d lt)) in
-      let long = ap length (same i d lt) in
-      omega (arith, there, long)
+      let lengths = ap length (same i d lt) in
+      omega (arith, there, lengths)
 
   rows_keyed : (columns : List GroupColumn) → All (λ column. column.dim < length split) columns
       → All (λ column. column.values.now.values ≡ values column.dim) columns

@@ -74,7 +74,7 @@ upto docs from at = take (at - from) (drop from docs)
 
 module _ (docs : List Doc) (from at : ℕ) (le : from ≤ at) (lt : at < length docs) where
   there : at - from < length (drop from docs)
-  there = let long = length-drop from docs in omega (arith, long, le, lt)
+  there = let lengths = length-drop from docs in omega (arith, lengths, le, lt)
 
   next_is : get_or (drop from docs) (at - from) ([], []) ≡ doc_at docs at
   next_is =
@@ -120,15 +120,15 @@ module _ (docs : List Doc) (from at : ℕ) (le : from ≤ at) (lt : at < length 
       → HaveAtMost (most_values - weights row_weight (drop from docs)) (groups_in old)
       → MergesEntries (weights row_weight (upto docs from at)) es old mid
       → HaveAtMost (most_values - row_weight (doc_at docs at).1) (groups_in mid)
-  room_there es old mid few room a =
+  room_there es old mid at_most room a =
       at_most_more (groups_in mid) ((most_values - weights row_weight (drop from docs))
       + weights row_weight (upto docs from at)) (most_values - row_weight (doc_at docs at).1)
-      (omega (arith, few, weighs))
+      (omega (arith, at_most, weighs))
       (a.fits (most_values - weights row_weight (drop from docs)) room)
 
   pub few_there : weights row_weight (drop from docs) ≤ most_stored
       → row_weight (doc_at docs at).1 ≤ most_values
-  few_there few = omega (arith, few, weighs)
+  few_there at_most = omega (arith, at_most, weighs)
 
   -- it is merged
   pub merged_more : (columns : List GroupColumn) (key : List Value) (s : List AggState)
@@ -175,9 +175,9 @@ pub merged_all : (columns : List GroupColumn) (docs : List Doc) (from at : ℕ)
     → MergesEntries (weights row_weight (upto docs from at)) (keyed columns (upto docs from at)) old
     new → MergesEntries (weights row_weight (drop from docs)) (keyed columns (drop from docs)) old new
 merged_all columns docs from at old new le a =
-    let long = length-drop from docs in
+    let lengths = length-drop from docs in
     subst (λ l. MergesEntries (weights row_weight l) (keyed columns l) old new)
-    (take_all (at - from) (drop from docs) (omega (arith, long, le))) a
+    (take_all (at - from) (drop from docs) (omega (arith, lengths, le))) a
 
 pub merged_start : (columns : List GroupColumn) (docs : List Doc) (from : ℕ) (table : KeptGroups)
     → MergesEntries (weights row_weight (upto docs from from)) (keyed columns (upto docs from from))
@@ -233,8 +233,8 @@ merged_rest : (docs before all : List Doc) (n : ℕ) → n ≡ length docs → b
 merged_rest docs before all n count same is =
     let whole : range 0 n before ≡ docs = ap (range 0 n) same
     ∙ take_all (n - 0) (drop 0 docs) (omega (arith, count)) in
-    let long : n ≡ length before = count ∙ ap length (sym same) in
-    ap (drop n) is ∙ ap (λ k. drop k (before ++ merged_docs merged_rows (range 0 n before))) long
+    let lengths : n ≡ length before = count ∙ ap length (sym same) in
+    ap (drop n) is ∙ ap (λ k. drop k (before ++ merged_docs merged_rows (range 0 n before))) lengths
     ∙ drop-append_seam before (merged_docs merged_rows (range 0 n before))
     ∙ ap (merged_docs merged_rows) whole
 
@@ -261,15 +261,15 @@ merged_long docs before all n count same is =
     ∙ take_all (n - 0) (drop 0 docs) (omega (arith, count)) in
     let all_is : all ≡ docs ++ merged_docs merged_rows docs =
     is ∙ (λ j. same j ++ merged_docs merged_rows (whole j)) in
-    let long = ap length all_is in
+    let lengths = ap length all_is in
     let sum = length-append docs (merged_docs merged_rows docs) in
-    let few = merged_few docs in
-    omega (arith, long, sum, few)
+    let at_most = merged_few docs in
+    omega (arith, lengths, sum, at_most)
 
 -- the documents of a table were merged at its end
 pub record IsMerged (docs all : List Doc) (n : ℕ) : Type 0 where
   pub rest : drop n all ≡ merged_docs merged_rows docs
-  pub long : length all ≤ 2 * length docs
+  pub lengths : length all ≤ 2 * length docs
 
 pub merged_table : (old mid new : Docs) (n spare less : ℕ) → n ≡ length old.docs
     → mid ≡ record old { spare = spare }
@@ -282,7 +282,7 @@ merged_table old mid new n spare less count reserved appended =
     let all = ap (λ (t : Docs). t.docs) appended in
     record {
       rest = merged_rest old.docs mid.docs new.docs n count before all;
-      long = merged_long old.docs mid.docs new.docs n count before all;
+      lengths = merged_long old.docs mid.docs new.docs n count before all;
     }
 
 -- the groups of all documents are those of the merged ones

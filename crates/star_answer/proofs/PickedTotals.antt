@@ -66,10 +66,10 @@ module _ (ks : List AggKind) (pairs : List ℕ) (all : All (λ pair. pair < leng
   joined_states None b h k = refl
   joined_states (Some s) None h k = refl
   joined_states (Some s) (Some t) h k =
-      let long : length s ≡ length ks = sym (length-kinds_of s) ∙ ap length h in
+      let lengths : length s ≡ length ks = sym (length-kinds_of s) ∙ ap length h in
       let other : length t ≡ length ks = sym (length-kinds_of t) ∙ ap length k in
-      ap Some (sym (states_merged pairs s t (long ∙ sym other)
-      (λ i d lt. omega (arith, all i d lt, long))))
+      ap Some (sym (states_merged pairs s t (lengths ∙ sym other)
+      (λ i d lt. omega (arith, all i d lt, lengths))))
 
   part_states : (b : Bool) (s : List AggState)
       → cond b (Some (states_of pairs s)) None ≡ option_map (states_of pairs) (cond b (Some s) None)

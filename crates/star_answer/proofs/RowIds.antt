@@ -96,9 +96,9 @@ are_counted os tree (r ∷ rs) placed = (
 
 pub few_counts : (os : List (List Value)) (split : List ℕ) (d : ℕ) → length os ≤ 1048576
     → count_at (map (count_of os) split) d ≤ star
-few_counts os [] d few = omega arith
-few_counts os (c ∷ split) zero few = omega (arith, few, few_values os c)
-few_counts os (c ∷ split) (suc d) few = few_counts os split d few
+few_counts os [] d at_most = omega arith
+few_counts os (c ∷ split) zero at_most = omega (arith, at_most, few_values os c)
+few_counts os (c ∷ split) (suc d) at_most = few_counts os split d at_most
 
 -- ---- the ids of a dimension, ascending, are those of the distinct values
 

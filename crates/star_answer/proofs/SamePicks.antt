@@ -9,10 +9,10 @@ use Rattle.agg_laws.specs.declared.tree_shape.TreeShape.{TreeShape}
 use Rattle.star_tree.specs.Flat.{node_at}
 use Rattle.state_columns.specs.Region.{range}
 use Rattle.star_tree.specs.NodeRules.{AreKnown, HaveLevel, IsRoot, KeepsRules, count_at}
-use Rattle.star_tree.specs.Picks.{Task, is_taken, quiet}
+use Rattle.star_tree.specs.Picks.{Task, is_selected, are_unconstrained}
 use Rattle.agg_laws.specs.Tree.{star}
 use Rattle.star_walk.specs.declared.pick.Pick.{Pick}
-use Rattle.star_walk.specs.Walking.{has_star_among, kids_of, leaf_pick, node_picks, taken}
+use Rattle.star_walk.specs.Walking.{has_star_among, child_nodes_of, leaf_pick, node_picks, taken}
 use Rattle.star_walk.specs.Walking.{tree_picks, whole_pick}
 use Rattle.star_walk.proofs.ImageSteps.{range_front, range_no}
 
@@ -40,7 +40,7 @@ some_there zero e = absurd (false≢true (sym e))
 some_there (suc n) e = omega arith
 
 module _ (t u : Task) (k : ℕ) (counts : List ℕ) (same : AskSame t u k counts) where
-  quiet_same : (m d : ℕ) → d + m ≡ k → quiet t m d ≡ quiet u m d
+  quiet_same : (m d : ℕ) → d + m ≡ k → are_unconstrained t m d ≡ are_unconstrained u m d
   quiet_same zero d e = refl
   quiet_same (suc m) d e =
       let lt : d < k = omega (arith, e) in
@@ -56,7 +56,7 @@ module _ (t u : Task) (k : ℕ) (counts : List ℕ) (same : AskSame t u k counts
       ap (λ b. not (id == star) && b) (same.passes d id lt below on)
 
   taken_same : (s : Bool) (d id : ℕ) → d < k → (id ≡ star) ⊎ (id < count_at counts d)
-      → is_taken t s d id ≡ is_taken u s d id
+      → is_selected t s d id ≡ is_selected u s d id
   taken_same s d id lt known =
       chosen (t.filtered d) (u.filtered d) (not (id == star) && t.passes d id)
       (not (id == star) && u.passes d id)
@@ -67,21 +67,21 @@ module _ (t u : Task) (k : ℕ) (counts : List ℕ) (same : AskSame t u k counts
 
   module _ (ns : List Node) where
     -- of children beside each other the same are taken
-    kids_same : (a b : Node → List Pick) (s : Bool) (d n from : ℕ) → d < k
+    children_same : (a b : Node → List Pick) (s : Bool) (d n from : ℕ) → d < k
         → from + n ≤ length ns → HaveLevel (suc d) (range from (from + n) ns)
         → AreKnown (count_at counts d) (range from (from + n) ns)
         → ((at : ℕ) → at < length ns → (node_at ns at).level ≡ suc d
         → a (node_at ns at) ≡ b (node_at ns at))
         → taken a t s d (range from (from + n) ns) ≡ taken b u s d (range from (from + n) ns)
-    kids_same a b s d zero from lt le levels known each =
+    children_same a b s d zero from lt le levels known each =
         ap (taken a t s d) (range_no from ns) ∙ sym (ap (taken b u s d) (range_no from ns))
-    kids_same a b s d (suc n) from lt le levels known each =
+    children_same a b s d (suc n) from lt le levels known each =
         let front = range_front from n ns le in
         let own = subst (HaveLevel (suc d)) front levels in
         let ids = subst (AreKnown (count_at counts d)) front known in
         let first = taken_same s d (node_at ns from).id lt ids.0 in
         let here = each from (omega (arith, le)) own.0 in
-        let rest = kids_same a b s d n (suc from) lt (omega (arith, le)) own.1 ids.1 each in
+        let rest = children_same a b s d n (suc from) lt (omega (arith, le)) own.1 ids.1 each in
         ap (taken a t s d) front
         ∙ (λ i. cond (first i) (here i) [] ++ rest i)
         ∙ sym (ap (taken b u s d) front)
@@ -95,22 +95,22 @@ module _ (t u : Task) (k : ℕ) (counts : List ℕ) (same : AskSame t u k counts
       node_same (suc m) d at e lt level =
           let n = node_at ns at in
           let mine : List Pick = taken (node_picks t k ns m (suc d)) t
-          (has_star_among (kids_of ns n)) d (kids_of ns n) in
+          (has_star_among (child_nodes_of ns n)) d (child_nodes_of ns n) in
           let other : List Pick = taken (node_picks u k ns m (suc d)) u
-          (has_star_among (kids_of ns n)) d (kids_of ns n) in
+          (has_star_among (child_nodes_of ns n)) d (child_nodes_of ns n) in
           let r = rules at lt in
           ap (λ b. cond b (whole_pick k n ∷ []) (cond (n.children == 0) (leaf_pick d n ∷ []) mine))
           (quiet_same (suc m) d e)
-          ∙ ap (cond (quiet u (suc m) d) (whole_pick k n ∷ []))
+          ∙ ap (cond (are_unconstrained u (suc m) d) (whole_pick k n ∷ []))
           (other_same (n.children == 0) (leaf_pick d n ∷ []) mine other
           (λ is.
           let some = some_there n.children is in
-          kids_same (node_picks t k ns m (suc d)) (node_picks u k ns m (suc d))
-          (has_star_among (kids_of ns n)) d n.children n.first (omega (arith, e))
+          children_same (node_picks t k ns m (suc d)) (node_picks u k ns m (suc d))
+          (has_star_among (child_nodes_of ns n)) d n.children n.first (omega (arith, e))
           (r.split_last some)
-          (subst (λ l. HaveLevel (suc l) (kids_of ns n)) level (r.split_kids some).levels)
-          (subst (λ l. AreKnown (count_at counts l) (kids_of ns n)) level
-          (r.split_kids some).ids_known)
+          (subst (λ l. HaveLevel (suc l) (child_nodes_of ns n)) level (r.split_children some).levels)
+          (subst (λ l. AreKnown (count_at counts l) (child_nodes_of ns n)) level
+          (r.split_children some).ids_known)
           (λ i within is. node_same m (suc d) i (omega (arith, e)) within is)))
 
 -- of a tree whose nodes keep the rules the same is picked

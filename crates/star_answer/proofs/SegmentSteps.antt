@@ -132,16 +132,16 @@ NeverBad = (query : BoundQuery) (tree : TreePart) (task : Task) (asked : Asked) 
 inside_all : (place : Place) (width documents k : ℕ) (ps : List Pick)
     → documents * width ≤ place.length → AreWithin documents k ps
     → AllByRecursion (IsInside place) (map (stretch_of place.offset width) ps)
-inside_all place width documents k [] few w = tt
-inside_all place width documents k (p ∷ ps) few w =
+inside_all place width documents k [] at_most w = tt
+inside_all place width documents k (p ∷ ps) at_most w =
     let before = mul-le-mul_right width (less w.0) in
     let past = mul-le-mul_right width w.1 in (
       record {
         from = omega arith;
         order = omega (arith, before);
-        to = omega (arith, past, few);
+        to = omega (arith, past, at_most);
       },
-      inside_all place width documents k ps few w.3,
+      inside_all place width documents k ps at_most w.3,
     )
   where
     less : p.start < p.end → p.start ≤ p.end
@@ -183,7 +183,7 @@ module _ (query : BoundQuery) (table : Table) (head : Seen) (t : ℕ) (setting :
     pub docs_are : WalkReadsDocs → (held : Option Files) → Nodes held → Counts held → (n : ℕ)
         → n ≡ read_of (picks_of part task) → n ≤ head.rows
         → AreDocsRead query table held head t n
-    docs_are walk held nodes counts n is few = record { few = few; told = by held nodes counts }
+    docs_are walk held nodes counts n is at_most = record { at_most = at_most; told = by held nodes counts }
       where
         by : (h : Option Files) → Nodes h → Counts h
             → IfSome h (λ files. (rows : List (List Value)) → IsOfImage table files rows head
@@ -279,7 +279,7 @@ module _ (query : BoundQuery) (table : Table) (head : Seen) (t : ℕ) (setting :
             counts of in
             let cut = ap length (image.section_is query table head t setting part task asked said s law
             files rows nodes counts of) in
-            let long = image.section_long query table head t setting part task asked said s law files
+            let lengths = image.section_long query table head t setting part task asked said s law files
             rows nodes counts of in
             let width : ℕ = doc_width setting.shape in
             let number : said.documents * width ≡ length (written os setting).1 * width =
@@ -295,7 +295,7 @@ module _ (query : BoundQuery) (table : Table) (head : Seen) (t : ℕ) (setting :
                   ∙ image.count_is query table head t setting part task asked said s law files rows
                   nodes counts of walk,
               inside_all part.documents.now width said.documents (length task.matched)
-                  (reads_of part task) (omega (arith, cut, long, number, most)) within,
+                  (reads_of part task) (omega (arith, cut, lengths, number, most)) within,
             ))
 
 -- ---- what is known at the call
@@ -395,7 +395,7 @@ module _ (query : BoundQuery) (table : Table) (head : Seen) (t : ℕ) (setting :
       → Answers part task asked rows now old new → AreDocsRead query table held head t n
   ready_docs walk old new n is a =
       docs_are query table head t setting part task asked said r.stands law walk held r.nodes r.counts
-      n is (let few = a.few in omega (arith, is, few, rows-are))
+      n is (let at_most = a.at_most in omega (arith, is, at_most, rows-are))
 
   pub ready_adds : AnswerAdds → (old new : KeptGroups) → IsTableOf query old
       → Answers part task asked rows now old new → AddsAnswer query table held head old new

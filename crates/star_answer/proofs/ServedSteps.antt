@@ -130,15 +130,15 @@ module _ (split : List ℕ) (pairs : List Agg) (values : ℕ → List Value) (ks
   pub no_star : ((d : ℕ) → d < length split → length (values d) ≤ star) → (rows : List (List Value))
       (entries : List (List ℕ × List ℤ)) → AreProjected split pairs values rows entries
       → HaveNoStar (length split) (projected ks entries)
-  no_star few [] [] h = tt
-  no_star few [] (e ∷ es) h = absurd h
-  no_star few (row ∷ rows) [] h = absurd h
-  no_star few (row ∷ rows) (e ∷ es) h = (
+  no_star at_most [] [] h = tt
+  no_star at_most [] (e ∷ es) h = absurd h
+  no_star at_most (row ∷ rows) [] h = absurd h
+  no_star at_most (row ∷ rows) (e ∷ es) h = (
     λ d lt is.
         let there = slice_get_within (values d) (dim d e.0) (cell row (field_of split d))
         (h.0.ids d lt) in
-        absurd (omega (arith, there, few d lt, is)),
-    no_star few rows es h.1,
+        absurd (omega (arith, there, at_most d lt, is)),
+    no_star at_most rows es h.1,
   )
 
   -- the rows that pass a test, and the entries that do
@@ -293,7 +293,7 @@ module _ (query : BoundQuery) (tree : TreePart) (task : Task) (asked : Asked) (f
       let test : List ℕ → Bool = λ ids. eq_by_cmp key_order q (key_of asked.columns.now ids) in
       let held : List ℕ → Bool = λ x. holds_from t k 0 x in
       let picked = option_map (states_of asked.pairs.now) in
-      let few : length s.pairs ≡ length ks = sym (ap length s.kinds ∙ length-map s.pairs
+      let at_most : length s.pairs ≡ length ks = sym (ap length s.kinds ∙ length-map s.pairs
       (λ (pair : Agg). pair.kind)) in
       entries_total asked ks ask.pairs (selected_of tree task read)
       (passed_kinds tree.shape.now tree.counts.now (section files tree.documents.now) t
@@ -310,7 +310,7 @@ module _ (query : BoundQuery) (tree : TreePart) (task : Task) (asked : Asked) (f
       (filter_both (λ row. all_hold row query.conjuncts) (has_key query.groups q) rows i))))
       ∙ rows_total s.pairs query.aggs (record { kind = kinds.Count; column = None }) asked.pairs.now
       (filter (has_key query.groups q) (selected query rows))
-      (λ i d lt. let h = ask.pairs i d lt in omega (arith, h, few)) s.of_query.aggs
+      (λ i d lt. let h = ask.pairs i d lt in omega (arith, h, at_most)) s.of_query.aggs
 
   -- the groups with the documents are those with the rows
   groups_are : (read : List (List Doc)) → AreRead tree.shape.now tree.counts.now
@@ -381,7 +381,7 @@ module _ (query : BoundQuery) (tree : TreePart) (task : Task) (asked : Asked) (f
           keyed = selected_keyed s.split s.pairs s.values tree.shape.now.kinds t k asked.columns.now rows
               s.entries own_taken s.projects grouped
               (λ i d lt. let h = ask.dims i d lt in omega (arith, h, s.dims)) s.of_query.columns walks;
-          light = omega (arith, lighter, less, below, many);
+          weight_fits = omega (arith, lighter, less, below, many);
         })
 
     pub served_fine : ¬ IsBad tree task asked (length rows) (Some files)

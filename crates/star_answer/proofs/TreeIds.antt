@@ -14,8 +14,8 @@ use Rattle.star_tree.specs.Flat.{flat}
 use Rattle.agg_laws.specs.Merged.{add, rekey}
 use Rattle.star_tree.specs.NodeRules.{AreCounted, count_at}
 use Rattle.agg_laws.specs.Rows.{merged_rows}
-use Rattle.agg_laws.specs.Tree.{Nodes, dim, dims_order, docs_with, has_star, ids_at, kids_of}
-use Rattle.agg_laws.specs.Tree.{merged_docs, node, none, root_of, set_star, skips, star, star_kid}
+use Rattle.agg_laws.specs.Tree.{Nodes, dim, dims_order, docs_with, has_star, ids_at, child_nodes_of}
+use Rattle.agg_laws.specs.Tree.{merged_docs, node, none, root_of, set_star, skips, star, star_child}
 use Rattle.agg_laws.specs.Tree.{tree_of, under}
 use Rattle.star_tree.proofs.FlatLemmas.{flat_docs}
 use Rattle.star_file.specs.Reading.{AreIds, DocsHaveIds, IsId}
@@ -43,24 +43,24 @@ from_ids (n ∷ ns) (x ∷ xs) (suc d) h = (h.0, from_ids ns xs d h.1)
 below_ids : (ns xs : List ℕ) → length xs ≡ length ns
     → ((d : ℕ) → d < length ns → dim d xs < count_at ns d) → ((d : ℕ) → count_at ns d ≤ star)
     → AreIds ns xs
-below_ids [] [] long below few = tt
-below_ids [] (x ∷ xs) long below few = absurd (omega (arith, long))
-below_ids (n ∷ ns) [] long below few = absurd (omega (arith, long))
-below_ids (n ∷ ns) (x ∷ xs) long below few =
+below_ids [] [] lengths below at_most = tt
+below_ids [] (x ∷ xs) lengths below at_most = absurd (omega (arith, lengths))
+below_ids (n ∷ ns) [] lengths below at_most = absurd (omega (arith, lengths))
+below_ids (n ∷ ns) (x ∷ xs) lengths below at_most =
     let lt : x < n = below 0 (omega arith) in
-    let small : n ≤ star = few 0 in (
+    let small : n ≤ star = at_most 0 in (
       (omega (arith, lt, small), inr lt),
-      below_ids ns xs (omega (arith, long)) (λ d le. below (suc d) (omega (arith, le)))
-          (λ d. few (suc d)),
+      below_ids ns xs (omega (arith, lengths)) (λ d le. below (suc d) (omega (arith, le)))
+          (λ d. at_most (suc d)),
     )
 
 pub rows_ids : (counts : List ℕ) (k : ℕ) (docs : List Doc) → length counts ≡ k → HaveIds k docs
     → AreCounted k counts docs → ((d : ℕ) → count_at counts d ≤ star) → DocsHaveIds counts docs
-rows_ids counts k [] many ids counted few = tt
-rows_ids counts k (e ∷ es) many ids counted few = (
+rows_ids counts k [] many ids counted at_most = tt
+rows_ids counts k (e ∷ es) many ids counted at_most = (
   below_ids counts e.0 (omega (arith, ids.0, many))
-      (λ d lt. counted.0 d (omega (arith, lt, many))) few,
-  rows_ids counts k es many ids.1 counted.1 few,
+      (λ d lt. counted.0 d (omega (arith, lt, many))) at_most,
+  rows_ids counts k es many ids.1 counted.1 at_most,
 )
 
 -- ---- documents
@@ -107,20 +107,20 @@ module _ (counts : List ℕ) where
 
   abbrev AreOwn : Nodes (List AggState) → Type 0
   AreOwn none = Unit {0}
-  AreOwn (node id docs kids rest) = Own docs × AreOwn kids × AreOwn rest
+  AreOwn (node id docs subtrees rest) = Own docs × AreOwn subtrees × AreOwn rest
 
-  kids_own : (below : List Doc → Nodes (List AggState))
+  children_own : (below : List Doc → Nodes (List AggState))
       → ((docs : List Doc) → Own docs → AreOwn (below docs)) → (d : ℕ) (docs : List Doc)
       (last : Nodes (List AggState)) → Own docs → AreOwn last → (vs : List ℕ)
-      → AreOwn (kids_of below d docs last vs)
-  kids_own below each d docs last g l [] = l
-  kids_own below each d docs last g l (v ∷ vs) =
+      → AreOwn (child_nodes_of below d docs last vs)
+  children_own below each d docs last g l [] = l
+  children_own below each d docs last g l (v ∷ vs) =
       let own = own_filter (λ e. dim d e.0 == v) docs g in
-      (own, each (docs_with d v docs) own, kids_own below each d docs last g l vs)
+      (own, each (docs_with d v docs) own, children_own below each d docs last g l vs)
 
   star_own : (below : List Doc → Nodes (List AggState))
       → ((docs : List Doc) → Own docs → AreOwn (below docs)) → (shape : TreeShape) (d : ℕ)
-      (docs : List Doc) → Own docs → AreOwn (star_kid merged_rows below shape d docs)
+      (docs : List Doc) → Own docs → AreOwn (star_child merged_rows below shape d docs)
   star_own below each shape d docs g =
       let starred : List Doc = merged_docs merged_rows (rekey (set_star d) docs) in
       let own : Own starred = own_merged (rekey (set_star d) docs)
@@ -139,9 +139,9 @@ module _ (counts : List ℕ) where
       let each : (ds : List Doc) → Own ds → AreOwn (below ds) =
       (λ ds. under_own shape more (suc d) ds) in
       let all : Nodes (List AggState) =
-      kids_of below d docs (star_kid merged_rows below shape d docs) (ids_at merged_rows d docs) in
+      child_nodes_of below d docs (star_child merged_rows below shape d docs) (ids_at merged_rows d docs) in
       let split : AreOwn all =
-      kids_own below each d docs (star_kid merged_rows below shape d docs) g
+      children_own below each d docs (star_child merged_rows below shape d docs) g
       (star_own below each shape d docs g) (ids_at merged_rows d docs) in
       elim (nat_le (length docs) shape.leaf) as (λ b. AreOwn (cond b none all)) [
         | true ↦ tt
@@ -159,25 +159,25 @@ module _ (counts : List ℕ) where
   total_own d docs g = own_merged (rekey (star_from d) docs)
       (own_rekey (star_from d) (λ xs. from_ids counts xs d) docs g)
 
-  stars_own : (kids : Nodes (List AggState)) → AreOwn kids → Own (star_docs kids)
+  stars_own : (subtrees : Nodes (List AggState)) → AreOwn subtrees → Own (star_docs subtrees)
   stars_own none g = tt
-  stars_own (node id docs kids rest) g =
+  stars_own (node id docs subtrees rest) g =
       let more = stars_own rest g.2 in
       elim (id == star) as (λ b. Own (cond b docs (star_docs rest))) [
         | true ↦ g.0
         | false ↦ more
       ]
 
-  visit_own : (d : ℕ) (docs : List Doc) (kids : Nodes (List AggState)) (below : List Doc)
-      → Own docs → AreOwn kids → Own below → Own (visit_of merged_rows d docs kids below)
+  visit_own : (d : ℕ) (docs : List Doc) (subtrees : Nodes (List AggState)) (below : List Doc)
+      → Own docs → AreOwn subtrees → Own below → Own (visit_of merged_rows d docs subtrees below)
   visit_own d docs none below g h b =
       let total = total_own d docs g in
       elim (length docs == 1) as (λ b. Own (cond b [] (aggregated merged_rows d docs))) [
         | true ↦ tt
         | false ↦ total
       ]
-  visit_own d docs (node id own kids rest) below g h b =
-      let all : Nodes (List AggState) = node id own kids rest in
+  visit_own d docs (node id own subtrees rest) below g h b =
+      let all : Nodes (List AggState) = node id own subtrees rest in
       let total = total_own d docs g in
       let last : Own (cond (has_star all) [] (aggregated merged_rows d docs)) =
       elim (has_star all) as (λ b. Own (cond b [] (aggregated merged_rows d docs))) [
@@ -190,17 +190,17 @@ module _ (counts : List ℕ) where
 
   visits_own : (d : ℕ) (ns : Nodes (List AggState)) → AreOwn ns → Own (visits_of merged_rows d ns)
   visits_own d none g = tt
-  visits_own d (node id docs kids rest) g =
-      own_append (visit_of merged_rows d docs kids (visits_of merged_rows (suc d) kids))
+  visits_own d (node id docs subtrees rest) g =
+      own_append (visit_of merged_rows d docs subtrees (visits_of merged_rows (suc d) subtrees))
       (visits_of merged_rows d rest)
-      (visit_own d docs kids (visits_of merged_rows (suc d) kids) g.0 g.1
-      (visits_own (suc d) kids g.1)) (visits_own d rest g.2)
+      (visit_own d docs subtrees (visits_of merged_rows (suc d) subtrees) g.0 g.1
+      (visits_own (suc d) subtrees g.1)) (visits_own d rest g.2)
 
   documents_own : (tree : Nodes (List AggState)) → AreOwn tree → Own (documents_of merged_rows tree)
   documents_own none g = tt
-  documents_own (node id docs kids rest) g =
-      own_append docs (visit_of merged_rows 0 docs kids (visits_of merged_rows 1 kids)) g.0
-      (visit_own 0 docs kids (visits_of merged_rows 1 kids) g.0 g.1 (visits_own 1 kids g.1))
+  documents_own (node id docs subtrees rest) g =
+      own_append docs (visit_of merged_rows 0 docs subtrees (visits_of merged_rows 1 subtrees)) g.0
+      (visit_own 0 docs subtrees (visits_of merged_rows 1 subtrees) g.0 g.1 (visits_own 1 subtrees g.1))
 
   -- the documents of a tree, written flat
   pub tree_ids : (shape : TreeShape) (k : ℕ) (docs : List Doc) → Own docs

@@ -71,11 +71,11 @@ module _ (place : Place) (width : ℕ) where
 
 -- nothing is within it, whatever the plan is
 pub planned_nothing : DocsAreBounded → (query : BoundQuery) (table : Table) (name : List ℕ) (rows : List (List Value)) → IsValidTable table → length rows ≤ most_values → ReadsPlanned query table false name rows []
-planned_nothing law query table name rows valid few = by (plan_over query table rows) refl
+planned_nothing law query table name rows valid at_most = by (plan_over query table rows) refl
   where
     bounded_by : (t : ℕ) → plan_over query table rows ≡ StarTree t → (o : Option TreeSetting) → slice_get table.settings.trees t ≡ o → IfSome o (λ tree. docs_read query table rows t ≤ tree.shape.leaf * product (factors_over query table rows tree))
     bounded_by t is None at = tt
-    bounded_by t is (Some tree) at = law query table rows t tree valid few is at
+    bounded_by t is (Some tree) at = law query table rows t tree valid at_most is at
 
     by : (plan : SegmentPlan) → plan_over query table rows ≡ plan → ReadsBy query table name rows false [] plan
     by Pruned is = record { raw = refl; stars = λ t. refl }
@@ -154,19 +154,19 @@ module _ (law : DocsAreBounded) (query : BoundQuery) (table : Table) (valid : Is
   abbrev os : List (List Value)
   os = ordered table.settings.sorted rows
 
-  few : length (ordered table.settings.sorted rows) ≤ most_values
-  few = let limit = has.can.fit.few in let same = ordered_count table.settings.sorted rows in omega (arith, limit, same)
+  at_most : length (ordered table.settings.sorted rows) ≤ most_values
+  at_most = let limit = has.can.fit.at_most in let same = ordered_count table.settings.sorted rows in omega (arith, limit, same)
 
   -- nothing but the head was read
   pub planned_head : (x : List Entry) → All (EndsBy (file_of name) (ends_at table name (ordered table.settings.sorted rows))) x → ReadsPlanned query table false name (ordered table.settings.sorted rows) x
   planned_head x all =
       subst (ReadsPlanned query table false name (ordered table.settings.sorted rows)) (append-nil x)
-      (planned_after query table name (ordered table.settings.sorted rows) false x [] all (planned_nothing law query table name (ordered table.settings.sorted rows) valid few))
+      (planned_after query table name (ordered table.settings.sorted rows) false x [] all (planned_nothing law query table name (ordered table.settings.sorted rows) valid at_most))
 
   module _ (t : ℕ) (plan_is : plan_over query table (ordered table.settings.sorted rows) ≡ StarTree t) (lt : t < length table.settings.trees) where
     bounded_by : (o : Option TreeSetting) → slice_get table.settings.trees t ≡ o → IfSome o (λ tree. docs_read query table os t ≤ tree.shape.leaf * product (factors_over query table os tree))
     bounded_by None at = tt
-    bounded_by (Some tree) at = law query table os t tree valid few plan_is at
+    bounded_by (Some tree) at = law query table os t tree valid at_most plan_is at
 
     module _ (head : Seen) (of_table : IsHeadOf table head) (spread : head.sections ≡ map (placed (file_of name)) (extents_of table name (front_of 1 table (ordered table.settings.sorted rows)))) (of : IsOfImage table files rows head) where
       where_it_is : (place : Place) → place_in head.sections (parts.Star t) ≡ Some place → (place.file ≡ file_of name) × (place.offset ≡ (star_span table name os t).from) × (place.offset + place.length ≡ (star_span table name os t).to)

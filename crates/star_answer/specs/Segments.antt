@@ -54,7 +54,7 @@ IsAnswerOverfull query table held head old =
 -- so many documents were read: on the image of rows, as many as the query reads of the tree
 pub record AreDocsRead (query : BoundQuery) (table : Table) (held : Option Files) (head : Seen)
     (tree count : ℕ) : Type 0 where
-  pub few : count ≤ head.rows
+  pub at_most : count ≤ head.rows
   pub told : IfSome held (λ files. (rows : List (List Value)) → IsOfImage table files rows head
       → count ≡ docs_read query table (ordered table.settings.sorted rows) tree)
 

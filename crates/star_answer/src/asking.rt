@@ -21,7 +21,7 @@ pub fn group_columns<'a>(
     tree: &TreeSetting,
     head: &'a Head,
 ) -> Result<Vec<GroupColumn<'a>>, NoMemory>
-    requires few { length tree.now.split ≤ 16 }
+    requires at_most { length tree.now.split ≤ 16 }
     requires eligible { is_eligible query.now tree.now ≡ true }
     requires loaded { AreGroupsLoaded query.now.groups head.now }
     ensures { IfOk result (λ columns. AreColumnsOf query.now.groups tree.now.split
@@ -41,7 +41,7 @@ pub fn group_columns<'a>(
 
 // The place of a column among these.
 fn place_of(split: &[u16], column: u16) -> u8
-    requires few { length split.now ≤ 16 }
+    requires at_most { length split.now ≤ 16 }
     requires among { is_member split.now column ≡ true }
     ensures within { result < length split.now }
     ensures is { field_of split.now result ≡ column }
@@ -60,7 +60,7 @@ pub fn pair_numbers(
     query: &BoundQuery,
     tree: &TreeSetting,
 ) -> Result<Vec<u8>, NoMemory>
-    requires few { length tree.now.pairs ≤ 16 }
+    requires at_most { length tree.now.pairs ≤ 16 }
     requires eligible { is_eligible query.now tree.now ≡ true }
     ensures { IfOk result (λ numbers. ArePairsOf query.now.aggs tree.now.pairs numbers.items) }
 {
@@ -75,7 +75,7 @@ pub fn pair_numbers(
 
 // The number of an aggregate among these pairs.
 fn pair_number(pairs: &[Agg], agg: &Agg) -> u8
-    requires few { length pairs.now ≤ 16 }
+    requires at_most { length pairs.now ≤ 16 }
     requires among { is_kept pairs.now agg.now ≡ true }
     ensures within { result < length pairs.now }
     ensures is { pair_of pairs.now result ≡ agg.now }

@@ -25,5 +25,5 @@ pub fn docs_bound_law()
 
 /// A query never reads more documents of a star-tree than the segment has rows.
 pub fn docs_few_law()
-    ensures few { DocsAreFew }
+    ensures at_most { DocsAreFew }
 {}

@@ -27,11 +27,11 @@ pub fn merge_documents(
     selected: StarTable,
     groups: &mut GroupTable,
 ) -> Result<(), TableFault>
-    requires few { length selected.docs ≤ most_stored }
+    requires at_most { length selected.docs ≤ most_stored }
     requires dims { selected.dims ≡ length columns.now }
     requires few_columns { length columns.now ≤ 16 }
     requires keyed { All (λ e. AreKeyIds columns.now e.0) selected.docs }
-    requires light { weights row_weight selected.docs ≤ most_stored }
+    requires weight_fits { weights row_weight selected.docs ≤ most_stored }
     requires few_kinds { length selected.kinds ≤ 16 }
     requires columns { groups.old.columns ≡ length columns.now }
     requires kinds { groups.old.kinds ≡ selected.kinds }
@@ -63,12 +63,12 @@ fn merge_last(
     from: u32,
     groups: &mut GroupTable,
 ) -> Result<(), TableFault>
-    requires few { length selected.now.docs < 2 ^ 32 }
+    requires at_most { length selected.now.docs < 2 ^ 32 }
     requires dims { selected.now.dims ≡ length columns.now }
     requires few_columns { length columns.now ≤ 16 }
     requires from { from ≤ length selected.now.docs }
     requires keyed { All (λ e. AreKeyIds columns.now e.0) (drop from selected.now.docs) }
-    requires light { weights row_weight (drop from selected.now.docs) ≤ most_stored }
+    requires weight_fits { weights row_weight (drop from selected.now.docs) ≤ most_stored }
     requires few_kinds { length selected.now.kinds ≤ 16 }
     requires columns { groups.old.columns ≡ length columns.now }
     requires kinds { groups.old.kinds ≡ selected.now.kinds }
@@ -95,7 +95,7 @@ fn merge_last(
 fn states_at(alloc: Global, selected: &StarTable, at: u32) -> Result<StateRow, NoMemory>
     requires at { at < length selected.now.docs }
     requires shape { HaveShape selected.now.dims selected.now.kinds selected.now.docs }
-    requires few { length selected.now.kinds ≤ 16 }
+    requires at_most { length selected.now.kinds ≤ 16 }
     ensures { IfOk result (λ states. states ≡ (doc_at selected.now.docs at).1) }
 {
     let mut states = StateRow::new(alloc);

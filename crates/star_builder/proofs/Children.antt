@@ -134,8 +134,8 @@ own_proper k d v docs lt p = record {
   alike = own_docs_at k d v p.path docs lt p.alike;
   ascending = as_true _ (is_sorted-where_key dims_order (λ x. dim d x == v) docs (as_T _
       p.ascending));
-  light = (let w = weights-filter row_weight (λ e. dim d e.0 == v) docs in
-      omega (arith, w, p.light));
+  weight_fits = (let w = weights-filter row_weight (λ e. dim d e.0 == v) docs in
+      omega (arith, w, p.weight_fits));
 }
 
 star_docs_at : (k d : ℕ) (path : List ℕ) (es : List Doc) → d < k → DocsAt k d path es
@@ -182,9 +182,9 @@ star_proper k d docs lt p = record {
       k d p.path docs lt p.alike);
   ascending = as_true _ (is_sorted-Merged dims_order nat_list_cmp_total (slice_cmp-IsAntisymmetric
       nat_cmp-IsAntisymmetric) merged_rows rows_join (rekey (set_star d) docs));
-  light = (let w = weights-Merged row_weight dims_order merged_rows rows.row_weight_both (rekey
+  weight_fits = (let w = weights-Merged row_weight dims_order merged_rows rows.row_weight_both (rekey
       (set_star d) docs) in let r = weights-rekey (set_star d) docs in
-      omega (arith, w, r, p.light));
+      omega (arith, w, r, p.weight_fits));
 }
 
 begin_with : (k d : ℕ) (path : List ℕ) (es : List Doc) → DocsAt k d path es → BeginWith d path es
@@ -205,13 +205,13 @@ docs_at_all k ks (e ∷ es) h n = (h.0, refl, (λ i low lt. n.0 i lt), docs_at_a
 pub merged_proper : (k : ℕ) (ks : List AggKind) (rows : List Doc) → HaveShape k ks rows
     → HaveNoStar k rows → weights row_weight rows ≤ most_stored
     → Proper k 0 (merged_docs merged_rows rows)
-merged_proper k ks rows' h n light = record {
+merged_proper k ks rows' h n weight_fits = record {
   path = [];
   alike = merged_docs_at k 0 [] rows' (docs_at_all k ks rows' h n);
   ascending = as_true _ (is_sorted-Merged dims_order nat_list_cmp_total
       (slice_cmp-IsAntisymmetric nat_cmp-IsAntisymmetric) merged_rows rows_join rows');
-  light = (let w = weights-Merged row_weight dims_order merged_rows rows.row_weight_both rows'
-      in omega (arith, w, light));
+  weight_fits = (let w = weights-Merged row_weight dims_order merged_rows rows.row_weight_both rows'
+      in omega (arith, w, weight_fits));
 }
 
 pub have_ids : (k : ℕ) (ks : List AggKind) (es : List Doc) → HaveShape k ks es → HaveIds k es

@@ -13,15 +13,15 @@ use Rattle.star_tree.specs.Flat.{Flat, blank, node_at, opened}
 use Rattle.state_columns.specs.Region.{range}
 use Rattle.state_columns.proofs.ListLemmas.{append_none}
 use Rattle.star_builder.specs.Building.{Proper, Rising, Ordinary, Standing, group_nodes, docs_at}
-use Rattle.star_builder.specs.Building.{kids_at, NodeStands}
+use Rattle.star_builder.specs.Building.{children_at, NodeStands}
 use Rattle.star_builder.proofs.Children.{rising_of, ordinary_of}
 use Rattle.star_builder.proofs.Opened.{starred_docs, OpenedAs, opened_as, opened_stands}
 use Rattle.star_builder.proofs.Opened.{length-groups}
 
 pub record OpenedTo (s : TreeShape) (d at : ℕ) (f g : Flat (List AggState)) (b : Bool) : Type 0
   where
-    pub is : g ≡ opened d at (kids_at s d at f) f
-    pub has : b ≡ has_star (kids_at s d at f)
+    pub is : g ≡ opened d at (children_at s d at f) f
+    pub has : b ≡ has_star (children_at s d at f)
 
 module _ (s : TreeShape) (d at : ℕ) (f : Flat (List AggState)) (stands : NodeStands s d at f) (lt :
     d < s.dims) where
@@ -87,15 +87,15 @@ module _ (s : TreeShape) (d at : ℕ) (f : Flat (List AggState)) (stands : NodeS
         }
 
   -- the children then stand unvisited
-  pub children_stand : (g : Flat (List AggState)) → g ≡ opened d at (kids_at s d at f) f
-      → Standing s (s.dims - (d + 1)) (d + 1) (length f.0) (kids_at s d at f) g
+  pub children_stand : (g : Flat (List AggState)) → g ≡ opened d at (children_at s d at f) f
+      → Standing s (s.dims - (d + 1)) (d + 1) (length f.0) (children_at s d at f) g
   children_stand g is =
       let n : suc d ≡ d + 1 = omega arith in
       let k : s.dims ≡ suc d + (s.dims - (d + 1)) = omega arith in
-      let at_suc : Standing s (s.dims - (d + 1)) (suc d) (length f.0) (kids_at s d at f) (opened d
-      at (kids_at s d at f) f) =
+      let at_suc : Standing s (s.dims - (d + 1)) (suc d) (length f.0) (children_at s d at f) (opened d
+      at (children_at s d at f) f) =
       opened_stands s (s.dims - (d + 1)) d at f stands.some stands.inside (docs_at at f) refl
       (subst (λ m. Proper m d (docs_at at f)) k stands.proper) rising_at ordinary_at in
-      subst (λ h. Standing s (s.dims - (d + 1)) (d + 1) (length f.0) (kids_at s d at f) h) (sym is)
-      (subst (λ m. Standing s (s.dims - (d + 1)) m (length f.0) (kids_at s d at f) (opened d at
-      (kids_at s d at f) f)) n at_suc)
+      subst (λ h. Standing s (s.dims - (d + 1)) (d + 1) (length f.0) (children_at s d at f) h) (sym is)
+      (subst (λ m. Standing s (s.dims - (d + 1)) m (length f.0) (children_at s d at f) (opened d at
+      (children_at s d at f) f)) n at_suc)

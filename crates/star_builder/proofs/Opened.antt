@@ -12,13 +12,13 @@ use Rattle.std.proofs.lemmas.List.{take-append-le, drop-append-le}
 use Rattle.std.proofs.lemmas.Bool.{ne_eqb}
 use Rattle.star_tree.specs.declared.node.Node.{Node}
 use Rattle.agg_laws.specs.Tree.{star, dim, set_star, merged_docs, Nodes, none, node, skips, ids_at}
-use Rattle.agg_laws.specs.Tree.{docs_with, kids_of, star_kid, under, has_star}
+use Rattle.agg_laws.specs.Tree.{docs_with, child_nodes_of, star_child, under, has_star}
 use Rattle.agg_laws.specs.Merged.{rekey}
-use Rattle.star_tree.specs.Flat.{Flat, blank, node_at, kid_nodes, opened}
+use Rattle.star_tree.specs.Flat.{Flat, blank, node_at, child_nodes, opened}
 use Rattle.state_columns.specs.Region.{range}
 use Rattle.state_columns.specs.Documents.{star_docs}
 use Rattle.agg_laws.specs.declared.tree_shape.TreeShape.{TreeShape}
-use Rattle.star_builder.specs.Building.{Proper, Rising, Ordinary, StandsAt, Standing, split_kids}
+use Rattle.star_builder.specs.Building.{Proper, Rising, Ordinary, StandsAt, Standing, split_children}
 use Rattle.star_builder.specs.Building.{group_nodes}
 use Rattle.star_builder.proofs.Runs.{run_ids, none_after, joined_all}
 use Rattle.star_tree.proofs.Runs.{RunOf, passing, other_docs, NoneBelow, joined, find_run}
@@ -70,23 +70,23 @@ filled_all (suc fuel) d (e ∷ es) le up ord =
     )
 
 -- records of the ordinary children, and then those of the last
-pub kid_nodes-split : (below : List Doc → Nodes (List AggState)) (d from to : ℕ) (docs : List Doc)
+pub child_nodes-split : (below : List Doc → Nodes (List AggState)) (d from to : ℕ) (docs : List Doc)
     (last : Nodes (List AggState)) (vs : List ℕ) → Filled d docs vs
-    → (n : ℕ) × (kid_nodes (suc d) from to (kids_of below d docs last vs)
-    ≡ kid_nodes (suc d) from 0 (kids_of (λ _. none) d docs none vs) ++ kid_nodes (suc d) n to
+    → (n : ℕ) × (child_nodes (suc d) from to (child_nodes_of below d docs last vs)
+    ≡ child_nodes (suc d) from 0 (child_nodes_of (λ _. none) d docs none vs) ++ child_nodes (suc d) n to
     last)
-kid_nodes-split below d from to docs last [] f = (from, refl)
-kid_nodes-split below d from to docs last (v ∷ vs) f =
+child_nodes-split below d from to docs last [] f = (from, refl)
+child_nodes-split below d from to docs last (v ∷ vs) f =
     let own = docs_with d v docs in
-    let more = kid_nodes-split below d (from + length own) to docs last vs f.2 in (
+    let more = child_nodes-split below d (from + length own) to docs last vs f.2 in (
       more.0,
       ap (λ b. cond b (blank (suc d) v to (to + length own)) (blank (suc d) v from (from + length
-          own)) ∷ kid_nodes (suc d) (cond b from (from + length own)) to (kids_of below d docs last
+          own)) ∷ child_nodes (suc d) (cond b from (from + length own)) to (child_nodes_of below d docs last
           vs)) (ne_eqb v star f.0)
           ∙ ap (λ t. blank (suc d) v from (from + length own) ∷ t) more.1
           ∙ ap (λ b. (cond b (blank (suc d) v 0 (0 + length own)) (blank (suc d) v from (from +
-          length own)) ∷ kid_nodes (suc d) (cond b from (from + length own)) 0 (kids_of (λ _.
-          none) d docs none vs)) ++ kid_nodes (suc d) more.0 to last) (sym (ne_eqb v star f.0)),
+          length own)) ∷ child_nodes (suc d) (cond b from (from + length own)) 0 (child_nodes_of (λ _.
+          none) d docs none vs)) ++ child_nodes (suc d) more.0 to last) (sym (ne_eqb v star f.0)),
     )
 
 seam : {X : Type 0} (from : ℕ) (xs ys all : List X) → take (length (xs ++ ys)) (drop from all)
@@ -109,31 +109,31 @@ past (x ∷ xs) ys (z ∷ zs) h = past xs ys zs (rest z x (take (length (xs ++ y
 module _ (shape : TreeShape) (more d : ℕ) (docs : List Doc) (proper : (v : ℕ)
     → Proper (suc d + more) (suc d) (docs_with d v docs)) (g : Flat (List AggState)) (last : Nodes
     (List AggState)) (to : ℕ)
-    (ends : (from : ℕ) (pre : List Node) → g.0 ≡ pre ++ kid_nodes (suc d) from to last
+    (ends : (from : ℕ) (pre : List Node) → g.0 ≡ pre ++ child_nodes (suc d) from to last
     → Standing shape more (suc d) (length pre) last g) where
   below : List Doc → Nodes (List AggState)
   below = under merged_rows shape more (suc d)
 
   stands_ids : (vs : List ℕ) (from : ℕ) (pre : List Node) → Filled d docs vs → g.0
-      ≡ pre ++ kid_nodes (suc d) from to (kids_of (under merged_rows shape more (suc d)) d docs
+      ≡ pre ++ child_nodes (suc d) from to (child_nodes_of (under merged_rows shape more (suc d)) d docs
       last vs)
       → take (length (joined merged_rows d docs vs)) (drop from g.1)
       ≡ joined merged_rows d docs vs → from + length (joined merged_rows d docs vs) ≤ length
-      g.1 → Standing shape more (suc d) (length pre) (kids_of (under merged_rows shape more
+      g.1 → Standing shape more (suc d) (length pre) (child_nodes_of (under merged_rows shape more
       (suc d)) d docs last vs) g
   stands_ids [] from pre f is whole in' = ends from pre is
   stands_ids (v ∷ vs) from pre f is whole in' =
       let own = docs_with d v docs in
-      let rec' = kids_of (under merged_rows shape more (suc d)) d docs last vs in
+      let rec' = child_nodes_of (under merged_rows shape more (suc d)) d docs last vs in
       let here = blank (suc d) v from (from + length own) in
-      let nodes : g.0 ≡ pre ++ (here ∷ kid_nodes (suc d) (from + length own) to rec') =
-      is ∙ ap (λ b. pre ++ (cond b (blank (suc d) v to (to + length own)) here ∷ kid_nodes (suc d)
+      let nodes : g.0 ≡ pre ++ (here ∷ child_nodes (suc d) (from + length own) to rec') =
+      is ∙ ap (λ b. pre ++ (cond b (blank (suc d) v to (to + length own)) here ∷ child_nodes (suc d)
       (cond b from (from + length own)) to rec')) (ne_eqb v star f.0) in
       let at : node_at g.0 (length pre) ≡ here = ap (λ l. node_at l (length pre)) nodes
-      ∙ get_or_at pre here (kid_nodes (suc d) (from + length own) to rec') (blank 0 0 0 0)
+      ∙ get_or_at pre here (child_nodes (suc d) (from + length own) to rec') (blank 0 0 0 0)
       (length pre) refl in
-      let len : length g.0 ≡ length pre + suc (length (kid_nodes (suc d) (from + length own) to
-      rec')) = ap length nodes ∙ length-append pre (here ∷ kid_nodes (suc d) (from + length
+      let len : length g.0 ≡ length pre + suc (length (child_nodes (suc d) (from + length own) to
+      rec')) = ap length nodes ∙ length-append pre (here ∷ child_nodes (suc d) (from + length
       own) to rec') in
       let sum : length (own ++ joined merged_rows d docs vs)
       ≡ length own + length (joined merged_rows d docs vs) = length-append own (joined
@@ -150,7 +150,7 @@ module _ (shape : TreeShape) (more d : ℕ) (docs : List Doc) (proper : (v : ℕ
       let next : length (pre ++ (here ∷ [])) ≡ suc (length pre) = length-append pre (here ∷ [])
       ∙ (let k : length pre + 1 ≡ suc (length pre) = omega arith in k) in
       let rest = stands_ids vs (from + length own) (pre ++ (here ∷ [])) f.2 (nodes
-      ∙ sym (append_assoc pre (here ∷ []) (kid_nodes (suc d) (from + length own) to rec')))
+      ∙ sym (append_assoc pre (here ∷ []) (child_nodes (suc d) (from + length own) to rec')))
       (ap (take (length (joined merged_rows d docs vs))) (sym (drop-drop (length own) from g.1))
       ∙ past own (joined merged_rows d docs vs) (drop from g.1) whole) (omega (
         arith,
@@ -160,22 +160,22 @@ module _ (shape : TreeShape) (more d : ℕ) (docs : List Doc) (proper : (v : ℕ
       (stands, proper v, refl, subst (λ n. Standing shape more (suc d) n rec' g) next rest)
 
 -- what the records of the children are, without and with a star child
-star_docs-kids : (below : List Doc → Nodes (List AggState)) (d : ℕ) (docs : List Doc) (last : Nodes
-    (List AggState)) (vs : List ℕ) → Filled d docs vs → star_docs (kids_of below d docs last vs)
+star_docs-subtrees : (below : List Doc → Nodes (List AggState)) (d : ℕ) (docs : List Doc) (last : Nodes
+    (List AggState)) (vs : List ℕ) → Filled d docs vs → star_docs (child_nodes_of below d docs last vs)
     ≡ star_docs last
-star_docs-kids below d docs last [] f = refl
-star_docs-kids below d docs last (v ∷ vs) f = ap (λ b. cond b (docs_with d v docs) (star_docs
-    (kids_of below d docs last vs))) (ne_eqb v star f.0) ∙ star_docs-kids below d docs last vs f.2
+star_docs-subtrees below d docs last [] f = refl
+star_docs-subtrees below d docs last (v ∷ vs) f = ap (λ b. cond b (docs_with d v docs) (star_docs
+    (child_nodes_of below d docs last vs))) (ne_eqb v star f.0) ∙ star_docs-subtrees below d docs last vs f.2
 
-has_star-kids : (below : List Doc → Nodes (List AggState)) (d : ℕ) (docs : List Doc) (last : Nodes
-    (List AggState)) (vs : List ℕ) → Filled d docs vs → has_star (kids_of below d docs last vs)
+has_star-subtrees : (below : List Doc → Nodes (List AggState)) (d : ℕ) (docs : List Doc) (last : Nodes
+    (List AggState)) (vs : List ℕ) → Filled d docs vs → has_star (child_nodes_of below d docs last vs)
     ≡ has_star last
-has_star-kids below d docs last [] f = refl
-has_star-kids below d docs last (v ∷ vs) f = ap (λ b. cond b true (has_star (kids_of below d docs
-    last vs))) (ne_eqb v star f.0) ∙ has_star-kids below d docs last vs f.2
+has_star-subtrees below d docs last [] f = refl
+has_star-subtrees below d docs last (v ∷ vs) f = ap (λ b. cond b true (has_star (child_nodes_of below d docs
+    last vs))) (ne_eqb v star f.0) ∙ has_star-subtrees below d docs last vs f.2
 
 count-groups : (below : List Doc → Nodes (List AggState)) (d from to : ℕ) (docs : List Doc) (vs :
-    List ℕ) → length (kid_nodes (suc d) from to (kids_of below d docs none vs)) ≡ length vs
+    List ℕ) → length (child_nodes (suc d) from to (child_nodes_of below d docs none vs)) ≡ length vs
 count-groups below d from to docs [] = refl
 count-groups below d from to docs (v ∷ vs) = ap suc (count-groups below d (cond (v == star) from
     (from + length (docs_with d v docs))) to docs vs)
@@ -189,14 +189,14 @@ starred_docs d docs = merged_docs merged_rows (rekey (set_star d) docs)
 
 pub record OpenedAs (shape : TreeShape) (more d at : ℕ) (docs : List Doc) (f : Flat (List
     AggState)) (b : Bool) : Type 0 where
-  pub is : opened d at (split_kids shape more d docs) f
+  pub is : opened d at (split_children shape more d docs) f
       ≡ (
         f.0 ++ (group_nodes d (node_at f.0 at).start docs ++ (if b then blank (d + 1) star (length
             f.1) (length f.1 + length (starred_docs d docs)) ∷ [] else [])),
         f.1 ++ (if b then
             starred_docs d docs else []),
       )
-  pub has : has_star (split_kids shape more d docs) ≡ b
+  pub has : has_star (split_children shape more d docs) ≡ b
 
 pub length-groups : (d from : ℕ) (docs : List Doc) → length (group_nodes d from docs)
     ≡ length (ids_at merged_rows d docs)
@@ -208,18 +208,18 @@ opened_by : (shape : TreeShape) (more d at : ℕ) (docs : List Doc) (f : Flat (L
 opened_by shape more d at docs f filled true e =
     let below = under merged_rows shape more (suc d) in
     let sd = starred_docs d docs in
-    let last : star_kid merged_rows below shape d docs
+    let last : star_child merged_rows below shape d docs
     ≡ node star sd (below sd) none = ap (λ b. cond b (node star sd (below sd) none) none) e in
     let vs = ids_at merged_rows d docs in
-    let split = kid_nodes-split below d (node_at f.0 at).start (length f.1) docs (node star sd
+    let split = child_nodes-split below d (node_at f.0 at).start (length f.1) docs (node star sd
     (below sd) none) vs filled in
-    let kids : split_kids shape more d docs ≡ kids_of below d docs (node star sd (below sd) none)
-    vs = ap (λ l. kids_of below d docs l vs) last in
+    let subtrees : split_children shape more d docs ≡ child_nodes_of below d docs (node star sd (below sd) none)
+    vs = ap (λ l. child_nodes_of below d docs l vs) last in
     let d1 : suc d ≡ d + 1 = omega arith in
     record {
-      is = ap (λ k. opened d at k f) kids ∙ (λ i. (
+      is = ap (λ k. opened d at k f) subtrees ∙ (λ i. (
         f.0 ++ split.1 i,
-        f.1 ++ star_docs-kids below d
+        f.1 ++ star_docs-subtrees below d
             docs (node star sd (below sd) none) vs filled i,
       ))
           ∙ ap (λ k. (
@@ -227,24 +227,24 @@ opened_by shape more d at docs f filled true e =
                 f.1) (length f.1 + length sd) ∷ [])),
             f.1 ++ sd,
           )) d1;
-      has = ap has_star kids ∙ has_star-kids below d docs (node star sd (below sd) none) vs filled;
+      has = ap has_star subtrees ∙ has_star-subtrees below d docs (node star sd (below sd) none) vs filled;
     }
 opened_by shape more d at docs f filled false e =
     let below = under merged_rows shape more (suc d) in
     let sd = starred_docs d docs in
-    let last : star_kid merged_rows below shape d docs
+    let last : star_child merged_rows below shape d docs
     ≡ none = ap (λ b. cond b (node star sd (below sd) none) none) e in
     let vs = ids_at merged_rows d docs in
-    let split = kid_nodes-split below d (node_at f.0 at).start (length f.1) docs none vs filled in
-    let kids : split_kids shape more d docs ≡ kids_of below d docs none vs = ap (λ l. kids_of below
+    let split = child_nodes-split below d (node_at f.0 at).start (length f.1) docs none vs filled in
+    let subtrees : split_children shape more d docs ≡ child_nodes_of below d docs none vs = ap (λ l. child_nodes_of below
     d docs l vs) last in
     record {
-      is = ap (λ k. opened d at k f) kids ∙ (λ i. (
+      is = ap (λ k. opened d at k f) subtrees ∙ (λ i. (
         f.0 ++ split.1 i,
-        f.1 ++ star_docs-kids below d
+        f.1 ++ star_docs-subtrees below d
             docs none vs filled i,
       ));
-      has = ap has_star kids ∙ has_star-kids below d docs none vs filled;
+      has = ap has_star subtrees ∙ has_star-subtrees below d docs none vs filled;
     }
 
 pub opened_as : (shape : TreeShape) (more d at : ℕ) (docs : List Doc) (f : Flat (List AggState))
@@ -258,7 +258,7 @@ last_stands : (shape : TreeShape) (more d : ℕ) (f : Flat (List AggState)) (doc
     Bool) → Proper (suc d + more) (suc d) (starred_docs d docs) → 0 < length docs
     → (g : Flat (List AggState))
     → g.1 ≡ f.1 ++ (if b then starred_docs d docs else [])
-    → (from : ℕ) (pre : List Node) → g.0 ≡ pre ++ kid_nodes (suc d) from (length f.1) (if b then
+    → (from : ℕ) (pre : List Node) → g.0 ≡ pre ++ child_nodes (suc d) from (length f.1) (if b then
     node star (starred_docs d docs) (under merged_rows shape more (suc d) (starred_docs d
     docs)) none else none)
     → Standing shape more (suc d) (length pre) (if b then node star (starred_docs d docs) (under
@@ -294,24 +294,24 @@ pub opened_stands : (shape : TreeShape) (more d at : ℕ) (f : Flat (List AggSta
     → (node_at f.0 at).start < (node_at f.0 at).end → (node_at f.0 at).end ≤ length f.1
     → (docs : List Doc) → docs ≡ range (node_at f.0 at).start (node_at f.0 at).end f.1
     → Proper (suc d + more) d docs → Rising d docs → Ordinary d docs
-    → Standing shape more (suc d) (length f.0) (split_kids shape more d docs) (opened d at
-    (split_kids shape more d docs) f)
+    → Standing shape more (suc d) (length f.0) (split_children shape more d docs) (opened d at
+    (split_children shape more d docs) f)
 opened_stands shape more d at f lt le docs is proper up ord =
     let start = (node_at f.0 at).start in
     let end = (node_at f.0 at).end in
     let vs = ids_at merged_rows d docs in
     let filled = filled_all (length docs) d docs (omega arith) up ord in
     let all = joined_all merged_rows (length docs) d docs up in
-    let kids = split_kids shape more d docs in
-    let g = opened d at kids f in
+    let subtrees = split_children shape more d docs in
+    let g = opened d at subtrees f in
     let b = stars shape d docs in
     let len : length docs ≡ end - start = ap length is
     ∙ length-take-le (end - start) (drop start f.1) (omega (arith, length-drop start f.1)) in
     let g1 : g.1 ≡ f.1 ++ (if b then starred_docs d docs else []) = ap (λ l. f.1 ++ l)
-    (star_docs-kids (under merged_rows shape more (suc d)) d docs (star_kid merged_rows (under
+    (star_docs-subtrees (under merged_rows shape more (suc d)) d docs (star_child merged_rows (under
     merged_rows shape more (suc d)) shape d docs) vs filled ∙ by_b b) in
     stands_ids shape more d docs (λ v. own_proper (suc d + more) d v docs (omega arith) proper) g
-    (star_kid merged_rows (under merged_rows shape more (suc d)) shape d docs) (length f.1)
+    (star_child merged_rows (under merged_rows shape more (suc d)) shape d docs) (length f.1)
     (last_stands shape more d f docs b (star_proper (suc d + more) d docs (omega arith) proper)
     (omega (arith, len)) g g1)
     vs start f.0 filled refl

@@ -1,7 +1,7 @@
 -- The ids and the documents of the children, where the documents rise by the dimension.
 use Rattle.std.proofs.Common.{◌≡◌, ℕ, suc, List, [], ◌∷◌, take, drop, length, refl, arith}
 use Rattle.agg_laws.specs.declared.states.AggState.{AggState}
-use Rattle.agg_laws.specs.Tree.{dim, node, ids_at, docs_with, kids_of}
+use Rattle.agg_laws.specs.Tree.{dim, node, ids_at, docs_with, child_nodes_of}
 use Rattle.state_columns.specs.Docs.{Doc}
 use Rattle.star_tree.proofs.Runs as runs
 use Rattle.star_tree.proofs.Runs.{RunOf, NoneBelow, other_docs}
@@ -41,11 +41,11 @@ joined_all join fuel d docs up = runs.joined_all join (length docs) d docs (omeg
     docs up)
 
 -- the nodes of the ids above v are those of the documents after the run
-pub kids_after : (below : List Doc → Tree) (d v n : ℕ) (es : List Doc) (last : Tree)
+pub children_after : (below : List Doc → Tree) (d v n : ℕ) (es : List Doc) (last : Tree)
     → RunOf d v n es
     → (vs : List ℕ) → NoneBelow (suc v) vs
-    → kids_of below d es last vs ≡ kids_of below d (drop n es) last vs
-kids_after below d v n es last run [] h = refl
-kids_after below d v n es last run (u ∷ us) h =
+    → child_nodes_of below d es last vs ≡ child_nodes_of below d (drop n es) last vs
+children_after below d v n es last run [] h = refl
+children_after below d v n es last run (u ∷ us) h =
     let own = other_docs d v u n es (λ k. omega (arith, h.0, k)) run in
-    λ i. node u (own i) (below (own i)) (kids_after below d v n es last run us h.1 i)
+    λ i. node u (own i) (below (own i)) (children_after below d v n es last run us h.1 i)

@@ -8,7 +8,7 @@ use Rattle.agg_laws.specs.Tree.{Nodes, none, node, under}
 use Rattle.agg_laws.specs.declared.tree_shape.TreeShape.{TreeShape}
 use Rattle.star_tree.specs.Flat.{Flat, node_at, count, visited, visited_one}
 use Rattle.state_columns.specs.Region.{range}
-use Rattle.star_builder.specs.Building.{bytes_of, Proper, StandsAt, Standing, visit_at, drop_kids}
+use Rattle.star_builder.specs.Building.{bytes_of, Proper, StandsAt, Standing, visit_at, drop_children}
 use Rattle.star_tree.proofs.FlatLemmas.{Grows, Outside, visit_grows, visited_grows, range-append}
 use Rattle.star_builder.proofs.Bytes.{bytes_grow}
 
@@ -33,11 +33,11 @@ StandsAt-grows at i docs f g grows lt s =
           )) s.inside ∙ s.docs_are;
     }
 
-pub Standing-grows : (shape : TreeShape) (more d at i : ℕ) (kids : Nodes (List AggState)) (f g :
-    Flat (List AggState)) → Grows (Outside at 1) f g → at < i → Standing shape more d i kids f
-    → Standing shape more d i kids g
+pub Standing-grows : (shape : TreeShape) (more d at i : ℕ) (subtrees : Nodes (List AggState)) (f g :
+    Flat (List AggState)) → Grows (Outside at 1) f g → at < i → Standing shape more d i subtrees f
+    → Standing shape more d i subtrees g
 Standing-grows shape more d at i none f g grows lt s = tt
-Standing-grows shape more d at i (node id docs kids rest) f g grows lt s = (
+Standing-grows shape more d at i (node id docs subtrees rest) f g grows lt s = (
   StandsAt-grows at i docs f g grows lt s.0,
   s.1,
   s.2,
@@ -46,22 +46,22 @@ Standing-grows shape more d at i (node id docs kids rest) f g grows lt s = (
 )
 
 -- the first of some nodes is visited
-pub record First (shape : TreeShape) (more d at : ℕ) (kids rest : Nodes (List AggState)) (f : Flat
+pub record First (shape : TreeShape) (more d at : ℕ) (subtrees rest : Nodes (List AggState)) (f : Flat
     (List AggState)) : Type 0 where
   pub within : at < length f.0
   pub some : (node_at f.0 at).start < (node_at f.0 at).end
   pub inside : (node_at f.0 at).end ≤ length f.1
   pub proper : Proper (d + more) d (range (node_at f.0 at).start (node_at f.0 at).end f.1)
-  pub is : visited merged_rows d at kids f ≡ visited merged_rows d (suc at) rest (visit_at shape
+  pub is : visited merged_rows d at subtrees f ≡ visited merged_rows d (suc at) rest (visit_at shape
       more d at f)
   pub others : Standing shape more d (suc at) rest (visit_at shape more d at f)
 
-of_first : (shape : TreeShape) (more d at id : ℕ) (docs : List Doc) (kids rest : Nodes (List
-    AggState)) (f : Flat (List AggState)) → Standing shape more d at (node id docs kids rest) f
-    → First shape more d at (node id docs kids rest) rest f
-of_first shape more d at id docs kids rest f s =
+of_first : (shape : TreeShape) (more d at id : ℕ) (docs : List Doc) (subtrees rest : Nodes (List
+    AggState)) (f : Flat (List AggState)) → Standing shape more d at (node id docs subtrees rest) f
+    → First shape more d at (node id docs subtrees rest) rest f
+of_first shape more d at id docs subtrees rest f s =
     let at' = s.0 in
-    let here : visited_one merged_rows d at docs kids f ≡ visit_at shape more d at f =
+    let here : visited_one merged_rows d at docs subtrees f ≡ visit_at shape more d at f =
     ap (λ k. visited_one merged_rows d at docs k f) s.2
     ∙ ap (λ l. visited_one merged_rows d at l (under merged_rows shape more d l) f) (sym
     at'.docs_are) in
@@ -72,37 +72,37 @@ of_first shape more d at id docs kids rest f s =
       proper = subst (Proper (d + more) d) (sym at'.docs_are) s.1;
       is = ap (visited merged_rows d (suc at) rest) here;
       others = subst (Standing shape more d (suc at) rest) here (Standing-grows shape more d at
-          (suc at) rest f (visited_one merged_rows d at docs kids f) (visit_grows merged_rows d at
-          docs kids f at'.within) (omega arith) s.3);
+          (suc at) rest f (visited_one merged_rows d at docs subtrees f) (visit_grows merged_rows d at
+          docs subtrees f at'.within) (omega arith) s.3);
     }
 
-pub first_of_rest : (shape : TreeShape) (more d at n : ℕ) (kids : Nodes (List AggState)) (f : Flat
-    (List AggState)) → n < count kids → Standing shape more d at (drop_kids n kids) f
-    → First shape more d at (drop_kids n kids) (drop_kids (suc n) kids) f
+pub first_of_rest : (shape : TreeShape) (more d at n : ℕ) (subtrees : Nodes (List AggState)) (f : Flat
+    (List AggState)) → n < count subtrees → Standing shape more d at (drop_children n subtrees) f
+    → First shape more d at (drop_children n subtrees) (drop_children (suc n) subtrees) f
 first_of_rest shape more d at n none f lt s = absurd (omega arith)
-first_of_rest shape more d at zero (node id docs kids rest) f lt s = of_first shape more d at id
-    docs kids rest f s
-first_of_rest shape more d at (suc n) (node id docs kids rest) f lt s = first_of_rest shape more d
+first_of_rest shape more d at zero (node id docs subtrees rest) f lt s = of_first shape more d at id
+    docs subtrees rest f s
+first_of_rest shape more d at (suc n) (node id docs subtrees rest) f lt s = first_of_rest shape more d
     at n rest f (omega arith) s
 
-pub none_left : (n : ℕ) (kids : Nodes (List AggState)) → count kids ≤ n → drop_kids n kids ≡ none
+pub none_left : (n : ℕ) (subtrees : Nodes (List AggState)) → count subtrees ≤ n → drop_children n subtrees ≡ none
 none_left zero none h = refl
-none_left zero (node id docs kids rest) h = absurd (omega arith)
+none_left zero (node id docs subtrees rest) h = absurd (omega arith)
 none_left (suc n) none h = refl
-none_left (suc n) (node id docs kids rest) h = none_left n rest (omega arith)
+none_left (suc n) (node id docs subtrees rest) h = none_left n rest (omega arith)
 
 -- nodes that stand are within
-pub standing_within : (shape : TreeShape) (more d at : ℕ) (kids : Nodes (List AggState)) (f : Flat
-    (List AggState)) → at ≤ length f.0 → Standing shape more d at kids f
-    → at + count kids ≤ length f.0
+pub standing_within : (shape : TreeShape) (more d at : ℕ) (subtrees : Nodes (List AggState)) (f : Flat
+    (List AggState)) → at ≤ length f.0 → Standing shape more d at subtrees f
+    → at + count subtrees ≤ length f.0
 standing_within shape more d at none f le s = omega arith
-standing_within shape more d at (node id docs kids rest) f le s = let w = standing_within shape
+standing_within shape more d at (node id docs subtrees rest) f le s = let w = standing_within shape
     more d (suc at) rest f s.0.within s.3 in omega arith
 
 -- later visits only add bytes
-pub bytes_later : (shape : TreeShape) (more d at : ℕ) (width : TreeShape) (kids : Nodes (List
-    AggState)) (f : Flat (List AggState)) → at ≤ length f.0 → Standing shape more d at kids f
-    → bytes_of width f ≤ bytes_of width (visited merged_rows d at kids f)
-bytes_later shape more d at width kids f le s = bytes_grow (Outside at (count kids)) width f
-    (visited merged_rows d at kids f) (visited_grows merged_rows d at kids f (standing_within shape
-    more d at kids f le s))
+pub bytes_later : (shape : TreeShape) (more d at : ℕ) (width : TreeShape) (subtrees : Nodes (List
+    AggState)) (f : Flat (List AggState)) → at ≤ length f.0 → Standing shape more d at subtrees f
+    → bytes_of width f ≤ bytes_of width (visited merged_rows d at subtrees f)
+bytes_later shape more d at width subtrees f le s = bytes_grow (Outside at (count subtrees)) width f
+    (visited merged_rows d at subtrees f) (visited_grows merged_rows d at subtrees f (standing_within shape
+    more d at subtrees f le s))

@@ -7,11 +7,11 @@ use Rattle.std.proofs.Common.{length, take, drop, refl, sym, ap, subst, ◌∙�
 use Rattle.std.proofs.Common.{length-drop, drop-cons, inl, inr}
 use Rattle.std.proofs.lemmas.List.{drop-take, drop-drop, length-take-le}
 use Rattle.std.proofs.lemmas.Bool.{cases_lt, ne_eqb}
-use Rattle.agg_laws.specs.Tree.{star, dim, Nodes, none, node, ids_at, kids_of}
-use Rattle.star_tree.specs.Flat.{blank, kid_nodes}
+use Rattle.agg_laws.specs.Tree.{star, dim, Nodes, none, node, ids_at, child_nodes_of}
+use Rattle.star_tree.specs.Flat.{blank, child_nodes}
 use Rattle.state_columns.specs.Region.{range}
 use Rattle.star_builder.specs.Building.{id_of, Rising, Ordinary, group_nodes}
-use Rattle.star_builder.proofs.Runs.{run_ids, run_docs, kids_after, none_after}
+use Rattle.star_builder.proofs.Runs.{run_ids, run_docs, children_after, none_after}
 use Rattle.star_tree.proofs.Runs.{RunOf, passing}
 
 none_taken : {X : Type 0} (n : ℕ) (xs : List X) → n ≡ 0 → take n xs ≡ []
@@ -75,16 +75,16 @@ group_cons d from n e es up ordinary run len =
     let v = dim d e.0 in
     let B : List Doc → Nodes (List AggState) = λ _. none in
     let ids = run_ids merged_rows d v n e es refl up.0 up.1 run in
-    let rest = kids_after B d v (suc n) (e ∷ es) none (refl, run) (ids_at merged_rows d (drop n
+    let rest = children_after B d v (suc n) (e ∷ es) none (refl, run) (ids_at merged_rows d (drop n
     es)) (none_after merged_rows d v n es up.0 up.1 run) in
     let own = passing d v e es refl ∙ ap (λ t. e ∷ t) (run_docs d v n es up.0 up.1 run) in
-    ap (λ vs. kid_nodes (suc d) from 0 (kids_of B d (e ∷ es) none vs)) ids
-    ∙ (λ i. kid_nodes (suc d) from 0 (node v (own i) none (rest i)))
+    ap (λ vs. child_nodes (suc d) from 0 (child_nodes_of B d (e ∷ es) none vs)) ids
+    ∙ (λ i. child_nodes (suc d) from 0 (node v (own i) none (rest i)))
     ∙ ap (λ b. (if' b (blank (suc d) v 0 (0 + suc (length (take n es)))) (blank (suc d) v from
-    (from + suc (length (take n es))))) ∷ kid_nodes (suc d) (if' b from (from + suc (length
-    (take n es)))) 0 (kids_of B d (drop n es) none (ids_at merged_rows d (drop n es)))) (ne_eqb
+    (from + suc (length (take n es))))) ∷ child_nodes (suc d) (if' b from (from + suc (length
+    (take n es)))) 0 (child_nodes_of B d (drop n es) none (ids_at merged_rows d (drop n es)))) (ne_eqb
     v star ordinary)
-    ∙ ap (λ m. blank (suc d) v from (from + suc m) ∷ kid_nodes (suc d) (from + suc m) 0 (kids_of B
+    ∙ ap (λ m. blank (suc d) v from (from + suc m) ∷ child_nodes (suc d) (from + suc m) 0 (child_nodes_of B
     d (drop n es) none (ids_at merged_rows d (drop n es)))) len
   where
     if' : {X : Type 0} → Bool → X → X → X

@@ -9,15 +9,15 @@ use Rattle.std.proofs.lemmas.List.{length-take-le}
 use Rattle.std.proofs.lemmas.Bool.{ne_eqb, eqb-false, cases_lt}
 use Rattle.star_tree.specs.declared.node.Node.{Node}
 use Rattle.agg_laws.specs.declared.tree_shape.TreeShape.{TreeShape}
-use Rattle.agg_laws.specs.Tree.{dim, Nodes, none, node, has_star, kids_of, star_kid, under}
-use Rattle.star_tree.specs.Flat.{Flat, node_at, count, kid_nodes, opened, filled, with_total}
+use Rattle.agg_laws.specs.Tree.{dim, Nodes, none, node, has_star, child_nodes_of, star_child, under}
+use Rattle.star_tree.specs.Flat.{Flat, node_at, count, child_nodes, opened, filled, with_total}
 use Rattle.star_tree.specs.Flat.{closed, visited, visited_one}
 use Rattle.state_columns.specs.Region.{range}
-use Rattle.star_builder.specs.Building.{bytes_of, Proper, drop_kids, Rising, Standing, split_kids}
-use Rattle.star_builder.specs.Building.{docs_at, kids_at, kids_in, NodeStands, leaf_closed}
+use Rattle.star_builder.specs.Building.{bytes_of, Proper, drop_children, Rising, Standing, split_children}
+use Rattle.star_builder.specs.Building.{docs_at, children_at, children_in, NodeStands, leaf_closed}
 use Rattle.star_builder.specs.Building.{split_closed, is_leaf, visit_node}
 use Rattle.star_tree.proofs.FlatLemmas.{Grows, Grows-trans, Outside, closed_grows, visited_grows}
-use Rattle.star_tree.proofs.FlatLemmas.{visit_grows, opened_grows, length-kid_nodes, range-append}
+use Rattle.star_tree.proofs.FlatLemmas.{visit_grows, opened_grows, length-child_nodes, range-append}
 use Rattle.state_columns.proofs.ListLemmas.{append_none}
 use Rattle.star_builder.proofs.Bytes.{bytes_grow}
 use Rattle.star_builder.proofs.Standing.{First, first_of_rest, none_left, bytes_later}
@@ -37,27 +37,27 @@ under_leaf : (sh : TreeShape) (dims more d : ℕ) (docs : List Doc) → more ≡
     → (nat_le (length docs) sh.leaf || (d == dims)) ≡ true → under merged_rows sh more d docs ≡ none
 under_leaf sh dims zero d docs e h = refl
 under_leaf sh dims (suc more) d docs e h =
-    ap (λ b. cond b none (split_kids sh more d docs)) (left_part (nat_le (length docs) sh.leaf) (d
+    ap (λ b. cond b none (split_children sh more d docs)) (left_part (nat_le (length docs) sh.leaf) (d
     == dims) h (ne_eqb d dims (λ k. omega arith)))
 
 under_split : (sh : TreeShape) (more n d : ℕ) (docs : List Doc) → n ≡ suc more
     → nat_le (length docs) sh.leaf ≡ false → under merged_rows sh n d docs
-    ≡ split_kids sh more d docs
+    ≡ split_children sh more d docs
 under_split sh more n d docs e h = ap (λ m. under merged_rows sh m d docs) e
-    ∙ ap (λ b. cond b none (split_kids sh more d docs)) h
+    ∙ ap (λ b. cond b none (split_children sh more d docs)) h
 
-some_kids : (sh : TreeShape) (more d : ℕ) (docs : List Doc) → 0 < length docs → Rising d docs
-    → 0 < count (split_kids sh more d docs)
-some_kids sh more d [] h up = absurd (omega arith)
-some_kids sh more d (e ∷ es) h up =
+some_children : (sh : TreeShape) (more d : ℕ) (docs : List Doc) → 0 < length docs → Rising d docs
+    → 0 < count (split_children sh more d docs)
+some_children sh more d [] h up = absurd (omega arith)
+some_children sh more d (e ∷ es) h up =
     let found = find_run merged_rows d (dim d e.0) es in
-    subst (λ vs. 0 < count (kids_of (under merged_rows sh more (suc d)) d (e ∷ es) (star_kid
+    subst (λ vs. 0 < count (child_nodes_of (under merged_rows sh more (suc d)) d (e ∷ es) (star_child
     merged_rows (under merged_rows sh more (suc d)) sh d (e ∷ es)) vs))
     (sym (run_ids merged_rows d (dim d e.0) found.0 e es refl up.0 up.1 found.1)) (omega arith)
 
-closed_split : (d at first children : ℕ) (docs : List Doc) (kids : Nodes (List AggState)) (f : Flat
-    (List AggState)) → children ≡ count kids → 0 < children → docs_at at f ≡ docs
-    → split_closed d at first children (has_star kids) f ≡ closed merged_rows d at first docs kids f
+closed_split : (d at first children : ℕ) (docs : List Doc) (subtrees : Nodes (List AggState)) (f : Flat
+    (List AggState)) → children ≡ count subtrees → 0 < children → docs_at at f ≡ docs
+    → split_closed d at first children (has_star subtrees) f ≡ closed merged_rows d at first docs subtrees f
 closed_split d at first children docs none f e some is = absurd (omega (arith, e))
 closed_split d at first children docs (node id own below rest) f e some is =
     let k : children - 1 ≡ count rest = omega (arith, e) in
@@ -83,12 +83,12 @@ pub record Split (s : TreeShape) (d at start end : ℕ) (f g : Flat (List AggSta
   pub known : first + children ≤ length g.0
   pub order : start ≤ end
   pub inside : end ≤ length g.1
-  pub children_is : children ≡ count (kids_in s d start end g)
-  pub stand : Standing s (s.dims - (d + 1)) (d + 1) first (kids_in s d start end g) g
+  pub children_is : children ≡ count (children_in s d start end g)
+  pub stand : Standing s (s.dims - (d + 1)) (d + 1) first (children_in s d start end g) g
   pub bytes : (width : TreeShape) → bytes_of width g ≤ bytes_of width (visit_node s d at f)
   pub bytes_after : (width : TreeShape) → bytes_of width (visited merged_rows (d + 1) first
-      (kids_in s d start end g) g) ≤ bytes_of width (visit_node s d at f)
-  pub after : (h : Flat (List AggState)) → h ≡ visited merged_rows (d + 1) first (kids_in s d start
+      (children_in s d start end g) g) ≤ bytes_of width (visit_node s d at f)
+  pub after : (h : Flat (List AggState)) → h ≡ visited merged_rows (d + 1) first (children_in s d start
       end g) g → After s d at f h first children starred
 
 module _ (s : TreeShape) (d at start end : ℕ) (f : Flat (List AggState)) (stands : NodeStands s d
@@ -101,30 +101,30 @@ module _ (s : TreeShape) (d at start end : ℕ) (f : Flat (List AggState)) (stan
   pub leaf_visit : is_leaf s d (end - start) ≡ true → leaf_closed d at f ≡ visit_node s d at f
   leaf_visit h =
       let docs = docs_at at f in
-      let kids : under merged_rows s (s.dims - d) d docs
+      let subtrees : under merged_rows s (s.dims - d) d docs
       ≡ none = under_leaf s s.dims (s.dims - d) d docs refl (ap (λ n. nat_le n s.leaf || (d ==
       s.dims)) size ∙ h) in
       (λ i. closed merged_rows d at (length f.0) docs none (
         sym (append_none f.0) i,
         sym
             (append_none f.1) i,
-      )) ∙ ap (λ k. visited_one merged_rows d at docs k f) (sym kids)
+      )) ∙ ap (λ k. visited_one merged_rows d at docs k f) (sym subtrees)
 
   module _ (lt : d < s.dims) (splits : is_leaf s d (end - start)
-      ≡ false) (g : Flat (List AggState)) (g_is : g ≡ opened d at (kids_at s d at f) f) (starred :
-      Bool) (star_is : starred ≡ has_star (kids_at s d at f)) where
-    kids_are : under merged_rows s (s.dims - d) d (docs_at at f) ≡ kids_at s d at f
-    kids_are = under_split s (s.dims - (d + 1)) (s.dims - d) d (docs_at at f) (omega arith) (ap (λ
+      ≡ false) (g : Flat (List AggState)) (g_is : g ≡ opened d at (children_at s d at f) f) (starred :
+      Bool) (star_is : starred ≡ has_star (children_at s d at f)) where
+    nodes_are : under merged_rows s (s.dims - d) d (docs_at at f) ≡ children_at s d at f
+    nodes_are = under_split s (s.dims - (d + 1)) (s.dims - d) d (docs_at at f) (omega arith) (ap (λ
         n. nat_le n s.leaf) size ∙ no_part (nat_le (end - start) s.leaf) (d == s.dims) splits)
 
-    visit_is : visit_node s d at f ≡ closed merged_rows d at (length f.0) (docs_at at f) (kids_at s
-        d at f) (visited merged_rows (suc d) (length f.0) (kids_at s d at f) (opened d at (kids_at
+    visit_is : visit_node s d at f ≡ closed merged_rows d at (length f.0) (docs_at at f) (children_at s
+        d at f) (visited merged_rows (suc d) (length f.0) (children_at s d at f) (opened d at (children_at
         s d at f) f))
-    visit_is = ap (λ k. visited_one merged_rows d at (docs_at at f) k f) kids_are
+    visit_is = ap (λ k. visited_one merged_rows d at (docs_at at f) k f) nodes_are
 
     g_grows : Grows (λ _. Unit {0}) f g
     g_grows = subst (Grows (λ _. Unit {0}) f) (sym g_is) (opened_grows (λ _. Unit {0}) d at
-        (kids_at s d at f) f)
+        (children_at s d at f) f)
 
     same_docs : range start end g.1 ≡ docs_at at f
     same_docs = (λ i. range (start_is i) (end_is i) (g_grows.docs_are i))
@@ -133,44 +133,44 @@ module _ (s : TreeShape) (d at start end : ℕ) (f : Flat (List AggState)) (stan
           stands.some,
         )) stands.inside
 
-    same_kids : kids_in s d start end g ≡ kids_at s d at f
-    same_kids = ap (λ l. split_kids s (s.dims - (d + 1)) d l) same_docs
+    same_children : children_in s d start end g ≡ children_at s d at f
+    same_children = ap (λ l. split_children s (s.dims - (d + 1)) d l) same_docs
 
-    longer : length g.0 ≡ length f.0 + count (kids_at s d at f)
-    longer = ap (λ h. length h.0) g_is ∙ length-append f.0 (kid_nodes (suc d) (node_at f.0
-        at).start (length f.1) (kids_at s d at f))
-        ∙ ap (λ n. length f.0 + n) (length-kid_nodes (suc d) (node_at f.0 at).start (length f.1)
-        (kids_at s d at f))
+    longer : length g.0 ≡ length f.0 + count (children_at s d at f)
+    longer = ap (λ h. length h.0) g_is ∙ length-append f.0 (child_nodes (suc d) (node_at f.0
+        at).start (length f.1) (children_at s d at f))
+        ∙ ap (λ n. length f.0 + n) (length-child_nodes (suc d) (node_at f.0 at).start (length f.1)
+        (children_at s d at f))
 
     after_visits : Flat (List AggState)
-    after_visits = visited merged_rows (d + 1) (length f.0) (kids_in s d start end g) g
+    after_visits = visited merged_rows (d + 1) (length f.0) (children_in s d start end g) g
 
-    visits_are : visited merged_rows (d + 1) (length f.0) (kids_in s d start end g) g
-        ≡ visited merged_rows (suc d) (length f.0) (kids_at s d at f) (opened d at (kids_at s d at
+    visits_are : visited merged_rows (d + 1) (length f.0) (children_in s d start end g) g
+        ≡ visited merged_rows (suc d) (length f.0) (children_at s d at f) (opened d at (children_at s d at
         f) f)
     visits_are = let n : d + 1 ≡ suc d = omega arith in
-        (λ i. visited merged_rows (n i) (length f.0) (same_kids i) (g_is i))
+        (λ i. visited merged_rows (n i) (length f.0) (same_children i) (g_is i))
 
-    later : Grows (Outside (length f.0) (count (kids_at s d at f))) g (visited merged_rows (d + 1)
-        (length f.0) (kids_in s d start end g) g)
-    later = subst (λ k. Grows (Outside (length f.0) (count (kids_at s d at f))) g (visited
-        merged_rows (d + 1) (length f.0) k g)) (sym same_kids) (visited_grows merged_rows (d + 1)
-        (length f.0) (kids_at s d at f) g (omega (arith, longer)))
+    later : Grows (Outside (length f.0) (count (children_at s d at f))) g (visited merged_rows (d + 1)
+        (length f.0) (children_in s d start end g) g)
+    later = subst (λ k. Grows (Outside (length f.0) (count (children_at s d at f))) g (visited
+        merged_rows (d + 1) (length f.0) k g)) (sym same_children) (visited_grows merged_rows (d + 1)
+        (length f.0) (children_at s d at f) g (omega (arith, longer)))
 
-    last : (h : Flat (List AggState)) → h ≡ visited merged_rows (d + 1) (length f.0) (kids_in s d
+    last : (h : Flat (List AggState)) → h ≡ visited merged_rows (d + 1) (length f.0) (children_in s d
         start end g) g → Grows (Outside at 1) h (visit_node s d at f)
     last h is = subst (Grows (Outside at 1) h) (ap (closed merged_rows d at (length f.0) (docs_at
-        at f) (kids_at s d at f)) (is ∙ visits_are) ∙ sym visit_is) (closed_grows merged_rows d at
-        (length f.0) (docs_at at f) (kids_at s d at f) h)
+        at f) (children_at s d at f)) (is ∙ visits_are) ∙ sym visit_is) (closed_grows merged_rows d at
+        (length f.0) (docs_at at f) (children_at s d at f) h)
 
     done : (children : ℕ) → children ≡ length g.0 - length f.0 → (h : Flat (List AggState)) → h
-        ≡ visited merged_rows (d + 1) (length f.0) (kids_in s d start end g) g
+        ≡ visited merged_rows (d + 1) (length f.0) (children_in s d start end g) g
         → After s d at f h (length f.0) children starred
     done children children_is h is =
-        let grown : Grows (Outside (length f.0) (count (kids_at s d at f))) g h = subst (Grows
-        (Outside (length f.0) (count (kids_at s d at f))) g) (sym is) later in
-        let all : Grows (Outside (length f.0) (count (kids_at s d at f))) f h = Grows-trans
-        (Outside (length f.0) (count (kids_at s d at f))) (Outside (length f.0) (count (kids_at
+        let grown : Grows (Outside (length f.0) (count (children_at s d at f))) g h = subst (Grows
+        (Outside (length f.0) (count (children_at s d at f))) g) (sym is) later in
+        let all : Grows (Outside (length f.0) (count (children_at s d at f))) f h = Grows-trans
+        (Outside (length f.0) (count (children_at s d at f))) (Outside (length f.0) (count (children_at
         s d at f))) f g h
         (record {
           docs = g_grows.docs;
@@ -186,8 +186,8 @@ module _ (s : TreeShape) (d at start end : ℕ) (f : Flat (List AggState)) (stan
         let docs : docs_at at h ≡ docs_at at f = (λ i. range (same i).start (same i).end
         (all.docs_are i)) ∙ range-append (node_at f.0 at).start (node_at f.0 at).end f.1
         all.docs (omega (arith, stands.some)) stands.inside in
-        let n : children ≡ count (kids_at s d at f) = omega (arith, children_is, longer) in
-        let some : 0 < count (kids_at s d at f) = some_kids s (s.dims - (d + 1)) d (docs_at at f)
+        let n : children ≡ count (children_at s d at f) = omega (arith, children_is, longer) in
+        let some : 0 < count (children_at s d at f) = some_children s (s.dims - (d + 1)) d (docs_at at f)
         (omega (arith, size, stands.some, start_is, end_is)) (rising_at s d at f stands lt) in
         record {
           within = omega (arith, all.longer, stands.within);
@@ -210,17 +210,17 @@ module _ (s : TreeShape) (d at start end : ℕ) (f : Flat (List AggState)) (stan
             proper = subst (Proper s.dims d) (sym docs) stands.proper;
           };
           is = ap (λ b. split_closed d at (length f.0) children b h) star_is
-              ∙ closed_split d at (length f.0) children (docs_at at f) (kids_at s d at f) h n
+              ∙ closed_split d at (length f.0) children (docs_at at f) (children_at s d at f) h n
               (omega (arith, n, some)) docs
-              ∙ ap (closed merged_rows d at (length f.0) (docs_at at f) (kids_at s d at f)) (is
+              ∙ ap (closed merged_rows d at (length f.0) (docs_at at f) (children_at s d at f)) (is
               ∙ visits_are) ∙ sym visit_is;
         }
 
     pub split_visit : (children : ℕ) → children ≡ length g.0 - length f.0
         → Split s d at start end f g (length f.0) children starred
     split_visit children children_is =
-        let n : children ≡ count (kids_at s d at f) = omega (arith, children_is, longer) in
-        let some : 0 < count (kids_at s d at f) = some_kids s (s.dims - (d + 1)) d (docs_at at f)
+        let n : children ≡ count (children_at s d at f) = omega (arith, children_is, longer) in
+        let some : 0 < count (children_at s d at f) = some_children s (s.dims - (d + 1)) d (docs_at at f)
         (omega (arith, size, stands.some, start_is, end_is)) (rising_at s d at f stands lt) in
         record {
           some = omega (arith, n, some);
@@ -234,14 +234,14 @@ module _ (s : TreeShape) (d at start end : ℕ) (f : Flat (List AggState)) (stan
             length-append
                 f.1 g_grows.docs,
           );
-          children_is = n ∙ ap count (sym same_kids);
+          children_is = n ∙ ap count (sym same_children);
           stand = subst (λ k. Standing s (s.dims - (d + 1)) (d + 1) (length f.0) k g) (sym
-              same_kids) (children_stand s d at f stands lt g g_is);
+              same_children) (children_stand s d at f stands lt g g_is);
           bytes = λ width. let a = bytes_grow _ width g _ later in
               let b = bytes_grow _ width _ _ (last (visited merged_rows (d + 1) (length f.0)
-              (kids_in s d start end g) g) refl) in omega (arith, a, b);
+              (children_in s d start end g) g) refl) in omega (arith, a, b);
           bytes_after = λ width. bytes_grow _ width _ _ (last (visited merged_rows (d + 1) (length
-              f.0) (kids_in s d start end g) g) refl);
+              f.0) (children_in s d start end g) g) refl);
           after = done children children_is;
         }
 
@@ -266,8 +266,8 @@ below_dims s d n le h = let k : d ≢ s.dims = eqb-false d s.dims (right_part (n
 pub facts : (s : TreeShape) (d at start end : ℕ) (f : Flat (List AggState)) (stands : NodeStands s
     d at f) (start_is : start ≡ (node_at f.0 at).start) (end_is : end
     ≡ (node_at f.0 at).end) (le : d ≤ s.dims) (splits : is_leaf s d (end - start) ≡ false)
-    (g : Flat (List AggState)) (g_is : g ≡ opened d at (kids_at s d at f) f) (starred : Bool)
-    (star_is : starred ≡ has_star (kids_at s d at f)) (first children : ℕ) → first
+    (g : Flat (List AggState)) (g_is : g ≡ opened d at (children_at s d at f) f) (starred : Bool)
+    (star_is : starred ≡ has_star (children_at s d at f)) (first children : ℕ) → first
     ≡ length f.0 → children ≡ length g.0 - first → Split s d at start end f g first children
     starred
 facts s d at start end f stands start_is end_is le splits g g_is starred star_is first children
@@ -277,27 +277,27 @@ facts s d at start end f stands start_is end_is le splits g g_is starred star_is
     splits g g_is starred star_is children (children_is ∙ ap (λ n. length g.0 - n) first_is))
 
 -- one of the children is visited
-pub record KidStep (s : TreeShape) (d first i : ℕ) (kids : Nodes (List AggState)) (f : Flat (List
+pub record ChildStep (s : TreeShape) (d first i : ℕ) (subtrees : Nodes (List AggState)) (f : Flat (List
     AggState)) : Type 0 where
   pub stands : NodeStands s (d + 1) (first + i) f
   pub bytes : (width : TreeShape) → bytes_of width (visit_node s (d + 1) (first + i) f) ≤ bytes_of
-      width (visited merged_rows (d + 1) (first + i) (drop_kids i kids) f)
+      width (visited merged_rows (d + 1) (first + i) (drop_children i subtrees) f)
   pub is : (g : Flat (List AggState)) → g ≡ visit_node s (d + 1) (first + i) f
-      → visited merged_rows (d + 1) (first + (i + 1)) (drop_kids (i + 1) kids) g
-      ≡ visited merged_rows (d + 1) (first + i) (drop_kids i kids) f
+      → visited merged_rows (d + 1) (first + (i + 1)) (drop_children (i + 1) subtrees) g
+      ≡ visited merged_rows (d + 1) (first + i) (drop_children i subtrees) f
   pub stand : (g : Flat (List AggState)) → g ≡ visit_node s (d + 1) (first + i) f
-      → Standing s (s.dims - (d + 1)) (d + 1) (first + (i + 1)) (drop_kids (i + 1) kids) g
+      → Standing s (s.dims - (d + 1)) (d + 1) (first + (i + 1)) (drop_children (i + 1) subtrees) g
   pub longer : (g : Flat (List AggState)) → g ≡ visit_node s (d + 1) (first + i) f
       → length f.0 ≤ length g.0
 
-pub kid_step : (s : TreeShape) (d first i : ℕ) (kids : Nodes (List AggState)) (f : Flat (List
-    AggState)) → d < s.dims → i < count kids → Standing s (s.dims - (d + 1)) (d + 1) (first + i)
-    (drop_kids i kids) f → KidStep s d first i kids f
-kid_step s d first i kids f lt more stand =
+pub child_step : (s : TreeShape) (d first i : ℕ) (subtrees : Nodes (List AggState)) (f : Flat (List
+    AggState)) → d < s.dims → i < count subtrees → Standing s (s.dims - (d + 1)) (d + 1) (first + i)
+    (drop_children i subtrees) f → ChildStep s d first i subtrees f
+child_step s d first i subtrees f lt more stand =
     let sh = s in
     let m = s.dims - (d + 1) in
-    let one : First sh m (d + 1) (first + i) (drop_kids i kids) (drop_kids (suc i) kids) f =
-    first_of_rest sh m (d + 1) (first + i) i kids f more stand in
+    let one : First sh m (d + 1) (first + i) (drop_children i subtrees) (drop_children (suc i) subtrees) f =
+    first_of_rest sh m (d + 1) (first + i) i subtrees f more stand in
     let k : (d + 1) + m ≡ s.dims = omega arith in
     let at : suc (first + i) ≡ first + (i + 1) = omega arith in
     let n : suc i ≡ i + 1 = omega arith in
@@ -313,20 +313,20 @@ kid_step s d first i kids f lt more stand =
       };
       bytes = λ width. subst (λ h. bytes_of width (visit_node s (d + 1) (first + i) f) ≤ bytes_of
           width h) (sym one.is)
-          (bytes_later sh m (d + 1) (suc (first + i)) width (drop_kids (suc i) kids) (visit_node s
+          (bytes_later sh m (d + 1) (suc (first + i)) width (drop_children (suc i) subtrees) (visit_node s
           (d + 1) (first + i) f) (omega (arith, one.within, grown.longer)) one.others);
-      is = λ g e. (λ j. visited merged_rows (d + 1) (sym at j) (drop_kids (sym n j) kids) (e j))
+      is = λ g e. (λ j. visited merged_rows (d + 1) (sym at j) (drop_children (sym n j) subtrees) (e j))
           ∙ sym one.is;
-      stand = λ g e. subst (λ h. Standing sh m (d + 1) (first + (i + 1)) (drop_kids (i + 1) kids)
+      stand = λ g e. subst (λ h. Standing sh m (d + 1) (first + (i + 1)) (drop_children (i + 1) subtrees)
           h) (sym e)
-          (subst (λ q. Standing sh m (d + 1) q (drop_kids (i + 1) kids) (visit_node s (d + 1)
+          (subst (λ q. Standing sh m (d + 1) q (drop_children (i + 1) subtrees) (visit_node s (d + 1)
           (first + i) f)) at
-          (subst (λ q. Standing sh m (d + 1) (suc (first + i)) (drop_kids q kids) (visit_node s (d
+          (subst (λ q. Standing sh m (d + 1) (suc (first + i)) (drop_children q subtrees) (visit_node s (d
           + 1) (first + i) f)) n one.others));
       longer = λ g e. subst (λ h. length f.0 ≤ length h.0) (sym e) grown.longer;
     }
 
-pub kids_done : (d first i : ℕ) (kids : Nodes (List AggState)) (f g : Flat (List AggState))
-    → count kids ≤ i → visited merged_rows d (first + i) (drop_kids i kids) f ≡ g → f ≡ g
-kids_done d first i kids f g le e = ap (λ k. visited merged_rows d (first + i) k f) (sym (none_left
-    i kids le)) ∙ e
+pub children_done : (d first i : ℕ) (subtrees : Nodes (List AggState)) (f g : Flat (List AggState))
+    → count subtrees ≤ i → visited merged_rows d (first + i) (drop_children i subtrees) f ≡ g → f ≡ g
+children_done d first i subtrees f g le e = ap (λ k. visited merged_rows d (first + i) k f) (sym (none_left
+    i subtrees le)) ∙ e

@@ -8,10 +8,10 @@ use Rattle.agg_laws.specs.declared.tree_shape.TreeShape.{TreeShape}
 use Rattle.agg_laws.specs.Numbers.{most_stored}
 use Rattle.agg_laws.specs.Rows.{merged_rows, row_weight}
 use Rattle.agg_laws.specs.Merged.{weights}
-use Rattle.agg_laws.specs.Tree.{star, dims_order, dim, Nodes, none, node, ids_at, kids_of, star_kid}
+use Rattle.agg_laws.specs.Tree.{star, dims_order, dim, Nodes, none, node, ids_at, child_nodes_of, star_child}
 use Rattle.agg_laws.specs.Tree.{under}
 use Rattle.state_columns.specs.Docs.{Doc, doc_at}
-use Rattle.star_tree.specs.Flat.{Flat, node_at, kid_nodes, visited_one, closed, filled, with_total}
+use Rattle.star_tree.specs.Flat.{Flat, node_at, child_nodes, visited_one, closed, filled, with_total}
 use Rattle.state_columns.specs.Region.{range}
 use Rattle.star_file.specs.Rules.{widths}
 
@@ -55,14 +55,14 @@ Ordinary d (e ∷ es) = (dim d e.0 ≢ star) × Ordinary d es
 -- the nodes of the groups of equal ids
 abbrev pub group_nodes : ℕ → ℕ → List Doc → List Node
 group_nodes d from docs =
-    kid_nodes (suc d) from 0 (kids_of (λ _. none) d docs none (ids_at merged_rows d docs))
+    child_nodes (suc d) from 0 (child_nodes_of (λ _. none) d docs none (ids_at merged_rows d docs))
 
 -- documents of a node of level d, where k is the number of dimensions
 pub record Proper (k d : ℕ) (docs : List Doc) : Type 0 where
   pub path : List ℕ
   pub alike : DocsAt k d path docs
   pub ascending : is_sorted dims_order docs ≡ true
-  pub light : weights row_weight docs ≤ most_stored
+  pub weight_fits : weights row_weight docs ≤ most_stored
 
 -- the node with this number has these documents
 pub record StandsAt (at : ℕ) (docs : List Doc) (f : Written) : Type 0 where
@@ -74,15 +74,15 @@ pub record StandsAt (at : ℕ) (docs : List Doc) (f : Written) : Type 0 where
 -- nodes of level d beside each other, of which the first has the number `at`, are not visited yet
 abbrev pub Standing : TreeShape → ℕ → ℕ → ℕ → Tree → Written → Type 0
 Standing shape more d at none f = Unit {0}
-Standing shape more d at (node id docs kids rest) f =
-    StandsAt at docs f × Proper (d + more) d docs × (kids ≡ under merged_rows shape more d docs)
+Standing shape more d at (node id docs subtrees rest) f =
+    StandsAt at docs f × Proper (d + more) d docs × (subtrees ≡ under merged_rows shape more d docs)
     × Standing shape more d (suc at) rest f
 
 -- the children of a node of level d that is split
-abbrev pub split_kids : TreeShape → ℕ → ℕ → List Doc → Tree
-split_kids shape more d docs =
-    kids_of (under merged_rows shape more (suc d)) d docs
-    (star_kid merged_rows (under merged_rows shape more (suc d)) shape d docs)
+abbrev pub split_children : TreeShape → ℕ → ℕ → List Doc → Tree
+split_children shape more d docs =
+    child_nodes_of (under merged_rows shape more (suc d)) d docs
+    (star_child merged_rows (under merged_rows shape more (suc d)) shape d docs)
     (ids_at merged_rows d docs)
 
 -- the documents of the node with this number
@@ -95,14 +95,14 @@ visit_at shape more d at f =
     visited_one merged_rows d at (docs_at at f) (under merged_rows shape more d (docs_at at f)) f
 
 -- all but the first n nodes
-abbrev pub drop_kids : ℕ → Tree → Tree
-drop_kids zero kids = kids
-drop_kids (suc n) none = none
-drop_kids (suc n) (node id docs kids rest) = drop_kids n rest
+abbrev pub drop_children : ℕ → Tree → Tree
+drop_children zero subtrees = subtrees
+drop_children (suc n) none = none
+drop_children (suc n) (node id docs subtrees rest) = drop_children n rest
 
 -- the children of the node with this number, which is split
-abbrev pub kids_at : TreeShape → ℕ → ℕ → Written → Tree
-kids_at s d at f = split_kids s (s.dims - (d + 1)) d (docs_at at f)
+abbrev pub children_at : TreeShape → ℕ → ℕ → Written → Tree
+children_at s d at f = split_children s (s.dims - (d + 1)) d (docs_at at f)
 
 -- the node with this number is there, with some documents
 pub record NodeStands (s : TreeShape) (d at : ℕ) (f : Written) : Type 0 where
@@ -122,8 +122,8 @@ split_closed d at first children starred f =
     else with_total merged_rows d at first children (docs_at at f) f
 
 -- the children of a split node with this range
-abbrev pub kids_in : TreeShape → ℕ → ℕ → ℕ → Written → Tree
-kids_in s d start end f = split_kids s (s.dims - (d + 1)) d (range start end f.1)
+abbrev pub children_in : TreeShape → ℕ → ℕ → ℕ → Written → Tree
+children_in s d start end f = split_children s (s.dims - (d + 1)) d (range start end f.1)
 
 -- whether a node with so many documents is a leaf
 abbrev pub is_leaf : TreeShape → ℕ → ℕ → Bool

@@ -7,7 +7,7 @@ use Rattle.star_file.specs.Rules.{most_bytes}
 use Rattle.star_builder.specs.declared.fault.TreeFault.{TreeFault}
 use Rattle.star_builder.specs.declared.fault.TreeFault.TheVariants as fault
 use Rattle.star_builder.specs.declared.growing.Growing.{Growing}
-use Rattle.star_builder.specs.Building.{Written, bytes_of, kids_in, NodeStands, Standing}
+use Rattle.star_builder.specs.Building.{Written, bytes_of, children_in, NodeStands, Standing}
 
 -- its nodes and documents, written flat
 abbrev pub written : Growing → Written
@@ -31,9 +31,9 @@ pub record AreOpenFrom (shape : TreeShape) (level start end first children : ℕ
   pub order : start ≤ end
   pub inside : end ≤ length tree.docs.docs
   pub within : first + children ≤ length tree.nodes.items
-  pub all : children ≡ count (kids_in shape level start end (written tree))
+  pub all : children ≡ count (children_in shape level start end (written tree))
   pub stand : Standing shape (shape.dims - (level + 1)) (level + 1) first
-      (kids_in shape level start end (written tree)) (written tree)
+      (children_in shape level start end (written tree)) (written tree)
   pub small : bytes_of shape (written tree) ≤ most_bytes
 
 -- a tree becomes what a step makes of it, unless that takes more bytes than a tree may

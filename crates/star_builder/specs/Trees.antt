@@ -19,8 +19,8 @@ pub record AreRowsFor (shape : TreeShape) (rows : Docs) : Type 0 where
   pub bounded : IsShape shape
   pub dims : rows.dims ≡ shape.dims
   pub kinds : rows.kinds ≡ shape.kinds
-  pub few : length rows.docs ≤ most_stored
-  pub light : weights row_weight rows.docs ≤ most_stored
+  pub at_most : length rows.docs ≤ most_stored
+  pub weight_fits : weights row_weight rows.docs ≤ most_stored
   pub no_star : HaveNoStar shape.dims rows.docs
 
 -- the tree of some rows: nodes and documents of the nested tree, written flat, whose nodes cover
@@ -47,7 +47,7 @@ pub record AreRootOf (shape : TreeShape) (docs : Docs) : Type 0 where
   pub bounded : IsShape shape
   pub dims : docs.dims ≡ shape.dims
   pub some : 0 < length docs.docs
-  pub few : length docs.docs ≤ most_stored
+  pub at_most : length docs.docs ≤ most_stored
   pub proper : Proper shape.dims 0 docs.docs
 
 -- the tree below that root, written flat

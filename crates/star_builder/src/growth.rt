@@ -22,7 +22,7 @@ pub fn add_starred(docs: &mut StarTable, start: u32, end: u32, level: u8) -> Res
     ensures docs { OnOk result (docs.new.docs ≡ docs.old.docs
         ++ merged_docs merged_rows (rekey (set_star level) (range start end docs.old.docs))) }
     ensures count { IfOk result (λ n. length docs.new.docs ≡ length docs.old.docs + n) }
-    ensures few { IfOk result (λ n. n ≤ end - start) }
+    ensures at_most { IfOk result (λ n. n ≤ end - start) }
     ensures shape { KeepsShape docs.old docs.new }
 {
     docs.reserve(end - start)?;

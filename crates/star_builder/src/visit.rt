@@ -6,7 +6,7 @@ ghost use Rattle.agg_laws.specs.Rows.{merged_rows};
 ghost use Rattle.agg_laws.specs.Tree.{skips, has_star};
 ghost use Rattle.star_table.specs.Tables.{KeepsShape};
 ghost use Rattle.star_tree.specs.Flat.{node_at, opened, filled, with_total, visited};
-ghost use Rattle.star_builder.specs.Building.{docs_at, kids_at, kids_in, is_leaf};
+ghost use Rattle.star_builder.specs.Building.{docs_at, children_at, children_in, is_leaf};
 ghost use Rattle.star_builder.specs.Building.{leaf_closed, split_closed, visit_node};
 ghost use Rattle.star_builder.specs.Growing.{AreOpenFrom, Becomes, IsOpenAt, written};
 
@@ -55,7 +55,7 @@ fn visit_children(
 ) -> Result<(), TreeFault>
     requires { AreOpenFrom shape.now level start end first children tree.old }
     ensures { Becomes shape.now (visited merged_rows (level + 1) first
-        (kids_in shape.now level start end (written tree.old)) (written tree.old))
+        (children_in shape.now level start end (written tree.old)) (written tree.old))
         tree.old tree.new result }
 {
     for i in 0..children {
@@ -89,9 +89,9 @@ fn open_node(tree: &mut Growing, shape: &TreeShape, at: usize, level: u8) -> Res
     requires levels { level < shape.now.dims }
     requires tree { IsOpenAt shape.now level at tree.old }
     ensures opens { OnOk result (written tree.new
-        ≡ opened level at (kids_at shape.now level at (written tree.old)) (written tree.old)) }
+        ≡ opened level at (children_at shape.now level at (written tree.old)) (written tree.old)) }
     ensures star { IfOk result (λ b. b
-        ≡ has_star (kids_at shape.now level at (written tree.old))) }
+        ≡ has_star (children_at shape.now level at (written tree.old))) }
     ensures shape { KeepsShape tree.old.docs tree.new.docs }
 {
     let (start, end) = bounds(&tree.nodes, at);

@@ -245,8 +245,8 @@ as_many (n ∷ ns) (x ∷ xs) h = ap suc (as_many ns xs h.1)
 -- the ids and the states of a document in its bytes
 module _ (shape : TreeShape) (counts bytes : List ℕ) (e : Doc)
     (s : SpellsDoc shape counts bytes e) where
-  long : length (words e.0) ≡ 4 * length counts
-  long = length_words e.0 ∙ ap (λ n. 4 * n) (as_many counts e.0 s.ids_are)
+  lengths : length (words e.0) ≡ 4 * length counts
+  lengths = length_words e.0 ∙ ap (λ n. 4 * n) (as_many counts e.0 s.ids_are)
 
   pub ids_part : (part : List ℕ) → part ≡ take (4 * length counts - 0) (drop 0 bytes)
       → part ≡ words e.0
@@ -254,7 +254,7 @@ module _ (shape : TreeShape) (counts bytes : List ℕ) (e : Doc)
       ∙ ap (λ l. take (4 * length counts - 0) l) s.bytes_are
       ∙ ap (λ n. take n (words e.0 ++ state_bytes e.1))
       (let n : 4 * length counts - 0 ≡ 4 * length counts = omega arith in n)
-      ∙ own_part (words e.0) (state_bytes e.1) (4 * length counts) long
+      ∙ own_part (words e.0) (state_bytes e.1) (4 * length counts) lengths
 
   pub states_part : (part : List ℕ)
       → part ≡ take (length bytes - 4 * length counts) (drop (4 * length counts) bytes)
@@ -264,10 +264,10 @@ module _ (shape : TreeShape) (counts bytes : List ℕ) (e : Doc)
       let after : drop (4 * length counts) bytes ≡ state_bytes e.1 =
       ap (drop (4 * length counts)) s.bytes_are
       ∙ ap (λ n. drop n (words e.0 ++ state_bytes e.1)) m
-      ∙ past (words e.0) (state_bytes e.1) (4 * length counts) 0 long in
+      ∙ past (words e.0) (state_bytes e.1) (4 * length counts) 0 lengths in
       let l : length bytes - 4 * length counts ≡ length (state_bytes e.1) =
       (let a = ap length s.bytes_are in let b = length-append (words e.0) (state_bytes e.1)
-      in omega (arith, a, b, long)) in
+      in omega (arith, a, b, lengths)) in
       is ∙ (λ j. take (l j) (after j)) ∙ take-length (state_bytes e.1)
 
 -- documents one after the other

@@ -1,5 +1,5 @@
 pub mod Written
-pub mod KidLemmas
+pub mod ChildLemmas
 pub mod SectionLemmas
 pub mod DocSteps
 pub mod RangeSteps

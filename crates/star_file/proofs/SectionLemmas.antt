@@ -51,7 +51,7 @@ pub section_back : (shape : TreeShape) (counts : List ℕ) (documents : ℕ) (ns
 section_back shape counts documents ns lt small keeps =
     let count = nodes_count documents ns in
     record {
-      long = section_count documents ns ∙ ap (λ m. 4 + 28 * m) (sym count);
+      lengths = section_count documents ns ∙ ap (λ m. 4 + 28 * m) (sym count);
       keeps = subst (λ m. KeepAll shape counts (number_at 0 (nodes_section documents ns))
           (nodes_in m (node_bytes ns))) (sym count)
           (subst (λ (l : List Node). KeepAll shape counts (number_at 0 (nodes_section documents ns)) l)

@@ -12,7 +12,7 @@ use Rattle.agg_laws.specs.Rows.{kinds_of, merged_rows, row_weight, RowStored}
 use Rattle.agg_laws.specs.laws.Rows as rows
 use Rattle.agg_laws.specs.Merged.{add, rekey, weights}
 use Rattle.agg_laws.specs.Tree.{star, dims_order, dim, set_star, merged_docs, Nodes, none, node}
-use Rattle.agg_laws.specs.Tree.{has_star, skips, docs_with, kids_of, ids_at, star_kid, under}
+use Rattle.agg_laws.specs.Tree.{has_star, skips, docs_with, child_nodes_of, ids_at, star_child, under}
 use Rattle.agg_laws.specs.Tree.{root_of, tree_of}
 use Rattle.state_columns.specs.Docs.{Doc, HaveShape, AreStored}
 use Rattle.state_columns.specs.Documents.{aggregated, documents_of, star_docs, star_from, visit_of}
@@ -36,10 +36,10 @@ Fine k ks docs = HaveShape k ks docs × AreStored docs
 pub record Good (k : ℕ) (ks : List AggKind) (docs : List Doc) : Type 0 where
   pub shape : HaveShape k ks docs
   pub stored : AreStored docs
-  pub light : weights row_weight docs ≤ most_stored
+  pub weight_fits : weights row_weight docs ≤ most_stored
 
 good_none : (k : ℕ) (ks : List AggKind) → Good k ks []
-good_none k ks = record { shape = tt; stored = tt; light = omega arith }
+good_none k ks = record { shape = tt; stored = tt; weight_fits = omega arith }
 
 fine_append : (k : ℕ) (ks : List AggKind) (xs ys : List Doc) → Fine k ks xs → Fine k ks ys → Fine k ks (xs ++ ys)
 fine_append k ks [] ys x y = y
@@ -64,8 +64,8 @@ shape_merged k ks (e ∷ es) h = shape_add k ks e.0 e.1 (merged_docs merged_rows
 
 good_merged : (k : ℕ) (ks : List AggKind) (docs : List Doc) → Good k ks docs → Good k ks (merged_docs merged_rows docs)
 good_merged k ks docs g =
-    let light = weights-Merged row_weight dims_order merged_rows rows.row_weight_both docs in
-    record { shape = shape_merged k ks docs g.shape; stored = stored-merged docs g.stored g.light; light = omega (arith, light, g.light) }
+    let weight_fits = weights-Merged row_weight dims_order merged_rows rows.row_weight_both docs in
+    record { shape = shape_merged k ks docs g.shape; stored = stored-merged docs g.stored g.weight_fits; weight_fits = omega (arith, weight_fits, g.weight_fits) }
 
 shape_rekey : (k : ℕ) (ks : List AggKind) (f : List ℕ → List ℕ) (docs : List Doc) → ((xs : List ℕ) → length (f xs) ≡ length xs) → HaveShape k ks docs → HaveShape k ks (rekey f docs)
 shape_rekey k ks f [] same h = tt
@@ -80,7 +80,7 @@ weights_rekey f [] = refl
 weights_rekey f (e ∷ es) = ap (λ n. row_weight e.1 + n) (weights_rekey f es)
 
 good_rekey : (k : ℕ) (ks : List AggKind) (f : List ℕ → List ℕ) (docs : List Doc) → ((xs : List ℕ) → length (f xs) ≡ length xs) → Good k ks docs → Good k ks (rekey f docs)
-good_rekey k ks f docs same g = record { shape = shape_rekey k ks f docs same g.shape; stored = stored_rekey f docs g.stored; light = omega (arith, weights_rekey f docs, g.light) }
+good_rekey k ks f docs same g = record { shape = shape_rekey k ks f docs same g.shape; stored = stored_rekey f docs g.stored; weight_fits = omega (arith, weights_rekey f docs, g.weight_fits) }
 
 shape_filter : (k : ℕ) (ks : List AggKind) (p : Doc → Bool) (docs : List Doc) → HaveShape k ks docs → HaveShape k ks (filter p docs)
 shape_filter k ks p [] h = tt
@@ -97,27 +97,27 @@ stored_filter p (e ∷ es) h =
 good_with : (k : ℕ) (ks : List AggKind) (d v : ℕ) (docs : List Doc) → Good k ks docs → Good k ks (docs_with d v docs)
 good_with k ks d v docs g =
     let p : Doc → Bool = λ e. dim d e.0 == v in
-    let light = weights-filter row_weight p docs in
-    record { shape = shape_filter k ks p docs g.shape; stored = stored_filter p docs g.stored; light = omega (arith, light, g.light) }
+    let weight_fits = weights-filter row_weight p docs in
+    record { shape = shape_filter k ks p docs g.shape; stored = stored_filter p docs g.stored; weight_fits = omega (arith, weight_fits, g.weight_fits) }
 
 -- ---- nodes with such documents
 
 abbrev pub AreGood : ℕ → List AggKind → Nodes (List AggState) → Type 0
 AreGood k ks none = Unit {0}
-AreGood k ks (node id docs kids rest) = Good k ks docs × AreGood k ks kids × AreGood k ks rest
+AreGood k ks (node id docs subtrees rest) = Good k ks docs × AreGood k ks subtrees × AreGood k ks rest
 
 module _ (k : ℕ) (ks : List AggKind) where
-  kids_good : (below : List Doc → Nodes (List AggState)) → ((docs : List Doc) → Good k ks docs → AreGood k ks (below docs)) → (d : ℕ) (docs : List Doc) (last : Nodes (List AggState)) → Good k ks docs → AreGood k ks last → (vs : List ℕ)
-      → AreGood k ks (kids_of below d docs last vs)
-  kids_good below each d docs last g l [] = l
-  kids_good below each d docs last g l (v ∷ vs) =
+  children_good : (below : List Doc → Nodes (List AggState)) → ((docs : List Doc) → Good k ks docs → AreGood k ks (below docs)) → (d : ℕ) (docs : List Doc) (last : Nodes (List AggState)) → Good k ks docs → AreGood k ks last → (vs : List ℕ)
+      → AreGood k ks (child_nodes_of below d docs last vs)
+  children_good below each d docs last g l [] = l
+  children_good below each d docs last g l (v ∷ vs) =
       let own = good_with k ks d v docs g in
-      (own, each (docs_with d v docs) own, kids_good below each d docs last g l vs)
+      (own, each (docs_with d v docs) own, children_good below each d docs last g l vs)
 
   starred_good : (d : ℕ) (docs : List Doc) → Good k ks docs → Good k ks (merged_docs merged_rows (rekey (set_star d) docs))
   starred_good d docs g = good_merged k ks (rekey (set_star d) docs) (good_rekey k ks (set_star d) docs (λ xs. length-set xs d star) g)
 
-  star_good : (below : List Doc → Nodes (List AggState)) → ((docs : List Doc) → Good k ks docs → AreGood k ks (below docs)) → (shape : TreeShape) (d : ℕ) (docs : List Doc) → Good k ks docs → AreGood k ks (star_kid merged_rows below shape d docs)
+  star_good : (below : List Doc → Nodes (List AggState)) → ((docs : List Doc) → Good k ks docs → AreGood k ks (below docs)) → (shape : TreeShape) (d : ℕ) (docs : List Doc) → Good k ks docs → AreGood k ks (star_child merged_rows below shape d docs)
   star_good below each shape d docs g =
       let own = starred_good d docs g in
       let starred : List Doc = merged_docs merged_rows (rekey (set_star d) docs) in
@@ -128,8 +128,8 @@ module _ (k : ℕ) (ks : List AggKind) where
   under_good shape (suc more) d docs g =
       let below : List Doc → Nodes (List AggState) = under merged_rows shape more (suc d) in
       let each : (ds : List Doc) → Good k ks ds → AreGood k ks (below ds) = λ ds. under_good shape more (suc d) ds in
-      let all : Nodes (List AggState) = kids_of below d docs (star_kid merged_rows below shape d docs) (ids_at merged_rows d docs) in
-      let split : AreGood k ks all = kids_good below each d docs (star_kid merged_rows below shape d docs) g (star_good below each shape d docs g) (ids_at merged_rows d docs) in
+      let all : Nodes (List AggState) = child_nodes_of below d docs (star_child merged_rows below shape d docs) (ids_at merged_rows d docs) in
+      let split : AreGood k ks all = children_good below each d docs (star_child merged_rows below shape d docs) g (star_good below each shape d docs g) (ids_at merged_rows d docs) in
       elim (nat_le (length docs) shape.leaf) as (λ b. AreGood k ks (cond b none all)) [ true ↦ tt | false ↦ split ]
 
   root_good : (shape : TreeShape) (n : ℕ) (docs : List Doc) → Good k ks docs → AreGood k ks (root_of merged_rows shape n docs)
@@ -152,32 +152,32 @@ module _ (k : ℕ) (ks : List AggKind) where
   none_fine : Fine k ks []
   none_fine = (tt, tt)
 
-  star_fine : (kids : Nodes (List AggState)) → AreGood k ks kids → Fine k ks (star_docs kids)
+  star_fine : (subtrees : Nodes (List AggState)) → AreGood k ks subtrees → Fine k ks (star_docs subtrees)
   star_fine none g = none_fine
-  star_fine (node id docs kids rest) g =
+  star_fine (node id docs subtrees rest) g =
       let own = fine docs g.0 in
       let more = star_fine rest g.2 in
       elim (id == star) as (λ b. Fine k ks (cond b docs (star_docs rest))) [ true ↦ own | false ↦ more ]
 
-  visit_fine : (d : ℕ) (docs : List Doc) (kids : Nodes (List AggState)) (below : List Doc) → Good k ks docs → AreGood k ks kids → Fine k ks below → Fine k ks (visit_of merged_rows d docs kids below)
+  visit_fine : (d : ℕ) (docs : List Doc) (subtrees : Nodes (List AggState)) (below : List Doc) → Good k ks docs → AreGood k ks subtrees → Fine k ks below → Fine k ks (visit_of merged_rows d docs subtrees below)
   visit_fine d docs none below g h b =
       let total = total_fine d docs g in
       elim (length docs == 1) as (λ b. Fine k ks (cond b [] (aggregated merged_rows d docs))) [ true ↦ none_fine | false ↦ total ]
-  visit_fine d docs (node id own kids rest) below g h b =
-      let all : Nodes (List AggState) = node id own kids rest in
+  visit_fine d docs (node id own subtrees rest) below g h b =
+      let all : Nodes (List AggState) = node id own subtrees rest in
       let total = total_fine d docs g in
       let last : Fine k ks (cond (has_star all) [] (aggregated merged_rows d docs)) = elim (has_star all) as (λ b. Fine k ks (cond b [] (aggregated merged_rows d docs))) [ true ↦ none_fine | false ↦ total ] in
       fine_append k ks (star_docs all) (below ++ cond (has_star all) [] (aggregated merged_rows d docs)) (star_fine all h) (fine_append k ks below (cond (has_star all) [] (aggregated merged_rows d docs)) b last)
 
   visits_fine : (d : ℕ) (ns : Nodes (List AggState)) → AreGood k ks ns → Fine k ks (visits_of merged_rows d ns)
   visits_fine d none g = none_fine
-  visits_fine d (node id docs kids rest) g =
-      fine_append k ks (visit_of merged_rows d docs kids (visits_of merged_rows (suc d) kids)) (visits_of merged_rows d rest) (visit_fine d docs kids (visits_of merged_rows (suc d) kids) g.0 g.1 (visits_fine (suc d) kids g.1)) (visits_fine d rest g.2)
+  visits_fine d (node id docs subtrees rest) g =
+      fine_append k ks (visit_of merged_rows d docs subtrees (visits_of merged_rows (suc d) subtrees)) (visits_of merged_rows d rest) (visit_fine d docs subtrees (visits_of merged_rows (suc d) subtrees) g.0 g.1 (visits_fine (suc d) subtrees g.1)) (visits_fine d rest g.2)
 
   documents_fine : (tree : Nodes (List AggState)) → AreGood k ks tree → Fine k ks (documents_of merged_rows tree)
   documents_fine none g = none_fine
-  documents_fine (node id docs kids rest) g =
-      fine_append k ks docs (visit_of merged_rows 0 docs kids (visits_of merged_rows 1 kids)) (fine docs g.0) (visit_fine 0 docs kids (visits_of merged_rows 1 kids) g.0 g.1 (visits_fine 1 kids g.1))
+  documents_fine (node id docs subtrees rest) g =
+      fine_append k ks docs (visit_of merged_rows 0 docs subtrees (visits_of merged_rows 1 subtrees)) (fine docs g.0) (visit_fine 0 docs subtrees (visits_of merged_rows 1 subtrees) g.0 g.1 (visits_fine 1 subtrees g.1))
 
 -- the documents of a tree, written flat
 pub tree_fine : (shape : TreeShape) (k : ℕ) (ks : List AggKind) (docs : List Doc) → Good k ks docs → Fine k ks (flat merged_rows (tree_of merged_rows shape k docs)).1

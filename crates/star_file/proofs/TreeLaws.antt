@@ -68,7 +68,7 @@ zero_or (suc n) = inr (omega arith)
 pub tree_keeps : (shape : TreeShape) (docs : List Doc) (counts : List ℕ) → HaveIds shape.dims docs → HaveNoStar shape.dims docs → ((d : ℕ) → count_at counts d ≤ star) → AreCounted shape.dims counts docs
     → tree_bytes merged_rows (4 * shape.dims + widths shape.kinds) (tree_of merged_rows shape shape.dims docs) ≤ most_bytes
     → KeepAll shape counts (length (flat merged_rows (tree_of merged_rows shape shape.dims docs)).1) (flat merged_rows (tree_of merged_rows shape shape.dims docs)).0
-tree_keeps shape docs counts ids no_star few counted small =
+tree_keeps shape docs counts ids no_star at_most counted small =
     let f = flat merged_rows (tree_of merged_rows shape shape.dims docs) in
     let merged : List Doc = merged_docs merged_rows docs in
     let both = alike shape shape.dims merged in
@@ -80,7 +80,7 @@ tree_keeps shape docs counts ids no_star few counted small =
       );
       bytes = let m = mul_comm width (length f.1) in omega (arith, m, small);
       root = λ some. root_is shape shape.dims merged some;
-      each = λ at lt. rules_kept merged_rows rows_join shape shape.dims docs ids no_star counts few counted at lt;
+      each = λ at lt. rules_kept merged_rows rows_join shape shape.dims docs ids no_star counts at_most counted at lt;
     }
 
 -- there are documents exactly where there are rows
@@ -111,11 +111,11 @@ agreed (p ∷ ps) (x ∷ xs) (suc i) h = agreed ps xs i (second ((p == star) || 
 
 -- where some rows agree with a path, its ids are below their counts, or the star
 path_below : (k : ℕ) (counts path : List ℕ) (rows : List Doc) (i : ℕ) → AreCounted k counts rows → i < k → count_at counts i ≤ star → 0 < length (rows_at path rows) → dim i path ≤ star
-path_below k counts path [] i counted lt few some = absurd (omega (arith, some))
-path_below k counts path (e ∷ es) i counted lt few some =
+path_below k counts path [] i counted lt at_most some = absurd (omega (arith, some))
+path_below k counts path (e ∷ es) i counted lt at_most some =
     elim (agrees path e.0) as (λ b. agrees path e.0 ≡ b → 0 < length (cond b (e ∷ rows_at path es) (rows_at path es)) → dim i path ≤ star) [
-      | true ↦ λ is more. elim (agreed path e.0 i is) [ inl starred ↦ omega (arith, starred) | inr same ↦ omega (arith, same, counted.0 i lt, few) ]
-      | false ↦ λ is more. path_below k counts path es i counted.1 lt few more
+      | true ↦ λ is more. elim (agreed path e.0 i is) [ inl starred ↦ omega (arith, starred) | inr same ↦ omega (arith, same, counted.0 i lt, at_most) ]
+      | false ↦ λ is more. path_below k counts path es i counted.1 lt at_most more
     ] refl some
 
 docs_some : (from to : ℕ) (docs all : List Doc) → from < to → to ≤ length all → range from to all ≡ docs → 0 < length docs
@@ -129,8 +129,8 @@ none_length path rows docs is some =
     ]
 
 path_id : (k : ℕ) (counts path : List ℕ) (rows : List Doc) → AreCounted k counts rows → length path ≤ k → ((d : ℕ) → count_at counts d ≤ star) → 0 < length (rows_at path rows) → dim (length path - 1) path ≤ star
-path_id k counts [] rows counted short few some = omega arith
-path_id k counts (p ∷ ps) rows counted short few some = path_below k counts (p ∷ ps) rows (length (p ∷ ps) - 1) counted (omega arith) (few (length (p ∷ ps) - 1)) some
+path_id k counts [] rows counted short at_most some = omega arith
+path_id k counts (p ∷ ps) rows counted short at_most some = path_below k counts (p ∷ ps) rows (length (p ∷ ps) - 1) counted (omega arith) (at_most (length (p ∷ ps) - 1)) some
 
 -- each number of a node has four bytes
 record IsWords (n : Node) : Type 0 where
@@ -151,7 +151,7 @@ words_each (n ∷ ns) each =
 pub tree_words : (shape : TreeShape) (docs : List Doc) (counts : List ℕ) → 1 ≤ shape.dims → shape.dims ≤ 16 → HaveIds shape.dims docs → HaveNoStar shape.dims docs → ((d : ℕ) → count_at counts d ≤ star) → AreCounted shape.dims counts docs
     → (keep : KeepAll shape counts (length (flat merged_rows (tree_of merged_rows shape shape.dims docs)).1) (flat merged_rows (tree_of merged_rows shape shape.dims docs)).0)
     → AreWords (flat merged_rows (tree_of merged_rows shape shape.dims docs)).0
-tree_words shape docs counts some narrow ids no_star few counted keep =
+tree_words shape docs counts some narrow ids no_star at_most counted keep =
     let k : ℕ = shape.dims in
     let f = flat merged_rows (tree_of merged_rows shape k docs) in
     let width : ℕ = 4 * k + widths shape.kinds in
@@ -160,8 +160,8 @@ tree_words shape docs counts some narrow ids no_star few counted keep =
     let r = keep.each at lt in
     let t : IsOfTree merged_rows shape k docs at f = nodes_of_tree merged_rows rows_join shape k docs ids no_star at lt in
     let there = docs_some (node_at f.0 at).start (node_at f.0 at).end t.docs f.1 t.is.docs_are.order t.is.docs_are.inside t.is.docs_are.docs_are in
-    let id : dim (length t.path - 1) t.path ≤ star = path_id k counts t.path docs counted (omega (arith, t.levels_are)) few (none_length t.path docs t.docs t.covers.docs_are there) in
-    let kids : ((node_at f.0 at).first < 2 ^ 32) × ((node_at f.0 at).children < 2 ^ 32) =
+    let id : dim (length t.path - 1) t.path ≤ star = path_id k counts t.path docs counted (omega (arith, t.levels_are)) at_most (none_length t.path docs t.docs t.covers.docs_are there) in
+    let subtrees : ((node_at f.0 at).first < 2 ^ 32) × ((node_at f.0 at).children < 2 ^ 32) =
     elim (zero_or (node_at f.0 at).children) [
       | inl n ↦ (omega (arith, r.leaf_first n), omega (arith, n))
       | inr more ↦ (omega (arith, r.split_last more, keep.bytes), omega (arith, r.split_last more, keep.bytes))
@@ -172,6 +172,6 @@ tree_words shape docs counts some narrow ids no_star few counted keep =
       start = omega (arith, r.order, r.inside, number);
       end = omega (arith, r.inside, number);
       total = omega (arith, r.total, number);
-      first = kids.0;
-      children = kids.1;
+      first = subtrees.0;
+      children = subtrees.1;
     })

@@ -71,7 +71,7 @@ EndsBefore held name to = IfSome held (λ files. length (bytes_of (Some files) n
 -- documents of a shape can be read, where each dimension has so many ids
 pub record AreReadable (shape : TreeShape) (counts : List ℕ) : Type 0 where
   pub counts_are : length counts ≡ shape.dims
-  pub few : length shape.kinds ≤ 16
+  pub at_most : length shape.kinds ≤ 16
 
 -- a table has a document with this number, and its documents can be written
 pub record IsWritable (at : ℕ) (table : Docs) : Type 0 where

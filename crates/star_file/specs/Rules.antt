@@ -59,7 +59,7 @@ count_in bytes = (length bytes - 4) / 28
 
 -- bytes are a section of nodes that keep all rules
 pub record KeepsSection (shape : TreeShape) (counts : List ℕ) (bytes : List ℕ) : Type 0 where
-  pub long : length bytes ≡ 4 + 28 * count_in bytes
+  pub lengths : length bytes ≡ 4 + 28 * count_in bytes
   pub keeps : KeepAll shape counts (number_at 0 bytes) (nodes_in (count_in bytes) (drop 4 bytes))
 
 -- a shape within its bounds, and how many ids each of its dimensions has

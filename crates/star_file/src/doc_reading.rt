@@ -94,7 +94,7 @@ fn between(bytes: &[u8], from: usize, to: usize) -> &[u8]
     requires order { from ≤ to }
     requires within { to ≤ length bytes.now }
     ensures part { result.now ≡ take (to - from) (drop from bytes.now) }
-    ensures long { length result.now ≡ to - from }
+    ensures lengths { length result.now ≡ to - from }
 {
     &bytes[from..to]
 }
@@ -102,7 +102,7 @@ fn between(bytes: &[u8], from: usize, to: usize) -> &[u8]
 // The states of a document, each in as many bytes as its kind has.
 fn read_states(bytes: &[u8], kinds: &[AggKind], states: &mut Vec<AggState>) -> Result<(), DocsFault>
     requires width { length bytes.now ≡ widths kinds.now }
-    requires few { length kinds.now ≤ 16 }
+    requires at_most { length kinds.now ≤ 16 }
     ensures kinds { OnOk result (kinds_of states.new.items ≡ kinds.now) }
     ensures stored { OnOk result (RowStored states.new.items) }
     ensures bytes { OnOk result (bytes.now ≡ state_bytes states.new.items) }

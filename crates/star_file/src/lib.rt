@@ -2,9 +2,9 @@
 #![tactic(auto)]
 
 mod checking;
+mod children;
 mod doc_reading;
 mod docs_fault;
-mod kids;
 mod laws;
 mod node_list;
 mod part;

@@ -2,10 +2,10 @@
 
 ghost use Rattle.std.specs.Prelude.{◌≡◌, ◌≤◌, ◌<◌, ◌+◌, ◌-◌, ◌*◌, ◌↔◌, ◌⊎◌, IsTrue, length, ℕ};
 ghost use Rattle.state_columns.specs.Region.{range};
-ghost use Rattle.star_tree.specs.NodeRules.{KeepKidsRules, KeepsRules, IsRoot};
+ghost use Rattle.star_tree.specs.NodeRules.{KeepChildrenRules, KeepsRules, IsRoot};
 ghost use Rattle.star_file.specs.Rules.{widths, IsCounted, KeepAll};
 
-use crate::kids::kids_keep;
+use crate::children::children_keep;
 use agg_laws::{AggKind, TreeShape};
 use star_tree::Node;
 use state_columns::STAR;
@@ -87,7 +87,7 @@ fn leaf_keeps(shape: &TreeShape, node: &Node) -> bool
 fn split_keeps(tree: &CheckedTree<'_>, at: usize, node: &Node) -> bool
     ensures { IsTrue result ↔ ((node.now.level < tree.now.shape.now.dims) × (at < node.now.first)
         × (node.now.first + node.now.children ≤ length tree.now.nodes.now)
-        × KeepKidsRules tree.now.shape.now tree.now.counts.now node.now.level node.now.start
+        × KeepChildrenRules tree.now.shape.now tree.now.counts.now node.now.level node.now.start
         node.now.end (range node.now.first (node.now.first + node.now.children)
         tree.now.nodes.now)) }
 {
@@ -96,7 +96,7 @@ fn split_keeps(tree: &CheckedTree<'_>, at: usize, node: &Node) -> bool
     if node.level >= tree.shape.dims as u32 || first <= at || end > tree.nodes.len() {
         return false;
     }
-    kids_keep(tree.shape, tree.counts, node, &tree.nodes[first..end])
+    children_keep(tree.shape, tree.counts, node, &tree.nodes[first..end])
 }
 
 // Whether a node keeps the rules.

@@ -59,7 +59,7 @@ fn push_node(node: &Node, out: &mut Vec<u8>) -> Result<(), NoMemory>
 
 /// Appends the documents of a tree.
 pub fn write_docs(tree: &StarTree, out: &mut Vec<u8>) -> Result<(), NoMemory>
-    requires few { length tree.now.docs.docs < 2 ^ 32 }
+    requires at_most { length tree.now.docs.docs < 2 ^ 32 }
     requires kinds { length tree.now.docs.kinds ≤ 16 }
     ensures ok { OnOk result (out.new.items ≡ out.old.items ++ doc_bytes tree.now.docs.docs) }
     ensures err { OnErr result (out.new.items ≡ out.old.items) }
@@ -73,7 +73,7 @@ pub fn write_docs(tree: &StarTree, out: &mut Vec<u8>) -> Result<(), NoMemory>
 }
 
 fn push_docs(docs: &StarTable, out: &mut Vec<u8>) -> Result<(), NoMemory>
-    requires few { length docs.now.docs < 2 ^ 32 }
+    requires at_most { length docs.now.docs < 2 ^ 32 }
     requires kinds { length docs.now.kinds ≤ 16 }
     ensures { Adds (doc_bytes docs.now.docs)
         out.old.items out.new.items result }

@@ -130,13 +130,13 @@ picked_start tree task asked rows ps shelf table within dims kinds none = record
     each = refl;
     told = none_told tree shelf.held;
     docs_are = none;
-    few = (let e = ap length none in omega (arith, e));
+    at_most = (let e = ap length none in omega (arith, e));
     selected = record {
       dims = dims;
       kinds = kinds;
       may = subst (MayBeSelected asked.columns.now rows) (sym none) (record {
         keyed = All-nil (λ e. AreKeyIds asked.columns.now e.0);
-        light = omega arith;
+        weight_fits = omega arith;
       });
     };
   };
@@ -158,8 +158,8 @@ length_selected : (asked : Asked) (t : asks.Task) (k level : ℕ) (docs : List D
     → length (selected_docs asked (left_of t k level docs)) ≤ length docs
 length_selected asked t k level docs =
     let same = length-map (left_of t k level docs) (selected_doc asked) in
-    let few = filter_few (λ e. holds_from t (k - level) level e.0) docs in
-    omega (arith, same, few)
+    let at_most = filter_few (λ e. holds_from t (k - level) level e.0) docs in
+    omega (arith, same, at_most)
   where
     filter_few : (p : Doc → Bool) (xs : List Doc) → length (filter p xs) ≤ length xs
     filter_few p [] = omega arith
@@ -244,9 +244,9 @@ module _ (tree : TreePart) (task : Task) (asked : Asked) (rows : ℕ) (ps : List
       let t = asked_of task in
       let done = take i ps in
       let more = passed_more t k done picked.read p docs picked.each in
-      let long = ap length docs_are in
+      let lengths = ap length docs_are in
       let sum = length-append table.docs (selected_docs asked (left_of t k p.level docs)) in
-      let few = length_selected asked t k p.level docs in
+      let at_most = length_selected asked t k p.level docs in
       let reads_more = read_of-append done (p ∷ []) in
       let as_many = length-append picked.read (docs ∷ []) in
       let done_many = length-append done (p ∷ []) in
@@ -267,7 +267,7 @@ module _ (tree : TreePart) (task : Task) (asked : Asked) (rows : ℕ) (ps : List
               ∙ sym (map-append (selected_doc asked) (passed t k done picked.read)
               (left_of t k p.level docs))
               ∙ ap (selected_docs asked) (sym more);
-          few = omega (arith, long, sum, few, number, reads_more, picked.few);
+          at_most = omega (arith, lengths, sum, at_most, number, reads_more, picked.at_most);
           selected = selected;
         });
       }

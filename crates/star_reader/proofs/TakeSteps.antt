@@ -97,7 +97,7 @@ pub may_first : (columns : List GroupColumn) (rows : ℕ) (xs ys : List Doc)
     → MayBeSelected columns rows (xs ++ ys) → MayBeSelected columns rows xs
 may_first columns rows xs ys h = record {
   keyed = first_all xs ys h.keyed;
-  light = (let w = weights-append row_weight xs ys in omega (arith, w, h.light));
+  weight_fits = (let w = weights-append row_weight xs ys in omega (arith, w, h.weight_fits));
 }
   where
     first_all : (xs ys : List Doc) → All (λ e. AreKeyIds columns e.0) (xs ++ ys)
@@ -118,12 +118,12 @@ module _ (asked : Asked) (rows : ℕ) (docs : List Doc) (e : Doc) where
   pub may_more : MayBeSelected asked.columns.now rows docs → HasKey asked.columns.now e.0
       → row_weight (states_of asked.pairs.now e.1) + weights row_weight docs ≤ rows
       → MayBeSelected asked.columns.now rows (docs ++ selected_doc asked e ∷ [])
-  may_more h has light = record {
+  may_more h has weight_fits = record {
     keyed = All-append (λ e. AreKeyIds asked.columns.now e.0) docs (selected_doc asked e ∷ []) h.keyed
         (All-cons (λ e. AreKeyIds asked.columns.now e.0) (selected_doc asked e) []
         (keyed_from asked.columns.now e.0 has) (All-nil (λ e. AreKeyIds asked.columns.now e.0)));
-    light = (let w = weights-append row_weight docs (selected_doc asked e ∷ []) in
-        omega (arith, w, light));
+    weight_fits = (let w = weights-append row_weight docs (selected_doc asked e ∷ []) in
+        omega (arith, w, weight_fits));
   }
 
   pub may_key : MayBeSelected asked.columns.now rows (docs ++ selected_doc asked e ∷ [])
@@ -134,7 +134,7 @@ module _ (asked : Asked) (rows : ℕ) (docs : List Doc) (e : Doc) where
   pub may_weigh : MayBeSelected asked.columns.now rows (docs ++ selected_doc asked e ∷ [])
       → weights row_weight docs + row_weight (states_of asked.pairs.now e.1) ≤ rows
   may_weigh h = let w = weights-append row_weight docs (selected_doc asked e ∷ []) in
-      omega (arith, w, h.light)
+      omega (arith, w, h.weight_fits)
 
 -- ---- a document of a table is selected
 
@@ -153,10 +153,10 @@ module _ (t : Docs) (at : ℕ) (shape : TreeShape) (asked : Asked) (lt : at < le
 
   pub own_states_stored : RowStored (states_of asked.pairs.now own.1)
   own_states_stored =
-      let long : length own.1 ≡ length shape.kinds = sym (length-kinds_of own.1) ∙ ap length own_kinds
+      let lengths : length own.1 ≡ length shape.kinds = sym (length-kinds_of own.1) ∙ ap length own_kinds
       in
       stored_states asked.pairs.now own.1 (stored_at t.docs at stored lt)
-      (λ k d h. omega (arith, ask.pairs k d h, long))
+      (λ k d h. omega (arith, ask.pairs k d h, lengths))
 
 -- the table with one document more
 pub record Appended (asked : Asked) (e : Doc) (old new : Docs) : Type 0 where
@@ -187,9 +187,9 @@ pub selected_more : (shape : TreeShape) (asked : Asked) (rows : ℕ) (e : Doc) (
     → IsSelected shape asked rows old → Appended asked e old new → HasKey asked.columns.now e.0
     → w ≡ row_weight (states_of asked.pairs.now e.1) → w + weights row_weight old.docs ≤ rows
     → IsSelected shape asked rows new
-selected_more shape asked rows e old new w is a has weighs light = record {
+selected_more shape asked rows e old new w is a has weighs weight_fits = record {
   dims = a.dims ∙ is.dims;
   kinds = a.kinds ∙ is.kinds;
   may = subst (MayBeSelected asked.columns.now rows) (sym a.docs)
-      (may_more asked rows old.docs e is.may has (omega (arith, weighs, light)));
+      (may_more asked rows old.docs e is.may has (omega (arith, weighs, weight_fits)));
 }

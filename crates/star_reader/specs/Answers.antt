@@ -26,7 +26,7 @@ use Rattle.star_reader.specs.Entries.{MergesEntries, with_entries}
 -- nodes of some documents that keep all rules, and a count for each dimension
 pub record IsTree (tree : TreePart) (task : Task) : Type 0 where
   pub documents : ℕ
-  pub few : documents < 2 ^ 32
+  pub at_most : documents < 2 ^ 32
   pub keep : KeepAll tree.shape.now tree.counts.now documents tree.nodes.now
   pub some_dims : 1 ≤ tree.shape.now.dims
   pub few_dims : tree.shape.now.dims ≤ 16
@@ -81,7 +81,7 @@ pub record Answers (tree : TreePart) (task : Task) (asked : Asked) (rows : ℕ) 
   pub read : List (List Doc)
   pub told : TellsRead tree held (reads_of tree task) read
   pub sound : AreSound asked rows (selected_of tree task read)
-  pub few : read_of (picks_of tree task) ≤ rows
+  pub at_most : read_of (picks_of tree task) ≤ rows
   pub merged : MergesEntries rows (entries_of asked (selected_of tree task read)) old new
 
 -- the documents of the picks were read, and with those that pass their remaining tests there are

@@ -45,7 +45,7 @@ HasKey columns ids =
 -- documents that may be merged: each has a key, and together they stand for at most so many rows
 pub record AreSound (asked : Asked) (rows : ℕ) (docs : List Doc) : Type 0 where
   pub keyed : All (λ e. HasKey asked.columns.now e.0) docs
-  pub light : weights row_weight (entries_of asked docs) ≤ rows
+  pub weight_fits : weights row_weight (entries_of asked docs) ≤ rows
 
 -- the kinds of the aggregates
 abbrev pub kinds_for : List ℕ → List AggKind → List AggKind

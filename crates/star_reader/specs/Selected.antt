@@ -55,7 +55,7 @@ AreKeyIds (column ∷ columns) (id ∷ ids) =
 -- each document has such ids, and together they stand for at most so many rows
 pub record MayBeSelected (columns : List GroupColumn) (rows : ℕ) (docs : List Doc) : Type 0 where
   pub keyed : All (λ e. AreKeyIds columns e.0) docs
-  pub light : weights row_weight docs ≤ rows
+  pub weight_fits : weights row_weight docs ≤ rows
 
 -- a table of documents that are selected
 pub record IsSelected (shape : TreeShape) (asked : Asked) (rows : ℕ) (table : Docs) : Type 0 where
@@ -72,7 +72,7 @@ pub record ArePicked (tree : TreePart) (task : Task) (asked : Asked) (rows : ℕ
   pub told : TellsRead tree held ps read
   pub docs_are : table.docs
       ≡ selected_docs asked (passed (asked_of task) (length task.matched) ps read)
-  pub few : length table.docs ≤ read_of ps
+  pub at_most : length table.docs ≤ read_of ps
   pub selected : IsSelected tree.shape.now asked rows table
 
 -- what the fault of documents is for an answer

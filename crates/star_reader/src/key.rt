@@ -18,7 +18,7 @@ pub fn key_at(
     at: u32,
 ) -> Result<Row, NoMemory>
     requires at { at < length selected.now.docs }
-    requires few { length columns.now ≤ 16 }
+    requires at_most { length columns.now ≤ 16 }
     requires dims { selected.now.dims ≡ length columns.now }
     requires ids { AreKeyIds columns.now (doc_at selected.now.docs at).0 }
     ensures { IfOk result (λ key. key ≡ key_values columns.now (doc_at selected.now.docs at).0) }

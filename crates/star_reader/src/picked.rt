@@ -36,7 +36,7 @@ pub fn take_picks<S: Shelf>(
     requires tree { IsTree tree.now task.now }
     requires asked { AreAsked tree.now.shape.now asked.now }
     requires within { (documents : ℕ) × AreWithin documents (length task.now.matched) picks.now }
-    requires few { read_of picks.now ≤ rows }
+    requires at_most { read_of picks.now ≤ rows }
     requires rows { rows ≤ most_stored }
     ensures selected { IfOk result
         (ArePicked tree.now task.now asked.now rows (S.held shelf.old) picks.now) }

@@ -34,7 +34,7 @@ pub struct Selected {
 impl Selected {
     /// No documents.
     pub fn new(alloc: Global, asked: &Asked<'_>, shape: &TreeShape) -> Result<Selected, AllocError>
-        requires few { length shape.now.kinds ≤ 16 }
+        requires at_most { length shape.now.kinds ≤ 16 }
         requires asked { AreAsked shape.now asked.now }
         ensures dims { IfOk result (λ selected. selected.table.dims
             ≡ length asked.now.columns.now) }
@@ -68,7 +68,7 @@ impl Selected {
         rows: u32,
     ) -> Result<bool, AllocError>
         requires each { HasEach task.now.matched task.now.grouped }
-        requires few { length task.now.matched ≤ 16 }
+        requires at_most { length task.now.matched ≤ 16 }
         requires dims { table.now.dims ≡ length task.now.matched }
         requires level { level ≤ length task.now.matched }
         requires small { length table.now.docs < 2 ^ 32 }

@@ -47,10 +47,10 @@ own_row row lt =
 
 pub own_rows : (n : ℕ) (rows : List ℕ) → n ≤ 2 ^ 20 → All (λ row. row < n) rows
     → All (λ word. row_in word < n) rows
-own_rows n rows few below k d lt =
+own_rows n rows at_most below k d lt =
     let row = get_or rows k d in
     let b : row < n = below k d lt in
-    subst (λ r. r < n) (sym (own_row row (omega (arith, b, few)))) b
+    subst (λ r. r < n) (sym (own_row row (omega (arith, b, at_most)))) b
 
 -- a range of words
 module _ (words : List ℕ) (from to : ℕ) (le : from ≤ to) (within : to ≤ length words) where
@@ -81,8 +81,8 @@ all_below n words perm i d lt = row_below n words i (row_in (get_or words i d)) 
 pub in_columns : {X : Type 0} (n : ℕ) (words : List ℕ) (columns : List (List X))
     → All (λ (c : List X). length c ≡ n) columns → All (λ word. row_in word < n) words
     → All (λ (c : List X). All (λ word. row_in word < length c) words) columns
-in_columns n words columns long below i c lt j w h =
-    let a = long i c lt in
+in_columns n words columns lengths below i c lt j w h =
+    let a = lengths i c lt in
     let b = below j w h in
     omega (arith, a, b)
 
@@ -90,25 +90,25 @@ in_columns n words columns long below i c lt j w h =
 module _ (words : List ℕ) (from at : ℕ) (heads slots slots' : List ℕ)
     (h : AreHeads words from at heads slots) (lo : from ≤ at) (lt : at < length words)
     (is : slots' ≡ slots ++ (length heads ∷ [])) where
-  long' : length slots' ≡ at + 1 - from
-  long' =
+  lengths' : length slots' ≡ at + 1 - from
+  lengths' =
       let a = ap length is in
       let b = length-append slots (length heads ∷ []) in
-      omega (arith, a, b, h.long, lo)
+      omega (arith, a, b, h.lengths, lo)
 
   before : (k : ℕ) → k < at - from → get_or slots' k 0 ≡ get_or slots k 0
   before k l = ap (λ (xs : List ℕ). get_or xs k 0) is
-      ∙ get_or_append_left slots (length heads ∷ []) 0 k (omega (arith, l, h.long))
+      ∙ get_or_append_left slots (length heads ∷ []) 0 k (omega (arith, l, h.lengths))
 
   own : get_or slots' (at - from) 0 ≡ length heads
   own = ap (λ (xs : List ℕ). get_or xs (at - from) 0) is
-      ∙ get_or_at slots (length heads) [] 0 (at - from) h.long
+      ∙ get_or_at slots (length heads) [] 0 (at - from) h.lengths
 
   -- it has the key of the one before
   pub passed : (0 < at) × (key_in (get_or words (at - 1) 0) ≡ key_in (get_or words at 0))
       → AreHeads words from (at + 1) heads slots'
   passed same = record {
-    long = long';
+    lengths = lengths';
     among = h.among;
     place = λ k l other. placed k (cases_lt k (at - from)) l other;
   }
@@ -129,7 +129,7 @@ module _ (words : List ℕ) (from at : ℕ) (heads slots slots' : List ℕ)
   pub taken : (heads' : List ℕ) → heads' ≡ heads ++ (get_or words at 0 ∷ [])
       → AreHeads words from (at + 1) heads' slots'
   taken heads' more_is = record {
-    long = long';
+    lengths = lengths';
     among = λ n below. all_more n below;
     place = λ k l other. placed k (cases_lt k (at - from)) l other;
   }
@@ -200,10 +200,10 @@ module _ {X : Type 0} (d : X) (words : List ℕ) (from to : ℕ) (le : from ≤ 
       → row_at d (i - from) block ≡ row_at d (row_in (get_or words i 0)) columns
   block_row ws part is i low high =
       let lt : i - from < to - from = omega (arith, low, high) in
-      let long = ap length part ∙ part_long words from to le within in
+      let lengths = ap length part ∙ part_long words from to le within in
       let at : from + (i - from) ≡ i = omega (arith, low) in
       ap (row_at d (i - from)) is
-      ∙ row_picked d (i - from) ws columns (omega (arith, long, lt))
+      ∙ row_picked d (i - from) ws columns (omega (arith, lengths, lt))
       ∙ ap (λ (l : List ℕ). row_at d (row_in (get_or l (i - from) 0)) columns) part
       ∙ ap (λ word. row_at d (row_in word) columns) (part_at words from to le within (i - from) 0 lt)
       ∙ ap (λ j. row_at d (row_in (get_or words j 0)) columns) at
@@ -212,9 +212,9 @@ module _ {X : Type 0} (d : X) (words : List ℕ) (from to : ℕ) (le : from ≤ 
       → block ≡ picked d ws columns → (i : ℕ) → from ≤ i → i < to
       → All (λ (c : List X). i - from < length c) block
   block_long ws part is i low high =
-      let long = ap length part ∙ part_long words from to le within in
+      let lengths = ap length part ∙ part_long words from to le within in
       subst (All (λ (c : List X). i - from < length c)) (sym is)
-      (long_picked d (i - from) ws columns (omega (arith, long, low, high)))
+      (long_picked d (i - from) ws columns (omega (arith, lengths, low, high)))
 
   -- that of a word that has not the key of the one before it
   module _ (heads slots : List ℕ) (are : AreHeads words from to heads slots)
@@ -255,9 +255,9 @@ zeros_picked column (w ∷ ws) d none below =
 pub zeros_alone : (numbers : PairNumbers) (rows : ℕ) → numbers ≡ pair.Zeros rows
     → AllZero (numbers_of numbers)
 zeros_alone numbers rows is =
-    let long = length-replicate rows (pos 0) in
+    let lengths = length-replicate rows (pos 0) in
     let alone : AllZero (replicate rows (pos 0)) =
-    λ i lt. get_or-replicate rows i (pos 0) (pos 0) (omega (arith, lt, long)) in
+    λ i lt. get_or-replicate rows i (pos 0) (pos 0) (omega (arith, lt, lengths)) in
     subst (λ p. AllZero (numbers_of p)) (sym is) alone
 
 -- one more mark
@@ -266,15 +266,15 @@ pub zero_more : (marks marks' : List Bool) (columns : List (List ℤ)) (i : ℕ)
     → ((k : ℕ) → k < i → get_or marks k false ≡ true → AllZero (get_or columns k []))
     → (mark ≡ true → AllZero column) → marks' ≡ marks ++ (mark ∷ [])
     → (k : ℕ) → k < i + 1 → get_or marks' k false ≡ true → AllZero (get_or columns k [])
-zero_more marks marks' columns i mark column lt is long h own more k l e =
+zero_more marks marks' columns i mark column lt is lengths h own more k l e =
     decide (cases_lt k i)
   where
     decide : k < i ⊎ (i ≤ k) → AllZero (get_or columns k [])
-    decide (inl a) = h k a (sym (get_or_append_left marks (mark ∷ []) false k (omega (arith, a, long)))
+    decide (inl a) = h k a (sym (get_or_append_left marks (mark ∷ []) false k (omega (arith, a, lengths)))
         ∙ ap (λ (xs : List Bool). get_or xs k false) (sym more) ∙ e)
     decide (inr a) =
         let n : k ≡ i = omega (arith, a, l) in
-        let marked : mark ≡ true = sym (get_or_at marks mark [] false i long)
+        let marked : mark ≡ true = sym (get_or_at marks mark [] false i lengths)
         ∙ ap (λ j. get_or (marks ++ (mark ∷ [])) j false) (sym n)
         ∙ ap (λ (xs : List Bool). get_or xs k false) (sym more) ∙ e in
         subst AllZero (is ∙ ap (λ j. get_or columns j []) (sym n)) (own marked)

@@ -198,11 +198,11 @@ module _ (ks : List AggKind) (dims : List (List ℕ)) (metrics : List (List ℤ)
 
       pub light_more : row_weight (states_at ks metrics row) ≤ 1 → weights row_weight old ≤ i
           → weights row_weight new ≤ i + 1
-      light_more one few =
+      light_more one at_most =
           let a = ap (weights row_weight) is in
           let b = weights-add row_weight dims_order merged_rows rows.row_weight_both
           (ids_at dims row) (states_at ks metrics row) old in
-          omega (arith, a, b, one, few)
+          omega (arith, a, b, one, at_most)
 
     before : ℕ
     before = get_or words (i - 1) 0

@@ -122,13 +122,13 @@ module _ (kind : AggKind) (count : ℕ) (slots : List ℕ) (numbers : List ℤ) 
 
   pub one-fits : (x : ℤ) → AreWhole numbers → IsWhole x → length numbers + 1 ≤ most_values
       → Fits (merged (state_at column slot) (state_of column.kind (x ∷ []))) most_values
-  one-fits x whole own few =
+  one-fits x whole own at_most =
       let l = in_slot-few slot slots numbers in
       states.fits_more _ (length (in_slot slot slots numbers) + 1) most_values
       (states.fits_both (state_at column slot) (state_of column.kind (x ∷ []))
       (length (in_slot slot slots numbers)) 1 (holds-fits whole)
       (states.fits_of column.kind (x ∷ []) (own, tt)))
-      (omega (arith, few, l))
+      (omega (arith, at_most, l))
 
   -- one number more
   pub holds-more : (x : ℤ) → length slots ≡ length numbers
@@ -279,22 +279,22 @@ pub slot-row : (count : ℕ) (slots : List ℕ) (ks : List AggKind) (ms : List (
     (cs : List Column) (slot : ℕ) → AllHold count slots ks ms cs
     → All (λ m. length m ≡ length slots) ms → slot < count
     → row_at cs slot ≡ row_of ks (in_slot slot slots (values_of (length slots) ms))
-slot-row count slots [] [] [] slot h long lt = refl
-slot-row count slots [] [] (d ∷ ds) slot h long lt = absurd h
-slot-row count slots [] (n ∷ ns) cs slot h long lt = absurd h
-slot-row count slots (j ∷ js) [] cs slot h long lt = absurd h
-slot-row count slots (j ∷ js) (n ∷ ns) [] slot h long lt = absurd h
-slot-row count slots (k ∷ ks) (m ∷ ms) (c ∷ cs) slot h long lt =
+slot-row count slots [] [] [] slot h lengths lt = refl
+slot-row count slots [] [] (d ∷ ds) slot h lengths lt = absurd h
+slot-row count slots [] (n ∷ ns) cs slot h lengths lt = absurd h
+slot-row count slots (j ∷ js) [] cs slot h lengths lt = absurd h
+slot-row count slots (j ∷ js) (n ∷ ns) [] slot h lengths lt = absurd h
+slot-row count slots (k ∷ ks) (m ∷ ms) (c ∷ cs) slot h lengths lt =
     let is : List ℕ = numbers_from 0 (length slots) in
     let rows : List (List ℤ) = values_of (length slots) (m ∷ ms) in
     let first : map head_of (in_slot slot slots rows) ≡ in_slot slot slots m =
     sym (in_slot-map head_of slot slots rows)
-    ∙ ap (in_slot slot slots) (heads m ms is ∙ all_items m (length slots) (long 0 m (omega arith))) in
+    ∙ ap (in_slot slot slots) (heads m ms is ∙ all_items m (length slots) (lengths 0 m (omega arith))) in
     let others : map tail_of (in_slot slot slots rows)
     ≡ in_slot slot slots (values_of (length slots) ms) =
     sym (in_slot-map tail_of slot slots rows) ∙ ap (in_slot slot slots) (tails m ms is) in
     λ i. (h.0.each slot lt ∙ ap (state_of k) (sym first)) i
-    ∷ (slot-row count slots ks ms cs slot h.2 (λ a d l. long (suc a) d (omega (arith, l))) lt
+    ∷ (slot-row count slots ks ms cs slot h.2 (λ a d l. lengths (suc a) d (omega (arith, l))) lt
     ∙ ap (row_of ks) (sym others)) i
 
 kind-of : (k : AggKind) (xs : List ℤ) → kind_of (state_of k xs) ≡ k
@@ -321,36 +321,36 @@ greatest_stored x (Some y) h = h
 
 state-stored : (k : AggKind) (xs : List ℤ) → AreWhole xs → 0 < length xs → length xs ≤ most_stored
     → IsStored (state_of k xs)
-state-stored k [] whole some few = absurd (omega (arith, some))
-state-stored kinds.Count (x ∷ xs) whole some few = (omega (arith, some), few)
-state-stored kinds.Sum (x ∷ xs) whole some few =
+state-stored k [] whole some at_most = absurd (omega (arith, some))
+state-stored kinds.Count (x ∷ xs) whole some at_most = (omega (arith, some), at_most)
+state-stored kinds.Sum (x ∷ xs) whole some at_most =
     states.fits_more (state_of kinds.Sum (x ∷ xs)) (length (x ∷ xs)) most_stored
-    (states.fits_of kinds.Sum (x ∷ xs) whole) few
-state-stored kinds.Least (x ∷ xs) whole some few =
+    (states.fits_of kinds.Sum (x ∷ xs) whole) at_most
+state-stored kinds.Least (x ∷ xs) whole some at_most =
     least_stored x (least_of xs) (states.fits_of kinds.Least (x ∷ xs) whole)
-state-stored kinds.Greatest (x ∷ xs) whole some few =
+state-stored kinds.Greatest (x ∷ xs) whole some at_most =
     greatest_stored x (greatest_of xs) (states.fits_of kinds.Greatest (x ∷ xs) whole)
-state-stored kinds.Average (x ∷ xs) whole some few =
-    ((omega (arith, some), few), (states.fits_of kinds.Average (x ∷ xs) whole).1)
+state-stored kinds.Average (x ∷ xs) whole some at_most =
+    ((omega (arith, some), at_most), (states.fits_of kinds.Average (x ∷ xs) whole).1)
 
 pub slot-stored : (count : ℕ) (slots : List ℕ) (ks : List AggKind) (ms : List (List ℤ))
     (cs : List Column) (slot at : ℕ) → AllHold count slots ks ms cs
     → All (λ m. length m ≡ length slots) ms → slot < count → length slots ≤ most_stored
     → at < length slots → get_or slots at 0 ≡ slot → RowStored (row_at cs slot)
-slot-stored count slots [] [] [] slot at h long lt few in' is = tt
-slot-stored count slots [] [] (d ∷ ds) slot at h long lt few in' is = absurd h
-slot-stored count slots [] (n ∷ ns) cs slot at h long lt few in' is = absurd h
-slot-stored count slots (j ∷ js) [] cs slot at h long lt few in' is = absurd h
-slot-stored count slots (j ∷ js) (n ∷ ns) [] slot at h long lt few in' is = absurd h
-slot-stored count slots (k ∷ ks) (m ∷ ms) (c ∷ cs) slot at h long lt few in' is =
-    let l = long 0 m (omega arith) in
+slot-stored count slots [] [] [] slot at h lengths lt at_most in' is = tt
+slot-stored count slots [] [] (d ∷ ds) slot at h lengths lt at_most in' is = absurd h
+slot-stored count slots [] (n ∷ ns) cs slot at h lengths lt at_most in' is = absurd h
+slot-stored count slots (j ∷ js) [] cs slot at h lengths lt at_most in' is = absurd h
+slot-stored count slots (j ∷ js) (n ∷ ns) [] slot at h lengths lt at_most in' is = absurd h
+slot-stored count slots (k ∷ ks) (m ∷ ms) (c ∷ cs) slot at h lengths lt at_most in' is =
+    let l = lengths 0 m (omega arith) in
     let some = in_slot-some slot slots m at (sym l) (omega (arith, in', l)) is in
     let most = in_slot-few slot slots m in (
       subst IsStored (sym (h.0.each slot lt))
           (state-stored k (in_slot slot slots m) (in_slot-whole slot slots m h.1) some
-          (omega (arith, most, l, few))),
-      slot-stored count slots ks ms cs slot at h.2 (λ a d e. long (suc a) d (omega (arith, e))) lt
-          few in' is,
+          (omega (arith, most, l, at_most))),
+      slot-stored count slots ks ms cs slot at h.2 (λ a d e. lengths (suc a) d (omega (arith, e))) lt
+          at_most in' is,
     )
 
 -- a row of values is light
@@ -362,15 +362,15 @@ whole_at (x ∷ m) (suc i) h lt = whole_at m i h.1 (omega (arith, lt))
 row-fits : (count : ℕ) (slots : List ℕ) (ks : List AggKind) (ms : List (List ℤ)) (cs : List Column)
     (i : ℕ) → AllHold count slots ks ms cs → All (λ m. length m ≡ length slots) ms
     → i < length slots → RowFits (row_of ks (columns.row_at (pos 0) i ms ∷ [])) 1
-row-fits count slots [] [] [] i h long lt = tt
-row-fits count slots [] [] (d ∷ ds) i h long lt = absurd h
-row-fits count slots [] (n ∷ ns) cs i h long lt = absurd h
-row-fits count slots (j ∷ js) [] cs i h long lt = absurd h
-row-fits count slots (j ∷ js) (n ∷ ns) [] i h long lt = absurd h
-row-fits count slots (k ∷ ks) (m ∷ ms) (c ∷ cs) i h long lt =
-    let l = long 0 m (omega arith) in (
+row-fits count slots [] [] [] i h lengths lt = tt
+row-fits count slots [] [] (d ∷ ds) i h lengths lt = absurd h
+row-fits count slots [] (n ∷ ns) cs i h lengths lt = absurd h
+row-fits count slots (j ∷ js) [] cs i h lengths lt = absurd h
+row-fits count slots (j ∷ js) (n ∷ ns) [] i h lengths lt = absurd h
+row-fits count slots (k ∷ ks) (m ∷ ms) (c ∷ cs) i h lengths lt =
+    let l = lengths 0 m (omega arith) in (
       states.fits_of k (get_or m i (pos 0) ∷ []) (whole_at m i h.1 (omega (arith, lt, l)), tt),
-      row-fits count slots ks ms cs i h.2 (λ a d e. long (suc a) d (omega (arith, e))) lt,
+      row-fits count slots ks ms cs i h.2 (λ a d e. lengths (suc a) d (omega (arith, e))) lt,
     )
 
 rows-light : (ks : List AggKind) (dims : List (List ℕ)) (metrics : List (List ℤ)) (n : ℕ)
@@ -391,13 +391,13 @@ pub merged-light : (count : ℕ) (slots : List ℕ) (ks : List AggKind) (ms : Li
     → All (λ m. length m ≡ length slots) ms
     → docs ≡ merged_docs merged_rows (projected ks (rows_of (length slots) dims ms))
     → weights row_weight docs ≤ length slots
-merged-light count slots ks ms cs dims docs h long is =
+merged-light count slots ks ms cs dims docs h lengths is =
     let all = projected ks (rows_of (length slots) dims ms) in
     let a = ap (weights row_weight) is in
     let b = weights-Merged row_weight dims_order merged_rows rows.row_weight_both all in
     let c = rows-light ks dims ms (length slots) (λ i l.
     rows.row_weight_least (row_of ks (columns.row_at (pos 0) i ms ∷ [])) 1
-    (row-fits count slots ks ms cs i h long l)) in
+    (row-fits count slots ks ms cs i h lengths l)) in
     omega (arith, a, b, c)
 
 -- ---- slot by slot

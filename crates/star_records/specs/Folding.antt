@@ -26,7 +26,7 @@ pub record HasMerged (ks : List AggKind) (dims : List (List ℕ)) (metrics : Lis
   pub kinds : table.kinds ≡ ks
   pub docs : table.docs
       ≡ merged_docs merged_rows (docs_of ks dims metrics (take at (map row_in words)))
-  pub light : weights row_weight table.docs ≤ at
+  pub weight_fits : weights row_weight table.docs ≤ at
   pub last : 0 < at → Ends table.docs (ids_at dims (row_in (get_or words (at - 1) 0)))
 
 -- what columns have in the rows of some words
@@ -36,7 +36,7 @@ picked d words columns = map (λ column. map (λ word. get_or column (row_in wor
 -- words of a range among which are all that have not the key of the one before them, and the place
 -- of each of these
 pub record AreHeads (words : List ℕ) (from to : ℕ) (heads slots : List ℕ) : Type 0 where
-  pub long : length slots ≡ to - from
+  pub lengths : length slots ≡ to - from
   pub among : (n : ℕ) → All (λ word. row_in word < n) words → All (λ word. row_in word < n) heads
   pub place : (k : ℕ) → k < to - from
       → (0 < from + k → key_in (get_or words (from + k - 1) 0) ≢ key_in (get_or words (from + k) 0))
@@ -49,7 +49,7 @@ AllZero numbers = (i : ℕ) → i < length numbers → get_or numbers i (pos 0) 
 
 -- so many columns are known, and those that are marked have zeros alone
 pub record AreZero (marks : List Bool) (columns : List (List ℤ)) : Type 0 where
-  pub long : length marks ≡ length columns
+  pub lengths : length marks ≡ length columns
   pub zero : (i : ℕ) → i < length columns → get_or marks i false ≡ true
       → AllZero (get_or columns i [])
 

@@ -34,7 +34,7 @@ pub(crate) fn merge_in_order(
     words: &[u32],
 ) -> Result<StarTable, NoMemory>
     requires columns { HasColumns shape.now dims.now metrics.now }
-    requires few { row_count dims.now ≤ most_stored }
+    requires at_most { row_count dims.now ≤ most_stored }
     requires order { InOrder (row_count dims.now) dims.now words.now }
     ensures { IfOk result (IsTableOf shape.now (merged_docs merged_rows (projected
         shape.now.kinds (rows_of (row_count dims.now) dims.now metrics.now)))
@@ -77,7 +77,7 @@ fn merge_block(
 ) -> Result<(), NoMemory>
     requires columns { FitTable dims.now metrics.now table.old }
     requires zeros { AreZero zeros.now metrics.now }
-    requires few { row_count dims.now ≤ most_stored }
+    requires at_most { row_count dims.now ≤ most_stored }
     requires order { InOrder (row_count dims.now) dims.now words.now }
     requires within { block.to ≤ length words.now }
     requires begun { HasMerged table.old.kinds dims.now metrics.now words.now block.from table.old }
@@ -129,9 +129,9 @@ fn merge_row(
     values: &mut Vec<i64>,
 ) -> Result<(), NoMemory>
     requires metrics { length metrics.now ≡ length table.old.kinds }
-    requires long { All (λ c. row < length c) metrics.now }
+    requires lengths { All (λ c. row < length c) metrics.now }
     requires some { 0 < length table.old.docs }
-    requires light { weights row_weight table.old.docs < most_stored }
+    requires weight_fits { weights row_weight table.old.docs < most_stored }
     ensures { OnOk result (MergesRow (states_at table.old.kinds metrics.now row)
         table.old table.new) }
 {

@@ -11,8 +11,8 @@ use star_table::StarTable;
 
 /// The documents sorted by their ids, those of equal ids merged.
 pub fn merge_equal(rows: StarTable) -> Result<StarTable, NoMemory>
-    requires few { length rows.docs ≤ most_stored }
-    requires light { weights row_weight rows.docs ≤ most_stored }
+    requires at_most { length rows.docs ≤ most_stored }
+    requires weight_fits { weights row_weight rows.docs ≤ most_stored }
     ensures { IfOk result (IsMergedOf rows) }
 {
     let mut rows = rows;

@@ -32,7 +32,7 @@ pub fn project_merged(
     metrics: &NumberColumns,
 ) -> Result<StarTable, NoMemory>
     requires columns { HasColumns shape.now dims metrics.now }
-    requires few { row_count dims ≤ most_stored }
+    requires at_most { row_count dims ≤ most_stored }
     ensures table { IfOk result (IsTableOf shape.now (merged_docs merged_rows (projected
         shape.now.kinds (rows_of (row_count dims) dims metrics.now))) (row_count dims)) }
     ensures count { IfOk result (λ table. length table.docs ≤ row_count dims) }

@@ -33,7 +33,7 @@ pub(crate) fn merge_slots(
     slots: Slots,
 ) -> Result<StarTable, NoMemory>
     requires columns { HasColumns shape.now dims metrics.now }
-    requires few { row_count dims ≤ most_stored }
+    requires at_most { row_count dims ≤ most_stored }
     requires slots { AreSlots (row_count dims) dims slots.slots.items slots.rows.items }
     ensures { IfOk result (IsTableOf shape.now (merged_docs merged_rows (projected
         shape.now.kinds (rows_of (row_count dims) dims metrics.now))) (row_count dims)) }
@@ -68,7 +68,7 @@ fn fold_columns(
     count: usize,
 ) -> Result<Vec<StateColumn>, NoMemory>
     requires metrics { length metrics.now ≡ length kinds.now }
-    requires long { All (λ c. length c ≡ length slots.now) metrics.now }
+    requires lengths { All (λ c. length c ≡ length slots.now) metrics.now }
     requires slots { AreSlotsOf count slots.now }
     ensures { IfOk result (λ columns. AllHold count slots.now kinds.now metrics.now columns.items) }
 {
@@ -88,7 +88,7 @@ fn fold_column(
     slots: &[u32],
     count: usize,
 ) -> Result<StateColumn, NoMemory>
-    requires long { length (numbers_of numbers) ≡ length slots.now }
+    requires lengths { length (numbers_of numbers) ≡ length slots.now }
     requires slots { AreSlotsOf count slots.now }
     ensures states { IfOk result (HoldsSlots kind count slots.now (numbers_of numbers.entry)) }
     ensures whole { IfOk result (λ _. AreWhole (numbers_of numbers.entry)) }
@@ -113,7 +113,7 @@ fn units(alloc: Global, kind: AggKind, count: usize) -> Result<StateColumn, NoMe
 
 // Adds the number of each row to the state in the row's slot.
 fn add_pair(column: &mut StateColumn, slots: &[u32], numbers: PairNumbers)
-    requires long { length (numbers_of numbers) ≡ length slots.now }
+    requires lengths { length (numbers_of numbers) ≡ length slots.now }
     requires slots { IsEmptyFor slots.now column.old }
     ensures states { HoldsSlots column.old.kind (length column.old.states) slots.now
         (numbers_of numbers.entry) column.new }
@@ -127,7 +127,7 @@ fn add_pair(column: &mut StateColumn, slots: &[u32], numbers: PairNumbers)
 
 // The same, where the numbers are stored.
 fn add_numbers(column: &mut StateColumn, slots: &[u32], numbers: &[i64])
-    requires long { length numbers.now ≡ length slots.now }
+    requires lengths { length numbers.now ≡ length slots.now }
     requires slots { IsEmptyFor slots.now column.old }
     ensures states { HoldsSlots column.old.kind (length column.old.states) slots.now numbers.now
         column.new }

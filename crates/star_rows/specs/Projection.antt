@@ -31,7 +31,7 @@ pub record IsTableOf (shape : TreeShape) (docs : List Doc) (rows : ℕ) (table :
   pub dims : table.dims ≡ shape.dims
   pub kinds : table.kinds ≡ shape.kinds
   pub docs_are : table.docs ≡ docs
-  pub light : weights row_weight table.docs ≤ rows
+  pub weight_fits : weights row_weight table.docs ≤ rows
 
 -- a table has gained the document of one row
 pub record GainsRow (ids : List ℕ) (states : List AggState) (old new : Docs) : Type 0 where

@@ -145,8 +145,8 @@ module _ (level start end : ℕ) (docs : List Doc) (le : start ≤ end) (in' : e
     pub some_slot : 0 < entry_of slots (get_or others i 0)
     some_slot = slot.some
 
-    pub long : length (made i) ≡ length firsts
-    long = as_long i keys
+    pub lengths : length (made i) ≡ length firsts
+    lengths = as_long i keys
 
     in_order : length firsts + i < length order
     in_order = let l = length-append firsts (map (place start) others) in
@@ -163,7 +163,7 @@ module _ (level start end : ℕ) (docs : List Doc) (le : start ≤ end) (in' : e
     -- the document that the word is merged into has its combination
     key_is : (doc_at (made i) j).0 ≡ set_star level (doc_at docs (place start (get_or others i 0))).0
     key_is =
-        let n : j < length (made i) = omega (arith, long, in_firsts) in
+        let n : j < length (made i) = omega (arith, lengths, in_firsts) in
         let c = length-map firsts (steps.starred_doc level docs) in
         let n' : j < length (starred_docs level docs firsts) = omega (arith, c, in_firsts) in
         sym (get_or-map (λ (e : Doc). e.0) (made i) j ([], []) [] n)
@@ -179,7 +179,7 @@ module _ (level start end : ℕ) (docs : List Doc) (le : start ≤ end) (in' : e
           (doc_at docs (place start (get_or others i 0))).1,
     ) ≡ made (i + 1)
     new_is =
-        let n : j < length (made i) = omega (arith, long, in_firsts) in
+        let n : j < length (made i) = omega (arith, lengths, in_firsts) in
         let p : length firsts + i + 1 ≡ length firsts + (i + 1) = omega arith in
         put_at dims_order nat_list_cmp_total merged_rows rows_join
         (set_star level (doc_at docs (place start (get_or others i 0))).0)
@@ -214,11 +214,11 @@ module _ (level start end : ℕ) (docs : List Doc) (le : start ≤ end) (in' : e
       pub still_light : (most : ℕ) → weights row_weight (range start end docs) ≤ most
           → row_weight (doc_at (docs ++ made i) into).1
           + row_weight (doc_at (docs ++ made i) (place start (get_or others i 0))).1 ≤ most
-      still_light most few =
-          let n : j < length (made i) = omega (arith, long, in_firsts) in
+      still_light most at_most =
+          let n : j < length (made i) = omega (arith, lengths, in_firsts) in
           let w = weight_at row_weight (made i) j ([], []) n in
-          let l = steps.light level start end docs le in' order g.all (length firsts + i) in_order
-          most few in
+          let l = steps.weight_fits level start end docs le in' order g.all (length firsts + i) in_order
+          most at_most in
           let a = ap (λ (e : Doc). row_weight e.1) own in
           let b = ap (λ (e : Doc). row_weight e.1) from in
           let c = ap (λ x. row_weight (doc_at docs x).1) from_is in

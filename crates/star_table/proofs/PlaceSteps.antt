@@ -52,7 +52,7 @@ module _ (k : ℕ) (ids : List ℕ) (cs : List Column) (vs : List AggState) (p :
 module _ (n k : ℕ) (ks : List AggKind) (ids : List ℕ) (cs : List Column) (spare a : ℕ)
     (r : IsRegion n k ks ids cs spare a) (p : ℕ) (lt : p < n) (zs : List AggState)
     (kz : kinds_of zs ≡ ks) (sz : RowStored zs)
-    (few : row_weight (doc_at (docs_in n k ids cs) p).1 + row_weight zs ≤ most_stored) where
+    (at_most : row_weight (doc_at (docs_in n k ids cs) p).1 + row_weight zs ≤ most_stored) where
   docs : List Doc
   docs = docs_in n k ids cs
 
@@ -80,7 +80,7 @@ module _ (n k : ℕ) (ks : List AggKind) (ids : List ℕ) (cs : List Column) (sp
 
   pub they_fit : RowFits (merged_rows (row_at cs p) zs) most_values
   they_fit = subst (λ (v : List AggState). RowFits (merged_rows v zs) most_values) rows_same
-      (merged_fits (doc_at (docs_in n k ids cs) p).1 zs stored sz few)
+      (merged_fits (doc_at (docs_in n k ids cs) p).1 zs stored sz at_most)
 
   kinds' : kinds_of (merged_rows (row_at cs p) zs) ≡ ks
   kinds' = subst (λ (v : List AggState). kinds_of (merged_rows v zs) ≡ ks) rows_same
@@ -88,10 +88,10 @@ module _ (n k : ℕ) (ks : List AggKind) (ids : List ℕ) (cs : List Column) (sp
 
   stored' : RowStored (merged_rows (row_at cs p) zs)
   stored' = subst (λ (v : List AggState). RowStored (merged_rows v zs)) rows_same
-      (rows.row_stored_both (doc_at (docs_in n k ids cs) p).1 zs stored sz few)
+      (rows.row_stored_both (doc_at (docs_in n k ids cs) p).1 zs stored sz at_most)
 
-  long' : length (merged_rows (row_at cs p) zs) ≡ length cs
-  long' = sym (length-kinds_of (merged_rows (row_at cs p) zs)) ∙ ap length (kinds' ∙ sym r.kinds_are)
+  lengths' : length (merged_rows (row_at cs p) zs) ≡ length cs
+  lengths' = sym (length-kinds_of (merged_rows (row_at cs p) zs)) ∙ ap length (kinds' ∙ sym r.kinds_are)
       ∙ length-map cs (λ c. c.kind)
 
   module _ (cs' : List Column) (js : cs' ≡ row_replaced p cs (merged_rows (row_at cs p) zs)) where
@@ -99,7 +99,7 @@ module _ (n k : ℕ) (ks : List AggKind) (ids : List ℕ) (cs : List Column) (sp
         ≡ set (docs_in n k ids cs) p (take k (drop (p * k) ids), merged_rows (row_at cs p) zs)
     there = ap (docs_in n k ids) js
         ∙ placed k ids cs (merged_rows (row_at cs p) zs) p 0 p n (omega arith) lt
-        (row_own n spare p cs (merged_rows (row_at cs p) zs) r.columns_are lt long')
+        (row_own n spare p cs (merged_rows (row_at cs p) zs) r.columns_are lt lengths')
 
     pub placed_docs : docs_in n k ids cs' ≡ set (docs_in n k ids cs) p
         ((doc_at (docs_in n k ids cs) p).0, merged_rows (doc_at (docs_in n k ids cs) p).1 zs)
@@ -113,7 +113,7 @@ module _ (n k : ℕ) (ks : List AggKind) (ids : List ℕ) (cs : List Column) (sp
       columns_are = subst (AreColumns n spare) (sym js)
           (columns_replaced n spare p cs (merged_rows (row_at cs p) zs) r.columns_are);
       few_kinds = r.few_kinds;
-      few = r.few;
+      at_most = r.at_most;
       shape = subst (HaveShape k ks) (sym there)
           (shape_set k ks (docs_in n k ids cs) p _ r.shape
           (ap (λ (e : Doc). length e.0) (sym at) ∙ shape.0) kinds');

@@ -129,16 +129,16 @@ module _ (level start end : ℕ) (docs : List Doc) (le : start ≤ end) (in' : e
     whole = ap (starred_at level docs) cut
         ∙ map-append (starred_doc level docs) (take i order) (get_or order i 0 ∷ drop (suc i) order)
 
-    pub light : (most : ℕ) → weights row_weight (range start end docs) ≤ most
+    pub weight_fits : (most : ℕ) → weights row_weight (range start end docs) ≤ most
         → weights row_weight (merged_docs merged_rows (starred_at level docs (take i order)))
         + row_weight (doc_at docs (get_or order i 0)).1 ≤ most
-    light most few =
+    weight_fits most at_most =
         let done = starred_at level docs (take i order) in
         let rest = starred_doc level docs (get_or order i 0)
         ∷ starred_at level docs (drop (suc i) order) in
         let a = weights-Merged row_weight dims_order merged_rows rows.row_weight_both done in
         let b = sym weight ∙ ap (weights row_weight) whole ∙ weights-append row_weight done rest in
-        omega (arith, a, b, few)
+        omega (arith, a, b, at_most)
 
     pub low : IsSortedBy (λ (a b : Doc). is_lt (dims_order a.0 b.0)) (starred_at level docs order)
         → total merged_rows (λ x. is_gt

@@ -130,7 +130,7 @@ tail_region m n k ks ids cs spare a a' ids' cs' ls r le same is js ia =
       columns_are = subst (AreColumns (n - m) 0) (sym js)
           (columns_dropped n spare m cs r.columns_are);
       few_kinds = omega (arith, lk, r.few_kinds);
-      few = omega (arith, le, r.few);
+      at_most = omega (arith, le, r.at_most);
       shape = subst (λ l. HaveShape k l (docs_in (n - m) k ids' cs')) (sym same)
           (subst (HaveShape k ks) (sym docs) (shape_drop m k ks (docs_in n k ids cs) r.shape));
       stored = subst AreStored (sym docs) (stored_drop m (docs_in n k ids cs) r.stored);

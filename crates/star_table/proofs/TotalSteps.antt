@@ -205,7 +205,7 @@ total_docs k d start n ks docs shape lt h =
 pub light_more : (start n end most : ℕ) (docs : List Doc) → start + suc n < end → end ≤ length docs
     → weights row_weight (range start end docs) ≤ most
     → row_weight (states_from start n docs) + row_weight (doc_at docs (start + suc n)).1 ≤ most
-light_more start n end most docs lt le few =
+light_more start n end most docs lt le at_most =
     let more = end - (start + suc (suc n)) in
     let e : start + suc (suc n) + more ≡ end = omega arith in
     let a = weigh_less start n docs (omega arith) in
@@ -213,7 +213,7 @@ light_more start n end most docs lt le few =
     ∙ weights-snoc (range start (start + suc n) docs) (doc_at docs (start + suc n)) in
     let f = weigh_front start (suc (suc n)) more docs (omega (arith, e, le)) in
     let g = ap (λ i. weights row_weight (range start i docs)) e in
-    omega (arith, a, w, f, g, few)
+    omega (arith, a, w, f, g, at_most)
 
 -- a document before the end
 pub doc_before : (docs more : List Doc) (i : ℕ) → i < length docs → doc_at (docs ++ more) i

@@ -21,11 +21,11 @@ pub record KeepsShape (old new : Docs) : Type 0 where
 pub record AreMergeable (start end : ℕ) (docs : List Doc) : Type 0 where
   pub order : start < end
   pub within : end ≤ length docs
-  pub light : weights row_weight (range start end docs) ≤ most_stored
+  pub weight_fits : weights row_weight (range start end docs) ≤ most_stored
 
 -- they can, and the table has room for as many more
 pub record FitMerged (start end : ℕ) (table : Docs) : Type 0 where
   pub order : start ≤ end
   pub within : end ≤ length table.docs
-  pub light : weights row_weight (range start end table.docs) ≤ most_stored
+  pub weight_fits : weights row_weight (range start end table.docs) ≤ most_stored
   pub spare : end - start ≤ table.spare

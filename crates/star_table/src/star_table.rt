@@ -198,7 +198,7 @@ impl StarTable {
               ++ (ids.now, row_of self.old.kinds (values.now ∷ [])) ∷ [];
           spare = self.old.spare - 1;
         } }
-        ensures light { row_weight (row_of self.old.kinds (values.now ∷ [])) ≤ 1 }
+        ensures weight_fits { row_weight (row_of self.old.kinds (values.now ∷ [])) ≤ 1 }
     {
         are_whole(values);
         put_all(&mut self.ids, ids);
@@ -241,7 +241,7 @@ impl StarTable {
     fn merge_at(&mut self, into: usize, from: u32)
         requires into { into < length self.old.docs }
         requires from { from < length self.old.docs }
-        requires light { row_weight (doc_at self.old.docs into).1
+        requires weight_fits { row_weight (doc_at self.old.docs into).1
             + row_weight (doc_at self.old.docs from).1 ≤ most_stored }
         ensures { self.new ≡ record self.old {
           docs = with_states into (merged_rows (doc_at self.old.docs into).1
@@ -254,7 +254,7 @@ impl StarTable {
     /// Merges the states of a document into those of the last one.
     fn merge_last(&mut self, from: u32)
         requires from { from + 1 < length self.old.docs }
-        requires light { (front : List Doc) (e : Doc) → self.old.docs ≡ front ++ e ∷ []
+        requires weight_fits { (front : List Doc) (e : Doc) → self.old.docs ≡ front ++ e ∷ []
             → row_weight e.1 + row_weight (doc_at self.old.docs from).1 ≤ most_stored }
         ensures { (front : List Doc) (e : Doc) → self.old.docs ≡ front ++ e ∷ []
             → self.new ≡ record self.old {
@@ -270,7 +270,7 @@ impl StarTable {
     pub fn add_last(&mut self, values: &[i64])
         requires some { 0 < length self.old.docs }
         requires values { length values.now ≡ length self.old.kinds }
-        requires light { (front : List Doc) (e : Doc) → self.old.docs ≡ front ++ e ∷ []
+        requires weight_fits { (front : List Doc) (e : Doc) → self.old.docs ≡ front ++ e ∷ []
             → row_weight e.1 + 1 ≤ most_stored }
         ensures { (front : List Doc) (e : Doc) → self.old.docs ≡ front ++ e ∷ []
             → self.new ≡ record self.old {
@@ -440,7 +440,7 @@ impl StarTable {
         requires from { from < before }
         requires before { before ≤ length self.old.docs }
         requires spare { 1 ≤ self.old.spare }
-        requires light { weights row_weight (drop before self.old.docs) + row_weight (doc_at
+        requires weight_fits { weights row_weight (drop before self.old.docs) + row_weight (doc_at
             self.old.docs from).1 ≤ most_stored }
         requires ascending { IsTrue (is_sorted dims_order (drop before self.old.docs)) }
         requires none_above { total merged_rows (λ x. is_gt (dims_order x (set_star level (doc_at

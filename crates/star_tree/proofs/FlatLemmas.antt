@@ -8,7 +8,7 @@ use Rattle.star_tree.specs.declared.node.Node.{Node}
 use Rattle.agg_laws.specs.Tree.{star, Nodes, none, node, has_star}
 use Rattle.state_columns.specs.Documents.{aggregated, star_docs, visit_of, visits_of, documents_of}
 use Rattle.state_columns.specs.Region.{range}
-use Rattle.star_tree.specs.Flat.{blank, unvisited, node_at, count, kid_nodes, Flat, opened, filled}
+use Rattle.star_tree.specs.Flat.{blank, unvisited, node_at, count, child_nodes, Flat, opened, filled}
 use Rattle.star_tree.specs.Flat.{with_total, closed, visited, visited_one, flat, nodes_in}
 use Rattle.std.proofs.lemmas.List.{get_or_append_left, get_or-set_other, length-set, length-map}
 use Rattle.std.proofs.lemmas.List.{map-append, take-append-le, drop-append-le}
@@ -55,18 +55,18 @@ after : (at c i : ℕ) → Outside at (suc c) i → Outside (suc at) c i
 after at c i (inl h) = inl (omega arith)
 after at c i (inr h) = inr (omega arith)
 
-pub length-kid_nodes : {S : Type 0} (d from to : ℕ) (kids : Nodes S)
-    → length (kid_nodes d from to kids) ≡ count kids
-length-kid_nodes d from to none = refl
-length-kid_nodes d from to (node id docs kids rest) =
-    ap suc (length-kid_nodes d (cond (id == star) from (from + length docs)) to rest)
+pub length-child_nodes : {S : Type 0} (d from to : ℕ) (subtrees : Nodes S)
+    → length (child_nodes d from to subtrees) ≡ count subtrees
+length-child_nodes d from to none = refl
+length-child_nodes d from to (node id docs subtrees rest) =
+    ap suc (length-child_nodes d (cond (id == star) from (from + length docs)) to rest)
 
-pub unvisited_kids : {S : Type 0} (d from to : ℕ) (kids : Nodes S)
-    → map unvisited (kid_nodes d from to kids) ≡ kid_nodes d from to kids
-unvisited_kids d from to none = refl
-unvisited_kids d from to (node id docs kids rest) =
+pub unvisited_children : {S : Type 0} (d from to : ℕ) (subtrees : Nodes S)
+    → map unvisited (child_nodes d from to subtrees) ≡ child_nodes d from to subtrees
+unvisited_children d from to none = refl
+unvisited_children d from to (node id docs subtrees rest) =
     (λ i. one (id == star) d id from to (length docs) i
-    ∷ unvisited_kids d (cond (id == star) from (from + length docs)) to rest i)
+    ∷ unvisited_children d (cond (id == star) from (from + length docs)) to rest i)
   where
     one : (b : Bool) (d id from to n : ℕ)
         → unvisited (cond b (blank d id to (to + n)) (blank d id from (from + n)))
@@ -142,12 +142,12 @@ module _ {S : Type 0} where
     stay = λ i p l. filled_stays at total first children f.0 i (omega arith);
   }
 
-  pub opened_grows : (P : ℕ → Type 0) (d at : ℕ) (kids : Nodes S) (f : Flat S)
-      → Grows P f (opened d at kids f)
-  opened_grows P d at kids f =
-      let more = kid_nodes (suc d) (node_at f.0 at).start (length f.1) kids in
+  pub opened_grows : (P : ℕ → Type 0) (d at : ℕ) (subtrees : Nodes S) (f : Flat S)
+      → Grows P f (opened d at subtrees f)
+  opened_grows P d at subtrees f =
+      let more = child_nodes (suc d) (node_at f.0 at).start (length f.1) subtrees in
       record {
-        docs = star_docs kids;
+        docs = star_docs subtrees;
         docs_are = refl;
         nodes = map unvisited more;
         nodes_are = map-append unvisited f.0 more;
@@ -155,13 +155,13 @@ module _ {S : Type 0} where
         stay = λ i p l. get_or_append_left f.0 more (blank 0 0 0 0) i l;
       }
 
-  pub opened_length : (d at : ℕ) (kids : Nodes S) (f : Flat S) → length (opened d at kids f).0
-      ≡ length f.0 + count kids
-  opened_length d at kids f =
-      let more = kid_nodes (suc d) (node_at f.0 at).start (length f.1) kids in
+  pub opened_length : (d at : ℕ) (subtrees : Nodes S) (f : Flat S) → length (opened d at subtrees f).0
+      ≡ length f.0 + count subtrees
+  opened_length d at subtrees f =
+      let more = child_nodes (suc d) (node_at f.0 at).start (length f.1) subtrees in
       length-append f.0 more
       ∙ ap (λ m. length f.0 + m)
-      (length-kid_nodes (suc d) (node_at f.0 at).start (length f.1) kids)
+      (length-child_nodes (suc d) (node_at f.0 at).start (length f.1) subtrees)
 
   module _ (join : S → S → S) where
     chosen_grows : (P : ℕ → Type 0) (b : Bool) (f g h : Flat S) → Grows P f g → Grows P f h
@@ -169,8 +169,8 @@ module _ {S : Type 0} where
     chosen_grows P true f g h x y = x
     chosen_grows P false f g h x y = y
 
-    pub closed_grows : (d at first : ℕ) (docs : List (List ℕ × S)) (kids : Nodes S) (f : Flat S)
-        → Grows (Outside at 1) f (closed join d at first docs kids f)
+    pub closed_grows : (d at first : ℕ) (docs : List (List ℕ × S)) (subtrees : Nodes S) (f : Flat S)
+        → Grows (Outside at 1) f (closed join d at first docs subtrees f)
     closed_grows d at first docs none f =
         chosen_grows (Outside at 1) (length docs == 1) f _ _ (filled_alone at _ 0 0 f)
         (filled_grows at (length f.1) 0 0 f (aggregated join d docs))
@@ -179,49 +179,49 @@ module _ {S : Type 0} where
         (filled_alone at _ first _ f)
         (filled_grows at (length f.1) first _ f (aggregated join d docs))
 
-    pub visit_step : (d at : ℕ) (docs : List (List ℕ × S)) (kids : Nodes S) (f g : Flat S)
-        → at < length f.0 → Grows (Outside (length f.0) (count kids)) (opened d at kids f) g
-        → Grows (Outside at 1) f (closed join d at (length f.0) docs kids g)
-    visit_step d at docs kids f g lt more =
+    pub visit_step : (d at : ℕ) (docs : List (List ℕ × S)) (subtrees : Nodes S) (f g : Flat S)
+        → at < length f.0 → Grows (Outside (length f.0) (count subtrees)) (opened d at subtrees f) g
+        → Grows (Outside at 1) f (closed join d at (length f.0) docs subtrees g)
+    visit_step d at docs subtrees f g lt more =
         Grows-trans (Outside at 1) (Outside at 1) f g _
-        (Grows-trans (Outside at 1) (Outside (length f.0) (count kids)) f (opened d at kids f) g
-        (opened_grows (Outside at 1) d at kids f) more (λ i p l. inl l))
-        (closed_grows d at (length f.0) docs kids g) (λ i p l. p)
+        (Grows-trans (Outside at 1) (Outside (length f.0) (count subtrees)) f (opened d at subtrees f) g
+        (opened_grows (Outside at 1) d at subtrees f) more (λ i p l. inl l))
+        (closed_grows d at (length f.0) docs subtrees g) (λ i p l. p)
 
-    pub visited_grows : (d at : ℕ) (kids : Nodes S) (f : Flat S) → at + count kids ≤ length f.0
-        → Grows (Outside at (count kids)) f (visited join d at kids f)
+    pub visited_grows : (d at : ℕ) (subtrees : Nodes S) (f : Flat S) → at + count subtrees ≤ length f.0
+        → Grows (Outside at (count subtrees)) f (visited join d at subtrees f)
     visited_grows d at none f lt = Grows-none (Outside at 0) f
-    visited_grows d at (node id docs kids rest) f lt =
-        let one = visit_step d at docs kids f
-        (visited join (suc d) (length f.0) kids (opened d at kids f)) (omega arith)
-        (visited_grows (suc d) (length f.0) kids (opened d at kids f)
-        (omega (arith, opened_length d at kids f))) in
+    visited_grows d at (node id docs subtrees rest) f lt =
+        let one = visit_step d at docs subtrees f
+        (visited join (suc d) (length f.0) subtrees (opened d at subtrees f)) (omega arith)
+        (visited_grows (suc d) (length f.0) subtrees (opened d at subtrees f)
+        (omega (arith, opened_length d at subtrees f))) in
         Grows-trans (Outside at (suc (count rest))) (Outside (suc at) (count rest)) f _ _
         (Grows-trans (Outside at (suc (count rest))) (Outside at 1) f f _ (Grows-none _ f) one
         (λ i p l. within at (count rest) i p))
-        (visited_grows d (suc at) rest (visited_one join d at docs kids f)
+        (visited_grows d (suc at) rest (visited_one join d at docs subtrees f)
         (omega (arith, one.longer))) (λ i p l. after at (count rest) i p)
 
-    pub visit_grows : (d at : ℕ) (docs : List (List ℕ × S)) (kids : Nodes S) (f : Flat S)
-        → at < length f.0 → Grows (Outside at 1) f (visited_one join d at docs kids f)
-    visit_grows d at docs kids f lt =
-        visit_step d at docs kids f (visited join (suc d) (length f.0) kids (opened d at kids f)) lt
-        (visited_grows (suc d) (length f.0) kids (opened d at kids f)
-        (omega (arith, opened_length d at kids f)))
+    pub visit_grows : (d at : ℕ) (docs : List (List ℕ × S)) (subtrees : Nodes S) (f : Flat S)
+        → at < length f.0 → Grows (Outside at 1) f (visited_one join d at docs subtrees f)
+    visit_grows d at docs subtrees f lt =
+        visit_step d at docs subtrees f (visited join (suc d) (length f.0) subtrees (opened d at subtrees f)) lt
+        (visited_grows (suc d) (length f.0) subtrees (opened d at subtrees f)
+        (omega (arith, opened_length d at subtrees f)))
 
     -- the documents are those of the definition, in its order
-    closed_docs : (d at first : ℕ) (docs below : List (List ℕ × S)) (kids : Nodes S) (f g : Flat S)
-        → g.1 ≡ (f.1 ++ star_docs kids) ++ below → (kids ≡ none → below ≡ [])
-        → (closed join d at first docs kids g).1 ≡ f.1 ++ visit_of join d docs kids below
+    closed_docs : (d at first : ℕ) (docs below : List (List ℕ × S)) (subtrees : Nodes S) (f g : Flat S)
+        → g.1 ≡ (f.1 ++ star_docs subtrees) ++ below → (subtrees ≡ none → below ≡ [])
+        → (closed join d at first docs subtrees g).1 ≡ f.1 ++ visit_of join d docs subtrees below
     closed_docs d at first docs below none f g is nothing =
         let g1 : g.1 ≡ f.1 = is ∙ (λ i. append_none f.1 i ++ nothing refl i) ∙ append_none f.1 in
         elim (length docs == 1) as
         (λ b. (cond b (filled at (node_at g.0 at).start 0 0 g.0, g.1)
         (with_total join d at 0 0 docs g)).1 ≡ f.1 ++ cond b [] (aggregated join d docs))
         [ true ↦ g1 ∙ sym (append_none f.1) | false ↦ ap (λ l. l ++ aggregated join d docs) g1 ]
-    closed_docs d at first docs below (node id own kids rest) f g is nothing =
-        let sd = star_docs (node id own kids rest) in
-        elim (has_star (node id own kids rest)) as
+    closed_docs d at first docs below (node id own subtrees rest) f g is nothing =
+        let sd = star_docs (node id own subtrees rest) in
+        elim (has_star (node id own subtrees rest)) as
         (λ b. (cond b (
           filled at (node_at g.0 (first + count rest)).total first
               (suc (count rest)) g.0,
@@ -235,33 +235,33 @@ module _ {S : Type 0} where
               ∙ append_assoc f.1 sd (below ++ aggregated join d docs)
         ]
 
-    none_below : (d : ℕ) (kids : Nodes S) → kids ≡ none → visits_of join d kids ≡ []
-    none_below d kids e = ap (visits_of join d) e
+    none_below : (d : ℕ) (subtrees : Nodes S) → subtrees ≡ none → visits_of join d subtrees ≡ []
+    none_below d subtrees e = ap (visits_of join d) e
 
-    visited_docs : (d at : ℕ) (kids : Nodes S) (f : Flat S) → (visited join d at kids f).1 ≡ f.1
-        ++ visits_of join d kids
+    visited_docs : (d at : ℕ) (subtrees : Nodes S) (f : Flat S) → (visited join d at subtrees f).1 ≡ f.1
+        ++ visits_of join d subtrees
     visited_docs d at none f = sym (append_none f.1)
-    visited_docs d at (node id docs kids rest) f =
-        visited_docs d (suc at) rest (visited_one join d at docs kids f)
+    visited_docs d at (node id docs subtrees rest) f =
+        visited_docs d (suc at) rest (visited_one join d at docs subtrees f)
         ∙ ap (λ l. l ++ visits_of join d rest)
-        (closed_docs d at (length f.0) docs (visits_of join (suc d) kids) kids f
-        (visited join (suc d) (length f.0) kids (opened d at kids f))
-        (visited_docs (suc d) (length f.0) kids (opened d at kids f)) (none_below (suc d) kids))
-        ∙ append_assoc f.1 (visit_of join d docs kids (visits_of join (suc d) kids))
+        (closed_docs d at (length f.0) docs (visits_of join (suc d) subtrees) subtrees f
+        (visited join (suc d) (length f.0) subtrees (opened d at subtrees f))
+        (visited_docs (suc d) (length f.0) subtrees (opened d at subtrees f)) (none_below (suc d) subtrees))
+        ∙ append_assoc f.1 (visit_of join d docs subtrees (visits_of join (suc d) subtrees))
         (visits_of join d rest)
 
-    one_docs : (d at : ℕ) (docs : List (List ℕ × S)) (kids : Nodes S) (f : Flat S)
-        → (visited_one join d at docs kids f).1 ≡ f.1
-        ++ visit_of join d docs kids (visits_of join (suc d) kids)
-    one_docs d at docs kids f =
-        closed_docs d at (length f.0) docs (visits_of join (suc d) kids) kids f
-        (visited join (suc d) (length f.0) kids (opened d at kids f))
-        (visited_docs (suc d) (length f.0) kids (opened d at kids f)) (none_below (suc d) kids)
+    one_docs : (d at : ℕ) (docs : List (List ℕ × S)) (subtrees : Nodes S) (f : Flat S)
+        → (visited_one join d at docs subtrees f).1 ≡ f.1
+        ++ visit_of join d docs subtrees (visits_of join (suc d) subtrees)
+    one_docs d at docs subtrees f =
+        closed_docs d at (length f.0) docs (visits_of join (suc d) subtrees) subtrees f
+        (visited join (suc d) (length f.0) subtrees (opened d at subtrees f))
+        (visited_docs (suc d) (length f.0) subtrees (opened d at subtrees f)) (none_below (suc d) subtrees)
 
     pub flat_docs : (tree : Nodes S) → (flat join tree).1 ≡ documents_of join tree
     flat_docs none = refl
-    flat_docs (node id docs kids rest) =
-        one_docs 0 0 docs kids (blank 0 star 0 (length docs) ∷ [], docs)
+    flat_docs (node id docs subtrees rest) =
+        one_docs 0 0 docs subtrees (blank 0 star 0 (length docs) ∷ [], docs)
 
     -- and the nodes are as many as the tree has
     chosen_length : (b : Bool) (f g : Flat S) (n : ℕ) → length f.0 ≡ n → length g.0 ≡ n
@@ -273,8 +273,8 @@ module _ {S : Type 0} where
         → length (filled at total first children ns) ≡ length ns
     filled_length at total first children ns = omega (arith, length-set {A = Node})
 
-    pub closed_length : (d at first : ℕ) (docs : List (List ℕ × S)) (kids : Nodes S) (f : Flat S)
-        → length (closed join d at first docs kids f).0 ≡ length f.0
+    pub closed_length : (d at first : ℕ) (docs : List (List ℕ × S)) (subtrees : Nodes S) (f : Flat S)
+        → length (closed join d at first docs subtrees f).0 ≡ length f.0
     closed_length d at first docs none f =
         chosen_length (length docs == 1) (filled at (node_at f.0 at).start 0 0 f.0, f.1)
         (with_total join d at 0 0 docs f) (length f.0)
@@ -288,24 +288,24 @@ module _ {S : Type 0} where
         (filled_length at last first (suc (count rest)) f.0)
         (filled_length at (length f.1) first (suc (count rest)) f.0)
 
-    visited_length : (d at : ℕ) (kids : Nodes S) (f : Flat S) → length (visited join d at kids f).0
-        + count kids ≡ length f.0 + nodes_in kids
+    visited_length : (d at : ℕ) (subtrees : Nodes S) (f : Flat S) → length (visited join d at subtrees f).0
+        + count subtrees ≡ length f.0 + nodes_in subtrees
     visited_length d at none f = refl
-    visited_length d at (node id docs kids rest) f =
-        let h = visited join (suc d) (length f.0) kids (opened d at kids f) in
-        let c = closed join d at (length f.0) docs kids h in
-        let below = visited_length (suc d) (length f.0) kids (opened d at kids f) in
-        let close = closed_length d at (length f.0) docs kids h in
-        let opens = opened_length d at kids f in
+    visited_length d at (node id docs subtrees rest) f =
+        let h = visited join (suc d) (length f.0) subtrees (opened d at subtrees f) in
+        let c = closed join d at (length f.0) docs subtrees h in
+        let below = visited_length (suc d) (length f.0) subtrees (opened d at subtrees f) in
+        let close = closed_length d at (length f.0) docs subtrees h in
+        let opens = opened_length d at subtrees f in
         let more = visited_length d (suc at) rest c in
         omega (arith, below, close, opens, more)
 
-    pub flat_count : (id : ℕ) (docs : List (List ℕ × S)) (kids : Nodes S)
-        → length (flat join (node id docs kids none)).0 ≡ nodes_in (node id docs kids none)
-    flat_count id docs kids =
+    pub flat_count : (id : ℕ) (docs : List (List ℕ × S)) (subtrees : Nodes S)
+        → length (flat join (node id docs subtrees none)).0 ≡ nodes_in (node id docs subtrees none)
+    flat_count id docs subtrees =
         let f : Flat S = (blank 0 star 0 (length docs) ∷ [], docs) in
-        let h = visited join 1 1 kids (opened 0 0 kids f) in
-        let below = visited_length 1 1 kids (opened 0 0 kids f) in
-        let close = closed_length 0 0 1 docs kids h in
-        let opens = opened_length 0 0 kids f in
+        let h = visited join 1 1 subtrees (opened 0 0 subtrees f) in
+        let below = visited_length 1 1 subtrees (opened 0 0 subtrees f) in
+        let close = closed_length 0 0 1 docs subtrees h in
+        let opens = opened_length 0 0 subtrees f in
         omega (arith, below, close, opens)

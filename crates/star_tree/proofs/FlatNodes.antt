@@ -15,11 +15,11 @@ use Rattle.std.proofs.Math.Seq.{take-append_seam, drop-append_seam}
 use Rattle.star_tree.specs.declared.node.Node.{Node}
 use Rattle.agg_laws.specs.Merged.{join_some, total}
 use Rattle.agg_laws.specs.Tree.{star, dims_order, dim, Nodes, none, node, has_star}
-use Rattle.agg_laws.specs.Tree.{docs_with, kids_of}
+use Rattle.agg_laws.specs.Tree.{docs_with, child_nodes_of}
 use Rattle.state_columns.specs.Documents.{aggregated, star_docs, total_here, total_below, total_doc}
 use Rattle.state_columns.specs.Region.{range}
-use Rattle.star_tree.specs.Flat.{blank, unvisited, node_at, count, kid_nodes, Flat, filled}
-use Rattle.star_tree.specs.Flat.{with_total, closed, HasDocs, KidsHaveDocs, IsNode}
+use Rattle.star_tree.specs.Flat.{blank, unvisited, node_at, count, child_nodes, Flat, filled}
+use Rattle.star_tree.specs.Flat.{with_total, closed, HasDocs, ChildrenHaveDocs, IsNode}
 use Rattle.star_tree.proofs.TreeLemmas.{Avoids, length_more}
 use Rattle.star_tree.proofs.NodeLemmas.{DocsAt}
 use Rattle.star_tree.proofs.Runs.{AtLeast, Rising, equal_is, greater_is, joined, Filled}
@@ -128,25 +128,25 @@ HasDocs-grows P d at id docs f g grows s =
           (omega (arith, s.order)) s.inside ∙ s.docs_are;
     }
 
-pub KidsHaveDocs-grows : {S : Type 0} (P : ℕ → Type 0) (d at : ℕ) (kids : Nodes S) (f g : Flat S)
-    → Grows P f g → KidsHaveDocs d at kids f → KidsHaveDocs d at kids g
-KidsHaveDocs-grows P d at none f g grows s = tt
-KidsHaveDocs-grows P d at (node id docs kids rest) f g grows s =
-    (HasDocs-grows P d at id docs f g grows s.0, KidsHaveDocs-grows P d (suc at) rest f g grows s.1)
+pub ChildrenHaveDocs-grows : {S : Type 0} (P : ℕ → Type 0) (d at : ℕ) (subtrees : Nodes S) (f g : Flat S)
+    → Grows P f g → ChildrenHaveDocs d at subtrees f → ChildrenHaveDocs d at subtrees g
+ChildrenHaveDocs-grows P d at none f g grows s = tt
+ChildrenHaveDocs-grows P d at (node id docs subtrees rest) f g grows s =
+    (HasDocs-grows P d at id docs f g grows s.0, ChildrenHaveDocs-grows P d (suc at) rest f g grows s.1)
 
-pub kids_range_grows : {S : Type 0} (P : ℕ → Type 0) (f g : Flat S) (from to : ℕ) → Grows P f g
+pub children_range_grows : {S : Type 0} (P : ℕ → Type 0) (f g : Flat S) (from to : ℕ) → Grows P f g
     → from ≤ to → to ≤ length f.0 → range from to (map unvisited g.0)
     ≡ range from to (map unvisited f.0)
-kids_range_grows P f g from to grows le in' =
+children_range_grows P f g from to grows le in' =
     ap (range from to) grows.nodes_are
     ∙ range-append from to (map unvisited f.0) grows.nodes le
     (omega (arith, in', length-map f.0 unvisited))
 
 module _ {S : Type 0} (join : S → S → S) where
-  pub IsNode-grows : (P : ℕ → Type 0) (d at id : ℕ) (docs : List (List ℕ × S)) (kids : Nodes S)
-      (f g : Flat S) → Grows P f g → P at → IsNode join d at id docs kids f
-      → IsNode join d at id docs kids g
-  IsNode-grows P d at id docs kids f g grows p s =
+  pub IsNode-grows : (P : ℕ → Type 0) (d at id : ℕ) (docs : List (List ℕ × S)) (subtrees : Nodes S)
+      (f g : Flat S) → Grows P f g → P at → IsNode join d at id docs subtrees f
+      → IsNode join d at id docs subtrees g
+  IsNode-grows P d at id docs subtrees f g grows p s =
       let same : node_at g.0 at ≡ node_at f.0 at = grows.stay at p s.docs_are.within in
       let total : (node_at g.0 at).total ≡ (node_at f.0 at).total = ap (λ n. n.total) same in
       let first : (node_at g.0 at).first ≡ (node_at f.0 at).first = ap (λ n. n.first) same in
@@ -161,28 +161,28 @@ module _ {S : Type 0} (join : S → S → S) where
         children_are = ap (λ n. n.children) same ∙ s.children_are;
         leaf = λ z. first ∙ s.leaf z;
         later = λ z. let l = s.later z in omega (arith, l, first);
-        kids_in = omega (arith, s.kids_in, first, grows.longer);
+        children_in = omega (arith, s.children_in, first, grows.longer);
         star_from = s.star_from;
-        kids_are = (λ i. range (first i) (first i + count kids) (map unvisited g.0))
-            ∙ kids_range_grows P f g (node_at f.0 at).first
-            ((node_at f.0 at).first + count kids) grows (omega arith) s.kids_in
-            ∙ s.kids_are ∙ ap (λ n. kid_nodes (suc d) n s.star_from kids) (sym start);
-        kids_docs = subst (λ n. KidsHaveDocs (suc d) n kids g) (sym first)
-            (KidsHaveDocs-grows P (suc d) (node_at f.0 at).first kids f g grows s.kids_docs);
+        nodes_are = (λ i. range (first i) (first i + count subtrees) (map unvisited g.0))
+            ∙ children_range_grows P f g (node_at f.0 at).first
+            ((node_at f.0 at).first + count subtrees) grows (omega arith) s.children_in
+            ∙ s.nodes_are ∙ ap (λ n. child_nodes (suc d) n s.star_from subtrees) (sym start);
+        children_docs = subst (λ n. ChildrenHaveDocs (suc d) n subtrees g) (sym first)
+            (ChildrenHaveDocs-grows P (suc d) (node_at f.0 at).first subtrees f g grows s.children_docs);
       }
 
   -- a node once its total and children are known
-  as_node : (d at id : ℕ) (docs : List (List ℕ × S)) (kids : Nodes S) (h : Flat S)
+  as_node : (d at id : ℕ) (docs : List (List ℕ × S)) (subtrees : Nodes S) (h : Flat S)
       (total first children to : ℕ) (all : List (List ℕ × S))
       → HasDocs d at id docs h → Grows (Outside at 1) h (filled at total first children h.0, all)
-      → total < length all → range total (suc total) all ≡ total_doc join d docs kids
-      → children ≡ count kids → (count kids ≡ 0 → first ≡ 0) → (0 < count kids → at < first) → first
-      + count kids ≤ length h.0
-      → range first (first + count kids) (map unvisited h.0)
-      ≡ kid_nodes (suc d) (node_at h.0 at).start to kids → KidsHaveDocs (suc d) first kids h
-      → IsNode join d at id docs kids (filled at total first children h.0, all)
-  as_node d at id docs kids h total first children to all s grows total_in total_is c leaf later
-      kids_in kids_are kids_docs =
+      → total < length all → range total (suc total) all ≡ total_doc join d docs subtrees
+      → children ≡ count subtrees → (count subtrees ≡ 0 → first ≡ 0) → (0 < count subtrees → at < first) → first
+      + count subtrees ≤ length h.0
+      → range first (first + count subtrees) (map unvisited h.0)
+      ≡ child_nodes (suc d) (node_at h.0 at).start to subtrees → ChildrenHaveDocs (suc d) first subtrees h
+      → IsNode join d at id docs subtrees (filled at total first children h.0, all)
+  as_node d at id docs subtrees h total first children to all s grows total_in total_is c leaf later
+      children_in nodes_are children_docs =
       let lt : at < length h.0 = s.within in
       let here : node_at (filled at total first children h.0) at
       ≡ record (node_at h.0 at) { total = total; first = first; children = children } =
@@ -199,25 +199,25 @@ module _ {S : Type 0} (join : S → S → S) where
         children_are = ap (λ n. n.children) here ∙ c;
         leaf = λ z. f' ∙ leaf z;
         later = λ z. let l = later z in omega (arith, l, f');
-        kids_in = omega (arith, kids_in, f', grows.longer);
+        children_in = omega (arith, children_in, f', grows.longer);
         star_from = to;
-        kids_are = ap (λ n. range n (n + count kids)
+        nodes_are = ap (λ n. range n (n + count subtrees)
             (map unvisited (filled at total first children h.0))) f'
-            ∙ kids_range_grows (Outside at 1) h (filled at total first children h.0, all) first
-            (first + count kids) grows (omega arith) kids_in
-            ∙ kids_are ∙ ap (λ n. kid_nodes (suc d) n.start to kids) (sym here);
-        kids_docs = subst (λ n. KidsHaveDocs (suc d) n kids
+            ∙ children_range_grows (Outside at 1) h (filled at total first children h.0, all) first
+            (first + count subtrees) grows (omega arith) children_in
+            ∙ nodes_are ∙ ap (λ n. child_nodes (suc d) n.start to subtrees) (sym here);
+        children_docs = subst (λ n. ChildrenHaveDocs (suc d) n subtrees
             (filled at total first children h.0, all)) (sym f')
-            (KidsHaveDocs-grows (Outside at 1) (suc d) first kids h
-            (filled at total first children h.0, all) grows kids_docs);
+            (ChildrenHaveDocs-grows (Outside at 1) (suc d) first subtrees h
+            (filled at total first children h.0, all) grows children_docs);
       }
 
   -- the total of a star child is that of its parent
   abbrev pub StarTotal : ℕ → ℕ → List (List ℕ × S) → Nodes S → Flat S → Type 0
-  StarTotal d n docs kids h = has_star kids ≡ true
-      → ((node_at h.0 (n + (count kids - 1))).total < length h.1)
-      × (range (node_at h.0 (n + (count kids - 1))).total
-      (suc (node_at h.0 (n + (count kids - 1))).total) h.1 ≡ total_doc join d docs kids)
+  StarTotal d n docs subtrees h = has_star subtrees ≡ true
+      → ((node_at h.0 (n + (count subtrees - 1))).total < length h.1)
+      × (range (node_at h.0 (n + (count subtrees - 1))).total
+      (suc (node_at h.0 (n + (count subtrees - 1))).total) h.1 ≡ total_doc join d docs subtrees)
 
   end_total : (h : Flat S) (own : List (List ℕ × S)) → length own ≡ 1
       → range (length h.1) (suc (length h.1)) (h.1 ++ own) ≡ own
@@ -228,31 +228,31 @@ module _ {S : Type 0} (join : S → S → S) where
       → length h.1 < length (h.1 ++ own)
   end_in h own one = omega (arith, one, length-append h.1 own)
 
-  pub split_total : (d : ℕ) (docs : List (List ℕ × S)) (kids : Nodes S) → has_star kids ≡ true
-      → total_doc join d docs kids ≡ total_below join d docs kids
+  pub split_total : (d : ℕ) (docs : List (List ℕ × S)) (subtrees : Nodes S) → has_star subtrees ≡ true
+      → total_doc join d docs subtrees ≡ total_below join d docs subtrees
   split_total d docs none e = cc
-  split_total d docs (node id own kids rest) e = refl
+  split_total d docs (node id own subtrees rest) e = refl
 
-  no_star_total : (d : ℕ) (docs : List (List ℕ × S)) (kids : Nodes S) → has_star kids ≡ false
-      → total_below join d docs kids ≡ aggregated join d docs
+  no_star_total : (d : ℕ) (docs : List (List ℕ × S)) (subtrees : Nodes S) → has_star subtrees ≡ false
+      → total_below join d docs subtrees ≡ aggregated join d docs
   no_star_total d docs none e = refl
-  no_star_total d docs (node id own kids rest) e =
+  no_star_total d docs (node id own subtrees rest) e =
       elim (id == star) as
       (λ b. cond b true (has_star rest) ≡ false
-      → cond b (total_here join (suc d) own kids (total_below join (suc d) own kids))
+      → cond b (total_here join (suc d) own subtrees (total_below join (suc d) own subtrees))
       (total_below join d docs rest) ≡ aggregated join d docs) [
         | true ↦ λ e. cc
         | false ↦ λ e. no_star_total d docs rest e
       ] e
 
   -- a node is closed
-  pub close_is : (d at id n : ℕ) (docs : List (List ℕ × S)) (kids : Nodes S) (h : Flat S) (to : ℕ)
-      → HasDocs d at id docs h → at < n → n + count kids ≤ length h.0
-      → range n (n + count kids) (map unvisited h.0)
-      ≡ kid_nodes (suc d) (node_at h.0 at).start to kids → KidsHaveDocs (suc d) n kids h
-      → StarTotal d n docs kids h
+  pub close_is : (d at id n : ℕ) (docs : List (List ℕ × S)) (subtrees : Nodes S) (h : Flat S) (to : ℕ)
+      → HasDocs d at id docs h → at < n → n + count subtrees ≤ length h.0
+      → range n (n + count subtrees) (map unvisited h.0)
+      ≡ child_nodes (suc d) (node_at h.0 at).start to subtrees → ChildrenHaveDocs (suc d) n subtrees h
+      → StarTotal d n docs subtrees h
       → length (aggregated join d docs) ≡ 1
-      → IsNode join d at id docs kids (closed join d at n docs kids h)
+      → IsNode join d at id docs subtrees (closed join d at n docs subtrees h)
   close_is d at id n docs none h to s lt in' are has star_total one =
       let start = (node_at h.0 at).start in
       let own : Flat S = (filled at start 0 0 h.0, h.1) in
@@ -276,47 +276,47 @@ module _ {S : Type 0} (join : S → S → S) where
             (λ z. absurd (omega (arith, z))) (omega arith) refl tt
       ] refl (closed_grows join d at n docs none h)
   close_is d at id n docs (node id' own below rest) h to s lt in' are has star_total one =
-      let kids = node id' own below rest in
+      let subtrees = node id' own below rest in
       let m = n + count rest in
       let old : Flat S = (filled at (node_at h.0 m).total n (suc (count rest)) h.0, h.1) in
       let more : Flat S = with_total join d at n (suc (count rest)) docs h in
-      elim (has_star kids) as
-      (λ b. has_star kids ≡ b → Grows (Outside at 1) h (cond b old more)
-      → IsNode join d at id docs kids (cond b old more)) [
+      elim (has_star subtrees) as
+      (λ b. has_star subtrees ≡ b → Grows (Outside at 1) h (cond b old more)
+      → IsNode join d at id docs subtrees (cond b old more)) [
         | true ↦ λ e grows.
             let i : n + (suc (count rest) - 1) ≡ m = omega arith in
             let t = star_total e in
-            as_node d at id docs kids h (node_at h.0 m).total n (suc (count rest)) to h.1 s grows
+            as_node d at id docs subtrees h (node_at h.0 m).total n (suc (count rest)) to h.1 s grows
             (subst (λ j. (node_at h.0 j).total < length h.1) i t.0)
             (subst (λ j. range (node_at h.0 j).total (suc (node_at h.0 j).total) h.1
-            ≡ total_doc join d docs kids) i t.1) refl (λ z. absurd (omega (arith, z)))
+            ≡ total_doc join d docs subtrees) i t.1) refl (λ z. absurd (omega (arith, z)))
             (λ _. lt) in' are has
         | false ↦ λ e grows.
             let agg = aggregated join d docs in
-            as_node d at id docs kids h (length h.1) n (suc (count rest)) to (h.1 ++ agg) s grows
-            (end_in h agg one) (end_total h agg one ∙ sym (no_star_total d docs kids e)) refl
+            as_node d at id docs subtrees h (length h.1) n (suc (count rest)) to (h.1 ++ agg) s grows
+            (end_in h agg one) (end_total h agg one ∙ sym (no_star_total d docs subtrees e)) refl
             (λ z. absurd (omega (arith, z))) (λ _. lt) in' are has
-      ] refl (closed_grows join d at n docs kids h)
+      ] refl (closed_grows join d at n docs subtrees h)
 
   -- children that get their numbers
   module _ (d to : ℕ) (docs : List (List ℕ × S)) (below : List (List ℕ × S) → Nodes S)
       (last : Nodes S) (g : Flat S) where
-    pub kids_opened : (vs : List ℕ) → Avoids vs → Filled join d docs vs
+    pub children_opened : (vs : List ℕ) → Avoids vs → Filled join d docs vs
         → (pre : List Node) (from : ℕ) (front back : List (List ℕ × S)) → g.0 ≡ pre
-        ++ kid_nodes (suc d) from to (kids_of below d docs last vs)
+        ++ child_nodes (suc d) from to (child_nodes_of below d docs last vs)
         → length front ≡ from → g.1 ≡ front ++ (joined join d docs vs ++ back)
-        → ((pre' : List Node) (from' : ℕ) → g.0 ≡ pre' ++ kid_nodes (suc d) from' to last
-        → KidsHaveDocs (suc d) (length pre') last g)
-        → KidsHaveDocs (suc d) (length pre) (kids_of below d docs last vs) g
-    kids_opened [] av fill pre from front back is f ds end = end pre from is
-    kids_opened (v ∷ vs) av fill pre from front back is f ds end =
+        → ((pre' : List Node) (from' : ℕ) → g.0 ≡ pre' ++ child_nodes (suc d) from' to last
+        → ChildrenHaveDocs (suc d) (length pre') last g)
+        → ChildrenHaveDocs (suc d) (length pre) (child_nodes_of below d docs last vs) g
+    children_opened [] av fill pre from front back is f ds end = end pre from is
+    children_opened (v ∷ vs) av fill pre from front back is f ds end =
         let own = docs_with d v docs in
         let here = blank (suc d) v from (from + length own) in
-        let rest = kids_of below d docs last vs in
-        let next = kid_nodes (suc d) (from + length own) to rest in
+        let rest = child_nodes_of below d docs last vs in
+        let next = child_nodes (suc d) (from + length own) to rest in
         let is' : g.0 ≡ pre ++ (here ∷ next) = is
         ∙ ap (λ b. pre ++ (cond b (blank (suc d) v to (to + length own)) here
-        ∷ kid_nodes (suc d) (cond b from (from + length own)) to rest)) av.0 in
+        ∷ child_nodes (suc d) (cond b from (from + length own)) to rest)) av.0 in
         let at : node_at g.0 (length pre) ≡ here = ap (λ l. node_at l (length pre)) is'
         ∙ get_or_at pre here next (blank 0 0 0 0) (length pre) refl in
         let n : length (pre ++ (here ∷ [])) ≡ suc (length pre) = length-append pre (here ∷ [])
@@ -336,22 +336,22 @@ module _ {S : Type 0} (join : S → S → S) where
             docs_are = ap (λ m. range m.start m.end g.1) at
                 ∙ range_is from (from + length own) front own after g.1 f refl ds';
           },
-          subst (λ m. KidsHaveDocs (suc d) m rest g) n
-              (kids_opened vs av.1 fill.1 (pre ++ (here ∷ [])) (from + length own)
+          subst (λ m. ChildrenHaveDocs (suc d) m rest g) n
+              (children_opened vs av.1 fill.1 (pre ++ (here ∷ [])) (from + length own)
               (front ++ own) back
               (is' ∙ sym (append_assoc pre (here ∷ []) next))
               (length-append front own ∙ ap (λ m. m + length own) f)
               (ds' ∙ sym (append_assoc front own after)) end),
         )
 
-  pub last_opened : (s : Bool) (d to : ℕ) (sd : List (List ℕ × S)) (kids : Nodes S) (g : Flat S)
+  pub last_opened : (s : Bool) (d to : ℕ) (sd : List (List ℕ × S)) (subtrees : Nodes S) (g : Flat S)
       (front : List (List ℕ × S)) → 0 < length sd → (s ≡ true → g.1 ≡ front ++ sd) → length front
       ≡ to
       → (pre : List Node) (from : ℕ) → g.0 ≡ pre
-      ++ kid_nodes (suc d) from to (cond s (node star sd kids none) none)
-      → KidsHaveDocs (suc d) (length pre) (cond s (node star sd kids none) none) g
-  last_opened false d to sd kids g front some ds f pre from is = tt
-  last_opened true d to sd kids g front some ds f pre from is =
+      ++ child_nodes (suc d) from to (cond s (node star sd subtrees none) none)
+      → ChildrenHaveDocs (suc d) (length pre) (cond s (node star sd subtrees none) none) g
+  last_opened false d to sd subtrees g front some ds f pre from is = tt
+  last_opened true d to sd subtrees g front some ds f pre from is =
       let here = blank (suc d) star to (to + length sd) in
       let at : node_at g.0 (length pre) ≡ here = ap (λ l. node_at l (length pre)) is
       ∙ get_or_at pre here [] (blank 0 0 0 0) (length pre) refl in
@@ -370,33 +370,33 @@ module _ {S : Type 0} (join : S → S → S) where
         tt,
       )
 
-  pub star_docs_kids : (below : List (List ℕ × S) → Nodes S) (d : ℕ) (docs : List (List ℕ × S))
-      (last : Nodes S) (vs : List ℕ) → Avoids vs → star_docs (kids_of below d docs last vs)
+  pub star_docs_children : (below : List (List ℕ × S) → Nodes S) (d : ℕ) (docs : List (List ℕ × S))
+      (last : Nodes S) (vs : List ℕ) → Avoids vs → star_docs (child_nodes_of below d docs last vs)
       ≡ star_docs last
-  star_docs_kids below d docs last [] av = refl
-  star_docs_kids below d docs last (v ∷ vs) av =
-      ap (λ b. cond b (docs_with d v docs) (star_docs (kids_of below d docs last vs))) av.0
-      ∙ star_docs_kids below d docs last vs av.1
+  star_docs_children below d docs last [] av = refl
+  star_docs_children below d docs last (v ∷ vs) av =
+      ap (λ b. cond b (docs_with d v docs) (star_docs (child_nodes_of below d docs last vs))) av.0
+      ∙ star_docs_children below d docs last vs av.1
 
-  pub count_kids : (below : List (List ℕ × S) → Nodes S) (d : ℕ) (docs : List (List ℕ × S))
-      (last : Nodes S) (vs : List ℕ) → count (kids_of below d docs last vs) ≡ length vs + count last
-  count_kids below d docs last [] = omega arith
-  count_kids below d docs last (v ∷ vs) = let more = count_kids below d docs last vs
+  pub count_children : (below : List (List ℕ × S) → Nodes S) (d : ℕ) (docs : List (List ℕ × S))
+      (last : Nodes S) (vs : List ℕ) → count (child_nodes_of below d docs last vs) ≡ length vs + count last
+  count_children below d docs last [] = omega arith
+  count_children below d docs last (v ∷ vs) = let more = count_children below d docs last vs
       in omega (arith, more)
 
-  pub star_kid_docs : (s : Bool) (sd : List (List ℕ × S)) (kids : Nodes S) → s ≡ true
-      → star_docs (cond s (node star sd kids none) none) ≡ sd
-  star_kid_docs true sd kids e = refl
-  star_kid_docs false sd kids e = cc
+  pub star_child_docs : (s : Bool) (sd : List (List ℕ × S)) (subtrees : Nodes S) → s ≡ true
+      → star_docs (cond s (node star sd subtrees none) none) ≡ sd
+  star_child_docs true sd subtrees e = refl
+  star_child_docs false sd subtrees e = cc
 
   pub last_has : (d e : ℕ) (docs : List (List ℕ × S)) (below : List (List ℕ × S) → Nodes S)
       (last : Nodes S) (f : Flat S) (vs : List ℕ) (at : ℕ)
-      → KidsHaveDocs e at (kids_of below d docs last vs) f → KidsHaveDocs e (at + length vs) last f
+      → ChildrenHaveDocs e at (child_nodes_of below d docs last vs) f → ChildrenHaveDocs e (at + length vs) last f
   last_has d e docs below last f [] at h = let n : at ≡ at + 0 = omega arith
-      in subst (λ m. KidsHaveDocs e m last f) n h
+      in subst (λ m. ChildrenHaveDocs e m last f) n h
   last_has d e docs below last f (v ∷ vs) at h = let n : suc at + length vs ≡ at
       + suc (length vs) = omega arith
-      in subst (λ m. KidsHaveDocs e m last f) n (last_has d e docs below last f vs (suc at) h.1)
+      in subst (λ m. ChildrenHaveDocs e m last f) n (last_has d e docs below last f vs (suc at) h.1)
 
   pub some_total : (es : List (List ℕ × S)) → 0 < length es → (s : S)
       × (total join (λ _. true) es ≡ Some s)

@@ -9,14 +9,14 @@ use Rattle.std.proofs.Math.Seq.{take-length}
 use Rattle.agg_laws.specs.declared.tree_shape.TreeShape.{TreeShape}
 use Rattle.agg_laws.specs.Merged.{IsJoin, rekey}
 use Rattle.agg_laws.specs.Tree.{star, dims_order, dim, set_star, merged_docs, Nodes, none, node}
-use Rattle.agg_laws.specs.Tree.{skips, ids_at, docs_with, kids_of, star_kid, under, root_of}
+use Rattle.agg_laws.specs.Tree.{skips, ids_at, docs_with, child_nodes_of, star_child, under, root_of}
 use Rattle.agg_laws.specs.Tree.{tree_of, starred, rows_at, HaveNoStar}
 use Rattle.state_columns.specs.Docs.{HaveIds}
 use Rattle.state_columns.specs.Documents.{aggregated, star_docs, total_doc, total_below}
 use Rattle.state_columns.specs.Documents.{one_document}
 use Rattle.state_columns.specs.Region.{range}
-use Rattle.star_tree.specs.Flat.{blank, unvisited, node_at, count, kid_nodes, Flat, opened, closed}
-use Rattle.star_tree.specs.Flat.{visited, visited_one, flat, HasDocs, KidsHaveDocs, IsNode, FlatAt}
+use Rattle.star_tree.specs.Flat.{blank, unvisited, node_at, count, child_nodes, Flat, opened, closed}
+use Rattle.star_tree.specs.Flat.{visited, visited_one, flat, HasDocs, ChildrenHaveDocs, IsNode, FlatAt}
 use Rattle.star_tree.specs.FlatNodes.{IsOfTree}
 use Rattle.state_columns.proofs.MergedLemmas.{is_sorted-Merged}
 use Rattle.star_tree.proofs.TreeLemmas as trees
@@ -24,24 +24,24 @@ use Rattle.state_columns.proofs.ListLemmas.{same_dims, append_none, as_true, mer
 use Rattle.state_columns.proofs.ListLemmas.{length-rekey, range_length}
 use Rattle.star_tree.proofs.TreeLemmas.{Avoids, Avoids-ids, own_docs, length_more, covers_rows}
 use Rattle.star_tree.proofs.TreeLemmas.{all_rows}
-use Rattle.star_tree.proofs.NodeLemmas.{docs_at, below_kids, merged_total}
+use Rattle.star_tree.proofs.NodeLemmas.{docs_at, below_children, merged_total}
 use Rattle.star_tree.proofs.Runs.{joined, joined_all, all_filled}
-use Rattle.star_tree.proofs.PickLemmas.{has_star-kids, star_flag}
+use Rattle.star_tree.proofs.PickLemmas.{has_star-subtrees, star_flag}
 use Rattle.star_tree.proofs.FlatLemmas.{Outside, Grows, Grows-trans, same_unvisited, opened_grows}
 use Rattle.star_tree.proofs.FlatLemmas.{opened_length, closed_grows, closed_length, visited_grows}
-use Rattle.star_tree.proofs.FlatLemmas.{visit_grows, length-kid_nodes, unvisited_kids}
+use Rattle.star_tree.proofs.FlatLemmas.{visit_grows, length-child_nodes, unvisited_children}
 use Rattle.star_tree.proofs.FlatNodes.{rising_docs, range_is, last_id, HasDocs-grows}
-use Rattle.star_tree.proofs.FlatNodes.{KidsHaveDocs-grows, kids_range_grows, IsNode-grows}
-use Rattle.star_tree.proofs.FlatNodes.{StarTotal, split_total, close_is, kids_opened, last_opened}
-use Rattle.star_tree.proofs.FlatNodes.{star_docs_kids, count_kids, star_kid_docs, last_has}
+use Rattle.star_tree.proofs.FlatNodes.{ChildrenHaveDocs-grows, children_range_grows, IsNode-grows}
+use Rattle.star_tree.proofs.FlatNodes.{StarTotal, split_total, close_is, children_opened, last_opened}
+use Rattle.star_tree.proofs.FlatNodes.{star_docs_children, count_children, star_child_docs, last_has}
 use Rattle.star_tree.proofs.FlatNodes.{some_total}
 use Rattle.std.specs.FinMap.{is_sorted}
 
-KidsHaveDocs-none : {S : Type 0} (s : Bool) (d at : ℕ) (docs : List (List ℕ × S)) (kids : Nodes S)
-    (f : Flat S) → s ≡ true → KidsHaveDocs d at (cond s (node star docs kids none) none) f
+ChildrenHaveDocs-none : {S : Type 0} (s : Bool) (d at : ℕ) (docs : List (List ℕ × S)) (subtrees : Nodes S)
+    (f : Flat S) → s ≡ true → ChildrenHaveDocs d at (cond s (node star docs subtrees none) none) f
     → HasDocs d at star docs f
-KidsHaveDocs-none true d at docs kids f e h = h.0
-KidsHaveDocs-none false d at docs kids f e h = cc
+ChildrenHaveDocs-none true d at docs subtrees f e h = h.0
+ChildrenHaveDocs-none false d at docs subtrees f e h = cc
 
 module _ {S : Type 0} (join : S → S → S) (j : IsJoin join) (shape : TreeShape) (k : ℕ)
     (rows : List (List ℕ × S)) (ids : HaveIds k rows) (no_star : HaveNoStar k rows) where
@@ -67,7 +67,7 @@ module _ {S : Type 0} (join : S → S → S) (j : IsJoin join) (shape : TreeShap
   -- the children of a node have their documents once they have their numbers
   node_opened : (levels at id : ℕ) (path : List ℕ) (docs : List (List ℕ × S)) (f : Flat S)
       → length path + levels ≡ k → At path docs → HasDocs (length path) at id docs f
-      → KidsHaveDocs (suc (length path)) (length f.0) (under join shape levels (length path) docs)
+      → ChildrenHaveDocs (suc (length path)) (length f.0) (under join shape levels (length path) docs)
       (opened (length path) at (under join shape levels (length path) docs) f)
   node_opened zero at id path docs f sum is h = tt
   node_opened (suc m) at id path docs f sum is h =
@@ -75,10 +75,10 @@ module _ {S : Type 0} (join : S → S → S) (j : IsJoin join) (shape : TreeShap
       let below = under join shape m (suc d) in
       let sd = merged_docs join (rekey (set_star d) docs) in
       let s = not (skips shape d) && nat_lt 1 (length (ids_at join d docs)) in
-      let last = star_kid join below shape d docs in
+      let last = star_child join below shape d docs in
       let vs = ids_at join d docs in
-      let kids = kids_of below d docs last vs in
-      let g = opened d at kids f in
+      let subtrees = child_nodes_of below d docs last vs in
+      let g = opened d at subtrees f in
       let lt : d < k = omega (arith, sum) in
       let av : Avoids vs = Avoids-ids join j path rows docs is k lt no_star in
       let start = (node_at f.0 at).start in
@@ -97,10 +97,10 @@ module _ {S : Type 0} (join : S → S → S) (j : IsJoin join) (shape : TreeShap
       (rising_docs k path docs lt
       (docs_at join j k path rows docs (omega (arith, sum)) ids no_star is)
       (sorted_at path docs is)) in
-      let ds : g.1 ≡ front ++ (joined join d docs vs ++ (back ++ star_docs kids)) =
-      ap (λ l. l ++ star_docs kids) parts ∙ append_assoc front (docs ++ back) (star_docs kids)
-      ∙ ap (λ l. front ++ l) (append_assoc docs back (star_docs kids))
-      ∙ ap (λ l. front ++ (l ++ (back ++ star_docs kids))) (sym all) in
+      let ds : g.1 ≡ front ++ (joined join d docs vs ++ (back ++ star_docs subtrees)) =
+      ap (λ l. l ++ star_docs subtrees) parts ∙ append_assoc front (docs ++ back) (star_docs subtrees)
+      ∙ ap (λ l. front ++ l) (append_assoc docs back (star_docs subtrees))
+      ∙ ap (λ l. front ++ (l ++ (back ++ star_docs subtrees))) (sym all) in
       let front_is : length front
       ≡ start = length-take-le start f.1 (omega (arith, h.order, h.inside)) in
       let more : 0 < length sd =
@@ -108,13 +108,13 @@ module _ {S : Type 0} (join : S → S → S) (j : IsJoin join) (shape : TreeShap
       (omega (arith, some, length-rekey join (set_star d) docs)) in
       let last_ds : s ≡ true → g.1 ≡ f.1
       ++ sd = λ e. ap (λ l. f.1 ++ l)
-      (star_docs_kids join below d docs last vs av ∙ star_kid_docs join s sd (below sd) e) in
+      (star_docs_children join below d docs last vs av ∙ star_child_docs join s sd (below sd) e) in
       elim (nat_le (length docs) shape.leaf) as
-      (λ b. KidsHaveDocs (suc d) (length f.0) (cond b none kids)
-      (opened d at (cond b none kids) f)) [
+      (λ b. ChildrenHaveDocs (suc d) (length f.0) (cond b none subtrees)
+      (opened d at (cond b none subtrees) f)) [
         | true ↦ tt
-        | false ↦ kids_opened join d (length f.1) docs below last g vs av
-            (all_filled join d docs) f.0 start front (back ++ star_docs kids) refl front_is ds
+        | false ↦ children_opened join d (length f.1) docs below last g vs av
+            (all_filled join d docs) f.0 start front (back ++ star_docs subtrees) refl front_is ds
             (λ pre from is. last_opened join s d (length f.1) sd
             (below sd) g f.1 more last_ds refl pre from is)
       ]
@@ -157,10 +157,10 @@ module _ {S : Type 0} (join : S → S → S) (j : IsJoin join) (shape : TreeShap
       × ((i : ℕ) → length f.0 ≤ i → i < length g.0 → IsOfTree join shape k rows i g)
 
   -- what a visit of one node makes
-  record Visited (d at : ℕ) (docs : List (List ℕ × S)) (kids : Nodes S) (f : Flat S) : Type 0 where
-    itself : IsOfTree join shape k rows at (visited_one join d at docs kids f)
-    added : (i : ℕ) → length f.0 ≤ i → i < length (visited_one join d at docs kids f).0
-        → IsOfTree join shape k rows i (visited_one join d at docs kids f)
+  record Visited (d at : ℕ) (docs : List (List ℕ × S)) (subtrees : Nodes S) (f : Flat S) : Type 0 where
+    itself : IsOfTree join shape k rows at (visited_one join d at docs subtrees f)
+    added : (i : ℕ) → length f.0 ≤ i → i < length (visited_one join d at docs subtrees f).0
+        → IsOfTree join shape k rows i (visited_one join d at docs subtrees f)
 
   is_node_at : (d levels at id : ℕ) (path : List ℕ) (docs : List (List ℕ × S)) (f : Flat S) → d
       ≡ length path → d + levels ≡ k → dim (length path - 1) path ≡ id → HasDocs d at id docs f
@@ -185,30 +185,30 @@ module _ {S : Type 0} (join : S → S → S) (j : IsJoin join) (shape : TreeShap
             in subst P same own
       ] refl
 
-  kids_visited : (d e : ℕ) (docs : List (List ℕ × S)) (below : List (List ℕ × S) → Nodes S)
+  children_visited : (d e : ℕ) (docs : List (List ℕ × S)) (below : List (List ℕ × S) → Nodes S)
       (last : Nodes S)
       → ((v : ℕ) → (v == star) ≡ false → (at : ℕ) (f : Flat S) → at < length f.0
       → HasDocs d at v (docs_with e v docs) f
       → Visited d at (docs_with e v docs) (below (docs_with e v docs)) f)
-      → ((at : ℕ) (f : Flat S) → at + count last ≤ length f.0 → KidsHaveDocs d at last f
+      → ((at : ℕ) (f : Flat S) → at + count last ≤ length f.0 → ChildrenHaveDocs d at last f
       → Done at (count last) f (visited join d at last f))
       → (vs : List ℕ) → Avoids vs → (at : ℕ) (f : Flat S) → at
-      + count (kids_of below e docs last vs) ≤ length f.0
-      → KidsHaveDocs d at (kids_of below e docs last vs) f
-      → Done at (count (kids_of below e docs last vs)) f
-      (visited join d at (kids_of below e docs last vs) f)
-  kids_visited d e docs below last each end [] av at f in' has = end at f in' has
-  kids_visited d e docs below last each end (v ∷ vs) av at f in' has =
+      + count (child_nodes_of below e docs last vs) ≤ length f.0
+      → ChildrenHaveDocs d at (child_nodes_of below e docs last vs) f
+      → Done at (count (child_nodes_of below e docs last vs)) f
+      (visited join d at (child_nodes_of below e docs last vs) f)
+  children_visited d e docs below last each end [] av at f in' has = end at f in' has
+  children_visited d e docs below last each end (v ∷ vs) av at f in' has =
       let own = docs_with e v docs in
-      let rest = kids_of below e docs last vs in
+      let rest = child_nodes_of below e docs last vs in
       let lt : at < length f.0 = omega (arith, in') in
       let one = each v av.0 at f lt has.0 in
       let c = visited_one join d at own (below own) f in
       let g = visited join d (suc at) rest c in
       let grows = visit_grows join d at own (below own) f lt in
       let room : suc at + count rest ≤ length c.0 = omega (arith, in', grows.longer) in
-      let more = kids_visited d e docs below last each end vs av.1 (suc at) c room
-      (KidsHaveDocs-grows (Outside at 1) d (suc at) rest f c grows has.1) in
+      let more = children_visited d e docs below last each end vs av.1 (suc at) c room
+      (ChildrenHaveDocs-grows (Outside at 1) d (suc at) rest f c grows has.1) in
       let rest_grows = visited_grows join d (suc at) rest c room in (
         λ i le l. by_number (λ n. IsOfTree join shape k rows n g) at i le
             (OfTree-grows (Outside (suc at) (count rest)) at c g rest_grows
@@ -221,76 +221,76 @@ module _ {S : Type 0} (join : S → S → S) (j : IsJoin join) (shape : TreeShap
             ] refl,
       )
 
-  last_visited : (s : Bool) (d : ℕ) (sd : List (List ℕ × S)) (kids : Nodes S)
-      → ((at : ℕ) (f : Flat S) → at < length f.0 → HasDocs d at star sd f → Visited d at sd kids f)
-      → (at : ℕ) (f : Flat S) → at + count (cond s (node star sd kids none) none) ≤ length f.0
-      → KidsHaveDocs d at (cond s (node star sd kids none) none) f
-      → Done at (count (cond s (node star sd kids none) none)) f
-      (visited join d at (cond s (node star sd kids none) none) f)
-  last_visited false d sd kids one at f in' has =
+  last_visited : (s : Bool) (d : ℕ) (sd : List (List ℕ × S)) (subtrees : Nodes S)
+      → ((at : ℕ) (f : Flat S) → at < length f.0 → HasDocs d at star sd f → Visited d at sd subtrees f)
+      → (at : ℕ) (f : Flat S) → at + count (cond s (node star sd subtrees none) none) ≤ length f.0
+      → ChildrenHaveDocs d at (cond s (node star sd subtrees none) none) f
+      → Done at (count (cond s (node star sd subtrees none) none)) f
+      (visited join d at (cond s (node star sd subtrees none) none) f)
+  last_visited false d sd subtrees one at f in' has =
       (λ i le l. absurd (omega arith), λ i le l. absurd (omega arith))
-  last_visited true d sd kids one at f in' has =
+  last_visited true d sd subtrees one at f in' has =
       let v = one at f (omega (arith, in')) has.0 in (
         λ i le l. by_number
-            (λ n. IsOfTree join shape k rows n (visited_one join d at sd kids f)) at i le v.itself
+            (λ n. IsOfTree join shape k rows n (visited_one join d at sd subtrees f)) at i le v.itself
             (λ h. absurd (omega arith)),
         v.added,
       )
 
   -- a node is visited once its children are
   node_closed : (levels at : ℕ) (path : List ℕ) (docs : List (List ℕ × S)) (f : Flat S)
-      (kids : Nodes S) → length path + levels ≡ k → At path docs → at < length f.0
-      → HasDocs (length path) at (dim (length path - 1) path) docs f → kids
+      (subtrees : Nodes S) → length path + levels ≡ k → At path docs → at < length f.0
+      → HasDocs (length path) at (dim (length path - 1) path) docs f → subtrees
       ≡ under join shape levels (length path) docs
-      → KidsHaveDocs (suc (length path)) (length f.0) kids (opened (length path) at kids f)
-      → Done (length f.0) (count kids) (opened (length path) at kids f)
-      (visited join (suc (length path)) (length f.0) kids (opened (length path) at kids f))
-      → StarTotal join (length path) (length f.0) docs kids
-      (visited join (suc (length path)) (length f.0) kids (opened (length path) at kids f))
-      → Visited (length path) at docs kids f
-  node_closed levels at path docs f kids sum is lt has kids_is opened_docs done star_total =
+      → ChildrenHaveDocs (suc (length path)) (length f.0) subtrees (opened (length path) at subtrees f)
+      → Done (length f.0) (count subtrees) (opened (length path) at subtrees f)
+      (visited join (suc (length path)) (length f.0) subtrees (opened (length path) at subtrees f))
+      → StarTotal join (length path) (length f.0) docs subtrees
+      (visited join (suc (length path)) (length f.0) subtrees (opened (length path) at subtrees f))
+      → Visited (length path) at docs subtrees f
+  node_closed levels at path docs f subtrees sum is lt has subtrees_is opened_docs done star_total =
       let d = length path in
       let n = length f.0 in
       let id = dim (length path - 1) path in
-      let f1 = opened d at kids f in
-      let h = visited join (suc d) n kids f1 in
-      let c = closed join d at n docs kids h in
+      let f1 = opened d at subtrees f in
+      let h = visited join (suc d) n subtrees f1 in
+      let c = closed join d at n docs subtrees h in
       let start = (node_at f.0 at).start in
-      let kn = kid_nodes (suc d) start (length f.1) kids in
-      let len1 = opened_length d at kids f in
-      let opens : Grows (Outside n (count kids)) f f1 =
-      opened_grows (Outside n (count kids)) d at kids f in
-      let visits : Grows (Outside n (count kids)) f1 h =
-      visited_grows join (suc d) n kids f1 (omega (arith, len1)) in
-      let upto : Grows (Outside n (count kids)) f h =
-      Grows-trans (Outside n (count kids)) (Outside n (count kids)) f f1 h opens visits
+      let kn = child_nodes (suc d) start (length f.1) subtrees in
+      let len1 = opened_length d at subtrees f in
+      let opens : Grows (Outside n (count subtrees)) f f1 =
+      opened_grows (Outside n (count subtrees)) d at subtrees f in
+      let visits : Grows (Outside n (count subtrees)) f1 h =
+      visited_grows join (suc d) n subtrees f1 (omega (arith, len1)) in
+      let upto : Grows (Outside n (count subtrees)) f h =
+      Grows-trans (Outside n (count subtrees)) (Outside n (count subtrees)) f f1 h opens visits
       (λ i p l. p) in
-      let close : Grows (Outside at 1) h c = closed_grows join d at n docs kids h in
+      let close : Grows (Outside at 1) h c = closed_grows join d at n docs subtrees h in
       let has_h : HasDocs d at id docs h =
-      HasDocs-grows (Outside n (count kids)) d at id docs f h upto has in
+      HasDocs-grows (Outside n (count subtrees)) d at id docs f h upto has in
       let some : 0 < length docs = let w =
       range_length join start (node_at f.0 at).end f.1 (omega (arith, has.order)) has.inside
       in let l = ap length has.docs_are in omega (arith, w, l, has.order) in
       let same_start : (node_at h.0 at).start
-      ≡ start = ap (λ m. m.start) (same_unvisited (Outside n (count kids)) f h upto at lt) in
+      ≡ start = ap (λ m. m.start) (same_unvisited (Outside n (count subtrees)) f h upto at lt) in
       let un : map unvisited f1.0 ≡ map unvisited f.0 ++ (kn ++ []) = map-append unvisited f.0 kn
       ∙ ap (λ l. map unvisited f.0 ++ l)
-      (unvisited_kids (suc d) start (length f.1) kids ∙ sym (append_none kn)) in
-      let kn_len = length-kid_nodes (suc d) start (length f.1) kids in
-      let are : range n (n + count kids) (map unvisited h.0)
-      ≡ kid_nodes (suc d) (node_at h.0 at).start (length f.1) kids =
-      kids_range_grows (Outside n (count kids)) f1 h n (n + count kids) visits (omega arith)
+      (unvisited_children (suc d) start (length f.1) subtrees ∙ sym (append_none kn)) in
+      let kn_len = length-child_nodes (suc d) start (length f.1) subtrees in
+      let are : range n (n + count subtrees) (map unvisited h.0)
+      ≡ child_nodes (suc d) (node_at h.0 at).start (length f.1) subtrees =
+      children_range_grows (Outside n (count subtrees)) f1 h n (n + count subtrees) visits (omega arith)
       (omega (arith, len1))
-      ∙ range_is n (n + count kids) (map unvisited f.0) kn [] (map unvisited f1.0)
+      ∙ range_is n (n + count subtrees) (map unvisited f.0) kn [] (map unvisited f1.0)
       (length-map f.0 unvisited) (ap (λ m. n + m) kn_len) un
-      ∙ ap (λ m. kid_nodes (suc d) m (length f.1) kids) (sym same_start) in
-      let node_is : IsNode join d at id docs kids c =
-      close_is join d at id n docs kids h (length f.1) has_h lt
+      ∙ ap (λ m. child_nodes (suc d) m (length f.1) subtrees) (sym same_start) in
+      let node_is : IsNode join d at id docs subtrees c =
+      close_is join d at id n docs subtrees h (length f.1) has_h lt
       (omega (arith, len1, visits.longer)) are
-      (KidsHaveDocs-grows (Outside n (count kids))
-      (suc d) n kids f1 h visits opened_docs) star_total
+      (ChildrenHaveDocs-grows (Outside n (count subtrees))
+      (suc d) n subtrees f1 h visits opened_docs) star_total
       (one_aggregated path docs (omega (arith, sum)) is some) in
-      let close_len = closed_length join d at n docs kids h in
+      let close_len = closed_length join d at n docs subtrees h in
       record {
         itself = record {
           path = path;
@@ -298,13 +298,13 @@ module _ {S : Type 0} (join : S → S → S) (j : IsJoin join) (shape : TreeShap
           levels_are = sum;
           docs = docs;
           covers = covers_rows join j path rows docs is;
-          is = subst (λ t. IsNode join d at id docs t c) kids_is node_is;
+          is = subst (λ t. IsNode join d at id docs t c) subtrees_is node_is;
         };
         added = λ i le l. OfTree-grows (Outside at 1) i h c close (inr (omega arith))
-            (elim (nat_lt i (n + count kids)) as
-            (λ b. nat_lt i (n + count kids) ≡ b → IsOfTree join shape k rows i h) [
-              | true ↦ λ q. done.0 i le (above (n + count kids) i q)
-              | false ↦ λ q. done.1 i (omega (arith, len1, not_above (n + count kids) i q))
+            (elim (nat_lt i (n + count subtrees)) as
+            (λ b. nat_lt i (n + count subtrees) ≡ b → IsOfTree join shape k rows i h) [
+              | true ↦ λ q. done.0 i le (above (n + count subtrees) i q)
+              | false ↦ λ q. done.1 i (omega (arith, len1, not_above (n + count subtrees) i q))
                   (omega (arith, l, close_len))
             ] refl);
       }
@@ -312,16 +312,16 @@ module _ {S : Type 0} (join : S → S → S) (j : IsJoin join) (shape : TreeShap
   no_star_none : (d n : ℕ) (docs : List (List ℕ × S)) (h : Flat S) → StarTotal join d n docs none h
   no_star_none d n docs h = λ e. cc
 
-  last_total : (s : Bool) (d : ℕ) (docs sd : List (List ℕ × S)) (kids : Nodes S) → s ≡ true
-      → total_below join d docs (cond s (node star sd kids none) none)
-      ≡ total_doc join (suc d) sd kids
-  last_total true d docs sd kids e = refl
-  last_total false d docs sd kids e = cc
+  last_total : (s : Bool) (d : ℕ) (docs sd : List (List ℕ × S)) (subtrees : Nodes S) → s ≡ true
+      → total_below join d docs (cond s (node star sd subtrees none) none)
+      ≡ total_doc join (suc d) sd subtrees
+  last_total true d docs sd subtrees e = refl
+  last_total false d docs sd subtrees e = cc
 
-  last_count : (s : Bool) (sd : List (List ℕ × S)) (kids : Nodes S) → s ≡ true
-      → count (cond s (node star sd kids none) none) ≡ 1
-  last_count true sd kids e = refl
-  last_count false sd kids e = cc
+  last_count : (s : Bool) (sd : List (List ℕ × S)) (subtrees : Nodes S) → s ≡ true
+      → count (cond s (node star sd subtrees none) none) ≡ 1
+  last_count true sd subtrees e = refl
+  last_count false sd subtrees e = cc
 
   node_visited : (levels at id : ℕ) (path : List ℕ) (docs : List (List ℕ × S)) (f : Flat S)
       → length path + levels ≡ k → dim (length path - 1) path ≡ id → At path docs → at < length f.0
@@ -341,11 +341,11 @@ module _ {S : Type 0} (join : S → S → S) (j : IsJoin join) (shape : TreeShap
       let below = under join shape m (suc d) in
       let sd = merged_docs join (rekey (set_star d) docs) in
       let s = not (skips shape d) && nat_lt 1 (length (ids_at join d docs)) in
-      let end = star_kid join below shape d docs in
+      let end = star_child join below shape d docs in
       let vs = ids_at join d docs in
-      let kids = kids_of below d docs end vs in
-      let f1 = opened d at kids f in
-      let h = visited join (suc d) n kids f1 in
+      let subtrees = child_nodes_of below d docs end vs in
+      let f1 = opened d at subtrees f in
+      let h = visited join (suc d) n subtrees f1 in
       let lt' : d < k = omega (arith, sum) in
       let av : Avoids vs = Avoids-ids join j path rows docs is k lt' no_star in
       let next : (v : ℕ) → length (path ++ (v ∷ [])) ≡ suc d = λ v. length_more path v in
@@ -357,48 +357,48 @@ module _ {S : Type 0} (join : S → S → S) (j : IsJoin join) (shape : TreeShap
       subst (λ e. Visited e a ds (under join shape m e ds) g) (next v)
       (node_visited m a v (path ++ (v ∷ [])) ds g (omega (arith, next v, sum)) (last_id path v) p l
       (subst (λ e. HasDocs e a v ds g) (sym (next v)) hd)) in
-      let len1 = opened_length d at kids f in
+      let len1 = opened_length d at subtrees f in
       let opened_docs = node_opened (suc m) at
       (dim (length path - 1) path) path docs f sum is has' in
       elim (nat_le (length docs) shape.leaf) as
       (λ b. nat_le (length docs) shape.leaf ≡ b
-      → KidsHaveDocs (suc d) n (cond b none kids) (opened d at (cond b none kids) f)
-      → Visited d at docs (cond b none kids) f) [
+      → ChildrenHaveDocs (suc d) n (cond b none subtrees) (opened d at (cond b none subtrees) f)
+      → Visited d at docs (cond b none subtrees) f) [
         | true ↦ λ e o. node_closed (suc m) at path docs f none sum is lt has'
-            (ap (λ b. cond b none kids) (sym e)) tt (
+            (ap (λ b. cond b none subtrees) (sym e)) tt (
               λ i le l. absurd (omega arith),
               λ i le l. absurd
                   (omega (arith, opened_length (length path) at none f)),
             ) (no_star_none d n docs _)
         | false ↦ λ e o.
-            let done = kids_visited (suc d) d docs below end
+            let done = children_visited (suc d) d docs below end
             (λ v q a g l hd. visit v (docs_with d v docs)
             (own_docs join j path rows docs is v q) a g l hd)
             (last_visited s (suc d) sd (below sd)
             (λ a g l hd. visit star sd star_is a g l hd)) vs av n f1 (omega (arith, len1)) o in
-            let visits = visited_grows join (suc d) n kids f1 (omega (arith, len1)) in
-            let star_total : StarTotal join d n docs kids h = λ q.
+            let visits = visited_grows join (suc d) n subtrees f1 (omega (arith, len1)) in
+            let star_total : StarTotal join d n docs subtrees h = λ q.
             let yes : s ≡ true = sym
-            (has_star-kids below d docs end vs av ∙ star_flag s sd (below sd)) ∙ q in
-            let c = count_kids join below d docs end vs in
+            (has_star-subtrees below d docs end vs av ∙ star_flag s sd (below sd)) ∙ q in
+            let c = count_children join below d docs end vs in
             let one = last_count s sd (below sd) yes in
-            let i : n + length vs ≡ n + (count kids - 1) = omega (arith, c, one) in
+            let i : n + length vs ≡ n + (count subtrees - 1) = omega (arith, c, one) in
             let hd : HasDocs (suc d) (n + length vs) star sd h =
-            HasDocs-grows (Outside n (count kids)) (suc d) (n + length vs) star sd f1 h visits
-            (KidsHaveDocs-none s (suc d) (n + length vs) sd (below sd) f1 yes
+            HasDocs-grows (Outside n (count subtrees)) (suc d) (n + length vs) star sd f1 h visits
+            (ChildrenHaveDocs-none s (suc d) (n + length vs) sd (below sd) f1 yes
             (last_has join d (suc d) docs below end f1 vs n o)) in
             let of_tree = done.0 (n + length vs) (omega arith) (omega (arith, c, one)) in
             let w = is_node_at (suc d) m (n + length vs) star (path ++ (star ∷ [])) sd h
             (sym (next star)) (omega (arith, sum)) (last_id path star) hd of_tree in
-            let same : total_doc join (suc d) sd (below sd) ≡ total_doc join d docs kids =
-            sym (split_total join d docs kids q ∙ below_kids join j below d docs docs end vs av
+            let same : total_doc join (suc d) sd (below sd) ≡ total_doc join d docs subtrees =
+            sym (split_total join d docs subtrees q ∙ below_children join j below d docs docs end vs av
             ∙ last_total s d docs sd (below sd) yes) in (
               subst (λ x. (node_at h.0 x).total < length h.1) i w.total_in,
               subst (λ x. range (node_at h.0 x).total (suc (node_at h.0 x).total) h.1
-                  ≡ total_doc join d docs kids) i (w.total_is ∙ same),
+                  ≡ total_doc join d docs subtrees) i (w.total_is ∙ same),
             ) in
-            node_closed (suc m) at path docs f kids sum is lt has'
-            (ap (λ b. cond b none kids) (sym e)) o done star_total
+            node_closed (suc m) at path docs f subtrees sum is lt has'
+            (ap (λ b. cond b none subtrees) (sym e)) o done star_total
       ] refl opened_docs
 
   -- every node of the flat tree is one of the nested tree
@@ -429,26 +429,26 @@ module _ {S : Type 0} (join : S → S → S) (j : IsJoin join) (shape : TreeShap
 
   -- and the nested tree is laid out from the root on
   module _ (f : Flat S) (all : (i : ℕ) → i < length f.0 → IsOfTree join shape k rows i f) where
-    kids_flat : (d e : ℕ) (docs : List (List ℕ × S)) (below : List (List ℕ × S) → Nodes S)
+    children_flat : (d e : ℕ) (docs : List (List ℕ × S)) (below : List (List ℕ × S) → Nodes S)
         (last : Nodes S)
         → ((v : ℕ) → (v == star) ≡ false → (at : ℕ) → HasDocs d at v (docs_with e v docs) f
         → IsNode join d at v (docs_with e v docs) (below (docs_with e v docs)) f
         × FlatAt join (suc d) (node_at f.0 at).first (below (docs_with e v docs)) f)
-        → ((at : ℕ) → KidsHaveDocs d at last f → FlatAt join d at last f)
-        → (vs : List ℕ) → Avoids vs → (at : ℕ) → KidsHaveDocs d at (kids_of below e docs last vs) f
-        → FlatAt join d at (kids_of below e docs last vs) f
-    kids_flat d e docs below last each end [] av at has = end at has
-    kids_flat d e docs below last each end (v ∷ vs) av at has =
+        → ((at : ℕ) → ChildrenHaveDocs d at last f → FlatAt join d at last f)
+        → (vs : List ℕ) → Avoids vs → (at : ℕ) → ChildrenHaveDocs d at (child_nodes_of below e docs last vs) f
+        → FlatAt join d at (child_nodes_of below e docs last vs) f
+    children_flat d e docs below last each end [] av at has = end at has
+    children_flat d e docs below last each end (v ∷ vs) av at has =
         let one = each v av.0 at has.0
-        in (one.0, one.1, kids_flat d e docs below last each end vs av.1 (suc at) has.1)
+        in (one.0, one.1, children_flat d e docs below last each end vs av.1 (suc at) has.1)
 
-    last_flat : (s : Bool) (d : ℕ) (sd : List (List ℕ × S)) (kids : Nodes S)
-        → ((at : ℕ) → HasDocs d at star sd f → IsNode join d at star sd kids f
-        × FlatAt join (suc d) (node_at f.0 at).first kids f)
-        → (at : ℕ) → KidsHaveDocs d at (cond s (node star sd kids none) none) f
-        → FlatAt join d at (cond s (node star sd kids none) none) f
-    last_flat false d sd kids one at has = tt
-    last_flat true d sd kids one at has = let o = one at has.0 in (o.0, o.1, tt)
+    last_flat : (s : Bool) (d : ℕ) (sd : List (List ℕ × S)) (subtrees : Nodes S)
+        → ((at : ℕ) → HasDocs d at star sd f → IsNode join d at star sd subtrees f
+        × FlatAt join (suc d) (node_at f.0 at).first subtrees f)
+        → (at : ℕ) → ChildrenHaveDocs d at (cond s (node star sd subtrees none) none) f
+        → FlatAt join d at (cond s (node star sd subtrees none) none) f
+    last_flat false d sd subtrees one at has = tt
+    last_flat true d sd subtrees one at has = let o = one at has.0 in (o.0, o.1, tt)
 
     node_flat : (d levels at id : ℕ) (path : List ℕ) (docs : List (List ℕ × S)) → d ≡ length path
         → d + levels ≡ k → dim (length path - 1) path ≡ id → At path docs → HasDocs d at id docs f
@@ -460,9 +460,9 @@ module _ {S : Type 0} (join : S → S → S) (j : IsJoin join) (shape : TreeShap
         let below = under join shape m (suc d) in
         let sd = merged_docs join (rekey (set_star d) docs) in
         let s = not (skips shape d) && nat_lt 1 (length (ids_at join d docs)) in
-        let end = star_kid join below shape d docs in
+        let end = star_child join below shape d docs in
         let vs = ids_at join d docs in
-        let kids = kids_of below d docs end vs in
+        let subtrees = child_nodes_of below d docs end vs in
         let lt : length path < k = omega (arith, e, sum) in
         let av : Avoids vs = subst (λ n. Avoids (ids_at join n docs)) (sym e)
         (Avoids-ids join j path rows docs is k lt no_star) in
@@ -475,17 +475,17 @@ module _ {S : Type 0} (join : S → S → S) (j : IsJoin join) (shape : TreeShap
         ∙ trees.star_docs join j path rows docs is in (
           here,
           elim (nat_le (length docs) shape.leaf) as
-              (λ b. KidsHaveDocs (suc d) first (cond b none kids) f
-              → FlatAt join (suc d) first (cond b none kids) f) [
+              (λ b. ChildrenHaveDocs (suc d) first (cond b none subtrees) f
+              → FlatAt join (suc d) first (cond b none subtrees) f) [
                 | true ↦ λ _. tt
-                | false ↦ λ has'. kids_flat (suc d) d docs below end
+                | false ↦ λ has'. children_flat (suc d) d docs below end
                     (λ v q a h. node_flat (suc d) m a v (path ++ (v ∷ [])) (docs_with d v docs) (next v)
                     (omega arith) (last_id path v)
                     (ap (λ n. docs_with n v docs) e ∙ own_docs join j path rows docs is v q) h)
                     (last_flat s (suc d) sd (below sd)
                     (λ a h. node_flat (suc d) m a star (path ++ (star ∷ [])) sd (next star)
                     (omega arith) (last_id path star) star_is h)) vs av first has'
-              ] here.kids_docs,
+              ] here.children_docs,
         )
 
   -- the first node of a tree is the root

@@ -10,7 +10,7 @@ use Rattle.agg_laws.specs.declared.tree_shape.TreeShape.{TreeShape}
 use Rattle.agg_laws.specs.Merged.{IsJoin}
 use Rattle.agg_laws.specs.Tree.{star, dim, Nodes, none, node, has_star, HaveNoStar, tree_of}
 use Rattle.state_columns.specs.Documents.{total_doc}
-use Rattle.star_tree.specs.Picks.{Task, Pick, quiet, is_taken, picks_here, picks_of, picks}
+use Rattle.star_tree.specs.Picks.{Task, Pick, are_unconstrained, is_selected, picks_here, picks_of, picks}
 use Rattle.star_tree.specs.Picks.{KeepGroups, ArePartedBy}
 use Rattle.star_tree.proofs.TreeLemmas.{length_more}
 use Rattle.star_tree.proofs.PickLemmas.{tree_parted}
@@ -41,10 +41,10 @@ module _ (t : Task) (k : ℕ) where
   Own d path = (i : ℕ) → i < d → t.grouped i ≡ true → dim i path ≢ star
 
   -- where no dimension is grouped any more
-  quiet_at : (more d i : ℕ) → quiet t more d ≡ true → d ≤ i → i < d + more → t.grouped i ≡ true → ⊥
+  quiet_at : (more d i : ℕ) → are_unconstrained t more d ≡ true → d ≤ i → i < d + more → t.grouped i ≡ true → ⊥
   quiet_at zero d i q lo hi g = absurd (omega arith)
   quiet_at (suc more) d i q lo hi g =
-      let both = parts (t.filtered d) (t.grouped d) (quiet t more (suc d)) q in
+      let both = parts (t.filtered d) (t.grouped d) (are_unconstrained t more (suc d)) q in
       elim (i == d) as (λ b. (i == d) ≡ b → ⊥) [
         | true ↦ λ e. both.0 (ap t.grouped (sym (eqb-true i d e)) ∙ g)
         | false ↦ λ e. quiet_at more (suc d) i both.1 (same_or_above d i lo e) (omega arith) g
@@ -56,7 +56,7 @@ module _ (t : Task) (k : ℕ) where
   groups-append (p ∷ ps) qs h q = (h.0, groups-append ps qs h.1 q)
 
   one_kept : {S : Type 0} (d : ℕ) (path : List ℕ) (docs : List (List ℕ × S)) → Own d path
-      → quiet t (k - d) d ≡ true
+      → are_unconstrained t (k - d) d ≡ true
       → KeepGroups t k (record { path = path; level = k; docs = docs } ∷ [])
   one_kept d path docs own q = (
     (λ i below g _. elim (nat_lt i d) as (λ b. nat_lt i d ≡ b → dim i path ≡ star → ⊥) [
@@ -67,22 +67,22 @@ module _ (t : Task) (k : ℕ) where
   )
 
   module _ {S : Type 0} (join : S → S → S) where
-    here_kept : (d : ℕ) (path : List ℕ) (docs : List (List ℕ × S)) (kids : Nodes S)
+    here_kept : (d : ℕ) (path : List ℕ) (docs : List (List ℕ × S)) (subtrees : Nodes S)
         (below : List (Pick S)) → Own d path → KeepGroups t k below
-        → KeepGroups t k (picks_here join t k d path docs kids below)
+        → KeepGroups t k (picks_here join t k d path docs subtrees below)
     here_kept d path docs none below own h =
         let whole = total_doc join d docs none in
-        elim (quiet t (k - d) d) as
-        (λ b. quiet t (k - d) d ≡ b
+        elim (are_unconstrained t (k - d) d) as
+        (λ b. are_unconstrained t (k - d) d ≡ b
         → KeepGroups t k (cond b (record { path = path; level = k; docs = whole } ∷ [])
         (record { path = path; level = d; docs = docs } ∷ []))) [
           | true ↦ λ q. one_kept d path whole own q
           | false ↦ λ q. ((λ i _ g at. own i at g), tt)
         ] refl
-    here_kept d path docs (node id own_docs kids rest) below own h =
-        let whole = total_doc join d docs (node id own_docs kids rest) in
-        elim (quiet t (k - d) d) as
-        (λ b. quiet t (k - d) d ≡ b
+    here_kept d path docs (node id own_docs subtrees rest) below own h =
+        let whole = total_doc join d docs (node id own_docs subtrees rest) in
+        elim (are_unconstrained t (k - d) d) as
+        (λ b. are_unconstrained t (k - d) d ≡ b
         → KeepGroups t k (cond b
         (record { path = path; level = k; docs = whole } ∷ []) below)) [
           | true ↦ λ q. one_kept d path whole own q
@@ -90,7 +90,7 @@ module _ (t : Task) (k : ℕ) where
         ] refl
 
   -- a child that is taken has an id of its own, where the dimension is grouped
-  own_more : (d : ℕ) (path : List ℕ) (b : Bool) (id : ℕ) → d ≡ length path → is_taken t b d id
+  own_more : (d : ℕ) (path : List ℕ) (b : Bool) (id : ℕ) → d ≡ length path → is_selected t b d id
       ≡ true → Own d path → Own (suc d) (path ++ (id ∷ []))
   own_more d path b id at taken own i lt g =
       elim (nat_lt i d) as (λ b. nat_lt i d ≡ b → dim i (path ++ (id ∷ [])) ≡ star → ⊥) [
@@ -106,32 +106,32 @@ module _ (t : Task) (k : ℕ) where
       ] refl
 
   module _ {S : Type 0} (join : S → S → S) where
-    kids_kept : (b : Bool) (d : ℕ) (path : List ℕ) (kids : Nodes S) → d ≡ length path → Own d path
-        → KeepGroups t k (picks_of join t k b d path kids)
-    kids_kept b d path none at own = tt
-    kids_kept b d path (node id docs kids rest) at own =
+    children_kept : (b : Bool) (d : ℕ) (path : List ℕ) (subtrees : Nodes S) → d ≡ length path → Own d path
+        → KeepGroups t k (picks_of join t k b d path subtrees)
+    children_kept b d path none at own = tt
+    children_kept b d path (node id docs subtrees rest) at own =
         let next = path ++ (id ∷ []) in
-        let more = kids_kept (has_star kids) (suc d) next kids
+        let more = children_kept (has_star subtrees) (suc d) next subtrees
         (ap suc at ∙ sym (length_more path id)) in
-        let here = picks_here join t k (suc d) next docs kids
-        (picks_of join t k (has_star kids) (suc d) next kids) in
-        groups-append (cond (is_taken t b d id) here []) (picks_of join t k b d path rest)
-        (elim (is_taken t b d id) as
-        (λ c. is_taken t b d id ≡ c → KeepGroups t k (cond c here [])) [
+        let here = picks_here join t k (suc d) next docs subtrees
+        (picks_of join t k (has_star subtrees) (suc d) next subtrees) in
+        groups-append (cond (is_selected t b d id) here []) (picks_of join t k b d path rest)
+        (elim (is_selected t b d id) as
+        (λ c. is_selected t b d id ≡ c → KeepGroups t k (cond c here [])) [
           | true ↦ λ e. let own' = own_more d path b id at e own
-              in here_kept join (suc d) next docs kids
-              (picks_of join t k (has_star kids) (suc d) next kids) own' (more own')
+              in here_kept join (suc d) next docs subtrees
+              (picks_of join t k (has_star subtrees) (suc d) next subtrees) own' (more own')
           | false ↦ λ _. tt
         ] refl)
-        (kids_kept b d path rest at own)
+        (children_kept b d path rest at own)
 
     -- on each grouped dimension the picks of a tree have ids of their own
     pub groups_kept : (tree : Nodes S) → KeepGroups t k (picks join t k tree)
     groups_kept none = tt
-    groups_kept (node id docs kids rest) =
+    groups_kept (node id docs subtrees rest) =
         let root : Own 0 [] = λ i lt g at. omega arith in
-        here_kept join 0 [] docs kids (picks_of join t k (has_star kids) 0 [] kids) root
-        (kids_kept (has_star kids) 0 [] kids refl root)
+        here_kept join 0 [] docs subtrees (picks_of join t k (has_star subtrees) 0 [] subtrees) root
+        (children_kept (has_star subtrees) 0 [] subtrees refl root)
 
 -- each row of a tree is parted by its picks
 module _ {S : Type 0} (join : S → S → S) (j : IsJoin join) (t : Task) (k : ℕ)

@@ -8,7 +8,7 @@ use Rattle.std.proofs.lemmas.Bool.{eqb-true}
 use Rattle.agg_laws.specs.declared.tree_shape.TreeShape.{TreeShape}
 use Rattle.agg_laws.specs.Merged.{IsJoin, total, add, rekey}
 use Rattle.agg_laws.specs.Tree.{star, dims_order, dim, set_star, merged_docs, Nodes, none, node}
-use Rattle.agg_laws.specs.Tree.{skips, ids_at, docs_with, kids_of, star_kid, under, agrees, starred}
+use Rattle.agg_laws.specs.Tree.{skips, ids_at, docs_with, child_nodes_of, star_child, under, agrees, starred}
 use Rattle.agg_laws.specs.Tree.{rows_at, HaveNoStar}
 use Rattle.state_columns.specs.Docs.{HaveIds}
 use Rattle.state_columns.specs.Documents.{aggregated, total_here, total_below, total_doc}
@@ -133,16 +133,16 @@ module _ {S : Type 0} (join : S → S → S) (j : IsJoin join) where
       (rows_docs_at k path rows short ids no_star))
 
   -- the star child of some nodes alone matters
-  pub below_kids : (below : List (List ℕ × S) → Nodes S) (d : ℕ) (docs all : List (List ℕ × S))
+  pub below_children : (below : List (List ℕ × S) → Nodes S) (d : ℕ) (docs all : List (List ℕ × S))
       (last : Nodes S) (vs : List ℕ) → Avoids vs
-      → total_below join d all (kids_of below d docs last vs) ≡ total_below join d all last
-  below_kids below d docs all last [] av = refl
-  below_kids below d docs all last (v ∷ vs) av =
+      → total_below join d all (child_nodes_of below d docs last vs) ≡ total_below join d all last
+  below_children below d docs all last [] av = refl
+  below_children below d docs all last (v ∷ vs) av =
       let own = docs_with d v docs in
       ap (λ b. cond b (total_here join (suc d) own (below own)
       (total_below join (suc d) own (below own)))
-      (total_below join d all (kids_of below d docs last vs))) av.0
-      ∙ below_kids below d docs all last vs av.1
+      (total_below join d all (child_nodes_of below d docs last vs))) av.0
+      ∙ below_children below d docs all last vs av.1
 
   module _ (k : ℕ) (shape : TreeShape) (rows : List (List ℕ × S)) (ids : HaveIds k rows)
       (no_star : HaveNoStar k rows) where
@@ -196,23 +196,23 @@ module _ {S : Type 0} (join : S → S → S) (j : IsJoin join) where
             λ i. cond (agrees_star path e.0 i) (e ∷ same_rows path es i) (same_rows path es i)
 
     -- where a node is split, whatever its last child
-    kids_total : (d : ℕ) (path : List ℕ) (docs : List (List ℕ × S)) (kids : Nodes S) → d
+    children_total : (d : ℕ) (path : List ℕ) (docs : List (List ℕ × S)) (subtrees : Nodes S) → d
         ≡ length path → length path ≤ k → docs
         ≡ merged_docs join (rekey (starred path) (rows_at path rows))
-        → IsTotal join rows path (total_below join d docs kids)
-        → IsTotal join rows path (total_doc join d docs kids)
-    kids_total d path docs none at short is h = leaf_total d path docs at short is
-    kids_total d path docs (node id own below rest) at short is h = h
+        → IsTotal join rows path (total_below join d docs subtrees)
+        → IsTotal join rows path (total_doc join d docs subtrees)
+    children_total d path docs none at short is h = leaf_total d path docs at short is
+    children_total d path docs (node id own below rest) at short is h = h
 
-    last_total : (s : Bool) (d : ℕ) (path : List ℕ) (docs sd : List (List ℕ × S)) (kids : Nodes S)
+    last_total : (s : Bool) (d : ℕ) (path : List ℕ) (docs sd : List (List ℕ × S)) (subtrees : Nodes S)
         → d ≡ length path → length path ≤ k → docs
         ≡ merged_docs join (rekey (starred path) (rows_at path rows))
-        → IsTotal join rows (path ++ (star ∷ [])) (total_doc join (suc d) sd kids)
+        → IsTotal join rows (path ++ (star ∷ [])) (total_doc join (suc d) sd subtrees)
         → IsTotal join rows path
-        (total_below join d docs (cond s (node star sd kids none) none))
-    last_total true d path docs sd kids at short is h =
-        total_star path (total_doc join (suc d) sd kids) h
-    last_total false d path docs sd kids at short is h =
+        (total_below join d docs (cond s (node star sd subtrees none) none))
+    last_total true d path docs sd subtrees at short is h =
+        total_star path (total_doc join (suc d) sd subtrees) h
+    last_total false d path docs sd subtrees at short is h =
         subst (λ n. IsTotal join rows path (aggregated join n docs)) (sym at)
         (merged_total path docs short is)
 
@@ -224,7 +224,7 @@ module _ {S : Type 0} (join : S → S → S) (j : IsJoin join) where
         let below = under join shape more (suc d) in
         let sd = merged_docs join (rekey (set_star d) docs) in
         let s = not (skips shape d) && nat_lt 1 (length (ids_at join d docs)) in
-        let last = star_kid join below shape d docs in
+        let last = star_child join below shape d docs in
         let vs = ids_at join d docs in
         let short : length path ≤ k = omega (arith, at, sum) in
         let lt : length path < k = omega (arith, at, sum) in
@@ -236,12 +236,12 @@ module _ {S : Type 0} (join : S → S → S) (j : IsJoin join) where
         ∙ star_docs join j path rows docs is in
         let star_total = total_is more (suc d) (path ++ (star ∷ [])) sd next sum' star_is in
         let split : IsTotal join rows path
-        (total_below join d docs (kids_of below d docs last vs)) =
-        subst (IsTotal join rows path) (sym (below_kids below d docs docs last vs av))
+        (total_below join d docs (child_nodes_of below d docs last vs)) =
+        subst (IsTotal join rows path) (sym (below_children below d docs docs last vs av))
         (last_total s d path docs sd (below sd) at short is star_total) in
         elim (nat_le (length docs) shape.leaf) as
         (λ b. IsTotal join rows path
-        (total_doc join d docs (cond b none (kids_of below d docs last vs)))) [
+        (total_doc join d docs (cond b none (child_nodes_of below d docs last vs)))) [
           | true ↦ leaf_total d path docs at short is
-          | false ↦ kids_total d path docs (kids_of below d docs last vs) at short is split
+          | false ↦ children_total d path docs (child_nodes_of below d docs last vs) at short is split
         ]

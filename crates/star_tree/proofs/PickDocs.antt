@@ -5,11 +5,11 @@ use Rattle.std.proofs.Common.{ap, subst, ◌∙◌, arith}
 use Rattle.agg_laws.specs.declared.tree_shape.TreeShape.{TreeShape}
 use Rattle.agg_laws.specs.Merged.{IsJoin, rekey}
 use Rattle.agg_laws.specs.Tree.{star, set_star, merged_docs, Nodes, none, node, has_star, skips}
-use Rattle.agg_laws.specs.Tree.{ids_at, docs_with, kids_of, star_kid, under, root_of, tree_of}
+use Rattle.agg_laws.specs.Tree.{ids_at, docs_with, child_nodes_of, star_child, under, root_of, tree_of}
 use Rattle.agg_laws.specs.Tree.{starred, rows_at, HaveNoStar, CoversRows}
 use Rattle.state_columns.specs.Docs.{HaveIds}
 use Rattle.state_columns.specs.Documents.{total_doc}
-use Rattle.star_tree.specs.Picks.{Task, Pick, quiet, is_taken, picks_here, picks_of, picks, IsTotal}
+use Rattle.star_tree.specs.Picks.{Task, Pick, are_unconstrained, is_selected, picks_here, picks_of, picks, IsTotal}
 use Rattle.star_tree.specs.Picks.{HaveDocs}
 use Rattle.star_tree.proofs.TreeLemmas.{Avoids, Avoids-ids, own_docs, star_docs, length_more}
 use Rattle.star_tree.proofs.TreeLemmas.{covers_rows, all_rows}
@@ -22,25 +22,25 @@ module _ {S : Type 0} (join : S → S → S) (j : IsJoin join) (t : Task) (k : �
   docs-append [] qs p q = q
   docs-append (p ∷ ps) qs h q = (h.0, docs-append ps qs h.1 q)
 
-  here_docs : (d : ℕ) (path : List ℕ) (docs : List (List ℕ × S)) (kids : Nodes S)
+  here_docs : (d : ℕ) (path : List ℕ) (docs : List (List ℕ × S)) (subtrees : Nodes S)
       (below : List (Pick S)) → d ≡ length path → CoversRows join rows path docs
-      → IsTotal join rows path (total_doc join d docs kids)
+      → IsTotal join rows path (total_doc join d docs subtrees)
       → HaveDocs join k rows below
-      → HaveDocs join k rows (picks_here join t k d path docs kids below)
+      → HaveDocs join k rows (picks_here join t k d path docs subtrees below)
   here_docs d path docs none below at covers whole h =
-      elim (quiet t (k - d) d) as
+      elim (are_unconstrained t (k - d) d) as
       (λ b. HaveDocs join k rows
       (cond b (record { path = path; level = k; docs = total_doc join d docs none } ∷ [])
       (record { path = path; level = d; docs = docs } ∷ [])))
       [ true ↦ (inr (refl, whole), tt) | false ↦ (inl (at, covers), tt) ]
-  here_docs d path docs (node id own kids rest) below at covers whole h =
-      elim (quiet t (k - d) d) as
+  here_docs d path docs (node id own subtrees rest) below at covers whole h =
+      elim (are_unconstrained t (k - d) d) as
       (λ b. HaveDocs join k rows
       (cond b (record {
         path = path;
         level = k;
         docs =
-            total_doc join d docs (node id own kids rest);
+            total_doc join d docs (node id own subtrees rest);
       } ∷ []) below))
       [ true ↦ (inr (refl, whole), tt) | false ↦ h ]
 
@@ -49,7 +49,7 @@ module _ {S : Type 0} (join : S → S → S) (j : IsJoin join) (t : Task) (k : �
   taken_docs true ps qs p q = docs-append ps qs p q
   taken_docs false ps qs p q = q
 
-  kids_docs : (b : Bool) (d : ℕ) (path : List ℕ) (docs : List (List ℕ × S))
+  children_docs : (b : Bool) (d : ℕ) (path : List ℕ) (docs : List (List ℕ × S))
       (below : List (List ℕ × S) → Nodes S) (last : Nodes S)
       → ((v : ℕ) → (v == star) ≡ false
       → HaveDocs join k rows
@@ -58,19 +58,19 @@ module _ {S : Type 0} (join : S → S → S) (j : IsJoin join) (t : Task) (k : �
       (picks_of join t k (has_star (below (docs_with d v docs))) (suc d) (path ++ (v ∷ []))
       (below (docs_with d v docs)))))
       → HaveDocs join k rows (picks_of join t k b d path last) → (vs : List ℕ) → Avoids vs
-      → HaveDocs join k rows (picks_of join t k b d path (kids_of below d docs last vs))
-  kids_docs b d path docs below last each end [] av = end
-  kids_docs b d path docs below last each end (v ∷ vs) av =
-      taken_docs (is_taken t b d v) _ _ (each v av.0)
-      (kids_docs b d path docs below last each end vs av.1)
+      → HaveDocs join k rows (picks_of join t k b d path (child_nodes_of below d docs last vs))
+  children_docs b d path docs below last each end [] av = end
+  children_docs b d path docs below last each end (v ∷ vs) av =
+      taken_docs (is_selected t b d v) _ _ (each v av.0)
+      (children_docs b d path docs below last each end vs av.1)
 
-  last_docs : (s b : Bool) (d : ℕ) (path : List ℕ) (sd : List (List ℕ × S)) (kids : Nodes S)
+  last_docs : (s b : Bool) (d : ℕ) (path : List ℕ) (sd : List (List ℕ × S)) (subtrees : Nodes S)
       → HaveDocs join k rows
-      (picks_here join t k (suc d) (path ++ (star ∷ [])) sd kids
-      (picks_of join t k (has_star kids) (suc d) (path ++ (star ∷ [])) kids))
-      → HaveDocs join k rows (picks_of join t k b d path (cond s (node star sd kids none) none))
-  last_docs true b d path sd kids h = taken_docs (is_taken t b d star) _ [] h tt
-  last_docs false b d path sd kids h = tt
+      (picks_here join t k (suc d) (path ++ (star ∷ [])) sd subtrees
+      (picks_of join t k (has_star subtrees) (suc d) (path ++ (star ∷ [])) subtrees))
+      → HaveDocs join k rows (picks_of join t k b d path (cond s (node star sd subtrees none) none))
+  last_docs true b d path sd subtrees h = taken_docs (is_selected t b d star) _ [] h tt
+  last_docs false b d path sd subtrees h = tt
 
   node_docs : (more d : ℕ) (path : List ℕ) (docs : List (List ℕ × S)) → d ≡ length path → d + more
       ≡ k → docs ≡ merged_docs join (rekey (starred path) (rows_at path rows))
@@ -85,9 +85,9 @@ module _ {S : Type 0} (join : S → S → S) (j : IsJoin join) (t : Task) (k : �
       let below = under join shape more (suc d) in
       let sd = merged_docs join (rekey (set_star d) docs) in
       let s = not (skips shape d) && nat_lt 1 (length (ids_at join d docs)) in
-      let last = star_kid join below shape d docs in
+      let last = star_child join below shape d docs in
       let vs = ids_at join d docs in
-      let kids = kids_of below d docs last vs in
+      let subtrees = child_nodes_of below d docs last vs in
       let lt : length path < k = omega (arith, at, sum) in
       let av : Avoids vs = subst (λ n. Avoids (ids_at join n docs)) (sym at)
       (Avoids-ids join j path rows docs is k lt no_star) in
@@ -100,16 +100,16 @@ module _ {S : Type 0} (join : S → S → S) (j : IsJoin join) (t : Task) (k : �
       let star_here = node_docs more (suc d) (path ++ (star ∷ [])) sd (next star) sum'
       (ap (λ n. merged_docs join (rekey (set_star n) docs)) at
       ∙ star_docs join j path rows docs is) in
-      let all = kids_docs (has_star kids) d path docs below last each
-      (last_docs s (has_star kids) d path sd (below sd) star_here) vs av in
+      let all = children_docs (has_star subtrees) d path docs below last each
+      (last_docs s (has_star subtrees) d path sd (below sd) star_here) vs av in
       let whole = total_is join j k shape rows ids no_star (suc more) d path docs at sum is in
       elim (nat_le (length docs) shape.leaf) as
-      (λ b. IsTotal join rows path (total_doc join d docs (cond b none kids))
+      (λ b. IsTotal join rows path (total_doc join d docs (cond b none subtrees))
       → HaveDocs join k rows
-      (picks_here join t k d path docs (cond b none kids)
-      (picks_of join t k (has_star (cond b none kids)) d path (cond b none kids)))) [
+      (picks_here join t k d path docs (cond b none subtrees)
+      (picks_of join t k (has_star (cond b none subtrees)) d path (cond b none subtrees)))) [
         | true ↦ λ w. here_docs d path docs none [] at (covers_rows join j path rows docs is) w tt
-        | false ↦ λ w. here_docs d path docs kids (picks_of join t k (has_star kids) d path kids) at
+        | false ↦ λ w. here_docs d path docs subtrees (picks_of join t k (has_star subtrees) d path subtrees) at
             (covers_rows join j path rows docs is) w all
       ] whole
 

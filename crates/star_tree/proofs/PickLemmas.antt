@@ -18,10 +18,10 @@ use Rattle.std.proofs.lemmas.Bool.Decides.{nat_tests}
 use Rattle.agg_laws.specs.declared.tree_shape.TreeShape.{TreeShape}
 use Rattle.agg_laws.specs.Merged.{IsJoin, join_some, total, rekey, Merged}
 use Rattle.agg_laws.specs.Tree.{star, dims_order, dim, set_star, merged_docs, Nodes, none, node}
-use Rattle.agg_laws.specs.Tree.{has_star, skips, ids_at, docs_with, kids_of, star_kid, under}
+use Rattle.agg_laws.specs.Tree.{has_star, skips, ids_at, docs_with, child_nodes_of, star_child, under}
 use Rattle.agg_laws.specs.Tree.{agrees, starred, rows_at, HaveNoStar, root_of, tree_of}
 use Rattle.state_columns.specs.Documents.{total_doc}
-use Rattle.star_tree.specs.Picks.{Task, Pick, quiet, holds_from, is_taken, picks_here, picks_of}
+use Rattle.star_tree.specs.Picks.{Task, Pick, are_unconstrained, holds_from, is_selected, picks_here, picks_of}
 use Rattle.star_tree.specs.Picks.{picks, times, times_covered, times_counted, IsPartedBy}
 use Rattle.state_columns.proofs.MergedLemmas.{total-rekey, total-Merged, total-append, find_total}
 use Rattle.state_columns.proofs.MergedLemmas.{is_sorted-Merged}
@@ -71,60 +71,60 @@ module _ {S : Type 0} (g : ℕ → Bool) (x : List ℕ) where
       (λ b. cond b 1 0 + 0 ≤ 1) [ true ↦ omega arith | false ↦ omega arith ]
 
   module _ (join : S → S → S) (t : Task) (k : ℕ) where
-    here_off : (d : ℕ) (path : List ℕ) (docs : List (List ℕ × S)) (kids : Nodes S)
+    here_off : (d : ℕ) (path : List ℕ) (docs : List (List ℕ × S)) (subtrees : Nodes S)
         (below : List (Pick S)) → agrees path x ≡ false → times g x below ≡ 0
-        → times g x (picks_here join t k d path docs kids below) ≡ 0
+        → times g x (picks_here join t k d path docs subtrees below) ≡ 0
     here_off d path docs none below h e =
         let whole = total_doc join d docs none in
-        elim (quiet t (k - d) d) as
+        elim (are_unconstrained t (k - d) d) as
         (λ b. times g x (cond b (record { path = path; level = k; docs = whole } ∷ [])
         (record { path = path; level = d; docs = docs } ∷ [])) ≡ 0)
         [ true ↦ one_off path k whole h | false ↦ one_off path d docs h ]
-    here_off d path docs (node id own kids rest) below h e =
-        let whole = total_doc join d docs (node id own kids rest) in
-        elim (quiet t (k - d) d) as
+    here_off d path docs (node id own subtrees rest) below h e =
+        let whole = total_doc join d docs (node id own subtrees rest) in
+        elim (are_unconstrained t (k - d) d) as
         (λ b. times g x (cond b (record { path = path; level = k; docs = whole } ∷ []) below)
         ≡ 0) [ true ↦ one_off path k whole h | false ↦ e ]
 
-    here_at_most : (d : ℕ) (path : List ℕ) (docs : List (List ℕ × S)) (kids : Nodes S)
+    here_at_most : (d : ℕ) (path : List ℕ) (docs : List (List ℕ × S)) (subtrees : Nodes S)
         (below : List (Pick S)) → times g x below ≤ 1
-        → times g x (picks_here join t k d path docs kids below) ≤ 1
+        → times g x (picks_here join t k d path docs subtrees below) ≤ 1
     here_at_most d path docs none below e =
         let whole = total_doc join d docs none in
-        elim (quiet t (k - d) d) as
+        elim (are_unconstrained t (k - d) d) as
         (λ b. times g x (cond b (record { path = path; level = k; docs = whole } ∷ [])
         (record { path = path; level = d; docs = docs } ∷ [])) ≤ 1)
         [ true ↦ one_at_most path k whole | false ↦ one_at_most path d docs ]
-    here_at_most d path docs (node id own kids rest) below e =
-        let whole = total_doc join d docs (node id own kids rest) in
-        elim (quiet t (k - d) d) as
+    here_at_most d path docs (node id own subtrees rest) below e =
+        let whole = total_doc join d docs (node id own subtrees rest) in
+        elim (are_unconstrained t (k - d) d) as
         (λ b. times g x (cond b
         (record { path = path; level = k; docs = whole }
         ∷ []) below) ≤ 1) [ true ↦ one_at_most path k whole | false ↦ e ]
 
     -- picks below a path that a row does not agree with do not count it
-    off_path : (b : Bool) (d : ℕ) (path : List ℕ) (kids : Nodes S) → agrees path x ≡ false
-        → times g x (picks_of join t k b d path kids) ≡ 0
+    off_path : (b : Bool) (d : ℕ) (path : List ℕ) (subtrees : Nodes S) → agrees path x ≡ false
+        → times g x (picks_of join t k b d path subtrees) ≡ 0
     off_path b d path none h = refl
-    off_path b d path (node id docs kids rest) h =
+    off_path b d path (node id docs subtrees rest) h =
         let off = agrees_prefix path (id ∷ []) x h in
-        let here = picks_here join t k (suc d) (path ++ (id ∷ [])) docs kids
-        (picks_of join t k (has_star kids) (suc d) (path ++ (id ∷ [])) kids) in
-        times-append g x (cond (is_taken t b d id) here []) (picks_of join t k b d path rest)
-        ∙ (λ i. elim (is_taken t b d id) as (λ c. times g x (cond c here []) ≡ 0) [
-          | true ↦ here_off (suc d) (path ++ (id ∷ [])) docs kids
-              (picks_of join t k (has_star kids) (suc d) (path ++ (id ∷ [])) kids) off
-              (off_path (has_star kids) (suc d) (path ++ (id ∷ [])) kids off)
+        let here = picks_here join t k (suc d) (path ++ (id ∷ [])) docs subtrees
+        (picks_of join t k (has_star subtrees) (suc d) (path ++ (id ∷ [])) subtrees) in
+        times-append g x (cond (is_selected t b d id) here []) (picks_of join t k b d path rest)
+        ∙ (λ i. elim (is_selected t b d id) as (λ c. times g x (cond c here []) ≡ 0) [
+          | true ↦ here_off (suc d) (path ++ (id ∷ [])) docs subtrees
+              (picks_of join t k (has_star subtrees) (suc d) (path ++ (id ∷ [])) subtrees) off
+              (off_path (has_star subtrees) (suc d) (path ++ (id ∷ [])) subtrees off)
           | false ↦ refl
         ] i
         + off_path b d path rest h i)
 
 module _ (t : Task) (k : ℕ) (x : List ℕ) where
   -- where no dimension is tested any more, each row passes
-  quiet_holds : (more d : ℕ) → quiet t more d ≡ true → holds_from t more d x ≡ true
+  quiet_holds : (more d : ℕ) → are_unconstrained t more d ≡ true → holds_from t more d x ≡ true
   quiet_holds zero d h = refl
   quiet_holds (suc more) d h =
-      by_test (t.filtered d) (t.grouped d) (t.passes d (dim d x)) (quiet t more (suc d))
+      by_test (t.filtered d) (t.grouped d) (t.passes d (dim d x)) (are_unconstrained t more (suc d))
       (holds_from t more (suc d) x) h (quiet_holds more (suc d))
 
   module _ {S : Type 0} (join : S → S → S) where
@@ -132,19 +132,19 @@ module _ (t : Task) (k : ℕ) (x : List ℕ) where
         + more ≡ k → agrees path x ≡ true → times_counted t k x below
         ≡ cond (holds_from t more d x) 1 0
         → times_counted t k x
-        (cond (quiet t (k - d) d) (record { path = path; level = k; docs = whole } ∷ []) below)
+        (cond (are_unconstrained t (k - d) d) (record { path = path; level = k; docs = whole } ∷ []) below)
         ≡ cond (holds_from t more d x) 1 0
     by_quiet more d path whole below sum on e =
         let m : k - d ≡ more = omega arith in
         let z : k - k ≡ 0 = omega arith in
-        elim (quiet t (k - d) d) as
-        (λ b. quiet t (k - d) d ≡ b
+        elim (are_unconstrained t (k - d) d) as
+        (λ b. are_unconstrained t (k - d) d ≡ b
         → times_counted t k x
         (cond b (record { path = path; level = k; docs = whole } ∷ []) below)
         ≡ cond (holds_from t more d x) 1 0) [
           | true ↦ λ q. one_on (λ level. holds_from t (k - level) level x) x path k whole on
               ∙ ap (λ n. cond (holds_from t n k x) 1 0) z
-              ∙ ap (λ b. cond b 1 0) (sym (quiet_holds more d (ap (λ n. quiet t n d) (sym m) ∙ q)))
+              ∙ ap (λ b. cond b 1 0) (sym (quiet_holds more d (ap (λ n. are_unconstrained t n d) (sym m) ∙ q)))
           | false ↦ λ q. e
         ] refl
 
@@ -159,14 +159,14 @@ module _ (t : Task) (k : ℕ) (x : List ℕ) where
         (one_on (λ level. holds_from t (k - level) level x) x path d docs on
         ∙ ap (λ n. cond (holds_from t n d x) 1 0) m)
 
-    here_on : (more d : ℕ) (path : List ℕ) (docs : List (List ℕ × S)) (kids : Nodes S)
+    here_on : (more d : ℕ) (path : List ℕ) (docs : List (List ℕ × S)) (subtrees : Nodes S)
         (below : List (Pick S)) → d + more ≡ k → agrees path x ≡ true → times_counted t k x below
         ≡ cond (holds_from t more d x) 1 0
-        → times_counted t k x (picks_here join t k d path docs kids below)
+        → times_counted t k x (picks_here join t k d path docs subtrees below)
         ≡ cond (holds_from t more d x) 1 0
     here_on more d path docs none below sum on e = here_leaf more d path docs below sum on
-    here_on more d path docs (node id own kids rest) below sum on e =
-        by_quiet more d path (total_doc join d docs (node id own kids rest)) below sum on e
+    here_on more d path docs (node id own subtrees rest) below sum on e =
+        by_quiet more d path (total_doc join d docs (node id own subtrees rest)) below sum on e
 
 none_and : (a : Bool) → (a && false) ≡ false
 none_and true = refl
@@ -233,8 +233,8 @@ times_fewer g x (p ∷ ps) = let own = fewer (agrees p.path x) (g p.level)
 
 parted : (h : Bool) (covered counted : ℕ) → counted ≤ covered → covered ≤ 1 → counted ≡ cond h 1 0
     → MatchBool h ((covered ≡ 1) × (counted ≡ 1)) ((covered ≤ 1) × (counted ≡ 0))
-parted true covered counted less few is = (omega arith, is)
-parted false covered counted less few is = (few, is)
+parted true covered counted less at_most is = (omega arith, is)
+parted false covered counted less at_most is = (at_most, is)
 
 no_star_in : {S : Type 0} (k : ℕ) (after : List (List ℕ × S)) (e : List ℕ × S)
     (before : List (List ℕ × S)) (d : ℕ) → d < k → HaveNoStar k (before ++ (e ∷ after))
@@ -243,18 +243,18 @@ no_star_in k after e [] d lt h = h.0 d lt
 no_star_in k after e (b ∷ bs) d lt h = no_star_in k after e bs d lt h.1
 
 -- ordinary children have no star among them
-pub has_star-kids : {S : Type 0} (below : List (List ℕ × S) → Nodes S) (d : ℕ)
+pub has_star-subtrees : {S : Type 0} (below : List (List ℕ × S) → Nodes S) (d : ℕ)
     (docs : List (List ℕ × S)) (last : Nodes S) (vs : List ℕ) → Avoids vs
-    → has_star (kids_of below d docs last vs) ≡ has_star last
-has_star-kids below d docs last [] av = refl
-has_star-kids below d docs last (v ∷ vs) av =
-    ap (λ b. cond b true (has_star (kids_of below d docs last vs))) av.0
-    ∙ has_star-kids below d docs last vs av.1
+    → has_star (child_nodes_of below d docs last vs) ≡ has_star last
+has_star-subtrees below d docs last [] av = refl
+has_star-subtrees below d docs last (v ∷ vs) av =
+    ap (λ b. cond b true (has_star (child_nodes_of below d docs last vs))) av.0
+    ∙ has_star-subtrees below d docs last vs av.1
 
-pub star_flag : {S : Type 0} (s : Bool) (docs : List (List ℕ × S)) (kids : Nodes S)
-    → has_star (cond s (node star docs kids none) none) ≡ s
-star_flag true docs kids = refl
-star_flag false docs kids = refl
+pub star_flag : {S : Type 0} (s : Bool) (docs : List (List ℕ × S)) (subtrees : Nodes S)
+    → has_star (cond s (node star docs subtrees none) none) ≡ s
+star_flag true docs subtrees = refl
+star_flag false docs subtrees = refl
 
 -- how often an id stands among some
 unfoldable pub occurs : ℕ → List ℕ → ℕ
@@ -353,55 +353,55 @@ module _ {S : Type 0} (join : S → S → S) (j : IsJoin join) where
         ((λ i. on i && eq_by_cmp nat_cmp v (here i)) ∙ key_eq v v ∙ eq-eqb v v refl))
 
     -- a child with another id does not count the row
-    kid_off : (g : ℕ → Bool) (b : Bool) (d : ℕ) (path : List ℕ) (docs : List (List ℕ × S))
-        (kids : Nodes S) → d ≡ length path → (w : ℕ) → (w == star) ≡ false → (w == dim d e.0)
+    child_off : (g : ℕ → Bool) (b : Bool) (d : ℕ) (path : List ℕ) (docs : List (List ℕ × S))
+        (subtrees : Nodes S) → d ≡ length path → (w : ℕ) → (w == star) ≡ false → (w == dim d e.0)
         ≡ false
-        → times g e.0 (if is_taken t b d w
-        then picks_here join t k (suc d) (path ++ (w ∷ [])) docs kids
-        (picks_of join t k (has_star kids) (suc d) (path ++ (w ∷ [])) kids) else []) ≡ 0
-    kid_off g b d path docs kids at w ordinary ne =
+        → times g e.0 (if is_selected t b d w
+        then picks_here join t k (suc d) (path ++ (w ∷ [])) docs subtrees
+        (picks_of join t k (has_star subtrees) (suc d) (path ++ (w ∷ [])) subtrees) else []) ≡ 0
+    child_off g b d path docs subtrees at w ordinary ne =
         let x = e.0 in
         let here : dim (length path) (starred path x) ≡ dim d x = dim-starred path x
         ∙ ap (λ n. dim n x) (sym at) in
         let off : agrees (path ++ (w ∷ [])) x ≡ false = agrees_more path w ordinary x
         ∙ (λ i. agrees path x && (here i == w))
         ∙ ap (λ c. agrees path x && c) (turn (dim d x) w ∙ ne) ∙ none_and (agrees path x) in
-        elim (is_taken t b d w) as
+        elim (is_selected t b d w) as
         (λ c. times g x (cond c
-        (picks_here join t k (suc d) (path ++ (w ∷ [])) docs kids
-        (picks_of join t k (has_star kids) (suc d) (path ++ (w ∷ [])) kids)) []) ≡ 0) [
-          | true ↦ here_off g x join t k (suc d) (path ++ (w ∷ [])) docs kids
-              (picks_of join t k (has_star kids) (suc d) (path ++ (w ∷ [])) kids) off
-              (off_path g x join t k (has_star kids) (suc d)
-              (path ++ (w ∷ [])) kids off)
+        (picks_here join t k (suc d) (path ++ (w ∷ [])) docs subtrees
+        (picks_of join t k (has_star subtrees) (suc d) (path ++ (w ∷ [])) subtrees)) []) ≡ 0) [
+          | true ↦ here_off g x join t k (suc d) (path ++ (w ∷ [])) docs subtrees
+              (picks_of join t k (has_star subtrees) (suc d) (path ++ (w ∷ [])) subtrees) off
+              (off_path g x join t k (has_star subtrees) (suc d)
+              (path ++ (w ∷ [])) subtrees off)
           | false ↦ refl
         ]
 
     -- what the children of a node count
-    kids_none : (g : ℕ → Bool) (b : Bool) (d : ℕ) (path : List ℕ) (docs : List (List ℕ × S))
+    children_none : (g : ℕ → Bool) (b : Bool) (d : ℕ) (path : List ℕ) (docs : List (List ℕ × S))
         (below : List (List ℕ × S) → Nodes S) (last : Nodes S) → d ≡ length path → (vs : List ℕ)
         → Avoids vs → occurs (dim d e.0) vs ≡ 0
-        → times g e.0 (picks_of join t k b d path (kids_of below d docs last vs))
+        → times g e.0 (picks_of join t k b d path (child_nodes_of below d docs last vs))
         ≡ times g e.0 (picks_of join t k b d path last)
     unfolding occurs
-    kids_none g b d path docs below last at [] av o = refl
-    kids_none g b d path docs below last at (w ∷ ws) av o =
+    children_none g b d path docs below last at [] av o = refl
+    children_none g b d path docs below last at (w ∷ ws) av o =
         let own = below (docs_with d w docs) in
         elim (w == dim d e.0) as
         (λ q. (w == dim d e.0) ≡ q → (cond q 1 0) + occurs (dim d e.0) ws ≡ 0
-        → times g e.0 (picks_of join t k b d path (kids_of below d docs last (w ∷ ws)))
+        → times g e.0 (picks_of join t k b d path (child_nodes_of below d docs last (w ∷ ws)))
         ≡ times g e.0 (picks_of join t k b d path last)) [
           | true ↦ λ q o. absurd (omega arith)
           | false ↦ λ q o. times-append g e.0
-              (cond (is_taken t b d w)
+              (cond (is_selected t b d w)
               (picks_here join t k (suc d) (path ++ (w ∷ [])) (docs_with d w docs) own
               (picks_of join t k (has_star own) (suc d) (path ++ (w ∷ [])) own)) [])
-              (picks_of join t k b d path (kids_of below d docs last ws))
-              ∙ (λ i. kid_off g b d path (docs_with d w docs) own at w av.0 q i
-              + kids_none g b d path docs below last at ws av.1 (drop_zero _ o) i) ∙ none_plus _
+              (picks_of join t k b d path (child_nodes_of below d docs last ws))
+              ∙ (λ i. child_off g b d path (docs_with d w docs) own at w av.0 q i
+              + children_none g b d path docs below last at ws av.1 (drop_zero _ o) i) ∙ none_plus _
         ] refl o
 
-    kids_one : (g : ℕ → Bool) (b : Bool) (d c : ℕ) (path : List ℕ) (docs : List (List ℕ × S))
+    children_one : (g : ℕ → Bool) (b : Bool) (d c : ℕ) (path : List ℕ) (docs : List (List ℕ × S))
         (below : List (List ℕ × S) → Nodes S) (last : Nodes S) → d ≡ length path → agrees path e.0
         ≡ true
         → (each : (w : ℕ) → w ≡ dim d e.0 → (w == star) ≡ false
@@ -410,34 +410,34 @@ module _ {S : Type 0} (join : S → S → S) (j : IsJoin join) where
         (picks_of join t k (has_star (below (docs_with d w docs))) (suc d) (path ++ (w ∷ []))
         (below (docs_with d w docs)))) ≡ c)
         → (vs : List ℕ) → Avoids vs → occurs (dim d e.0) vs ≡ 1
-        → times g e.0 (picks_of join t k b d path (kids_of below d docs last vs))
-        ≡ cond (is_taken t b d (dim d e.0)) c 0 + times g e.0 (picks_of join t k b d path last)
+        → times g e.0 (picks_of join t k b d path (child_nodes_of below d docs last vs))
+        ≡ cond (is_selected t b d (dim d e.0)) c 0 + times g e.0 (picks_of join t k b d path last)
     unfolding occurs
-    kids_one g b d c path docs below last at on each [] av o = absurd (omega (arith, o))
-    kids_one g b d c path docs below last at on each (w ∷ ws) av o =
+    children_one g b d c path docs below last at on each [] av o = absurd (omega (arith, o))
+    children_one g b d c path docs below last at on each (w ∷ ws) av o =
         let own = below (docs_with d w docs) in
         let x = e.0 in
-        let rest = picks_of join t k b d path (kids_of below d docs last ws) in
+        let rest = picks_of join t k b d path (child_nodes_of below d docs last ws) in
         let here = picks_here join t k (suc d) (path ++ (w ∷ [])) (docs_with d w docs) own
         (picks_of join t k (has_star own) (suc d) (path ++ (w ∷ [])) own) in
         elim (w == dim d x) as
         (λ q. (w == dim d x) ≡ q → (cond q 1 0) + occurs (dim d x) ws ≡ 1
-        → times g x (picks_of join t k b d path (kids_of below d docs last (w ∷ ws)))
-        ≡ cond (is_taken t b d (dim d x)) c 0 + times g x (picks_of join t k b d path last)) [
+        → times g x (picks_of join t k b d path (child_nodes_of below d docs last (w ∷ ws)))
+        ≡ cond (is_selected t b d (dim d x)) c 0 + times g x (picks_of join t k b d path last)) [
           | true ↦ λ q o. let same : w ≡ dim d x = eqb-true w (dim d x) q in
-              times-append g x (cond (is_taken t b d w) here []) rest
-              ∙ (λ i. of_chosen g x (is_taken t b d w) here c (each w same av.0) i
-              + kids_none g b d path docs below last at ws av.1 (drop_one _ o) i)
-              ∙ ap (λ v. cond (is_taken t b d v) c 0
+              times-append g x (cond (is_selected t b d w) here []) rest
+              ∙ (λ i. of_chosen g x (is_selected t b d w) here c (each w same av.0) i
+              + children_none g b d path docs below last at ws av.1 (drop_one _ o) i)
+              ∙ ap (λ v. cond (is_selected t b d v) c 0
               + times g x (picks_of join t k b d path last)) same
-          | false ↦ λ q o. times-append g x (cond (is_taken t b d w) here []) rest
-              ∙ (λ i. kid_off g b d path (docs_with d w docs) own at w av.0 q i
-              + kids_one g b d c path docs below last at on each ws av.1 (drop_zero _ o) i)
+          | false ↦ λ q o. times-append g x (cond (is_selected t b d w) here []) rest
+              ∙ (λ i. child_off g b d path (docs_with d w docs) own at w av.0 q i
+              + children_one g b d c path docs below last at on each ws av.1 (drop_zero _ o) i)
               ∙ none_plus _
         ] refl o
 
     -- the child with its id counts it at most once
-    kids_at_most : (g : ℕ → Bool) (b : Bool) (d : ℕ) (path : List ℕ) (docs : List (List ℕ × S))
+    subtrees_at_most : (g : ℕ → Bool) (b : Bool) (d : ℕ) (path : List ℕ) (docs : List (List ℕ × S))
         (below : List (List ℕ × S) → Nodes S) (last : Nodes S) → d ≡ length path
         → (each : (w : ℕ) → w ≡ dim d e.0 → (w == star) ≡ false
         → times g e.0 (picks_here join t k (suc d) (path ++ (w ∷ [])) (docs_with d w docs)
@@ -445,64 +445,64 @@ module _ {S : Type 0} (join : S → S → S) (j : IsJoin join) where
         (picks_of join t k (has_star (below (docs_with d w docs))) (suc d) (path ++ (w ∷ []))
         (below (docs_with d w docs)))) ≤ 1)
         → (vs : List ℕ) → Avoids vs → occurs (dim d e.0) vs ≡ 1
-        → times g e.0 (picks_of join t k b d path (kids_of below d docs last vs)) ≤ cond
-        (is_taken t b d (dim d e.0)) 1 0 + times g e.0 (picks_of join t k b d path last)
+        → times g e.0 (picks_of join t k b d path (child_nodes_of below d docs last vs)) ≤ cond
+        (is_selected t b d (dim d e.0)) 1 0 + times g e.0 (picks_of join t k b d path last)
     unfolding occurs
-    kids_at_most g b d path docs below last at each [] av o = absurd (omega (arith, o))
-    kids_at_most g b d path docs below last at each (w ∷ ws) av o =
+    subtrees_at_most g b d path docs below last at each [] av o = absurd (omega (arith, o))
+    subtrees_at_most g b d path docs below last at each (w ∷ ws) av o =
         let own = below (docs_with d w docs) in
         let x = e.0 in
-        let rest = picks_of join t k b d path (kids_of below d docs last ws) in
+        let rest = picks_of join t k b d path (child_nodes_of below d docs last ws) in
         let here = picks_here join t k (suc d) (path ++ (w ∷ [])) (docs_with d w docs) own
         (picks_of join t k (has_star own) (suc d) (path ++ (w ∷ [])) own) in
-        let both = times-append g x (cond (is_taken t b d w) here []) rest in
+        let both = times-append g x (cond (is_selected t b d w) here []) rest in
         elim (w == dim d x) as
         (λ q. (w == dim d x) ≡ q → (cond q 1 0) + occurs (dim d x) ws ≡ 1
-        → times g x (picks_of join t k b d path (kids_of below d docs last (w ∷ ws))) ≤ cond
-        (is_taken t b d (dim d x)) 1 0 + times g x (picks_of join t k b d path last)) [
+        → times g x (picks_of join t k b d path (child_nodes_of below d docs last (w ∷ ws))) ≤ cond
+        (is_selected t b d (dim d x)) 1 0 + times g x (picks_of join t k b d path last)) [
           | true ↦ λ q o.
               let same : w ≡ dim d x = eqb-true w (dim d x) q in
               let own_part = subst
-              (λ v. times g x (cond (is_taken t b d w) here []) ≤ cond
-              (is_taken t b d v) 1 0) same
-              (of_chosen_at_most g x (is_taken t b d w) here (each w same av.0)) in
-              let none_left = kids_none g b d path docs below last at ws av.1 (drop_one _ o) in
+              (λ v. times g x (cond (is_selected t b d w) here []) ≤ cond
+              (is_selected t b d v) 1 0) same
+              (of_chosen_at_most g x (is_selected t b d w) here (each w same av.0)) in
+              let none_left = children_none g b d path docs below last at ws av.1 (drop_one _ o) in
               omega (arith, both, own_part, none_left)
           | false ↦ λ q o.
-              let nothing = kid_off g b d path (docs_with d w docs) own at w av.0 q in
-              let more = kids_at_most g b d path docs below last at each ws av.1 (drop_zero _ o) in
+              let nothing = child_off g b d path (docs_with d w docs) own at w av.0 q in
+              let more = subtrees_at_most g b d path docs below last at each ws av.1 (drop_zero _ o) in
               omega (arith, both, nothing, more)
         ] refl o
 
     -- the children that are taken count the row once, where it passes
     children_count : (s : Bool) (more d : ℕ) (path : List ℕ) (sd : List (List ℕ × S))
-        (kids : Nodes S) → (dim d e.0 == star) ≡ false
+        (subtrees : Nodes S) → (dim d e.0 == star) ≡ false
         → times_counted t k e.0
-        (picks_here join t k (suc d) (path ++ (star ∷ [])) sd kids
-        (picks_of join t k (has_star kids) (suc d) (path ++ (star ∷ [])) kids))
+        (picks_here join t k (suc d) (path ++ (star ∷ [])) sd subtrees
+        (picks_of join t k (has_star subtrees) (suc d) (path ++ (star ∷ [])) subtrees))
         ≡ cond (holds_from t more (suc d) e.0) 1 0
-        → cond (is_taken t s d (dim d e.0)) (cond (holds_from t more (suc d) e.0) 1 0) 0
+        → cond (is_selected t s d (dim d e.0)) (cond (holds_from t more (suc d) e.0) 1 0) 0
         + times_counted t k e.0
-        (picks_of join t k s d path (cond s (node star sd kids none) none))
+        (picks_of join t k s d path (cond s (node star sd subtrees none) none))
         ≡ cond (holds_from t (suc more) d e.0) 1 0
-    children_count false more d path sd kids ordinary whole =
+    children_count false more d path sd subtrees ordinary whole =
         ap (λ b. cond (cond (t.filtered d) (not b && t.passes d (dim d e.0))
         (cond (t.grouped d) (not b) true)) (cond (holds_from t more (suc d) e.0) 1 0) 0
         + 0) ordinary
         ∙ without_star (t.filtered d) (t.grouped d) (t.passes d (dim d e.0))
         (holds_from t more (suc d) e.0)
-    children_count true more d path sd kids ordinary whole =
-        let here = picks_here join t k (suc d) (path ++ (star ∷ [])) sd kids
-        (picks_of join t k (has_star kids) (suc d) (path ++ (star ∷ [])) kids) in
+    children_count true more d path sd subtrees ordinary whole =
+        let here = picks_here join t k (suc d) (path ++ (star ∷ [])) sd subtrees
+        (picks_of join t k (has_star subtrees) (suc d) (path ++ (star ∷ [])) subtrees) in
         let h = holds_from t more (suc d) e.0 in
-        ap (λ n. cond (is_taken t true d (dim d e.0)) (cond h 1 0) 0 + n)
+        ap (λ n. cond (is_selected t true d (dim d e.0)) (cond h 1 0) 0 + n)
         (times-append (λ level. holds_from t (k - level) level e.0) e.0
-        (cond (is_taken t true d star) here []) [] ∙ plus_none _
+        (cond (is_selected t true d star) here []) [] ∙ plus_none _
         ∙ of_chosen (λ level. holds_from t (k - level) level e.0) e.0
-        (is_taken t true d star) here (cond h 1 0) whole)
+        (is_selected t true d star) here (cond h 1 0) whole)
         ∙ ap (λ b. cond (cond (t.filtered d) (not b && t.passes d (dim d e.0))
         (cond (t.grouped d) (not b) b)) (cond h 1 0) 0
-        + cond (is_taken t true d star) (cond h 1 0) 0) ordinary
+        + cond (is_selected t true d star) (cond h 1 0) 0) ordinary
         ∙ with_star (t.filtered d) (t.grouped d) (t.passes d (dim d e.0)) (t.passes d star) h
 
     -- picks at a node count a row that agrees with its path once, where it passes the tests from
@@ -521,7 +521,7 @@ module _ {S : Type 0} (join : S → S → S) (j : IsJoin join) where
         let below = under join shape more (suc d) in
         let sd = merged_docs join (rekey (set_star d) docs) in
         let s = not (skips shape d) && nat_lt 1 (length (ids_at join d docs)) in
-        let last = star_kid join below shape d docs in
+        let last = star_child join below shape d docs in
         let vs = ids_at join d docs in
         let lt : d < k = omega arith in
         let lt' : length path < k = omega (arith, at) in
@@ -540,47 +540,47 @@ module _ {S : Type 0} (join : S → S → S) (j : IsJoin join) where
         let star_here = counted_once more (suc d) (path ++ (star ∷ [])) sd (next star) sum'
         (ap (λ n. merged_docs join (rekey (set_star n) docs)) at
         ∙ star_docs join j path all docs is) (agrees_star path x ∙ on) in
-        let flag : has_star (kids_of below d docs last vs)
-        ≡ s = has_star-kids below d docs last vs av ∙ star_flag s sd (below sd) in
+        let flag : has_star (child_nodes_of below d docs last vs)
+        ≡ s = has_star-subtrees below d docs last vs av ∙ star_flag s sd (below sd) in
         let split : times_counted t k x
-        (picks_of join t k (has_star (kids_of below d docs last vs)) d path
-        (kids_of below d docs last vs)) ≡ cond (holds_from t (suc more) d x) 1 0 =
+        (picks_of join t k (has_star (child_nodes_of below d docs last vs)) d path
+        (child_nodes_of below d docs last vs)) ≡ cond (holds_from t (suc more) d x) 1 0 =
         ap (λ b. times_counted t k x
-        (picks_of join t k b d path (kids_of below d docs last vs))) flag
-        ∙ kids_one (λ level. holds_from t (k - level) level x) s d
+        (picks_of join t k b d path (child_nodes_of below d docs last vs))) flag
+        ∙ children_one (λ level. holds_from t (k - level) level x) s d
         (cond (holds_from t more (suc d) x) 1 0) path docs below last at on each vs av
         (id_once d path docs at is on)
         ∙ children_count s more d path sd (below sd) ordinary star_here in
         elim (nat_le (length docs) shape.leaf) as
         (λ b. times_counted t k x
-        (picks_here join t k d path docs (cond b none (kids_of below d docs last vs))
-        (picks_of join t k (has_star (cond b none (kids_of below d docs last vs))) d path
-        (cond b none (kids_of below d docs last vs))))
+        (picks_here join t k d path docs (cond b none (child_nodes_of below d docs last vs))
+        (picks_of join t k (has_star (cond b none (child_nodes_of below d docs last vs))) d path
+        (cond b none (child_nodes_of below d docs last vs))))
         ≡ cond (holds_from t (suc more) d x) 1 0) [
           | true ↦ here_leaf t k x join (suc more) d path docs [] sum on
-          | false ↦ here_on t k x join (suc more) d path docs (kids_of below d docs last vs)
-              (picks_of join t k (has_star (kids_of below d docs last vs)) d path
-              (kids_of below d docs last vs)) sum on split
+          | false ↦ here_on t k x join (suc more) d path docs (child_nodes_of below d docs last vs)
+              (picks_of join t k (has_star (child_nodes_of below d docs last vs)) d path
+              (child_nodes_of below d docs last vs)) sum on split
         ]
 
     -- of the children that are taken at most one covers the row
     children_at_most : (g : ℕ → Bool) (s : Bool) (d : ℕ) (path : List ℕ) (sd : List (List ℕ × S))
-        (kids : Nodes S) → (dim d e.0 == star) ≡ false
-        → times g e.0 (picks_here join t k (suc d) (path ++ (star ∷ [])) sd kids
-        (picks_of join t k (has_star kids) (suc d) (path ++ (star ∷ [])) kids)) ≤ 1
-        → cond (is_taken t s d (dim d e.0)) 1 0
-        + times g e.0 (picks_of join t k s d path (cond s (node star sd kids none) none)) ≤ 1
-    children_at_most g false d path sd kids ordinary whole =
-        one_or_none (is_taken t false d (dim d e.0))
-    children_at_most g true d path sd kids ordinary whole =
+        (subtrees : Nodes S) → (dim d e.0 == star) ≡ false
+        → times g e.0 (picks_here join t k (suc d) (path ++ (star ∷ [])) sd subtrees
+        (picks_of join t k (has_star subtrees) (suc d) (path ++ (star ∷ [])) subtrees)) ≤ 1
+        → cond (is_selected t s d (dim d e.0)) 1 0
+        + times g e.0 (picks_of join t k s d path (cond s (node star sd subtrees none) none)) ≤ 1
+    children_at_most g false d path sd subtrees ordinary whole =
+        one_or_none (is_selected t false d (dim d e.0))
+    children_at_most g true d path sd subtrees ordinary whole =
         let x = e.0 in
-        let here = picks_here join t k (suc d) (path ++ (star ∷ [])) sd kids
-        (picks_of join t k (has_star kids) (suc d) (path ++ (star ∷ [])) kids) in
-        let both = times-append g x (cond (is_taken t true d star) here []) [] in
-        let own = of_chosen_at_most g x (is_taken t true d star) here whole in
+        let here = picks_here join t k (suc d) (path ++ (star ∷ [])) sd subtrees
+        (picks_of join t k (has_star subtrees) (suc d) (path ++ (star ∷ [])) subtrees) in
+        let both = times-append g x (cond (is_selected t true d star) here []) [] in
+        let own = of_chosen_at_most g x (is_selected t true d star) here whole in
         let apart = subst (λ b. cond
         (cond (t.filtered d) (not b && t.passes d (dim d x)) (cond (t.grouped d) (not b) b)) 1 0
-        + cond (is_taken t true d star) 1 0 ≤ 1) (sym ordinary)
+        + cond (is_selected t true d star) 1 0 ≤ 1) (sym ordinary)
         (not_both (t.filtered d) (t.grouped d) (t.passes d (dim d x)) (t.passes d star)) in
         omega (arith, both, own, apart)
 
@@ -600,7 +600,7 @@ module _ {S : Type 0} (join : S → S → S) (j : IsJoin join) where
         let below = under join shape more (suc d) in
         let sd = merged_docs join (rekey (set_star d) docs) in
         let s = not (skips shape d) && nat_lt 1 (length (ids_at join d docs)) in
-        let last = star_kid join below shape d docs in
+        let last = star_child join below shape d docs in
         let vs = ids_at join d docs in
         let lt : d < k = omega arith in
         let lt' : length path < k = omega (arith, at) in
@@ -619,25 +619,25 @@ module _ {S : Type 0} (join : S → S → S) (j : IsJoin join) where
         let star_here = covered_once g more (suc d) (path ++ (star ∷ [])) sd (next star) sum'
         (ap (λ n. merged_docs join (rekey (set_star n) docs)) at
         ∙ star_docs join j path all docs is) (agrees_star path x ∙ on) in
-        let flag : has_star (kids_of below d docs last vs)
-        ≡ s = has_star-kids below d docs last vs av ∙ star_flag s sd (below sd) in
-        let ordinary_part = kids_at_most g s d path docs below last at each vs av
+        let flag : has_star (child_nodes_of below d docs last vs)
+        ≡ s = has_star-subtrees below d docs last vs av ∙ star_flag s sd (below sd) in
+        let ordinary_part = subtrees_at_most g s d path docs below last at each vs av
         (id_once d path docs at is on) in
         let star_part = children_at_most g s d path sd (below sd) ordinary star_here in
         let split : times g x
-        (picks_of join t k (has_star (kids_of below d docs last vs)) d path
-        (kids_of below d docs last vs)) ≤ 1 =
-        subst (λ b. times g x (picks_of join t k b d path (kids_of below d docs last vs)) ≤ 1)
+        (picks_of join t k (has_star (child_nodes_of below d docs last vs)) d path
+        (child_nodes_of below d docs last vs)) ≤ 1 =
+        subst (λ b. times g x (picks_of join t k b d path (child_nodes_of below d docs last vs)) ≤ 1)
         (sym flag) (omega (arith, ordinary_part, star_part)) in
         elim (nat_le (length docs) shape.leaf) as
         (λ b. times g x (picks_here join t k d path docs
-        (cond b none (kids_of below d docs last vs))
-        (picks_of join t k (has_star (cond b none (kids_of below d docs last vs))) d path
-        (cond b none (kids_of below d docs last vs)))) ≤ 1) [
+        (cond b none (child_nodes_of below d docs last vs))
+        (picks_of join t k (has_star (cond b none (child_nodes_of below d docs last vs))) d path
+        (cond b none (child_nodes_of below d docs last vs)))) ≤ 1) [
           | true ↦ here_at_most g x join t k d path docs none [] (omega arith)
-          | false ↦ here_at_most g x join t k d path docs (kids_of below d docs last vs)
-              (picks_of join t k (has_star (kids_of below d docs last vs)) d path
-              (kids_of below d docs last vs)) split
+          | false ↦ here_at_most g x join t k d path docs (child_nodes_of below d docs last vs)
+              (picks_of join t k (has_star (child_nodes_of below d docs last vs)) d path
+              (child_nodes_of below d docs last vs)) split
         ]
 
     root_covered : (docs : List (List ℕ × S)) → docs ≡ merged_docs join (before ++ (e ∷ after))

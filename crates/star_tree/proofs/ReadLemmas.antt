@@ -17,11 +17,11 @@ use Rattle.std.proofs.lemmas.Cmp.{nat_list_cmp_total, nat_cmp_total, ranked}
 use Rattle.agg_laws.specs.declared.tree_shape.TreeShape.{TreeShape}
 use Rattle.agg_laws.specs.Merged.{IsJoin, join_some, total, rekey, Merged}
 use Rattle.agg_laws.specs.Tree.{star, dims_order, dim, set_star, merged_docs, Nodes, none, node}
-use Rattle.agg_laws.specs.Tree.{has_star, skips, ids_at, docs_with, kids_of, star_kid, under}
+use Rattle.agg_laws.specs.Tree.{has_star, skips, ids_at, docs_with, child_nodes_of, star_child, under}
 use Rattle.agg_laws.specs.Tree.{agrees, starred, rows_at, HaveNoStar, root_of, tree_of}
 use Rattle.state_columns.specs.Docs.{HaveIds}
 use Rattle.state_columns.specs.Documents.{total_doc, one_document}
-use Rattle.star_tree.specs.Picks.{Task, Pick, quiet, is_taken, picks_here, picks_of, picks, IsTotal}
+use Rattle.star_tree.specs.Picks.{Task, Pick, are_unconstrained, is_selected, picks_here, picks_of, picks, IsTotal}
 use Rattle.star_tree.specs.Picks.{read_of}
 use Rattle.star_tree.specs.Reads.{cardinality, matched, factor, factors_from, bound}
 use Rattle.state_columns.proofs.MergedLemmas.{total-rekey, total-Merged, total_agree, find_total}
@@ -30,21 +30,21 @@ use Rattle.state_columns.proofs.ListLemmas.{same_dims}
 use Rattle.star_tree.proofs.TreeLemmas.{dim-starred, total_rows, Avoids, own_docs, star_docs}
 use Rattle.star_tree.proofs.TreeLemmas.{Avoids-ids, length_more, all_rows}
 use Rattle.star_tree.proofs.NodeLemmas.{total_is}
-use Rattle.star_tree.proofs.PickLemmas.{key_eq, has_star-kids, star_flag}
+use Rattle.star_tree.proofs.PickLemmas.{key_eq, has_star-subtrees, star_flag}
 
 -- what is read, without the paths
 module _ {S : Type 0} (join : S → S → S) where
   abbrev read_here : Task → ℕ → ℕ → List (List ℕ × S) → Nodes S → ℕ → ℕ
   read_here t k d docs none below =
-      cond (quiet t (k - d) d) (length (total_doc join d docs none)) (length docs)
-  read_here t k d docs (node id own kids rest) below =
-      cond (quiet t (k - d) d) (length (total_doc join d docs (node id own kids rest))) below
+      cond (are_unconstrained t (k - d) d) (length (total_doc join d docs none)) (length docs)
+  read_here t k d docs (node id own subtrees rest) below =
+      cond (are_unconstrained t (k - d) d) (length (total_doc join d docs (node id own subtrees rest))) below
 
   abbrev reads_of : Task → ℕ → Bool → ℕ → Nodes S → ℕ
   reads_of t k starred d none = 0
-  reads_of t k starred d (node id docs kids rest) =
-      cond (is_taken t starred d id)
-      (read_here t k (suc d) docs kids (reads_of t k (has_star kids) (suc d) kids)) 0
+  reads_of t k starred d (node id docs subtrees rest) =
+      cond (is_selected t starred d id)
+      (read_here t k (suc d) docs subtrees (reads_of t k (has_star subtrees) (suc d) subtrees)) 0
       + reads_of t k starred d rest
 
   read_of-append : (ps qs : List (Pick S)) → read_of (ps ++ qs) ≡ read_of ps + read_of qs
@@ -55,11 +55,11 @@ module _ {S : Type 0} (join : S → S → S) where
   one_read n = omega arith
 
   module _ (t : Task) (k : ℕ) where
-    here_read : (d : ℕ) (path : List ℕ) (docs : List (List ℕ × S)) (kids : Nodes S)
+    here_read : (d : ℕ) (path : List ℕ) (docs : List (List ℕ × S)) (subtrees : Nodes S)
         (below : List (Pick S)) (n : ℕ) → read_of below ≡ n
-        → read_of (picks_here join t k d path docs kids below) ≡ read_here t k d docs kids n
+        → read_of (picks_here join t k d path docs subtrees below) ≡ read_here t k d docs subtrees n
     here_read d path docs none below n e =
-        elim (quiet t (k - d) d) as
+        elim (are_unconstrained t (k - d) d) as
         (λ b. read_of (cond b
         (record { path = path; level = k; docs = total_doc join d docs none } ∷ [])
         (record { path = path; level = d; docs = docs } ∷ []))
@@ -68,9 +68,9 @@ module _ {S : Type 0} (join : S → S → S) where
               (length (total_doc join d docs none))
           | false ↦ one_read (length docs)
         ]
-    here_read d path docs (node id own kids rest) below n e =
-        let whole = total_doc join d docs (node id own kids rest) in
-        elim (quiet t (k - d) d) as
+    here_read d path docs (node id own subtrees rest) below n e =
+        let whole = total_doc join d docs (node id own subtrees rest) in
+        elim (are_unconstrained t (k - d) d) as
         (λ b. read_of (cond b (record { path = path; level = k; docs = whole } ∷ []) below)
         ≡ cond b (length whole) n) [ true ↦ one_read (length whole) | false ↦ e ]
 
@@ -79,23 +79,23 @@ module _ {S : Type 0} (join : S → S → S) where
     taken_read true ps n e = e
     taken_read false ps n e = refl
 
-    kids_are_read : (b : Bool) (d : ℕ) (path : List ℕ) (kids : Nodes S)
-        → read_of (picks_of join t k b d path kids) ≡ reads_of t k b d kids
-    kids_are_read b d path none = refl
-    kids_are_read b d path (node id docs kids rest) =
-        let here = picks_here join t k (suc d) (path ++ (id ∷ [])) docs kids
-        (picks_of join t k (has_star kids) (suc d) (path ++ (id ∷ [])) kids) in
-        let n = read_here t k (suc d) docs kids (reads_of t k (has_star kids) (suc d) kids) in
-        read_of-append (cond (is_taken t b d id) here []) (picks_of join t k b d path rest)
-        ∙ (λ i. taken_read (is_taken t b d id) here n
-        (here_read (suc d) (path ++ (id ∷ [])) docs kids _ _
-        (kids_are_read (has_star kids) (suc d) (path ++ (id ∷ [])) kids)) i
-        + kids_are_read b d path rest i)
+    children_are_read : (b : Bool) (d : ℕ) (path : List ℕ) (subtrees : Nodes S)
+        → read_of (picks_of join t k b d path subtrees) ≡ reads_of t k b d subtrees
+    children_are_read b d path none = refl
+    children_are_read b d path (node id docs subtrees rest) =
+        let here = picks_here join t k (suc d) (path ++ (id ∷ [])) docs subtrees
+        (picks_of join t k (has_star subtrees) (suc d) (path ++ (id ∷ [])) subtrees) in
+        let n = read_here t k (suc d) docs subtrees (reads_of t k (has_star subtrees) (suc d) subtrees) in
+        read_of-append (cond (is_selected t b d id) here []) (picks_of join t k b d path rest)
+        ∙ (λ i. taken_read (is_selected t b d id) here n
+        (here_read (suc d) (path ++ (id ∷ [])) docs subtrees _ _
+        (children_are_read (has_star subtrees) (suc d) (path ++ (id ∷ [])) subtrees)) i
+        + children_are_read b d path rest i)
 
-    node_is_read : (docs : List (List ℕ × S)) (kids : Nodes S)
-        → read_of (picks_here join t k 0 [] docs kids (picks_of join t k (has_star kids) 0 [] kids))
-        ≡ read_here t k 0 docs kids (reads_of t k (has_star kids) 0 kids)
-    node_is_read docs kids = here_read 0 [] docs kids _ _ (kids_are_read (has_star kids) 0 [] kids)
+    node_is_read : (docs : List (List ℕ × S)) (subtrees : Nodes S)
+        → read_of (picks_here join t k 0 [] docs subtrees (picks_of join t k (has_star subtrees) 0 [] subtrees))
+        ≡ read_here t k 0 docs subtrees (reads_of t k (has_star subtrees) 0 subtrees)
+    node_is_read docs subtrees = here_read 0 [] docs subtrees _ _ (children_are_read (has_star subtrees) 0 [] subtrees)
 
     -- a document that stands for rows is one at most
     few_documents : (ids : List ℕ) (o : Option S) → length (one_document ids o) ≤ 1
@@ -318,14 +318,14 @@ filter_all (v ∷ vs) = ap suc (filter_all vs)
 abbrev taken_of : Bool → Bool → Bool → ℕ → ℕ → ℕ
 taken_of f g s a c = cond f a (cond g c (cond s 0 c))
 
-one_kid : (f g s p : Bool) (r a c n rest last : ℕ) → r ≤ n → rest ≤ taken_of f g s a c * n + last
+one_child : (f g s p : Bool) (r a c n rest last : ℕ) → r ≤ n → rest ≤ taken_of f g s a c * n + last
     → cond (cond f (true && p) (cond g true (cond s false true))) r 0
     + rest ≤ taken_of f g s (cond p (suc a) a) (suc c) * n + last
-one_kid true g s true r a c n rest last h k = omega (arith, h, k)
-one_kid true g s false r a c n rest last h k = omega (arith, h, k)
-one_kid false true s p r a c n rest last h k = omega (arith, h, k)
-one_kid false false true p r a c n rest last h k = omega (arith, h, k)
-one_kid false false false p r a c n rest last h k = omega (arith, h, k)
+one_child true g s true r a c n rest last h k = omega (arith, h, k)
+one_child true g s false r a c n rest last h k = omega (arith, h, k)
+one_child false true s p r a c n rest last h k = omega (arith, h, k)
+one_child false false true p r a c n rest last h k = omega (arith, h, k)
+one_child false false false p r a c n rest last h k = omega (arith, h, k)
 
 pass_length : (p : Bool) (v : ℕ) (vs : List ℕ) → length (cond p (v ∷ vs) vs)
     ≡ cond p (suc (length vs)) (length vs)
@@ -358,8 +358,8 @@ by_factor false false false true a c b e n r p q o h = omega (arith, h)
 by_factor false false false false a c b e n r p q o h = let le = mul-le-mul_right n (o refl)
     in omega (arith, le, h)
 
-few : (c : ℕ) → nat_lt 1 c ≡ false → c ≤ 1
-few c h = grind (arith, nat_tests)
+at_most : (c : ℕ) → nat_lt 1 c ≡ false → c ≤ 1
+at_most c h = grind (arith, nat_tests)
 
 fits : (n l m : ℕ) → nat_le n l ≡ true → l ≤ m → n ≤ m
 fits n l m h k = grind (arith, nat_tests)
@@ -367,10 +367,10 @@ fits n l m h k = grind (arith, nat_tests)
 turned : (l f q : ℕ) → f * (l * q) ≡ l * (f * q)
 turned l f q = omega arith
 
-no_kids : {S : Type 0} (below : List (List ℕ × S) → Nodes S) (d : ℕ) (docs : List (List ℕ × S))
-    (last : Nodes S) (vs : List ℕ) → kids_of below d docs last vs ≡ none → vs ≡ []
-no_kids below d docs last [] h = refl
-no_kids below d docs last (v ∷ vs) h = cc
+no_children : {S : Type 0} (below : List (List ℕ × S) → Nodes S) (d : ℕ) (docs : List (List ℕ × S))
+    (last : Nodes S) (vs : List ℕ) → child_nodes_of below d docs last vs ≡ none → vs ≡ []
+no_children below d docs last [] h = refl
+no_children below d docs last (v ∷ vs) h = cc
 
 pub no_docs : {S : Type 0} (join : S → S → S) (j : IsJoin join) (d : ℕ) (docs : List (List ℕ × S))
     → ids_at join d docs ≡ [] → docs ≡ []
@@ -388,26 +388,26 @@ module _ {S : Type 0} (join : S → S → S) (j : IsJoin join) (t : Task) (k : �
     (some_leaf : 1 ≤ shape.leaf)
     (some : (i : ℕ) → i < k → 1 ≤ factor join t shape rows i) where
   -- what the ordinary children read
-  kids_read : (s : Bool) (d n : ℕ) (docs : List (List ℕ × S)) (below : List (List ℕ × S) → Nodes S)
+  children_read : (s : Bool) (d n : ℕ) (docs : List (List ℕ × S)) (below : List (List ℕ × S) → Nodes S)
       (last : Nodes S)
       → ((v : ℕ) → (v == star) ≡ false
       → read_here join t k (suc d) (docs_with d v docs) (below (docs_with d v docs))
       (reads_of join t k (has_star (below (docs_with d v docs))) (suc d)
       (below (docs_with d v docs))) ≤ n)
       → (vs : List ℕ) → Avoids vs
-      → reads_of join t k s d (kids_of below d docs last vs) ≤ taken_of (t.filtered d)
+      → reads_of join t k s d (child_nodes_of below d docs last vs) ≤ taken_of (t.filtered d)
       (t.grouped d) s (length (filter (t.passes d) vs)) (length vs) * n
       + reads_of join t k s d last
-  kids_read s d n docs below last each [] av = omega arith
-  kids_read s d n docs below last each (v ∷ vs) av =
+  children_read s d n docs below last each [] av = omega arith
+  children_read s d n docs below last each (v ∷ vs) av =
       let own = below (docs_with d v docs) in
       let r = read_here join t k (suc d) (docs_with d v docs) own
       (reads_of join t k (has_star own) (suc d) own) in
-      let rest = reads_of join t k s d (kids_of below d docs last vs) in
+      let rest = reads_of join t k s d (child_nodes_of below d docs last vs) in
       let end = reads_of join t k s d last in
       let passing = filter (t.passes d) vs in
-      let step = one_kid (t.filtered d) (t.grouped d) s (t.passes d v) r (length passing)
-      (length vs) n rest end (each v av.0) (kids_read s d n docs below last each vs av.1) in
+      let step = one_child (t.filtered d) (t.grouped d) s (t.passes d v) r (length passing)
+      (length vs) n rest end (each v av.0) (children_read s d n docs below last each vs av.1) in
       subst (λ b. cond (cond (t.filtered d) (not b && t.passes d v)
       (cond (t.grouped d) (not b) (cond s b true))) r 0 + rest
       ≤ taken_of (t.filtered d) (t.grouped d) s (length (cond (t.passes d v) (v ∷ passing) passing))
@@ -418,14 +418,14 @@ module _ {S : Type 0} (join : S → S → S) (j : IsJoin join) (t : Task) (k : �
       (sym (pass_length (t.passes d v) v passing)) step)
 
   -- what the star child reads
-  star_kid_read : (s : Bool) (d n : ℕ) (docs : List (List ℕ × S)) (kids : Nodes S)
-      → read_here join t k (suc d) docs kids (reads_of join t k (has_star kids) (suc d) kids) ≤ n
-      → reads_of join t k s d (cond s (node star docs kids none) none) ≤ cond s
+  star_child_read : (s : Bool) (d n : ℕ) (docs : List (List ℕ × S)) (subtrees : Nodes S)
+      → read_here join t k (suc d) docs subtrees (reads_of join t k (has_star subtrees) (suc d) subtrees) ≤ n
+      → reads_of join t k s d (cond s (node star docs subtrees none) none) ≤ cond s
       (cond (t.filtered d) 0 (cond (t.grouped d) 0 n)) 0
-  star_kid_read true d n docs kids h =
+  star_child_read true d n docs subtrees h =
       star_read (t.filtered d) (t.grouped d) true (t.passes d star)
-      (read_here join t k (suc d) docs kids (reads_of join t k (has_star kids) (suc d) kids)) n h
-  star_kid_read false d n docs kids h = omega arith
+      (read_here join t k (suc d) docs subtrees (reads_of join t k (has_star subtrees) (suc d) subtrees)) n h
+  star_child_read false d n docs subtrees h = omega arith
 
   -- the factors that are left come to one at least
   some_left : (more d : ℕ) → d + more ≡ k → 1 ≤ factors_from join t shape rows more d
@@ -443,22 +443,22 @@ module _ {S : Type 0} (join : S → S → S) (j : IsJoin join) (t : Task) (k : �
   at_least more d sum = let le = mul-le-mul_left shape.leaf (some_left more d sum)
       in omega (arith, le)
 
-  here_bound : (d : ℕ) (docs : List (List ℕ × S)) (kids : Nodes S) (below n : ℕ) → 1 ≤ n
-      → length (total_doc join d docs kids) ≤ 1
-      → (kids ≡ none → quiet t (k - d) d ≡ false → length docs ≤ n) → below ≤ n
-      → read_here join t k d docs kids below ≤ n
+  here_bound : (d : ℕ) (docs : List (List ℕ × S)) (subtrees : Nodes S) (below n : ℕ) → 1 ≤ n
+      → length (total_doc join d docs subtrees) ≤ 1
+      → (subtrees ≡ none → are_unconstrained t (k - d) d ≡ false → length docs ≤ n) → below ≤ n
+      → read_here join t k d docs subtrees below ≤ n
   here_bound d docs none below n p w q r =
-      elim (quiet t (k - d) d) as
-      (λ b. quiet t (k - d) d ≡ b
+      elim (are_unconstrained t (k - d) d) as
+      (λ b. are_unconstrained t (k - d) d ≡ b
       → cond b (length (total_doc join d docs none)) (length docs) ≤ n) [
         | true ↦ λ _. omega
             (arith, p, w)
         | false ↦ λ e. q refl e
       ] refl
-  here_bound d docs (node id own kids rest) below n p w q r =
-      elim (quiet t (k - d) d) as
+  here_bound d docs (node id own subtrees rest) below n p w q r =
+      elim (are_unconstrained t (k - d) d) as
       (λ b. cond b (length
-      (total_doc join d docs (node id own kids rest))) below ≤ n) [
+      (total_doc join d docs (node id own subtrees rest))) below ≤ n) [
         | true ↦ omega
             (arith, p, w)
         | false ↦ r
@@ -476,15 +476,15 @@ module _ {S : Type 0} (join : S → S → S) (j : IsJoin join) (t : Task) (k : �
       let w : length (total_doc join d docs none) ≤ 1 =
       one_whole join t k rows path (total_doc join d docs none)
       (total_is join j k shape rows ids no_star zero d path docs at sum is) in
-      subst (λ m. cond (quiet t m d) (length (total_doc join d docs none))
+      subst (λ m. cond (are_unconstrained t m d) (length (total_doc join d docs none))
       (length docs) ≤ shape.leaf * 1) (sym z) (omega (arith, le, w))
   node_read (suc more) d path docs at sum is =
       let below = under join shape more (suc d) in
       let sd = merged_docs join (rekey (set_star d) docs) in
       let s = not (skips shape d) && nat_lt 1 (length (ids_at join d docs)) in
-      let last = star_kid join below shape d docs in
+      let last = star_child join below shape d docs in
       let vs = ids_at join d docs in
-      let kids = kids_of below d docs last vs in
+      let subtrees = child_nodes_of below d docs last vs in
       let lt : d < k = omega arith in
       let lt' : length path < k = omega (arith, at) in
       let av : Avoids vs = subst (λ n. Avoids (ids_at join n docs)) (sym at)
@@ -500,10 +500,10 @@ module _ {S : Type 0} (join : S → S → S) (j : IsJoin join) (t : Task) (k : �
       let star_here = node_read more (suc d) (path ++ (star ∷ [])) sd (next star) sum'
       (ap (λ n. merged_docs join (rekey (set_star n) docs)) at
       ∙ star_docs join j path rows docs is) in
-      let flag : has_star kids ≡ s = has_star-kids below d docs last vs av
+      let flag : has_star subtrees ≡ s = has_star-subtrees below d docs last vs av
       ∙ star_flag s sd (below sd) in
-      let ordinary = kids_read s d n docs below last each vs av in
-      let star_part = star_kid_read s d n sd (below sd) star_here in
+      let ordinary = children_read s d n docs below last each vs av in
+      let star_part = star_child_read s d n sd (below sd) star_here in
       let passing = subst (λ m. length (filter (t.passes d) (ids_at join m docs)) ≤ length
       (filter (t.passes d) (ids_at join m rows))) (sym at)
       (pass_within join j (t.passes d) path rows docs is) in
@@ -512,15 +512,15 @@ module _ {S : Type 0} (join : S → S → S) (j : IsJoin join) (t : Task) (k : �
       (pass_within join j (λ _. true) path rows docs is) in
       let most : length vs ≤ cardinality join t shape rows d =
       omega (arith, every, filter_all vs, filter_all (ids_at join d rows)) in
-      let all : reads_of join t k s d kids ≤ factor join t shape rows d * n =
+      let all : reads_of join t k s d subtrees ≤ factor join t shape rows d * n =
       by_factor (t.filtered d) (t.grouped d) (skips shape d) (nat_lt 1 (length vs))
       (length (filter (t.passes d) vs)) (length vs) (matched join t shape rows d)
-      (cardinality join t shape rows d) n (reads_of join t k s d kids)
-      passing most (few (length vs)) (omega (arith, ordinary, star_part)) in
-      let whole : reads_of join t k (has_star kids) d kids ≤ shape.leaf *
+      (cardinality join t shape rows d) n (reads_of join t k s d subtrees)
+      passing most (at_most (length vs)) (omega (arith, ordinary, star_part)) in
+      let whole : reads_of join t k (has_star subtrees) d subtrees ≤ shape.leaf *
       (factor join t shape rows d * q) =
-      subst (λ b. reads_of join t k b d kids ≤ shape.leaf * (factor join t shape rows d * q))
-      (sym flag) (subst (λ m. reads_of join t k s d kids ≤ m)
+      subst (λ b. reads_of join t k b d subtrees ≤ shape.leaf * (factor join t shape rows d * q))
+      (sym flag) (subst (λ m. reads_of join t k s d subtrees ≤ m)
       (turned shape.leaf (factor join t shape rows d) q) all) in
       let enough : shape.leaf ≤ shape.leaf * (factor join t shape rows d * q) =
       at_least (suc more) d sum in
@@ -531,17 +531,17 @@ module _ {S : Type 0} (join : S → S → S) (j : IsJoin join) (t : Task) (k : �
       (total_is join j k shape rows ids no_star (suc more) d path docs at sum is) in
       elim (nat_le (length docs) shape.leaf) as
       (λ b. nat_le (length docs) shape.leaf ≡ b
-      → length (total_doc join d docs (cond b none kids)) ≤ 1
-      → read_here join t k d docs (cond b none kids)
-      (reads_of join t k (has_star (cond b none kids)) d (cond b none kids)) ≤ shape.leaf *
+      → length (total_doc join d docs (cond b none subtrees)) ≤ 1
+      → read_here join t k d docs (cond b none subtrees)
+      (reads_of join t k (has_star (cond b none subtrees)) d (cond b none subtrees)) ≤ shape.leaf *
       (factor join t shape rows d * q)) [
         | true ↦ λ e w. here_bound d docs none 0
             (shape.leaf * (factor join t shape rows d * q)) one w
             (λ _ _. fits (length docs) shape.leaf
             (shape.leaf * (factor join t shape rows d * q)) e enough) (omega arith)
-        | false ↦ λ e w. here_bound d docs kids (reads_of join t k (has_star kids) d kids)
+        | false ↦ λ e w. here_bound d docs subtrees (reads_of join t k (has_star subtrees) d subtrees)
             (shape.leaf * (factor join t shape rows d * q)) one w
-            (λ h _. let empty = ap length (no_docs join j d docs (no_kids below d docs last vs h))
+            (λ h _. let empty = ap length (no_docs join j d docs (no_children below d docs last vs h))
             in omega (arith, empty)) whole
       ] refl w
 

@@ -15,18 +15,18 @@ use Rattle.star_tree.specs.declared.node.Node.{Node}
 use Rattle.agg_laws.specs.declared.tree_shape.TreeShape.{TreeShape}
 use Rattle.agg_laws.specs.Merged.{IsJoin, rekey, add, Merged}
 use Rattle.agg_laws.specs.Tree.{star, dims_order, dim, set_star, merged_docs, Nodes, none, node}
-use Rattle.agg_laws.specs.Tree.{skips, ids_at, docs_with, kids_of, star_kid, under, tree_of, agrees}
+use Rattle.agg_laws.specs.Tree.{skips, ids_at, docs_with, child_nodes_of, star_child, under, tree_of, agrees}
 use Rattle.agg_laws.specs.Tree.{starred, rows_at, HaveNoStar}
 use Rattle.state_columns.specs.Docs.{HaveIds}
 use Rattle.state_columns.specs.Region.{range}
-use Rattle.star_tree.specs.Flat.{blank, unvisited, node_at, count, kid_nodes, Flat, flat, IsNode}
+use Rattle.star_tree.specs.Flat.{blank, unvisited, node_at, count, child_nodes, Flat, flat, IsNode}
 use Rattle.star_tree.specs.NodeRules.{count_at, AreCounted, HaveLevel, AreAbove, Ascend, AreKnown}
-use Rattle.star_tree.specs.NodeRules.{StarIsLast, Cover, KeepKidsRules, KeepsRules}
+use Rattle.star_tree.specs.NodeRules.{StarIsLast, Cover, KeepChildrenRules, KeepsRules}
 use Rattle.star_tree.proofs.TreeLemmas.{Avoids, Avoids-ids}
 use Rattle.star_tree.proofs.NodeLemmas.{docs_at, dim-after}
 use Rattle.star_tree.proofs.ReadLemmas.{Above, Ascending, ids_ascend}
 use Rattle.star_tree.proofs.Runs.{joined, joined_all}
-use Rattle.star_tree.proofs.FlatNodes.{rising_docs, count_kids}
+use Rattle.star_tree.proofs.FlatNodes.{rising_docs, count_children}
 use Rattle.state_columns.proofs.ListLemmas.{merged_fewer, length-rekey, range_length}
 use Rattle.star_tree.proofs.FlatTrees.{sorted_at, nodes_of_tree}
 
@@ -84,8 +84,8 @@ cover_back from to (n ∷ ns) h =
     ] h
 
 rules_back : (shape : TreeShape) (counts : List ℕ) (d from to : ℕ) (ns : List Node)
-    → KeepKidsRules shape counts d from to (map unvisited ns)
-    → KeepKidsRules shape counts d from to ns
+    → KeepChildrenRules shape counts d from to (map unvisited ns)
+    → KeepChildrenRules shape counts d from to ns
 rules_back shape counts d from to ns h = record {
   levels = levels_back (suc d) ns h.levels;
   ids_ascend = ascend_back ns h.ids_ascend;
@@ -176,73 +176,73 @@ module _ {S : Type 0} (join : S → S → S) where
     abbrev last : Nodes S
     last = cond s (node star sd (below sd) none) none
 
-    kid_levels : (e from to : ℕ) (kids : Nodes S) → HaveLevel e (kid_nodes e from to kids)
-    kid_levels e from to none = tt
-    kid_levels e from to (node id own kids rest) = (
+    child_levels : (e from to : ℕ) (subtrees : Nodes S) → HaveLevel e (child_nodes e from to subtrees)
+    child_levels e from to none = tt
+    child_levels e from to (node id own subtrees rest) = (
       elim (id == star) as
           (λ b. (cond b (blank e id to (to + length own))
           (blank e id from (from + length own))).level
           ≡ e) [ true ↦ refl | false ↦ refl ],
-      kid_levels e
+      child_levels e
           (cond (id == star) from (from + length own)) to rest,
     )
 
     -- an ordinary child is first
     ordinary : (v : ℕ) (vs : List ℕ) (e from to : ℕ) → (v == star) ≡ false
         → let own = docs_with d v docs in
-        kid_nodes e from to (kids_of below d docs last (v ∷ vs))
+        child_nodes e from to (child_nodes_of below d docs last (v ∷ vs))
         ≡ blank e v from (from + length own)
-        ∷ kid_nodes e (from + length own) to (kids_of below d docs last vs)
+        ∷ child_nodes e (from + length own) to (child_nodes_of below d docs last vs)
     ordinary v vs e from to av =
         let own = docs_with d v docs in
         ap (λ b. cond b (blank e v to (to + length own)) (blank e v from (from + length own))
-        ∷ kid_nodes e (cond b from (from + length own)) to (kids_of below d docs last vs)) av
+        ∷ child_nodes e (cond b from (from + length own)) to (child_nodes_of below d docs last vs)) av
 
-    last_above : (e v from to : ℕ) → v < star → AreAbove v (kid_nodes e from to last)
+    last_above : (e v from to : ℕ) → v < star → AreAbove v (child_nodes e from to last)
     last_above e v from to lt =
         elim s as (λ b. AreAbove v
-        (kid_nodes e from to (cond b (node star sd (below sd) none) none))) [
+        (child_nodes e from to (cond b (node star sd (below sd) none) none))) [
           | true ↦
               (lt, tt)
           | false ↦ tt
         ]
 
-    kids_above : (e v : ℕ) (vs : List ℕ) (from to : ℕ) → Avoids vs → v < star → Above v vs
-        → AreAbove v (kid_nodes e from to (kids_of below d docs last vs))
-    kids_above e v [] from to av lt h = last_above e v from to lt
-    kids_above e v (w ∷ ws) from to av lt h =
+    children_above : (e v : ℕ) (vs : List ℕ) (from to : ℕ) → Avoids vs → v < star → Above v vs
+        → AreAbove v (child_nodes e from to (child_nodes_of below d docs last vs))
+    children_above e v [] from to av lt h = last_above e v from to lt
+    children_above e v (w ∷ ws) from to av lt h =
         subst (AreAbove v) (sym (ordinary w ws e from to av.0))
-        (h.0, kids_above e v ws (from + length (docs_with d w docs)) to av.1 lt h.1)
+        (h.0, children_above e v ws (from + length (docs_with d w docs)) to av.1 lt h.1)
 
-    kids_ascend : (e c : ℕ) (vs : List ℕ) (from to : ℕ) → Avoids vs → c ≤ star → AllBelow c vs
-        → Ascending vs → Ascend (kid_nodes e from to (kids_of below d docs last vs))
-    kids_ascend e c [] from to av le b h =
+    children_ascend : (e c : ℕ) (vs : List ℕ) (from to : ℕ) → Avoids vs → c ≤ star → AllBelow c vs
+        → Ascending vs → Ascend (child_nodes e from to (child_nodes_of below d docs last vs))
+    children_ascend e c [] from to av le b h =
         elim s as (λ b. Ascend
-        (kid_nodes e from to (cond b (node star sd (below sd) none) none))) [
+        (child_nodes e from to (cond b (node star sd (below sd) none) none))) [
           | true ↦
               (tt, tt)
           | false ↦ tt
         ]
-    kids_ascend e c (v ∷ vs) from to av le b h =
+    children_ascend e c (v ∷ vs) from to av le b h =
         let next = from + length (docs_with d v docs) in
         subst Ascend (sym (ordinary v vs e from to av.0)) (
-          kids_above e v vs next to av.1
+          children_above e v vs next to av.1
               (omega (arith, b.0, le)) h.0,
-          kids_ascend e c vs next to av.1 le b.1 h.1,
+          children_ascend e c vs next to av.1 le b.1 h.1,
         )
 
-    kids_known : (e c : ℕ) (vs : List ℕ) (from to : ℕ) → Avoids vs → AllBelow c vs
-        → AreKnown c (kid_nodes e from to (kids_of below d docs last vs))
-    kids_known e c [] from to av b =
+    children_known : (e c : ℕ) (vs : List ℕ) (from to : ℕ) → Avoids vs → AllBelow c vs
+        → AreKnown c (child_nodes e from to (child_nodes_of below d docs last vs))
+    children_known e c [] from to av b =
         elim s as (λ b. AreKnown c
-        (kid_nodes e from to (cond b (node star sd (below sd) none) none))) [
+        (child_nodes e from to (cond b (node star sd (below sd) none) none))) [
           | true ↦
               (inl refl, tt)
           | false ↦ tt
         ]
-    kids_known e c (v ∷ vs) from to av b =
+    children_known e c (v ∷ vs) from to av b =
         subst (AreKnown c) (sym (ordinary v vs e from to av.0))
-        (inr b.0, kids_known e c vs (from + length (docs_with d v docs)) to av.1 b.1)
+        (inr b.0, children_known e c vs (from + length (docs_with d v docs)) to av.1 b.1)
 
     star_absurd : {P : Type 0} (v : ℕ) → (v == star) ≡ false → v ≡ star → P
     star_absurd v f e = absurd (clash (sym f ∙ eq-eqb v star e))
@@ -250,39 +250,39 @@ module _ {S : Type 0} (join : S → S → S) where
         clash : false ≡ true → ⊥
         clash h = cc
 
-    kids_last : (e most : ℕ) (skipped : Bool) (vs : List ℕ) (before from to : ℕ) → Avoids vs
+    children_last : (e most : ℕ) (skipped : Bool) (vs : List ℕ) (before from to : ℕ) → Avoids vs
         → (s ≡ true → (skipped ≡ false) × (2 ≤ before + length vs) × (length sd ≤ most))
-        → StarIsLast skipped most before (kid_nodes e from to (kids_of below d docs last vs))
-    kids_last e most skipped [] before from to av h =
+        → StarIsLast skipped most before (child_nodes e from to (child_nodes_of below d docs last vs))
+    children_last e most skipped [] before from to av h =
         elim s as (λ b. (b ≡ true → (skipped ≡ false) × (2 ≤ before + 0) × (length sd ≤ most))
         → StarIsLast skipped most before
-        (kid_nodes e from to (cond b (node star sd (below sd) none) none))) [
+        (child_nodes e from to (cond b (node star sd (below sd) none) none))) [
           | true ↦ λ h. let x = h refl
               in ((λ _. (refl, x.0, omega (arith, x.1), omega (arith, x.2))), tt)
           | false ↦ λ h. tt
         ] h
-    kids_last e most skipped (v ∷ vs) before from to av h =
+    children_last e most skipped (v ∷ vs) before from to av h =
         subst (StarIsLast skipped most before) (sym (ordinary v vs e from to av.0)) (
           star_absurd v av.0,
-          kids_last e most skipped vs (suc before)
+          children_last e most skipped vs (suc before)
               (from + length (docs_with d v docs)) to av.1
               (λ q. let x = h q in (x.0, omega (arith, x.1), x.2)),
         )
 
-    kids_cover : (e : ℕ) (vs : List ℕ) (from to end : ℕ) → Avoids vs → from
+    children_cover : (e : ℕ) (vs : List ℕ) (from to end : ℕ) → Avoids vs → from
         + length (joined join d docs vs) ≡ end
-        → Cover from end (kid_nodes e from to (kids_of below d docs last vs))
-    kids_cover e [] from to end av h =
+        → Cover from end (child_nodes e from to (child_nodes_of below d docs last vs))
+    children_cover e [] from to end av h =
         elim s as (λ b. Cover from end
-        (kid_nodes e from to (cond b (node star sd (below sd) none) none))) [
+        (child_nodes e from to (cond b (node star sd (below sd) none) none))) [
           | true ↦ omega
               (arith, h)
           | false ↦ omega (arith, h)
         ]
-    kids_cover e (v ∷ vs) from to end av h =
+    children_cover e (v ∷ vs) from to end av h =
         let own = docs_with d v docs in
-        let rest = kid_nodes e (from + length own) to (kids_of below d docs last vs) in
-        let more = kids_cover e vs (from + length own) to end av.1
+        let rest = child_nodes e (from + length own) to (child_nodes_of below d docs last vs) in
+        let more = children_cover e vs (from + length own) to end av.1
         (omega (arith, h, length-append own (joined join d docs vs))) in
         let pick : Cover from end (blank e v from (from + length own) ∷ rest) =
         one (v == star) av.0 from end (from + length own) rest more in
@@ -299,18 +299,18 @@ module _ {S : Type 0} (join : S → S → S) where
 
 module _ {S : Type 0} (join : S → S → S) (j : IsJoin join) (shape : TreeShape) (k : ℕ)
     (rows : List (List ℕ × S)) (ids : HaveIds k rows) (no_star : HaveNoStar k rows)
-    (counts : List ℕ) (few : (d : ℕ) → count_at counts d ≤ star)
+    (counts : List ℕ) (at_most : (d : ℕ) → count_at counts d ≤ star)
     (counted : AreCounted k counts rows) where
   -- the children of a split node
-  kids_rules : (m : ℕ) (path : List ℕ) (docs : List (List ℕ × S)) (from to end : ℕ) → docs
+  children_rules : (m : ℕ) (path : List ℕ) (docs : List (List ℕ × S)) (from to end : ℕ) → docs
       ≡ merged_docs join (rekey (starred path) (rows_at path rows)) → length path < k → from
       + length docs ≡ end
       → let d = length path
-      in KeepKidsRules shape counts d from end
-      (kid_nodes (suc d) from to
-      (kids_of (under join shape m (suc d)) d docs
-      (star_kid join (under join shape m (suc d)) shape d docs) (ids_at join d docs)))
-  kids_rules m path docs from to end is lt size =
+      in KeepChildrenRules shape counts d from end
+      (child_nodes (suc d) from to
+      (child_nodes_of (under join shape m (suc d)) d docs
+      (star_child join (under join shape m (suc d)) shape d docs) (ids_at join d docs)))
+  children_rules m path docs from to end is lt size =
       let d = length path in
       let below = under join shape m (suc d) in
       let sd = merged_docs join (rekey (set_star d) docs) in
@@ -332,16 +332,16 @@ module _ {S : Type 0} (join : S → S → S) (j : IsJoin join) (shape : TreeShap
       let few_docs : length sd ≤ end - from = let le = merged_fewer join (rekey (set_star d) docs)
       in let l = length-rekey join (set_star d) docs in omega (arith, le, l, size) in
       record {
-        levels = kid_levels join shape d docs below s sd (suc d) from to
-            (kids_of below d docs (star_kid join below shape d docs) vs);
-        ids_ascend = kids_ascend join shape d docs below s sd (suc d) c vs from to av (few d) fits
+        levels = child_levels join shape d docs below s sd (suc d) from to
+            (child_nodes_of below d docs (star_child join below shape d docs) vs);
+        ids_ascend = children_ascend join shape d docs below s sd (suc d) c vs from to av (at_most d) fits
             (ids_ascend join j d docs);
-        ids_known = kids_known join shape d docs below s sd (suc d) c vs from to av fits;
-        star_last = kids_last join shape d docs below s sd (suc d) (end - from)
+        ids_known = children_known join shape d docs below s sd (suc d) c vs from to av fits;
+        star_last = children_last join shape d docs below s sd (suc d) (end - from)
             (skips shape d) vs 0 from to av
             (λ e. let x = not_skipped join shape d docs below s sd (skips shape d)
             (nat_lt 1 (length vs)) e in (x.0, more_than_one (length vs) x.1, few_docs));
-        ranges_cover = kids_cover join shape d docs below s sd (suc d) vs from to end av
+        ranges_cover = children_cover join shape d docs below s sd (suc d) vs from to end av
             (ap (λ l. from + length l) all ∙ size);
       }
     where
@@ -367,31 +367,31 @@ module _ {S : Type 0} (join : S → S → S) (j : IsJoin join) (shape : TreeShap
             (λ _. ((node_at f.0 at).end - (node_at f.0 at).start ≤ shape.leaf)
             ⊎ (((node_at f.0 at).level ≡ k)
             × ((node_at f.0 at).end - (node_at f.0 at).start ≡ 1))) [
-              | inl few ↦ inl (omega (arith, few, n))
+              | inl at_most ↦ inl (omega (arith, at_most, n))
               | inr one ↦ inr (h.level_is ∙ one.0, omega (arith, one.1, n))
             ];
         split_level = λ z. absurd (omega (arith, z, w.children_are));
         split_first = λ z. absurd (omega (arith, z, w.children_are));
         split_last = λ z. absurd (omega (arith, z, w.children_are));
-        split_kids = λ z. absurd (omega (arith, z, w.children_are));
+        split_children = λ z. absurd (omega (arith, z, w.children_are));
       }
 
-  split_rules : (d at id : ℕ) (docs : List (List ℕ × S)) (kids : Nodes S) (f : Flat S) → d < k
-      → 0 < count kids → IsNode join d at id docs kids f
+  split_rules : (d at id : ℕ) (docs : List (List ℕ × S)) (subtrees : Nodes S) (f : Flat S) → d < k
+      → 0 < count subtrees → IsNode join d at id docs subtrees f
       → ((from to end : ℕ) → from + length docs ≡ end
-      → KeepKidsRules shape counts d from end (kid_nodes (suc d) from to kids))
+      → KeepChildrenRules shape counts d from end (child_nodes (suc d) from to subtrees))
       → KeepsRules shape k counts (length f.1) f.0 at
-  split_rules d at id docs kids f lt some w rules =
+  split_rules d at id docs subtrees f lt some w rules =
       let h = w.docs_are in
       let from = (node_at f.0 at).start in
       let end = (node_at f.0 at).end in
       let first = (node_at f.0 at).first in
       let n : length docs ≡ end - from = ap length (sym h.docs_are)
       ∙ range_length join from end f.1 (omega (arith, h.order)) h.inside in
-      let kids_are : map unvisited (range first (first + (node_at f.0 at).children) f.0)
-      ≡ kid_nodes (suc d) from w.star_from kids =
+      let nodes_are : map unvisited (range first (first + (node_at f.0 at).children) f.0)
+      ≡ child_nodes (suc d) from w.star_from subtrees =
       map-range unvisited first (first + (node_at f.0 at).children) f.0
-      ∙ ap (λ c. range first (first + c) (map unvisited f.0)) w.children_are ∙ w.kids_are in
+      ∙ ap (λ c. range first (first + c) (map unvisited f.0)) w.children_are ∙ w.nodes_are in
       record {
         level = omega (arith, h.level_is, lt);
         order = h.order;
@@ -401,13 +401,13 @@ module _ {S : Type 0} (join : S → S → S) (j : IsJoin join) (shape : TreeShap
         leaf_size = λ z. absurd (omega (arith, z, w.children_are, some));
         split_level = λ _. omega (arith, h.level_is, lt);
         split_first = λ _. w.later some;
-        split_last = λ _. omega (arith, w.children_are, w.kids_in);
-        split_kids = λ _. rules_back shape counts (node_at f.0 at).level from end
+        split_last = λ _. omega (arith, w.children_are, w.children_in);
+        split_children = λ _. rules_back shape counts (node_at f.0 at).level from end
             (range first (first + (node_at f.0 at).children) f.0)
-            (subst (λ l. KeepKidsRules shape counts l from end
+            (subst (λ l. KeepChildrenRules shape counts l from end
             (map unvisited (range first (first + (node_at f.0 at).children) f.0)))
             (sym h.level_is)
-            (subst (KeepKidsRules shape counts d from end) (sym kids_are)
+            (subst (KeepChildrenRules shape counts d from end) (sym nodes_are)
             (rules from w.star_from end (omega (arith, n, h.order)))));
       }
 
@@ -461,7 +461,7 @@ module _ {S : Type 0} (join : S → S → S) (j : IsJoin join) (shape : TreeShap
       let d = length path in
       let below = under join shape m (suc d) in
       let vs = ids_at join d docs in
-      let kids = kids_of below d docs (star_kid join below shape d docs) vs in
+      let subtrees = child_nodes_of below d docs (star_child join below shape d docs) vs in
       let h = w.docs_are in
       let lt : d < k = omega (arith, sum) in
       let n : length docs ≡ (node_at f.0 at).end - (node_at f.0 at).start =
@@ -472,17 +472,17 @@ module _ {S : Type 0} (join : S → S → S) (j : IsJoin join) (shape : TreeShap
       ≡ docs = joined_all join (length docs) d docs (omega arith)
       (rising_docs k path docs lt (docs_at join j k path rows docs (omega arith) ids no_star is)
       (sorted_at join j shape k rows ids no_star path docs is)) in
-      let some : 0 < count kids = let c =
-      count_kids join below d docs (star_kid join below shape d docs) vs
+      let some : 0 < count subtrees = let c =
+      count_children join below d docs (star_child join below shape d docs) vs
       in let v = some_ids vs (omega (arith, ap length all, n, h.order))
       in omega (arith, c, v) in
       elim (nat_le (length docs) shape.leaf) as
-      (λ b. nat_le (length docs) shape.leaf ≡ b → IsNode join d at id docs (cond b none kids) f
+      (λ b. nat_le (length docs) shape.leaf ≡ b → IsNode join d at id docs (cond b none subtrees) f
       → KeepsRules shape k counts (length f.1) f.0 at) [
         | true ↦ λ e w. leaf_rules d at id docs f (omega (arith, lt)) w
             (inl (fits (length docs) shape.leaf e))
-        | false ↦ λ e w. split_rules d at id docs kids f lt some w
-            (λ from to end size. kids_rules m path docs from to end is lt size)
+        | false ↦ λ e w. split_rules d at id docs subtrees f lt some w
+            (λ from to end size. children_rules m path docs from to end is lt size)
       ] refl w
     where
       fits : (n l : ℕ) → nat_le n l ≡ true → n ≤ l

@@ -12,7 +12,7 @@ use Rattle.std.proofs.lemmas.Cmp.{nat_list_cmp_total, nat_cmp_total}
 use Rattle.agg_laws.specs.declared.tree_shape.TreeShape.{TreeShape}
 use Rattle.agg_laws.specs.Merged.{IsJoin, join_some, total, rekey, add, Merged}
 use Rattle.agg_laws.specs.Tree.{star, dims_order, dim, set_star, merged_docs, Nodes, none, node}
-use Rattle.agg_laws.specs.Tree.{ids_at, docs_with, kids_of, star_kid, under, root_of, tree_of}
+use Rattle.agg_laws.specs.Tree.{ids_at, docs_with, child_nodes_of, star_child, under, root_of, tree_of}
 use Rattle.agg_laws.specs.Tree.{agrees, starred, rows_at, HaveNoStar, CoversRows, Covers}
 use Rattle.agg_laws.specs.Tree.{CoversTree}
 use Rattle.state_columns.proofs.MergedLemmas.{total-filter, total-rekey, total-Merged, total_agree}
@@ -197,16 +197,16 @@ module _ {S : Type 0} (join : S → S → S) (j : IsJoin join) where
         ∙ total_rows (λ x. eq_by_cmp nat_cmp star (dim d x)) path rows
         ∙ no_star_total rows k lt h)
 
-  kids_cover : (path : List ℕ) (rows docs : List (List ℕ × S)) (below : List (List ℕ × S) → Nodes S)
+  children_cover : (path : List ℕ) (rows docs : List (List ℕ × S)) (below : List (List ℕ × S) → Nodes S)
       (last : Nodes S)
       → ((v : ℕ) → (v == star) ≡ false
       → CoversRows join rows (path ++ (v ∷ [])) (docs_with (length path) v docs)
       × Covers join rows (path ++ (v ∷ [])) (below (docs_with (length path) v docs)))
       → Covers join rows path last → (vs : List ℕ) → Avoids vs
-      → Covers join rows path (kids_of below (length path) docs last vs)
-  kids_cover path rows docs below last each end [] h = end
-  kids_cover path rows docs below last each end (v ∷ vs) h = let own = each v h.0
-      in (own.0, own.1, kids_cover path rows docs below last each end vs h.1)
+      → Covers join rows path (child_nodes_of below (length path) docs last vs)
+  children_cover path rows docs below last each end [] h = end
+  children_cover path rows docs below last each end (v ∷ vs) h = let own = each v h.0
+      in (own.0, own.1, children_cover path rows docs below last each end vs h.1)
 
   pub chosen : (path : List ℕ) (rows : List (List ℕ × S)) (b : Bool) (x y : Nodes S)
       → Covers join rows path x → Covers join rows path y → Covers join rows path (cond b x y)
@@ -227,7 +227,7 @@ module _ {S : Type 0} (join : S → S → S) (j : IsJoin join) where
       ≡ merged_docs join (rekey (starred (path ++ (star ∷ [])))
       (rows_at (path ++ (star ∷ [])) rows)) =
       ap (λ n. merged_docs join (rekey (set_star n) docs)) at ∙ star_docs path rows docs is in
-      let last : Covers join rows path (star_kid join below shape d docs) =
+      let last : Covers join rows path (star_child join below shape d docs) =
       chosen path rows _ (node star (merged_docs join (rekey (set_star d) docs))
       (below (merged_docs join (rekey (set_star d) docs))) none) none (
         covers_rows (path ++ (star ∷ [])) rows
@@ -238,10 +238,10 @@ module _ {S : Type 0} (join : S → S → S) (j : IsJoin join) where
         tt,
       ) tt in
       chosen path rows (nat_le (length docs) shape.leaf) none
-      (kids_of below d docs (star_kid join below shape d docs) (ids_at join d docs)) tt
+      (child_nodes_of below d docs (star_child join below shape d docs) (ids_at join d docs)) tt
       (subst (λ n. Covers join rows path
-      (kids_of below n docs (star_kid join below shape d docs) (ids_at join n docs))) (sym at)
-      (kids_cover path rows docs below (star_kid join below shape d docs)
+      (child_nodes_of below n docs (star_child join below shape d docs) (ids_at join n docs))) (sym at)
+      (children_cover path rows docs below (star_child join below shape d docs)
       (λ v h. let own = own_docs path rows docs is v h
       in (
         covers_rows (path ++ (v ∷ [])) rows _ own,

@@ -52,13 +52,13 @@ Cover from to (n ∷ ns) =
     MatchBool (n.id == star) (Cover from to ns) ((n.start ≡ from) × Cover n.end to ns)
 
 -- the children of a node of level d, whose documents are those from one number up to another
-pub record KeepKidsRules (shape : TreeShape) (counts : List ℕ) (d from to : ℕ)
-    (kids : List Node) : Type 0 where
-  pub levels : HaveLevel (suc d) kids
-  pub ids_ascend : Ascend kids
-  pub ids_known : AreKnown (count_at counts d) kids
-  pub star_last : StarIsLast (skips shape d) (to - from) 0 kids
-  pub ranges_cover : Cover from to kids
+pub record KeepChildrenRules (shape : TreeShape) (counts : List ℕ) (d from to : ℕ)
+    (subtrees : List Node) : Type 0 where
+  pub levels : HaveLevel (suc d) subtrees
+  pub ids_ascend : Ascend subtrees
+  pub ids_known : AreKnown (count_at counts d) subtrees
+  pub star_last : StarIsLast (skips shape d) (to - from) 0 subtrees
+  pub ranges_cover : Cover from to subtrees
 
 -- the node with a number, among these nodes and so many documents, where there are k levels
 pub record KeepsRules (shape : TreeShape) (k : ℕ) (counts : List ℕ) (documents : ℕ) (ns : List Node)
@@ -77,8 +77,9 @@ pub record KeepsRules (shape : TreeShape) (k : ℕ) (counts : List ℕ) (documen
   pub split_first : 0 < (node_at ns at).children → at < (node_at ns at).first
   pub split_last : 0 < (node_at ns at).children → (node_at ns at).first
       + (node_at ns at).children ≤ length ns
-  pub split_kids : 0 < (node_at ns at).children
-      → KeepKidsRules shape counts (node_at ns at).level (node_at ns at).start (node_at ns at).end
+  pub split_children : 0 < (node_at ns at).children
+      → KeepChildrenRules shape counts (node_at ns at).level (node_at ns at).start
+      (node_at ns at).end
       (range (node_at ns at).first ((node_at ns at).first + (node_at ns at).children) ns)
 
 -- the root

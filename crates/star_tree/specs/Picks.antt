@@ -21,9 +21,10 @@ pub record Pick (S : Type 0) : Type 0 where
   pub docs : List (List ℕ × S)
 
 -- no dimension of the next ones is tested or grouped
-abbrev pub quiet : Task → ℕ → ℕ → Bool
-quiet t zero d = true
-quiet t (suc more) d = not (t.filtered d) && not (t.grouped d) && quiet t more (suc d)
+abbrev pub are_unconstrained : Task → ℕ → ℕ → Bool
+are_unconstrained t zero d = true
+are_unconstrained t (suc more) d =
+    not (t.filtered d) && not (t.grouped d) && are_unconstrained t more (suc d)
 
 -- the tests of the next dimensions
 abbrev pub holds_from : Task → ℕ → ℕ → List ℕ → Bool
@@ -33,8 +34,8 @@ holds_from t (suc more) d x = (if t.filtered d then t.passes d (dim d x) else tr
 
 -- whether a child is taken: by its id where ids are tested, each ordinary one where the dimension
 -- is grouped, and else the star child, or all where there is none
-abbrev pub is_taken : Task → Bool → ℕ → ℕ → Bool
-is_taken t starred d id =
+abbrev pub is_selected : Task → Bool → ℕ → ℕ → Bool
+is_selected t starred d id =
     if t.filtered d then not (id == star) && t.passes d id
     else (if t.grouped d then not (id == star) else (if starred then id == star else true))
 
@@ -45,28 +46,30 @@ module _ {S : Type 0} (join : S → S → S) where
   abbrev pub picks_here : Task → ℕ → ℕ → List ℕ → List (List ℕ × S) → Nodes S → List (Pick S)
       → List (Pick S)
   picks_here t k d path docs none below =
-      if quiet t (k - d) d
+      if are_unconstrained t (k - d) d
       then record { path = path; level = k; docs = total_doc join d docs none } ∷ []
       else record { path = path; level = d; docs = docs } ∷ []
-  picks_here t k d path docs (node id own kids rest) below =
-      let whole = total_doc join d docs (node id own kids rest) in
-      if quiet t (k - d) d then record { path = path; level = k; docs = whole } ∷ [] else below
+  picks_here t k d path docs (node id own subtrees rest) below =
+      let whole = total_doc join d docs (node id own subtrees rest) in
+      if are_unconstrained t (k - d) d
+      then record { path = path; level = k; docs = whole } ∷ []
+      else below
 
   -- the picks of the children of a node of level d with this path
   abbrev pub picks_of : Task → ℕ → Bool → ℕ → List ℕ → Nodes S → List (Pick S)
   picks_of t k starred d path none = []
-  picks_of t k starred d path (node id docs kids rest) =
-      (if is_taken t starred d id
-      then picks_here t k (suc d) (path ++ (id ∷ [])) docs kids
-      (picks_of t k (has_star kids) (suc d) (path ++ (id ∷ [])) kids)
+  picks_of t k starred d path (node id docs subtrees rest) =
+      (if is_selected t starred d id
+      then picks_here t k (suc d) (path ++ (id ∷ [])) docs subtrees
+      (picks_of t k (has_star subtrees) (suc d) (path ++ (id ∷ [])) subtrees)
       else [])
       ++ picks_of t k starred d path rest
 
   -- the picks of a tree
   abbrev pub picks : Task → ℕ → Nodes S → List (Pick S)
   picks t k none = []
-  picks t k (node id docs kids rest) =
-      picks_here t k 0 [] docs kids (picks_of t k (has_star kids) 0 [] kids)
+  picks t k (node id docs subtrees rest) =
+      picks_here t k 0 [] docs subtrees (picks_of t k (has_star subtrees) 0 [] subtrees)
 
 -- how many documents are read of some picks
 abbrev pub read_of : {S : Type 0} → List (Pick S) → ℕ

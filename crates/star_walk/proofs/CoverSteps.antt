@@ -15,7 +15,7 @@ use Rattle.state_columns.specs.Documents.{total_below, total_doc}
 use Rattle.agg_laws.specs.Tree.{star, dim, Nodes, none, node, has_star, agrees, CoversRows, Covers}
 use Rattle.agg_laws.specs.Tree.{CoversTree, HaveNoStar}
 use Rattle.state_columns.specs.Region.{range}
-use Rattle.star_tree.specs.Picks.{Task, quiet, is_taken, holds_from, picks_here, picks_of, picks}
+use Rattle.star_tree.specs.Picks.{Task, are_unconstrained, is_selected, holds_from, picks_here, picks_of, picks}
 use Rattle.star_tree.specs.Picks.{times, KeepGroups, IsPartedBy, ArePartedBy}
 use Rattle.star_tree.specs.Picks as nested
 use Rattle.star_tree.proofs.TreeLemmas.{length_more}
@@ -49,30 +49,30 @@ module _ (t : Task) (k : ℕ) (rows : List Doc) (no_star : HaveNoStar k rows) wh
   both (p ∷ ps) qs h g = (h.0, both ps qs h.1 g)
 
   -- the one document of a node stands for the rows of its path
-  here_total : (d : ℕ) (path : List ℕ) (docs : List Doc) (kids : Nodes States) → d ≡ length path
-      → CoversRows merged_rows rows path docs → Stand path rows (total_below merged_rows d docs kids)
-      → Stand path rows (total_doc merged_rows d docs kids)
+  here_total : (d : ℕ) (path : List ℕ) (docs : List Doc) (subtrees : Nodes States) → d ≡ length path
+      → CoversRows merged_rows rows path docs → Stand path rows (total_below merged_rows d docs subtrees)
+      → Stand path rows (total_doc merged_rows d docs subtrees)
   here_total d path docs none at own h =
       elim (length docs == 1) as
       (λ b. Stand path rows (cond b docs (total_below merged_rows d docs none)))
       [ true ↦ docs_stand merged_rows rows path docs own | false ↦ h ]
-  here_total d path docs (node id kid kids rest) at own h = h
+  here_total d path docs (node id child subtrees rest) at own h = h
 
-  below_total : (d : ℕ) (path : List ℕ) (docs : List Doc) (kids : Nodes States) → d ≡ length path
-      → CoversRows merged_rows rows path docs → Covers merged_rows rows path kids
-      → Stand path rows (total_below merged_rows d docs kids)
+  below_total : (d : ℕ) (path : List ℕ) (docs : List Doc) (subtrees : Nodes States) → d ≡ length path
+      → CoversRows merged_rows rows path docs → Covers merged_rows rows path subtrees
+      → Stand path rows (total_below merged_rows d docs subtrees)
   below_total d path docs none at own h = aggregated_stand merged_rows rows d path docs at own
-  below_total d path docs (node id kid kids rest) at own h =
+  below_total d path docs (node id child subtrees rest) at own h =
       let next : suc d ≡ length (path ++ (id ∷ [])) = ap suc at ∙ sym (length_more path id) in
-      let kid_total = here_total (suc d) (path ++ (id ∷ [])) kid kids next h.0
-      (below_total (suc d) (path ++ (id ∷ [])) kid kids next h.0 h.1) in
+      let child_total = here_total (suc d) (path ++ (id ∷ [])) child subtrees next h.0
+      (below_total (suc d) (path ++ (id ∷ [])) child subtrees next h.0 h.1) in
       let more = below_total d path docs rest at own h.2 in
       elim (id == star) as
       (λ b. (id == star) ≡ b → Stand path rows
-      (cond b (total_doc merged_rows (suc d) kid kids) (total_below merged_rows d docs rest))) [
-        | true ↦ λ e. star_stand merged_rows rows path (total_doc merged_rows (suc d) kid kids)
-            (subst (λ v. Stand (path ++ (v ∷ [])) rows (total_doc merged_rows (suc d) kid kids))
-            (eqb-true id star e) kid_total)
+      (cond b (total_doc merged_rows (suc d) child subtrees) (total_below merged_rows d docs rest))) [
+        | true ↦ λ e. star_stand merged_rows rows path (total_doc merged_rows (suc d) child subtrees)
+            (subst (λ v. Stand (path ++ (v ∷ [])) rows (total_doc merged_rows (suc d) child subtrees))
+            (eqb-true id star e) child_total)
         | false ↦ λ _. more
       ] refl
 
@@ -92,23 +92,23 @@ module _ (t : Task) (k : ℕ) (rows : List Doc) (no_star : HaveNoStar k rows) wh
         (omega (arith, at, le)) lt;
   }
 
-  here_picks : (d : ℕ) (path : List ℕ) (docs : List Doc) (kids : Nodes States)
+  here_picks : (d : ℕ) (path : List ℕ) (docs : List Doc) (subtrees : Nodes States)
       (below : List NestedPick) → d ≡ length path → CoversRows merged_rows rows path docs
-      → Covers merged_rows rows path kids → ArePicks below
-      → ArePicks (picks_here merged_rows t k d path docs kids below)
+      → Covers merged_rows rows path subtrees → ArePicks below
+      → ArePicks (picks_here merged_rows t k d path docs subtrees below)
   here_picks d path docs none below at own h g =
       let whole = here_total d path docs none at own (below_total d path docs none at own h) in
-      elim (quiet t (k - d) d) as
+      elim (are_unconstrained t (k - d) d) as
       (λ b. ArePicks
       (cond b (record { path = path; level = k; docs = total_doc merged_rows d docs none } ∷ [])
       (record { path = path; level = d; docs = docs } ∷ []))) [
         | true ↦ (whole_pick path (total_doc merged_rows d docs none) whole, tt)
         | false ↦ (leaf_pick d path docs at own, tt)
       ]
-  here_picks d path docs (node id kid kids rest) below at own h g =
-      let all : Nodes States = node id kid kids rest in
+  here_picks d path docs (node id child subtrees rest) below at own h g =
+      let all : Nodes States = node id child subtrees rest in
       let whole = here_total d path docs all at own (below_total d path docs all at own h) in
-      elim (quiet t (k - d) d) as
+      elim (are_unconstrained t (k - d) d) as
       (λ b. ArePicks
       (cond b (record { path = path; level = k; docs = total_doc merged_rows d docs all } ∷ [])
       below)) [
@@ -116,28 +116,28 @@ module _ (t : Task) (k : ℕ) (rows : List Doc) (no_star : HaveNoStar k rows) wh
         | false ↦ g
       ]
 
-  kids_picks : (b : Bool) (d : ℕ) (path : List ℕ) (kids : Nodes States) → d ≡ length path
-      → Covers merged_rows rows path kids → ArePicks (picks_of merged_rows t k b d path kids)
-  kids_picks b d path none at h = tt
-  kids_picks b d path (node id docs kids rest) at h =
+  children_picks : (b : Bool) (d : ℕ) (path : List ℕ) (subtrees : Nodes States) → d ≡ length path
+      → Covers merged_rows rows path subtrees → ArePicks (picks_of merged_rows t k b d path subtrees)
+  children_picks b d path none at h = tt
+  children_picks b d path (node id docs subtrees rest) at h =
       let p = path ++ (id ∷ []) in
       let next : suc d ≡ length p = ap suc at ∙ sym (length_more path id) in
-      let below = picks_of merged_rows t k (has_star kids) (suc d) p kids in
-      let here = here_picks (suc d) p docs kids below next h.0 h.1
-      (kids_picks (has_star kids) (suc d) p kids next h.1) in
-      both (cond (is_taken t b d id) (picks_here merged_rows t k (suc d) p docs kids below) [])
+      let below = picks_of merged_rows t k (has_star subtrees) (suc d) p subtrees in
+      let here = here_picks (suc d) p docs subtrees below next h.0 h.1
+      (children_picks (has_star subtrees) (suc d) p subtrees next h.1) in
+      both (cond (is_selected t b d id) (picks_here merged_rows t k (suc d) p docs subtrees below) [])
       (picks_of merged_rows t k b d path rest)
-      (elim (is_taken t b d id) as
-      (λ c. ArePicks (cond c (picks_here merged_rows t k (suc d) p docs kids below) []))
+      (elim (is_selected t b d id) as
+      (λ c. ArePicks (cond c (picks_here merged_rows t k (suc d) p docs subtrees below) []))
       [ true ↦ here | false ↦ tt ])
-      (kids_picks b d path rest at h.2)
+      (children_picks b d path rest at h.2)
 
   pub tree_are : (tree : Nodes States) → CoversTree merged_rows rows tree
       → ArePicks (picks merged_rows t k tree)
   tree_are none h = tt
-  tree_are (node id docs kids rest) h =
-      here_picks 0 [] docs kids (picks_of merged_rows t k (has_star kids) 0 [] kids) refl h.0 h.1
-      (kids_picks (has_star kids) 0 [] kids refl h.1)
+  tree_are (node id docs subtrees rest) h =
+      here_picks 0 [] docs subtrees (picks_of merged_rows t k (has_star subtrees) 0 [] subtrees) refl h.0 h.1
+      (children_picks (has_star subtrees) 0 [] subtrees refl h.1)
 
   module _ (ids : HaveIds k rows) where
     -- a pick covers just the rows of its path

@@ -10,9 +10,9 @@ use Rattle.agg_laws.specs.Rows.{merged_rows}
 use Rattle.state_columns.specs.Docs.{Doc}
 use Rattle.state_columns.specs.Documents.{total_doc}
 use Rattle.agg_laws.specs.Tree.{star, Nodes, none, node, has_star}
-use Rattle.star_tree.specs.Flat.{Flat, blank, node_at, count, KidsHaveDocs, IsNode, FlatAt}
+use Rattle.star_tree.specs.Flat.{Flat, blank, node_at, count, ChildrenHaveDocs, IsNode, FlatAt}
 use Rattle.state_columns.specs.Region.{range}
-use Rattle.star_tree.specs.Picks.{Task, quiet, is_taken, picks_here, picks_of, picks}
+use Rattle.star_tree.specs.Picks.{Task, are_unconstrained, is_selected, picks_here, picks_of, picks}
 use Rattle.star_tree.specs.Picks as nested
 use Rattle.star_walk.specs.declared.pick.Pick.{Pick}
 use Rattle.star_walk.specs.Walking.{whole_pick, has_star_among, taken}
@@ -37,11 +37,11 @@ pub range_no : (at : ℕ) (ns : List Node) → range at (at + 0) ns ≡ []
 range_no at ns = let z : at + 0 - at ≡ 0 = omega arith in ap (λ m. take m (drop at ns)) z
 
 -- a star child is among the flat nodes just where it is among the nested ones
-star_same : (f : Flat States) (kids : Nodes States) (d at : ℕ) → KidsHaveDocs d at kids f
-    → at + count kids ≤ length f.0
-    → has_star_among (range at (at + count kids) f.0) ≡ has_star kids
+star_same : (f : Flat States) (subtrees : Nodes States) (d at : ℕ) → ChildrenHaveDocs d at subtrees f
+    → at + count subtrees ≤ length f.0
+    → has_star_among (range at (at + count subtrees) f.0) ≡ has_star subtrees
 star_same f none d at h le = ap has_star_among (range_no at f.0)
-star_same f (node id docs kids rest) d at h le =
+star_same f (node id docs subtrees rest) d at h le =
     ap has_star_among (range_front at (count rest) f.0 le)
     ∙ (λ i. cond (h.0.id_is i == star) true (star_same f rest d (suc at) h.1 (omega arith) i))
 
@@ -53,80 +53,80 @@ abbrev pair : ℕ → List Doc → ℕ × List Doc
 pair l ds = (l, ds)
 
 -- what is picked at a nested node
-here_quiet : (t : Task) (k d : ℕ) (path : List ℕ) (docs : List Doc) (kids : Nodes States)
-    (below : List (nested.Pick States)) → quiet t (k - d) d ≡ true
-    → map bare (picks_here merged_rows t k d path docs kids below)
-    ≡ pair k (total_doc merged_rows d docs kids) ∷ []
+here_quiet : (t : Task) (k d : ℕ) (path : List ℕ) (docs : List Doc) (subtrees : Nodes States)
+    (below : List (nested.Pick States)) → are_unconstrained t (k - d) d ≡ true
+    → map bare (picks_here merged_rows t k d path docs subtrees below)
+    ≡ pair k (total_doc merged_rows d docs subtrees) ∷ []
 here_quiet t k d path docs none below h =
     ap (λ b. map bare (cond b (nested_pick path k (total_doc merged_rows d docs none) ∷ [])
     (nested_pick path d docs ∷ []))) h
-here_quiet t k d path docs (node id own kids rest) below h =
+here_quiet t k d path docs (node id own subtrees rest) below h =
     ap (λ b. map bare (cond b
-    (nested_pick path k (total_doc merged_rows d docs (node id own kids rest)) ∷ []) below)) h
+    (nested_pick path k (total_doc merged_rows d docs (node id own subtrees rest)) ∷ []) below)) h
 
 here_leaf : (t : Task) (k d : ℕ) (path : List ℕ) (docs : List Doc)
-    (below : List (nested.Pick States)) → quiet t (k - d) d ≡ false
+    (below : List (nested.Pick States)) → are_unconstrained t (k - d) d ≡ false
     → map bare (picks_here merged_rows t k d path docs none below) ≡ pair d docs ∷ []
 here_leaf t k d path docs below h =
     ap (λ b. map bare (cond b (nested_pick path k (total_doc merged_rows d docs none) ∷ [])
     (nested_pick path d docs ∷ []))) h
 
 here_split : (t : Task) (k d : ℕ) (path : List ℕ) (docs : List Doc) (id : ℕ) (own : List Doc)
-    (kids rest : Nodes States) (below : List (nested.Pick States)) → quiet t (k - d) d ≡ false
-    → map bare (picks_here merged_rows t k d path docs (node id own kids rest) below)
+    (subtrees rest : Nodes States) (below : List (nested.Pick States)) → are_unconstrained t (k - d) d ≡ false
+    → map bare (picks_here merged_rows t k d path docs (node id own subtrees rest) below)
     ≡ map bare below
-here_split t k d path docs id own kids rest below h =
+here_split t k d path docs id own subtrees rest below h =
     ap (λ b. map bare (cond b
-    (nested_pick path k (total_doc merged_rows d docs (node id own kids rest)) ∷ []) below)) h
+    (nested_pick path k (total_doc merged_rows d docs (node id own subtrees rest)) ∷ []) below)) h
 
-whole_shown : (k d at id : ℕ) (docs : List Doc) (kids : Nodes States) (f : Flat States)
-    → IsNode merged_rows d at id docs kids f
+whole_shown : (k d at id : ℕ) (docs : List Doc) (subtrees : Nodes States) (f : Flat States)
+    → IsNode merged_rows d at id docs subtrees f
     → map (shown f.1) (whole_pick k (node_at f.0 at) ∷ [])
-    ≡ pair k (total_doc merged_rows d docs kids) ∷ []
-whole_shown k d at id docs kids f is =
+    ≡ pair k (total_doc merged_rows d docs subtrees) ∷ []
+whole_shown k d at id docs subtrees f is =
     let e : (node_at f.0 at).total + 1 ≡ suc (node_at f.0 at).total = omega arith in
     ap (λ ds. pair k ds ∷ [])
     (ap (λ m. range (node_at f.0 at).total m f.1) e ∙ is.total_is)
 
 -- the picks at one node, where those of its children are known
 module _ (t : Task) (k : ℕ) (f : Flat States) where
-  abbrev KidsSame : ℕ → ℕ → ℕ → List ℕ → Nodes States → Type 0
-  KidsSame m d first path kids =
+  abbrev ChildrenSame : ℕ → ℕ → ℕ → List ℕ → Nodes States → Type 0
+  ChildrenSame m d first path subtrees =
       map (shown f.1)
-      (taken (node_picks t k f.0 m (suc d)) t (has_star kids) d
-      (range first (first + count kids) f.0))
-      ≡ map bare (picks_of merged_rows t k (has_star kids) d path kids)
+      (taken (node_picks t k f.0 m (suc d)) t (has_star subtrees) d
+      (range first (first + count subtrees) f.0))
+      ≡ map bare (picks_of merged_rows t k (has_star subtrees) d path subtrees)
 
   abbrev Here : ℕ → ℕ → ℕ → List ℕ → List Doc → Nodes States → Type 0
-  Here m d at path docs kids =
+  Here m d at path docs subtrees =
       map (shown f.1) (node_picks t k f.0 m d (node_at f.0 at))
-      ≡ map bare (picks_here merged_rows t k d path docs kids
-      (picks_of merged_rows t k (has_star kids) d path kids))
+      ≡ map bare (picks_here merged_rows t k d path docs subtrees
+      (picks_of merged_rows t k (has_star subtrees) d path subtrees))
 
-  quiet_here : (m d at : ℕ) (path : List ℕ) (id : ℕ) (docs : List Doc) (kids : Nodes States)
-      → k - d ≡ m → IsNode merged_rows d at id docs kids f → quiet t m d ≡ true
-      → Here m d at path docs kids
-  quiet_here m d at path id docs kids e is h =
+  quiet_here : (m d at : ℕ) (path : List ℕ) (id : ℕ) (docs : List Doc) (subtrees : Nodes States)
+      → k - d ≡ m → IsNode merged_rows d at id docs subtrees f → are_unconstrained t m d ≡ true
+      → Here m d at path docs subtrees
+  quiet_here m d at path id docs subtrees e is h =
       ap (map (shown f.1)) (picks_quiet t k f.0 m d (node_at f.0 at) h)
-      ∙ whole_shown k d at id docs kids f is
-      ∙ sym (here_quiet t k d path docs kids (picks_of merged_rows t k (has_star kids) d path kids)
-      (ap (λ j. quiet t j d) e ∙ h))
+      ∙ whole_shown k d at id docs subtrees f is
+      ∙ sym (here_quiet t k d path docs subtrees (picks_of merged_rows t k (has_star subtrees) d path subtrees)
+      (ap (λ j. are_unconstrained t j d) e ∙ h))
 
   leaf_here : (m d at : ℕ) (path : List ℕ) (id : ℕ) (docs : List Doc)
-      → k - d ≡ suc m → IsNode merged_rows d at id docs none f → quiet t (suc m) d ≡ false
+      → k - d ≡ suc m → IsNode merged_rows d at id docs none f → are_unconstrained t (suc m) d ≡ false
       → Here (suc m) d at path docs none
   leaf_here m d at path id docs e is h =
       ap (map (shown f.1)) (leaf_at t k f.0 m d (node_at f.0 at) h (eq-eqb (node_at f.0 at).children 0 is.children_are))
       ∙ ap (λ ds. pair d ds ∷ []) is.docs_are.docs_are
-      ∙ sym (here_leaf t k d path docs [] (ap (λ j. quiet t j d) e ∙ h))
+      ∙ sym (here_leaf t k d path docs [] (ap (λ j. are_unconstrained t j d) e ∙ h))
 
   split_here : (m d at : ℕ) (path : List ℕ) (id : ℕ) (docs : List Doc) (id2 : ℕ) (own : List Doc)
-      (kids rest : Nodes States) → k - d ≡ suc m
-      → IsNode merged_rows d at id docs (node id2 own kids rest) f → quiet t (suc m) d ≡ false
-      → KidsSame m d (node_at f.0 at).first path (node id2 own kids rest)
-      → Here (suc m) d at path docs (node id2 own kids rest)
-  split_here m d at path id docs id2 own kids rest e is h below =
-      let all : Nodes States = node id2 own kids rest in
+      (subtrees rest : Nodes States) → k - d ≡ suc m
+      → IsNode merged_rows d at id docs (node id2 own subtrees rest) f → are_unconstrained t (suc m) d ≡ false
+      → ChildrenSame m d (node_at f.0 at).first path (node id2 own subtrees rest)
+      → Here (suc m) d at path docs (node id2 own subtrees rest)
+  split_here m d at path id docs id2 own subtrees rest e is h below =
+      let all : Nodes States = node id2 own subtrees rest in
       let n = node_at f.0 at in
       let some : (n.children == 0) ≡ false =
       ne_eqb n.children 0 (λ z. let c = is.children_are in omega (arith, z, c)) in
@@ -136,53 +136,53 @@ module _ (t : Task) (k : ℕ) (f : Flat States) where
       is.children_are
       ∙ ap (λ b. map (shown f.1) (taken (node_picks t k f.0 m (suc d)) t b d
       (range n.first (n.first + count all) f.0)))
-      (star_same f all (suc d) n.first is.kids_docs is.kids_in)
+      (star_same f all (suc d) n.first is.children_docs is.children_in)
       ∙ below
-      ∙ sym (here_split t k d path docs id2 own kids rest
-      (picks_of merged_rows t k (has_star all) d path all) (ap (λ j. quiet t j d) e ∙ h))
+      ∙ sym (here_split t k d path docs id2 own subtrees rest
+      (picks_of merged_rows t k (has_star all) d path all) (ap (λ j. are_unconstrained t j d) e ∙ h))
 
-  node_same : (m d at : ℕ) (path : List ℕ) (id : ℕ) (docs : List Doc) (kids : Nodes States)
-      → k - d ≡ m → IsNode merged_rows d at id docs kids f
-      → ((j : ℕ) → k - suc d ≡ j → KidsSame j d (node_at f.0 at).first path kids)
-      → Here m d at path docs kids
-  node_same zero d at path id docs kids e is below = quiet_here zero d at path id docs kids e is refl
-  node_same (suc m) d at path id docs kids e is below =
-      by_quiet (quiet t (suc m) d) refl kids is below
+  node_same : (m d at : ℕ) (path : List ℕ) (id : ℕ) (docs : List Doc) (subtrees : Nodes States)
+      → k - d ≡ m → IsNode merged_rows d at id docs subtrees f
+      → ((j : ℕ) → k - suc d ≡ j → ChildrenSame j d (node_at f.0 at).first path subtrees)
+      → Here m d at path docs subtrees
+  node_same zero d at path id docs subtrees e is below = quiet_here zero d at path id docs subtrees e is refl
+  node_same (suc m) d at path id docs subtrees e is below =
+      by_quiet (are_unconstrained t (suc m) d) refl subtrees is below
     where
-      by_quiet : (b : Bool) → quiet t (suc m) d ≡ b → (kids : Nodes States)
-          → IsNode merged_rows d at id docs kids f
-          → ((j : ℕ) → k - suc d ≡ j → KidsSame j d (node_at f.0 at).first path kids)
-          → Here (suc m) d at path docs kids
-      by_quiet true h kids is below = quiet_here (suc m) d at path id docs kids e is h
+      by_quiet : (b : Bool) → are_unconstrained t (suc m) d ≡ b → (subtrees : Nodes States)
+          → IsNode merged_rows d at id docs subtrees f
+          → ((j : ℕ) → k - suc d ≡ j → ChildrenSame j d (node_at f.0 at).first path subtrees)
+          → Here (suc m) d at path docs subtrees
+      by_quiet true h subtrees is below = quiet_here (suc m) d at path id docs subtrees e is h
       by_quiet false h none is below = leaf_here m d at path id docs e is h
-      by_quiet false h (node id2 own kids rest) is below =
-          split_here m d at path id docs id2 own kids rest e is h (below m (omega arith))
+      by_quiet false h (node id2 own subtrees rest) is below =
+          split_here m d at path id docs id2 own subtrees rest e is h (below m (omega arith))
 
   -- the picks of nodes beside each other
-  pub kids_same : (kids : Nodes States) (m d at : ℕ) (s : Bool) (path : List ℕ)
-      → k - suc d ≡ m → FlatAt merged_rows (suc d) at kids f → at + count kids ≤ length f.0
+  pub children_same : (subtrees : Nodes States) (m d at : ℕ) (s : Bool) (path : List ℕ)
+      → k - suc d ≡ m → FlatAt merged_rows (suc d) at subtrees f → at + count subtrees ≤ length f.0
       → map (shown f.1) (taken (node_picks t k f.0 m (suc d)) t s d
-      (range at (at + count kids) f.0))
-      ≡ map bare (picks_of merged_rows t k s d path kids)
-  kids_same none m d at s path e h le =
+      (range at (at + count subtrees) f.0))
+      ≡ map bare (picks_of merged_rows t k s d path subtrees)
+  children_same none m d at s path e h le =
       ap (λ ns. map (shown f.1) (taken (node_picks t k f.0 m (suc d)) t s d ns)) (range_no at f.0)
-  kids_same (node id docs kids rest) m d at s path e h le =
+  children_same (node id docs subtrees rest) m d at s path e h le =
       let n = node_at f.0 at in
       let below = node_picks t k f.0 m (suc d) in
       let p : List ℕ = path ++ (id ∷ []) in
-      let first : Here m (suc d) at p docs kids =
-      node_same m (suc d) at p id docs kids e h.0
-      (λ j g. kids_same kids j (suc d) n.first (has_star kids) p g h.1 h.0.kids_in) in
+      let first : Here m (suc d) at p docs subtrees =
+      node_same m (suc d) at p id docs subtrees e h.0
+      (λ j g. children_same subtrees j (suc d) n.first (has_star subtrees) p g h.1 h.0.children_in) in
       ap (λ ns. map (shown f.1) (taken below t s d ns)) (range_front at (count rest) f.0 le)
-      ∙ map-append (shown f.1) (cond (is_taken t s d n.id) (below n) [])
+      ∙ map-append (shown f.1) (cond (is_selected t s d n.id) (below n) [])
       (taken below t s d (range (suc at) (suc at + count rest) f.0))
-      ∙ (λ i. map (shown f.1) (cond (is_taken t s d (h.0.docs_are.id_is i)) (below n) [])
-      ++ kids_same rest m d (suc at) s path e h.2 (omega arith) i)
+      ∙ (λ i. map (shown f.1) (cond (is_selected t s d (h.0.docs_are.id_is i)) (below n) [])
+      ++ children_same rest m d (suc at) s path e h.2 (omega arith) i)
       ∙ ap (λ ps. ps ++ map bare (picks_of merged_rows t k s d path rest))
-      (by_taken (is_taken t s d id) (below n) (picks_here merged_rows t k (suc d) p docs kids
-      (picks_of merged_rows t k (has_star kids) (suc d) p kids)) first)
-      ∙ sym (map-append bare (cond (is_taken t s d id) (picks_here merged_rows t k (suc d) p docs
-      kids (picks_of merged_rows t k (has_star kids) (suc d) p kids)) [])
+      (by_taken (is_selected t s d id) (below n) (picks_here merged_rows t k (suc d) p docs subtrees
+      (picks_of merged_rows t k (has_star subtrees) (suc d) p subtrees)) first)
+      ∙ sym (map-append bare (cond (is_selected t s d id) (picks_here merged_rows t k (suc d) p docs
+      subtrees (picks_of merged_rows t k (has_star subtrees) (suc d) p subtrees)) [])
       (picks_of merged_rows t k s d path rest))
     where
       by_taken : (b : Bool) (xs : List Pick) (ys : List (nested.Pick States))
@@ -193,16 +193,16 @@ module _ (t : Task) (k : ℕ) (f : Flat States) where
 
 -- the picks of a whole tree
 root_same : (t : Task) (k : ℕ) (ns : List Node) (ds : List Doc) (id : ℕ) (docs : List Doc)
-    (kids rest : Nodes States) → FlatAt merged_rows 0 0 (node id docs kids rest) (ns, ds)
-    → map (shown ds) (tree_picks t k ns) ≡ map bare (picks merged_rows t k (node id docs kids rest))
-root_same t k [] ds id docs kids rest h = absurd (let w = h.0.docs_are.within in omega (arith, w))
-root_same t k (n ∷ ns) ds id docs kids rest h =
+    (subtrees rest : Nodes States) → FlatAt merged_rows 0 0 (node id docs subtrees rest) (ns, ds)
+    → map (shown ds) (tree_picks t k ns) ≡ map bare (picks merged_rows t k (node id docs subtrees rest))
+root_same t k [] ds id docs subtrees rest h = absurd (let w = h.0.docs_are.within in omega (arith, w))
+root_same t k (n ∷ ns) ds id docs subtrees rest h =
     let f : Flat States = (n ∷ ns, ds) in
-    node_same t k f k 0 0 [] id docs kids (omega arith) h.0
-    (λ j g. kids_same t k f kids j 0 n.first (has_star kids) [] g h.1 h.0.kids_in)
+    node_same t k f k 0 0 [] id docs subtrees (omega arith) h.0
+    (λ j g. children_same t k f subtrees j 0 n.first (has_star subtrees) [] g h.1 h.0.children_in)
 
 pub tree_same : (t : Task) (k : ℕ) (tree : Nodes States) (f : Flat States)
     → (tree ≡ none → f.0 ≡ []) → FlatAt merged_rows 0 0 tree f
     → map (shown f.1) (tree_picks t k f.0) ≡ map bare (picks merged_rows t k tree)
 tree_same t k none f empty h = ap (λ ns. map (shown f.1) (tree_picks t k ns)) (empty refl)
-tree_same t k (node id docs kids rest) f empty h = root_same t k f.0 f.1 id docs kids rest h
+tree_same t k (node id docs subtrees rest) f empty h = root_same t k f.0 f.1 id docs subtrees rest h

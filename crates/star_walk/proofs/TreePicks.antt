@@ -24,12 +24,12 @@ of_tree : (shape : TreeShape) (k : ℕ) (rows : List Doc) (at : ℕ) (f : Flat (
     → IsOfTree merged_rows shape k rows at f → InDocs (length f.1) f.0 (node_at f.0 at)
 of_tree shape k rows at f h =
     let e = h.is.children_are in
-    let i = h.is.kids_in in
+    let i = h.is.children_in in
     record {
       order = h.is.docs_are.order;
       inside = h.is.docs_are.inside;
       total_in = h.is.total_in;
-      kids_in = omega (arith, e, i);
+      children_in = omega (arith, e, i);
     }
 
 module _ (t : Task) (shape : TreeShape) (k : ℕ) (docs : List Doc) (ids : HaveIds k docs)

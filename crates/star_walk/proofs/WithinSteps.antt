@@ -9,11 +9,11 @@ use Rattle.star_tree.specs.declared.node.Node.{Node}
 use Rattle.state_columns.specs.Docs.{Doc}
 use Rattle.state_columns.specs.Region.{range}
 use Rattle.star_tree.specs.Flat.{node_at}
-use Rattle.star_tree.specs.Picks.{Task, quiet, is_taken, holds_from}
+use Rattle.star_tree.specs.Picks.{Task, are_unconstrained, is_selected, holds_from}
 use Rattle.star_tree.specs.Picks as nested
 use Rattle.star_tree.specs.Groups as nested_groups
 use Rattle.star_walk.specs.declared.pick.Pick.{Pick}
-use Rattle.star_walk.specs.Walking.{whole_pick, leaf_pick, kids_of, has_star_among, taken}
+use Rattle.star_walk.specs.Walking.{whole_pick, leaf_pick, child_nodes_of, has_star_among, taken}
 use Rattle.star_walk.specs.Walking.{node_picks, tree_picks}
 use Rattle.star_walk.specs.Images.{bare, shown, read_of, passing, AreWithin}
 use Rattle.star_walk.proofs.ImageSteps.{range_front, range_no}
@@ -23,7 +23,7 @@ pub record InDocs (documents : ℕ) (ns : List Node) (n : Node) : Type 0 where
   pub order : n.start < n.end
   pub inside : n.end ≤ documents
   pub total_in : n.total < documents
-  pub kids_in : n.first + n.children ≤ length ns
+  pub children_in : n.first + n.children ≤ length ns
 
 module _ (t : Task) (k documents : ℕ) where
   both : (ps qs : List Pick) → AreWithin documents k ps → AreWithin documents k qs
@@ -45,9 +45,9 @@ module _ (t : Task) (k documents : ℕ) where
     taken_in below s d (suc n) from le h =
         subst (λ xs. AreWithin documents k (taken below t s d xs))
         (sym (range_front from n ns le))
-        (both (cond (is_taken t s d (node_at ns from).id) (below (node_at ns from)) [])
+        (both (cond (is_selected t s d (node_at ns from).id) (below (node_at ns from)) [])
         (taken below t s d (range (suc from) (suc from + n) ns))
-        (either (is_taken t s d (node_at ns from).id) (below (node_at ns from)) []
+        (either (is_selected t s d (node_at ns from).id) (below (node_at ns from)) []
         (h from (omega arith)) tt)
         (taken_in below s d n (suc from) (omega arith) h))
 
@@ -62,17 +62,17 @@ module _ (t : Task) (k documents : ℕ) where
           (omega arith, omega arith, omega arith, tt) in
           let leaf : AreWithin documents k (leaf_pick d n ∷ []) =
           (i.order, i.inside, omega arith, tt) in
-          let kids : AreWithin documents k (taken (node_picks t k ns m (suc d)) t
-          (has_star_among (kids_of ns n)) d (kids_of ns n)) =
-          taken_in (node_picks t k ns m (suc d)) (has_star_among (kids_of ns n)) d n.children
-          n.first i.kids_in (λ j g. node_in m (suc d) j (omega arith) g) in
-          either (quiet t (suc m) d) (whole_pick k n ∷ [])
+          let subtrees : AreWithin documents k (taken (node_picks t k ns m (suc d)) t
+          (has_star_among (child_nodes_of ns n)) d (child_nodes_of ns n)) =
+          taken_in (node_picks t k ns m (suc d)) (has_star_among (child_nodes_of ns n)) d n.children
+          n.first i.children_in (λ j g. node_in m (suc d) j (omega arith) g) in
+          either (are_unconstrained t (suc m) d) (whole_pick k n ∷ [])
           (cond (n.children == 0) (leaf_pick d n ∷ [])
-          (taken (node_picks t k ns m (suc d)) t (has_star_among (kids_of ns n)) d (kids_of ns n)))
+          (taken (node_picks t k ns m (suc d)) t (has_star_among (child_nodes_of ns n)) d (child_nodes_of ns n)))
           whole
           (either (n.children == 0) (leaf_pick d n ∷ [])
-          (taken (node_picks t k ns m (suc d)) t (has_star_among (kids_of ns n)) d (kids_of ns n))
-          leaf kids)
+          (taken (node_picks t k ns m (suc d)) t (has_star_among (child_nodes_of ns n)) d (child_nodes_of ns n))
+          leaf subtrees)
 
   pub tree_in : (ns : List Node)
       → ((at : ℕ) → at < length ns → InDocs documents ns (node_at ns at))

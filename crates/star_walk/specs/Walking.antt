@@ -4,7 +4,7 @@ use Rattle.star_tree.specs.declared.node.Node.{Node}
 use Rattle.agg_laws.specs.Tree.{star}
 use Rattle.state_columns.specs.Region.{range}
 use Rattle.star_tree.specs.Flat.{node_at}
-use Rattle.star_tree.specs.Picks.{Task, quiet, is_taken}
+use Rattle.star_tree.specs.Picks.{Task, are_unconstrained, is_selected}
 use Rattle.value_ids.specs.Ids.{has_id}
 use Rattle.star_walk.specs.declared.pick.Pick.{Pick}
 
@@ -44,7 +44,7 @@ task_of matched grouped = record {
 
 -- the children of a node are among the nodes, and its total is not the greatest number of 32 bits
 pub record StandsAmong (ns : List Node) (n : Node) : Type 0 where
-  pub kids_in : n.first + n.children ≤ length ns
+  pub children_in : n.first + n.children ≤ length ns
   pub total_in : n.total < 4294967295
 
 -- each node has its children among the nodes
@@ -60,8 +60,8 @@ abbrev pub leaf_pick : ℕ → Node → Pick
 leaf_pick d n = record { start = n.start; end = n.end; level = d }
 
 -- the children of a node
-abbrev pub kids_of : List Node → Node → List Node
-kids_of ns n = range n.first (n.first + n.children) ns
+abbrev pub child_nodes_of : List Node → Node → List Node
+child_nodes_of ns n = range n.first (n.first + n.children) ns
 
 -- whether one of some nodes is a star child
 abbrev pub has_star_among : List Node → Bool
@@ -72,7 +72,7 @@ has_star_among (n ∷ ns) = if n.id == star then true else has_star_among ns
 abbrev pub taken : (Node → List Pick) → Task → Bool → ℕ → List Node → List Pick
 taken below t starred d [] = []
 taken below t starred d (n ∷ ns) =
-    (if is_taken t starred d n.id then below n else []) ++ taken below t starred d ns
+    (if is_selected t starred d n.id then below n else []) ++ taken below t starred d ns
 
 -- the picks at a node of level d, where `more` levels are left of k: the one document that stands
 -- for all of them where no dimension is tested or grouped any more, all of them at a leaf, and else
@@ -80,9 +80,10 @@ taken below t starred d (n ∷ ns) =
 abbrev pub node_picks : Task → ℕ → List Node → ℕ → ℕ → Node → List Pick
 node_picks t k ns zero d n = whole_pick k n ∷ []
 node_picks t k ns (suc more) d n =
-    if quiet t (suc more) d then whole_pick k n ∷ []
+    if are_unconstrained t (suc more) d then whole_pick k n ∷ []
     else (if n.children == 0 then leaf_pick d n ∷ []
-    else taken (node_picks t k ns more (suc d)) t (has_star_among (kids_of ns n)) d (kids_of ns n))
+    else taken (node_picks t k ns more (suc d)) t (has_star_among (child_nodes_of ns n)) d
+    (child_nodes_of ns n))
 
 -- the picks of a tree of k dimensions
 abbrev pub tree_picks : Task → ℕ → List Node → List Pick

@@ -1,7 +1,7 @@
 //! What a query asks of each split dimension of a star-tree.
 
 ghost use Rattle.std.specs.Prelude.{◌≡◌, ◌<◌, ◌≤◌, ◌-◌, ◌||◌, length};
-ghost use Rattle.star_tree.specs.Picks.{quiet, is_taken};
+ghost use Rattle.star_tree.specs.Picks.{are_unconstrained, is_selected};
 ghost use Rattle.star_walk.specs.Walking.{task_of, is_tested, passes, is_grouped, HasEach};
 
 use data_types::Seq;
@@ -57,7 +57,7 @@ impl Task {
     pub fn is_unconstrained(&self, level: usize) -> bool
         requires each { HasEach self.now.matched self.now.grouped }
         requires level { level ≤ length self.now.matched }
-        ensures { result ≡ quiet (task_of self.now.matched self.now.grouped)
+        ensures { result ≡ are_unconstrained (task_of self.now.matched self.now.grouped)
             (length self.now.matched - level) level }
     {
         for dim in level..self.matched.len() {
@@ -72,7 +72,8 @@ impl Task {
     pub fn takes(&self, starred: bool, level: usize, id: u32) -> bool
         requires each { HasEach self.now.matched self.now.grouped }
         requires level { level < length self.now.matched }
-        ensures { result ≡ is_taken (task_of self.now.matched self.now.grouped) starred level id }
+        ensures { result ≡
+            is_selected (task_of self.now.matched self.now.grouped) starred level id }
     {
         if self.is_tested(level) {
             return id != STAR && self.passes(level, id);

@@ -10,7 +10,7 @@ use star_table::StarTable;
 
 /// Whether a document passes the tests of its dimensions from a level on.
 pub fn passes_from(task: &Task, table: &StarTable, at: u32, level: usize) -> bool
-    requires few { length task.now.matched ≤ 16 }
+    requires at_most { length task.now.matched ≤ 16 }
     requires dims { table.now.dims ≡ length task.now.matched }
     requires level { level ≤ length task.now.matched }
     requires at { at < length table.now.docs }

@@ -2,7 +2,7 @@
 
 ghost use Rattle.std.specs.Prelude.{◌≡◌, ◌<◌, ◌≤◌, ◌+◌, ◌-◌, ◌++◌, length, IfOk, OnOk, false};
 ghost use Rattle.star_tree.specs.Flat.{node_at};
-ghost use Rattle.star_walk.specs.Walking.{task_of, HasEach, AreWalkable, has_star_among, kids_of};
+ghost use Rattle.star_walk.specs.Walking.{task_of, HasEach, AreWalkable, has_star_among, child_nodes_of};
 ghost use Rattle.star_walk.specs.Walking.{taken, node_picks, tree_picks, whole_pick, leaf_pick};
 
 use crate::NoMemory;
@@ -16,7 +16,7 @@ use std::alloc::Global;
 /// entries.
 pub fn walk(alloc: Global, nodes: &[Node], task: &Task) -> Result<Picks, NoMemory>
     requires each { HasEach task.now.matched task.now.grouped }
-    requires few { length task.now.matched ≤ 16 }
+    requires at_most { length task.now.matched ≤ 16 }
     requires nodes { AreWalkable nodes.now }
     ensures { IfOk result (λ picks. picks ≡ tree_picks
         (task_of task.now.matched task.now.grouped) (length task.now.matched) nodes.now) }
@@ -35,7 +35,7 @@ struct Traversal<'a> {
     nodes: &'a [Node],
     task: &'a Task,
     ghost each: { HasEach task.now.matched task.now.grouped },
-    ghost few: { length task.now.matched ≤ 16 },
+    ghost at_most: { length task.now.matched ≤ 16 },
     ghost walkable: { AreWalkable nodes.now },
 }
 
@@ -78,8 +78,9 @@ fn push_children(
         (length walk.entry.task.now.matched) walk.entry.nodes.now
         (length walk.entry.task.now.matched - (level + 1)) (level + 1))
         (task_of walk.entry.task.now.matched walk.entry.task.now.grouped)
-        (has_star_among (kids_of walk.entry.nodes.now (node_at walk.entry.nodes.now at))) level
-        (kids_of walk.entry.nodes.now (node_at walk.entry.nodes.now at))) }
+        (has_star_among (child_nodes_of walk.entry.nodes.now (node_at walk.entry.nodes.now at)))
+        level
+        (child_nodes_of walk.entry.nodes.now (node_at walk.entry.nodes.now at))) }
 {
     let (first, end) = children_of(walk, at);
     let starred = has_star(&walk.nodes[first..end]);
@@ -105,11 +106,11 @@ fn children_of(walk: Traversal<'_>, at: usize) -> (usize, usize)
 }
 
 // Whether one of some nodes is a star child.
-fn has_star(kids: &[Node]) -> bool
-    ensures { result ≡ has_star_among kids.now }
+fn has_star(subtrees: &[Node]) -> bool
+    ensures { result ≡ has_star_among subtrees.now }
 {
-    for kid in kids {
-        if kid.id == STAR {
+    for child in subtrees {
+        if child.id == STAR {
             return true;
         }
     }

@@ -27,15 +27,15 @@ copied_ended front xs out i n low high is =
 pub copied_fits : {A : Type 0} (front xs out : List A) (i n had has : ℕ) → i < n
     → length front + n ≤ had → had ≤ has → out ≡ front ++ take i xs → length out + 1 ≤ has
 copied_fits front xs out i n had has lt fits more is =
-    let long : length out ≡ length (front ++ take i xs) = ap length is in
-    omega (arith, long, length-append front (take i xs), length-take i xs)
+    let lengths : length out ≡ length (front ++ take i xs) = ap length is in
+    omega (arith, lengths, length-append front (take i xs), length-take i xs)
 
 -- an item of the front is still there
 pub still_there : {A : Type 0} (front xs out : List A) (k : ℕ) → k < length front
     → out ≡ front ++ xs → k < length out
 still_there front xs out k lt is =
-    let long : length out ≡ length (front ++ xs) = ap length is in
-    omega (arith, long, length-append front xs)
+    let lengths : length out ≡ length (front ++ xs) = ap length is in
+    omega (arith, lengths, length-append front xs)
 
 -- one item more of a list that is there already and is copied to its end
 pub repeated_more : {A : Type 0} (front out new : List A) (from i : ℕ) (d : A)

@@ -100,10 +100,10 @@ weights_reached (e ∷ es) (n ∷ ns) h = (rows.row_fits_weight e.1 n h.0, weigh
 pub stored-add : (dims : List ℕ) (states : List AggState) (docs : List Doc) → RowStored states
     → AreStored docs → row_weight states + weights row_weight docs ≤ most_stored
     → AreStored (add dims_order merged_rows dims states docs)
-stored-add dims states [] h k few = (h, tt)
-stored-add dims states (e ∷ es) h k few =
-    let both = rows.row_stored_both states e.1 h k.0 (omega (arith, few)) in
-    let more = stored-add dims states es h k.1 (omega (arith, few)) in
+stored-add dims states [] h k at_most = (h, tt)
+stored-add dims states (e ∷ es) h k at_most =
+    let both = rows.row_stored_both states e.1 h k.0 (omega (arith, at_most)) in
+    let more = stored-add dims states es h k.1 (omega (arith, at_most)) in
     elim (dims_order dims e.0) as
     (λ r. AreStored (by_order r ((dims, states) ∷ e ∷ es) ((e.0, merged_rows states e.1) ∷ es)
     (e ∷ add dims_order merged_rows dims states es))) [
@@ -114,8 +114,8 @@ stored-add dims states (e ∷ es) h k few =
 
 pub stored-merged : (docs : List Doc) → AreStored docs → weights row_weight docs ≤ most_stored
     → AreStored (merged_docs merged_rows docs)
-stored-merged [] h few = tt
-stored-merged (e ∷ es) h few =
-    let light = weights-Merged row_weight dims_order merged_rows rows.row_weight_both es in
-    stored-add e.0 e.1 (merged_docs merged_rows es) h.0 (stored-merged es h.1 (omega (arith, few)))
-    (omega (arith, few, light))
+stored-merged [] h at_most = tt
+stored-merged (e ∷ es) h at_most =
+    let weight_fits = weights-Merged row_weight dims_order merged_rows rows.row_weight_both es in
+    stored-add e.0 e.1 (merged_docs merged_rows es) h.0 (stored-merged es h.1 (omega (arith, at_most)))
+    (omega (arith, at_most, weight_fits))

@@ -99,14 +99,14 @@ pub found_still : (table others : List ℕ) (k v : ℕ) → 0 < v
     → All (λ word. 0 < entry_of table word) others
     → All (λ word. 0 < entry_of (set table k v) word) others
 found_still table others k v some h j d lt =
-    still table k v (key_of (get_or others j d)) some (h j d lt)
+    unchanged table k v (key_of (get_or others j d)) some (h j d lt)
   where
-    still : (xs : List ℕ) (k v j : ℕ) → 0 < v → 0 < get_or xs j 0 → 0 < get_or (set xs k v) j 0
-    still [] k v j some h = h
-    still (x ∷ xs) zero v zero some h = some
-    still (x ∷ xs) zero v (suc j) some h = h
-    still (x ∷ xs) (suc k) v zero some h = h
-    still (x ∷ xs) (suc k) v (suc j) some h = still xs k v j some h
+    unchanged : (xs : List ℕ) (k v j : ℕ) → 0 < v → 0 < get_or xs j 0 → 0 < get_or (set xs k v) j 0
+    unchanged [] k v j some h = h
+    unchanged (x ∷ xs) zero v zero some h = some
+    unchanged (x ∷ xs) zero v (suc j) some h = h
+    unchanged (x ∷ xs) (suc k) v zero some h = h
+    unchanged (x ∷ xs) (suc k) v (suc j) some h = unchanged xs k v j some h
 
 -- the numbers of the first documents, as far as a combination
 pub first_step : (start key : ℕ) (table firsts : List ℕ) (at : ℕ) → key < length table
@@ -114,11 +114,11 @@ pub first_step : (start key : ℕ) (table firsts : List ℕ) (at : ℕ) → key 
     → (firsts ++ ((start + (at - 1)) % 2 ^ 32 ∷ []))
     ++ map (place start) (first_words (key + 1) (drop (key + 1) table))
     ≡ firsts ++ map (place start) (first_words key (drop key table))
-first_step start key table firsts at lt is some few =
+first_step start key table firsts at lt is some at_most =
     let here : drop key table ≡ suc (at - 1) ∷ drop (suc key) table = drop-cons table key 0 lt
     ∙ ap (λ v. v ∷ drop (suc key) table) (omega (arith, is, some)) in
     let p : (key * 2 ^ 20 + (at - 1)) % 2 ^ 20 ≡ at - 1 =
-    mod-mul-add key (2 ^ 20) (at - 1) (omega (arith, few, some)) in
+    mod-mul-add key (2 ^ 20) (at - 1) (omega (arith, at_most, some)) in
     subst (λ k. (firsts ++ ((start + (at - 1)) % 2 ^ 32 ∷ []))
     ++ map (place start) (first_words k (drop k table))
     ≡ firsts ++ map (place start) (first_words key (drop key table))) (sym (add-one key))
@@ -263,34 +263,34 @@ module _ (spans : List Span) (level start : ℕ) (docs : List Doc) where
       → All W (first_words key table)
       → below_all dims_order (xs w)
       (starred_docs level docs (map (place start) (first_words key table))) ≡ true
-  above w key [] a lt few all = refl
-  above w key (zero ∷ rest) a lt few all =
-      above w (suc key) rest a (omega (arith, lt)) (λ i d h. few (suc i) d (omega (arith, h))) all
-  above w key (suc at ∷ rest) a lt few all =
-      let here : suc at ≤ 2 ^ 20 = few 0 0 (omega arith) in
+  above w key [] a lt at_most all = refl
+  above w key (zero ∷ rest) a lt at_most all =
+      above w (suc key) rest a (omega (arith, lt)) (λ i d h. at_most (suc i) d (omega (arith, h))) all
+  above w key (suc at ∷ rest) a lt at_most all =
+      let here : suc at ≤ 2 ^ 20 = at_most 0 0 (omega arith) in
       let v = key * 2 ^ 20 + at in
       let k = key_here key at (omega (arith, here)) in
       let b : W v = all 0 0 (omega arith) in
       both _ _ (ap is_lt (less_ids w v a b (omega (arith, k, lt))))
-      (above w (suc key) rest a (omega (arith, lt)) (λ i d h. few (suc i) d (omega (arith, h)))
+      (above w (suc key) rest a (omega (arith, lt)) (λ i d h. at_most (suc i) d (omega (arith, h)))
       (λ i d h. all (suc i) d (omega (arith, h))))
 
   pub firsts_ascend : (key : ℕ) (table : List ℕ) → All (λ at. at ≤ 2 ^ 20) table
       → All W (first_words key table)
       → is_sorted dims_order
       (starred_docs level docs (map (place start) (first_words key table))) ≡ true
-  firsts_ascend key [] few all = refl
-  firsts_ascend key (zero ∷ rest) few all =
-      firsts_ascend (suc key) rest (λ i d h. few (suc i) d (omega (arith, h))) all
-  firsts_ascend key (suc at ∷ rest) few all =
-      let here : suc at ≤ 2 ^ 20 = few 0 0 (omega arith) in
+  firsts_ascend key [] at_most all = refl
+  firsts_ascend key (zero ∷ rest) at_most all =
+      firsts_ascend (suc key) rest (λ i d h. at_most (suc i) d (omega (arith, h))) all
+  firsts_ascend key (suc at ∷ rest) at_most all =
+      let here : suc at ≤ 2 ^ 20 = at_most 0 0 (omega arith) in
       let k = key_here key at (omega (arith, here)) in
-      let few' : All (λ at. at ≤ 2 ^ 20) rest = (λ i d h. few (suc i) d (omega (arith, h))) in
+      let at_most' : All (λ at. at ≤ 2 ^ 20) rest = (λ i d h. at_most (suc i) d (omega (arith, h))) in
       let all' : All W (first_words (suc key) rest) =
       (λ i d h. all (suc i) d (omega (arith, h))) in
       both _ _ (above (key * 2 ^ 20 + at) (suc key) rest (all 0 0 (omega arith))
-      (omega (arith, k)) few' all')
-      (firsts_ascend (suc key) rest few' all')
+      (omega (arith, k)) at_most' all')
+      (firsts_ascend (suc key) rest at_most' all')
 
   mapped : (is : List ℕ) (k d : ℕ) → k < length is
       → get_or (map (place start) is) k d ≡ place start (get_or is k 0)
@@ -302,7 +302,7 @@ module _ (spans : List Span) (level start : ℕ) (docs : List Doc) where
   pub slot_is : (table : List ℕ) (word : ℕ) → All (λ at. at ≤ 2 ^ 20) table
       → All W (first_words 0 table) → W word → 0 < entry_of table word
       → HasSlot start level docs (map (place start) (first_words 0 table)) (numbered 0 table) word
-  slot_is table word few all w some =
+  slot_is table word at_most all w some =
       let fw = first_words 0 table in
       let k = key_of word in
       let s = entry_of (numbered 0 table) word in
@@ -314,7 +314,7 @@ module _ (spans : List Span) (level start : ℕ) (docs : List Doc) where
       ap (λ i. get_or fw i 0) (sym i) ∙ found.2
       ∙ ap (λ m. m * 2 ^ 20 + (entry_of table word - 1)) (let z : 0 + k ≡ k = omega arith in z) in
       let in' : k < length table = inside table k some in
-      let small : entry_of table word ≤ 2 ^ 20 = few k 0 in' in
+      let small : entry_of table word ≤ 2 ^ 20 = at_most k 0 in' in
       let same : key_of (get_or fw (s - 1) 0) ≡ k = ap key_of there
       ∙ key_here k (entry_of table word - 1) (omega (arith, small, some)) in
       record {

@@ -197,8 +197,8 @@ module _ (n k : ℕ) (ks : List AggKind) (ids : List ℕ) (cs : List Column) (sp
     (xs : List ℕ) (ys : List AggState) (ids' : List ℕ) (cs' : List Column)
     (r : IsRegion n k ks ids cs spare a) (is : ids' ≡ ids ++ xs) (js : cs' ≡ row_pushed cs ys)
     (lx : length xs ≡ k) (ly : kinds_of ys ≡ ks) where
-  long : length ys ≡ length cs
-  long = sym (length-map ys _) ∙ ap length (ly ∙ sym r.kinds_are) ∙ length-map cs (λ c. c.kind)
+  lengths : length ys ≡ length cs
+  lengths = sym (length-map ys _) ∙ ap length (ly ∙ sym r.kinds_are) ∙ length-map cs (λ c. c.kind)
 
   pub one_more : docs_in (n + 1) k ids' cs' ≡ docs_in n k ids cs ++ ((xs, ys) ∷ [])
   one_more =
@@ -209,7 +209,7 @@ module _ (n k : ℕ) (ks : List AggKind) (ids : List ℕ) (cs : List Column) (sp
         (sym (row_before n spare cs ys i r.columns_are lt) ∙ ap (λ l. row_at l i) (sym js)) j,
       ))
       (ap (λ l. take k (drop (n * k) l)) is ∙ ids_after n k ids xs r.ids_are lx)
-      (ap (λ l. row_at l n) js ∙ row_after n spare cs ys r.columns_are long)
+      (ap (λ l. row_at l n) js ∙ row_after n spare cs ys r.columns_are lengths)
 
   pub more_region : 1 ≤ spare → RowStored ys → a ≤ a'
       → IsRegion (n + 1) k ks ids' cs' (spare - 1) a'
@@ -221,9 +221,9 @@ module _ (n k : ℕ) (ks : List AggKind) (ids : List ℕ) (cs : List Column) (sp
         ids_are = omega (arith, li, r.ids_are);
         kinds_are = ap kinds_in js ∙ kinds_pushed cs ys ∙ r.kinds_are;
         columns_are = subst (AreColumns (n + 1) (spare - 1)) (sym js)
-            (columns_pushed n spare cs ys r.columns_are long);
+            (columns_pushed n spare cs ys r.columns_are lengths);
         few_kinds = r.few_kinds;
-        few = omega (arith, r.few, some);
+        at_most = omega (arith, r.at_most, some);
         shape = subst (HaveShape k ks) (sym one_more) (shape_more k ks docs (xs, ys) r.shape lx ly);
         stored = subst AreStored (sym one_more) (stored_more docs (xs, ys) r.stored st);
         ids_fit = let e = fewer k spare some in omega (arith, e, li, r.ids_fit, la);
@@ -249,15 +249,15 @@ columns_new (k ∷ ks) = (refl, omega arith, columns_new ks)
 
 pub new_region : (k a : ℕ) (ks ls : List AggKind) (ids : List ℕ) (cs : List Column)
     → length ks ≤ 16 → ls ≡ ks → ids ≡ [] → cs ≡ map column_of ks → IsRegion 0 k ls ids cs 0 a
-new_region k a ks ls ids cs few same is js =
+new_region k a ks ls ids cs at_most same is js =
     let li : length ids ≡ 0 = ap length is in
     let z : 0 * k ≡ 0 = omega arith in
     record {
       ids_are = omega (arith, li, z);
       kinds_are = ap kinds_in js ∙ kinds_new ks ∙ sym same;
       columns_are = subst (AreColumns 0 0) (sym js) (columns_new ks);
-      few_kinds = let e = ap length same in omega (arith, few, e);
-      few = omega arith;
+      few_kinds = let e = ap length same in omega (arith, at_most, e);
+      at_most = omega arith;
       shape = tt;
       stored = tt;
       ids_fit = omega (arith, li, z);
@@ -316,7 +316,7 @@ module _ (n k : ℕ) (ks : List AggKind) (ids ids' : List ℕ) (cs ds : List Col
         kinds_are = wider_kinds cs ds w ∙ r.kinds_are;
         columns_are = wider_columns n s cs ds r.columns_are w;
         few_kinds = r.few_kinds;
-        few = r.few;
+        at_most = r.at_most;
         shape = subst (HaveShape k ks) (sym docs) r.shape;
         stored = subst AreStored (sym docs) r.stored;
         ids_fit = omega (arith, r.ids_fit, la, li);
@@ -324,7 +324,7 @@ module _ (n k : ℕ) (ks : List AggKind) (ids ids' : List ℕ) (cs ds : List Col
 
   pub roomy_region : (more : ℕ) → ds ≡ map (widened more) cs → n + more < 2 ^ 64
       → length ids + more * k ≤ a' → IsRegion n k ks ids' ds more a'
-  roomy_region more js few la =
+  roomy_region more js at_most la =
       let docs : docs_in n k ids' ds ≡ docs_in n k ids cs = ap (λ l. docs_in n k l ds) is
       ∙ wider_docs n k ids cs ds w in
       let li = ap length is in
@@ -333,7 +333,7 @@ module _ (n k : ℕ) (ks : List AggKind) (ids ids' : List ℕ) (cs ds : List Col
         kinds_are = wider_kinds cs ds w ∙ r.kinds_are;
         columns_are = subst (AreColumns n more) (sym js) (roomy_columns n s more cs r.columns_are);
         few_kinds = r.few_kinds;
-        few = few;
+        at_most = at_most;
         shape = subst (HaveShape k ks) (sym docs) r.shape;
         stored = subst AreStored (sym docs) r.stored;
         ids_fit = omega (arith, la, li);

@@ -181,7 +181,7 @@ module _ (n k : ℕ) (ks : List AggKind) (ids : List ℕ) (cs : List Column) (sp
       kinds_are = lk ∙ r.kinds_are;
       columns_are = lc;
       few_kinds = r.few_kinds;
-      few = r.few;
+      at_most = r.at_most;
       shape = subst (HaveShape k ks) (sym with_last)
           (shape_more k ks front (xs, ys) (shape_front k ks front _ shape_is) lx ky);
       stored = subst AreStored (sym with_last)
@@ -224,9 +224,9 @@ row_stored_fits (v ∷ vs) h = (laws.stored_fits v h.0, row_stored_fits vs h.1)
 
 pub merged_fits : (vs ws : List AggState) → RowStored vs → RowStored ws → row_weight vs
     + row_weight ws ≤ most_stored → RowFits (merged_rows vs ws) most_values
-merged_fits vs ws p q few =
+merged_fits vs ws p q at_most =
     rows.fits_more (merged_rows vs ws) most_stored most_values
-    (row_stored_fits (merged_rows vs ws) (rows.row_stored_both vs ws p q few)) (omega arith)
+    (row_stored_fits (merged_rows vs ws) (rows.row_stored_both vs ws p q at_most)) (omega arith)
 
 -- ids of which one is set
 set_far : (m k i v : ℕ) (ids : List ℕ) → m + k ≤ i → take k (drop m (set ids i v))
@@ -295,22 +295,22 @@ module _ (n k : ℕ) (ks : List AggKind) (ids : List ℕ) (cs : List Column) (sp
 
   -- states are merged into those of the last document, with which they are light
   module _ (zs : List AggState) (kz : kinds_of zs ≡ ks) (sz : RowStored zs)
-      (light : (docs : List Doc) (e : Doc) → docs_in n k ids cs ≡ docs ++ (e ∷ [])
+      (weight_fits : (docs : List Doc) (e : Doc) → docs_in n k ids cs ≡ docs ++ (e ∷ [])
       → row_weight e.1 + row_weight zs ≤ most_stored) where
-    few : row_weight ys + row_weight zs ≤ most_stored
-    few = light (front n k ks ids cs spare a r some) (xs, ys) (last_is n k ks ids cs spare a r some)
+    at_most : row_weight ys + row_weight zs ≤ most_stored
+    at_most = weight_fits (front n k ks ids cs spare a r some) (xs, ys) (last_is n k ks ids cs spare a r some)
 
     both : kinds_of ys ≡ kinds_of zs
     both = kinds_last n k ks ids cs spare a r some ∙ sym kz
 
     pub they_fit : RowFits (merged_rows ys zs) most_values
-    they_fit = merged_fits ys zs (store_last n k ks ids cs spare a r some) sz few
+    they_fit = merged_fits ys zs (store_last n k ks ids cs spare a r some) sz at_most
 
     kinds' : kinds_of (merged_rows ys zs) ≡ ks
     kinds' = kinds_merged ys zs both ∙ kinds_last n k ks ids cs spare a r some
 
-    long' : length (merged_rows ys zs) ≡ length cs
-    long' = sym (length-kinds_of (merged_rows ys zs)) ∙ ap length (kinds' ∙ sym r.kinds_are)
+    lengths' : length (merged_rows ys zs) ≡ length cs
+    lengths' = sym (length-kinds_of (merged_rows ys zs)) ∙ ap length (kinds' ∙ sym r.kinds_are)
         ∙ length-map cs (λ c. c.kind)
 
     module _ (cs' : List Column) (js : cs' ≡ row_replaced (n - 1) cs (merged_rows ys zs)) where
@@ -325,7 +325,7 @@ module _ (n k : ℕ) (ks : List AggKind) (ids : List ℕ) (cs : List Column) (sp
 
       at_end : row_at cs' (n - 1) ≡ merged_rows ys zs
       at_end = ap (λ l. row_at l (n - 1)) js
-          ∙ row_own n spare (n - 1) cs (merged_rows ys zs) r.columns_are (omega (arith, some)) long'
+          ∙ row_own n spare (n - 1) cs (merged_rows ys zs) r.columns_are (omega (arith, some)) lengths'
 
       pub merged_region : IsRegion n k ks ids cs' spare a
       merged_region =
@@ -335,7 +335,7 @@ module _ (n k : ℕ) (ks : List AggKind) (ids : List ℕ) (cs : List Column) (sp
           (subst (AreColumns n spare) (sym js)
           (columns_replaced n spare (n - 1) cs (merged_rows ys zs) r.columns_are))
           (long_last n k ks ids cs spare a r some) kinds'
-          (rows.row_stored_both ys zs (store_last n k ks ids cs spare a r some) sz few)
+          (rows.row_stored_both ys zs (store_last n k ks ids cs spare a r some) sz at_most)
 
       pub merged_docs_are : (docs : List Doc) (e : Doc) → docs_in n k ids cs ≡ docs ++ (e ∷ [])
           → docs_in n k ids cs' ≡ docs ++ ((e.0, merged_rows e.1 zs) ∷ [])

@@ -33,7 +33,7 @@ numbered n (suc at ∷ rest) = suc n ∷ numbered (suc n) rest
 -- words split into the first of each combination, as a table, and the others
 pub record IsSplit (words table others : List ℕ) : Type 0 where
   pub same : IsPermutation words (first_words 0 table ++ others)
-  pub few : length table < 2 ^ 32
+  pub at_most : length table < 2 ^ 32
   pub places : All (λ at. at ≤ 2 ^ 20) table
   pub found : All (λ word. 0 < entry_of table word) others
 

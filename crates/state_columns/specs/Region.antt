@@ -25,7 +25,7 @@ pub record IsRegion (n k : ℕ) (kinds : List AggKind) (ids : List ℕ) (columns
   pub kinds_are : kinds_in columns ≡ kinds
   pub columns_are : AreColumns n spare columns
   pub few_kinds : length kinds ≤ 16
-  pub few : n + spare < 2 ^ 64
+  pub at_most : n + spare < 2 ^ 64
   pub shape : HaveShape k kinds (docs_in n k ids columns)
   pub stored : AreStored (docs_in n k ids columns)
   pub ids_fit : length ids + spare * k ≤ ids_room

@@ -29,7 +29,7 @@ pub fn tail_columns(
     count: usize,
 ) -> Result<Vec<StateColumn>, NoMemory>
     requires from { from ≤ count }
-    requires long { AreColumns count 0 columns.now }
+    requires lengths { AreColumns count 0 columns.now }
     ensures { IfOk result (λ tails. tails.items ≡ map (column_tail from) columns.now) }
 {
     let mut tails = Vec::with_capacity(alloc, columns.len())?;
@@ -88,7 +88,7 @@ pub fn push_copies(columns: &mut [StateColumn], from: usize, count: usize)
 pub fn merge_places(columns: &mut [StateColumn], into: usize, from: usize, count: usize)
     requires into { into < count }
     requires from { from < count }
-    requires long { AreColumns count 0 columns.old }
+    requires lengths { AreColumns count 0 columns.old }
     requires fits { RowFits (merged_rows (row_at columns.old into) (row_at columns.old from))
         most_values }
     ensures { columns.new ≡ row_replaced into columns.old
@@ -102,7 +102,7 @@ pub fn merge_places(columns: &mut [StateColumn], into: usize, from: usize, count
 /// Adds a value to the state in a place of each column.
 pub fn add_values_at(columns: &mut [StateColumn], place: usize, values: &[i64], count: usize)
     requires place { place < count }
-    requires long { AreColumns count 0 columns.old }
+    requires lengths { AreColumns count 0 columns.old }
     requires values { length values.now ≡ length columns.old }
     requires fits { RowFits (merged_rows (row_at columns.old place)
         (row_of (kinds_in columns.old) (values.now ∷ []))) most_values }

@@ -35,6 +35,6 @@ no_repeat before (name ∷ names) = not (is_among before name)
 -- 1 to 64 fields with distinct names, each of which is valid
 pub record IsValidSchema (s : Schema) : Type 0 where
   pub some : 0 < length s.fields
-  pub few : length s.fields ≤ 64
+  pub at_most : length s.fields ≤ 64
   pub fields : list_all is_valid_field s.fields ≡ true
   pub apart : no_repeat [] (map (λ f. f.name) s.fields) ≡ true

@@ -31,4 +31,4 @@ most_rows fields = min 1048576 (16777216 / max 1 fields)
 -- rows of a table of these fields, no more than there may be
 pub record AreRows (columns : List Field) (rows : List (List Value)) : Type 0 where
   pub each : All (IsRow columns) rows
-  pub few : length rows ≤ most_rows (length columns)
+  pub at_most : length rows ≤ most_rows (length columns)

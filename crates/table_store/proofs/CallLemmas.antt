@@ -14,7 +14,7 @@ looked R W a b unwritten looks = record {
   log = looks.log;
   reads_later = looks.reads.later;
   read_failed = looks.reads.rose;
-  reads_still = looks.reads.still;
+  reads_still = looks.reads.unchanged;
   writes_later = omega (arith, looks.reads.writes);
   write_failed = λ writes. absurd (unwritten writes);
   writes_still = λ _. looks.reads.writes;
@@ -23,16 +23,16 @@ looked R W a b unwritten looks = record {
 -- a look that ended well, and then a part that was written
 pub looked_then : (F R W : Type 0) (a b d : Seen) → ¬ F → ¬ R → ReadsNoByte F a b → OnlyWrites W incoming b d → OnlyPublishes R W a d
 looked_then F R W a b d fine unread looks writes =
-    let still : b.read_faults ≡ a.read_faults = looks.reads.still fine in
+    let unchanged : b.read_faults ≡ a.read_faults = looks.reads.unchanged fine in
     record {
       parts = subst (λ parts. SameBut incoming parts d.parts) looks.reads.parts writes.parts;
       log = writes.log ∙ looks.log;
-      reads_later = omega (arith, still, writes.reads);
+      reads_later = omega (arith, unchanged, writes.reads);
       read_failed = λ fails. absurd (unread fails);
-      reads_still = λ _. writes.reads ∙ still;
+      reads_still = λ _. writes.reads ∙ unchanged;
       writes_later = omega (arith, looks.reads.writes, writes.later);
       write_failed = λ fails. subst (λ n. Rose n d.write_faults) looks.reads.writes (writes.rose fails);
-      writes_still = λ none. writes.still none ∙ looks.reads.writes;
+      writes_still = λ none. writes.unchanged none ∙ looks.reads.writes;
     }
 
 -- the same by other names of the failures

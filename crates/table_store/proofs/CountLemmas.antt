@@ -22,7 +22,7 @@ some_mapped f None = refl
 some_mapped f (Some x) = refl
 
 named_true : (name : List ℕ) → IsSegmentName name → is_segment_name name ≡ true
-named_true name is = (λ i. (is.some i && is.few i) && is.each i)
+named_true name is = (λ i. (is.some i && is.at_most i) && is.each i)
 
 -- a segment has a file exactly where the state has it
 has_by : (table : schema.Table) (texts : Texts) (segments : Segments) (name : List ℕ) → IsTable table texts segments → (o : Option Segment) → tree.get segments name ≡ o → (is_segment_name name && is_some o) ≡ is_some o

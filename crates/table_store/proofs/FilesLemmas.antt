@@ -14,4 +14,4 @@ other_name q name ne = elim (name_order q name) as (λ r. name_order q name ≡ 
 -- a file that has a length is there
 pub long_there : (held : Option Files) (name : List ℕ) (n : ℕ) → IsLengthOf held name n → Has held name
 long_there None name n there = tt
-long_there (Some files) name n (bytes, got, long) = (bytes, got)
+long_there (Some files) name n (bytes, got, lengths) = (bytes, got)

@@ -105,7 +105,7 @@ named_there : (name : List ℕ) (o : Option Segment) (file : Segment → List �
 named_there name None file named = elim (is_segment_name name) as (λ b. (b && false) ≡ false) [ true ↦ refl | false ↦ refl ]
 named_there name (Some segment) file named =
     let n = named segment refl in
-    (λ i. (n.some i && n.few i && n.each i) && true)
+    (λ i. (n.some i && n.at_most i && n.each i) && true)
 
 -- the keys of a state are the names of the segments that have files
 pub keys_stand : (files : Files) (texts : Texts) (segments : Segments) → Stands files (HasTable texts segments) → AreNames files (tree.keys segments)

@@ -207,7 +207,7 @@ name_of file name is named =
     (λ i. cond (here i && valid i) (back i ∷ []) [])
 
 pub ending_cut : (file name : List ℕ) → StripsSuffix (FindsTextSuffix (codes ".seg")) file name → file ≡ file_of name
-ending_cut file name (n, found, cut, long) = found.1 ∙ ap (λ front. front ++ codes ".seg") (sym cut)
+ending_cut file name (n, found, cut, lengths) = found.1 ∙ ap (λ front. front ++ codes ".seg") (sym cut)
 
 pub names_more : (files old new : List (List ℕ)) (i : ℕ) (file d : List ℕ) → i < length files → file ≡ get_or files i d → new ≡ old ++ name_in file → old ++ names_among (drop i files) ≡ names_among files → new ++ names_among (drop (i + 1) files) ≡ names_among files
 names_more files old new i file d lt is pushed so_far =
@@ -224,8 +224,8 @@ pub first_few : (files names : List (List ℕ)) → ((all : List (List ℕ)) × 
 first_few files names (all, moved, sorted, is) = omega (arith, ap length is, length-take most_segments all)
 
 pub first_room : (held : Option Files) (names : List (List ℕ)) → IfSome held (λ told. AreFirstNames told names) → length names < most_segments → IfSome held HasRoom
-first_room None names first few = tt
-first_room (Some told) names (all, are, is) few = (all, are, omega (arith, few, ap length is, length-take most_segments all))
+first_room None names first at_most = tt
+first_room (Some told) names (all, are, is) at_most = (all, are, omega (arith, at_most, ap length is, length-take most_segments all))
 
 pub first_full : (held : Option Files) (names : List (List ℕ)) → IfSome held (λ told. AreFirstNames told names) → most_segments ≤ length names → IfSome held IsFull
 first_full None names first many = tt
@@ -236,10 +236,10 @@ first_full (Some told) names (all, are, is) many = (all, are, omega (arith, many
 is_named : (name : List ℕ) → is_segment_name name ≡ true → IsSegmentName name
 is_named name e =
     let some : Bool = nat_lt 0 (length name) in
-    let few : Bool = nat_le (length name) 64 in
+    let at_most : Bool = nat_le (length name) 64 in
     let each : Bool = list_all is_name_byte name in
-    let front : (some && few) ≡ true = and_first (some && few) each e in
-    record { some = and_first some few front; few = and_second some few front; each = and_second (some && few) each e }
+    let front : (some && at_most) ≡ true = and_first (some && at_most) each e in
+    record { some = and_first some at_most front; at_most = and_second some at_most front; each = and_second (some && at_most) each e }
 
 one_named : (file : List ℕ) (b : Bool) → is_segment_file file ≡ b → All IsSegmentName (cond b (stem file ∷ []) [])
 one_named file true e = All-cons IsSegmentName (stem file) [] (is_named (stem file) (and_second (same file (file_of (stem file))) (is_segment_name (stem file)) e)) (All-nil IsSegmentName)

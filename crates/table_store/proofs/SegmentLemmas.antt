@@ -128,11 +128,11 @@ module _ (files : Files) (texts : Texts) (segments : Segments) (read : schema.Ta
       ]
 
   pub put_stands : map.len segments < most_segments → map.get segments name ≡ None → StandsFor (map.insert files (file_of name) (image 1 read name rows)) texts (map.insert segments name (segment_of read rows))
-  put_stands few none = record {
+  put_stands at_most none = record {
     table = read;
     valid = record {
       accepted = accepted;
-      few = omega (arith, few, map.len-insert nat_list_cmp_total segments name (segment_of read rows) ∙ ap (λ o. cond (is_some o) (map.len segments) (map.len segments + 1)) none);
+      at_most = omega (arith, at_most, map.len-insert nat_list_cmp_total segments name (segment_of read rows) ∙ ap (λ o. cond (is_some o) (map.len segments) (map.len segments + 1)) none);
       named = λ q s got. (each-is q s got).0;
       each = λ q s got. (each-is q s got).1;
     };

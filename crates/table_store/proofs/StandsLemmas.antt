@@ -63,14 +63,14 @@ no_segment q segment got = let e : None ≡ Some segment = sym (map.get-empty na
 pub create_stands : (files : Files) (texts : Texts) (read : schema.Table) → Stands files NoTable → IsAccepted texts read → Stands (map.insert files table_name (table_file texts)) (HasTable texts map.empty)
 create_stands files texts read none accepted = record {
   table = read;
-  valid = record { accepted = accepted; few = omega (arith, map.len-empty name_order Segment); named = λ q segment got. no_segment q segment got; each = λ q segment got. no_segment q segment got };
+  valid = record { accepted = accepted; at_most = omega (arith, map.len-empty name_order Segment); named = λ q segment got. no_segment q segment got; each = λ q segment got. no_segment q segment got };
   kept = λ name.
       map.get-insert nat_list_cmp_total files table_name (table_file texts) name
       ∙ ap (λ old. cond (eq_by_cmp name_order name table_name) (Some (table_file texts)) old) (none name ∙ sym (none_kept read name));
 }
 
 pub segment_stands : SegmentStands
-segment_stands files texts segments read name rows stands accepted named can few none = put_stands files texts segments read name rows stands accepted named can few none
+segment_stands files texts segments read name rows stands accepted named can at_most none = put_stands files texts segments read name rows stands accepted named can at_most none
 
 pub table_stands : (files : Files) (texts : Texts) (segments : Segments) (read : schema.Table) → Stands files (HasTable texts segments) → OfFile (Some files) table_name (λ bytes. IsTableFile bytes read) → IsAccepted texts read
 table_stands files texts segments read stands (bytes, got, file) =

@@ -63,7 +63,7 @@ take_small n bytes small i =
 
 -- what was read after its length is spelled so
 pub counted_parts : (bytes front rest : List ℕ) (n : ℕ) → IsBytes bytes → 4 ≤ length bytes → n ≡ from_be_bytes w32 (take 4 bytes) → length front ≡ n → drop 4 bytes ≡ front ++ rest → bytes ≡ counted front ++ rest
-counted_parts bytes front rest n small long is len parts =
+counted_parts bytes front rest n small lengths is len parts =
     let number : to_be_bytes w32 (length front) ≡ take 4 bytes = be_bytes_4 (take 4 bytes) (length front) (omega (arith, length-take 4 bytes)) (take_small 4 bytes small) (len ∙ is) in
     sym (take-append-drop 4 bytes) ∙ (λ i. sym number i ++ parts i) ∙ sym (append_assoc (to_be_bytes w32 (length front)) front rest)
 
@@ -86,10 +86,10 @@ ends_early bytes text rest early le e =
 pub splits : {X : Type 0} (first second : X → List ℕ) (bytes : List ℕ) (n : ℕ) (r : Option X) → IsBytes bytes → 4 ≤ length bytes → n ≡ from_be_bytes w32 (take 4 bytes) → n ≤ 1048576
     → MatchOption r (length (drop 4 bytes) < n) (λ x. IsSplitAt (drop 4 bytes) n (first x) (second x))
     → MatchOption r ((text rest : List ℕ) → length text ≤ 1048576 → bytes ≢ counted text ++ rest) (λ x. (length (first x) ≤ 1048576) × (bytes ≡ counted (first x) ++ second x))
-splits first second bytes n None small long is within early = λ text rest le. ends_early bytes text rest (subst (λ m. length (drop 4 bytes) < m) is early) le
-splits first second bytes n (Some x) small long is within (mid, front, back, len, left) =
+splits first second bytes n None small lengths is within early = λ text rest le. ends_early bytes text rest (subst (λ m. length (drop 4 bytes) < m) is early) le
+splits first second bytes n (Some x) small lengths is within (mid, front, back, len, left) =
     let parts : drop 4 bytes ≡ first x ++ second x = sym (take-append-drop n (drop 4 bytes)) ∙ (λ i. sym front i ++ sym back i) in
-    (omega arith, counted_parts bytes (first x) (second x) n small long is len parts)
+    (omega arith, counted_parts bytes (first x) (second x) n small lengths is len parts)
 
 -- ---- reading a file
 

@@ -47,7 +47,7 @@ pub record IsSegment (table : schema.Table) (segment : Segment) : Type 0 where
 -- table
 pub record IsTable (table : schema.Table) (texts : Texts) (segments : Segments) : Type 0 where
   pub accepted : IsAccepted texts table
-  pub few : map.len segments ≤ most_segments
+  pub at_most : map.len segments ≤ most_segments
   pub named : (name : List ℕ) (segment : Segment) → map.get segments name ≡ Some segment
       → IsSegmentName name
   pub each : (name : List ℕ) (segment : Segment) → map.get segments name ≡ Some segment

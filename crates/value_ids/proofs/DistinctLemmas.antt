@@ -241,8 +241,8 @@ pub members_so : (column values : List Value) → values ≡ distinct column →
 members_so column values is q = ap (λ vs. is_member vs q) is ∙ distinct_members q column
 
 pub stands_so : (kind : FieldKind) (column values : List Value) → length column ≤ most_values → All (Fits kind) column → values ≡ distinct column → All IsUnicode values → IsDictionary (record { kind = kind; values = values })
-stands_so kind column values few fit is unicode = record {
-  few = let count = distinct_length column in let same = ap length is in omega (arith, count, same);
+stands_so kind column values at_most fit is unicode = record {
+  at_most = let count = distinct_length column in let same = ap length is in omega (arith, count, same);
   fit = All-from_any value_eq-equiv (Fits kind) values (λ q e. All-contains (Fits kind) column q fit (Contains-from_any same_value q column (sym (members_so column values is q) ∙ e)));
   unicode = unicode;
   ascends = subst Ascends (sym is) (distinct_ascends column);

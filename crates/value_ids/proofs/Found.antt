@@ -59,8 +59,8 @@ pub id_kept : (kept told new : List ℕ) (id : ℕ) → kept ≡ told → IsIdSe
 id_kept kept told new id view stands room above is =
     subst IsIdSet (sym is) (record {
       ascends = id_pushed kept id stands.ascends (subst (λ xs. IsAboveLast xs id) (sym view) above);
-      few = omega (arith, length-append kept (id ∷ []));
+      at_most = omega (arith, length-append kept (id ∷ []));
     })
 
 pub no_ids : IsIdSet []
-no_ids = record { ascends = none_ascends nat_cmp; few = omega arith }
+no_ids = record { ascends = none_ascends nat_cmp; at_most = omega arith }

@@ -35,7 +35,7 @@ pub record Distinct : Type 0 where
 
 -- values of one kind, few enough, ascending, none of them twice
 pub record IsDictionary (d : Distinct) : Type 0 where
-  pub few : length d.values ≤ most_values
+  pub at_most : length d.values ≤ most_values
   pub fit : All (Fits d.kind) d.values
   pub unicode : All IsUnicode d.values
   pub ascends : Ascends d.values

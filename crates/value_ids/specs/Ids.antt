@@ -14,7 +14,7 @@ use Rattle.values.specs.Tests.{holds}
 -- ids in ascending order, none of them twice; how many there are is a number of 32 bits
 pub record IsIdSet (ids : List ℕ) : Type 0 where
   pub ascends : IsStrictlySortedBy nat_cmp ids
-  pub few : length ids ≤ 4294967295
+  pub at_most : length ids ≤ 4294967295
 
 -- whether an id is in a list
 abbrev pub has_id : List ℕ → ℕ → Bool

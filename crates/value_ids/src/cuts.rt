@@ -21,7 +21,7 @@ pub struct Cut {
 
 /// Where a bound cuts values; it is found by halving.
 pub fn cut_at(values: &[Value], bound: &Value) -> Cut
-    requires few { length values.now ≤ most_values }
+    requires at_most { length values.now ≤ most_values }
     requires ascends { Ascends values.now }
     ensures { Cuts values.now bound.now result.from result.to }
 {
@@ -44,7 +44,7 @@ pub fn compared(
     bound: &Value,
     values: &[Value],
 ) -> Result<IdSet, NoMemory>
-    requires few { length values.now ≤ most_values }
+    requires at_most { length values.now ≤ most_values }
     requires ascends { Ascends values.now }
     ensures { IfOk result (Picks (λ value. op_holds op (value_order value bound.now)) values.now) }
 {

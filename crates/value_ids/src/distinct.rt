@@ -22,7 +22,7 @@ pub fn distinct_values(alloc: Global, column: &[Value]) -> Result<Vec<Value>, No
 
 // Each value where it is first seen.
 fn first_sights(alloc: Global, column: &[Value]) -> Result<Vec<Value>, NoMemory>
-    ensures few { IfOk result (λ values. length values.items ≤ length column.now) }
+    ensures at_most { IfOk result (λ values. length values.items ≤ length column.now) }
     ensures members { IfOk result (λ values. (value : _) →
         is_member values.items value ≡ is_member column.now value) }
     ensures unicode { IfOk result (λ values. All IsUnicode values.items) }

@@ -139,28 +139,29 @@ either_stored false v w p q = q
 -- states of no more values than a segment has are stored when they are merged
 pub stored_both : (v w : AggState) → IsStored v → IsStored w → weight_of v
     + weight_of w ≤ most_stored → IsStored (merged v w)
-stored_both (Count v) (Count w) p q few = (omega (arith, p.0), few)
-stored_both (Sum v) (Sum w) p q few =
+stored_both (Count v) (Count w) p q at_most = (omega (arith, p.0), at_most)
+stored_both (Sum v) (Sum w) p q at_most =
     sums.fits_more (v +ℤ w) (sum_weight v + sum_weight w) most_stored
     (sums.fits_both v w (sum_weight v) (sum_weight w) (sum_fits_weight v)
-    (sum_fits_weight w)) few
-stored_both (Least None) (Least w) p q few = absurd p
-stored_both (Least (Some v)) (Least None) p q few = absurd q
-stored_both (Least (Some v)) (Least (Some w)) p q few = leasts.fits_both (Some v) (Some w) p q
-stored_both (Greatest None) (Greatest w) p q few = absurd p
-stored_both (Greatest (Some v)) (Greatest None) p q few = absurd q
-stored_both (Greatest (Some v)) (Greatest (Some w)) p q few =
+    (sum_fits_weight w)) at_most
+stored_both (Least None) (Least w) p q at_most = absurd p
+stored_both (Least (Some v)) (Least None) p q at_most = absurd q
+stored_both (Least (Some v)) (Least (Some w)) p q at_most = leasts.fits_both (Some v) (Some w) p q
+stored_both (Greatest None) (Greatest w) p q at_most = absurd p
+stored_both (Greatest (Some v)) (Greatest None) p q at_most = absurd q
+stored_both (Greatest (Some v)) (Greatest (Some w)) p q at_most =
     greatests.fits_both (Some v) (Some w) p q
-stored_both (Average v) (Average w) p q few =
-    ((omega (arith, p.0.0), few), sums.fits_both v.sum w.sum v.count w.count p.1 q.1)
-stored_both v w p q few = either_stored (nat_le (rank_of (kind_of v)) (rank_of (kind_of w))) v w p q
+stored_both (Average v) (Average w) p q at_most =
+    ((omega (arith, p.0.0), at_most), sums.fits_both v.sum w.sum v.count w.count p.1 q.1)
+stored_both v w p q at_most =
+    either_stored (nat_le (rank_of (kind_of v)) (rank_of (kind_of w))) v w p q
 
 pub row_stored_both : (vs ws : List AggState) → RowStored vs → RowStored ws → row_weight vs
     + row_weight ws ≤ most_stored → RowStored (merged_rows vs ws)
-row_stored_both [] ws p q few = tt
-row_stored_both (v ∷ vs) [] p q few = tt
-row_stored_both (v ∷ vs) (w ∷ ws) p q few = (
-  stored_both v w p.0 q.0 (omega (arith, few)),
+row_stored_both [] ws p q at_most = tt
+row_stored_both (v ∷ vs) [] p q at_most = tt
+row_stored_both (v ∷ vs) (w ∷ ws) p q at_most = (
+  stored_both v w p.0 q.0 (omega (arith, at_most)),
   row_stored_both vs ws p.1 q.1
-      (omega (arith, few)),
+      (omega (arith, at_most)),
 )

@@ -28,11 +28,11 @@ loop-preserved c =
     let v = c.loop.table in
     let w = c.append_values.new.self in
     let l = longer v w _ e in
-    let h = heavier v w _ e c.append_values.ensures.light in
+    let h = heavier v w _ e c.append_values.ensures.weight_fits in
     let s : w.spare ≡ v.spare - 1 = ap (λ (d : Docs). d.spare) e in
     record {
       rows = omega (arith, l, i.rows);
-      light = omega (arith, h, i.light);
+      weight_fits = omega (arith, h, i.weight_fits);
       room = omega (arith, s, i.room, c.requires.spare, c.loop-test.true);
       dims = ap (λ (d : Docs). d.dims) e ∙ i.dims;
       kinds = ap (λ (d : Docs). d.kinds) e ∙ i.kinds;

@@ -6,7 +6,7 @@ use Rattle.bench_parts.proofs.star.fill.Given as goal
 abbrev pub invariant-loop : goal.invariant-loop
 invariant-loop l = record {
   rows : length l.table.docs ≡ l.counter;
-  light : weights row_weight l.table.docs ≤ l.counter;
+  weight_fits : weights row_weight l.table.docs ≤ l.counter;
   room : l.table.spare + l.counter ≡ l.initial.table.spare;
   dims : l.table.dims ≡ 3;
   kinds : l.table.kinds ≡ l.initial.table.kinds;

@@ -6,7 +6,7 @@ pub returns-clause-length : goal.returns-clause-length
 returns-clause-length c = posting_length
 
 pub returns-clause-entry : goal.returns-clause-entry
-returns-clause-entry c = λ count key keys all few known. entry_read count key keys all few known
+returns-clause-entry c = λ count key keys all at_most known. entry_read count key keys all at_most known
 
 pub returns-clause-ascending : goal.returns-clause-ascending
 returns-clause-ascending c = places_ascend

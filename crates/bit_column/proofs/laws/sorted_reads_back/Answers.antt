@@ -5,4 +5,4 @@ pub returns-clause-length : goal.returns-clause-length
 returns-clause-length c = sorted_length
 
 pub returns-clause-run : goal.returns-clause-run
-returns-clause-run c = λ count key keys up few known. run_read keys few count key up known
+returns-clause-run c = λ count key keys up at_most known. run_read keys at_most count key up known

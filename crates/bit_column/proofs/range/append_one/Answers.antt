@@ -31,13 +31,13 @@ returns-in-Ok-clause-ids g c =
     let width = c.args.range.width.bits in
     let from = c.args.range.from in
     let to = c.args.range.to in
-    let few = c.read_few.new.bytes in
-    let bytes = take ((to * width + 7) / 8 - from * width / 8) few in
+    let at_most = c.read_few.new.bytes in
+    let bytes = take ((to * width + 7) / 8 - from * width / 8) at_most in
     let id = c.id_of-id.result in
     let ids = pieces width (from * width % 8) (to - from) (bits_of 8 bytes) in
     let old = c.args.ids.now.items in
     let new = c.push_id.new.ids.items in
-    let is : ids ≡ id ∷ [] = one-read width from to few c.requires ∙ ap (λ n. n ∷ []) (sym c.id_of-id.ensures) in
+    let is : ids ≡ id ∷ [] = one-read width from to at_most c.requires ∙ ap (λ n. n ∷ []) (sym c.id_of-id.ensures) in
     let part = part-read held c.as_str-name.result.now place.file (place.offset + from * width / 8) (place.offset + (to * width + 7) / 8) bytes bytes c.as_str-name.ensures refl c.in-Ok.ensures.part in
     on-both c.push_id.result (new ≡ old ++ id ∷ []) (id < c.args.range.count) (AppendsRange held place width c.args.range.count from to old new)
     (λ grown below. range-appended held place width c.args.range.count from to bytes old new c.args.range.width.least (omega arith) (omega arith) part (grown ∙ ap (λ l. old ++ l) (sym is)) (one-below (λ n. n < c.args.range.count) id ids is below))
@@ -67,11 +67,11 @@ returns-in-Ok-clause-reads g c = record {
       let width = c.args.range.width.bits in
       let from = c.args.range.from in
       let to = c.args.range.to in
-      let few = c.read_few.new.bytes in
-      let bytes = take ((to * width + 7) / 8 - from * width / 8) few in
+      let at_most = c.read_few.new.bytes in
+      let bytes = take ((to * width + 7) / 8 - from * width / 8) at_most in
       let id = c.id_of-id.result in
       let ids = pieces width (from * width % 8) (to - from) (bits_of 8 bytes) in
-      let is : ids ≡ id ∷ [] = one-read width from to few c.requires ∙ ap (λ n. n ∷ []) (sym c.id_of-id.ensures) in
+      let is : ids ≡ id ∷ [] = one-read width from to at_most c.requires ∙ ap (λ n. n ∷ []) (sym c.id_of-id.ensures) in
       let part = part-read held c.as_str-name.result.now place.file (place.offset + from * width / 8) (place.offset + (to * width + 7) / 8) bytes bytes c.as_str-name.ensures refl c.in-Ok.ensures.part in
       λ bad. range-bad held place width c.args.range.count from to bytes c.args.range.width.least (omega arith) (omega arith) part (λ all. c.push_id.ensures.bad bad (one-alone (λ n. n < c.args.range.count) id ids is all));
 }

@@ -68,8 +68,8 @@ returns-in-Ok-clause-ids g c =
     let old = c.args.ids.now.items in
     let new = c.append_ids.new.ids.items in
     let into : List ℕ = c.read_part.new.into in
-    let long : length into ≡ c.resize.new.self.len = omega (arith, c.read_part.auto.into, c.deref_mut.ensures.len) in
-    let same : bytes ≡ into = c.as_slice.ensures.value ∙ take_at into (drop (length into) c.resize.new.self.items) c.resize.new.self.len long in
+    let lengths : length into ≡ c.resize.new.self.len = omega (arith, c.read_part.auto.into, c.deref_mut.ensures.len) in
+    let same : bytes ≡ into = c.as_slice.ensures.value ∙ take_at into (drop (length into) c.resize.new.self.items) c.resize.new.self.len lengths in
     let part = part-read held c.as_str-name.result.now place.file (place.offset + from * width / 8) (place.offset + (to * width + 7) / 8) into bytes c.as_str-name.ensures same c.in-Ok.ensures.part in
     on-both c.append_ids.result (new ≡ old ++ pieces width (from * width % 8) (to - from) digits) (All (λ id. id < c.args.range.count) (pieces width (from * width % 8) (to - from) digits))
     (AppendsRange held place width c.args.range.count from to old new)
@@ -102,8 +102,8 @@ returns-in-Ok-clause-reads g c = record {
       let to = c.args.range.to in
       let bytes = c.as_slice.result.now in
       let into : List ℕ = c.read_part.new.into in
-      let long : length into ≡ c.resize.new.self.len = omega (arith, c.read_part.auto.into, c.deref_mut.ensures.len) in
-      let same : bytes ≡ into = c.as_slice.ensures.value ∙ take_at into (drop (length into) c.resize.new.self.items) c.resize.new.self.len long in
+      let lengths : length into ≡ c.resize.new.self.len = omega (arith, c.read_part.auto.into, c.deref_mut.ensures.len) in
+      let same : bytes ≡ into = c.as_slice.ensures.value ∙ take_at into (drop (length into) c.resize.new.self.items) c.resize.new.self.len lengths in
       let part = part-read held c.as_str-name.result.now place.file (place.offset + from * width / 8) (place.offset + (to * width + 7) / 8) into bytes c.as_str-name.ensures same c.in-Ok.ensures.part in
       λ bad. range-bad held place width c.args.range.count from to bytes c.args.range.width.least (omega arith) (omega arith) part (c.append_ids.ensures.bad bad);
 }

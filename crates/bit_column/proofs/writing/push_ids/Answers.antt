@@ -9,7 +9,7 @@ unfolding bits
 loop-id-init c = record {
   bits = ap (λ xs. bits_of 8 xs ++ []) c.reserve.ensures.items;
   kept = begins-itself c.args.out.now.items c.reserve.new.self.items c.reserve.ensures.items;
-  few = omega arith;
+  at_most = omega arith;
 }
 
 pub returns-in_ok-push-clause-bits : goal.returns-in_ok-push-clause-bits

@@ -4,7 +4,7 @@ use Rattle.std.proofs.lemmas.Result.{IfOk-weaker}
 use Rattle.table_schema.specs.declared.query.OrderKey.{OrderKey}
 use Rattle.broker_merge.specs.Rank.{IsItem}
 use Rattle.broker_merge.specs.Ranked.{BeginInOrder}
-use Rattle.broker_merge.proofs.FewLemmas.{grouped, few, keys_of_table}
+use Rattle.broker_merge.proofs.FewLemmas.{grouped, at_most, keys_of_table}
 use Rattle.broker_merge.proofs.rows.first_in_order.Goals as goal
 
 pub ordered-requires-clause-of_table : goal.ordered-requires-clause-of_table
@@ -18,4 +18,4 @@ pub returns-then-count-lt2-clause-order : goal.returns-then-count-lt2-clause-ord
 returns-then-count-lt2-clause-order c = IfOk-weaker c.first_places.result _ _ (λ v is.
     subst (λ (l : List ℕ). BeginInOrder c.args.table.now c.args.query.now.order c.args.most l)
     (ap (range_with_len 0) (sym c.groups-count.ensures.places) ∙ sym is)
-    (few c.args.table.now c.args.query.now.order c.args.most c.groups-count.ensures.table (omega arith))) c.first_places.ensures
+    (at_most c.args.table.now c.args.query.now.order c.args.most c.groups-count.ensures.table (omega arith))) c.first_places.ensures

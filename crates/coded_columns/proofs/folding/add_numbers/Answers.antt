@@ -29,7 +29,7 @@ add_at-requires-clause-fits c =
     let lt : k < length places = omega (arith, c.requires.same, c.loop-k-test.true) in
     one-fits c.args.column.now.kind (length c.args.column.now.states) (take k slots) (map f (take k places)) c.loop-k.column (get_or slots k 0) z
     c.loop-k.invariant.holds (c.requires.below k 0 c.loop-k-test.true) c.loop-k.invariant.whole whole
-    (omega (arith, length-map (take k places) f, length-take-le k places (omega (arith, lt)), lt, c.requires.few))
+    (omega (arith, length-map (take k places) f, length-take-le k places (omega (arith, lt)), lt, c.requires.at_most))
 
 pub loop-k-preserved : goal.loop-k-preserved
 loop-k-preserved c =
@@ -46,9 +46,9 @@ loop-k-preserved c =
     let own : IsWhole (f (get_or places k 0)) = subst IsWhole c.number_at-number.ensures.value c.number_at-number.ensures.whole in
     let in_slots : k < length slots = c.loop-k-test.true in
     let lt : k < length places = omega (arith, c.requires.same, in_slots) in
-    let long : length (take k slots) ≡ length (map f (take k places)) =
+    let lengths : length (take k slots) ≡ length (map f (take k places)) =
     length-take-le k slots (omega (arith, in_slots)) ∙ sym (length-map (take k places) f ∙ length-take-le k places (omega (arith, lt))) in
-    let h = holds-more kind count (take k slots) (map f (take k places)) c.loop-k.column slot z c.loop-k.invariant.holds (c.requires.below k 0 in_slots) long in
+    let h = holds-more kind count (take k slots) (map f (take k places)) c.loop-k.column slot z c.loop-k.invariant.holds (c.requires.below k 0 in_slots) lengths in
     record {
       holds = subst (λ (ss : List ℕ). HoldsSlots kind count ss (map f (take (k + 1) places)) c.add_at.new.self) (sym (take_more slots k 0 in_slots))
           (subst (λ (ns : List ℤ). HoldsSlots kind count (take k slots ++ slot ∷ []) ns c.add_at.new.self) (ap (λ (w : ℤ). map f (take k places) ++ w ∷ []) is ∙ sym (map-next f places k lt))

@@ -23,7 +23,7 @@ loop-agg-preserved c =
     let is = c.in_ok-push.ensures.items in
     let h = c.in_ok-fold_agg.ensures.states in
     record {
-      long = subst (All (λ (c : Column). length c.states ≡ count)) (sym is) (All-push (λ (c : Column). length c.states ≡ count) columns column c.loop-agg.invariant.long h.count_is);
+      lengths = subst (All (λ (c : Column). length c.states ≡ count)) (sym is) (All-push (λ (c : Column). length c.states ≡ count) columns column c.loop-agg.invariant.lengths h.count_is);
       states = λ slot lt. subst (λ (cs : List Column). row_at cs slot ≡ states_of (take (i + 1) aggs) (in_slot slot slots rows)) (sym is)
           (states-push aggs i _ columns column slot slots rows count c.loop-agg-test.true (search rules) lt h (c.loop-agg.invariant.states slot lt));
       fits = λ slot lt. subst (λ (cs : List Column). RowFits (row_at cs slot) (length (in_slot slot slots rows))) (sym is)

@@ -10,7 +10,7 @@ use Rattle.coded_columns.proofs.folding.fold_slots.Given as goal
 
 abbrev pub invariant-loop-agg : goal.invariant-loop-agg
 invariant-loop-agg l = record {
-  long : All (λ c. length c.states ≡ l.count) l.columns.items;
+  lengths : All (λ c. length c.states ≡ l.count) l.columns.items;
   states : (slot : ℕ) → slot < l.count → row_at l.columns.items slot ≡ states_of (take l.agg-index l.aggs) (in_slot slot l.slots (rows_at (table_of l.segment).columns l.places));
   fits : (slot : ℕ) → slot < l.count → RowFits (row_at l.columns.items slot) (length (in_slot slot l.slots (rows_at (table_of l.segment).columns l.places)));
 }

@@ -18,13 +18,13 @@ returns-then-len-most-clause-places c =
 pub returns-then-len-most-clause-ok : goal.returns-then-len-most-clause-ok
 returns-then-len-most-clause-ok c = none-added c.args.query.now (table_of c.args.segment.now).columns (λ at. all_let at c.args.row_filters.now) c.args.done c.args.table.now c.requires.table
 
-pub add_some-requires-clause-few : goal.add_some-requires-clause-few
-add_some-requires-clause-few c =
+pub add_some-requires-clause-at_most : goal.add_some-requires-clause-at_most
+add_some-requires-clause-at_most c =
     let holds : ℕ → Bool = λ at. all_let at c.args.row_filters.now in
     let n : ℕ = c.args.block.from + c.args.block.length - c.args.done in
     let is : c.as_slice.result.now ≡ passing holds c.args.done n = c.as_slice.ensures.value ∙ stitched holds c.args.done c.args.block.from c.args.block.length c.args.places.now.items c.push_block.new.places.items c.requires.done c.requires.places c.in_ok-push_block.ensures in
-    let few : length c.as_slice.result.now ≤ n = subst (λ (l : List ℕ). length l ≤ n) (sym is) (passing-few holds c.args.done n) in
-    omega (arith, few, c.requires.within)
+    let at_most : length c.as_slice.result.now ≤ n = subst (λ (l : List ℕ). length l ≤ n) (sym is) (passing-few holds c.args.done n) in
+    omega (arith, at_most, c.requires.within)
 
 pub add_some-requires-clause-rows : goal.add_some-requires-clause-rows
 add_some-requires-clause-rows c =
@@ -39,8 +39,8 @@ add_some-requires-clause-fits c =
     let n : ℕ = c.args.block.from + c.args.block.length - c.args.done in
     let count : ℕ = c.args.segment.now.count in
     let is : c.as_slice.result.now ≡ passing holds c.args.done n = c.as_slice.ensures.value ∙ stitched holds c.args.done c.args.block.from c.args.block.length c.args.places.now.items c.push_block.new.places.items c.requires.done c.requires.places c.in_ok-push_block.ensures in
-    let few : length c.as_slice.result.now ≤ n = subst (λ (l : List ℕ). length l ≤ n) (sym is) (passing-few holds c.args.done n) in
-    at_most_more (groups_in c.args.table.now) (most_values - count + c.args.done) (most_values - length c.as_slice.result.now) (omega (arith, few, c.requires.within, c.requires.done, c.requires.coded.few)) c.requires.fits
+    let at_most : length c.as_slice.result.now ≤ n = subst (λ (l : List ℕ). length l ≤ n) (sym is) (passing-few holds c.args.done n) in
+    at_most_more (groups_in c.args.table.now) (most_values - count + c.args.done) (most_values - length c.as_slice.result.now) (omega (arith, at_most, c.requires.within, c.requires.done, c.requires.coded.at_most)) c.requires.fits
 
 pub returns-in-Err-clause-full : goal.returns-in-Err-clause-full
 returns-in-Err-clause-full c = λ bad.

@@ -45,11 +45,11 @@ loop-preserved c =
       adds = add-next c.args.query.now (table_of c.args.segment.now).columns holds c.loop.done c.in-Ok.next c.args.table.now c.loop.table c.add_block.new.table c.in-Ok.ensures.from c.loop.invariant.adds c.in-Ok.ensures.ok;
     }
 
-pub add_some-requires-clause-few : goal.add_some-requires-clause-few
-add_some-requires-clause-few c =
+pub add_some-requires-clause-at_most : goal.add_some-requires-clause-at_most
+add_some-requires-clause-at_most c =
     let n : ℕ = c.loop.from - c.loop.done in
-    let few : length c.as_slice.result.now ≤ n = subst (λ (l : List ℕ). length l ≤ n) (sym (c.as_slice.ensures.value ∙ c.loop.invariant.places)) (passing-few (λ at. all_let at c.args.row_filters.now) c.loop.done n) in
-    omega (arith, few, c.loop.invariant.within)
+    let at_most : length c.as_slice.result.now ≤ n = subst (λ (l : List ℕ). length l ≤ n) (sym (c.as_slice.ensures.value ∙ c.loop.invariant.places)) (passing-few (λ at. all_let at c.args.row_filters.now) c.loop.done n) in
+    omega (arith, at_most, c.loop.invariant.within)
 
 pub add_some-requires-clause-rows : goal.add_some-requires-clause-rows
 add_some-requires-clause-rows c =
@@ -61,8 +61,8 @@ pub add_some-requires-clause-fits : goal.add_some-requires-clause-fits
 add_some-requires-clause-fits c =
     let n : ℕ = c.loop.from - c.loop.done in
     let count : ℕ = c.args.segment.now.count in
-    let few : length c.as_slice.result.now ≤ n = subst (λ (l : List ℕ). length l ≤ n) (sym (c.as_slice.ensures.value ∙ c.loop.invariant.places)) (passing-few (λ at. all_let at c.args.row_filters.now) c.loop.done n) in
-    at_most_more (groups_in c.loop.table) ((most_values - count) + c.loop.done) (most_values - length c.as_slice.result.now) (omega (arith, few, c.loop.invariant.within, c.loop.invariant.done, c.requires.coded.few))
+    let at_most : length c.as_slice.result.now ≤ n = subst (λ (l : List ℕ). length l ≤ n) (sym (c.as_slice.ensures.value ∙ c.loop.invariant.places)) (passing-few (λ at. all_let at c.args.row_filters.now) c.loop.done n) in
+    at_most_more (groups_in c.loop.table) ((most_values - count) + c.loop.done) (most_values - length c.as_slice.result.now) (omega (arith, at_most, c.loop.invariant.within, c.loop.invariant.done, c.requires.coded.at_most))
     (c.loop.invariant.adds.fits (most_values - count) c.requires.fits)
 
 pub add_block-requires-clause-fits : goal.add_block-requires-clause-fits

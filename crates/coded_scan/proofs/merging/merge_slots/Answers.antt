@@ -70,10 +70,10 @@ merge_row-requires-clause-fits c =
     let many : length rows ≡ length places = length-map places (row_of columns) in
     let as_many : length slots ≡ length rows = c.requires.slots.count ∙ sym many in
     let fits : RowFits c.in_ok-row.row (length run) = subst (λ (s : List AggState). RowFits s (length run)) (sym c.in_ok-row.ensures) (c.requires.row_fits slot lt) in
-    let few : length run ≤ most_values = omega (arith, in_slot-few slot slots rows, many, c.requires.few) in
+    let at_most : length run ≤ most_values = omega (arith, in_slot-few slot slots rows, many, c.requires.at_most) in
     let room : HaveAtMost (most_values - length rows) (groups_in c.args.table.now) = subst (λ n. HaveAtMost (most_values - n) (groups_in c.args.table.now)) (sym many) c.requires.fits in
-    merged_within (groups_in c.loop-slot.table) c.in_ok-key.key c.in_ok-row.row (length run) few
-    (room-next q slots rows slot c.args.table.now c.loop-slot.table (omega (arith, many, c.requires.few)) room c.loop-slot.invariant) fits
+    merged_within (groups_in c.loop-slot.table) c.in_ok-key.key c.in_ok-row.row (length run) at_most
+    (room-next q slots rows slot c.args.table.now c.loop-slot.table (omega (arith, many, c.requires.at_most)) room c.loop-slot.invariant) fits
 
 pub returns-in-Err-clause-full : goal.returns-in-Err-clause-full
 returns-in-Err-clause-full c =

@@ -92,6 +92,6 @@ returns-clause-bytes g c =
     let now = seen g.S.Shelf c.loop-run.shelf in
     let none : drop i runs ≡ [] = drop_all i runs (omega (arith, c.loop-run-test.false)) in
     let done = pick_end place width c.count-values.result c.args.head.now.rows runs (drop i runs) first now c.loop-run.ids.items c.loop-run.invariant none in
-    let few = c.count-values.ensures.valid.few in
-    let small : width ≤ 20 = c.width_for-width.ensures.least.2 20 (omega arith) (omega (arith, few, c.count-values.ensures.count)) in
+    let at_most = c.count-values.ensures.valid.at_most in
+    let small : width ≤ 20 = c.width_for-width.ensures.least.2 20 (omega arith) (omega (arith, at_most, c.count-values.ensures.count)) in
     grows_runs place.file width place.offset 0 runs first.log now.log (omega (arith, small)) c.requires.apart done.log

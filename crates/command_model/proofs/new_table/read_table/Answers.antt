@@ -29,14 +29,14 @@ returns-clause-made g c =
     c.in_ok-schema_text.ensures.read
     (subst (λ held. IfSome held (λ files. settings_in c.in_ok-schema_text.schema c.args.settings.now files ≡ Ok (c.in_ok-settings_text.settings_text, c.in_ok-settings_text.settings))) c.in_ok-schema_text.ensures.reads.held c.in_ok-settings_text.ensures.read)
 
-pub returns-in_err-schema_text-clause-still : goal.returns-in_err-schema_text-clause-still
-returns-in_err-schema_text-clause-still g c = λ other.
-    c.in_err-schema_text.ensures.still (other_err c.in_err-schema_text.field-0.0 (not_read c.from_residual.result c.in_err-schema_text.field-0.0 c.from_residual.ensures.1 other))
+pub returns-in_err-schema_text-clause-unchanged : goal.returns-in_err-schema_text-clause-unchanged
+returns-in_err-schema_text-clause-unchanged g c = λ other.
+    c.in_err-schema_text.ensures.unchanged (other_err c.in_err-schema_text.field-0.0 (not_read c.from_residual.result c.in_err-schema_text.field-0.0 c.from_residual.ensures.1 other))
 
-pub returns-in_err-settings_text-clause-still : goal.returns-in_err-settings_text-clause-still
-returns-in_err-settings_text-clause-still g c = λ other.
-    c.in_err-settings_text.ensures.still (other_err c.in_err-settings_text.field-0.0 (not_read c.from_residual-in_err-settings_text.result c.in_err-settings_text.field-0.0 c.from_residual-in_err-settings_text.ensures.1 other))
-    ∙ c.in_ok-schema_text.ensures.still (λ e. cc)
+pub returns-in_err-settings_text-clause-unchanged : goal.returns-in_err-settings_text-clause-unchanged
+returns-in_err-settings_text-clause-unchanged g c = λ other.
+    c.in_err-settings_text.ensures.unchanged (other_err c.in_err-settings_text.field-0.0 (not_read c.from_residual-in_err-settings_text.result c.in_err-settings_text.field-0.0 c.from_residual-in_err-settings_text.ensures.1 other))
+    ∙ c.in_ok-schema_text.ensures.unchanged (λ e. cc)
 
 pub returns-in_err-settings_text-clause-schema_alone : goal.returns-in_err-settings_text-clause-schema_alone
 returns-in_err-settings_text-clause-schema_alone g c = λ wrong path e.

@@ -11,9 +11,9 @@ returns-in_err-text-clause-stops g c =
     let fields = c.args.table.now.schema.fields in
     handed_rows held fields c.args.csv.now _ c.from_residual.result c.in_err-text.field-0.0 c.from_residual.ensures.1 (rows_unread held fields c.args.csv.now _ c.in_err-text.field-0.0 c.in_err-text.ensures.stops)
 
-pub returns-in_err-text-clause-still : goal.returns-in_err-text-clause-still
-returns-in_err-text-clause-still g c = λ other.
-    c.in_err-text.ensures.still (other_err c.in_err-text.field-0.0 (not_read c.from_residual.result c.in_err-text.field-0.0 c.from_residual.ensures.1 other))
+pub returns-in_err-text-clause-unchanged : goal.returns-in_err-text-clause-unchanged
+returns-in_err-text-clause-unchanged g c = λ other.
+    c.in_err-text.ensures.unchanged (other_err c.in_err-text.field-0.0 (not_read c.from_residual.result c.in_err-text.field-0.0 c.from_residual.ensures.1 other))
 
 pub returns-clause-rows : goal.returns-clause-rows
 returns-clause-rows g c =

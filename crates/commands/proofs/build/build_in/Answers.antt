@@ -12,7 +12,7 @@ returns-in_err-columns g c = λ first place.
     let why = c.in_err-columns.field-0.0 in
     let rows = c.in_err-columns.ensures in
     ran_halted c.args.name.now c.args.csv.now (record { inputs = i; depot = first }) (record { inputs = j; depot = b }) c.from_residual.result why c.from_residual.ensures.1
-    (ran_rowless c.args.name.now c.args.csv.now c.requires.name i j first b c.args.table.now place rows.reads why (λ other. rows.still (other_err why other)) rows.stops)
+    (ran_rowless c.args.name.now c.args.csv.now c.requires.name i j first b c.args.table.now place rows.reads why (λ other. rows.unchanged (other_err why other)) rows.stops)
 
 pub returns : goal.returns
 returns g c = λ first place.
@@ -22,5 +22,5 @@ returns g c = λ first place.
     let d = seen g.D.Shelf c.publish.new.depot in
     let rows = c.in_ok-columns.ensures in
     let made = c.publish.ensures in
-    ran_published c.args.name.now c.args.csv.now c.requires.name i j first b c.args.table.now place rows.reads d (rows_of c.in_ok-columns.columns) (rows.still (λ e. cc)) made.reads_still made.writes rows.rows rows.fit rows.unicode
+    ran_published c.args.name.now c.args.csv.now c.requires.name i j first b c.args.table.now place rows.reads d (rows_of c.in_ok-columns.columns) (rows.unchanged (λ e. cc)) made.reads_still made.writes rows.rows rows.fit rows.unicode
     c.publish.result made.writes_still made.publishes

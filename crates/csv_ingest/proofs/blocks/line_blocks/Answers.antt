@@ -22,7 +22,7 @@ returns-in-Ok c =
     let same : fields_of c.in_ok-names.names ≡ names = ap fields_of (sym c.in-Ok.ensures.names) in
     let first = first-line text c.args.end c.requires.end in
     record {
-      blocks = record { header = h; few = search (rules, tests) };
+      blocks = record { header = h; at_most = search (rules, tests) };
       at_most = c.requires.at_most;
       ok = record {
         rows = rows_from 0 fields names (records_from default_config n st.StartRecord rest);
@@ -35,7 +35,7 @@ returns-in-Ok c =
         };
         is = ap (number_rows_in csv_limits) (c.in_ok-names.ensures n)
             ∙ ap (λ row. number_rows_in csv_limits (row ∷ records_from default_config n st.StartRecord rest)) same
-            ∙ below-header names (records_from default_config n st.StartRecord rest) fields h.few h.fields;
+            ∙ below-header names (records_from default_config n st.StartRecord rest) fields h.at_most h.fields;
       };
       err = tt;
     }

@@ -57,7 +57,7 @@ returns-then-not-branch-clause-ok c = λ rest r.
     let b = c.rows.invariant.2 rest r in
     let none = rw c.if-not-branch.true at (c.in_ok-next_record.ensures b.left b.reads) in
     subst (IsLastBlock fields header c.args.before c.args.room c.args.reader.now rest) (sym c.new-columns.ensures)
-    (record { few = c.rows-test.true; all = ends-all fields header c.args.before c.rows.i c.args.reader.now c.rows.reader rest (rows_in_columns c.rows.i c.rows.columns.items) b none })
+    (record { at_most = c.rows-test.true; all = ends-all fields header c.args.before c.rows.i c.args.reader.now c.rows.reader rest (rows_in_columns c.rows.i c.rows.columns.items) b none })
 
 pub returns-clause-ok : goal.returns-clause-ok
 returns-clause-ok c = λ rest r.

@@ -17,8 +17,8 @@ pub schema_columns-requires-clause-at_most : goal.schema_columns-requires-clause
 schema_columns-requires-clause-at_most c =
     let (rest, reads, within) = c.requires.left in
     let (after, reads_on, next) = rw c.if-not-branch.false at (c.in_ok-next_record.ensures rest reads) in
-    let few = cells-count c.args.reader.now rest (fields_of c.next_record.new.row) (records_left 0 c.next_record.new.reader after) (next 0) in
-    omega (arith, few, within)
+    let at_most = cells-count c.args.reader.now rest (fields_of c.next_record.new.row) (records_left 0 c.next_record.new.reader after) (next 0) in
+    omega (arith, at_most, within)
 
 pub returns-clause-ok : goal.returns-clause-ok
 returns-clause-ok c = ok-at c.schema_columns.result _ _ (λ rows so rest r.

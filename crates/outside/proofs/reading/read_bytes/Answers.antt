@@ -6,8 +6,8 @@ use Rattle.outside.proofs.reading.read_bytes.Goals as goal
 
 pub returns-clause-bytes : goal.returns-clause-bytes
 returns-clause-bytes g c =
-    let long : length c.read_into.new.into ≡ c.in_ok-bytes.bytes.len = omega (arith, c.read_into.auto.into, c.deref_mut.ensures.len) in
-    filled-bytes (g.S.Shelf.held c.args.shelf.now) c.args.name.now c.args.offset c.in_ok-read.read c.args.count c.in_ok-bytes.bytes.len c.read_into.new.into _ c.from_vec.result long c.in_ok-bytes.ensures (c.from_vec.ensures ∙ c.truncate.ensures.items) c.in_ok-read.ensures.front
+    let lengths : length c.read_into.new.into ≡ c.in_ok-bytes.bytes.len = omega (arith, c.read_into.auto.into, c.deref_mut.ensures.len) in
+    filled-bytes (g.S.Shelf.held c.args.shelf.now) c.args.name.now c.args.offset c.in_ok-read.read c.args.count c.in_ok-bytes.bytes.len c.read_into.new.into _ c.from_vec.result lengths c.in_ok-bytes.ensures (c.from_vec.ensures ∙ c.truncate.ensures.items) c.in_ok-read.ensures.front
 
 pub returns-clause-log : goal.returns-clause-log
 returns-clause-log g c =

@@ -29,9 +29,9 @@ returns-in-Ok-read_bytes-clause-log_of_told g c =
     let name = c.args.name.now in
     let held = g.S.Shelf.held c.args.shelf.now in
     let bytes = c.in-Ok-read_bytes.bytes in
-    let long = c.in-Ok.length in
+    let lengths = c.in-Ok.length in
     let before = g.S.Shelf.log c.length.new.self in
     let now = g.S.Shelf.log c.read_bytes.new.shelf in
-    let whole = whole-bytes held (g.S.Shelf.held c.length.new.self) name bytes long c.args.limit c.in-Ok.ensures.held c.in-Ok.ensures.length (omega arith) c.in-Ok-read_bytes.ensures.bytes in
-    LogsFilled-told held name bytes long c.args.limit (g.S.Shelf.log c.args.shelf.now) now c.in-Ok.ensures.length whole
-    (subst (λ first. LogsFilled name 0 (length bytes) long first now) c.in-Ok.ensures.log (LogsFilled-start name (length bytes) long before now c.in-Ok-read_bytes.ensures.log))
+    let whole = whole-bytes held (g.S.Shelf.held c.length.new.self) name bytes lengths c.args.limit c.in-Ok.ensures.held c.in-Ok.ensures.length (omega arith) c.in-Ok-read_bytes.ensures.bytes in
+    LogsFilled-told held name bytes lengths c.args.limit (g.S.Shelf.log c.args.shelf.now) now c.in-Ok.ensures.length whole
+    (subst (λ first. LogsFilled name 0 (length bytes) lengths first now) c.in-Ok.ensures.log (LogsFilled-start name (length bytes) lengths before now c.in-Ok-read_bytes.ensures.log))

@@ -12,7 +12,7 @@ pub returns-in-Ok : goal.returns-in-Ok
 returns-in-Ok g c =
     text_promise (command_of (map string_bytes c.args.words.now)) (world g.I.Shelf g.D.Shelf g.O.Sink g.N.Sink c.args.inputs.now c.args.depot.now c.args.out.now c.args.notes.now)
     (devices g.I.Shelf g.D.Shelf c.reply_to.new.inputs c.reply_to.new.depot) c.in-Ok.text c.give_text.result (heard g.O.Sink c.give_text.new.out) (heard g.N.Sink c.give_text.new.notes) c.in-Ok.ensures
-    (record { ends = c.give_text.ensures.status; done = c.give_text.ensures.done; cut = c.give_text.ensures.cut; prefix = c.give_text.ensures.prefix; later = c.give_text.ensures.later; still = c.give_text.ensures.still; noted = c.give_text.ensures.noted })
+    (record { ends = c.give_text.ensures.status; done = c.give_text.ensures.done; cut = c.give_text.ensures.cut; prefix = c.give_text.ensures.prefix; later = c.give_text.ensures.later; unchanged = c.give_text.ensures.unchanged; noted = c.give_text.ensures.noted })
 
 pub returns-in-Err-Refused : goal.returns-in-Err-Refused
 returns-in-Err-Refused g c =

@@ -4,8 +4,8 @@ use Rattle.segment_build.proofs.build.build_columns.Goals as goal
 
 pub overflow_cast-rows : goal.overflow_cast-rows
 overflow_cast-rows c =
-    let few = rows_fit c.args.table.now c.args.columns.now c.len-rows.result c.len-rows.ensures.each c.requires.rows c.len-rows.ensures.count in
-    omega (arith, few)
+    let at_most = rows_fit c.args.table.now c.args.columns.now c.len-rows.result c.len-rows.ensures.each c.requires.rows c.len-rows.ensures.count in
+    omega (arith, at_most)
 
 pub file_of-requires-clause-short : goal.file_of-requires-clause-short
 file_of-requires-clause-short c =

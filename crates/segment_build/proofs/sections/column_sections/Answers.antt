@@ -11,8 +11,8 @@ use Rattle.segment_build.proofs.sections.column_sections.Goals as goal
 pub columns-init : goal.columns-init
 columns-init c = made_none c.args.table.now (ordered c.args.table.now.settings.sorted (rows_of c.args.columns.now)) _ c.in_ok-sections.ensures
 
-pub push-requires-clause-few : goal.push-requires-clause-few
-push-requires-clause-few c =
+pub push-requires-clause-at_most : goal.push-requires-clause-at_most
+push-requires-clause-at_most c =
     let ids = c.in_ok-dictionary.ids.items in
     subst (λ (xs : List ℕ). length xs ≤ 1048576) (sym c.as_slice.ensures.value) (coded_few c.args.table.now c.args.columns.now c.columns.at c.in_ok-dictionary.dictionary ids c.requires.rows.columns c.in_ok-dictionary.ensures)
 

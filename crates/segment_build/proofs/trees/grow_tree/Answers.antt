@@ -28,8 +28,8 @@ build_merged-requires-clause-rows c =
       };
       dims = docs.dims;
       kinds = docs.kinds;
-      few = docs.few;
-      light = docs.light;
+      at_most = docs.at_most;
+      weight_fits = docs.weight_fits;
       no_star = subst (HaveNoStar tree.shape.dims) (sym (docs_are table.settings.sorted (rows_of c.args.columns.now) tree c.in_ok-docs.docs.docs docs.docs)) (no_star_merged tree.shape.dims (documents os tree) (tree_no_star table.schema.fields os tree valid (rows_limit table c.args.columns.now c.requires.rows.columns)));
     }
 
@@ -47,7 +47,7 @@ returns-in-Ok-clause-fits c =
     let tree = c.args.tree.now in
     let os = in_rows c.args.table.now c.args.columns.now in
     let same = same_tree tree.shape c.in_ok-docs.docs.docs (documents os tree) (docs_are c.args.table.now.settings.sorted (rows_of c.args.columns.now) c.args.tree.now c.in_ok-docs.docs.docs c.in_ok-docs.ensures.docs) in
-    record { few = subst (λ t. tree_bytes merged_rows (doc_width tree.shape) t ≤ most_bytes) same c.in-Ok.ensures.tree.fits }
+    record { at_most = subst (λ t. tree_bytes merged_rows (doc_width tree.shape) t ≤ most_bytes) same c.in-Ok.ensures.tree.fits }
 
 pub returns-in-Err-clause-too_large : goal.returns-in-Err-clause-too_large
 returns-in-Err-clause-too_large c is fits =
@@ -55,4 +55,4 @@ returns-in-Err-clause-too_large c is fits =
     let os = in_rows c.args.table.now c.args.columns.now in
     let same = same_tree tree.shape c.in_ok-docs.docs.docs (documents os tree) (docs_are c.args.table.now.settings.sorted (rows_of c.args.columns.now) c.args.tree.now c.in_ok-docs.docs.docs c.in_ok-docs.ensures.docs) in
     let over = subst (λ t. most_bytes < tree_bytes merged_rows (doc_width tree.shape) t) same (c.in-Err.ensures.too_large is) in
-    omega (arith, over, fits.few)
+    omega (arith, over, fits.at_most)

@@ -10,8 +10,8 @@ use Rattle.segment_build.proofs.Built.{tree_made}
 use Rattle.segment_build.proofs.Growing.{fits_more, grown_more}
 use Rattle.segment_build.proofs.trees.grow_trees.Goals as goal
 
-pub push_tree-requires-clause-few : goal.push_tree-requires-clause-few
-push_tree-requires-clause-few c =
+pub push_tree-requires-clause-at_most : goal.push_tree-requires-clause-at_most
+push_tree-requires-clause-at_most c =
     let table = c.args.table.now in
     let t = c.args.columns.now in
     let os = in_rows table t in

@@ -57,17 +57,17 @@ returns-clause-docs c =
     let rows = projected tree.shape.kinds (records.rows_of (row_count c.in_ok-dims.dims) c.in_ok-dims.dims c.in_ok-metrics.metrics) in
     c.in_ok-docs.ensures.table.docs_are ∙ ap (merged_docs merged_rows) (docs_made os tree c.in_ok-dims.dims c.in_ok-metrics.metrics rows c.requires.tree.some_split dims_are metrics_are refl)
 
-pub returns-clause-light : goal.returns-clause-light
-returns-clause-light c =
+pub returns-clause-weight_fits : goal.returns-clause-weight_fits
+returns-clause-weight_fits c =
     let table = c.args.table.now in
     let t = c.args.columns.now in
     let tree = c.args.tree.now in
     let os = rows_of t in
     let dims_are : c.in_ok-dims.dims ≡ map (ids_of os) tree.split = c.in_ok-dims.ensures ∙ ap (map (ids_of os)) c.as_slice.ensures in
-    omega (arith, c.in_ok-docs.ensures.table.light, dims_count os tree.split c.in_ok-dims.dims c.requires.tree.some_split dims_are, rows_most table.schema.fields t c.requires.rows.columns)
+    omega (arith, c.in_ok-docs.ensures.table.weight_fits, dims_count os tree.split c.in_ok-dims.dims c.requires.tree.some_split dims_are, rows_most table.schema.fields t c.requires.rows.columns)
 
-pub returns-clause-few : goal.returns-clause-few
-returns-clause-few c =
+pub returns-clause-at_most : goal.returns-clause-at_most
+returns-clause-at_most c =
     let table = c.args.table.now in
     let t = c.args.columns.now in
     let tree = c.args.tree.now in
@@ -75,8 +75,8 @@ returns-clause-few c =
     let dims_are : c.in_ok-dims.dims ≡ map (ids_of os) tree.split = c.in_ok-dims.ensures ∙ ap (map (ids_of os)) c.as_slice.ensures in
     omega (arith, c.in_ok-docs.ensures.count, dims_count os tree.split c.in_ok-dims.dims c.requires.tree.some_split dims_are, rows_most table.schema.fields t c.requires.rows.columns)
 
-pub project_merged-requires-clause-few : goal.project_merged-requires-clause-few
-project_merged-requires-clause-few c =
+pub project_merged-requires-clause-at_most : goal.project_merged-requires-clause-at_most
+project_merged-requires-clause-at_most c =
     let table = c.args.table.now in
     let t = c.args.columns.now in
     let tree = c.args.tree.now in

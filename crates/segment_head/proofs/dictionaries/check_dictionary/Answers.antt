@@ -7,7 +7,7 @@ pub returns-then-count-rows-clause-bad : goal.returns-then-count-rows-clause-bad
 returns-then-count-rows-clause-bad c = λ _ d is.
     let ours : Distinct = c.in-Ok.dictionary in
     let same : ours ≡ d = spells_one ours d c.in-Ok.ensures.valid is.stands (c.in-Ok.ensures.kind ∙ sym is.kind_is) (sym c.in-Ok.ensures.ok ∙ is.spelled) in
-    omega (arith, is.few, c.count-count.ensures.count, ap (λ x. length x.values) same, c.if-count-rows.true)
+    omega (arith, is.at_most, c.count-count.ensures.count, ap (λ x. length x.values) same, c.if-count-rows.true)
 
 pub returns-then-rows-gt0-clause-bad : goal.returns-then-rows-gt0-clause-bad
 returns-then-rows-gt0-clause-bad c = λ _ d is.

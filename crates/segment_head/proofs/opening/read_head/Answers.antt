@@ -110,7 +110,7 @@ check_head-requires-clause-short g c =
     omega (arith, is.whole, is.small)
 
 pub check_head-requires-clause-rows : goal.check_head-requires-clause-rows
-check_head-requires-clause-rows g c = few_rows c.args.table.now c.in-Ok.read.front.rows c.in-Ok.ensures.front.front_is.few
+check_head-requires-clause-rows g c = few_rows c.args.table.now c.in-Ok.read.front.rows c.in-Ok.ensures.front.front_is.at_most
 
 pub check_head-requires-clause-name : goal.check_head-requires-clause-name
 check_head-requires-clause-name g c = few_bytes c.args.name.now c.requires.name

@@ -78,16 +78,16 @@ check_tree-requires c =
     let tree = c.index-settings-tree.result in
     let lt : c.loop-tree.tree < length table.settings.trees = omega (arith, c.loop-tree-test.true, ap length c.as_slice-settings.ensures) in
     let at : slice_get table.settings.trees c.loop-tree.tree ≡ Some tree = slice_get-get_or table.settings.trees c.loop-tree.tree tree lt ∙ ap Some (sym (c.index-settings-tree.is ∙ ap (λ xs. get_or xs c.loop-tree.tree tree) c.as_slice-settings.ensures)) in
-    let few = few_dims table c.loop-tree.tree tree c.requires.valid at in
+    let at_most = few_dims table c.loop-tree.tree tree c.requires.valid at in
     let valid = valid_at table.schema.fields table.settings.trees c.loop-tree.tree tree c.requires.valid.settings.trees_valid at in
     record {
-      few_dims = few.0;
-      few_kinds = few.1;
+      few_dims = at_most.0;
+      few_kinds = at_most.1;
       counts_are = ap length c.deref.ensures.value ∙ ap length c.in_ok-counts.ensures ∙ length-map c.as_slice.result.now (count_at c.args.dictionaries.now) ∙ ap length c.as_slice.ensures ∙ sym valid.has_dims;
     }
 
 pub overflow_add-first : goal.overflow_add-first
-overflow_add-first c = omega (arith, c.len-first.ensures, c.requires.valid.schema.few)
+overflow_add-first c = omega (arith, c.len-first.ensures, c.requires.valid.schema.at_most)
 
 pub bounds-sections-first : goal.bounds-sections-first
 bounds-sections-first c = omega (arith, c.len-first.ensures, c.requires.each, c.loop-tree-test.true, ap length c.as_slice-settings.ensures)

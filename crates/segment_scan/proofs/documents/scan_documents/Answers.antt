@@ -39,7 +39,7 @@ add_coded-requires-clause-coded g c =
     let docs : List ℕ = c.args.docs.now in
     let ids : List (Option (List ℕ)) = c.in-Ok.ids.items in
     let segment : SegmentColumns = record { columns = c.as_slice.result; count = c.len-2.result } in
-    let long : length segment.columns.now ≡ length named = ap length c.as_slice.ensures.value ∙ c.in_ok-columns.ensures.count ∙ ap length c.as_slice-ids.ensures.value ∙ c.in-Ok.ensures.count in
+    let lengths : length segment.columns.now ≡ length named = ap length c.as_slice.ensures.value ∙ c.in_ok-columns.ensures.count ∙ ap length c.as_slice-ids.ensures.value ∙ c.in-Ok.ensures.count in
     let within : (column : ℕ) → column < length named → column < length c.as_slice-ids.result.now = λ column lt. omega (arith, lt, ap length c.as_slice-ids.ensures.value, c.in-Ok.ensures.count) in
     let of : (column : ℕ) → column < length named → IsCodedOf head column (get_or ids column None) (get_or segment.columns.now column None) = λ column lt.
     subst (λ (l : List (Option (List ℕ))). IsCodedOf head column (get_or l column None) (get_or segment.columns.now column None)) c.as_slice-ids.ensures.value
@@ -47,8 +47,8 @@ add_coded-requires-clause-coded g c =
     (c.in_ok-columns.ensures.each column (within column lt))) in
     let picked : (column : ℕ) → column < length named → IsPicked held head column docs (get_or named column false) (get_or ids column None) = λ column lt.
     subst (λ (l : List ℕ). IsPicked held head column l (get_or named column false) (get_or ids column None)) c.runs-runs.ensures.docs (c.in-Ok.ensures.ids column lt) in
-    let few : length docs ≤ head.rows = docs_few docs head.rows c.runs-runs.ensures.ascends c.requires.within in
-    docs-coded held head named docs ids segment c.len-2.ensures (omega (arith, few, c.requires.few_rows)) c.requires.within long picked of
+    let at_most : length docs ≤ head.rows = docs_few docs head.rows c.runs-runs.ensures.ascends c.requires.within in
+    docs-coded held head named docs ids segment c.len-2.ensures (omega (arith, at_most, c.requires.few_rows)) c.requires.within lengths picked of
 
 pub add_coded-requires-clause-fits : goal.add_coded-requires-clause-fits
 add_coded-requires-clause-fits g c =
@@ -67,7 +67,7 @@ returns-in-Ok-add_coded-clause-ok g c =
     let choices = c.args.choices.now in
     let ids : List (Option (List ℕ)) = c.in-Ok.ids.items in
     let segment : SegmentColumns = record { columns = c.as_slice.result; count = c.len-2.result } in
-    let long : length segment.columns.now ≡ length named = ap length c.as_slice.ensures.value ∙ c.in_ok-columns.ensures.count ∙ ap length c.as_slice-ids.ensures.value ∙ c.in-Ok.ensures.count in
+    let lengths : length segment.columns.now ≡ length named = ap length c.as_slice.ensures.value ∙ c.in_ok-columns.ensures.count ∙ ap length c.as_slice-ids.ensures.value ∙ c.in-Ok.ensures.count in
     let within : (column : ℕ) → column < length named → column < length c.as_slice-ids.result.now = λ column lt. omega (arith, lt, ap length c.as_slice-ids.ensures.value, c.in-Ok.ensures.count) in
     let of : (column : ℕ) → column < length named → IsCodedOf head column (get_or ids column None) (get_or segment.columns.now column None) = λ column lt.
     subst (λ (l : List (Option (List ℕ))). IsCodedOf head column (get_or l column None) (get_or segment.columns.now column None)) c.as_slice-ids.ensures.value
@@ -75,12 +75,12 @@ returns-in-Ok-add_coded-clause-ok g c =
     (c.in_ok-columns.ensures.each column (within column lt))) in
     let picked : (column : ℕ) → column < length named → IsPicked held head column docs (get_or named column false) (get_or ids column None) = λ column lt.
     subst (λ (l : List ℕ). IsPicked held head column l (get_or named column false) (get_or ids column None)) c.runs-runs.ensures.docs (c.in-Ok.ensures.ids column lt) in
-    let few : length docs ≤ head.rows = docs_few docs head.rows c.runs-runs.ensures.ascends c.requires.within in
+    let at_most : length docs ≤ head.rows = docs_few docs head.rows c.runs-runs.ensures.ascends c.requires.within in
     let rows = selected (rest_of query choices) (rows_of (table_of segment)) in
     record {
       rows = rows;
       adds = adds_as_more query c.len-2.result (length docs) rows c.args.groups.now c.add_coded.new.table (omega (arith, c.len-2.ensures)) c.in-Ok-add_coded.ensures.ok;
-      told = docs-read held head named docs ids segment c.len-2.ensures (omega (arith, few, c.requires.few_rows)) c.requires.within long picked of query choices;
+      told = docs-read held head named docs ids segment c.len-2.ensures (omega (arith, at_most, c.requires.few_rows)) c.requires.within lengths picked of query choices;
     }
 
 pub returns-in-Err-TooManyGroups-clause-full : goal.returns-in-Err-TooManyGroups-clause-full
@@ -93,7 +93,7 @@ returns-in-Err-TooManyGroups-clause-full g c = λ bad.
     let choices = c.args.choices.now in
     let ids : List (Option (List ℕ)) = c.in-Ok.ids.items in
     let segment : SegmentColumns = record { columns = c.as_slice.result; count = c.len-2.result } in
-    let long : length segment.columns.now ≡ length named = ap length c.as_slice.ensures.value ∙ c.in_ok-columns.ensures.count ∙ ap length c.as_slice-ids.ensures.value ∙ c.in-Ok.ensures.count in
+    let lengths : length segment.columns.now ≡ length named = ap length c.as_slice.ensures.value ∙ c.in_ok-columns.ensures.count ∙ ap length c.as_slice-ids.ensures.value ∙ c.in-Ok.ensures.count in
     let within : (column : ℕ) → column < length named → column < length c.as_slice-ids.result.now = λ column lt. omega (arith, lt, ap length c.as_slice-ids.ensures.value, c.in-Ok.ensures.count) in
     let of : (column : ℕ) → column < length named → IsCodedOf head column (get_or ids column None) (get_or segment.columns.now column None) = λ column lt.
     subst (λ (l : List (Option (List ℕ))). IsCodedOf head column (get_or l column None) (get_or segment.columns.now column None)) c.as_slice-ids.ensures.value
@@ -101,9 +101,9 @@ returns-in-Err-TooManyGroups-clause-full g c = λ bad.
     (c.in_ok-columns.ensures.each column (within column lt))) in
     let picked : (column : ℕ) → column < length named → IsPicked held head column docs (get_or named column false) (get_or ids column None) = λ column lt.
     subst (λ (l : List ℕ). IsPicked held head column l (get_or named column false) (get_or ids column None)) c.runs-runs.ensures.docs (c.in-Ok.ensures.ids column lt) in
-    let few : length docs ≤ head.rows = docs_few docs head.rows c.runs-runs.ensures.ascends c.requires.within in
+    let at_most : length docs ≤ head.rows = docs_few docs head.rows c.runs-runs.ensures.ascends c.requires.within in
     docs-overfull held query choices head named docs (selected (rest_of query choices) (rows_of (table_of segment))) c.args.groups.now
-    (docs-read held head named docs ids segment c.len-2.ensures (omega (arith, few, c.requires.few_rows)) c.requires.within long picked of query choices)
+    (docs-read held head named docs ids segment c.len-2.ensures (omega (arith, at_most, c.requires.few_rows)) c.requires.within lengths picked of query choices)
     (c.add_coded.ensures.full (c.in-Err-TooManyGroups.is ∙ ap Err c.in-Err-TooManyGroups.field-0-is))
 
 pub returns-in-Err-clause-log_of_fault : goal.returns-in-Err-clause-log_of_fault

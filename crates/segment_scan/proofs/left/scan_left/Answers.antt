@@ -77,7 +77,7 @@ scan_part-requires-clause-fits g c =
     let sure : List ℕ = c.in_ok-sure.sure in
     let parts : AreParts docs unsure check sure = record { checks = c.in_ok-check.ensures; sures = c.in_ok-sure.ensures } in
     let f : PartsFit head.rows docs check sure = parts_fit docs unsure check sure head.rows c.requires.ascend c.requires.left.within parts in
-    at_most_more (groups_in c.args.groups.now) (most_values - head.rows) (most_values - length check) (omega (arith, f.count, f.few)) c.requires.fits
+    at_most_more (groups_in c.args.groups.now) (most_values - head.rows) (most_values - length check) (omega (arith, f.count, f.at_most)) c.requires.fits
 
 pub scan_part-requires-2-clause-within : goal.scan_part-requires-2-clause-within
 scan_part-requires-2-clause-within g c =
@@ -105,7 +105,7 @@ scan_part-requires-2-clause-fits g c =
     let sure : List ℕ = c.in_ok-sure.sure in
     let parts : AreParts docs unsure check sure = record { checks = c.in_ok-check.ensures; sures = c.in_ok-sure.ensures } in
     let f : PartsFit head.rows docs check sure = parts_fit docs unsure check sure head.rows c.requires.ascend c.requires.left.within parts in
-    at_most_more (groups_in c.scan_part.new.groups) (most_values - head.rows + length check) (most_values - length sure) (omega (arith, f.count, f.few, c.requires.of_table.few, c.requires.of_table.has.rows_are))
+    at_most_more (groups_in c.scan_part.new.groups) (most_values - head.rows + length check) (most_values - length sure) (omega (arith, f.count, f.at_most, c.requires.of_table.at_most, c.requires.of_table.has.rows_are))
     (c.in-Ok.ensures.ok.adds.fits (most_values - head.rows) c.requires.fits)
 
 pub returns-in-Err-clause-full : goal.returns-in-Err-clause-full
@@ -157,7 +157,7 @@ overflow_cast-result g c =
     let sure : List ℕ = c.in_ok-sure.sure in
     let parts : AreParts docs unsure check sure = record { checks = c.in_ok-check.ensures; sures = c.in_ok-sure.ensures } in
     let f : PartsFit head.rows docs check sure = parts_fit docs unsure check sure head.rows c.requires.ascend c.requires.left.within parts in
-    omega (arith, c.len.ensures, f.few, c.requires.of_table.few, c.requires.of_table.has.rows_are)
+    omega (arith, c.len.ensures, f.at_most, c.requires.of_table.at_most, c.requires.of_table.has.rows_are)
 
 pub returns-in-Ok-scan_part-clause-count : goal.returns-in-Ok-scan_part-clause-count
 returns-in-Ok-scan_part-clause-count g c =
@@ -171,7 +171,7 @@ returns-in-Ok-scan_part-clause-count g c =
     let sure : List ℕ = c.in_ok-sure.sure in
     let parts : AreParts docs unsure check sure = record { checks = c.in_ok-check.ensures; sures = c.in_ok-sure.ensures } in
     let f : PartsFit head.rows docs check sure = parts_fit docs unsure check sure head.rows c.requires.ascend c.requires.left.within parts in
-    subst (AreDocs query table held head) (sym c.len.ensures) (left_docs c.image_law.ensures c.index_law.ensures query table head c.requires.valid c.requires.of_table c.requires.loaded docs held c.requires.left f.few)
+    subst (AreDocs query table held head) (sym c.len.ensures) (left_docs c.image_law.ensures c.index_law.ensures query table head c.requires.valid c.requires.of_table c.requires.loaded docs held c.requires.left f.at_most)
 
 pub returns-in-Ok-scan_part-clause-ok : goal.returns-in-Ok-scan_part-clause-ok
 returns-in-Ok-scan_part-clause-ok g c =
@@ -189,7 +189,7 @@ returns-in-Ok-scan_part-clause-ok g c =
     let same : g.S.Shelf.held c.scan_part.new.shelf ≡ held = c.in-Ok.ensures.only_reads.held in
     let first : AddsDocs query (choices_for query table head) held head (names_in (rest_for query table head) table) check c.args.groups.now c.scan_part.new.groups =
     subst (λ cs. AddsDocs query cs held head (names_in (rest_of query cs) table) check c.args.groups.now c.scan_part.new.groups) c.requires.planned c.in-Ok.ensures.ok in
-    left_image c.image_law.ensures c.index_law.ensures query table head c.requires.valid c.requires.of_table c.requires.loaded docs held unsure check sure c.requires.left c.requires.unsure parts f.few f.count c.args.groups.now c.scan_part.new.groups c.scan_part-2.new.groups first
+    left_image c.image_law.ensures c.index_law.ensures query table head c.requires.valid c.requires.of_table c.requires.loaded docs held unsure check sure c.requires.left c.requires.unsure parts f.at_most f.count c.args.groups.now c.scan_part.new.groups c.scan_part-2.new.groups first
     (subst (λ cs. AddsDocs query cs held head (names_in (rest_of query cs) table) sure c.scan_part.new.groups c.scan_part-2.new.groups) served
     (subst (λ h. AddsDocs query c.as_slice-served.result.now h head (names_in (rest_of query c.as_slice-served.result.now) table) sure c.scan_part.new.groups c.scan_part-2.new.groups) same c.in-Ok-scan_part.ensures.ok))
 

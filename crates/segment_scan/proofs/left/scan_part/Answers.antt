@@ -17,8 +17,8 @@ returns-in_err-named-clause-log_of_fault g c =
     let names = names_in (rest_of c.args.query.now c.args.choices.now) c.args.table.now in
     err_is c.from_residual.result (LogsDocsPartly c.args.head.now names c.args.docs.now log log) (inl refl)
 
-pub scan_documents-requires-clause-few : goal.scan_documents-requires-clause-few
-scan_documents-requires-clause-few g c =
+pub scan_documents-requires-clause-at_most : goal.scan_documents-requires-clause-at_most
+scan_documents-requires-clause-at_most g c =
     let query = c.args.query.now in
     let table = c.args.table.now in
     let choices = c.args.choices.now in

@@ -11,17 +11,17 @@ use Rattle.segment_scan.proofs.SegmentLemmas.{adds_whole, bad_whole, logs_names,
 use Rattle.segment_scan.proofs.whole.scan_whole.Goals as goal
 
 pub named_columns-requires : goal.named_columns-requires
-named_columns-requires g c = let few = c.requires.valid.schema.few in omega (arith, few, c.len.ensures)
+named_columns-requires g c = let at_most = c.requires.valid.schema.at_most in omega (arith, at_most, c.len.ensures)
 
-pub scan_columns-requires-clause-few : goal.scan_columns-requires-clause-few
-scan_columns-requires-clause-few g c =
+pub scan_columns-requires-clause-at_most : goal.scan_columns-requires-clause-at_most
+scan_columns-requires-clause-at_most g c =
     let named : List Bool = c.as_slice-named.result.now in
     let is : named ≡ names_in c.args.query.now c.args.table.now =
     marks_are c.args.query.now c.args.table.now named c.len.result c.len.ensures (ap length c.as_slice-named.ensures.value ∙ c.in_ok-named.ensures.count) (λ column lt. ap (λ (l : List Bool). get_or l column false) c.as_slice-named.ensures.value ∙ c.in_ok-named.ensures.each column lt) in
     marks_few c.args.query.now c.args.table.now named is c.requires.valid
 
 pub scan_columns-requires-clause-few_rows : goal.scan_columns-requires-clause-few_rows
-scan_columns-requires-clause-few_rows g c = let few = c.requires.of_table.few in let rows = c.requires.of_table.has.rows_are in omega (arith, few, rows)
+scan_columns-requires-clause-few_rows g c = let at_most = c.requires.of_table.at_most in let rows = c.requires.of_table.has.rows_are in omega (arith, at_most, rows)
 
 pub scan_columns-requires-clause-readable : goal.scan_columns-requires-clause-readable
 scan_columns-requires-clause-readable g c = λ column marked.

@@ -62,9 +62,9 @@ returns-in-Err-clause-bad g c is =
 
 pub merge_documents-requires-clause-fits : goal.merge_documents-requires-clause-fits
 merge_documents-requires-clause-fits g c =
-    let light = c.in-Ok.ensures.selected.selected.may.light in
+    let weight_fits = c.in-Ok.ensures.selected.selected.may.weight_fits in
     at_most_more (groups_in c.args.groups.now) (most_values - c.args.rows)
-    (most_values - weights row_weight c.in-Ok.selected.docs) (omega (arith, light)) c.requires.fits
+    (most_values - weights row_weight c.in-Ok.selected.docs) (omega (arith, weight_fits)) c.requires.fits
 
 pub returns-in-Ok-merge_documents-clause-count : goal.returns-in-Ok-merge_documents-clause-count
 returns-in-Ok-merge_documents-clause-count g c =
@@ -82,11 +82,11 @@ returns-in-Ok-merge_documents-clause-ok g c =
     ∙ c.in_ok-picks-2.ensures ∙ ap coalesced c.in_ok-picks.ensures in
     let many = steps.reads_many c.args.tree.now c.args.task.now c.requires.tree
     c.walkable_law.ensures.within c.coalesced_law.ensures.read c.as_slice.result.now counted in
-    let few : read_of (picks_of c.args.tree.now c.args.task.now) ≤ c.args.rows =
+    let at_most : read_of (picks_of c.args.tree.now c.args.task.now) ≤ c.args.rows =
     omega (arith, many, c.in-Some.ensures.0, c.in-Some.ensures.1) in
     steps.answers c.args.tree.now c.args.task.now c.args.asked.now c.args.rows
     (g.S.Shelf.held c.args.shelf.now) c.as_slice-2.result.now reads c.in-Ok.selected
-    c.in-Ok.ensures.selected c.args.groups.now c.merge_documents.new.groups few
+    c.in-Ok.ensures.selected c.args.groups.now c.merge_documents.new.groups at_most
     c.in-Ok-merge_documents.ensures.ok
 
 pub returns-in-Err-TooManyGroups-clause-full : goal.returns-in-Err-TooManyGroups-clause-full

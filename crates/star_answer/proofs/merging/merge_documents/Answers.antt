@@ -8,13 +8,13 @@ use Rattle.scan_engine.proofs.AddLemmas.{at_most_more}
 use Rattle.star_answer.proofs.MergeSteps as steps
 use Rattle.star_answer.proofs.merging.merge_documents.Goals as goal
 
-pub merge_last-requires-clause-few : goal.merge_last-requires-clause-few
-merge_last-requires-clause-few c =
+pub merge_last-requires-clause-at_most : goal.merge_last-requires-clause-at_most
+merge_last-requires-clause-at_most c =
     let docs = c.args.selected.docs in
     let merged = steps.merged_table c.args.selected c.reserve.new.self c.append_merged.new.self
     c.len-count.result _ _ c.len-count.ensures.count c.in_ok-reserve.ensures.ok
     c.in_ok-append_merged.ensures.ok in
-    omega (arith, merged.long, c.requires.few)
+    omega (arith, merged.lengths, c.requires.at_most)
 
 pub merge_last-requires-clause-keyed : goal.merge_last-requires-clause-keyed
 merge_last-requires-clause-keyed c =
@@ -25,15 +25,15 @@ merge_last-requires-clause-keyed c =
     steps.rest_keyed c.args.columns.now docs (drop c.len-count.result
     c.append_merged.new.self.docs) merged.rest c.requires.keyed
 
-pub merge_last-requires-clause-light : goal.merge_last-requires-clause-light
-merge_last-requires-clause-light c =
+pub merge_last-requires-clause-weight_fits : goal.merge_last-requires-clause-weight_fits
+merge_last-requires-clause-weight_fits c =
     let docs = c.args.selected.docs in
     let merged = steps.merged_table c.args.selected c.reserve.new.self c.append_merged.new.self
     c.len-count.result _ _ c.len-count.ensures.count c.in_ok-reserve.ensures.ok
     c.in_ok-append_merged.ensures.ok in
-    let light = steps.rest_light c.args.columns.now docs (drop c.len-count.result
+    let weight_fits = steps.rest_light c.args.columns.now docs (drop c.len-count.result
     c.append_merged.new.self.docs) merged.rest in
-    omega (arith, light, c.requires.light)
+    omega (arith, weight_fits, c.requires.weight_fits)
 
 pub merge_last-requires-clause-fits : goal.merge_last-requires-clause-fits
 merge_last-requires-clause-fits c =
@@ -41,11 +41,11 @@ merge_last-requires-clause-fits c =
     let merged = steps.merged_table c.args.selected c.reserve.new.self c.append_merged.new.self
     c.len-count.result _ _ c.len-count.ensures.count c.in_ok-reserve.ensures.ok
     c.in_ok-append_merged.ensures.ok in
-    let light = steps.rest_light c.args.columns.now docs (drop c.len-count.result
+    let weight_fits = steps.rest_light c.args.columns.now docs (drop c.len-count.result
     c.append_merged.new.self.docs) merged.rest in
     at_most_more (groups_in c.args.groups.now) (most_values - weights row_weight docs)
     (most_values - weights row_weight (drop c.len-count.result c.append_merged.new.self.docs))
-    (omega (arith, light)) c.requires.fits
+    (omega (arith, weight_fits)) c.requires.fits
 
 pub returns-clause-ok : goal.returns-clause-ok
 returns-clause-ok c =

@@ -60,8 +60,8 @@ merge_row-requires-clause-fits c =
     subst (λ (s : List AggState). RowFits s (row_weight e.1)) (sym c.in_ok-states.ensures)
     (steps.fits_stored e.1 (stored_at docs at c.len-at-end.ensures.stored lt)) in
     merged_within _ c.in_ok-key.key c.in_ok-states.states (row_weight e.1)
-    (steps.few_there docs from at le lt c.requires.light)
-    (steps.room_there docs from at le lt es c.args.groups.now c.loop-at.groups c.requires.light
+    (steps.few_there docs from at le lt c.requires.weight_fits)
+    (steps.room_there docs from at le lt es c.args.groups.now c.loop-at.groups c.requires.weight_fits
     c.requires.fits c.loop-at.invariant) fits
 
 pub returns-in-Err-clause-full : goal.returns-in-Err-clause-full

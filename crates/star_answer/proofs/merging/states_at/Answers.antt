@@ -11,7 +11,7 @@ use Rattle.star_answer.proofs.merging.states_at.Goals as goal
 pub overflow_cast-pair : goal.overflow_cast-pair
 overflow_cast-pair c =
     let same = ap length c.kinds.ensures in
-    omega (arith, same, c.requires.few, c.loop-pair-test.true, c.len-pair-end.ensures)
+    omega (arith, same, c.requires.at_most, c.loop-pair-test.true, c.len-pair-end.ensures)
 
 pub loop-pair-preserved : goal.loop-pair-preserved
 loop-pair-preserved c =
@@ -19,10 +19,10 @@ loop-pair-preserved c =
     let vs : List AggState = (doc_at t.docs c.args.at).1 in
     let i = c.loop-pair.pair in
     let kinds = (shape_at t.dims t.kinds t.docs c.args.at c.requires.shape c.requires.at).1 in
-    let long : length vs ≡ length t.kinds = sym (length-kinds_of vs) ∙ ap length kinds in
+    let lengths : length vs ≡ length t.kinds = sym (length-kinds_of vs) ∙ ap length kinds in
     let same = ap length c.kinds.ensures in
     let lt : i < length vs =
-    omega (arith, long, same, c.loop-pair-test.true, c.len-pair-end.ensures) in
+    omega (arith, lengths, same, c.loop-pair-test.true, c.len-pair-end.ensures) in
     let value : get_or vs i c.state.result ≡ c.state.result =
     get_or_from_slice_get vs i c.state.result c.state.result c.state.ensures in
     c.in_ok-push.ensures.ok ∙ (λ j. c.loop-pair.invariant j ++ sym value j ∷ [])
@@ -33,8 +33,8 @@ returns c =
     let t = c.args.selected.now in
     let vs : List AggState = (doc_at t.docs c.args.at).1 in
     let kinds = (shape_at t.dims t.kinds t.docs c.args.at c.requires.shape c.requires.at).1 in
-    let long : length vs ≡ length t.kinds = sym (length-kinds_of vs) ∙ ap length kinds in
+    let lengths : length vs ≡ length t.kinds = sym (length-kinds_of vs) ∙ ap length kinds in
     let same = ap length c.kinds.ensures in
     let end : c.loop-pair.pair ≡ length vs = omega
-    (arith, long, same, c.loop-pair-test.false, c.len-pair-end.ensures, c.loop-pair.auto.pair-end) in
+    (arith, lengths, same, c.loop-pair-test.false, c.len-pair-end.ensures, c.loop-pair.auto.pair-end) in
     c.loop-pair.invariant ∙ ap (λ n. take n vs) end ∙ take-length vs

@@ -40,13 +40,13 @@ pair_numbers-requires-clause-eligible g c =
     steps.picked_eligible c.args.query.now c.args.table.now.settings.trees c.args.tree
     c.at-setting.result.now c.requires.picked c.at-setting.ensures
 
-pub group_columns-requires-clause-few : goal.group_columns-requires-clause-few
-group_columns-requires-clause-few g c =
+pub group_columns-requires-clause-at_most : goal.group_columns-requires-clause-at_most
+group_columns-requires-clause-at_most g c =
     (steps.setting_valid c.args.table.now c.args.tree c.at-setting.result.now c.requires.valid
     c.at-setting.ensures).few_split
 
-pub pair_numbers-requires-clause-few : goal.pair_numbers-requires-clause-few
-pair_numbers-requires-clause-few g c =
+pub pair_numbers-requires-clause-at_most : goal.pair_numbers-requires-clause-at_most
+pair_numbers-requires-clause-at_most g c =
     (steps.setting_valid c.args.table.now c.args.tree c.at-setting.result.now c.requires.valid
     c.at-setting.ensures).few_pairs
 

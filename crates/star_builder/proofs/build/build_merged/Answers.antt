@@ -20,11 +20,11 @@ grow-requires c =
       bounded = rows.bounded;
       dims = rows.dims;
       some = omega (arith, c.len.ensures.count, c.if-len-eq0.false);
-      few = rows.few;
+      at_most = rows.at_most;
       proper = subst (Proper c.args.shape.now.dims 0) c.requires.merged
           (merged_proper c.args.shape.now.dims c.args.docs.kinds c.args.docs.docs
           (subst (λ k. HaveShape k c.args.docs.kinds c.args.docs.docs) rows.dims
-          c.len.ensures.shape) rows.no_star rows.light);
+          c.len.ensures.shape) rows.no_star rows.weight_fits);
     }
 
 pub returns-clause-tree : goal.returns-clause-tree

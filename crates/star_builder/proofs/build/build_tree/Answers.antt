@@ -25,11 +25,11 @@ grow-requires c =
       some = subst (λ (l : List Doc). 0 < length l) (sym c.in_ok-docs.ensures.docs_are)
           (merged_some merged_rows c.args.rows.docs
           (omega (arith, c.len.ensures.count, c.if-len-eq0.false)));
-      few = omega (arith, l, m, rows.few);
+      at_most = omega (arith, l, m, rows.at_most);
       proper = subst (Proper c.args.shape.now.dims 0) (sym c.in_ok-docs.ensures.docs_are)
           (merged_proper c.args.shape.now.dims c.args.rows.kinds c.args.rows.docs
           (subst (λ k. HaveShape k c.args.rows.kinds c.args.rows.docs) rows.dims
-          c.len.ensures.shape) rows.no_star rows.light);
+          c.len.ensures.shape) rows.no_star rows.weight_fits);
     }
 
 pub returns-clause-tree : goal.returns-clause-tree

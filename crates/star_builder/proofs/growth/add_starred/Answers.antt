@@ -8,8 +8,8 @@ use Rattle.state_columns.proofs.ListLemmas.{length-rekey, merged_fewer}
 use Rattle.star_builder.proofs.Steps.{length-range}
 use Rattle.star_builder.proofs.growth.add_starred.Goals as goal
 
-pub returns-clause-few : goal.returns-clause-few
-returns-clause-few c =
+pub returns-clause-at_most : goal.returns-clause-at_most
+returns-clause-at_most c =
     let docs = c.reserve.new.self.docs in
     let es = range c.args.start c.args.end docs in
     let same = c.in_ok-reserve.ensures.ok in

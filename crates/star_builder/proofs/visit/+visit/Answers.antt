@@ -3,9 +3,9 @@ use Rattle.std.proofs.Common.{subst, arith}
 use Rattle.agg_laws.specs.Rows.{merged_rows}
 use Rattle.star_tree.specs.Flat.{visited}
 use Rattle.star_file.specs.Rules.{widths, most_bytes}
-use Rattle.star_builder.specs.Building.{Written, bytes_of, kids_in, visit_node}
+use Rattle.star_builder.specs.Building.{Written, bytes_of, children_in, visit_node}
 use Rattle.star_builder.proofs.Visits.{leaf_visit, Split, After, facts, over_limit, below_dims}
-use Rattle.star_builder.proofs.Visits.{KidStep, kid_step, kids_done}
+use Rattle.star_builder.proofs.Visits.{ChildStep, child_step, children_done}
 use Rattle.star_builder.specs.Growing.{Becomes, written}
 use Rattle.star_builder.proofs.visit.+visit.Goals as goal
 
@@ -209,9 +209,9 @@ pub visit_children-visit-requires : goal.visit_children-visit-requires
 visit_children-visit-requires t c =
     let before : Written = written c.args.tree.now in
     let f : Written = written c.loop-i.tree in
-    let kids = kids_in c.args.shape.now c.args.level c.args.start c.args.end before in
-    let st : KidStep c.args.shape.now c.args.level c.args.first c.loop-i.i kids f = kid_step
-    c.args.shape.now c.args.level c.args.first c.loop-i.i kids f c.requires.levels (subst (λ n.
+    let subtrees = children_in c.args.shape.now c.args.level c.args.start c.args.end before in
+    let st : ChildStep c.args.shape.now c.args.level c.args.first c.loop-i.i subtrees f = child_step
+    c.args.shape.now c.args.level c.args.first c.loop-i.i subtrees f c.requires.levels (subst (λ n.
     c.loop-i.i < n) c.requires.all c.loop-i-test.true) c.loop-i.invariant.stand in (
       omega (arith, c.decreases, c.requires.levels),
       record {
@@ -227,13 +227,13 @@ pub visit_children-returns-in-Err : goal.visit_children-returns-in-Err
 visit_children-returns-in-Err t c =
     let before : Written = written c.args.tree.now in
     let f : Written = written c.loop-i.tree in
-    let kids = kids_in c.args.shape.now c.args.level c.args.start c.args.end before in
-    let st : KidStep c.args.shape.now c.args.level c.args.first c.loop-i.i kids f = kid_step
-    c.args.shape.now c.args.level c.args.first c.loop-i.i kids f c.requires.levels (subst (λ n.
+    let subtrees = children_in c.args.shape.now c.args.level c.args.start c.args.end before in
+    let st : ChildStep c.args.shape.now c.args.level c.args.first c.loop-i.i subtrees f = child_step
+    c.args.shape.now c.args.level c.args.first c.loop-i.i subtrees f c.requires.levels (subst (λ n.
     c.loop-i.i < n) c.requires.all c.loop-i-test.true) c.loop-i.invariant.stand in
     let more : bytes_of c.args.shape.now (visit_node c.args.shape.now (c.args.level + 1)
     (c.args.first + c.loop-i.i) f) ≤ bytes_of c.args.shape.now (visited merged_rows
-    (c.args.level + 1) c.args.first kids before) =
+    (c.args.level + 1) c.args.first subtrees before) =
     subst (λ (x : Written). bytes_of c.args.shape.now (visit_node c.args.shape.now (c.args.level +
     1) (c.args.first + c.loop-i.i) f) ≤ bytes_of c.args.shape.now x) c.loop-i.invariant.left
     (st.bytes c.args.shape.now) in
@@ -249,9 +249,9 @@ pub visit_children-loop-i-preserved : goal.visit_children-loop-i-preserved
 visit_children-loop-i-preserved t c =
     let before : Written = written c.args.tree.now in
     let f : Written = written c.loop-i.tree in
-    let kids = kids_in c.args.shape.now c.args.level c.args.start c.args.end before in
-    let st : KidStep c.args.shape.now c.args.level c.args.first c.loop-i.i kids f = kid_step
-    c.args.shape.now c.args.level c.args.first c.loop-i.i kids f c.requires.levels (subst (λ n.
+    let subtrees = children_in c.args.shape.now c.args.level c.args.start c.args.end before in
+    let st : ChildStep c.args.shape.now c.args.level c.args.first c.loop-i.i subtrees f = child_step
+    c.args.shape.now c.args.level c.args.first c.loop-i.i subtrees f c.requires.levels (subst (λ n.
     c.loop-i.i < n) c.requires.all c.loop-i-test.true) c.loop-i.invariant.stand in
     let h : Written = written c.visit.new.tree in
     let is : h ≡ visit_node c.args.shape.now (c.args.level + 1) (c.args.first + c.loop-i.i) f =
@@ -269,10 +269,10 @@ pub visit_children-returns : goal.visit_children-returns
 visit_children-returns t c =
     let before : Written = written c.args.tree.now in
     let f : Written = written c.loop-i.tree in
-    let kids = kids_in c.args.shape.now c.args.level c.args.start c.args.end before in
+    let subtrees = children_in c.args.shape.now c.args.level c.args.start c.args.end before in
     record {
-      ok = kids_done (c.args.level + 1) c.args.first c.loop-i.i kids f (visited merged_rows
-          (c.args.level + 1) c.args.first kids before) (subst (λ n. n ≤ c.loop-i.i)
+      ok = children_done (c.args.level + 1) c.args.first c.loop-i.i subtrees f (visited merged_rows
+          (c.args.level + 1) c.args.first subtrees before) (subst (λ n. n ≤ c.loop-i.i)
           c.requires.all c.loop-i-test.false) c.loop-i.invariant.left;
       fits = c.loop-i.invariant.small;
       too_large = λ e. cc;

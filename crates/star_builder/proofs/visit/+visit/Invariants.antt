@@ -2,7 +2,7 @@ use Rattle.std.proofs.Common.{◌≡◌, ◌+◌, ◌-◌, ◌*◌, ◌≤◌, l
 use Rattle.agg_laws.specs.Rows.{merged_rows}
 use Rattle.star_tree.specs.Flat.{visited}
 use Rattle.star_file.specs.Rules.{most_bytes}
-use Rattle.star_builder.specs.Building.{Written, bytes_of, kids_in, drop_kids, Standing}
+use Rattle.star_builder.specs.Building.{Written, bytes_of, children_in, drop_children, Standing}
 use Rattle.star_builder.specs.Growing.{written}
 use Rattle.star_builder.proofs.visit.+visit.Given as goal
 
@@ -17,12 +17,12 @@ abbrev pub invariant-visit_children-loop-i : goal.invariant-visit_children-loop-
 invariant-visit_children-loop-i l =
     let before : Written = written l.fn.tree in
     let now : Written = written l.tree in
-    let kids = kids_in l.shape l.level l.start l.end before in
+    let subtrees = children_in l.shape l.level l.start l.end before in
     record {
-      left : visited merged_rows (l.level + 1) (l.first + l.i) (drop_kids l.i kids) now
-          ≡ visited merged_rows (l.level + 1) l.first kids before;
+      left : visited merged_rows (l.level + 1) (l.first + l.i) (drop_children l.i subtrees) now
+          ≡ visited merged_rows (l.level + 1) l.first subtrees before;
       stand : Standing l.shape (l.shape.dims - (l.level + 1)) (l.level + 1) (l.first + l.i)
-          (drop_kids l.i kids) now;
+          (drop_children l.i subtrees) now;
       longer : length before.0 ≤ length now.0;
       dims : l.tree.docs.dims ≡ l.fn.tree.docs.dims;
       kinds : l.tree.docs.kinds ≡ l.fn.tree.docs.kinds;

@@ -9,7 +9,7 @@ returns-clause-keeps c =
     let shape = c.args.shape.now in
     let counts = c.args.counts.now in
     record {
-      long = steps.section_long c.args.bytes.now c.if-bytes-lt4.false c.if-bytes-ne0.false;
+      lengths = steps.section_long c.args.bytes.now c.if-bytes-lt4.false c.if-bytes-ne0.false;
       keeps = subst (λ (n : ℕ). KeepAll shape counts n
           (nodes_in (count_in c.args.bytes.now) (drop 4 c.args.bytes.now))) c.number-documents.ensures
           (subst (λ (ns : List Node). KeepAll shape counts c.number-documents.result ns)

@@ -9,7 +9,7 @@ pub overflow_add-end : goal.overflow_add-end
 overflow_add-end c =
     let w = steps.widths_take c.args.kinds.now c.loop-i.i c.loop-i-test.true in
     let b = steps.widths_bound c.args.kinds.now in
-    omega (arith, w, b, c.loop-i.invariant.at, c.width.ensures, c.requires.few)
+    omega (arith, w, b, c.loop-i.invariant.at, c.width.ensures, c.requires.at_most)
 
 pub between-requires-clause-within : goal.between-requires-clause-within
 between-requires-clause-within c =
@@ -17,7 +17,7 @@ between-requires-clause-within c =
     omega (arith, w, c.loop-i.invariant.at, c.width.ensures, c.requires.width)
 
 pub take-requires : goal.take-requires
-take-requires c = omega (arith, c.between.ensures.long, c.width.ensures)
+take-requires c = omega (arith, c.between.ensures.lengths, c.width.ensures)
 
 pub returns-in-Err-clause-bad : goal.returns-in-Err-clause-bad
 returns-in-Err-clause-bad c e vs same stored is =

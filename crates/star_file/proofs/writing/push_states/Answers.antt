@@ -20,10 +20,10 @@ loop-pair-preserved c =
     let vs = (doc_at t.docs c.args.at).1 in
     let i = c.loop-pair.pair in
     let kinds = (shape_at t.dims t.kinds t.docs c.args.at c.requires.shape c.requires.there).1 in
-    let long : length vs ≡ length t.kinds = sym (length-kinds_of vs) ∙ ap length kinds in
+    let lengths : length vs ≡ length t.kinds = sym (length-kinds_of vs) ∙ ap length kinds in
     let same = ap length c.kinds.ensures in
     let lt : i < length vs =
-    omega (arith, long, same, c.loop-pair-test.true, c.len-pair-end.ensures) in
+    omega (arith, lengths, same, c.loop-pair-test.true, c.len-pair-end.ensures) in
     steps.more state_bytes spelling refl steps.state_first vs i c.state.result
     c.args.out.now.items c.loop-pair.out.items c.push_state.new.out.items lt
     (sym (get_or_from_slice_get vs i c.state.result c.state.result c.state.ensures))
@@ -34,10 +34,10 @@ returns c =
     let t = c.args.docs.now in
     let vs = (doc_at t.docs c.args.at).1 in
     let kinds = (shape_at t.dims t.kinds t.docs c.args.at c.requires.shape c.requires.there).1 in
-    let long : length vs ≡ length t.kinds = sym (length-kinds_of vs) ∙ ap length kinds in
+    let lengths : length vs ≡ length t.kinds = sym (length-kinds_of vs) ∙ ap length kinds in
     let same = ap length c.kinds.ensures in
     let end : c.loop-pair.pair ≡ length vs = omega
-    (arith, long, same, c.loop-pair-test.false, c.len-pair-end.ensures, c.loop-pair.auto.pair-end) in
+    (arith, lengths, same, c.loop-pair-test.false, c.len-pair-end.ensures, c.loop-pair.auto.pair-end) in
     let ok = steps.all state_bytes spelling refl steps.state_first vs c.loop-pair.pair
     c.args.out.now.items c.loop-pair.out.items end c.loop-pair.invariant in
     record { ok = ok; kept = (_, c.loop-pair.invariant) }

@@ -12,10 +12,10 @@ loop-i-preserved c =
     let lt : i < length columns = omega (arith, c.loop-i-test.true, c.len-i-end.ensures) in
     let at = c.at.ensures ∙ any_default columns i (numbers_of c.at.result) [] lt in
     record {
-      long = ap length c.in_ok-push.ensures.items
-          ∙ length-append c.loop-i.zeros.items (c.are_zeros.result ∷ []) ∙ ap (λ n. n + 1) inv.long;
+      lengths = ap length c.in_ok-push.ensures.items
+          ∙ length-append c.loop-i.zeros.items (c.are_zeros.result ∷ []) ∙ ap (λ n. n + 1) inv.lengths;
       zero = steps.zero_more c.loop-i.zeros.items c.push.new.self.items columns i c.are_zeros.result
-          (numbers_of c.at.result) lt at inv.long inv.zero c.are_zeros.ensures c.in_ok-push.ensures.items;
+          (numbers_of c.at.result) lt at inv.lengths inv.zero c.are_zeros.ensures c.in_ok-push.ensures.items;
     }
 
 pub returns : goal.returns
@@ -23,6 +23,6 @@ returns c =
     let end : c.loop-i.i ≡ length c.args.columns.now =
     omega (arith, c.loop-i-test.false, c.len-i-end.ensures, c.loop-i.auto.i-end) in
     record {
-      long = c.loop-i.invariant.long ∙ end;
+      lengths = c.loop-i.invariant.lengths ∙ end;
       zero = λ k lt e. c.loop-i.invariant.zero k (omega (arith, lt, end)) e;
     }

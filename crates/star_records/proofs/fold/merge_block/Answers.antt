@@ -33,8 +33,8 @@ merge_row-requires-clause-metrics c =
     ∙ blocks.wide_picked (pos 0) c.part.result.now c.args.metrics.now ∙ c.requires.columns.metrics
     ∙ ap length (sym c.loop-at.invariant.merged.kinds)
 
-pub merge_row-requires-clause-long : goal.merge_row-requires-clause-long
-merge_row-requires-clause-long c =
+pub merge_row-requires-clause-lengths : goal.merge_row-requires-clause-lengths
+merge_row-requires-clause-lengths c =
     blocks.block_long (pos 0) c.args.words.now c.args.block.from c.args.block.to c.args.block.ordered
     c.requires.within c.args.metrics.now c.in_ok-numbers.numbers c.part.result.now c.part.ensures
     (c.in_ok-numbers.ensures (pos 0)) c.loop-at.at c.loop-at.auto.at c.loop-at-test.true
@@ -75,8 +75,8 @@ merge_row-requires-clause-some c =
     ) ∷ []) in
     omega (arith, a, b)
 
-pub merge_row-requires-clause-light : goal.merge_row-requires-clause-light
-merge_row-requires-clause-light c =
+pub merge_row-requires-clause-weight_fits : goal.merge_row-requires-clause-weight_fits
+merge_row-requires-clause-weight_fits c =
     let count = steps.rows_count (row_count c.args.dims.now) c.args.words.now
     c.requires.order.all in
     omega (
@@ -84,8 +84,8 @@ merge_row-requires-clause-light c =
       count,
       c.loop-at-test.true,
       c.requires.within,
-      c.loop-at.invariant.merged.light,
-      c.requires.few,
+      c.loop-at.invariant.merged.weight_fits,
+      c.requires.at_most,
     )
 
 pub loop-at-preserved : goal.loop-at-preserved
@@ -133,9 +133,9 @@ loop-at-preserved c =
                   ∙ inv.kinds;
               docs = steps.docs_more ks dims ms n words c.requires.order i row lt refl old inv.docs
                   new (is ∙ more.0);
-              light = steps.light_more ks dims ms n words c.requires.order i row lt refl old inv.docs
+              weight_fits = steps.light_more ks dims ms n words c.requires.order i row lt refl old inv.docs
                   new (is ∙ more.0) (subst (λ l. row_weight l ≤ 1) states
-                  w.in_ok-merge_row.ensures.weighs) inv.light;
+                  w.in_ok-merge_row.ensures.weighs) inv.weight_fits;
               last = λ _. record {
                 front = ends.front;
                 states = merged_rows ends.states (states_at ks ms row);
@@ -168,9 +168,9 @@ loop-at-preserved c =
                   ∙ inv.kinds;
               docs = steps.docs_more ks dims ms n words c.requires.order i row lt refl old inv.docs
                   new added;
-              light = steps.light_more ks dims ms n words c.requires.order i row lt refl old inv.docs
+              weight_fits = steps.light_more ks dims ms n words c.requires.order i row lt refl old inv.docs
                   new added (subst (λ l. row_weight l ≤ 1) states
-                  w.in_ok-append_row.ensures.weighs) inv.light;
+                  w.in_ok-append_row.ensures.weighs) inv.weight_fits;
               last = λ _. record {
                 front = old;
                 states = states_at ks ms row;

@@ -59,5 +59,5 @@ returns c =
           (ap (λ k. take k (map row_in words)) end ∙ take-length (map row_in words))
           ∙ steps.same_merged c.args.shape.now.kinds c.args.dims.now c.args.metrics.now n
           (map row_in words) c.requires.order.all;
-      light = omega (arith, count, inv.within, inv.merged.light);
+      weight_fits = omega (arith, count, inv.within, inv.merged.weight_fits);
     }

@@ -11,11 +11,11 @@ use Rattle.star_rows.proofs.RowLemmas as rows
 use Rattle.star_records.proofs.FoldSteps.{parts}
 use Rattle.star_records.proofs.fold.merge_row.Goals as goal
 
-pub add_last-requires-clause-light : goal.add_last-requires-clause-light
-add_last-requires-clause-light c front e is =
+pub add_last-requires-clause-weight_fits : goal.add_last-requires-clause-weight_fits
+add_last-requires-clause-weight_fits c front e is =
     let a = ap (weights row_weight) is in
     let b = weights-append row_weight front (e ∷ []) in
-    omega (arith, a, b, c.requires.light)
+    omega (arith, a, b, c.requires.weight_fits)
 
 pub returns : goal.returns
 returns c =
@@ -25,18 +25,18 @@ returns c =
     let read : c.as_slice.result.now ≡ row_at (pos 0) c.args.row c.args.metrics.now =
     c.as_slice.ensures.value
     ∙ rows.is_row (pos 0) c.args.row c.args.metrics.now c.read_row.new.out.items
-    c.in_ok-read_row.ensures.items c.requires.long in
+    c.in_ok-read_row.ensures.items c.requires.lengths in
     let values : c.as_slice-2.result.now ≡ row_at (pos 0) c.args.row c.args.metrics.now =
     c.as_slice-2.ensures.value
     ∙ rows.is_row (pos 0) c.args.row c.args.metrics.now c.read_row.new.out.items
-    c.in_ok-read_row.ensures.items c.requires.long in
-    let long : length c.as_slice.result.now ≡ length ks =
+    c.in_ok-read_row.ensures.items c.requires.lengths in
+    let lengths : length c.as_slice.result.now ≡ length ks =
     ap length c.as_slice.ensures.value ∙ c.in_ok-read_row.ensures.length ∙ c.requires.metrics in
     record {
       merged = λ front e is. ap (λ (d : Docs). d.docs) (c.add_last.ensures front e is)
           ∙ ap (λ xs. front ++ ((e.0, merged_rows e.1 (row_of ks (xs ∷ []))) ∷ [])) values;
       weighs = row_weight_least (row_of ks (row ∷ [])) 1
-          (fits_row ks row (ap length (sym read) ∙ long) (subst AreWhole read c.are_whole.ensures));
+          (fits_row ks row (ap length (sym read) ∙ lengths) (subst AreWhole read c.are_whole.ensures));
       dims = ap (λ (d : Docs). d.dims) (c.add_last.ensures last.0 last.1.0 last.1.1);
       kinds = ap (λ (d : Docs). d.kinds) (c.add_last.ensures last.0 last.1.0 last.1.1);
     }

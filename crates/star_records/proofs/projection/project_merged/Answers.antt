@@ -21,30 +21,30 @@ returns-in_ok-documents-in-None-clause-table c =
       dims = made.dims ∙ of_rows.dims;
       kinds = made.kinds ∙ of_rows.kinds;
       docs_are = made.docs_are ∙ ap (merged_docs merged_rows) of_rows.docs_are;
-      light = omega (arith, same, less, of_rows.light);
+      weight_fits = omega (arith, same, less, of_rows.weight_fits);
     }) c.merge_equal.ensures
 
 pub returns-in_ok-documents-in-None-clause-count : goal.returns-in_ok-documents-in-None-clause-count
 returns-in_ok-documents-in-None-clause-count c =
-    let few = fewer c.args.shape.now.kinds c.args.dims c.args.metrics.now
+    let at_most = fewer c.args.shape.now.kinds c.args.dims c.args.metrics.now
     (row_count c.args.dims) in
     IfOk-weaker c.merge_equal.result _ _ (λ (table : Docs) made.
     let same = ap length (made.docs_are
     ∙ ap (merged_docs merged_rows) c.in_ok-documents-in-None.ensures.table.docs_are) in
-    omega (arith, same, few)) c.merge_equal.ensures
+    omega (arith, same, at_most)) c.merge_equal.ensures
 
 pub returns-in-Some-clause-count : goal.returns-in-Some-clause-count
 returns-in-Some-clause-count c =
-    let few = fewer c.args.shape.now.kinds c.args.dims c.args.metrics.now
+    let at_most = fewer c.args.shape.now.kinds c.args.dims c.args.metrics.now
     (row_count c.args.dims) in
     IfOk-weaker c.merge_slots.result _ _ (λ (table : Docs) made.
     let same = ap length made.docs_are in
-    omega (arith, same, few)) c.merge_slots.ensures
+    omega (arith, same, at_most)) c.merge_slots.ensures
 
 pub returns-in-Some-2-clause-count : goal.returns-in-Some-2-clause-count
 returns-in-Some-2-clause-count c =
-    let few = fewer c.args.shape.now.kinds c.args.dims c.args.metrics.now
+    let at_most = fewer c.args.shape.now.kinds c.args.dims c.args.metrics.now
     (row_count c.args.dims) in
     IfOk-weaker c.merge_in_order.result _ _ (λ (table : Docs) made.
     let same = ap length made.docs_are in
-    omega (arith, same, few)) c.merge_in_order.ensures
+    omega (arith, same, at_most)) c.merge_in_order.ensures

@@ -16,16 +16,16 @@ add_at-requires-clause-fits c =
     let k : ℕ = c.loop-row.row in
     let slots : List ℕ = c.args.slots.now in
     let numbers : List ℤ = c.args.numbers.now in
-    let lt : k < length numbers = omega (arith, c.requires.long, c.loop-row-test.true) in
+    let lt : k < length numbers = omega (arith, c.requires.lengths, c.loop-row-test.true) in
     let fits : FitsSigned w64 (get_or numbers k (pos 0)) = search rules in
     let cast = to_z-of_z w64 (get_or numbers k (pos 0)) fits in
     let z : ℤ = cast_signed w64 (cast_unsigned w64 (get_or numbers k (pos 0))) in
     let whole : IsWhole z = subst IsWhole (sym cast) (whole_64 (get_or numbers k (pos 0)) fits) in
-    let few = length-take-le k numbers (omega (arith, lt)) in
+    let at_most = length-take-le k numbers (omega (arith, lt)) in
     steps.one-fits c.args.column.now.kind (length c.args.column.now.states) (take k slots)
     (take k numbers) c.loop-row.column (get_or slots k 0) c.loop-row.invariant.holds
     (c.requires.slots.below k 0 c.loop-row-test.true) z c.loop-row.invariant.whole whole
-    (omega (arith, few, lt, c.requires.slots.few, c.requires.long))
+    (omega (arith, at_most, lt, c.requires.slots.at_most, c.requires.lengths))
 
 pub loop-row-preserved : goal.loop-row-preserved
 loop-row-preserved c =
@@ -37,15 +37,15 @@ loop-row-preserved c =
     let slot : ℕ = get_or slots k 0 in
     let number : ℤ = get_or numbers k (pos 0) in
     let in_slots : k < length slots = c.loop-row-test.true in
-    let lt : k < length numbers = omega (arith, c.requires.long, in_slots) in
+    let lt : k < length numbers = omega (arith, c.requires.lengths, in_slots) in
     let fits : FitsSigned w64 (get_or numbers k (pos 0)) = search rules in
     let cast = to_z-of_z w64 (get_or numbers k (pos 0)) fits in
     let z : ℤ = cast_signed w64 (cast_unsigned w64 (get_or numbers k (pos 0))) in
-    let long : length (take k slots) ≡ length (take k numbers) =
+    let lengths : length (take k slots) ≡ length (take k numbers) =
     length-take-le k slots (omega (arith, in_slots))
     ∙ sym (length-take-le k numbers (omega (arith, lt))) in
     let h = steps.holds-more kind count (take k slots) (take k numbers) c.loop-row.column slot
-    c.loop-row.invariant.holds (c.requires.slots.below k 0 in_slots) z long in
+    c.loop-row.invariant.holds (c.requires.slots.below k 0 in_slots) z lengths in
     record {
       holds = subst (λ (ss : List ℕ). HoldsSlots kind count ss (take (k + 1) numbers) c.add_at.new.self)
           (sym (take_more slots k 0 in_slots))

@@ -24,7 +24,7 @@ columns_at-requires c =
     subst (λ (known : List ℕ). All (λ (l : List ℕ). All (λ word. row_in word < length l) known) dims)
     (sym c.as_slice.ensures.value)
     (blocks.in_columns n c.args.slots.rows.items dims c.requires.columns.ids_long
-    (blocks.own_rows n c.args.slots.rows.items (omega (arith, c.requires.few))
+    (blocks.own_rows n c.args.slots.rows.items (omega (arith, c.requires.at_most))
     c.requires.slots.rows_in))
 
 pub read_row-requires : goal.read_row-requires
@@ -45,9 +45,9 @@ read_states-requires c =
     let metrics : List (List ℤ) = c.args.metrics.now in
     let slot : ℕ = c.loop-slot.slot in
     let columns : List Column = c.in_ok-columns.columns.items in
-    let long : All (λ (m : List ℤ). length m ≡ length S) metrics =
+    let lengths : All (λ (m : List ℤ). length m ≡ length S) metrics =
     λ k d l. c.requires.columns.values_long k d l
-    ∙ sym (ap length c.as_slice-2.ensures.value ∙ c.requires.slots.long) in
+    ∙ sym (ap length c.as_slice-2.ensures.value ∙ c.requires.slots.lengths) in
     subst (All (λ (d : Column). slot < length d.states)) (sym c.as_slice-in-loop-slot.ensures.value)
     (steps.long-columns N S K metrics columns slot c.in_ok-columns.ensures
     c.loop-slot-test.true)
@@ -67,13 +67,13 @@ append_parts-requires-clause-kinds c =
     let metrics : List (List ℤ) = c.args.metrics.now in
     let slot : ℕ = c.loop-slot.slot in
     let columns : List Column = c.in_ok-columns.columns.items in
-    let long : All (λ (m : List ℤ). length m ≡ length S) metrics =
+    let lengths : All (λ (m : List ℤ). length m ≡ length S) metrics =
     λ k d l. c.requires.columns.values_long k d l
-    ∙ sym (ap length c.as_slice-2.ensures.value ∙ c.requires.slots.long) in
+    ∙ sym (ap length c.as_slice-2.ensures.value ∙ c.requires.slots.lengths) in
     let states : c.as_slice-in-loop-slot-3.result.now ≡ columns_row columns slot =
     c.as_slice-in-loop-slot-3.ensures.value ∙ c.in_ok-read_states.ensures
     ∙ ap (λ (cs : List Column). columns_row cs slot) c.as_slice-in-loop-slot.ensures.value in
-    ap kinds_of (states ∙ steps.slot-row N S K metrics columns slot c.in_ok-columns.ensures long
+    ap kinds_of (states ∙ steps.slot-row N S K metrics columns slot c.in_ok-columns.ensures lengths
     c.loop-slot-test.true)
     ∙ steps.row-kinds K (in_slot slot S (values_of (length S) metrics))
     ∙ c.as_slice-kinds.ensures ∙ sym c.loop-slot.invariant.kinds
@@ -87,9 +87,9 @@ append_parts-requires-clause-stored c =
     let metrics : List (List ℤ) = c.args.metrics.now in
     let slot : ℕ = c.loop-slot.slot in
     let columns : List Column = c.in_ok-columns.columns.items in
-    let long : All (λ (m : List ℤ). length m ≡ length S) metrics =
+    let lengths : All (λ (m : List ℤ). length m ≡ length S) metrics =
     λ k d l. c.requires.columns.values_long k d l
-    ∙ sym (ap length c.as_slice-2.ensures.value ∙ c.requires.slots.long) in
+    ∙ sym (ap length c.as_slice-2.ensures.value ∙ c.requires.slots.lengths) in
     let states : c.as_slice-in-loop-slot-3.result.now ≡ columns_row columns slot =
     c.as_slice-in-loop-slot-3.ensures.value ∙ c.in_ok-read_states.ensures
     ∙ ap (λ (cs : List Column). columns_row cs slot) c.as_slice-in-loop-slot.ensures.value in
@@ -98,10 +98,10 @@ append_parts-requires-clause-stored c =
     let at : ℕ = get_or known slot 0 in
     let in' = c.requires.slots.rows_in slot 0 lt in
     subst RowStored (sym states)
-    (steps.slot-stored N S K metrics columns slot at c.in_ok-columns.ensures long
+    (steps.slot-stored N S K metrics columns slot at c.in_ok-columns.ensures lengths
     c.loop-slot-test.true
-    (omega (arith, ap length c.as_slice-2.ensures.value, c.requires.slots.long, c.requires.few))
-    (omega (arith, in', ap length c.as_slice-2.ensures.value, c.requires.slots.long))
+    (omega (arith, ap length c.as_slice-2.ensures.value, c.requires.slots.lengths, c.requires.at_most))
+    (omega (arith, in', ap length c.as_slice-2.ensures.value, c.requires.slots.lengths))
     (ap (λ (l : List ℕ). get_or l at 0) c.as_slice-2.ensures.value ∙ c.requires.slots.own slot lt))
 
 pub loop-slot-preserved : goal.loop-slot-preserved
@@ -112,9 +112,9 @@ loop-slot-preserved c =
     let metrics : List (List ℤ) = c.args.metrics.now in
     let slot : ℕ = c.loop-slot.slot in
     let columns : List Column = c.in_ok-columns.columns.items in
-    let long : All (λ (m : List ℤ). length m ≡ length S) metrics =
+    let lengths : All (λ (m : List ℤ). length m ≡ length S) metrics =
     λ k d l. c.requires.columns.values_long k d l
-    ∙ sym (ap length c.as_slice-2.ensures.value ∙ c.requires.slots.long) in
+    ∙ sym (ap length c.as_slice-2.ensures.value ∙ c.requires.slots.lengths) in
     let states : c.as_slice-in-loop-slot-3.result.now ≡ columns_row columns slot =
     c.as_slice-in-loop-slot-3.ensures.value ∙ c.in_ok-read_states.ensures
     ∙ ap (λ (cs : List Column). columns_row cs slot) c.as_slice-in-loop-slot.ensures.value in
@@ -130,7 +130,7 @@ loop-slot-preserved c =
     let picked_is : c.in_ok-slot_ids.slot_ids ≡ picked 0 known dims = c.in_ok-slot_ids.ensures 0
     ∙ ap (λ (l : List ℕ). picked 0 l dims) c.as_slice.ensures.value in
     let own_row = blocks.own_row (get_or known slot 0)
-    (omega (arith, c.requires.slots.rows_in slot 0 lt, c.requires.few)) in
+    (omega (arith, c.requires.slots.rows_in slot 0 lt, c.requires.at_most)) in
     let ids : c.as_slice-in-loop-slot-2.result.now ≡ row_at 0 (get_or known slot 0) dims =
     c.as_slice-in-loop-slot-2.ensures.value
     ∙ rows.is_row 0 slot c.in_ok-slot_ids.slot_ids c.read_row.new.out.items
@@ -141,7 +141,7 @@ loop-slot-preserved c =
     ∙ ap (λ (r : ℕ). row_at 0 r dims) own_row in
     let own : c.as_slice-in-loop-slot-3.result.now
     ≡ row_of kinds (in_slot slot all (values_of (length all) metrics)) =
-    states ∙ steps.slot-row N S K metrics columns slot c.in_ok-columns.ensures long
+    states ∙ steps.slot-row N S K metrics columns slot c.in_ok-columns.ensures lengths
     c.loop-slot-test.true
     ∙ (λ i. row_of (c.as_slice-kinds.ensures i) (in_slot slot (c.as_slice-2.ensures.value i)
     (values_of (length (c.as_slice-2.ensures.value i)) metrics))) in
@@ -165,8 +165,8 @@ merged : (kinds : List AggKind) (dims : List (List ℕ)) (metrics : List (List �
 merged kinds dims metrics n end all known docs are e is =
     is ∙ ap (λ k. map (slot_doc kinds dims metrics all known) (numbers_from 0 k)) e
     ∙ steps.merged_slots kinds dims metrics all known
-    (subst (λ k. AreSlots k dims all known) (sym are.long) are)
-    ∙ ap (λ k. merged_docs merged_rows (projected kinds (rows_of k dims metrics))) are.long
+    (subst (λ k. AreSlots k dims all known) (sym are.lengths) are)
+    ∙ ap (λ k. merged_docs merged_rows (projected kinds (rows_of k dims metrics))) are.lengths
 
 pub returns : goal.returns
 returns c =
@@ -177,8 +177,8 @@ returns c =
     let dims : List (List ℕ) = c.args.dims in
     let known : List ℕ = c.args.slots.rows.items in
     let many : length S ≡ row_count dims =
-    ap length c.as_slice-2.ensures.value ∙ c.requires.slots.long in
-    let long : All (λ (m : List ℤ). length m ≡ length S) metrics =
+    ap length c.as_slice-2.ensures.value ∙ c.requires.slots.lengths in
+    let lengths : All (λ (m : List ℤ). length m ≡ length S) metrics =
     λ k d l. c.requires.columns.values_long k d l ∙ sym many in
     let end : c.loop-slot.slot ≡ length known =
     omega (
@@ -193,11 +193,11 @@ returns c =
     let docs = own
     ∙ (λ i. merged_docs merged_rows (projected (sym c.as_slice-kinds.ensures i)
     (rows_of (sym many i) dims metrics))) in
-    let light = steps.merged-light N S K metrics c.in_ok-columns.columns.items dims
-    c.loop-slot.table.docs c.in_ok-columns.ensures long docs in
+    let weight_fits = steps.merged-light N S K metrics c.in_ok-columns.columns.items dims
+    c.loop-slot.table.docs c.in_ok-columns.ensures lengths docs in
     record {
       dims = c.loop-slot.invariant.dims;
       kinds = c.loop-slot.invariant.kinds;
       docs_are = own;
-      light = omega (arith, light, many);
+      weight_fits = omega (arith, weight_fits, many);
     }

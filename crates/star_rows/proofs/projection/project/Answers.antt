@@ -31,7 +31,7 @@ loop-row-preserved c =
     let inv = c.loop-row.invariant in
     let added = c.in_ok-project_row.ensures in
     let e : Doc = (ids_at dims row, states_at v.kinds metrics row) in
-    let long = rows.one_longer v.docs c.project_row.new.table.docs e added.appended in
+    let lengths = rows.one_longer v.docs c.project_row.new.table.docs e added.appended in
     let heavy = rows.one_heavier v.docs c.project_row.new.table.docs e added.appended added.weighs in
     record {
       dims = added.dims ∙ inv.dims;
@@ -39,8 +39,8 @@ loop-row-preserved c =
       docs = added.appended ∙ ap (λ (l : List Doc). l ++ (e ∷ [])) inv.docs
           ∙ rows.rows_more row dims metrics c.args.shape.now.kinds v.kinds (ids_at dims row)
           (row_at (pos 0) row metrics) inv.kinds refl refl;
-      count = omega (arith, long, inv.count);
-      light = omega (arith, heavy, inv.light);
+      count = omega (arith, lengths, inv.count);
+      weight_fits = omega (arith, heavy, inv.weight_fits);
     }
 
 pub returns-clause-table : goal.returns-clause-table
@@ -58,5 +58,5 @@ returns-clause-table c =
       kinds = c.loop-row.invariant.kinds;
       docs_are = c.loop-row.invariant.docs
           ∙ ap (λ n. projected kinds (rows_of n dims metrics)) end;
-      light = omega (arith, end, c.loop-row.invariant.light);
+      weight_fits = omega (arith, end, c.loop-row.invariant.weight_fits);
     }

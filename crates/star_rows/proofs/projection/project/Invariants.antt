@@ -11,5 +11,5 @@ invariant-loop-row l = record {
   kinds : l.table.kinds ≡ l.shape.kinds;
   docs : l.table.docs ≡ projected l.shape.kinds (rows_of l.row l.dims l.metrics);
   count : length l.table.docs ≡ l.row;
-  light : weights row_weight l.table.docs ≤ l.row;
+  weight_fits : weights row_weight l.table.docs ≤ l.row;
 }

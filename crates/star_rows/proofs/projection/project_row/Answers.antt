@@ -24,7 +24,7 @@ returns c =
           ∙ (λ i. (room i).docs ++ ((ids i, row_of (same i) (values i ∷ [])) ∷ []));
       weighs = subst (λ xs. row_weight (row_of c.args.table.now.kinds (xs ∷ [])) ≤ 1) values
           (subst (λ (ks : List AggKind). row_weight (row_of ks (c.as_slice-2.result.now ∷ [])) ≤ 1)
-          same c.append_values.ensures.light);
+          same c.append_values.ensures.weight_fits);
       dims = ap (λ (d : Docs). d.dims) is ∙ ap (λ (d : Docs). d.dims) room;
       kinds = ap (λ (d : Docs). d.kinds) is ∙ same;
     }

@@ -23,6 +23,6 @@ loop-i-preserved g c =
           ∙ rows.more_items row i columns c.loop-i.out.items x x column is lt in'
           c.index-column-row.is c.loop-i.invariant.items
           ∙ ap (λ m. map (λ (c : List g.row.T.Denot). slice_get c row) (take m columns)) n;
-      long = ap length items ∙ length-append c.loop-i.out.items (x ∷ [])
-          ∙ ap (λ m. m + 1) c.loop-i.invariant.long;
+      lengths = ap length items ∙ length-append c.loop-i.out.items (x ∷ [])
+          ∙ ap (λ m. m + 1) c.loop-i.invariant.lengths;
     }

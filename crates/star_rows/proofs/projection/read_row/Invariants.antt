@@ -4,5 +4,5 @@ use Rattle.star_rows.proofs.projection.read_row.Given as goal
 abbrev pub invariant-loop-i : goal.invariant-loop-i
 invariant-loop-i g l = record {
   items : map Some l.out.items ≡ map (λ c. slice_get c l.row) (take l.i l.columns);
-  long : length l.out.items ≡ l.i;
+  lengths : length l.out.items ≡ l.i;
 }

@@ -67,8 +67,8 @@ empty_docs shape k docs (e ∷ es) is =
 
 pub returns : goal.returns
 returns c = record {
-  rules = λ shape k docs counts ids no_star few counted. rules_kept merged_rows rows_join shape k
-      docs ids no_star counts few counted;
+  rules = λ shape k docs counts ids no_star at_most counted. rules_kept merged_rows rows_join shape k
+      docs ids no_star counts at_most counted;
   root = λ shape k docs. root_is shape k (merged_docs merged_rows docs);
   no_nodes = λ shape k docs. empty_nodes shape k docs (merged_docs merged_rows docs) refl;
   no_documents = λ shape k docs. empty_docs shape k docs (merged_docs merged_rows docs) refl;

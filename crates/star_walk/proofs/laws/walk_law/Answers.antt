@@ -29,9 +29,9 @@ module _ (t : Task) (shape : TreeShape) (k : ℕ) (docs : List Doc) (ids : HaveI
       (picks merged_rows t k (tree_of merged_rows shape k docs))
       (within t shape k docs ids no_star) (same t shape k docs ids no_star)
 
-  few : 1 ≤ shape.leaf → ((d : ℕ) → d < k → 1 ≤ factor merged_rows t shape docs d)
+  at_most : 1 ≤ shape.leaf → ((d : ℕ) → d < k → 1 ≤ factor merged_rows t shape docs d)
       → read_of its ≤ bound merged_rows t shape docs k
-  few leaf some =
+  at_most leaf some =
       subst (λ n. n ≤ bound merged_rows t shape docs k)
       (sym count)
       (tree_read merged_rows rows_join t k shape docs ids no_star leaf some)
@@ -49,6 +49,6 @@ pub returns : goal.returns
 returns c = record {
   nested = tree_same;
   count = count;
-  reads = few;
+  reads = at_most;
   groups = answers;
 }

@@ -8,10 +8,10 @@ use Rattle.star_walk.specs.Walking.{StandsAmong}
 use Rattle.star_walk.proofs.WithinSteps.{InDocs, tree_in}
 use Rattle.star_walk.proofs.laws.walkable_law.Goals as goal
 
-kids_among : (shape : TreeShape) (k : ℕ) (counts : List ℕ) (documents : ℕ) (ns : List Node)
+children_among : (shape : TreeShape) (k : ℕ) (counts : List ℕ) (documents : ℕ) (ns : List Node)
     (at : ℕ) → KeepsRules shape k counts documents ns at
     → (node_at ns at).first + (node_at ns at).children ≤ length ns
-kids_among shape k counts documents ns at r =
+children_among shape k counts documents ns at r =
     elim (cases_lt 0 (node_at ns at).children) [
       | inl some ↦ r.split_last some
       | inr none ↦ omega (arith, r.leaf_first (omega arith))
@@ -26,17 +26,17 @@ in_docs shape counts documents ns h at lt =
       order = r.order;
       inside = r.inside;
       total_in = r.total;
-      kids_in = kids_among shape shape.dims counts documents ns at r;
+      children_in = children_among shape shape.dims counts documents ns at r;
     }
 
 stands : (shape : TreeShape) (counts : List ℕ) (documents : ℕ) (ns : List Node)
     → documents < 2 ^ 32
     → ((at : ℕ) → at < length ns → KeepsRules shape shape.dims counts documents ns at)
     → (at : ℕ) → at < length ns → StandsAmong ns (node_at ns at)
-stands shape counts documents ns few h at lt =
+stands shape counts documents ns at_most h at lt =
     let i = in_docs shape counts documents ns h at lt in
     record {
-      kids_in = i.kids_in;
+      children_in = i.children_in;
       total_in = omega arith;
     }
 

@@ -32,9 +32,9 @@ add_at-requires-clause-place c =
     let lb = same old xs in
     let ab : length us ≡ length one = omega (arith, la, lb) in
     let own = steps.own f i c.loop-i.columns old vs c.loop-i.invariant lt d in
-    let long = steps.long_at c.args.count 0 old i d c.requires.long lt in
+    let lengths = steps.long_at c.args.count 0 old i d c.requires.lengths lt in
     let e = ap (λ (c : Column). length c.states) own in
-    omega (arith, e, long, c.requires.place)
+    omega (arith, e, lengths, c.requires.place)
 
 pub add_at-requires-clause-fits : goal.add_at-requires-clause-fits
 add_at-requires-clause-fits c =

@@ -23,9 +23,9 @@ merge_at-requires-clause-into c =
     let lb = steps.length-row_at old c.args.from in
     let ab : length us ≡ length bs = omega (arith, la, lb) in
     let own = steps.own f i c.loop-i.columns old vs c.loop-i.invariant lt d in
-    let long = steps.long_at c.args.count 0 old i d c.requires.long lt in
+    let lengths = steps.long_at c.args.count 0 old i d c.requires.lengths lt in
     let e = ap (λ (c : Column). length c.states) own in
-    omega (arith, e, long, c.requires.into)
+    omega (arith, e, lengths, c.requires.into)
 
 pub merge_at-requires-clause-from : goal.merge_at-requires-clause-from
 merge_at-requires-clause-from c =
@@ -41,9 +41,9 @@ merge_at-requires-clause-from c =
     let lb = steps.length-row_at old c.args.from in
     let ab : length us ≡ length bs = omega (arith, la, lb) in
     let own = steps.own f i c.loop-i.columns old vs c.loop-i.invariant lt d in
-    let long = steps.long_at c.args.count 0 old i d c.requires.long lt in
+    let lengths = steps.long_at c.args.count 0 old i d c.requires.lengths lt in
     let e = ap (λ (c : Column). length c.states) own in
-    omega (arith, e, long, c.requires.from)
+    omega (arith, e, lengths, c.requires.from)
 
 pub merge_at-requires-clause-fits : goal.merge_at-requires-clause-fits
 merge_at-requires-clause-fits c =

@@ -24,9 +24,9 @@ push_copy-requires-clause-from c =
     let lt : i < length old = c.loop-i-test.true in
     let own = steps.own pushed i c.loop-i.columns old (row_at old c.args.from) c.loop-i.invariant
     lt d in
-    let long = steps.long_at c.args.count 1 old i d c.requires.room lt in
+    let lengths = steps.long_at c.args.count 1 old i d c.requires.room lt in
     let e = ap (λ (c : Column). length c.states) own in
-    omega (arith, e, long, c.requires.from)
+    omega (arith, e, lengths, c.requires.from)
 
 pub loop-i-preserved : goal.loop-i-preserved
 loop-i-preserved c =

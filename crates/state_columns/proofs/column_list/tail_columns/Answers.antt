@@ -7,10 +7,10 @@ use Rattle.state_columns.proofs.column_list.tail_columns.Goals as goal
 pub tail-requires : goal.tail-requires
 tail-requires c =
     let d = c.index-columns-i.result in
-    let long = steps.long_at c.args.count 0 c.args.columns.now c.loop-i.i d c.requires.long
+    let lengths = steps.long_at c.args.count 0 c.args.columns.now c.loop-i.i d c.requires.lengths
     c.loop-i-test.true in
     let e = ap (λ (c : Column). length c.states) c.index-columns-i.is in
-    omega (arith, e, long, c.requires.from)
+    omega (arith, e, lengths, c.requires.from)
 
 pub loop-i-preserved : goal.loop-i-preserved
 loop-i-preserved c =

@@ -7,7 +7,7 @@ use Rattle.state_columns.proofs.grouping.slots_of.Goals.{else-table-key-gt0+in_o
 
 pub overflow_add-count : goal.overflow_add-count
 overflow_add-count c =
-    omega (arith, c.loop-key.invariant.few, c.loop-key-test.true, c.requires)
+    omega (arith, c.loop-key.invariant.at_most, c.loop-key-test.true, c.requires)
 
 pub loop-key-preserved : goal.loop-key-preserved
 loop-key-preserved c =
@@ -18,7 +18,7 @@ loop-key-preserved c =
     let n = c.loop-key.count in
     let slots = c.loop-key.slots.items in
     let rest = drop (key + 1) table in
-    let few = c.loop-key.invariant.few in
+    let at_most = c.loop-key.invariant.at_most in
     elim c.if-table-key-gt0.branch [
       | then-table-key-gt0+in_ok-push w ↦ record {
         slots = ap (λ l. l ++ numbered c.if-table-key-gt0.count rest)
@@ -26,7 +26,7 @@ loop-key-preserved c =
             ∙ ap (λ m. (slots ++ ((n + 1) ∷ [])) ++ numbered m rest) w.count-is
             ∙ steps.slot_step n key table slots at lt refl w.if-table-key-gt0.true
             ∙ c.loop-key.invariant.slots;
-        few = omega (arith, few, w.count-is);
+        at_most = omega (arith, at_most, w.count-is);
       }
       | else-table-key-gt0+in_ok-push-2 w ↦ record {
         slots = ap (λ l. l ++ numbered c.if-table-key-gt0.count rest)
@@ -34,7 +34,7 @@ loop-key-preserved c =
             ∙ ap (λ m. (slots ++ (0 ∷ [])) ++ numbered m rest) w.count-is
             ∙ steps.no_slot n key table slots at lt refl (omega (arith, w.if-table-key-gt0.false))
             ∙ c.loop-key.invariant.slots;
-        few = omega (arith, few, w.count-is);
+        at_most = omega (arith, at_most, w.count-is);
       }
     ]
 

@@ -19,15 +19,15 @@ pub loop-i-init : goal.loop-i-init
 loop-i-init c =
     let table = c.resize.new.self.items in
     let zeros = c.in_ok-resize.ensures.by_index.1 in
-    let long = c.in_ok-resize.ensures.len in
+    let lengths = c.in_ok-resize.ensures.len in
     let none : first_words 0 table ≡ [] = steps.no_words 0 table
-    (λ k lt. zeros k 0 refl (omega arith) (omega (arith, lt, long))) in
+    (λ k lt. zeros k 0 refl (omega arith) (omega (arith, lt, lengths))) in
     let empty : c.in_ok-others.others.items ≡ [] = c.in_ok-others.ensures.items in
     record {
       same = subst (IsPermutation []) (λ i. (sym none i) ++ (sym empty i)) (IsPermutation-refl []);
-      few = omega (arith, long, c.ranges.keys.fits);
+      at_most = omega (arith, lengths, c.ranges.keys.fits);
       places = (λ k d lt. let z : get_or table k d ≡ 0 =
-          zeros k d refl (omega arith) (omega (arith, lt, long)) in omega (arith, z));
+          zeros k d refl (omega arith) (omega (arith, lt, lengths)) in omega (arith, z));
       found = subst (All (λ word. 0 < entry_of table word)) (sym empty)
           (All-nil (λ word. 0 < entry_of table word));
     }
@@ -69,9 +69,9 @@ loop-i-preserved c =
                 (first_words 0 t ++ o)) _ _ _ _ (sym is) (sym kept)
                 (steps.split_first c.args.words.items c.loop-i.table.items c.loop-i.others.items
                 c.loop-i.i word v lt at (omega arith) in' none h.same);
-            few = omega (
+            at_most = omega (
               arith,
-              h.few,
+              h.at_most,
               ap length is
                   ∙ length-set c.loop-i.table.items (key_of word) v,
             );
@@ -93,7 +93,7 @@ loop-i-preserved c =
                 (first_words 0 t ++ o)) _ _ _ _ (sym kept) (sym is)
                 (steps.split_other c.args.words.items c.loop-i.table.items c.loop-i.others.items
                 c.loop-i.i word lt at h.same);
-            few = omega (arith, h.few, ap length kept);
+            at_most = omega (arith, h.at_most, ap length kept);
             places = subst (All (λ at. at ≤ 2 ^ 20)) (sym kept) h.places;
             found = both_are (λ (t o : List ℕ). All (λ word. 0 < entry_of t word) o) _ _ _ _ (sym kept) (sym is)
                 (All-append (λ word. 0 < entry_of c.loop-i.table.items word) c.loop-i.others.items
@@ -121,7 +121,7 @@ returns c =
     record {
       same = subst (λ l. IsPermutation l (first_words 0 c.loop-i.table.items
           ++ c.loop-i.others.items)) all h.same;
-      few = h.few;
+      at_most = h.at_most;
       places = h.places;
       found = h.found;
     }

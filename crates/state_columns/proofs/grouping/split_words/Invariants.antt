@@ -6,7 +6,7 @@ use Rattle.state_columns.proofs.grouping.split_words.Given as goal
 abbrev pub invariant-loop-i : goal.invariant-loop-i
 invariant-loop-i l = record {
   same : IsPermutation (take l.i l.words.items) (first_words 0 l.table.items ++ l.others.items);
-  few : length l.table.items < 2 ^ 32;
+  at_most : length l.table.items < 2 ^ 32;
   places : All (λ at. at ≤ 2 ^ 20) l.table.items;
   found : All (λ word. 0 < entry_of l.table.items word) l.others.items;
 }

@@ -4,6 +4,6 @@ pub returns-clause-is : goal.returns-clause-is
 returns-clause-is c = record {
   places = c.in_ok-places.ensures;
   most = c.most_rows-most.ensures;
-  few = c.requires.at_most;
+  at_most = c.requires.at_most;
   defaults = c.requires.defaults;
 }

@@ -24,7 +24,7 @@ push_field-requires-clause-place c =
     record {
       first = places-first (map now c.args.self.now.names.now) c.args.self.now.fields.now c.as_slice-places.result.now c.values.i (c.as_slice-places.ensures.value ∙ c.requires.layout.places);
       within = places-last (map now c.args.self.now.names.now) c.args.self.now.fields.now c.as_slice-places.result.now c.values.i (length (fields_of c.args.cells.now)) (c.as_slice-places.ensures.value ∙ c.requires.layout.places) (length-map c.args.self.now.names.now now ∙ sym c.requires.width);
-      few = omega (arith, c.requires.width, c.requires.layout.few);
+      at_most = omega (arith, c.requires.width, c.requires.layout.at_most);
     }
 
 pub push_field-requires-clause-sort : goal.push_field-requires-clause-sort

@@ -5,11 +5,11 @@ use Rattle.dictionary.proofs.dictionary.Dictionary.build.Goals as goal
 
 pub invariant_of-result : goal.invariant_of-result
 invariant_of-result c =
-    stands_so c.args.kind c.args.column.now c.in_ok-values.values.items c.requires.few c.requires.fit (c.in_ok-values.ensures.distinct ∙ ap distinct c.as_slice.ensures) c.in_ok-values.ensures.unicode
+    stands_so c.args.kind c.args.column.now c.in_ok-values.values.items c.requires.at_most c.requires.fit (c.in_ok-values.ensures.distinct ∙ ap distinct c.as_slice.ensures) c.in_ok-values.ensures.unicode
 
 pub returns-clause-members : goal.returns-clause-members
 returns-clause-members c = members_so c.args.column.now c.in_ok-values.values.items (c.in_ok-values.ensures.distinct ∙ ap distinct c.as_slice.ensures)
 
 pub returns-clause-valid : goal.returns-clause-valid
 returns-clause-valid c =
-    stands_so c.args.kind c.args.column.now c.in_ok-values.values.items c.requires.few c.requires.fit (c.in_ok-values.ensures.distinct ∙ ap distinct c.as_slice.ensures) c.in_ok-values.ensures.unicode
+    stands_so c.args.kind c.args.column.now c.in_ok-values.values.items c.requires.at_most c.requires.fit (c.in_ok-values.ensures.distinct ∙ ap distinct c.as_slice.ensures) c.in_ok-values.ensures.unicode

@@ -7,7 +7,7 @@ use Rattle.dictionary.proofs.dictionary.Dictionary.ids_matching.Goals as goal
 
 pub matching_ids-requires : goal.matching_ids-requires
 matching_ids-requires c = record {
-  few = subst (λ (vs : List Value). length vs ≤ most_values) (sym c.deref.ensures.value) c.self.invariant.few;
+  at_most = subst (λ (vs : List Value). length vs ≤ most_values) (sym c.deref.ensures.value) c.self.invariant.at_most;
   ascends = subst Ascends (sym c.deref.ensures.value) c.self.invariant.ascends;
 }
 

@@ -6,16 +6,16 @@ use Rattle.dictionary.proofs.CodedLemmas.{column_so, lent_back, ranks_all, renum
 use Rattle.value_ids.proofs.DistinctLemmas.{members_so, stands_so}
 use Rattle.dictionary.proofs.dictionary.Dictionary.of_column.Goals as goal
 
-pub ranks-requires-clause-few : goal.ranks-requires-clause-few
-ranks-requires-clause-few c =
+pub ranks-requires-clause-at_most : goal.ranks-requires-clause-at_most
+ranks-requires-clause-at_most c =
     let so = column_so c.args.column.now.values c.in_ok-seen.field-0.values.items c.deref.result.now c.in_ok-values.values.items c.in_ok-seen.field-0.ids.items c.in_ok-seen.ensures c.deref.ensures.value c.in_ok-values.ensures.distinct in
-    let stands = stands_so c.args.kind c.args.column.now.values c.in_ok-values.values.items c.requires.few c.requires.fit so c.in_ok-values.ensures.unicode in
-    subst (λ (vs : List Value). length vs ≤ most_values) (sym c.deref-2.ensures.value) stands.few
+    let stands = stands_so c.args.kind c.args.column.now.values c.in_ok-values.values.items c.requires.at_most c.requires.fit so c.in_ok-values.ensures.unicode in
+    subst (λ (vs : List Value). length vs ≤ most_values) (sym c.deref-2.ensures.value) stands.at_most
 
 pub ranks-requires-clause-ascends : goal.ranks-requires-clause-ascends
 ranks-requires-clause-ascends c =
     let so = column_so c.args.column.now.values c.in_ok-seen.field-0.values.items c.deref.result.now c.in_ok-values.values.items c.in_ok-seen.field-0.ids.items c.in_ok-seen.ensures c.deref.ensures.value c.in_ok-values.ensures.distinct in
-    let stands = stands_so c.args.kind c.args.column.now.values c.in_ok-values.values.items c.requires.few c.requires.fit so c.in_ok-values.ensures.unicode in
+    let stands = stands_so c.args.kind c.args.column.now.values c.in_ok-values.values.items c.requires.at_most c.requires.fit so c.in_ok-values.ensures.unicode in
     subst Ascends (sym c.deref-2.ensures.value) stands.ascends
 
 pub ranks-requires-clause-among : goal.ranks-requires-clause-among
@@ -26,7 +26,7 @@ ranks-requires-clause-among c =
 pub invariant_of-result : goal.invariant_of-result
 invariant_of-result c =
     let so = column_so c.args.column.now.values c.in_ok-seen.field-0.values.items c.deref.result.now c.in_ok-values.values.items c.in_ok-seen.field-0.ids.items c.in_ok-seen.ensures c.deref.ensures.value c.in_ok-values.ensures.distinct in
-    stands_so c.args.kind c.args.column.now.values c.in_ok-values.values.items c.requires.few c.requires.fit so c.in_ok-values.ensures.unicode
+    stands_so c.args.kind c.args.column.now.values c.in_ok-values.values.items c.requires.at_most c.requires.fit so c.in_ok-values.ensures.unicode
 
 pub returns-clause-distinct : goal.returns-clause-distinct
 returns-clause-distinct c =
@@ -41,7 +41,7 @@ returns-clause-members c =
 pub returns-clause-valid : goal.returns-clause-valid
 returns-clause-valid c =
     let so = column_so c.args.column.now.values c.in_ok-seen.field-0.values.items c.deref.result.now c.in_ok-values.values.items c.in_ok-seen.field-0.ids.items c.in_ok-seen.ensures c.deref.ensures.value c.in_ok-values.ensures.distinct in
-    stands_so c.args.kind c.args.column.now.values c.in_ok-values.values.items c.requires.few c.requires.fit so c.in_ok-values.ensures.unicode
+    stands_so c.args.kind c.args.column.now.values c.in_ok-values.values.items c.requires.at_most c.requires.fit so c.in_ok-values.ensures.unicode
 
 pub returns-clause-ids : goal.returns-clause-ids
 returns-clause-ids c =

@@ -8,7 +8,7 @@ pub overflow_add-count : goal.overflow_add-count
 overflow_add-count c =
     let all = subst (λ (docs : List ℕ). All (λ doc. doc < c.args.run.first) docs) (sym c.self.view_is) c.requires.above in
     let below : next_from 0 c.self.inside.runs.items ≤ c.args.run.first = next_below 0 0 c.self.inside.runs.items c.args.run.first (omega arith) c.self.invariant.apart all in
-    omega (arith, below, c.self.invariant.few, c.count.ensures)
+    omega (arith, below, c.self.invariant.at_most, c.count.ensures)
 
 pub append-requires-clause-above : goal.append-requires-clause-above
 append-requires-clause-above c =

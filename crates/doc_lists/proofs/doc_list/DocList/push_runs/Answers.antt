@@ -13,7 +13,7 @@ overflow_add-count c =
     let apart : Apart 0 c.args.runs.now = apart_less (c.requires.end + 1) 0 c.args.runs.now (omega arith) c.requires.apart in
     let more = count_within c.args.runs.now apart in
     let own = next_within 0 c.self.inside.runs.items (omega arith) c.self.invariant.apart in
-    omega (arith, more, own, c.self.invariant.few, c.count_of.ensures)
+    omega (arith, more, own, c.self.invariant.at_most, c.count_of.ensures)
 
 pub invariant_of-self-2 : goal.invariant_of-self-2
 invariant_of-self-2 c =

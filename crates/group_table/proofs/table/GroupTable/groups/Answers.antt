@@ -5,7 +5,7 @@ use Rattle.group_table.proofs.KeptLemmas.{len_once}
 use Rattle.group_table.proofs.table.GroupTable.groups.Goals as goal
 
 pub overflow_cast-result : goal.overflow_cast-result
-overflow_cast-result c = omega (arith, c.self.invariant.few, c.self.invariant.most_fits, c.len.ensures.len)
+overflow_cast-result c = omega (arith, c.self.invariant.at_most, c.self.invariant.most_fits, c.len.ensures.len)
 
 pub returns-clause-count : goal.returns-clause-count
 returns-clause-count c = subst (λ (t : KeptGroups). c.len.result ≡ finite.len (groups_in t)) c.self.view_is

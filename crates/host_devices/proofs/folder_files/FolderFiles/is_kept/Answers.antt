@@ -6,5 +6,5 @@ use Rattle.host_devices.proofs.folder_files.FolderFiles.is_kept.Goals as goal
 pub returns-then-fit : goal.returns-then-fit
 returns-then-fit g c = λ is.
     let files = c.args.self.now in
-    let few = c.fit.ensures.some c.if-fit.true in
-    kept_named files.kept (λ k. string_bytes k.name) c.args.name.now files.ends.size files.ends.first files.ends.last (files.ends_of_some few) (files.kept_ends few) (λ bytes ends. c.fit.ensures.same c.if-fit.true few bytes ends ∙ c.as_bytes-name.ensures.value)
+    let at_most = c.fit.ensures.some c.if-fit.true in
+    kept_named files.kept (λ k. string_bytes k.name) c.args.name.now files.ends.size files.ends.first files.ends.last (files.ends_of_some at_most) (files.kept_ends at_most) (λ bytes ends. c.fit.ensures.same c.if-fit.true at_most bytes ends ∙ c.as_bytes-name.ensures.value)

@@ -18,7 +18,7 @@ returns-then-rows-most_rows c =
     let bytes = c.args.bytes.now in
     let ours = c.new-front.result in
     let is : ours ≡ said table name bytes = said_is table name bytes c.args.sections.now ours c.requires.sections (ap (λ f. f.format) c.new-front.ensures) (ap (λ f. f.rows) c.new-front.ensures ∙ c.four_at-rows.ensures) (ap (λ f. f.sizes) c.new-front.ensures ∙ c.in_ok-sizes.ensures) in
-    no_other table name bytes c.args.file_size ours is (λ front. omega (arith, front.few, c.if-rows-most_rows.true, c.most_rows.ensures, ap most_rows c.len.ensures, ap (λ f. f.rows) c.new-front.ensures))
+    no_other table name bytes c.args.file_size ours is (λ front. omega (arith, front.at_most, c.if-rows-most_rows.true, c.most_rows.ensures, ap most_rows c.len.ensures, ap (λ f. f.rows) c.new-front.ensures))
 
 pub returns-then-not-ends_at : goal.returns-then-not-ends_at
 returns-then-not-ends_at c =
@@ -42,7 +42,7 @@ returns-then-eq c =
     let same : c.as_slice.result.now ≡ bytes = (slice_eq-Decides Decides-eqb c.as_slice.result.now bytes c.eq.result c.eq.ensures).0 c.if-eq.true in
     record {
       known = ap (λ f. f.format) c.new-front.ensures;
-      few = omega (arith, c.if-rows-most_rows.false, c.most_rows.ensures, ap most_rows c.len.ensures, ap (λ f. f.rows) c.new-front.ensures);
+      at_most = omega (arith, c.if-rows-most_rows.false, c.most_rows.ensures, ap most_rows c.len.ensures, ap (λ f. f.rows) c.new-front.ensures);
       each = ap (λ f. length f.sizes) c.new-front.ensures ∙ ap length c.in_ok-sizes.ensures ∙ sizes_count c.args.sections.now _ ∙ ap length c.requires.sections;
       spelled = sym same ∙ c.as_slice.ensures.value ∙ c.in_ok-written.ensures;
       whole = sym ends ∙ ap (λ n. n + sum ours.sizes) c.requires.size;

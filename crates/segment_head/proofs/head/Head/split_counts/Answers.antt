@@ -27,7 +27,7 @@ returns-in_err-keep-in-Ok-clause-log g c =
     let first = g.S.Shelf.log c.args.shelf.now in
     let between = g.S.Shelf.log c.loop-column.shelf in
     let last = g.S.Shelf.log c.count.new.shelf in
-    let one : LogsCount head column between last = record { still = c.in-Ok.ensures.still; first = c.in-Ok.ensures.log } in
+    let one : LogsCount head column between last = record { unchanged = c.in-Ok.ensures.unchanged; first = c.in-Ok.ensures.log } in
     subst (λ xs. LogsCounts head xs first last) split_are (logs_stop head split (i + 1) first last (logs_push head split i column first between last c.loop-column-test.true refl c.loop-column.invariant.log one))
 
 pub returns-in-Err-clause-only_reads : goal.returns-in-Err-clause-only_reads
@@ -44,7 +44,7 @@ returns-in-Err-clause-log g c =
     let first = g.S.Shelf.log c.args.shelf.now in
     let between = g.S.Shelf.log c.loop-column.shelf in
     let last = g.S.Shelf.log c.count.new.shelf in
-    let one : LogsCount head column between last = record { still = c.in-Err.ensures.still; first = c.in-Err.ensures.log } in
+    let one : LogsCount head column between last = record { unchanged = c.in-Err.ensures.unchanged; first = c.in-Err.ensures.log } in
     subst (λ xs. LogsCounts head xs first last) split_are (logs_stop head split (i + 1) first last (logs_push head split i column first between last c.loop-column-test.true refl c.loop-column.invariant.log one))
 
 pub loop-column-preserved : goal.loop-column-preserved
@@ -58,7 +58,7 @@ loop-column-preserved g c =
     let first = g.S.Shelf.log c.args.shelf.now in
     let between = g.S.Shelf.log c.loop-column.shelf in
     let last = g.S.Shelf.log c.count.new.shelf in
-    let one : LogsCount head column between last = record { still = c.in-Ok.ensures.still; first = c.in-Ok.ensures.log } in
+    let one : LogsCount head column between last = record { unchanged = c.in-Ok.ensures.unchanged; first = c.in-Ok.ensures.log } in
     let held = g.S.Shelf.held c.args.shelf.now in
     let n = c.in-Ok.count in
     let counts = c.loop-column.counts.items in

@@ -30,6 +30,6 @@ loop-pair-preserved c =
           ∙ rows.more_items row i columns c.loop-pair.out.items x (pos 0) column is lt in'
           is_x c.loop-pair.invariant.items
           ∙ ap (λ m. map (λ (c : List ℤ). slice_get c row) (take m columns)) n;
-      long = ap length items ∙ length-append c.loop-pair.out.items (x ∷ [])
-          ∙ ap (λ m. m + 1) c.loop-pair.invariant.long;
+      lengths = ap length items ∙ length-append c.loop-pair.out.items (x ∷ [])
+          ∙ ap (λ m. m + 1) c.loop-pair.invariant.lengths;
     }

@@ -4,5 +4,5 @@ use Rattle.star_rows.proofs.numbers.NumberColumns.read_row.Given as goal
 abbrev pub invariant-loop-pair : goal.invariant-loop-pair
 invariant-loop-pair l = record {
   items : map Some l.out.items ≡ map (λ c. slice_get c l.row) (take l.pair l.self);
-  long : length l.out.items ≡ l.pair;
+  lengths : length l.out.items ≡ l.pair;
 }

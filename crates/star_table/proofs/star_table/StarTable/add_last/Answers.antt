@@ -20,12 +20,12 @@ overflow_sub-last c =
     let some : 0 < t.count =
     omega (arith, c.requires.some, ap (λ v. length v.docs) c.self.view_is, l) in
     let xs = c.args.values.now in
-    let long : length xs ≡ length t.kinds = c.requires.values
+    let lengths : length xs ≡ length t.kinds = c.requires.values
     ∙ sym (ap (λ v. length v.kinds) c.self.view_is) in
     omega (arith, some)
 
-pub add_values_at-requires-clause-long : goal.add_values_at-requires-clause-long
-add_values_at-requires-clause-long c =
+pub add_values_at-requires-clause-lengths : goal.add_values_at-requires-clause-lengths
+add_values_at-requires-clause-lengths c =
     let t = c.self.inside in
     subst (AreColumns t.count 0) (sym c.as_mut_slice.ensures.value)
     (region.some_room t.count t.spare t.count 0 t.columns.items c.self.invariant.columns_are
@@ -39,9 +39,9 @@ add_values_at-requires-clause-values c =
     let some : 0 < t.count =
     omega (arith, c.requires.some, ap (λ v. length v.docs) c.self.view_is, l) in
     let xs = c.args.values.now in
-    let long : length xs ≡ length t.kinds = c.requires.values
+    let lengths : length xs ≡ length t.kinds = c.requires.values
     ∙ sym (ap (λ v. length v.kinds) c.self.view_is) in
-    long ∙ ap length (sym c.self.invariant.kinds_are) ∙ length-map t.columns.items (λ d. d.kind)
+    lengths ∙ ap length (sym c.self.invariant.kinds_are) ∙ length-map t.columns.items (λ d. d.kind)
     ∙ ap length (sym c.as_mut_slice.ensures.value)
 
 pub add_values_at-requires-clause-fits : goal.add_values_at-requires-clause-fits
@@ -52,15 +52,15 @@ add_values_at-requires-clause-fits c =
     let some : 0 < t.count =
     omega (arith, c.requires.some, ap (λ v. length v.docs) c.self.view_is, l) in
     let xs = c.args.values.now in
-    let long : length xs ≡ length t.kinds = c.requires.values
+    let lengths : length xs ≡ length t.kinds = c.requires.values
     ∙ sym (ap (λ v. length v.kinds) c.self.view_is) in
     let zs = row_of t.kinds (xs ∷ []) in
     let kz = steps.kinds_row t.kinds (xs ∷ []) in
-    let sz = steps.stored_row t.kinds xs long c.are_whole.ensures in
-    let w = row_weight_least zs 1 (steps.fits_row t.kinds xs long c.are_whole.ensures) in
-    let light : (front : List Doc) (e : Doc) → docs ≡ front ++ (e ∷ []) → row_weight e.1
+    let sz = steps.stored_row t.kinds xs lengths c.are_whole.ensures in
+    let w = row_weight_least zs 1 (steps.fits_row t.kinds xs lengths c.are_whole.ensures) in
+    let weight_fits : (front : List Doc) (e : Doc) → docs ≡ front ++ (e ∷ []) → row_weight e.1
     + row_weight zs ≤ most_stored = λ front e is.
-    (let k = c.requires.light front e (sym (ap (λ v. v.docs) c.self.view_is) ∙ is)
+    (let k = c.requires.weight_fits front e (sym (ap (λ v. v.docs) c.self.view_is) ∙ is)
     in omega (arith, k, w)) in
     let ys = merged_rows (row_at t.columns.items (t.count - 1)) zs in
     subst (λ l. RowFits (merged_rows (row_at l (t.count - 1)) (row_of (kinds_in l) (xs ∷ [])))
@@ -68,7 +68,7 @@ add_values_at-requires-clause-fits c =
     (subst (λ l. RowFits (merged_rows (row_at t.columns.items (t.count - 1)) (row_of l (xs ∷ [])))
     most_values) (sym c.self.invariant.kinds_are)
     (last.they_fit t.count t.dims t.kinds t.ids.items t.columns.items t.spare _ c.self.invariant
-    some zs kz sz light))
+    some zs kz sz weight_fits))
 
 pub invariant_of-self : goal.invariant_of-self
 invariant_of-self c =
@@ -78,15 +78,15 @@ invariant_of-self c =
     let some : 0 < t.count =
     omega (arith, c.requires.some, ap (λ v. length v.docs) c.self.view_is, l) in
     let xs = c.args.values.now in
-    let long : length xs ≡ length t.kinds = c.requires.values
+    let lengths : length xs ≡ length t.kinds = c.requires.values
     ∙ sym (ap (λ v. length v.kinds) c.self.view_is) in
     let zs = row_of t.kinds (xs ∷ []) in
     let kz = steps.kinds_row t.kinds (xs ∷ []) in
-    let sz = steps.stored_row t.kinds xs long c.are_whole.ensures in
-    let w = row_weight_least zs 1 (steps.fits_row t.kinds xs long c.are_whole.ensures) in
-    let light : (front : List Doc) (e : Doc) → docs ≡ front ++ (e ∷ []) → row_weight e.1
+    let sz = steps.stored_row t.kinds xs lengths c.are_whole.ensures in
+    let w = row_weight_least zs 1 (steps.fits_row t.kinds xs lengths c.are_whole.ensures) in
+    let weight_fits : (front : List Doc) (e : Doc) → docs ≡ front ++ (e ∷ []) → row_weight e.1
     + row_weight zs ≤ most_stored = λ front e is.
-    (let k = c.requires.light front e (sym (ap (λ v. v.docs) c.self.view_is) ∙ is)
+    (let k = c.requires.weight_fits front e (sym (ap (λ v. v.docs) c.self.view_is) ∙ is)
     in omega (arith, k, w)) in
     let ys = merged_rows (row_at t.columns.items (t.count - 1)) zs in
     let made : c.add_values_at.new.columns ≡ row_replaced (t.count - 1) t.columns.items ys =
@@ -102,7 +102,7 @@ invariant_of-self c =
     last.replaced_back t.columns.len (t.count - 1) c.add_values_at.new.columns t.columns.items ys
     (omega (arith, t.columns.ok.0)) made in
     last.merged_region t.count t.dims t.kinds t.ids.items t.columns.items t.spare _
-    c.self.invariant some zs kz sz light _ new
+    c.self.invariant some zs kz sz weight_fits _ new
 
 pub returns : goal.returns
 returns c front e is =
@@ -112,15 +112,15 @@ returns c front e is =
     let some : 0 < t.count =
     omega (arith, c.requires.some, ap (λ v. length v.docs) c.self.view_is, l) in
     let xs = c.args.values.now in
-    let long : length xs ≡ length t.kinds = c.requires.values
+    let lengths : length xs ≡ length t.kinds = c.requires.values
     ∙ sym (ap (λ v. length v.kinds) c.self.view_is) in
     let zs = row_of t.kinds (xs ∷ []) in
     let kz = steps.kinds_row t.kinds (xs ∷ []) in
-    let sz = steps.stored_row t.kinds xs long c.are_whole.ensures in
-    let w = row_weight_least zs 1 (steps.fits_row t.kinds xs long c.are_whole.ensures) in
-    let light : (front : List Doc) (e : Doc) → docs ≡ front ++ (e ∷ []) → row_weight e.1
+    let sz = steps.stored_row t.kinds xs lengths c.are_whole.ensures in
+    let w = row_weight_least zs 1 (steps.fits_row t.kinds xs lengths c.are_whole.ensures) in
+    let weight_fits : (front : List Doc) (e : Doc) → docs ≡ front ++ (e ∷ []) → row_weight e.1
     + row_weight zs ≤ most_stored = λ front e is.
-    (let k = c.requires.light front e (sym (ap (λ v. v.docs) c.self.view_is) ∙ is)
+    (let k = c.requires.weight_fits front e (sym (ap (λ v. v.docs) c.self.view_is) ∙ is)
     in omega (arith, k, w)) in
     let ys = merged_rows (row_at t.columns.items (t.count - 1)) zs in
     let made : c.add_values_at.new.columns ≡ row_replaced (t.count - 1) t.columns.items ys =
@@ -136,7 +136,7 @@ returns c front e is =
     last.replaced_back t.columns.len (t.count - 1) c.add_values_at.new.columns t.columns.items ys
     (omega (arith, t.columns.ok.0)) made in
     let all = last.merged_docs_are t.count t.dims t.kinds t.ids.items t.columns.items t.spare _
-    c.self.invariant some zs kz sz light _ new front e (ap (λ v. v.docs) c.self.view_is ∙ is)
+    c.self.invariant some zs kz sz weight_fits _ new front e (ap (λ v. v.docs) c.self.view_is ∙ is)
     ∙ ap (λ v. front ++ ((e.0, merged_rows e.1 (row_of v.kinds (xs ∷ []))) ∷ []))
     c.self.view_is in
     λ i. record {

@@ -39,8 +39,8 @@ merge_last-requires-clause-from c =
           t.ids.items t.columns.items,
     )
 
-pub merge_last-requires-clause-light : goal.merge_last-requires-clause-light
-merge_last-requires-clause-light c front e is =
+pub merge_last-requires-clause-weight_fits : goal.merge_last-requires-clause-weight_fits
+merge_last-requires-clause-weight_fits c front e is =
     let docs = c.args.self.now.docs in
     let t = c.self.inside in
     let lt : c.args.before < length docs =
@@ -58,7 +58,7 @@ merge_last-requires-clause-light c front e is =
     (sym (last_whole c.args.before docs c.requires.before lt) ∙ is) in
     let w = last_light c.args.before docs c.requires.before lt in
     let same : row_weight l.1 ≡ row_weight e.1 = ap (λ (x : Doc). row_weight x.1) own in
-    omega (arith, w, same, c.requires.light)
+    omega (arith, w, same, c.requires.weight_fits)
 
 pub returns-then-is_eq-clause-docs : goal.returns-then-is_eq-clause-docs
 returns-then-is_eq-clause-docs c =

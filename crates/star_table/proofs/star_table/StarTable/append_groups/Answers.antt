@@ -24,10 +24,10 @@ pub append_firsts-requires-clause-spare : goal.append_firsts-requires-clause-spa
 append_firsts-requires-clause-spare c =
     let docs = c.args.self.now.docs in
     let g = c.args.groups.now in
-    let few = steps.firsts_few c.args.level c.args.start c.args.end docs c.requires.range.order
+    let at_most = steps.firsts_few c.args.level c.args.start c.args.end docs c.requires.range.order
     c.requires.range.within g.firsts.items g.slots.items g.others.items c.requires.groups in
     let v = ap length c.as_slice.ensures.value in
-    omega (arith, few, v, c.requires.range.spare)
+    omega (arith, at_most, v, c.requires.range.spare)
 
 pub loop-i-init : goal.loop-i-init
 loop-i-init c =
@@ -36,7 +36,7 @@ loop-i-init c =
     let g = c.args.groups.now in
     let begun = steps.begun level c.args.start c.args.end docs c.requires.range.order c.requires.range.within
     g.firsts.items g.slots.items g.others.items c.requires.groups in
-    let few = steps.firsts_few level c.args.start c.args.end docs c.requires.range.order
+    let at_most = steps.firsts_few level c.args.start c.args.end docs c.requires.range.order
     c.requires.range.within g.firsts.items g.slots.items g.others.items c.requires.groups in
     let v = c.as_slice.ensures.value in
     let s = ap (λ t. t.spare) c.append_firsts.ensures in
@@ -46,7 +46,7 @@ loop-i-init c =
           ∙ ap (λ l. docs ++ starred_docs level docs l) v
           ∙ ap (λ l. docs ++ l) (sym begun);
       keys = ap (map (λ (e : Doc). e.0)) begun;
-      room = omega (arith, s, w, few, c.requires.range.spare);
+      room = omega (arith, s, w, at_most, c.requires.range.spare);
       dims = ap (λ t. t.dims) c.append_firsts.ensures;
       kinds = ap (λ t. t.kinds) c.append_firsts.ensures;
     }
@@ -81,11 +81,11 @@ merge_at-requires-clause-into c =
     let inv = c.loop-i.invariant.docs in
     let small = steps.in_firsts level start end docs c.requires.range.order c.requires.range.within fs ss os
     c.requires.groups i lt keys in
-    let long = steps.long level start end docs c.requires.range.order c.requires.range.within fs ss os
+    let lengths = steps.lengths level start end docs c.requires.range.order c.requires.range.within fs ss os
     c.requires.groups i lt keys in
     let l = ap length inv ∙ length-append docs (steps.made level start end docs c.requires.range.order
     c.requires.range.within fs ss os c.requires.groups i) in
-    omega (arith, there, small, long, l)
+    omega (arith, there, small, lengths, l)
 
 pub merge_at-requires-clause-from : goal.merge_at-requires-clause-from
 merge_at-requires-clause-from c =
@@ -123,8 +123,8 @@ merge_at-requires-clause-from c =
     c.requires.range.within fs ss os c.requires.groups i) in
     omega (arith, low, fe, l)
 
-pub merge_at-requires-clause-light : goal.merge_at-requires-clause-light
-merge_at-requires-clause-light c =
+pub merge_at-requires-clause-weight_fits : goal.merge_at-requires-clause-weight_fits
+merge_at-requires-clause-weight_fits c =
     let docs = c.args.self.now.docs in
     let level = c.args.level in
     let start = c.args.start in
@@ -153,14 +153,14 @@ merge_at-requires-clause-light c =
     let fe : c.word_place.result ≡ place start (get_or os i 0) = c.word_place.ensures
     ∙ ap (place start) w in
     let inv = c.loop-i.invariant.docs in
-    let light = steps.still_light level start end docs c.requires.range.order c.requires.range.within fs ss os
-    c.requires.groups i lt keys into there most_stored c.requires.range.light in
+    let weight_fits = steps.still_light level start end docs c.requires.range.order c.requires.range.within fs ss os
+    c.requires.groups i lt keys into there most_stored c.requires.range.weight_fits in
     let a = ap (λ (ds : List Doc). row_weight (doc_at ds into).1) inv in
     let b : row_weight (doc_at c.loop-i.self.docs c.word_place.result).1
     ≡ row_weight (doc_at (docs ++ steps.made level start end docs c.requires.range.order
     c.requires.range.within fs ss os c.requires.groups i) (place start (get_or os i 0))).1 =
     (λ k. row_weight (doc_at (inv k) (fe k)).1) in
-    omega (arith, light, a, b)
+    omega (arith, weight_fits, a, b)
 
 pub loop-i-preserved : goal.loop-i-preserved
 loop-i-preserved c =
@@ -221,15 +221,15 @@ returns c =
     ) in
     let ended = steps.ended level c.args.start c.args.end docs c.requires.range.order c.requires.range.within
     g.firsts.items g.slots.items g.others.items c.requires.groups i e in
-    let few = steps.firsts_few level c.args.start c.args.end docs c.requires.range.order
+    let at_most = steps.firsts_few level c.args.start c.args.end docs c.requires.range.order
     c.requires.range.within g.firsts.items g.slots.items g.others.items c.requires.groups in
-    let long = steps.as_long level c.args.start c.args.end docs c.requires.range.order c.requires.range.within
+    let lengths = steps.as_long level c.args.start c.args.end docs c.requires.range.order c.requires.range.within
     g.firsts.items g.slots.items g.others.items c.requires.groups i c.loop-i.invariant.keys in
     let whole = merged_docs merged_rows
     (rekey (set_star level) (range c.args.start c.args.end docs)) in
     let k = ap length ended in
     let spare : c.loop-i.self.spare ≡ c.args.self.now.spare - length whole =
-    omega (arith, c.loop-i.invariant.room, long, k) in
+    omega (arith, c.loop-i.invariant.room, lengths, k) in
     λ j. record {
       dims = c.loop-i.invariant.dims j;
       kinds = c.loop-i.invariant.kinds j;

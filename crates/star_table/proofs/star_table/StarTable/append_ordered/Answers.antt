@@ -27,7 +27,7 @@ add_starred-requires-clause-from c =
     sym (length-docs_in s.count s.dims s.ids.items s.columns.items)
     ∙ ap (λ v. length v.docs) c.self.view_is in
     let i = c.loop-i.i in
-    let long = steps.order_length level c.args.start c.args.end docs le c.requires.range.within order
+    let lengths = steps.order_length level c.args.start c.args.end docs le c.requires.range.within order
     perm in
     let m = merged_docs merged_rows (steps.starred_at level docs (take i order)) in
     let lt : i < length order =
@@ -58,7 +58,7 @@ add_starred-requires-clause-before c =
     sym (length-docs_in s.count s.dims s.ids.items s.columns.items)
     ∙ ap (λ v. length v.docs) c.self.view_is in
     let i = c.loop-i.i in
-    let long = steps.order_length level c.args.start c.args.end docs le c.requires.range.within order
+    let lengths = steps.order_length level c.args.start c.args.end docs le c.requires.range.within order
     perm in
     let m = merged_docs merged_rows (steps.starred_at level docs (take i order)) in
     let l = ap length c.loop-i.invariant.docs ∙ length-append docs m in
@@ -77,7 +77,7 @@ add_starred-requires-clause-spare c =
     sym (length-docs_in s.count s.dims s.ids.items s.columns.items)
     ∙ ap (λ v. length v.docs) c.self.view_is in
     let i = c.loop-i.i in
-    let long = steps.order_length level c.args.start c.args.end docs le c.requires.range.within order
+    let lengths = steps.order_length level c.args.start c.args.end docs le c.requires.range.within order
     perm in
     let m = merged_docs merged_rows (steps.starred_at level docs (take i order)) in
     let lt : i < length order =
@@ -96,10 +96,10 @@ add_starred-requires-clause-spare c =
     let l = ap length c.loop-i.invariant.docs ∙ length-append docs m in
     let f = steps.fewer level c.args.start c.args.end docs le c.requires.range.within order perm i
     (omega (arith, lt)) in
-    omega (arith, l, f, lt, long, c.loop-i.invariant.room, c.requires.range.spare)
+    omega (arith, l, f, lt, lengths, c.loop-i.invariant.room, c.requires.range.spare)
 
-pub add_starred-requires-clause-light : goal.add_starred-requires-clause-light
-add_starred-requires-clause-light c =
+pub add_starred-requires-clause-weight_fits : goal.add_starred-requires-clause-weight_fits
+add_starred-requires-clause-weight_fits c =
     let t = c.args.self.now in
     let docs = t.docs in
     let s = c.self.inside in
@@ -111,7 +111,7 @@ add_starred-requires-clause-light c =
     sym (length-docs_in s.count s.dims s.ids.items s.columns.items)
     ∙ ap (λ v. length v.docs) c.self.view_is in
     let i = c.loop-i.i in
-    let long = steps.order_length level c.args.start c.args.end docs le c.requires.range.within order
+    let lengths = steps.order_length level c.args.start c.args.end docs le c.requires.range.within order
     perm in
     let m = merged_docs merged_rows (steps.starred_at level docs (take i order)) in
     let lt : i < length order =
@@ -127,13 +127,13 @@ add_starred-requires-clause-light c =
     ∙ steps.drop_own docs m in
     let first : take s.count c.loop-i.self.docs
     ≡ docs = (λ j. take (n j) (c.loop-i.invariant.docs j)) ∙ steps.take_own docs m in
-    let light = steps.light level c.args.start c.args.end docs le c.requires.range.within order perm i lt
-    most_stored c.requires.range.light in
+    let weight_fits = steps.weight_fits level c.args.start c.args.end docs le c.requires.range.within order perm i lt
+    most_stored c.requires.range.weight_fits in
     let a : weights row_weight (drop s.count c.loop-i.self.docs)
     ≡ weights row_weight m = ap (weights row_weight) after in
     let b : row_weight (doc_at c.loop-i.self.docs (get_or order i 0)).1
     ≡ row_weight (doc_at docs (get_or order i 0)).1 = ap (λ (e : Doc). row_weight e.1) own in
-    omega (arith, light, a, b)
+    omega (arith, weight_fits, a, b)
 
 pub add_starred-requires-clause-ascending : goal.add_starred-requires-clause-ascending
 add_starred-requires-clause-ascending c =
@@ -148,7 +148,7 @@ add_starred-requires-clause-ascending c =
     sym (length-docs_in s.count s.dims s.ids.items s.columns.items)
     ∙ ap (λ v. length v.docs) c.self.view_is in
     let i = c.loop-i.i in
-    let long = steps.order_length level c.args.start c.args.end docs le c.requires.range.within order
+    let lengths = steps.order_length level c.args.start c.args.end docs le c.requires.range.within order
     perm in
     let m = merged_docs merged_rows (steps.starred_at level docs (take i order)) in
     let lt : i < length order =
@@ -180,7 +180,7 @@ add_starred-requires-clause-none_above c =
     sym (length-docs_in s.count s.dims s.ids.items s.columns.items)
     ∙ ap (λ v. length v.docs) c.self.view_is in
     let i = c.loop-i.i in
-    let long = steps.order_length level c.args.start c.args.end docs le c.requires.range.within order
+    let lengths = steps.order_length level c.args.start c.args.end docs le c.requires.range.within order
     perm in
     let m = merged_docs merged_rows (steps.starred_at level docs (take i order)) in
     let lt : i < length order =
@@ -213,7 +213,7 @@ loop-i-preserved c =
     sym (length-docs_in s.count s.dims s.ids.items s.columns.items)
     ∙ ap (λ v. length v.docs) c.self.view_is in
     let i = c.loop-i.i in
-    let long = steps.order_length level c.args.start c.args.end docs le c.requires.range.within order
+    let lengths = steps.order_length level c.args.start c.args.end docs le c.requires.range.within order
     perm in
     let m = merged_docs merged_rows (steps.starred_at level docs (take i order)) in
     let lt : i < length order =
@@ -253,7 +253,7 @@ returns c =
     sym (length-docs_in s.count s.dims s.ids.items s.columns.items)
     ∙ ap (λ v. length v.docs) c.self.view_is in
     let i = c.loop-i.i in
-    let long = steps.order_length level c.args.start c.args.end docs le c.requires.range.within order
+    let lengths = steps.order_length level c.args.start c.args.end docs le c.requires.range.within order
     perm in
     let m = merged_docs merged_rows (steps.starred_at level docs (take i order)) in
     let end : i ≡ length order =

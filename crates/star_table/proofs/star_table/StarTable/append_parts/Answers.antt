@@ -8,7 +8,7 @@ use Rattle.star_table.proofs.star_table.StarTable.append_parts.Goals as goal
 pub overflow_add-self : goal.overflow_add-self
 overflow_add-self c = let some : 1 ≤ c.self.inside.spare =
     omega (arith, c.requires.spare, ap (λ v. v.spare) c.self.view_is)
-    in omega (arith, some, c.self.invariant.few)
+    in omega (arith, some, c.self.invariant.at_most)
 
 pub push_states-requires-clause-kinds : goal.push_states-requires-clause-kinds
 push_states-requires-clause-kinds c =

@@ -28,8 +28,8 @@ loop-from-init c =
           t.spare - 1;
     })
 
-pub merge_last-requires-clause-light : goal.merge_last-requires-clause-light
-merge_last-requires-clause-light c front e is =
+pub merge_last-requires-clause-weight_fits : goal.merge_last-requires-clause-weight_fits
+merge_last-requires-clause-weight_fits c front e is =
     let t = c.args.self.now in
     let start = c.args.start in
     let n = c.loop-from.from - (start + 1) in
@@ -48,14 +48,14 @@ merge_last-requires-clause-light c front e is =
     ap (doc_at t.docs) at
     ∙ sym (ap (λ l. doc_at l c.loop-from.from) docs
     ∙ doc_before t.docs (x ∷ []) c.loop-from.from in') in
-    let light = light_more start n c.args.end most_stored t.docs
-    (omega (arith, at, c.loop-from-test.true)) c.requires.range.within c.requires.range.light in
+    let weight_fits = light_more start n c.args.end most_stored t.docs
+    (omega (arith, at, c.loop-from-test.true)) c.requires.range.within c.requires.range.weight_fits in
     let a : row_weight (states_from start n t.docs)
     ≡ row_weight e.1 = ap (λ (v : Doc). row_weight v.1) own in
     let b : row_weight (doc_at t.docs (start + suc n)).1
     ≡ row_weight (doc_at c.loop-from.self.docs c.loop-from.from).1 =
     ap (λ (v : Doc). row_weight v.1) doc in
-    omega (arith, light, a, b)
+    omega (arith, weight_fits, a, b)
 
 pub loop-from-preserved : goal.loop-from-preserved
 loop-from-preserved c =

@@ -14,9 +14,9 @@ push_values-requires-clause-values c =
     let t = c.self.inside in
     let xs = c.args.values.now in
     let ys = row_of t.kinds (xs ∷ []) in
-    let long : length xs ≡ length t.kinds = c.requires.values
+    let lengths : length xs ≡ length t.kinds = c.requires.values
     ∙ sym (ap (λ v. length v.kinds) c.self.view_is) in
-    long ∙ ap length (sym c.self.invariant.kinds_are) ∙ length-map t.columns.items (λ d. d.kind)
+    lengths ∙ ap length (sym c.self.invariant.kinds_are) ∙ length-map t.columns.items (λ d. d.kind)
     ∙ ap length (sym c.as_mut_slice.ensures.value)
 
 pub push_values-requires-clause-room : goal.push_values-requires-clause-room
@@ -31,7 +31,7 @@ invariant_of-self c =
     let t = c.self.inside in
     let xs = c.args.values.now in
     let ys = row_of t.kinds (xs ∷ []) in
-    let long : length xs ≡ length t.kinds = c.requires.values
+    let lengths : length xs ≡ length t.kinds = c.requires.values
     ∙ sym (ap (λ v. length v.kinds) c.self.view_is) in
     let made : c.push_values.new.columns ≡ row_pushed t.columns.items ys = c.push_values.ensures
     ∙ ap (λ l. row_pushed l (row_of (kinds_in l) (xs ∷ []))) c.as_mut_slice.ensures.value
@@ -46,14 +46,14 @@ invariant_of-self c =
     (c.requires.dims ∙ sym (ap (λ v. v.dims) c.self.view_is))
     (steps.kinds_row t.kinds (xs ∷ []))
     (omega (arith, c.requires.spare, ap (λ v. v.spare) c.self.view_is)) (steps.stored_row t.kinds
-    xs long c.are_whole.ensures) c.put_all.ensures.capacity
+    xs lengths c.are_whole.ensures) c.put_all.ensures.capacity
 
 pub returns-clause-appended : goal.returns-clause-appended
 returns-clause-appended c =
     let t = c.self.inside in
     let xs = c.args.values.now in
     let ys = row_of t.kinds (xs ∷ []) in
-    let long : length xs ≡ length t.kinds = c.requires.values
+    let lengths : length xs ≡ length t.kinds = c.requires.values
     ∙ sym (ap (λ v. length v.kinds) c.self.view_is) in
     let made : c.push_values.new.columns ≡ row_pushed t.columns.items ys = c.push_values.ensures
     ∙ ap (λ l. row_pushed l (row_of (kinds_in l) (xs ∷ []))) c.as_mut_slice.ensures.value
@@ -75,8 +75,8 @@ returns-clause-appended c =
       spare = (c.self.view_is i).spare - 1;
     }
 
-pub returns-clause-light : goal.returns-clause-light
-returns-clause-light c =
+pub returns-clause-weight_fits : goal.returns-clause-weight_fits
+returns-clause-weight_fits c =
     let ks = c.args.self.now.kinds in
     let xs = c.args.values.now in
     row_weight_least (row_of ks (xs ∷ [])) 1

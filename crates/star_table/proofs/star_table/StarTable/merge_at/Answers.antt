@@ -23,8 +23,8 @@ merge_places-requires-clause-from c =
     let l = region.length-docs_in t.count t.dims t.ids.items t.columns.items in
     omega (arith, c.requires.from, ap (λ v. length v.docs) c.self.view_is, l)
 
-pub merge_places-requires-clause-long : goal.merge_places-requires-clause-long
-merge_places-requires-clause-long c =
+pub merge_places-requires-clause-lengths : goal.merge_places-requires-clause-lengths
+merge_places-requires-clause-lengths c =
     let t = c.self.inside in
     subst (AreColumns t.count 0) (sym c.as_mut_slice.ensures.value)
     (region.some_room t.count t.spare t.count 0 t.columns.items c.self.invariant.columns_are
@@ -46,16 +46,16 @@ merge_places-requires-clause-fits c =
     let kz = sym (ap (λ e. kinds_of e.1) at) ∙ shape.1 in
     let sz = subst RowStored (ap (λ e. e.1) at)
     (last.stored_at docs c.args.from c.self.invariant.stored in') in
-    let few : row_weight (doc_at docs c.args.into).1 + row_weight zs ≤ most_stored =
+    let at_most : row_weight (doc_at docs c.args.into).1 + row_weight zs ≤ most_stored =
     subst (λ (z : List AggState). row_weight (doc_at docs c.args.into).1 + row_weight z
     ≤ most_stored) (ap (λ e. e.1) at)
     (subst (λ (ds : List Doc). row_weight (doc_at ds c.args.into).1
     + row_weight (doc_at ds c.args.from).1 ≤ most_stored) (sym (ap (λ v. v.docs) c.self.view_is))
-    c.requires.light) in
+    c.requires.weight_fits) in
     subst (λ l. RowFits (merged_rows (row_at l c.args.into) (row_at l c.args.from)) most_values)
     (sym c.as_mut_slice.ensures.value)
     (steps.they_fit t.count t.dims t.kinds t.ids.items t.columns.items t.spare _ c.self.invariant
-    c.args.into lt zs kz sz few)
+    c.args.into lt zs kz sz at_most)
 
 pub invariant_of-self : goal.invariant_of-self
 invariant_of-self c =
@@ -73,12 +73,12 @@ invariant_of-self c =
     let kz = sym (ap (λ e. kinds_of e.1) at) ∙ shape.1 in
     let sz = subst RowStored (ap (λ e. e.1) at)
     (last.stored_at docs c.args.from c.self.invariant.stored in') in
-    let few : row_weight (doc_at docs c.args.into).1 + row_weight zs ≤ most_stored =
+    let at_most : row_weight (doc_at docs c.args.into).1 + row_weight zs ≤ most_stored =
     subst (λ (z : List AggState). row_weight (doc_at docs c.args.into).1 + row_weight z
     ≤ most_stored) (ap (λ e. e.1) at)
     (subst (λ (ds : List Doc). row_weight (doc_at ds c.args.into).1
     + row_weight (doc_at ds c.args.from).1 ≤ most_stored) (sym (ap (λ v. v.docs) c.self.view_is))
-    c.requires.light) in
+    c.requires.weight_fits) in
     let ys = merged_rows (row_at t.columns.items c.args.into) zs in
     let made : c.merge_places.new.columns ≡ row_replaced c.args.into t.columns.items ys =
     c.merge_places.ensures
@@ -90,7 +90,7 @@ invariant_of-self c =
     last.replaced_back t.columns.len c.args.into c.merge_places.new.columns t.columns.items ys
     (omega (arith, t.columns.ok.0)) made in
     steps.placed_region t.count t.dims t.kinds t.ids.items t.columns.items t.spare _
-    c.self.invariant c.args.into lt zs kz sz few _ new
+    c.self.invariant c.args.into lt zs kz sz at_most _ new
 
 pub returns : goal.returns
 returns c =
@@ -108,12 +108,12 @@ returns c =
     let kz = sym (ap (λ e. kinds_of e.1) at) ∙ shape.1 in
     let sz = subst RowStored (ap (λ e. e.1) at)
     (last.stored_at docs c.args.from c.self.invariant.stored in') in
-    let few : row_weight (doc_at docs c.args.into).1 + row_weight zs ≤ most_stored =
+    let at_most : row_weight (doc_at docs c.args.into).1 + row_weight zs ≤ most_stored =
     subst (λ (z : List AggState). row_weight (doc_at docs c.args.into).1 + row_weight z
     ≤ most_stored) (ap (λ e. e.1) at)
     (subst (λ (ds : List Doc). row_weight (doc_at ds c.args.into).1
     + row_weight (doc_at ds c.args.from).1 ≤ most_stored) (sym (ap (λ v. v.docs) c.self.view_is))
-    c.requires.light) in
+    c.requires.weight_fits) in
     let ys = merged_rows (row_at t.columns.items c.args.into) zs in
     let made : c.merge_places.new.columns ≡ row_replaced c.args.into t.columns.items ys =
     c.merge_places.ensures
@@ -125,7 +125,7 @@ returns c =
     last.replaced_back t.columns.len c.args.into c.merge_places.new.columns t.columns.items ys
     (omega (arith, t.columns.ok.0)) made in
     let all = steps.placed_docs t.count t.dims t.kinds t.ids.items t.columns.items t.spare _
-    c.self.invariant c.args.into lt zs kz sz few _ new
+    c.self.invariant c.args.into lt zs kz sz at_most _ new
     ∙ ap (λ (z : List AggState). set docs c.args.into (
       (doc_at docs c.args.into).0,
       merged_rows (doc_at docs c.args.into).1 z,

@@ -19,8 +19,8 @@ merge_places-requires-clause-from c =
     omega (arith, c.requires.from, ap (λ v. length v.docs) c.self.view_is, l) in
     omega (arith, more)
 
-pub merge_places-requires-clause-long : goal.merge_places-requires-clause-long
-merge_places-requires-clause-long c =
+pub merge_places-requires-clause-lengths : goal.merge_places-requires-clause-lengths
+merge_places-requires-clause-lengths c =
     let t = c.self.inside in
     subst (AreColumns t.count 0) (sym c.as_mut_slice.ensures.value)
     (region.some_room t.count t.spare t.count 0 t.columns.items c.self.invariant.columns_are
@@ -42,15 +42,15 @@ merge_places-requires-clause-fits c =
     let kz = sym (ap (λ e. kinds_of e.1) at) ∙ shape.1 in
     let sz = subst RowStored (ap (λ e. e.1) at)
     (last.stored_at docs c.args.from c.self.invariant.stored in') in
-    let light = λ (front : List Doc) (e : Doc) (is : docs ≡ front ++ (e ∷ [])).
+    let weight_fits = λ (front : List Doc) (e : Doc) (is : docs ≡ front ++ (e ∷ [])).
     subst (λ (z : List AggState). row_weight e.1 + row_weight z ≤ most_stored)
     (ap (λ v. (doc_at v.docs c.args.from).1) (sym c.self.view_is) ∙ ap (λ e. e.1) at)
-    (c.requires.light front e (sym (ap (λ v. v.docs) c.self.view_is) ∙ is)) in
+    (c.requires.weight_fits front e (sym (ap (λ v. v.docs) c.self.view_is) ∙ is)) in
     let ys = merged_rows (row_at t.columns.items (t.count - 1)) zs in
     subst (λ l. RowFits (merged_rows (row_at l (t.count - 1)) (row_at l c.args.from)) most_values)
     (sym c.as_mut_slice.ensures.value)
     (last.they_fit t.count t.dims t.kinds t.ids.items t.columns.items t.spare _ c.self.invariant
-    some zs kz sz light)
+    some zs kz sz weight_fits)
 
 pub invariant_of-self : goal.invariant_of-self
 invariant_of-self c =
@@ -68,10 +68,10 @@ invariant_of-self c =
     let kz = sym (ap (λ e. kinds_of e.1) at) ∙ shape.1 in
     let sz = subst RowStored (ap (λ e. e.1) at)
     (last.stored_at docs c.args.from c.self.invariant.stored in') in
-    let light = λ (front : List Doc) (e : Doc) (is : docs ≡ front ++ (e ∷ [])).
+    let weight_fits = λ (front : List Doc) (e : Doc) (is : docs ≡ front ++ (e ∷ [])).
     subst (λ (z : List AggState). row_weight e.1 + row_weight z ≤ most_stored)
     (ap (λ v. (doc_at v.docs c.args.from).1) (sym c.self.view_is) ∙ ap (λ e. e.1) at)
-    (c.requires.light front e (sym (ap (λ v. v.docs) c.self.view_is) ∙ is)) in
+    (c.requires.weight_fits front e (sym (ap (λ v. v.docs) c.self.view_is) ∙ is)) in
     let ys = merged_rows (row_at t.columns.items (t.count - 1)) zs in
     let made : c.merge_places.new.columns ≡ row_replaced (t.count - 1) t.columns.items ys =
     c.merge_places.ensures
@@ -83,7 +83,7 @@ invariant_of-self c =
     last.replaced_back t.columns.len (t.count - 1) c.merge_places.new.columns t.columns.items ys
     (omega (arith, t.columns.ok.0)) made in
     last.merged_region t.count t.dims t.kinds t.ids.items t.columns.items t.spare _
-    c.self.invariant some zs kz sz light _ new
+    c.self.invariant some zs kz sz weight_fits _ new
 
 pub returns : goal.returns
 returns c front e is =
@@ -101,10 +101,10 @@ returns c front e is =
     let kz = sym (ap (λ e. kinds_of e.1) at) ∙ shape.1 in
     let sz = subst RowStored (ap (λ e. e.1) at)
     (last.stored_at docs c.args.from c.self.invariant.stored in') in
-    let light = λ (front : List Doc) (e : Doc) (is : docs ≡ front ++ (e ∷ [])).
+    let weight_fits = λ (front : List Doc) (e : Doc) (is : docs ≡ front ++ (e ∷ [])).
     subst (λ (z : List AggState). row_weight e.1 + row_weight z ≤ most_stored)
     (ap (λ v. (doc_at v.docs c.args.from).1) (sym c.self.view_is) ∙ ap (λ e. e.1) at)
-    (c.requires.light front e (sym (ap (λ v. v.docs) c.self.view_is) ∙ is)) in
+    (c.requires.weight_fits front e (sym (ap (λ v. v.docs) c.self.view_is) ∙ is)) in
     let ys = merged_rows (row_at t.columns.items (t.count - 1)) zs in
     let made : c.merge_places.new.columns ≡ row_replaced (t.count - 1) t.columns.items ys =
     c.merge_places.ensures
@@ -116,7 +116,7 @@ returns c front e is =
     last.replaced_back t.columns.len (t.count - 1) c.merge_places.new.columns t.columns.items ys
     (omega (arith, t.columns.ok.0)) made in
     let all = last.merged_docs_are t.count t.dims t.kinds t.ids.items t.columns.items t.spare _
-    c.self.invariant some zs kz sz light _ new front e (ap (λ v. v.docs) c.self.view_is ∙ is)
+    c.self.invariant some zs kz sz weight_fits _ new front e (ap (λ v. v.docs) c.self.view_is ∙ is)
     ∙ ap (λ (z : List AggState). front ++ ((e.0, merged_rows e.1 z) ∷ []))
     (sym (ap (λ v. (doc_at v.docs c.args.from).1) (sym c.self.view_is) ∙ ap (λ e. e.1) at)) in
     λ i. record {

@@ -20,10 +20,10 @@ at-requires c =
       ap length c.self.invariant.kinds_are,
       length-map t.columns.items (λ d. d.kind),
     ) in
-    let long = each.long_at t.count t.spare t.columns.items c.args.pair c.index.result.now
+    let lengths = each.long_at t.count t.spare t.columns.items c.args.pair c.index.result.now
     c.self.invariant.columns_are p in
     let e = ap (λ (d : Column). length d.states) c.index.ensures in
-    omega (arith, long, e, n)
+    omega (arith, lengths, e, n)
 
 pub returns : goal.returns
 returns c =

@@ -41,8 +41,8 @@ tail_columns-requires-clause-from c =
     ) in
     le
 
-pub tail_columns-requires-clause-long : goal.tail_columns-requires-clause-long
-tail_columns-requires-clause-long c =
+pub tail_columns-requires-clause-lengths : goal.tail_columns-requires-clause-lengths
+tail_columns-requires-clause-lengths c =
     let t = c.self.inside in
     subst (AreColumns t.count 0) (sym c.as_slice.ensures.value)
     (region.some_room t.count t.spare t.count 0 t.columns.items c.self.invariant.columns_are

@@ -1,5 +1,5 @@
 use Rattle.std.proofs.Common.{◌≡◌, ◌<◌, length, sym, ap, ◌∙◌, ◌-◌, arith}
-use Rattle.star_tree.specs.Picks.{quiet}
+use Rattle.star_tree.specs.Picks.{are_unconstrained}
 use Rattle.star_walk.specs.Walking.{task_of}
 use Rattle.star_walk.proofs.WalkSteps.{quiet_step, quiet_ends, quiet_none}
 use Rattle.star_walk.proofs.task.Task.is_unconstrained.Goals as goal
@@ -25,4 +25,4 @@ returns c =
     let k = length c.args.self.now.matched in
     let t = task_of c.args.self.now.matched c.args.self.now.grouped in
     let end : c.loop-dim.dim ≡ k = omega arith in
-    sym (c.loop-dim.invariant ∙ ap (λ j. quiet t (k - j) j) end ∙ quiet_none t k)
+    sym (c.loop-dim.invariant ∙ ap (λ j. are_unconstrained t (k - j) j) end ∙ quiet_none t k)

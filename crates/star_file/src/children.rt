@@ -1,9 +1,9 @@
 //! The rules on the children of a node.
 
 ghost use Rattle.std.specs.Prelude.{◌≡◌, ◌≤◌, ◌<◌, ◌+◌, ◌-◌, ◌==◌, ◌↔◌, IsTrue, if◌then◌else◌, length};
-ghost use Rattle.star_tree.specs.NodeRules.{KeepKidsRules};
+ghost use Rattle.star_tree.specs.NodeRules.{KeepChildrenRules};
 ghost use Rattle.agg_laws.specs.Tree.{skips, star};
-ghost use Rattle.star_file.specs.Kids.{KidKeeps};
+ghost use Rattle.star_file.specs.Children.{ChildKeeps};
 
 use agg_laws::TreeShape;
 use star_tree::Node;
@@ -11,7 +11,7 @@ use state_columns::STAR;
 
 /// What is asked of each child of a node.
 #[derive(Clone, Copy)]
-pub struct KidRules {
+pub struct ChildRules {
     /// The node's level.
     pub level: u32,
     /// How many ids its dimension has.
@@ -23,42 +23,42 @@ pub struct KidRules {
 }
 
 /// Whether a child keeps the rules, with so many before it and so many after it.
-fn kid_keeps(
-    rules: &KidRules,
-    kid: &Node,
+fn child_keeps(
+    rules: &ChildRules,
+    child: &Node,
     before: usize,
     after: usize,
     from: u32,
     least: u64,
 ) -> bool
     requires { rules.now.level ≤ 16 }
-    ensures { IsTrue result ↔ KidKeeps rules.now before after from least kid.now }
+    ensures { IsTrue result ↔ ChildKeeps rules.now before after from least child.now }
 {
-    if kid.level != rules.level + 1 || (kid.id as u64) < least {
+    if child.level != rules.level + 1 || (child.id as u64) < least {
         return false;
     }
-    if kid.id == STAR {
-        let size = kid.end.saturating_sub(kid.start);
+    if child.id == STAR {
+        let size = child.end.saturating_sub(child.start);
         return after == 0 && !rules.skipped && before >= 2 && size <= rules.most;
     }
-    kid.id < rules.count && kid.start == from
+    child.id < rules.count && child.start == from
 }
 
 /// Where the documents of a node's children end, a star child's left out.
-fn end_of(kid: &Node, from: u32) -> u32
-    ensures { result ≡ (if kid.now.id == star then from else kid.now.end) }
+fn end_of(child: &Node, from: u32) -> u32
+    ensures { result ≡ (if child.now.id == star then from else child.now.end) }
 {
-    if kid.id == STAR { from } else { kid.end }
+    if child.id == STAR { from } else { child.end }
 }
 
 /// Whether the children of a node keep the rules on them.
-pub fn kids_keep(shape: &TreeShape, counts: &[u32], node: &Node, kids: &[Node]) -> bool
+pub fn children_keep(shape: &TreeShape, counts: &[u32], node: &Node, subtrees: &[Node]) -> bool
     requires counts { node.now.level < length counts.now }
     requires levels { length counts.now ≤ 16 }
-    ensures { IsTrue result ↔ KeepKidsRules shape.now counts.now node.now.level node.now.start
-        node.now.end kids.now }
+    ensures { IsTrue result ↔ KeepChildrenRules shape.now counts.now node.now.level node.now.start
+        node.now.end subtrees.now }
 {
-    let rules = KidRules {
+    let rules = ChildRules {
         level: node.level,
         count: counts[node.level as usize],
         skipped: shape.skips(node.level as usize),
@@ -66,13 +66,13 @@ pub fn kids_keep(shape: &TreeShape, counts: &[u32], node: &Node, kids: &[Node]) 
     };
     let mut from = node.start;
     let mut least: u64 = 0;
-    for i in 0..kids.len() {
-        let kid = kids[i];
-        if !kid_keeps(&rules, &kid, i, kids.len() - 1 - i, from, least) {
+    for i in 0..subtrees.len() {
+        let child = subtrees[i];
+        if !child_keeps(&rules, &child, i, subtrees.len() - 1 - i, from, least) {
             return false;
         }
-        from = end_of(&kid, from);
-        least = kid.id as u64 + 1;
+        from = end_of(&child, from);
+        least = child.id as u64 + 1;
     }
     from == node.end
 }

@@ -8,9 +8,9 @@ use Rattle.star_tree.specs.declared.node.Node.{Node}
 use Rattle.agg_laws.specs.declared.tree_shape.TreeShape.{TreeShape}
 use Rattle.agg_laws.specs.Tree.{star, skips}
 use Rattle.star_tree.specs.NodeRules.{count_at, HaveLevel, AreAbove, Ascend, AreKnown, StarIsLast}
-use Rattle.star_tree.specs.NodeRules.{Cover, KeepKidsRules}
-use Rattle.star_file.specs.declared.kids.KidRules.{KidRules}
-use Rattle.star_file.specs.Kids.{KidKeeps}
+use Rattle.star_tree.specs.NodeRules.{Cover, KeepChildrenRules}
+use Rattle.star_file.specs.declared.children.ChildRules.{ChildRules}
+use Rattle.star_file.specs.Children.{ChildKeeps}
 
 -- the ids are at least this
 abbrev pub AreFrom : ℕ → List Node → Type 0
@@ -18,7 +18,7 @@ AreFrom m [] = Unit {0}
 AreFrom m (n ∷ ns) = (m ≤ n.id) × AreFrom m ns
 
 -- the rules on what is left of the children
-pub record Left (r : KidRules) (before from least to : ℕ) (ns : List Node) : Type 0 where
+pub record Left (r : ChildRules) (before from least to : ℕ) (ns : List Node) : Type 0 where
   pub levels : HaveLevel (suc r.level) ns
   pub above : AreFrom least ns
   pub ascend : Ascend ns
@@ -60,9 +60,9 @@ either_star v = elim (v == star) as (λ b. (v == star) ≡ b → (v ≡ star) �
     apart : false ≡ true → ⊥
     apart e = cc
 
-module _ (r : KidRules) (before from least to : ℕ) (n : Node) (ns : List Node) where
+module _ (r : ChildRules) (before from least to : ℕ) (n : Node) (ns : List Node) where
   pub head : Left r before from least to (n ∷ ns)
-      → KidKeeps r before (length ns) from least n
+      → ChildKeeps r before (length ns) from least n
   head h = record {
     level_is = h.levels.0;
     above = h.above.0;
@@ -100,7 +100,7 @@ module _ (r : KidRules) (before from least to : ℕ) (n : Node) (ns : List Node)
   cover_join true s h = h
   cover_join false s h = (s refl, h)
 
-  pub join : KidKeeps r before (length ns) from least n
+  pub join : ChildKeeps r before (length ns) from least n
       → Left r (suc before) (next n from) (suc n.id) to ns → Left r before from least to (n ∷ ns)
   join k h = record {
     levels = (k.level_is, h.levels);
@@ -127,9 +127,9 @@ all_from : (ns : List Node) → AreFrom 0 ns
 all_from [] = tt
 all_from (n ∷ ns) = (omega arith, all_from ns)
 
-pub start : (shape : TreeShape) (counts : List ℕ) (r : KidRules) (from to : ℕ) (ns : List Node)
+pub start : (shape : TreeShape) (counts : List ℕ) (r : ChildRules) (from to : ℕ) (ns : List Node)
     → r.count ≡ count_at counts r.level → r.skipped ≡ skips shape r.level → r.most ≡ to - from
-    → KeepKidsRules shape counts r.level from to ns → Left r 0 from 0 to ns
+    → KeepChildrenRules shape counts r.level from to ns → Left r 0 from 0 to ns
 start shape counts r from to ns c s m h = record {
   levels = h.levels;
   above = all_from ns;
@@ -140,9 +140,9 @@ start shape counts r from to ns c s m h = record {
   cover = h.ranges_cover;
 }
 
-pub done : (shape : TreeShape) (counts : List ℕ) (r : KidRules) (from to : ℕ) (ns : List Node)
+pub done : (shape : TreeShape) (counts : List ℕ) (r : ChildRules) (from to : ℕ) (ns : List Node)
     → r.count ≡ count_at counts r.level → r.skipped ≡ skips shape r.level → r.most ≡ to - from
-    → Left r 0 from 0 to ns → KeepKidsRules shape counts r.level from to ns
+    → Left r 0 from 0 to ns → KeepChildrenRules shape counts r.level from to ns
 done shape counts r from to ns c s m h = record {
   levels = h.levels;
   ids_ascend = h.ascend;
@@ -153,64 +153,64 @@ done shape counts r from to ns c s m h = record {
 }
 
 -- one more child is looked at
-module _ (r : KidRules) (to i from least : ℕ) (kids : List Node) (d : Node) (lt : i < length kids)
+module _ (r : ChildRules) (to i from least : ℕ) (subtrees : List Node) (d : Node) (lt : i < length subtrees)
   where
-    cut : drop i kids ≡ get_or kids i d ∷ drop (suc i) kids
-    cut = drop-cons kids i d lt
+    cut : drop i subtrees ≡ get_or subtrees i d ∷ drop (suc i) subtrees
+    cut = drop-cons subtrees i d lt
 
-    after : length (drop (suc i) kids) ≡ length kids - 1 - i
-    after = let l = length-drop (suc i) kids in omega (arith, l, lt)
+    after : length (drop (suc i) subtrees) ≡ length subtrees - 1 - i
+    after = let l = length-drop (suc i) subtrees in omega (arith, l, lt)
 
     same_i : suc i ≡ i + 1
     same_i = omega arith
 
-    pub turn_on : (from' : ℕ) → from' ≡ next (get_or kids i d) from
-        → Left r i from least to (drop i kids)
-        → Left r (i + 1) from' ((get_or kids i d).id + 1) to (drop (i + 1) kids)
+    pub turn_on : (from' : ℕ) → from' ≡ next (get_or subtrees i d) from
+        → Left r i from least to (drop i subtrees)
+        → Left r (i + 1) from' ((get_or subtrees i d).id + 1) to (drop (i + 1) subtrees)
     turn_on from' is h =
-        let n = get_or kids i d in
+        let n = get_or subtrees i d in
         let s : suc n.id ≡ n.id + 1 = omega arith in
-        subst (λ m. Left r m from' (n.id + 1) to (drop m kids)) same_i
-        (subst (λ m. Left r (suc i) from' m to (drop (suc i) kids)) s
-        (subst (λ m. Left r (suc i) m (suc n.id) to (drop (suc i) kids)) (sym is)
-        (rest r i from least to n (drop (suc i) kids)
+        subst (λ m. Left r m from' (n.id + 1) to (drop m subtrees)) same_i
+        (subst (λ m. Left r (suc i) from' m to (drop (suc i) subtrees)) s
+        (subst (λ m. Left r (suc i) m (suc n.id) to (drop (suc i) subtrees)) (sym is)
+        (rest r i from least to n (drop (suc i) subtrees)
         (subst (λ l. Left r i from least to l) cut h))))
 
-    pub turn_back : (from' : ℕ) → from' ≡ next (get_or kids i d) from
-        → KidKeeps r i (length kids - 1 - i) from least (get_or kids i d)
-        → Left r (i + 1) from' ((get_or kids i d).id + 1) to (drop (i + 1) kids)
-        → Left r i from least to (drop i kids)
+    pub turn_back : (from' : ℕ) → from' ≡ next (get_or subtrees i d) from
+        → ChildKeeps r i (length subtrees - 1 - i) from least (get_or subtrees i d)
+        → Left r (i + 1) from' ((get_or subtrees i d).id + 1) to (drop (i + 1) subtrees)
+        → Left r i from least to (drop i subtrees)
     turn_back from' is k h =
-        let n = get_or kids i d in
+        let n = get_or subtrees i d in
         let s : suc n.id ≡ n.id + 1 = omega arith in
         subst (λ l. Left r i from least to l) (sym cut)
-        (join r i from least to n (drop (suc i) kids)
-        (subst (λ m. KidKeeps r i m from least n) (sym after) k)
-        (subst (λ m. Left r (suc i) m (suc n.id) to (drop (suc i) kids)) is
-        (subst (λ m. Left r (suc i) from' m to (drop (suc i) kids)) (sym s)
-        (subst (λ m. Left r m from' (n.id + 1) to (drop m kids)) (sym same_i) h))))
+        (join r i from least to n (drop (suc i) subtrees)
+        (subst (λ m. ChildKeeps r i m from least n) (sym after) k)
+        (subst (λ m. Left r (suc i) m (suc n.id) to (drop (suc i) subtrees)) is
+        (subst (λ m. Left r (suc i) from' m to (drop (suc i) subtrees)) (sym s)
+        (subst (λ m. Left r m from' (n.id + 1) to (drop m subtrees)) (sym same_i) h))))
 
-    pub turn_bad : (KidKeeps r i (length kids - 1 - i) from least (get_or kids i d) → ⊥)
-        → Left r i from least to (drop i kids) → ⊥
+    pub turn_bad : (ChildKeeps r i (length subtrees - 1 - i) from least (get_or subtrees i d) → ⊥)
+        → Left r i from least to (drop i subtrees) → ⊥
     turn_bad refused h =
-        let n = get_or kids i d in
-        refused (subst (λ m. KidKeeps r i m from least n) after
-        (head r i from least to n (drop (suc i) kids)
+        let n = get_or subtrees i d in
+        refused (subst (λ m. ChildKeeps r i m from least n) after
+        (head r i from least to n (drop (suc i) subtrees)
         (subst (λ l. Left r i from least to l) cut h)))
 
 -- none is left
-gone : (i : ℕ) (kids : List Node) → length kids ≤ i → drop i kids ≡ []
+gone : (i : ℕ) (subtrees : List Node) → length subtrees ≤ i → drop i subtrees ≡ []
 gone zero [] h = refl
 gone zero (x ∷ xs) h = absurd (omega arith)
 gone (suc n) [] h = refl
 gone (suc n) (x ∷ xs) h = gone n xs (omega arith)
 
-pub end_on : (r : KidRules) (to i from least : ℕ) (kids : List Node) → length kids ≤ i
-    → Left r i from least to (drop i kids) → from ≡ to
-end_on r to i from least kids le h =
-    (subst (λ l. Left r i from least to l) (gone i kids le) h).cover
+pub end_on : (r : ChildRules) (to i from least : ℕ) (subtrees : List Node) → length subtrees ≤ i
+    → Left r i from least to (drop i subtrees) → from ≡ to
+end_on r to i from least subtrees le h =
+    (subst (λ l. Left r i from least to l) (gone i subtrees le) h).cover
 
-pub end_back : (r : KidRules) (to i from least : ℕ) (kids : List Node) → length kids ≤ i
-    → from ≡ to → Left r i from least to (drop i kids)
-end_back r to i from least kids le is = subst (λ l. Left r i from least to l) (sym (gone i kids le))
+pub end_back : (r : ChildRules) (to i from least : ℕ) (subtrees : List Node) → length subtrees ≤ i
+    → from ≡ to → Left r i from least to (drop i subtrees)
+end_back r to i from least subtrees le is = subst (λ l. Left r i from least to l) (sym (gone i subtrees le))
     (record { levels = tt; above = tt; ascend = tt; known = tt; star_last = tt; cover = is })
