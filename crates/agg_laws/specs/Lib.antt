@@ -1,5 +1,6 @@
 pub mod Kind
 pub mod Numbers
+pub mod Aggregates
 pub mod States
 pub mod Rows
 pub mod Order

@@ -2,6 +2,8 @@
 
 ghost use Rattle.std.specs.Prelude.{◌≡◌};
 
+use data_types::Seq;
+
 /// A kind of aggregate, as a pair of a star-tree or an aggregate of a query names it.
 #[derive(Clone, Copy, Debug, PartialEq, Eq, PartialOrd, Ord, Hash)]
 pub enum AggKind {
@@ -11,6 +13,9 @@ pub enum AggKind {
     Greatest,
     Average,
 }
+
+/// A list of kinds, in the order of the pairs of a star-tree.
+pub type Kinds = Seq<AggKind>;
 
 impl AggKind {
     ghost use Rattle.agg_laws.specs.Kind.{width_of};

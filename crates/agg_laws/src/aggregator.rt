@@ -1,8 +1,8 @@
 //! What each aggregate promises.
 
-ghost use Rattle.std.specs.Prelude.{◌≡◌, ◌≢◌, ℕ, ◌+◌, ◌≤◌, ◌^◌, ℤ, List, [], ◌∷◌, ◌++◌, length};
-ghost use Rattle.std.specs.Prelude.{IfOk, Ok, IsPermutation};
-ghost use Rattle.agg_laws.specs.Numbers.{most_stored, most_values, AreWhole};
+ghost use Rattle.std.specs.Prelude.{◌≡◌, ℕ, ℤ, List, [], ◌∷◌, length, IfOk, Ok};
+ghost use Rattle.agg_laws.specs.Aggregates.{IsAggregate, IsStoredAs};
+ghost use Rattle.agg_laws.specs.Numbers.{most_values};
 
 /// A segment has at most so many rows, so a stored state stands for at most so many values.
 pub const MOST_STORED: u64 = 1048576;
@@ -66,33 +66,9 @@ pub trait Aggregator {
         ensures found { IfOk result (λ v. stored v × (spelling v ≡ bytes.now)) }
         ensures again { (v : Self.State) → stored v → spelling v ≡ bytes.now → result ≡ Ok v };
 
-    /// No value has the empty state, and adds nothing.
-    ghost of_none: { of [] ≡ empty };
+    /// States go by the values alone, in any grouping and order.
+    ghost aggregate: { IsAggregate Self.State of empty merged fits };
 
-    ghost nothing_added: { (v : Self.State) → merged v empty ≡ v };
-
-    /// The values of two lists are those of both, in any grouping and order.
-    ghost of_both: { (xs ys : List ℤ) → of (xs ++ ys) ≡ merged (of xs) (of ys) };
-
-    ghost any_grouping: { (u v w : Self.State) → merged (merged u v) w ≡ merged u (merged v w) };
-
-    ghost any_order: { (v w : Self.State) → merged v w ≡ merged w v };
-
-    ghost permuted: { (xs ys : List ℤ) → IsPermutation xs ys → of ys ≡ of xs };
-
-    /// How many values a state can come from adds up.
-    ghost fits_of: { (xs : List ℤ) → AreWhole xs → fits (of xs) (length xs) };
-
-    ghost fits_both: { (v w : Self.State) (n m : ℕ) → fits v n → fits w m
-        → fits (merged v w) (n + m) };
-
-    ghost fits_more: { (v : Self.State) (n m : ℕ) → fits v n → n ≤ m → fits v m };
-
-    ghost stored_fits: { (v : Self.State) → stored v → fits v most_stored };
-
-    /// Each stored state has one spelling, and each spelling belongs to one such state.
-    ghost spelled: { (v : Self.State) → stored v → length (spelling v) ≡ WIDTH };
-
-    ghost one_spelling: { (v w : Self.State) → stored v → stored w → spelling v ≡ spelling w
-        → v ≡ w };
+    /// Each stored state has one spelling.
+    ghost storage: { IsStoredAs Self.State fits stored spelling WIDTH };
 }

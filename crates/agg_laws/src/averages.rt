@@ -25,7 +25,7 @@ fn is_stored(state: AverageState) -> bool
 }
 
 impl Aggregator for Average {
-    ghost use Rattle.std.specs.Prelude.{pos, refl};
+    ghost use Rattle.std.specs.Prelude.{pos};
     ghost use Rattle.agg_laws.specs.Numbers.{average_of, both_averages, AverageFits, AverageStored};
     ghost use Rattle.agg_laws.specs.Numbers.{average_bytes};
     ghost use Rattle.agg_laws.specs.laws.Averages as laws;
@@ -48,29 +48,9 @@ impl Aggregator for Average {
 
     ghost spelling = { average_bytes };
 
-    ghost of_none = { refl };
+    ghost aggregate = { laws.aggregate };
 
-    ghost nothing_added = { laws.nothing_added };
-
-    ghost of_both = { laws.of_both };
-
-    ghost any_grouping = { laws.any_grouping };
-
-    ghost any_order = { laws.any_order };
-
-    ghost permuted = { laws.same_permuted };
-
-    ghost fits_of = { laws.fits_of };
-
-    ghost fits_both = { laws.fits_both };
-
-    ghost fits_more = { laws.fits_more };
-
-    ghost stored_fits = { laws.stored_fits };
-
-    ghost spelled = { laws.spelled };
-
-    ghost one_spelling = { laws.one_spelling };
+    ghost storage = { laws.storage };
 
     fn unit() -> AverageState {
         AverageState { sum: 0, count: 0 }

@@ -9,7 +9,7 @@ use crate::numbers::read_u64;
 pub struct Count;
 
 impl Aggregator for Count {
-    ghost use Rattle.std.specs.Prelude.{◌+◌, ◌≤◌, length, refl};
+    ghost use Rattle.std.specs.Prelude.{◌+◌, ◌≤◌, length};
     ghost use Rattle.agg_laws.specs.Numbers.{CountStored, count_bytes};
     ghost use Rattle.agg_laws.specs.laws.Counts as laws;
 
@@ -31,29 +31,9 @@ impl Aggregator for Count {
 
     ghost spelling = { count_bytes };
 
-    ghost of_none = { refl };
+    ghost aggregate = { laws.aggregate };
 
-    ghost nothing_added = { laws.nothing_added };
-
-    ghost of_both = { laws.of_both };
-
-    ghost any_grouping = { laws.any_grouping };
-
-    ghost any_order = { laws.any_order };
-
-    ghost permuted = { laws.same_permuted };
-
-    ghost fits_of = { laws.fits_of };
-
-    ghost fits_both = { laws.fits_both };
-
-    ghost fits_more = { laws.fits_more };
-
-    ghost stored_fits = { laws.stored_fits };
-
-    ghost spelled = { laws.spelled };
-
-    ghost one_spelling = { laws.one_spelling };
+    ghost storage = { laws.storage };
 
     fn unit() -> u64 {
         0

@@ -10,11 +10,9 @@ pub struct Least;
 pub struct Greatest;
 
 impl Aggregator for Least {
-    ghost use Rattle.std.specs.Prelude.{None, refl};
-    ghost use Rattle.agg_laws.specs.Numbers.{least_of, lesser, NumberFits, NumberStored};
-    ghost use Rattle.agg_laws.specs.Numbers.{number_bytes};
+    ghost use Rattle.std.specs.Prelude.{None};
+    ghost use Rattle.agg_laws.specs.Numbers.{least_of, lesser, NumberFits, NumberStored, number_bytes};
     ghost use Rattle.agg_laws.specs.laws.Leasts as laws;
-    ghost use Rattle.agg_laws.specs.laws.NumberBytes as bytes;
 
     type State = Option<i64>;
 
@@ -34,29 +32,9 @@ impl Aggregator for Least {
 
     ghost spelling = { number_bytes };
 
-    ghost of_none = { refl };
+    ghost aggregate = { laws.aggregate };
 
-    ghost nothing_added = { laws.nothing_added };
-
-    ghost of_both = { laws.of_both };
-
-    ghost any_grouping = { laws.any_grouping };
-
-    ghost any_order = { laws.any_order };
-
-    ghost permuted = { laws.same_permuted };
-
-    ghost fits_of = { laws.fits_of };
-
-    ghost fits_both = { λ v w n m. laws.fits_both v w };
-
-    ghost fits_more = { λ v n m h le. h };
-
-    ghost stored_fits = { laws.stored_fits };
-
-    ghost spelled = { bytes.spelled };
-
-    ghost one_spelling = { bytes.one_spelling };
+    ghost storage = { laws.storage };
 
     fn unit() -> Option<i64> {
         None
@@ -89,11 +67,9 @@ impl Aggregator for Least {
 }
 
 impl Aggregator for Greatest {
-    ghost use Rattle.std.specs.Prelude.{None, refl};
-    ghost use Rattle.agg_laws.specs.Numbers.{greatest_of, greater, NumberFits, NumberStored};
-    ghost use Rattle.agg_laws.specs.Numbers.{number_bytes};
+    ghost use Rattle.std.specs.Prelude.{None};
+    ghost use Rattle.agg_laws.specs.Numbers.{greatest_of, greater, NumberFits, NumberStored, number_bytes};
     ghost use Rattle.agg_laws.specs.laws.Greatests as laws;
-    ghost use Rattle.agg_laws.specs.laws.NumberBytes as bytes;
 
     type State = Option<i64>;
 
@@ -113,29 +89,9 @@ impl Aggregator for Greatest {
 
     ghost spelling = { number_bytes };
 
-    ghost of_none = { refl };
+    ghost aggregate = { laws.aggregate };
 
-    ghost nothing_added = { laws.nothing_added };
-
-    ghost of_both = { laws.of_both };
-
-    ghost any_grouping = { laws.any_grouping };
-
-    ghost any_order = { laws.any_order };
-
-    ghost permuted = { laws.same_permuted };
-
-    ghost fits_of = { laws.fits_of };
-
-    ghost fits_both = { λ v w n m. laws.fits_both v w };
-
-    ghost fits_more = { λ v n m h le. h };
-
-    ghost stored_fits = { laws.stored_fits };
-
-    ghost spelled = { bytes.spelled };
-
-    ghost one_spelling = { bytes.one_spelling };
+    ghost storage = { laws.storage };
 
     fn unit() -> Option<i64> {
         None

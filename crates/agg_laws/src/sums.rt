@@ -19,7 +19,7 @@ pub fn sum_fits(sum: i128, count: u64) -> bool
 }
 
 impl Aggregator for Sum {
-    ghost use Rattle.std.specs.Prelude.{◌+ℤ◌, pos, refl};
+    ghost use Rattle.std.specs.Prelude.{◌+ℤ◌, pos};
     ghost use Rattle.agg_laws.specs.Numbers.{sum_of, SumFits, SumStored, sum_bytes};
     ghost use Rattle.agg_laws.specs.laws.Sums as laws;
 
@@ -41,29 +41,9 @@ impl Aggregator for Sum {
 
     ghost spelling = { sum_bytes };
 
-    ghost of_none = { refl };
+    ghost aggregate = { laws.aggregate };
 
-    ghost nothing_added = { laws.nothing_added };
-
-    ghost of_both = { laws.of_both };
-
-    ghost any_grouping = { laws.any_grouping };
-
-    ghost any_order = { laws.any_order };
-
-    ghost permuted = { laws.same_permuted };
-
-    ghost fits_of = { laws.fits_of };
-
-    ghost fits_both = { laws.fits_both };
-
-    ghost fits_more = { laws.fits_more };
-
-    ghost stored_fits = { λ v h. h };
-
-    ghost spelled = { laws.spelled };
-
-    ghost one_spelling = { laws.one_spelling };
+    ghost storage = { laws.storage };
 
     fn unit() -> i128 {
         0

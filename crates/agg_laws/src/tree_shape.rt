@@ -1,6 +1,6 @@
 //! The shape of a star-tree.
 
-use crate::kind_list::Kinds;
+use crate::aggregate_kind::Kinds;
 
 /// What the settings say of a star-tree.
 #[derive(Drop)]

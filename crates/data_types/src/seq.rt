@@ -104,6 +104,16 @@ impl<T: Drop> Seq<T> {
     }
 }
 
+impl<T: Copy> Seq<T> {
+    /// The same list once more.
+    pub fn copy(&self, alloc: Global) -> Result<Self, NoMemory>
+        ensures { IfOk result (λ s. s ≡ self.now) }
+    {
+        let items = Vec::from_slice(alloc, self.items.as_slice())?;
+        Ok(Seq { items })
+    }
+}
+
 impl<T: PartialEq> PartialEq for Seq<T> {
     ghost eq = { λ x y. pointwise T.eq x y };
 

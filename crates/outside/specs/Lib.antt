@@ -1,6 +1,7 @@
 pub mod Counts
 pub mod Files
 pub mod Reads
+pub mod Calls
 pub mod Seen
 pub mod Sink
 pub mod Told

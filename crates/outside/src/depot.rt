@@ -1,8 +1,6 @@
 //! Folders of files that are read and written.
-ghost use Rattle.std.specs.Prelude.{◌≡◌, ◌≤◌, ◌↔◌, [], ◌++◌, None, OnOk, OnErr, IsErrOf};
-ghost use Rattle.outside.specs.Counts.{Rose};
-ghost use Rattle.outside.specs.Files.{Has, Lacks, SameBut, bytes_of, with_file, without_file};
-ghost use Rattle.outside.specs.declared.depot.DepotFault.TheVariants.{Missing, Failed, NoMemory};
+ghost use Rattle.std.specs.Prelude.{◌≡◌, ◌↔◌, None};
+ghost use Rattle.outside.specs.Calls.{AppendsToPart, BeginsPart, PublishesPart, RemovesFile, seen_by};
 
 use crate::Shelf;
 use std::alloc::{AllocError, Global};
@@ -33,74 +31,28 @@ impl From<AllocError> for DepotFault {
 pub trait Depot: Shelf {
     /// Makes a part, or empties it.
     fn begin(&mut self, alloc: Global, part: &str) -> Result<(), DepotFault>
-        ensures begun { OnOk result
-            (Self.parts self.new ≡ with_file part.now [] (Self.parts self.old)) }
-        ensures unknown { OnErr result
-            (SameBut part.now (Self.parts self.old) (Self.parts self.new)) }
-        ensures held { Self.held self.new ≡ Self.held self.old }
-        ensures log { Self.log self.new ≡ Self.log self.old }
-        ensures reads { Self.read_faults self.new ≡ Self.read_faults self.old }
-        ensures later { Self.write_faults self.old ≤ Self.write_faults self.new }
-        ensures failed { IsErrOf result Failed →
-            Rose (Self.write_faults self.old) (Self.write_faults self.new) }
-        ensures unchanged { ¬ IsErrOf result Failed →
-            Self.write_faults self.new ≡ Self.write_faults self.old }
-        ensures never_missing { ¬ IsErrOf result Missing };
+        ensures { BeginsPart part.now result
+            (seen_by Self.held Self.parts Self.log Self.read_faults Self.write_faults self.old)
+            (seen_by Self.held Self.parts Self.log Self.read_faults Self.write_faults self.new) };
 
     /// Adds bytes at the end of a part. One that was not begun counts as empty.
     fn append(&mut self, alloc: Global, part: &str, bytes: &[u8]) -> Result<(), DepotFault>
-        ensures appended { OnOk result
-            (Self.parts self.new
-            ≡ with_file part.now (bytes_of (Self.parts self.old) part.now ++ bytes.now)
-            (Self.parts self.old)) }
-        ensures unknown { OnErr result
-            (SameBut part.now (Self.parts self.old) (Self.parts self.new)) }
-        ensures held { Self.held self.new ≡ Self.held self.old }
-        ensures log { Self.log self.new ≡ Self.log self.old }
-        ensures reads { Self.read_faults self.new ≡ Self.read_faults self.old }
-        ensures later { Self.write_faults self.old ≤ Self.write_faults self.new }
-        ensures failed { IsErrOf result Failed →
-            Rose (Self.write_faults self.old) (Self.write_faults self.new) }
-        ensures unchanged { ¬ IsErrOf result Failed →
-            Self.write_faults self.new ≡ Self.write_faults self.old }
-        ensures never_missing { ¬ IsErrOf result Missing };
+        ensures { AppendsToPart part.now bytes.now result
+            (seen_by Self.held Self.parts Self.log Self.read_faults Self.write_faults self.old)
+            (seen_by Self.held Self.parts Self.log Self.read_faults Self.write_faults self.new) };
 
     /// Puts the bytes of a part under a name, in place of what was there. The part is gone. One
     /// that was not begun counts as empty.
     fn publish(&mut self, alloc: Global, part: &str, name: &str) -> Result<(), DepotFault>
-        ensures published { OnOk result
-            (Self.held self.new
-            ≡ with_file name.now (bytes_of (Self.parts self.old) part.now) (Self.held self.old)) }
-        ensures gone { OnOk result
-            (Self.parts self.new ≡ without_file part.now (Self.parts self.old)) }
-        ensures held { OnErr result (Self.held self.new ≡ Self.held self.old) }
-        ensures unknown { OnErr result
-            (SameBut part.now (Self.parts self.old) (Self.parts self.new)) }
-        ensures log { Self.log self.new ≡ Self.log self.old }
-        ensures reads { Self.read_faults self.new ≡ Self.read_faults self.old }
-        ensures later { Self.write_faults self.old ≤ Self.write_faults self.new }
-        ensures failed { IsErrOf result Failed →
-            Rose (Self.write_faults self.old) (Self.write_faults self.new) }
-        ensures unchanged { ¬ IsErrOf result Failed →
-            Self.write_faults self.new ≡ Self.write_faults self.old }
-        ensures never_missing { ¬ IsErrOf result Missing };
+        ensures { PublishesPart part.now name.now result
+            (seen_by Self.held Self.parts Self.log Self.read_faults Self.write_faults self.old)
+            (seen_by Self.held Self.parts Self.log Self.read_faults Self.write_faults self.new) };
 
     /// Takes a published file away.
     fn remove(&mut self, alloc: Global, name: &str) -> Result<(), DepotFault>
-        ensures removed { OnOk result
-            (Self.held self.new ≡ without_file name.now (Self.held self.old)) }
-        ensures held { OnErr result (Self.held self.new ≡ Self.held self.old) }
-        ensures parts { Self.parts self.new ≡ Self.parts self.old }
-        ensures log { Self.log self.new ≡ Self.log self.old }
-        ensures reads { Self.read_faults self.new ≡ Self.read_faults self.old }
-        ensures later { Self.write_faults self.old ≤ Self.write_faults self.new }
-        ensures failed { IsErrOf result Failed →
-            Rose (Self.write_faults self.old) (Self.write_faults self.new) }
-        ensures unchanged { ¬ IsErrOf result Failed →
-            Self.write_faults self.new ≡ Self.write_faults self.old }
-        ensures missing { IsErrOf result Missing → Lacks (Self.held self.old) name.now }
-        ensures there { OnOk result (Has (Self.held self.old) name.now) }
-        ensures present { IsErrOf result NoMemory → Has (Self.held self.old) name.now };
+        ensures { RemovesFile name.now result
+            (seen_by Self.held Self.parts Self.log Self.read_faults Self.write_faults self.old)
+            (seen_by Self.held Self.parts Self.log Self.read_faults Self.write_faults self.new) };
 
     /// A depot tells both its files and its parts, or neither.
     ghost tells_both: { (depot : Self) → (Self.held depot ≡ None) ↔ (Self.parts depot ≡ None) };

@@ -1,9 +1,8 @@
 //! Folders of files that are read.
-ghost use Rattle.std.specs.Prelude.{◌≡◌, ◌≤◌, Option, List, ℕ, OnErr, IfOk, IsErrOf, length};
-ghost use Rattle.outside.specs.Counts.{Rose};
-ghost use Rattle.outside.specs.Files.{Files, IsNames, IsLengthOf, Has, Lacks};
-ghost use Rattle.outside.specs.Reads.{Entry, ReadsAt, logged};
-ghost use Rattle.outside.specs.declared.shelf.ShelfFault.TheVariants.{Missing, Failed, NoMemory};
+ghost use Rattle.std.specs.Prelude.{◌≡◌, Option, List, ℕ};
+ghost use Rattle.outside.specs.Calls.{GivesBytes, GivesLength, GivesNames, seen_by};
+ghost use Rattle.outside.specs.Files.{Files};
+ghost use Rattle.outside.specs.Reads.{Entry};
 
 use crate::{Name, Seq};
 use std::alloc::{AllocError, Global};
@@ -48,30 +47,15 @@ pub trait Shelf {
 
     /// The names of the files, ascending by bytes.
     fn names(&mut self, alloc: Global) -> Result<Seq<Name>, ShelfFault>
-        ensures names { IfOk result (IsNames (held self.old)) }
-        ensures held { held self.new ≡ held self.old }
-        ensures parts { parts self.new ≡ parts self.old }
-        ensures log { log self.new ≡ log self.old }
-        ensures writes { write_faults self.new ≡ write_faults self.old }
-        ensures later { read_faults self.old ≤ read_faults self.new }
-        ensures failed { IsErrOf result Failed → Rose (read_faults self.old)
-            (read_faults self.new) }
-        ensures unchanged { ¬ IsErrOf result Failed → read_faults self.new ≡ read_faults self.old }
-        ensures never_missing { ¬ IsErrOf result Missing };
+        ensures { GivesNames result
+            (seen_by held parts log read_faults write_faults self.old)
+            (seen_by held parts log read_faults write_faults self.new) };
 
     /// The length of a file in bytes.
     fn length(&mut self, alloc: Global, name: &str) -> Result<u64, ShelfFault>
-        ensures length { IfOk result (IsLengthOf (held self.old) name.now) }
-        ensures held { held self.new ≡ held self.old }
-        ensures parts { parts self.new ≡ parts self.old }
-        ensures log { log self.new ≡ log self.old }
-        ensures writes { write_faults self.new ≡ write_faults self.old }
-        ensures later { read_faults self.old ≤ read_faults self.new }
-        ensures failed { IsErrOf result Failed → Rose (read_faults self.old)
-            (read_faults self.new) }
-        ensures unchanged { ¬ IsErrOf result Failed → read_faults self.new ≡ read_faults self.old }
-        ensures missing { IsErrOf result Missing → Lacks (held self.old) name.now }
-        ensures present { IsErrOf result NoMemory → Has (held self.old) name.now };
+        ensures { GivesLength name.now result
+            (seen_by held parts log read_faults write_faults self.old)
+            (seen_by held parts log read_faults write_faults self.new) };
 
     /// Reads the bytes of a file from an offset on, as many as there are and fit, into the front of
     /// `into`, and says how many. After a refusal nothing is known of the bytes of `into`.
@@ -82,18 +66,7 @@ pub trait Shelf {
         offset: u64,
         into: &mut [u8],
     ) -> Result<usize, ShelfFault>
-        ensures bound { IfOk result (λ n. n ≤ length into.old) }
-        ensures bytes { IfOk result
-            (λ n. ReadsAt (held self.old) name.now offset n into.old into.new) }
-        ensures held { held self.new ≡ held self.old }
-        ensures parts { parts self.new ≡ parts self.old }
-        ensures logged { IfOk result (λ n. log self.new ≡ logged name.now offset n (log self.old)) }
-        ensures not_logged { OnErr result (log self.new ≡ log self.old) }
-        ensures writes { write_faults self.new ≡ write_faults self.old }
-        ensures later { read_faults self.old ≤ read_faults self.new }
-        ensures failed { IsErrOf result Failed → Rose (read_faults self.old)
-            (read_faults self.new) }
-        ensures unchanged { ¬ IsErrOf result Failed → read_faults self.new ≡ read_faults self.old }
-        ensures missing { IsErrOf result Missing → Lacks (held self.old) name.now }
-        ensures present { IsErrOf result NoMemory → Has (held self.old) name.now };
+        ensures { GivesBytes name.now offset into.old into.new result
+            (seen_by held parts log read_faults write_faults self.old)
+            (seen_by held parts log read_faults write_faults self.new) };
 }

@@ -1,7 +1,6 @@
 //! Streams of bytes that are written.
-ghost use Rattle.std.specs.Prelude.{◌≡◌, ◌≤◌, Option, List, ℕ, OnOk, OnErr};
-ghost use Rattle.outside.specs.Counts.{Rose};
-ghost use Rattle.outside.specs.Sink.{appended, AppendsPrefix};
+ghost use Rattle.std.specs.Prelude.{Option, List, ℕ};
+ghost use Rattle.outside.specs.Calls.{PutsBytes, heard_by};
 
 /// Why a sink did not take all of a piece.
 #[derive(Clone, Copy, Debug, PartialEq, Eq)]
@@ -22,10 +21,6 @@ pub trait Sink {
     /// Writes these bytes at the end. After a fault a first part of them may have been written. It
     /// takes no memory.
     fn put(&mut self, bytes: &[u8]) -> Result<(), SinkFault>
-        ensures all { OnOk result (written self.new ≡ appended bytes.now (written self.old)) }
-        ensures prefix { OnErr result (AppendsPrefix bytes.now (written self.old)
-            (written self.new)) }
-        ensures later { faults self.old ≤ faults self.new }
-        ensures failed { OnErr result (Rose (faults self.old) (faults self.new)) }
-        ensures unchanged { OnOk result (faults self.new ≡ faults self.old) };
+        ensures { PutsBytes bytes.now result
+            (heard_by written faults self.old) (heard_by written faults self.new) };
 }

@@ -1,7 +1,11 @@
 //! A star-tree, written flat.
 
-use crate::node_list::Nodes;
+use data_types::Seq;
 use star_table::StarTable;
+use star_tree::Node;
+
+/// The nodes of a star-tree, by number.
+pub type Nodes = Seq<Node>;
 
 /// A star-tree: its documents and its nodes, by number.
 #[derive(Drop)]

@@ -4,6 +4,7 @@ use Rattle.std.proofs.Common.{get_or, subst, refl, sym, ap, ◌∙◌, arith}
 use Rattle.std.specs.Prelude.{ℤ, pos, ◌+ℤ◌}
 use Rattle.std.specs.List.Sorted.{IsPermutation}
 use Rattle.agg_laws.specs.declared.averages.AverageState.{AverageState}
+use Rattle.agg_laws.specs.Aggregates.{IsAggregate, IsStoredAs}
 use Rattle.agg_laws.specs.Numbers.{average_of, both_averages, AreWhole, AverageFits, AverageStored}
 use Rattle.agg_laws.specs.Numbers.{most_stored, sum_bytes, count_bytes, average_bytes}
 use Rattle.agg_laws.specs.laws.Permuted.{permuted}
@@ -91,3 +92,25 @@ read bs s c sum count v stored is =
     ∙ sums.read v.sum (sums.fits_128 v.sum v.count stored.0.1 stored.1))
     (count ∙ ap (λ b. from_be_bytes w64 (drop 16 b)) (sym is)
     ∙ counts.read v.count (omega (arith, stored.0.1)))
+
+-- averages are an aggregate
+pub aggregate : IsAggregate AverageState average_of (record { sum = pos 0; count = 0 }) both_averages AverageFits
+aggregate = record {
+  of_none = refl;
+  nothing_added = nothing_added;
+  of_both = of_both;
+  any_grouping = any_grouping;
+  any_order = any_order;
+  permuted = same_permuted;
+  fits_of = fits_of;
+  fits_both = fits_both;
+  fits_more = fits_more;
+}
+
+-- and are stored so
+pub storage : IsStoredAs AverageState AverageFits AverageStored average_bytes 24
+storage = record {
+  stored_fits = stored_fits;
+  spelled = spelled;
+  one_spelling = one_spelling;
+}

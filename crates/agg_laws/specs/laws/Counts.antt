@@ -5,6 +5,7 @@ use Rattle.std.proofs.lemmas.Nat.{from_be_bytes-to_be_bytes_8, be_bytes_8}
 use Rattle.std.specs.Prelude.{ℤ}
 use Rattle.std.specs.Int.{w64, from_be_bytes}
 use Rattle.std.specs.List.Sorted.{IsPermutation}
+use Rattle.agg_laws.specs.Aggregates.{IsAggregate, IsStoredAs}
 use Rattle.agg_laws.specs.Numbers.{AreWhole, CountStored, most_stored, count_bytes}
 use Rattle.agg_laws.specs.laws.Permuted.{permuted}
 
@@ -54,3 +55,25 @@ fits_of xs h = omega arith
 
 pub stored_fits : (v : ℕ) → CountStored v → v ≤ most_stored
 stored_fits v h = h.1
+
+-- counts are an aggregate
+pub aggregate : IsAggregate ℕ (λ xs. length xs) 0 (λ a b. a + b) (λ c n. c ≤ n)
+aggregate = record {
+  of_none = refl;
+  nothing_added = nothing_added;
+  of_both = of_both;
+  any_grouping = any_grouping;
+  any_order = any_order;
+  permuted = same_permuted;
+  fits_of = fits_of;
+  fits_both = fits_both;
+  fits_more = fits_more;
+}
+
+-- and are stored so
+pub storage : IsStoredAs ℕ (λ c n. c ≤ n) CountStored count_bytes 8
+storage = record {
+  stored_fits = stored_fits;
+  spelled = spelled;
+  one_spelling = one_spelling;
+}

@@ -5,7 +5,9 @@ use Rattle.std.specs.Prelude.{ℤ}
 use Rattle.std.proofs.lemmas.Int.{ints, clamps}
 use Rattle.std.specs.Int.{int_min}
 use Rattle.std.specs.List.Sorted.{IsPermutation}
-use Rattle.agg_laws.specs.Numbers.{lesser, least_of, IsWhole, AreWhole, NumberFits, NumberStored}
+use Rattle.agg_laws.specs.Aggregates.{IsAggregate, IsStoredAs}
+use Rattle.agg_laws.specs.Numbers.{lesser, least_of, IsWhole, AreWhole, NumberFits, NumberStored, number_bytes}
+use Rattle.agg_laws.specs.laws.NumberBytes as bytes
 use Rattle.agg_laws.specs.laws.Permuted.{permuted}
 
 pub nothing_added : (v : Option ℤ) → lesser v None ≡ v
@@ -53,3 +55,25 @@ fits_of (x ∷ xs) h = fits_both (Some x) (least_of xs) h.0 (fits_of xs h.1)
 pub stored_fits : (v : Option ℤ) → NumberStored v → NumberFits v
 stored_fits None h = tt
 stored_fits (Some x) h = h
+
+-- least numbers are an aggregate
+pub aggregate : IsAggregate (Option ℤ) least_of None lesser (λ v _. NumberFits v)
+aggregate = record {
+  of_none = refl;
+  nothing_added = nothing_added;
+  of_both = of_both;
+  any_grouping = any_grouping;
+  any_order = any_order;
+  permuted = same_permuted;
+  fits_of = fits_of;
+  fits_both = λ v w n m. fits_both v w;
+  fits_more = λ v n m h le. h;
+}
+
+-- and are stored so
+pub storage : IsStoredAs (Option ℤ) (λ v _. NumberFits v) NumberStored number_bytes 8
+storage = record {
+  stored_fits = stored_fits;
+  spelled = bytes.spelled;
+  one_spelling = bytes.one_spelling;
+}

@@ -6,6 +6,7 @@ use Rattle.std.proofs.lemmas.Int.{ints, to_z-of_z, of_z-to_z}
 use Rattle.std.specs.Int.{w128, to_be_bytes, from_be_bytes, cast_signed, cast_unsigned}
 use Rattle.std.specs.Int.RustNames.{FitsSigned}
 use Rattle.std.specs.List.Sorted.{IsPermutation}
+use Rattle.agg_laws.specs.Aggregates.{IsAggregate, IsStoredAs}
 use Rattle.agg_laws.specs.Numbers.{sum_of, AreWhole, SumFits, SumStored, most_stored, sum_bytes}
 use Rattle.agg_laws.specs.laws.Permuted.{permuted}
 use Rattle.agg_laws.specs.laws.Bytes.{from_be_bytes-to_be_bytes_16, be_bytes_16, below_16}
@@ -74,3 +75,25 @@ pub written : (bs : List ℕ) → length bs ≡ 16 → ((i : ℕ) → get_or bs 
 unfolding sum_bytes
 written bs l small = ap (to_be_bytes w128)
     (of_z-to_z w128 (from_be_bytes w128 bs) (below_16 bs small)) ∙ be_bytes_16 bs l small
+
+-- sums are an aggregate
+pub aggregate : IsAggregate ℤ sum_of (pos 0) (λ a b. a +ℤ b) SumFits
+aggregate = record {
+  of_none = refl;
+  nothing_added = nothing_added;
+  of_both = of_both;
+  any_grouping = any_grouping;
+  any_order = any_order;
+  permuted = same_permuted;
+  fits_of = fits_of;
+  fits_both = fits_both;
+  fits_more = fits_more;
+}
+
+-- and are stored so
+pub storage : IsStoredAs ℤ SumFits SumStored sum_bytes 16
+storage = record {
+  stored_fits = λ v h. h;
+  spelled = spelled;
+  one_spelling = one_spelling;
+}

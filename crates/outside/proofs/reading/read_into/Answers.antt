@@ -43,7 +43,7 @@ pieces-preserved g c =
     let bytes : ReadsAt held name (offset + done) n (mid_of done room c.pieces.into) c.read_at.new.into = subst (λ h. ReadsAt h name (offset + done) n (mid_of done room c.pieces.into) c.read_at.new.into) i.only_reads.held e.bytes in
     record {
       only_reads = reads_after ⊥ (seen g.S.Shelf c.args.shelf.now) (seen g.S.Shelf c.pieces.shelf) (seen g.S.Shelf c.read_at.new.self) i.only_reads
-          (record { held = e.held; parts = e.parts; writes = e.writes; later = e.later; rose = λ fails. absurd fails; unchanged = λ _. e.unchanged (λ fails. cc) });
+          (record { held = e.only_reads.held; parts = e.only_reads.parts; writes = e.only_reads.writes; later = e.only_reads.later; rose = λ fails. absurd fails; unchanged = λ _. e.only_reads.unchanged (λ fails. cc) });
       within = fits_after c.pieces.into c.read_at.new.into done n i.within c.read_at.auto.into e.bound;
       log = subst (λ k. LogsOn name offset k first now) on (LogsOn-push name offset (offset + done) n first (g.S.Shelf.log c.pieces.shelf) now i.log e.logged (omega arith));
       front = front-grows held name offset done n room c.pieces.into c.read_at.new.into i.within bytes i.front;

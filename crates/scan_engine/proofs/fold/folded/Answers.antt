@@ -6,7 +6,7 @@ use Rattle.scan_engine.proofs.fold.folded.Goals as goal
 pub add-requires : goal.add-requires
 add-requires g c =
     let a = g.A.Aggregator in
-    let met = g.met.A.Aggregator in
+    let met = g.met.A.Aggregator.aggregate in
     let at = c.loop-place.place-index in
     let z : ℤ = to_z w64 (of_z w64 c.number_at.result) in
     let same : z ≡ c.number_at.result = to_z-of_z w64 c.number_at.result (record { sfits = c.number_at.type_inv }) in
