@@ -1,6 +1,6 @@
 -- The forward index of a column: the ids of its rows, each in as many bits as the number of ids
 -- wants.
-use Rattle.std.specs.Prelude.{◌≤◌, ℕ, ◌+◌, ◌-◌, ◌*◌, ◌/◌, ◌^◌, List, ◌++◌, length, replicate, max}
+use Rattle.std.specs.Prelude.{◌≡◌, ◌≤◌, ℕ, ◌+◌, ◌-◌, ◌*◌, ◌/◌, ◌^◌, List, ◌++◌, length, replicate, max, Result, OnOk, OnErr}
 use Rattle.std.specs.Int.{leading_zeros, w32}
 use Rattle.bit_column.specs.Bits.{bits_of, field, pieces}
 
@@ -28,3 +28,9 @@ id_at width index bytes = field width (index * width) (bits_of 8 bytes)
 -- the ids from one index to another, which is left out
 abbrev pub ids_between : ℕ → ℕ → ℕ → List ℕ → List ℕ
 ids_between width from to bytes = pieces width (from * width) (to - from) (bits_of 8 bytes)
+
+-- these bytes were appended to others, or none were
+pub record Appends {E : Type 0} (result : Result (Unit {0}) E) (bytes old new : List ℕ)
+    : Type 0 where
+  pub ok : OnOk result (new ≡ old ++ bytes)
+  pub err : OnErr result (new ≡ old)

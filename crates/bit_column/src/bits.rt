@@ -2,15 +2,16 @@
 ghost use Rattle.std.specs.Prelude.{◌≡◌, ◌≤◌, ◌<◌, ◌+◌, ◌-◌, ◌*◌, ◌/◌, ◌%◌, ◌^◌, ◌++◌, length, replicate};
 ghost use Rattle.bit_column.specs.Bits.{bits, bits_of, number};
 
+use crate::Width;
+
 /// The window with an id after what it has.
 #[tactic(auto, using(crate::proofs::Windows::joined))]
-pub fn joined(window: u64, have: u32, id: u32, width: u32) -> u64
-    requires width { width ≤ 32 }
-    requires room { have + width ≤ 64 }
-    requires id { id < 2 ^ width }
-    ensures { bits (have + width) result ≡ bits have window ++ bits width id }
+pub fn joined(window: u64, have: u32, id: u32, width: Width) -> u64
+    requires room { have + width.bits ≤ 64 }
+    requires id { id < 2 ^ width.bits }
+    ensures { bits (have + width.bits) result ≡ bits have window ++ bits width.bits id }
 {
-    window << width | id as u64
+    window << width.bits | id as u64
 }
 
 /// The byte of the window that so many bits follow.
@@ -33,10 +34,9 @@ pub fn last_byte(window: u64, have: u32) -> u8
 
 /// So many bits of the window, which so many others follow.
 #[tactic(auto, using(crate::proofs::Windows::taken))]
-pub fn taken(window: u64, following: u32, width: u32) -> u32
-    requires width { width ≤ 32 }
-    requires following { following < 64 }
-    ensures { result ≡ window / 2 ^ following % 2 ^ width }
+pub fn taken(window: u64, following: u32, width: Width) -> u32
+    requires { following < 64 }
+    ensures { result ≡ window / 2 ^ following % 2 ^ width.bits }
 {
-    ((window >> following) & ((1u64 << width) - 1)) as u32
+    ((window >> following) & ((1u64 << width.bits) - 1)) as u32
 }

@@ -4,6 +4,7 @@
 
 mod bits;
 mod fault;
+mod file_part;
 mod id_range;
 mod laws;
 mod part;

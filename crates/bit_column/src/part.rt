@@ -7,30 +7,28 @@ ghost use Rattle.bit_column.specs.Reading.{ReadsPart};
 ghost use Rattle.bit_column.specs.Sections.{EndsBefore};
 
 use crate::ColumnFault;
+use crate::file_part::FilePart;
 use outside::{Shelf, ShelfFault, read_into};
 use std::alloc::Global;
 
-/// Reads the bytes of a file between two places after an offset into `into`, which has place for
-/// just these. A file that is not there has no bytes.
-#[inline(always)]
+/// Reads a part of a file into `into`, which has place for just its bytes. A file that is not there
+/// has no bytes.
+#[inline(never)]
 pub fn read_part<S: Shelf>(
     alloc: Global,
     shelf: &mut S,
-    name: &str,
-    offset: u64,
-    from: u64,
-    to: u64,
+    part: FilePart<'_>,
     into: &mut [u8],
 ) -> Result<(), ColumnFault>
-    requires order { from < to }
-    requires size { length into.old ≡ to - from }
-    ensures { ReadsPart result name.now (offset + from) (offset + to) into.new
+    requires { length into.old ≡ part.to - part.from }
+    ensures { ReadsPart result part.entry.name.now (part.entry.offset + part.entry.from)
+        (part.entry.offset + part.entry.to) into.new
         (seen S.Shelf shelf.old) (seen S.Shelf shelf.new) }
 {
-    if to > u64::MAX - offset {
-        return Err(past_all(alloc, shelf, name));
+    if part.to > u64::MAX - part.offset {
+        return Err(past_all(alloc, shelf, part.name));
     }
-    let count = match read_into(alloc, shelf, name, offset + from, into) {
+    let count = match read_into(alloc, shelf, part.name, part.offset + part.from, into) {
         Ok(count) => count,
         Err(fault) => return Err(of_shelf(fault)),
     };
@@ -40,52 +38,44 @@ pub fn read_part<S: Shelf>(
     Ok(())
 }
 
-/// Reads the bytes of a file between two places after an offset, of which there are at most eight,
-/// to the front of `bytes`.
+/// Reads a part of a file, which is of at most eight bytes, to the front of `bytes`.
 #[inline(always)]
 pub fn read_few<S: Shelf>(
     alloc: Global,
     shelf: &mut S,
-    name: &str,
-    offset: u64,
-    from: u64,
-    to: u64,
+    part: FilePart<'_>,
     bytes: &mut [u8; 8],
 ) -> Result<(), ColumnFault>
-    requires order { from < to }
-    requires at_most_eight { to ≤ from + 8 }
-    ensures { ReadsPart result name.now (offset + from) (offset + to) (take (to - from) bytes.new)
+    requires { part.to ≤ part.from + 8 }
+    ensures { ReadsPart result part.entry.name.now (part.entry.offset + part.entry.from)
+        (part.entry.offset + part.entry.to) (take (part.entry.to - part.entry.from) bytes.new)
         (seen S.Shelf shelf.old) (seen S.Shelf shelf.new) }
 {
-    let size = (to - from) as usize;
-    match read_short(alloc, shelf, name, offset, from, to, &mut bytes[..size]) {
+    let size = (part.to - part.from) as usize;
+    match read_short(alloc, shelf, part, &mut bytes[..size]) {
         Ok(()) => Ok(()),
         Err(fault) => Err(fault),
     }
 }
 
-// Reads the bytes of a file between two places after an offset into `into`, which has place for
-// just these. Nearly always one read gives them all, and what goes on after fewer is out of the
-// way.
+// Reads a part of a file into `into`, which has place for just its bytes. Nearly always one read
+// gives them all, and what goes on after fewer is out of the way.
 #[inline(always)]
 fn read_short<S: Shelf>(
     alloc: Global,
     shelf: &mut S,
-    name: &str,
-    offset: u64,
-    from: u64,
-    to: u64,
+    part: FilePart<'_>,
     into: &mut [u8],
 ) -> Result<(), ColumnFault>
-    requires order { from < to }
-    requires size { length into.old ≡ to - from }
-    ensures { ReadsPart result name.now (offset + from) (offset + to) into.new
+    requires { length into.old ≡ part.to - part.from }
+    ensures { ReadsPart result part.entry.name.now (part.entry.offset + part.entry.from)
+        (part.entry.offset + part.entry.to) into.new
         (seen S.Shelf shelf.old) (seen S.Shelf shelf.new) }
 {
-    if to > u64::MAX - offset {
-        return Err(past_all(alloc, shelf, name));
+    if part.to > u64::MAX - part.offset {
+        return Err(past_all(alloc, shelf, part.name));
     }
-    let n = match read_once(alloc, shelf, name, offset + from, into) {
+    let n = match read_once(alloc, shelf, part.name, part.offset + part.from, into) {
         Ok(n) => n,
         Err(fault) => return Err(of_shelf(fault)),
     };
@@ -95,38 +85,16 @@ fn read_short<S: Shelf>(
     if n == 0 {
         return Err(ColumnFault::BadId);
     }
-    match read_rest(
-        alloc,
-        shelf,
-        name,
-        offset,
-        from + n as u64,
-        to,
-        &mut into[n..],
-    ) {
+    let rest = FilePart {
+        name: part.name,
+        offset: part.offset,
+        from: part.from + n as u64,
+        to: part.to,
+    };
+    match read_part(alloc, shelf, rest, &mut into[n..]) {
         Ok(()) => Ok(()),
         Err(fault) => Err(fault),
     }
-}
-
-// Reads bytes of a file after some that were read.
-#[cold]
-#[inline(never)]
-fn read_rest<S: Shelf>(
-    alloc: Global,
-    shelf: &mut S,
-    name: &str,
-    offset: u64,
-    from: u64,
-    to: u64,
-    into: &mut [u8],
-) -> Result<(), ColumnFault>
-    requires order { from < to }
-    requires size { length into.old ≡ to - from }
-    ensures { ReadsPart result name.now (offset + from) (offset + to) into.new
-        (seen S.Shelf shelf.old) (seen S.Shelf shelf.new) }
-{
-    read_part(alloc, shelf, name, offset, from, to, into)
 }
 
 // Reads bytes of a file from an offset on once, and says how many they are.

@@ -6,6 +6,7 @@ ghost use Rattle.bit_column.specs.Reading.{ReadsRange};
 ghost use Rattle.bit_column.specs.Sections.{section, AppendsRange, Readable};
 ghost use Rattle.bit_column.specs.declared.fault.ColumnFault.TheVariants.{BadId, ReadFault};
 
+use crate::file_part::FilePart;
 use crate::part::{read_few, read_part};
 use crate::reading::{append_ids, id_of};
 use crate::{ColumnFault, IdRange, Width};
@@ -50,7 +51,7 @@ pub fn read_range<S: Shelf>(
 }
 
 /// Appends the ids of a range of a section. It reads their bytes and no others, each once, into a
-/// buffer that is used again.
+/// buffer that is used again. A range of one takes no memory but for the id.
 #[inline(always)]
 pub fn append_range<S: Shelf>(
     alloc: Global,
@@ -65,35 +66,23 @@ pub fn append_range<S: Shelf>(
     ensures reads { ReadsRange result place.now range.width.bits range.count range.from range.to
         (seen S.Shelf shelf.old) (seen S.Shelf shelf.new) }
 {
-    if range.to - range.from == 1 {
-        return append_one(alloc, shelf, place, range, ids);
+    if range.to - range.from != 1 {
+        return append_some(alloc, shelf, place, range, buffer, ids);
     }
-    append_some(alloc, shelf, place, range, buffer, ids)
-}
-
-// Appends the id of a range of one. It takes no memory but for the id.
-#[inline(always)]
-fn append_one<S: Shelf>(
-    alloc: Global,
-    shelf: &mut S,
-    place: &Place,
-    range: IdRange,
-    ids: &mut Vec<u32>,
-) -> Result<(), ColumnFault>
-    requires { range.to ≡ range.from + 1 }
-    ensures ids { OnOk result (AppendsRange (S.held shelf.old) place.now range.width.bits
-        range.count range.from range.to ids.old.items ids.new.items) }
-    ensures reads { ReadsRange result place.now range.width.bits range.count range.from range.to
-        (seen S.Shelf shelf.old) (seen S.Shelf shelf.new) }
-{
     let bit = range.from as u64 * range.width.bits as u64;
     let end = (range.to as u64 * range.width.bits as u64 + 7) / 8;
     if end > place.length {
         return Err(ColumnFault::BadId);
     }
     let name = place.file.as_str();
+    let part = FilePart {
+        name,
+        offset: place.offset,
+        from: bit / 8,
+        to: end,
+    };
     let mut bytes = [0u8; 8];
-    match read_few(alloc, shelf, name, place.offset, bit / 8, end, &mut bytes) {
+    match read_few(alloc, shelf, part, &mut bytes) {
         Ok(()) => {
             let size = (end - bit / 8) as usize;
             let id = id_of(&bytes, size, (bit % 8) as usize, range.width);
@@ -146,7 +135,13 @@ fn append_some<S: Shelf>(
     let first = bit / 8;
     buffer.resize((end - first) as usize, 0)?;
     let name = place.file.as_str();
-    match read_part(alloc, shelf, name, place.offset, first, end, &mut *buffer) {
+    let part = FilePart {
+        name,
+        offset: place.offset,
+        from: first,
+        to: end,
+    };
+    match read_part(alloc, shelf, part, &mut *buffer) {
         Ok(()) => append_ids(
             buffer.as_slice(),
             (bit % 8) as usize,

@@ -30,7 +30,7 @@ fn field_at(bytes: &[u8], bit: usize, width: Width) -> u32
 {
     let head = front(&bytes[bit / 8..]);
     let following = 8 * head.len() - bit % 8 - width.bits as usize;
-    taken(window(head), following as u32, width.bits)
+    taken(window(head), following as u32, width)
 }
 
 /// The id from a bit of the first byte on, which so many of the bytes have. Of two bytes or of one,

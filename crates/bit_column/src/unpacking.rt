@@ -32,7 +32,7 @@ pub fn unpack(
     for i in 0..ids.len() {
         window = window.filled(bytes, width.bits);
         window.have -= width.bits;
-        let id = taken(window.bits, window.have, width.bits);
+        let id = taken(window.bits, window.have, width);
         if id >= count {
             return Err(ColumnFault::BadId);
         }

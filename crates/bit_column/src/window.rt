@@ -1,8 +1,9 @@
 //! A window of the bits that come next in bytes.
-ghost use Rattle.std.specs.Prelude.{◌≡◌, ◌≤◌, ◌<◌, ◌+◌, ◌*◌, ◌^◌, length, take, drop};
-ghost use Rattle.bit_column.specs.Untaken.{HasUntaken, taken_before};
+ghost use Rattle.std.specs.Prelude.{◌≡◌, ◌≤◌, ◌+◌, length, take, drop};
+ghost use Rattle.bit_column.specs.Untaken.{CanFill, CanGrow, Grows, HasUntaken, IsFilled, taken_before};
 ghost use Rattle.bit_column.specs.Bits.{bits, bits_of};
 
+use crate::Width;
 use crate::bits::joined;
 
 /// So many bits that come next, the last ones of a number, and the byte that comes after them.
@@ -29,12 +30,8 @@ impl Window {
     /// The window with so many bits at least, which the bytes have.
     #[inline(always)]
     pub fn filled(self, bytes: &[u8], width: u32) -> Window
-        requires untaken { HasUntaken bytes.now self }
-        requires bound { width ≤ 32 }
-        requires held { taken_before self + width ≤ 8 * length bytes.now }
-        ensures untaken { HasUntaken bytes.now result }
-        ensures have { width ≤ result.have }
-        ensures same { taken_before result ≡ taken_before self }
+        requires { CanFill bytes.now width self }
+        ensures { IsFilled bytes.now width self result }
     {
         if self.have >= width {
             return self;
@@ -48,16 +45,12 @@ impl Window {
     // The window with four bytes more.
     #[inline(always)]
     fn with_word(self, bytes: &[u8]) -> Window
-        requires untaken { HasUntaken bytes.now self }
-        requires room { self.have ≤ 32 }
-        requires there { self.next + 4 ≤ length bytes.now }
-        ensures untaken { HasUntaken bytes.now result }
-        ensures have { result.have ≡ self.have + 32 }
-        ensures same { taken_before result ≡ taken_before self }
+        requires { CanGrow bytes.now 4 self }
+        ensures { Grows bytes.now 4 self result }
     {
         let word = word_at(bytes, self.next);
         Window {
-            bits: joined(self.bits, self.have, word, 32),
+            bits: joined(self.bits, self.have, word, Width { bits: 32 }),
             have: self.have + 32,
             next: self.next + 4,
         }
@@ -66,12 +59,8 @@ impl Window {
     // The window with byte after byte more, until it has so many bits.
     #[cold]
     fn with_bytes(self, bytes: &[u8], width: u32) -> Window
-        requires untaken { HasUntaken bytes.now self }
-        requires bound { width ≤ 32 }
-        requires held { taken_before self + width ≤ 8 * length bytes.now }
-        ensures untaken { HasUntaken bytes.now result }
-        ensures have { width ≤ result.have }
-        ensures same { taken_before result ≡ taken_before self }
+        requires { CanFill bytes.now width self }
+        ensures { IsFilled bytes.now width self result }
     {
         let mut window = self;
         while window.have < width {
@@ -82,16 +71,12 @@ impl Window {
 
     // The window with a byte more.
     fn with_byte(self, bytes: &[u8]) -> Window
-        requires untaken { HasUntaken bytes.now self }
-        requires room { self.have ≤ 32 }
-        requires there { self.next < length bytes.now }
-        ensures untaken { HasUntaken bytes.now result }
-        ensures have { result.have ≡ self.have + 8 }
-        ensures same { taken_before result ≡ taken_before self }
+        requires { CanGrow bytes.now 1 self }
+        ensures { Grows bytes.now 1 self result }
     {
         let byte = bytes[self.next];
         Window {
-            bits: joined(self.bits, self.have, byte as u32, 8),
+            bits: joined(self.bits, self.have, byte as u32, Width { bits: 8 }),
             have: self.have + 8,
             next: self.next + 1,
         }

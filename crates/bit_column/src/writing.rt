@@ -1,8 +1,9 @@
 //! Ids are written.
-ghost use Rattle.std.specs.Prelude.{◌≡◌, ◌≤◌, ◌<◌, ◌^◌, ◌++◌, ℕ, All, length, take, replicate, OnOk, OnErr, IfOk};
+ghost use Rattle.std.specs.Prelude.{◌≡◌, ◌≤◌, ◌<◌, ◌^◌, ◌++◌, ℕ, All, length, take, replicate, OnOk, IfOk};
 ghost use Rattle.bit_column.specs.Bits.{bits, bits_of};
-ghost use Rattle.bit_column.specs.Column.{spelled};
+ghost use Rattle.bit_column.specs.Column.{Appends, spelled};
 
+use crate::Width;
 use crate::bits::{joined, last_byte, whole_byte};
 use outside::NoMemory;
 
@@ -12,11 +13,10 @@ pub fn write(ids: &[u32], width: u32, out: &mut Vec<u8>) -> Result<(), NoMemory>
     requires width { 1 ≤ width }
     requires bound { width ≤ 32 }
     requires ids { All (λ id. id < 2 ^ width) ids.now }
-    ensures ok { OnOk result (out.new.items ≡ out.old.items ++ spelled width ids.now) }
-    ensures err { OnErr result (out.new.items ≡ out.old.items) }
+    ensures { Appends result (spelled width ids.now) out.old.items out.new.items }
 {
     let start = out.len();
-    if let Err(fault) = push_ids(ids, width, out) {
+    if let Err(fault) = push_ids(ids, Width { bits: width }, out) {
         out.truncate(start);
         return Err(fault);
     }
@@ -24,19 +24,18 @@ pub fn write(ids: &[u32], width: u32, out: &mut Vec<u8>) -> Result<(), NoMemory>
 }
 
 // Appends ids and the zero bits. After want of memory some bytes are there.
-fn push_ids(ids: &[u32], width: u32, out: &mut Vec<u8>) -> Result<(), NoMemory>
-    requires bound { width ≤ 32 }
-    requires ids { All (λ id. id < 2 ^ width) ids.now }
+fn push_ids(ids: &[u32], width: Width, out: &mut Vec<u8>) -> Result<(), NoMemory>
+    requires { All (λ id. id < 2 ^ width.bits) ids.now }
     ensures bits { OnOk result ((zeros : ℕ) × (zeros < 8) × (bits_of 8 out.new.items
-        ≡ bits_of 8 out.old.items ++ (bits_of width ids.now ++ replicate zeros 0))) }
+        ≡ bits_of 8 out.old.items ++ (bits_of width.bits ids.now ++ replicate zeros 0))) }
     ensures kept { take (length out.old.items) out.new.items ≡ out.old.items }
 {
-    out.reserve(ids.len().saturating_mul(width as usize).div_ceil(8))?;
+    out.reserve(ids.len().saturating_mul(width.bits as usize).div_ceil(8))?;
     let mut window = 0;
     let mut have = 0;
     for id in ids {
         window = joined(window, have, *id, width);
-        match push_bytes(window, have + width, out) {
+        match push_bytes(window, have + width.bits, out) {
             Ok(left) => have = left,
             Err(fault) => return Err(fault),
         }

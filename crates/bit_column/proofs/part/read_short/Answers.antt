@@ -4,50 +4,50 @@ use Rattle.outside.proofs.ReadLemmas.{logs-none}
 use Rattle.bit_column.proofs.ReadSteps.{LogsOn-append, LogsUpTo-after}
 use Rattle.bit_column.proofs.part.read_short.Goals as goal
 
-pub returns-then-to-offset : goal.returns-then-to-offset
-returns-then-to-offset g c = record {
+pub returns-then-part : goal.returns-then-part
+returns-then-part g c = record {
   part = search rules;
   only_reads = search rules;
   log = search rules;
   log_of_fault =
-      logs-none c.args.name.now (c.args.offset + c.args.from) (c.args.offset + c.args.to) (g.S.Shelf.log c.args.shelf.now) (g.S.Shelf.log c.past_all.new.shelf) (omega (arith, c.requires.order)) c.past_all.ensures.log;
+      logs-none c.args.part.name.now (c.args.part.offset + c.args.part.from) (c.args.part.offset + c.args.part.to) (g.S.Shelf.log c.args.shelf.now) (g.S.Shelf.log c.past_all.new.shelf) (omega (arith, c.args.part.order)) c.past_all.ensures.log;
   short = search rules;
 }
 
-pub returns-in-Ok-read_rest : goal.returns-in-Ok-read_rest
-returns-in-Ok-read_rest g c = record {
+pub returns-in-Ok-read_part : goal.returns-in-Ok-read_part
+returns-in-Ok-read_part g c = record {
   part = search rules;
   only_reads = search rules;
   log =
-      let name = c.args.name.now in
-      let start = c.args.offset + c.args.from in
-      let end = c.args.offset + c.args.to in
+      let name = c.args.part.name.now in
+      let start = c.args.part.offset + c.args.part.from in
+      let end = c.args.part.offset + c.args.part.to in
       let n = c.in-Ok.n in
       let between = g.S.Shelf.log c.read_once.new.shelf in
-      let last = g.S.Shelf.log c.read_rest.new.shelf in
+      let last = g.S.Shelf.log c.read_part.new.shelf in
       let some : 0 < n = omega (arith, c.if-n-eq0.false) in
-      let there : c.args.offset + (c.args.from + n) ≡ start + n = omega arith in
+      let there : c.args.part.offset + (c.args.part.from + n) ≡ start + n = omega arith in
       LogsOn-append name start (start + n) end (g.S.Shelf.log c.args.shelf.now) between last (c.in-Ok.ensures.some some)
-      (subst (λ k. LogsOn name k end between last) there c.in-Ok-read_rest.ensures.log);
+      (subst (λ k. LogsOn name k end between last) there c.in-Ok-read_part.ensures.log);
   log_of_fault = search rules;
   short = search rules;
 }
 
-pub returns-in-Err-read_rest : goal.returns-in-Err-read_rest
-returns-in-Err-read_rest g c = record {
+pub returns-in-Err-read_part : goal.returns-in-Err-read_part
+returns-in-Err-read_part g c = record {
   part = search rules;
   only_reads = search rules;
   log = search rules;
   log_of_fault =
-      let name = c.args.name.now in
-      let start = c.args.offset + c.args.from in
-      let end = c.args.offset + c.args.to in
+      let name = c.args.part.name.now in
+      let start = c.args.part.offset + c.args.part.from in
+      let end = c.args.part.offset + c.args.part.to in
       let n = c.in-Ok.n in
       let between = g.S.Shelf.log c.read_once.new.shelf in
-      let last = g.S.Shelf.log c.read_rest.new.shelf in
+      let last = g.S.Shelf.log c.read_part.new.shelf in
       let some : 0 < n = omega (arith, c.if-n-eq0.false) in
-      let there : c.args.offset + (c.args.from + n) ≡ start + n = omega arith in
+      let there : c.args.part.offset + (c.args.part.from + n) ≡ start + n = omega arith in
       LogsUpTo-after name start (start + n) end (g.S.Shelf.log c.args.shelf.now) between last (c.in-Ok.ensures.some some)
-      (subst (λ k. LogsUpTo name k end between last) there c.in-Err-read_rest.ensures.log_of_fault);
+      (subst (λ k. LogsUpTo name k end between last) there c.in-Err-read_part.ensures.log_of_fault);
   short = search rules;
 }

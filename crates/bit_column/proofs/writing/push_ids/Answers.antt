@@ -23,7 +23,7 @@ returns-in_ok-push-clause-bits c =
       8 - have,
       omega arith,
       ap (bits_of 8) c.in_ok-push.ensures.items
-          ∙ last-pushed old out ids c.args.width have c.loop-id.window byte (c.loop-id.invariant.bits ∙ ap (λ xs. bits_of 8 old ++ bits_of c.args.width xs) all) c.last_byte.ensures,
+          ∙ last-pushed old out ids c.args.width.bits have c.loop-id.window byte (c.loop-id.invariant.bits ∙ ap (λ xs. bits_of 8 old ++ bits_of c.args.width.bits xs) all) c.last_byte.ensures,
     )
 
 pub returns-else-have-gt0-clause-bits : goal.returns-else-have-gt0-clause-bits
@@ -33,6 +33,6 @@ returns-else-have-gt0-clause-bits c =
     let old = c.args.out.now.items in (
       0,
       omega arith,
-      none-pushed old c.loop-id.out.items ids c.args.width c.loop-id.have c.loop-id.window (omega arith)
-          (c.loop-id.invariant.bits ∙ ap (λ xs. bits_of 8 old ++ bits_of c.args.width xs) all),
+      none-pushed old c.loop-id.out.items ids c.args.width.bits c.loop-id.have c.loop-id.window (omega arith)
+          (c.loop-id.invariant.bits ∙ ap (λ xs. bits_of 8 old ++ bits_of c.args.width.bits xs) all),
     )

@@ -4,7 +4,7 @@ use Rattle.bit_column.specs.Bits.{bits_of, pieces}
 use Rattle.bit_column.specs.Sections.{first_byte, end_byte, AppendsRange}
 use Rattle.outside.proofs.ReadLemmas.{logs-none, logs-up, on-err}
 use Rattle.bit_column.proofs.Ranges.{range-beyond, range-order, end-of, range-appended, range-bad, part-read, on-both, one-read, one-below, one-alone}
-use Rattle.bit_column.proofs.range.append_one.Goals as goal
+use Rattle.bit_column.proofs.range.append_range.Goals as goal
 
 pub returns-then-end-place-clause-reads : goal.returns-then-end-place-clause-reads
 returns-then-end-place-clause-reads g c = record {
@@ -37,7 +37,7 @@ returns-in-Ok-clause-ids g c =
     let ids = pieces width (from * width % 8) (to - from) (bits_of 8 bytes) in
     let old = c.args.ids.now.items in
     let new = c.push_id.new.ids.items in
-    let is : ids ≡ id ∷ [] = one-read width from to at_most c.requires ∙ ap (λ n. n ∷ []) (sym c.id_of-id.ensures) in
+    let is : ids ≡ id ∷ [] = one-read width from to at_most (omega arith) ∙ ap (λ n. n ∷ []) (sym c.id_of-id.ensures) in
     let part = part-read held c.as_str-name.result.now place.file (place.offset + from * width / 8) (place.offset + (to * width + 7) / 8) bytes bytes c.as_str-name.ensures refl c.in-Ok.ensures.part in
     on-both c.push_id.result (new ≡ old ++ id ∷ []) (id < c.args.range.count) (AppendsRange held place width c.args.range.count from to old new)
     (λ grown below. range-appended held place width c.args.range.count from to bytes old new c.args.range.width.least (omega arith) (omega arith) part (grown ∙ ap (λ l. old ++ l) (sym is)) (one-below (λ n. n < c.args.range.count) id ids is below))
@@ -71,7 +71,7 @@ returns-in-Ok-clause-reads g c = record {
       let bytes = take ((to * width + 7) / 8 - from * width / 8) at_most in
       let id = c.id_of-id.result in
       let ids = pieces width (from * width % 8) (to - from) (bits_of 8 bytes) in
-      let is : ids ≡ id ∷ [] = one-read width from to at_most c.requires ∙ ap (λ n. n ∷ []) (sym c.id_of-id.ensures) in
+      let is : ids ≡ id ∷ [] = one-read width from to at_most (omega arith) ∙ ap (λ n. n ∷ []) (sym c.id_of-id.ensures) in
       let part = part-read held c.as_str-name.result.now place.file (place.offset + from * width / 8) (place.offset + (to * width + 7) / 8) bytes bytes c.as_str-name.ensures refl c.in-Ok.ensures.part in
       λ bad. range-bad held place width c.args.range.count from to bytes c.args.range.width.least (omega arith) (omega arith) part (λ all. c.push_id.ensures.bad bad (one-alone (λ n. n < c.args.range.count) id ids is all));
 }
