@@ -145,31 +145,31 @@ moves files from call to leads = elim (either (step_of from (command_of call.wor
 no_table : (texts : Texts) (segments : Segments) → NoTable ≢ HasTable texts segments
 no_table texts segments e = absurd cc
 
-texts_in : Texts → State → Texts
+abbrev texts_in : Texts → State → Texts
 texts_in other NoTable = other
 texts_in other (HasTable texts segments) = texts
 
-segments_in : Segments → State → Segments
+abbrev segments_in : Segments → State → Segments
 segments_in other NoTable = other
 segments_in other (HasTable texts segments) = segments
 
-the_name : List ℕ → Option Command → List ℕ
+abbrev the_name : List ℕ → Option Command → List ℕ
 the_name other (Some (Build name csv)) = name
 the_name other command = other
 
-the_csv : List ℕ → Option Command → List ℕ
+abbrev the_csv : List ℕ → Option Command → List ℕ
 the_csv other (Some (Build name csv)) = csv
 the_csv other command = other
 
-table_or : Table → Option Table → Table
+abbrev table_or : Table → Option Table → Table
 table_or other None = other
 table_or other (Some table) = table
 
-rows_or : List (List Value) → Result (List (List Value)) Note → List (List Value)
+abbrev rows_or : List (List Value) → Result (List (List Value)) Note → List (List Value)
 rows_or other (Ok rows) = rows
 rows_or other (Err line) = other
 
-segment_or : Segment → Option Segment → Segment
+abbrev segment_or : Segment → Option Segment → Segment
 segment_or other None = other
 segment_or other (Some segment) = segment
 
@@ -247,7 +247,7 @@ module _ (move : Move) (earlier : List Move) (texts : Texts) (segments : Segment
       let its_table : i.table ≡ table = ap (table_or i.table) (sym (read_as i.texts i.table i.accepted) ∙ ap table_of its_texts ∙ read_as texts table accepted) in
       let theirs : new_rows built.table built.segments built.name built.csv move.files ≡ Ok built.rows = built.rows_are in
       let ours : new_rows built.table built.segments built.name built.csv move.files ≡ Ok rows =
-      (λ k. new_rows (sym one_table k) (sym its_segments k) (sym names k) (sym csvs k) move.files)
+      (λ k. new_rows (one_table k) (sym its_segments k) (sym names k) (sym csvs k) move.files)
       ∙ (λ k. new_rows (sym its_table k) i.segments name i.csv move.files) ∙ i.rows_are in
       (names, ap (rows_or rows) (sym ours ∙ theirs))
 
