@@ -222,7 +222,7 @@ list_step stored (Refuses line) (HasTable texts segments) stands h = some_refuse
 
 -- ---- `build`
 
-read_as : (texts : state.Texts) (table : Table) → IsAccepted texts table → table_in texts ≡ Some table
+pub read_as : (texts : state.Texts) (table : Table) → IsAccepted texts table → table_in texts ≡ Some table
 unfolding table_in
 read_as texts table accepted = ap (with_schema texts.settings) accepted.schema ∙ ap (settled table.schema) accepted.settings
 

@@ -16,12 +16,12 @@ by_told None stored Q f = tt
 by_told (Some files) None Q f = tt
 by_told (Some files) (Some kept) Q f = λ state stands. f state files kept refl refl stands
 
-at : (held stored : Option Files) (Q : State → Files → Type 0) (state : State) (files kept : Files) → held ≡ Some files → stored ≡ Some kept → Stands kept state → WhereStands held stored Q → Q state files
+pub at : (held stored : Option Files) (Q : State → Files → Type 0) (state : State) (files kept : Files) → held ≡ Some files → stored ≡ Some kept → Stands kept state → WhereStands held stored Q → Q state files
 at held stored Q state files kept h s stands all =
     let both : WhereStands (Some files) (Some kept) Q = subst (λ d. WhereStands (Some files) d Q) s (subst (λ d. WhereStands d stored Q) h all) in
     both state stands
 
-told_one : (o : Option Files) (P : Files → Type 0) → IsSomeAnd o P → (x : Files) × (o ≡ Some x) × P x
+pub told_one : (o : Option Files) (P : Files → Type 0) → IsSomeAnd o P → (x : Files) × (o ≡ Some x) × P x
 told_one None P h = absurd h
 told_one (Some x) P h = (x, refl, h)
 

@@ -6,5 +6,7 @@ mod laws;
 mod run;
 
 pub use command_words::{Status, may_write};
-pub use laws::{promises_compose_law, segments_read_law};
+pub use laws::{
+    answer_law, from_empty_law, headline_law, ingested_law, promises_compose_law, segments_read_law,
+};
 pub use run::run_command;

@@ -1,0 +1,90 @@
+-- Any calls, one after another, lead on from a state that the store stands for.
+use Rattle.std.proofs.Common.{◌≡◌, ◌⊎◌, ◌∙◌, inl, inr, ℕ, List, [], ◌∷◌, Option, Some, None, IfSome, IsSomeAnd, refl, sym, ap, subst}
+use Rattle.std.specs.FinMap as map
+use Rattle.outside.specs.Files.{Files, name_order}
+use Rattle.outside.specs.Seen.{Seen}
+use Rattle.outside.specs.Sink.{AppendsPrefix}
+use Rattle.table_store.specs.Stands.{Stands}
+use Rattle.table_store.specs.State.{HasTable, NoTable, State}
+use Rattle.command_words.specs.Command.{Command, command_of}
+use Rattle.command_words.specs.declared.status.Status.{Status}
+use Rattle.command_words.specs.declared.status.Status.TheVariants as status
+use Rattle.command_model.specs.Ran.{Acted, IsStepped}
+use Rattle.command_model.specs.Step.{Answer, step_of, text_of}
+use Rattle.command_model.specs.World.{World}
+use Rattle.pinot_run.specs.Calls.{AreCalls, Call}
+use Rattle.pinot_run.specs.Headline.{FromEmpty, Headline, Leads, LeavesOf, Proceeds, ReadsOf}
+use Rattle.pinot_run.specs.Promise.{IsAnswered, IsGiven, IsUndone, Leaves, Promise}
+use Rattle.pinot_run.proofs.LawLemmas.{at, told_one}
+use Rattle.pinot_run.proofs.StateReads.{segments_read}
+
+if_told : (o : Option Files) (P : Files → Type 0) → ((files : Files) → o ≡ Some files → P files) → IfSome o P
+if_told None P f = tt
+if_told (Some files) P f = f files refl
+
+module _ (command : Option Command) (files kept : Files) (state : State) (old new : World)
+    (inputs : old.devices.inputs.held ≡ Some files) (stored : old.devices.depot.held ≡ Some kept) (stands : Stands kept state) where
+  abbrev StandFor : State → Type 0
+  StandFor next = IsSomeAnd new.devices.depot.held (λ held. Stands held next)
+
+  -- a state that the call leaves, and that the store then stands for
+  abbrev Next : Status → Type 0
+  Next ended = (next : State) × LeavesOf (step_of state command files) state ended old new next × StandFor next
+
+  undone_stands : IsUndone old new → StandFor state
+  undone_stands undone = subst (λ (o : Option Files). IsSomeAnd o (λ held. Stands held state)) (sym (undone.stored ∙ stored)) stands
+
+  stepped : (answer : Answer) → Acted command old.devices new.devices answer → IsStepped (step_of state command files) answer new.devices.depot.held
+  stepped answer acted = at old.devices.inputs.held old.devices.depot.held (λ s fs. IsStepped (step_of s command fs) answer new.devices.depot.held) state files kept inputs stored stands acted.step
+
+  -- all of the step
+  abbrev Whole : Status → Type 0
+  Whole ended = IsGiven (step_of state command files).answer ended old new × StandFor (step_of state command files).state
+
+  answered : (ended : Status) → IsAnswered command old ended new → Whole ended
+  answered ended is =
+      let step = stepped is.answer is.acted in
+      (subst (λ a. IsGiven a ended old new) step.answers is.given, step.stands)
+
+  next_stands : (ended : Status) → Leaves command old ended new → Next ended
+  next_stands status.ReadFault l = (state, (l.1, l.2, refl), undone_stands l.2)
+  next_stands status.WriteFault (inl l) = (state, inl (l.0, l.1, refl), undone_stands l.1)
+  next_stands status.WriteFault (inr cut) =
+      let step = stepped cut.answer cut.acted in
+      let prefix : AppendsPrefix (text_of (step_of state command files).answer) old.out.written new.out.written = subst (λ a. AppendsPrefix (text_of a) old.out.written new.out.written) step.answers cut.prefix in
+      ((step_of state command files).state, inr (record { failed = cut.failed; prefix = prefix }, refl), step.stands)
+  next_stands status.NoMemory l = (state, (l, refl), undone_stands l)
+  next_stands status.Done l = let w = answered status.Done l in ((step_of state command files).state, (w.0, refl), w.1)
+  next_stands status.BadWords l = let w = answered status.BadWords l in ((step_of state command files).state, (w.0, refl), w.1)
+  next_stands status.NoInput l = let w = answered status.NoInput l in ((step_of state command files).state, (w.0, refl), w.1)
+  next_stands status.BadSchema l = let w = answered status.BadSchema l in ((step_of state command files).state, (w.0, refl), w.1)
+  next_stands status.BadSettings l = let w = answered status.BadSettings l in ((step_of state command files).state, (w.0, refl), w.1)
+  next_stands status.TableExists l = let w = answered status.TableExists l in ((step_of state command files).state, (w.0, refl), w.1)
+  next_stands status.NoTable l = let w = answered status.NoTable l in ((step_of state command files).state, (w.0, refl), w.1)
+  next_stands status.BadCsv l = let w = answered status.BadCsv l in ((step_of state command files).state, (w.0, refl), w.1)
+  next_stands status.TooLarge l = let w = answered status.TooLarge l in ((step_of state command files).state, (w.0, refl), w.1)
+  next_stands status.NameTaken l = let w = answered status.NameTaken l in ((step_of state command files).state, (w.0, refl), w.1)
+  next_stands status.NoSegment l = let w = answered status.NoSegment l in ((step_of state command files).state, (w.0, refl), w.1)
+  next_stands status.BadQuery l = let w = answered status.BadQuery l in ((step_of state command files).state, (w.0, refl), w.1)
+  next_stands status.NotASegment l = let w = answered status.NotASegment l in ((step_of state command files).state, (w.0, refl), w.1)
+  next_stands status.TooManyGroups l = let w = answered status.TooManyGroups l in ((step_of state command files).state, (w.0, refl), w.1)
+
+reads_of : (kept : Files) (state : State) (call : Call) → call.old.devices.depot.held ≡ Some kept → Stands kept state → Promise (command_of call.words) call.old call.ended call.new → ReadsOf state call
+reads_of kept NoTable call told stands p = tt
+reads_of kept (HasTable texts segments) call told stands p = λ table accepted. segments_read (command_of call.words) call.old call.new call.ended p kept texts segments table told stands accepted
+
+pub headline : Headline
+headline kept state depot [] told stands are = tt
+headline kept state depot (call ∷ calls) told stands (found, promise, later) =
+    let here : call.old.devices.depot.held ≡ Some kept = ap (λ (d : Seen). d.held) found ∙ told in
+    if_told call.old.devices.inputs.held (λ files. (next : State) × Leads files state call next × Proceeds next calls)
+    (λ files inputs.
+    let (next, leaves, stood) = next_stands (command_of call.words) files kept state call.old call.new inputs here stands call.ended promise.leaves in
+    let (held, is, stands') = told_one call.new.devices.depot.held (λ k. Stands k next) stood in (
+      next,
+      record { leaves = leaves; stands = stood; noted = promise.notes; counted = promise.counted; reads = reads_of kept state call here stands promise },
+      headline held next call.new.devices.depot calls is stands' later,
+    ))
+
+pub from_empty : FromEmpty
+from_empty depot calls told are = headline map.empty NoTable depot calls told (λ name. map.get-empty name_order name) are

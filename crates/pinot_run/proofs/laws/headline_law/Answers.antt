@@ -1,0 +1,5 @@
+use Rattle.pinot_run.proofs.HeadlineLemmas.{headline}
+use Rattle.pinot_run.proofs.laws.headline_law.Goals as goal
+
+pub returns : goal.returns
+returns c = headline

@@ -1,0 +1,170 @@
+-- What any calls do to a store, one after another, and print:
+--
+--     From an empty folder, after any commands, each query prints, unless memory runs out or a
+--     device fails, exactly what filtering, grouping and folding the rows ingested and not dropped
+--     would print; each segment not already excluded by its values is answered from the tree
+--     exactly when the written rule makes it eligible, and then reads no raw document and at most
+--     the stated product of star documents.
+--
+-- "From an empty folder" is `FromEmpty`. "After any commands" is `Proceeds`, over any list of
+-- calls. "Each query prints" is `LeavesOf`: the answer of its step is given whole. "Unless memory
+-- runs out or a device fails" are its first three lines. "Exactly what filtering, grouping and
+-- folding would print" is `Answers`: that answer is the reply over all rows of the state. "The rows
+-- ingested and not dropped" is `RowsAreIngested`. "Each segment is answered from the tree exactly
+-- when, and then reads" is `ReadsOf`.
+use Rattle.std.specs.Prelude.{◌≡◌, ◌≢◌, ◌⊎◌, ℕ, false, List, [], ◌∷◌, ◌++◌, Option, Some, Ok, IfSome, IsSomeAnd}
+use Rattle.std.specs.FinMap as tree
+use Rattle.outside.specs.Counts.{Rose}
+use Rattle.outside.specs.Files.{Files}
+use Rattle.outside.specs.Seen.{Seen}
+use Rattle.outside.specs.Sink.{AppendsPrefix}
+use Rattle.values.specs.declared.value.Value.{Value}
+use Rattle.table_schema.specs.declared.table.Table.{Table}
+use Rattle.sql_reply.specs.SqlReply.{sql_reply}
+use Rattle.table_store.specs.Accepted.{IsAccepted}
+use Rattle.table_store.specs.Stands.{Stands, segment_of}
+use Rattle.table_store.specs.State.{HasTable, NoTable, Segment, Segments, State, Texts}
+use Rattle.command_words.specs.Command.{Ask, Build, Command, command_of}
+use Rattle.command_words.specs.declared.about.About.TheVariants.{Rows, RowsAndPlans}
+use Rattle.command_words.specs.declared.status.Status.{Status}
+use Rattle.command_words.specs.declared.status.Status.TheVariants as status
+use Rattle.command_model.specs.Build.{new_rows}
+use Rattle.command_model.specs.Queried.{all_rows}
+use Rattle.command_model.specs.Step.{After, Replies, sql_answered, query_answer, step_of, text_of}
+use Rattle.command_model.specs.World.{World}
+use Rattle.pinot_run.specs.Calls.{AreCalls, Call}
+use Rattle.pinot_run.specs.Laws.{ReadsState, is_done}
+use Rattle.pinot_run.specs.Promise.{Counted, IsGiven, IsUndone, Noted}
+
+-- ---- one call
+
+-- a read of an input file or of the store failed
+abbrev pub ReadsFailed : World → World → Type 0
+ReadsFailed old new = Rose old.devices.inputs.read_faults new.devices.inputs.read_faults
+    ⊎ Rose old.devices.depot.read_faults new.devices.depot.read_faults
+
+-- a stream failed, and the replies grew by a first part of the step's
+pub record IsCutShort (after : After) (old new : World) : Type 0 where
+  pub failed : Rose old.out.faults new.out.faults ⊎ Rose old.notes.faults new.notes.faults
+  pub prefix : AppendsPrefix (text_of after.answer) old.out.written new.out.written
+
+-- what a call whose step this is leaves of a state, and gives, by its status: where a device failed
+-- or memory ran out the state before and nothing, or where a stream failed the step's state and a
+-- first part of its reply; else all of the step
+abbrev pub LeavesOf : After → State → Status → World → World → State → Type 0
+LeavesOf after state status.ReadFault old new next = ReadsFailed old new × IsUndone old new
+    × (next ≡ state)
+LeavesOf after state status.WriteFault old new next =
+    (Rose old.devices.depot.write_faults new.devices.depot.write_faults × IsUndone old new
+    × (next ≡ state)) ⊎ (IsCutShort after old new × (next ≡ after.state))
+LeavesOf after state status.NoMemory old new next = IsUndone old new × (next ≡ state)
+LeavesOf after state ended old new next = IsGiven after.answer ended old new
+    × (next ≡ after.state)
+
+-- what a call read of a state: where there is a table, the files of the table and of its segments
+-- alone, and of each segment what the plan of its rows says, at most so where it was not done
+abbrev pub ReadsOf : State → Call → Type 0
+ReadsOf NoTable call = Unit {0}
+ReadsOf (HasTable texts segments) call = (table : Table) → IsAccepted texts table
+    → ReadsState (command_of call.words) (is_done call.ended) table segments
+    call.old.devices.depot.log call.new.devices.depot.log
+
+-- over these input files a call led from one state to the next
+pub record Leads (files : Files) (state : State) (call : Call) (next : State) : Type 0 where
+  pub leaves : LeavesOf (step_of state (command_of call.words) files) state call.ended call.old
+      call.new next
+  pub stands : IsSomeAnd call.new.devices.depot.held (λ kept. Stands kept next)
+  pub noted : Noted call.ended call.old.notes call.new.notes
+  pub counted : Counted call.ended call.old call.new
+  pub reads : ReadsOf state call
+
+-- ---- any calls
+
+-- each call leads on from the state to which the one before led; of a call whose input files are
+-- not told nothing is said, nor of those after it
+abbrev pub Proceeds : State → List Call → Type 0
+Proceeds state [] = Unit {0}
+Proceeds state (call ∷ calls) = IfSome call.old.devices.inputs.held (λ files. (next : State)
+    × Leads files state call next × Proceeds next calls)
+
+-- from a store that stands for a state on, any calls proceed
+abbrev pub Headline : Type 0
+Headline = (files : Files) (state : State) (depot : Seen) (calls : List Call)
+    → depot.held ≡ Some files → Stands files state → AreCalls depot calls → Proceeds state calls
+
+-- from an empty folder on, any calls proceed from there being no table
+abbrev pub FromEmpty : Type 0
+FromEmpty = (depot : Seen) (calls : List Call) → depot.held ≡ Some tree.empty
+    → AreCalls depot calls → Proceeds NoTable calls
+
+-- ---- what a query prints
+
+-- over a state with a table the answer to `query` is the reply over the rows of all its segments,
+-- by their names, and what `stats` prints begins with it
+pub record Answers (texts : Texts) (segments : Segments) (table : Table) (sql : List ℕ)
+    : Type 0 where
+  pub queried : query_answer Rows (HasTable texts segments) sql
+      ≡ sql_answered (sql_reply table false sql (all_rows segments))
+  pub stated : (text : List ℕ) → query_answer RowsAndPlans (HasTable texts segments) sql
+      ≡ Replies text → (reply more : List ℕ)
+      × (sql_reply table false sql (all_rows segments) ≡ Ok reply)
+      × (text ≡ reply ++ (10 ∷ more))
+
+-- so it is over each state that a store may stand for
+abbrev pub AnswersRows : Type 0
+AnswersRows = (texts : Texts) (segments : Segments) (table : Table) (sql : List ℕ)
+    → IsAccepted texts table → Answers texts segments table sql
+
+-- ---- the rows ingested
+
+-- a call on the way: over these input files it led from one state to another
+pub record Move : Type 0 where
+  pub call : Call
+  pub files : Files
+  pub from : State
+  pub to : State
+
+-- moves one after another, the latest first, lead from there being no table to this state
+abbrev pub Reaches : List Move → State → Type 0
+Reaches [] state = state ≡ NoTable
+Reaches (move ∷ earlier) state = (move.to ≡ state)
+    × Leads move.files move.from move.call move.to × Reaches earlier move.from
+
+-- a `build` of this name took effect, and these are the rows of its file
+pub record Ingests (move : Move) (name : List ℕ) (rows : List (List Value)) : Type 0 where
+  pub csv : List ℕ
+  pub built : command_of move.call.words ≡ Some (Build name csv)
+  pub took_effect : move.to ≢ move.from
+  pub texts : Texts
+  pub segments : Segments
+  pub from_is : move.from ≡ HasTable texts segments
+  pub table : Table
+  pub accepted : IsAccepted texts table
+  pub rows_are : new_rows table segments name csv move.files ≡ Ok rows
+
+-- whether a command is on the segment of a name
+abbrev pub IsOn : List ℕ → Option Command → Type 0
+IsOn name command = (csv : List ℕ) × (command ≡ Some (Build name csv))
+
+-- of the moves on a name that took effect the last is a `build`, of these rows
+abbrev pub IsIngested : List Move → List ℕ → List (List Value) → Type 0
+IsIngested [] name rows = ⊥
+IsIngested (move ∷ earlier) name rows = Ingests move name rows
+    ⊎ ((IsOn name (command_of move.call.words) → move.to ≡ move.from)
+    × IsIngested earlier name rows)
+
+-- the segment of a name is there just where rows were ingested under it, and has these rows, in the
+-- order of a segment
+pub record IsOfMoves (moves : List Move) (table : Table) (segments : Segments) (name : List ℕ)
+    : Type 0 where
+  pub there : (rows : List (List Value)) → IsIngested moves name rows
+      → tree.get segments name ≡ Some (segment_of table rows)
+  pub came : (segment : Segment) → tree.get segments name ≡ Some segment
+      → (rows : List (List Value)) × IsIngested moves name rows
+      × (segment ≡ segment_of table rows)
+
+-- so it is in each state on the way that has a table
+abbrev pub RowsAreIngested : Type 0
+RowsAreIngested = (moves : List Move) (texts : Texts) (segments : Segments) (table : Table)
+    → Reaches moves (HasTable texts segments) → IsAccepted texts table → (name : List ℕ)
+    → IsOfMoves moves table segments name
