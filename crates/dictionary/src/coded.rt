@@ -1,12 +1,12 @@
 //! The values of a column at first sight, and the ids of its rows.
-ghost use Rattle.std.specs.Prelude.{◌≡◌, ◌≤◌, map, length, IfOk};
+ghost use Rattle.std.specs.Prelude.{◌≡◌, map, IfOk};
 ghost use Rattle.values.specs.declared.value.Value.TheVariants as value;
 ghost use Rattle.value_ids.specs.Coding.{AreAmong, Codes, Sees};
-ghost use Rattle.value_ids.specs.Dictionary.{Ascends, most_values};
 
 use crate::number_index::code_numbers;
 use data_types::{Name, TextPool};
 use std::alloc::{AllocError, Global};
+use value_ids::AscendingValues;
 use values::{Column, NoMemory, Texts, Value};
 
 /// Values of a column, as a rule each once, and for each row the place of its own among them.
@@ -72,15 +72,17 @@ pub fn code_column(alloc: Global, column: &Column) -> Result<Coded, NoMemory>
 }
 
 /// For each of these values its place among ascending ones, which have them all.
-pub fn ranks(alloc: Global, values: &[Value], seen: &[Value]) -> Result<Vec<u32>, NoMemory>
-    requires at_most { length values.now ≤ most_values }
-    requires ascends { Ascends values.now }
-    requires among { AreAmong values.now seen.now }
-    ensures { IfOk result (λ ranks. Codes values.now ranks.items seen.now) }
+pub fn ranks(
+    alloc: Global,
+    ascending: AscendingValues<'_>,
+    seen: &[Value],
+) -> Result<Vec<u32>, NoMemory>
+    requires { AreAmong ascending.values.now seen.now }
+    ensures { IfOk result (λ ranks. Codes ascending.entry.values.now ranks.items seen.now) }
 {
     let mut ranks = Vec::with_capacity(alloc, seen.len())?;
     for value in seen {
-        match values.binary_search(value) {
+        match ascending.values.binary_search(value) {
             Ok(place) => ranks.push(place as u32)?,
             Err(_) => unreachable!(),
         }

@@ -12,7 +12,7 @@ use crate::matching::matching_ids;
 use data_types::{FieldKind, Seq};
 use std::alloc::Global;
 use std::marker::Model;
-use value_ids::{IdSet, distinct_values, rank_places};
+use value_ids::{AscendingValues, IdSet, distinct_values, rank_places};
 use values::{Column, NoMemory, Test, Value};
 
 /// The most values that a column has.
@@ -74,7 +74,8 @@ impl Dictionary {
             mut ids,
         } = code_column(alloc, column)?;
         let values = distinct_values(alloc, &seen)?;
-        let ranks = ranks(alloc, &values, &seen)?;
+        let ascending = AscendingValues { values: &values };
+        let ranks = ranks(alloc, ascending, &seen)?;
         rank_places(&mut ids, &ranks);
         Ok((Dictionary { kind, values }, ids))
     }
@@ -118,7 +119,10 @@ impl Dictionary {
         ensures each { IfOk result (λ ids. (id : ℕ) →
             has_id ids id ≡ satisfies test.now (slice_get self.now.values id)) }
     {
-        let ids = matching_ids(alloc, test, &self.values)?;
+        let ascending = AscendingValues {
+            values: &self.values,
+        };
+        let ids = matching_ids(alloc, test, ascending)?;
         let _list = ids.as_slice();
         Ok(ids)
     }

@@ -1,38 +1,40 @@
 //! The ids of the values that satisfy a test. Values that ascend are cut by a bound, and none is
 //! tested.
-ghost use Rattle.std.specs.Prelude.{◌≤◌, length, IfOk};
+ghost use Rattle.std.specs.Prelude.{IfOk};
 ghost use Rattle.values.specs.Tests.{is_between, is_member, negated_if, holds};
-ghost use Rattle.value_ids.specs.Dictionary.{Ascends, most_values};
 ghost use Rattle.value_ids.specs.Ids.{AreThose, Picks, negated_ids};
 
 use std::alloc::Global;
 use value_ids::{
-    Cut, IdSet, compared, complement_of, cut_at, intersection_of, range_of, set_of, union_of,
+    AscendingValues, Cut, IdSet, compared, complement_of, cut_at, intersection_of, range_of,
+    set_of, union_of,
 };
 use values::{NoMemory, Test, Value};
 
 /// The ids of the values that satisfy the test.
-pub fn matching_ids(alloc: Global, test: &Test, values: &[Value]) -> Result<IdSet, NoMemory>
-    requires at_most { length values.now ≤ most_values }
-    requires ascends { Ascends values.now }
-    ensures { IfOk result (Picks (λ value. holds value test.now) values.now) }
+pub fn matching_ids(
+    alloc: Global,
+    test: &Test,
+    ascending: AscendingValues<'_>,
+) -> Result<IdSet, NoMemory>
+    ensures { IfOk result (Picks (λ value. holds value test.now) ascending.entry.values.now) }
 {
     match test {
-        Test::Compare(op, bound) => compared(alloc, *op, bound, values),
-        Test::OneOf(members, negated) => one_of(alloc, members.as_slice(), *negated, values),
-        Test::Between(low, high, negated) => between(alloc, low, high, *negated, values),
+        Test::Compare(op, bound) => compared(alloc, *op, bound, ascending),
+        Test::OneOf(members, negated) => one_of(alloc, members.as_slice(), *negated, ascending),
+        Test::Between(low, high, negated) => between(alloc, low, high, *negated, ascending),
         Test::All(tests) => {
-            let mut ids = range_of(alloc, 0, values.len() as u32)?;
+            let mut ids = range_of(alloc, 0, ascending.values.len() as u32)?;
             for test in tests.as_slice() {
-                ids = intersection_of(alloc, &ids, &matching_ids(alloc, test, values)?)?;
+                ids = intersection_of(alloc, &ids, &matching_ids(alloc, test, ascending)?)?;
             }
             Ok(ids)
         }
         Test::Any(tests) => {
-            let count = values.len() as u32;
+            let count = ascending.values.len() as u32;
             let mut ids = IdSet::new(alloc);
             for test in tests.as_slice() {
-                ids = union_of(alloc, count, &ids, &matching_ids(alloc, test, values)?)?;
+                ids = union_of(alloc, count, &ids, &matching_ids(alloc, test, ascending)?)?;
             }
             Ok(ids)
         }
@@ -55,26 +57,31 @@ fn between(
     low: &Value,
     high: &Value,
     negated: bool,
-    values: &[Value],
+    ascending: AscendingValues<'_>,
 ) -> Result<IdSet, NoMemory>
-    requires at_most { length values.now ≤ most_values }
-    requires ascends { Ascends values.now }
     ensures { IfOk result (Picks (λ value. negated_if negated (is_between low.now value high.now))
-        values.now) }
+        ascending.entry.values.now) }
 {
-    let ids = range_of(alloc, cut_at(values, low).from, cut_at(values, high).to)?;
-    negated_set(alloc, negated, values.len() as u32, ids)
+    let ids = range_of(
+        alloc,
+        cut_at(ascending, low).from,
+        cut_at(ascending, high).to,
+    )?;
+    negated_set(alloc, negated, ascending.values.len() as u32, ids)
 }
 
 // The place of each member that is there.
-fn places_of(alloc: Global, members: &[Value], values: &[Value]) -> Result<Vec<u32>, NoMemory>
-    requires at_most { length values.now ≤ most_values }
-    requires ascends { Ascends values.now }
-    ensures { IfOk result (λ places. Picks (is_member members.now) values.now places.items) }
+fn places_of(
+    alloc: Global,
+    members: &[Value],
+    ascending: AscendingValues<'_>,
+) -> Result<Vec<u32>, NoMemory>
+    ensures { IfOk result (λ places. Picks (is_member members.now) ascending.entry.values.now
+        places.items) }
 {
     let mut places = Vec::new(alloc);
     for member in members {
-        let Cut { from, to } = cut_at(values, member);
+        let Cut { from, to } = cut_at(ascending, member);
         if to <= from {
             continue;
         }
@@ -87,13 +94,11 @@ fn one_of(
     alloc: Global,
     members: &[Value],
     negated: bool,
-    values: &[Value],
+    ascending: AscendingValues<'_>,
 ) -> Result<IdSet, NoMemory>
-    requires at_most { length values.now ≤ most_values }
-    requires ascends { Ascends values.now }
     ensures { IfOk result (Picks (λ value. negated_if negated (is_member members.now value))
-        values.now) }
+        ascending.entry.values.now) }
 {
-    let ids = set_of(alloc, places_of(alloc, members, values)?)?;
-    negated_set(alloc, negated, values.len() as u32, ids)
+    let ids = set_of(alloc, places_of(alloc, members, ascending)?)?;
+    negated_set(alloc, negated, ascending.values.len() as u32, ids)
 }

@@ -1,15 +1,13 @@
 //! The counts of a device's faults.
-ghost use Rattle.std.specs.Prelude.{◌≡◌, ◌≤◌, IsErrOf};
-ghost use Rattle.outside.specs.Counts.{Rose};
+ghost use Rattle.std.specs.Prelude.{◌≡◌, IsErrOf};
+ghost use Rattle.host_devices.specs.Faults.{Counts};
 
 use outside::{DepotFault, ShelfFault};
 
 /// Counts a failed call that reads.
 pub fn count_read<T>(faults: &mut u64, answer: Result<T, ShelfFault>) -> Result<T, ShelfFault>
     ensures answer { result ≡ answer }
-    ensures later { faults.old ≤ faults.new }
-    ensures rose { IsErrOf answer ShelfFault.Failed → Rose faults.old faults.new }
-    ensures unchanged { ¬ IsErrOf answer ShelfFault.Failed → faults.new ≡ faults.old }
+    ensures counts { Counts (IsErrOf answer ShelfFault.Failed) faults.old faults.new }
 {
     if let Err(ShelfFault::Failed) = answer {
         *faults = faults.saturating_add(1);
@@ -20,9 +18,7 @@ pub fn count_read<T>(faults: &mut u64, answer: Result<T, ShelfFault>) -> Result<
 /// Counts a failed call that writes.
 pub fn count_write(faults: &mut u64, answer: Result<(), DepotFault>) -> Result<(), DepotFault>
     ensures answer { result ≡ answer }
-    ensures later { faults.old ≤ faults.new }
-    ensures rose { IsErrOf answer DepotFault.Failed → Rose faults.old faults.new }
-    ensures unchanged { ¬ IsErrOf answer DepotFault.Failed → faults.new ≡ faults.old }
+    ensures counts { Counts (IsErrOf answer DepotFault.Failed) faults.old faults.new }
 {
     if let Err(DepotFault::Failed) = answer {
         *faults = faults.saturating_add(1);

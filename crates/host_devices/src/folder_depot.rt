@@ -1,6 +1,6 @@
 //! Depots over real folders.
 ghost use Rattle.std.specs.Prelude.{◌≡◌, ◌≤◌, None, IfOk, IsErrOf, length};
-ghost use Rattle.outside.specs.Counts.{Rose};
+ghost use Rattle.host_devices.specs.Faults.{Counts};
 
 use crate::folder_lock::LockFile;
 use crate::folder_parts::{FolderParts, is_published_name};
@@ -71,11 +71,8 @@ where
         into: &mut [u8],
     ) -> Result<usize, ShelfFault>
         ensures read { IfOk result (λ n. n ≤ length into.old) }
-        ensures later { self.old.read_faults ≤ self.new.read_faults }
-        ensures rose { IsErrOf result ShelfFault.Failed →
-            Rose self.old.read_faults self.new.read_faults }
-        ensures unchanged { ¬ IsErrOf result ShelfFault.Failed →
-            self.new.read_faults ≡ self.old.read_faults }
+        ensures counts { Counts (IsErrOf result ShelfFault.Failed)
+            self.old.read_faults self.new.read_faults }
         ensures writes { self.new.write_faults ≡ self.old.write_faults }
     {
         if !is_published_name(name) {

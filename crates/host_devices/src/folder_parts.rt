@@ -1,6 +1,6 @@
 //! The parts of a real folder, and what becomes of them.
 ghost use Rattle.std.specs.Prelude.{◌≡◌, ◌≢◌, IsErrOf};
-ghost use Rattle.host_devices.specs.Locks.{IsHeld};
+ghost use Rattle.host_devices.specs.Locks.{IsHeld, KeepsLock};
 
 use crate::folder_files::{FolderFiles, is_free, path_of, require_plain};
 use crate::folder_lock::{FolderLock, LockFile, lock_folder};
@@ -78,8 +78,7 @@ impl<R: Files + AllocGlobal + Clone + Drop> FolderParts<R> {
 
     /// Makes the file of a part anew.
     pub fn begin(&mut self, alloc: Global, part: &str) -> Result<(), DepotFault>
-        ensures there { ¬ IsErrOf result DepotFault.Missing }
-        ensures lock { self.new.lock ≡ self.old.lock }
+        ensures { KeepsLock (IsErrOf result DepotFault.Missing) self.old.lock self.new.lock }
     {
         self.part = None;
         self.require_lock()?;
@@ -96,8 +95,7 @@ impl<R: Files + AllocGlobal + Clone + Drop> FolderParts<R> {
 
     // The file of a part: the one that is kept open, or else one that is opened at its end.
     fn take_part(&mut self, alloc: Global, part: &str) -> Result<OpenPart<R::File>, DepotFault>
-        ensures there { ¬ IsErrOf result DepotFault.Missing }
-        ensures lock { self.new.lock ≡ self.old.lock }
+        ensures { KeepsLock (IsErrOf result DepotFault.Missing) self.old.lock self.new.lock }
     {
         if let Some(kept) = self.part.take() {
             if kept.part.as_str() == part {
@@ -125,8 +123,7 @@ impl<R: Files + AllocGlobal + Clone + Drop> FolderParts<R> {
 
     /// Writes at the end of the file of a part. Where that fails, the file is taken away.
     pub fn append(&mut self, alloc: Global, part: &str, bytes: &[u8]) -> Result<(), DepotFault>
-        ensures there { ¬ IsErrOf result DepotFault.Missing }
-        ensures lock { self.new.lock ≡ self.old.lock }
+        ensures { KeepsLock (IsErrOf result DepotFault.Missing) self.old.lock self.new.lock }
     {
         let mut open = self.take_part(alloc, part)?;
         match open.file.write_all(bytes) {
@@ -144,8 +141,7 @@ impl<R: Files + AllocGlobal + Clone + Drop> FolderParts<R> {
     /// Gives the file of a part its name, once its bytes are on the disk. One that is not there is
     /// made first. Where that fails, the file is taken away.
     pub fn publish(&mut self, alloc: Global, part: &str, name: &str) -> Result<(), DepotFault>
-        ensures there { ¬ IsErrOf result DepotFault.Missing }
-        ensures lock { self.new.lock ≡ self.old.lock }
+        ensures { KeepsLock (IsErrOf result DepotFault.Missing) self.old.lock self.new.lock }
     {
         self.files.forget();
         if !is_published_name(name) {

@@ -1,9 +1,8 @@
 //! Sinks over real streams.
-ghost use Rattle.std.specs.Prelude.{◌≡◌, ◌≤◌, None, OnOk, OnErr};
+ghost use Rattle.std.specs.Prelude.{◌≡◌, None, OnOk, OnErr};
 ghost use Rattle.std.specs.Io.KnownBytes.{Appends};
-ghost use Rattle.outside.specs.Counts.{Rose};
-ghost use Rattle.outside.specs.Sink.{appended, AppendsPrefix};
-ghost use Rattle.host_devices.specs.Stream.{AppendsSome};
+ghost use Rattle.outside.specs.Calls.{PutsBytes};
+ghost use Rattle.host_devices.specs.Stream.{AppendsSome, sink_told};
 
 use outside::{Sink, SinkFault};
 use std::io;
@@ -68,11 +67,7 @@ impl<W: Write + Drop> Sink for StreamSink<W> {
             (Appends (W.contents self.old.stream) (W.contents self.new.stream) bytes.now) }
         ensures stream_after_fault { OnErr result
             (AppendsSome (W.contents self.old.stream) (W.contents self.new.stream) bytes.now) }
-        ensures all { OnOk result (None ≡ appended bytes.now None) }
-        ensures prefix { OnErr result (AppendsPrefix bytes.now None None) }
-        ensures later { self.old.faults ≤ self.new.faults }
-        ensures failed { OnErr result (Rose self.old.faults self.new.faults) }
-        ensures unchanged { OnOk result (self.new.faults ≡ self.old.faults) }
+        ensures puts { PutsBytes bytes.now result (sink_told self.old) (sink_told self.new) }
     {
         match write_through(&mut self.stream, bytes) {
             Ok(()) => Ok(()),

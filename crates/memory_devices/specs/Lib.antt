@@ -1,3 +1,4 @@
+pub mod Calls
 pub mod FileMap
 pub mod Memory
 pub mod ReadLog

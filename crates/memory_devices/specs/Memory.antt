@@ -6,7 +6,7 @@ use Rattle.std.specs.FinMap as map
 use Rattle.outside.specs.Counts.{next}
 use Rattle.outside.specs.Files.{Files, files_of, bytes_of}
 use Rattle.outside.specs.Reads.{Entry, entry_of}
-use Rattle.outside.specs.Seen.{Seen}
+use Rattle.outside.specs.Calls.{Heard, Seen}
 
 -- the code of files, by which a proof tells them apart
 abbrev pub files_code : Coded Files
@@ -135,6 +135,10 @@ pub record SinkMemory : Type 0 where
   pub failing : List ℕ
   pub calls : ℕ
   pub faults : ℕ
+
+-- what a sink in memory tells, which is everything
+abbrev pub sink_told : SinkMemory → Heard
+sink_told sink = record { written = Some sink.written; faults = sink.faults }
 
 -- a sink to which nothing was given yet
 abbrev pub fresh_sink : ℕ → List ℕ → SinkMemory

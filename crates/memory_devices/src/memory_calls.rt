@@ -1,6 +1,7 @@
 //! The calls of a device in memory, some of which are to fail.
-ghost use Rattle.std.specs.Prelude.{◌≡◌, ◌≤◌, if◌then◌else◌};
+ghost use Rattle.std.specs.Prelude.{◌≡◌};
 ghost use Rattle.outside.specs.Counts.{next};
+ghost use Rattle.memory_devices.specs.Calls.{CountsFault};
 ghost use Rattle.memory_devices.specs.Memory.{is_listed};
 
 use outside::Seq;
@@ -36,8 +37,7 @@ impl MemoryCalls {
         ensures listed { result ≡ is_listed self.old.failing self.old.made }
         ensures failing { self.new.failing ≡ self.old.failing }
         ensures made { self.new.made ≡ next self.old.made }
-        ensures faults { faults.new ≡ (if result then next faults.old else faults.old) }
-        ensures later { faults.old ≤ faults.new }
+        ensures faults { CountsFault result faults.old faults.new }
     {
         let fails = self.fails();
         if fails {

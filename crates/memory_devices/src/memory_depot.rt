@@ -1,10 +1,8 @@
 //! Depots in memory.
-ghost use Rattle.std.specs.Prelude.{◌≡◌, ◌≤◌, ◌↔◌, [], ◌++◌, Some, OnOk, OnErr, IfOk, IsErrOf, IsTrue, length, unwrap_or};
-ghost use Rattle.std.specs.FinMap as map;
-ghost use Rattle.outside.specs.Files.{IsNames, IsLengthOf, Has, Lacks, SameBut, bytes_of, with_file, without_file};
-ghost use Rattle.memory_devices.specs.Memory.{fresh, fails, read_called, read_logged, write_called, part_begun, part_grown, part_lost, part_published, file_removed, told};
-ghost use Rattle.outside.specs.Reads.{ReadsAt, logged};
-ghost use Rattle.outside.specs.Seen.{OnlyReads, Writes};
+ghost use Rattle.std.specs.Prelude.{◌≡◌, Some, OnErr, IfOk, IsErrOf};
+ghost use Rattle.outside.specs.Calls.{AppendsToPart, BeginsPart, PublishesPart, RemovesFile};
+ghost use Rattle.memory_devices.specs.Calls.{MemoryBytes, MemoryLength, MemoryNames, MemoryWrite};
+ghost use Rattle.memory_devices.specs.Memory.{fresh, write_called, part_begun, part_grown, part_lost, part_published, file_removed, told};
 
 use crate::{FileMap, MemoryShelf};
 use outside::{Bytes, Depot, DepotFault, Name, NoMemory, Seq, Shelf, ShelfFault};
@@ -60,27 +58,13 @@ impl Shelf for MemoryDepot {
     ghost write_faults = { λ depot. depot.write_faults };
 
     fn names(&mut self, alloc: Global) -> Result<Seq<Name>, ShelfFault>
-        ensures after { self.new ≡ read_called self.old }
-        ensures fails { IsErrOf result ShelfFault.Failed ↔ IsTrue (fails self.old) }
-        ensures names { IfOk result (IsNames (Some self.old.held)) }
-        ensures only_reads { OnlyReads (IsErrOf result ShelfFault.Failed)
-            (told self.old) (told self.new) }
-        ensures log { Some self.new.log ≡ Some self.old.log }
-        ensures never_missing { ¬ IsErrOf result ShelfFault.Missing }
+        ensures { MemoryNames result self.old self.new }
     {
         self.shelf.names(alloc)
     }
 
     fn length(&mut self, alloc: Global, name: &str) -> Result<u64, ShelfFault>
-        ensures after { self.new ≡ read_called self.old }
-        ensures fails { IsErrOf result ShelfFault.Failed ↔ IsTrue (fails self.old) }
-        ensures length { IfOk result (IsLengthOf (Some self.old.held) name.now) }
-        ensures only_reads { OnlyReads (IsErrOf result ShelfFault.Failed)
-            (told self.old) (told self.new) }
-        ensures log { Some self.new.log ≡ Some self.old.log }
-        ensures missing { IsErrOf result ShelfFault.Missing → Lacks (Some self.old.held) name.now }
-        ensures present { IsErrOf result ShelfFault.NoMemory → Has (Some self.old.held) name.now }
-        ensures no_memory { ¬ IsErrOf result ShelfFault.NoMemory }
+        ensures { MemoryLength name.now result self.old self.new }
     {
         self.shelf.length(alloc, name)
     }
@@ -92,20 +76,7 @@ impl Shelf for MemoryDepot {
         offset: u64,
         into: &mut [u8],
     ) -> Result<usize, ShelfFault>
-        ensures after { IfOk result (λ n.
-            self.new ≡ read_logged name.now offset n (read_called self.old)) }
-        ensures after_fault { OnErr result (self.new ≡ read_called self.old) }
-        ensures fails { IsErrOf result ShelfFault.Failed ↔ IsTrue (fails self.old) }
-        ensures bound { IfOk result (λ n. n ≤ length into.old) }
-        ensures bytes { IfOk result (λ n.
-            ReadsAt (Some self.old.held) name.now offset n into.old into.new) }
-        ensures only_reads { OnlyReads (IsErrOf result ShelfFault.Failed)
-            (told self.old) (told self.new) }
-        ensures logged { IfOk result (λ n.
-            Some self.new.log ≡ logged name.now offset n (Some self.old.log)) }
-        ensures not_logged { OnErr result (Some self.new.log ≡ Some self.old.log) }
-        ensures missing { IsErrOf result ShelfFault.Missing → Lacks (Some self.old.held) name.now }
-        ensures present { IsErrOf result ShelfFault.NoMemory → Has (Some self.old.held) name.now }
+        ensures { MemoryBytes name.now offset into.old into.new result self.old self.new }
     {
         self.shelf.read_at(alloc, name, offset, into)
     }
@@ -117,16 +88,9 @@ impl Depot for MemoryDepot {
     ghost tells_both = { λ depot. tells_both depot.held depot.parts };
 
     fn begin(&mut self, alloc: Global, part: &str) -> Result<(), DepotFault>
-        ensures after { OnOk result (self.new ≡ part_begun part.now (write_called self.old)) }
+        ensures write { MemoryWrite (part_begun part.now) result self.old self.new }
         ensures after_fault { OnErr result (self.new ≡ write_called self.old) }
-        ensures fails { IsErrOf result DepotFault.Failed ↔ IsTrue (fails self.old) }
-        ensures begun { OnOk result
-            (Some self.new.parts ≡ with_file part.now [] (Some self.old.parts)) }
-        ensures unknown { OnErr result
-            (SameBut part.now (Some self.old.parts) (Some self.new.parts)) }
-        ensures held { Some self.new.held ≡ Some self.old.held }
-        ensures writes { Writes (IsErrOf result DepotFault.Failed) (told self.old) (told self.new) }
-        ensures never_missing { ¬ IsErrOf result DepotFault.Missing }
+        ensures begins { BeginsPart part.now result (told self.old) (told self.new) }
     {
         if self.shelf.fails_counted(&mut self.faults) {
             return Err(DepotFault::Failed);
@@ -137,21 +101,10 @@ impl Depot for MemoryDepot {
     }
 
     fn append(&mut self, alloc: Global, part: &str, bytes: &[u8]) -> Result<(), DepotFault>
-        ensures after { OnOk result
-            (self.new ≡ part_grown part.now bytes.now (write_called self.old)) }
-        ensures after_failed { IsErrOf result DepotFault.Failed → self.new ≡ write_called self.old }
+        ensures write { MemoryWrite (part_grown part.now bytes.now) result self.old self.new }
         ensures after_no_memory { IsErrOf result DepotFault.NoMemory →
             self.new ≡ part_lost part.now (write_called self.old) }
-        ensures fails { IsErrOf result DepotFault.Failed ↔ IsTrue (fails self.old) }
-        ensures appended { OnOk result
-            (Some self.new.parts
-            ≡ with_file part.now (bytes_of (Some self.old.parts) part.now ++ bytes.now)
-            (Some self.old.parts)) }
-        ensures unknown { OnErr result
-            (SameBut part.now (Some self.old.parts) (Some self.new.parts)) }
-        ensures held { Some self.new.held ≡ Some self.old.held }
-        ensures writes { Writes (IsErrOf result DepotFault.Failed) (told self.old) (told self.new) }
-        ensures never_missing { ¬ IsErrOf result DepotFault.Missing }
+        ensures appends { AppendsToPart part.now bytes.now result (told self.old) (told self.new) }
     {
         if self.shelf.fails_counted(&mut self.faults) {
             return Err(DepotFault::Failed);
@@ -161,22 +114,11 @@ impl Depot for MemoryDepot {
     }
 
     fn publish(&mut self, alloc: Global, part: &str, name: &str) -> Result<(), DepotFault>
-        ensures after { OnOk result
-            (self.new ≡ part_published part.now name.now (write_called self.old)) }
-        ensures after_failed { IsErrOf result DepotFault.Failed → self.new ≡ write_called self.old }
+        ensures write { MemoryWrite (part_published part.now name.now) result self.old self.new }
         ensures after_no_memory { IsErrOf result DepotFault.NoMemory →
             self.new ≡ part_lost part.now (write_called self.old) }
-        ensures fails { IsErrOf result DepotFault.Failed ↔ IsTrue (fails self.old) }
-        ensures published { OnOk result
-            (Some self.new.held
-            ≡ with_file name.now (bytes_of (Some self.old.parts) part.now) (Some self.old.held)) }
-        ensures gone { OnOk result
-            (Some self.new.parts ≡ without_file part.now (Some self.old.parts)) }
-        ensures held { OnErr result (Some self.new.held ≡ Some self.old.held) }
-        ensures unknown { OnErr result
-            (SameBut part.now (Some self.old.parts) (Some self.new.parts)) }
-        ensures writes { Writes (IsErrOf result DepotFault.Failed) (told self.old) (told self.new) }
-        ensures never_missing { ¬ IsErrOf result DepotFault.Missing }
+        ensures publishes { PublishesPart part.now name.now result
+            (told self.old) (told self.new) }
     {
         if self.shelf.fails_counted(&mut self.faults) {
             return Err(DepotFault::Failed);
@@ -187,18 +129,10 @@ impl Depot for MemoryDepot {
     }
 
     fn remove(&mut self, alloc: Global, name: &str) -> Result<(), DepotFault>
-        ensures after { OnOk result (self.new ≡ file_removed name.now (write_called self.old)) }
+        ensures write { MemoryWrite (file_removed name.now) result self.old self.new }
         ensures after_fault { OnErr result (self.new ≡ write_called self.old) }
-        ensures fails { IsErrOf result DepotFault.Failed ↔ IsTrue (fails self.old) }
+        ensures removes { RemovesFile name.now result (told self.old) (told self.new) }
         ensures no_memory { ¬ IsErrOf result DepotFault.NoMemory }
-        ensures removed { OnOk result
-            (Some self.new.held ≡ without_file name.now (Some self.old.held)) }
-        ensures held { OnErr result (Some self.new.held ≡ Some self.old.held) }
-        ensures parts { Some self.new.parts ≡ Some self.old.parts }
-        ensures writes { Writes (IsErrOf result DepotFault.Failed) (told self.old) (told self.new) }
-        ensures missing { IsErrOf result DepotFault.Missing → Lacks (Some self.old.held) name.now }
-        ensures there { OnOk result (Has (Some self.old.held) name.now) }
-        ensures present { IsErrOf result DepotFault.NoMemory → Has (Some self.old.held) name.now }
     {
         let _ = alloc;
         if self.shelf.fails_counted(&mut self.faults) {

@@ -1,12 +1,9 @@
 //! Shelves in memory.
-ghost use Rattle.std.specs.Prelude.{◌≡◌, ◌≤◌, ◌↔◌, Some, OnErr, IfOk, IsErrOf, IsTrue, min, length, ◌-◌, take, drop, ◌++◌, OnOk, IfNone, if◌then◌else◌};
+ghost use Rattle.std.specs.Prelude.{◌≡◌, Some, OnErr, IfOk, min, length, ◌-◌, take, drop, ◌++◌, OnOk, IfNone};
 ghost use Rattle.std.specs.FinMap as map;
 ghost use Rattle.outside.specs.Counts.{next};
-ghost use Rattle.outside.specs.Files.{IsNames, IsLengthOf, Has, Lacks};
-ghost use Rattle.memory_devices.specs.Memory.{fresh, fails, read_called, read_logged, file_removed, is_listed, told};
-ghost use Rattle.outside.specs.Reads.{ReadsAt, logged};
-ghost use Rattle.outside.specs.Seen.{OnlyReads};
-ghost use Rattle.outside.specs.declared.shelf.ShelfFault.TheVariants.{Missing, Failed, NoMemory};
+ghost use Rattle.memory_devices.specs.Calls.{CountsFault, MemoryBytes, MemoryLength, MemoryNames};
+ghost use Rattle.memory_devices.specs.Memory.{fresh, fails, file_removed};
 
 use crate::file_map::FileMap;
 use crate::memory_calls::MemoryCalls;
@@ -65,8 +62,7 @@ impl MemoryShelf {
     pub fn fails_counted(&mut self, faults: &mut u64) -> bool
         ensures result { result ≡ fails self.old }
         ensures calls { self.new ≡ record self.old { calls = next self.old.calls } }
-        ensures faults { faults.new ≡ (if result then next faults.old else faults.old) }
-        ensures later { faults.old ≤ faults.new }
+        ensures faults { CountsFault result faults.old faults.new }
     {
         self.calls.fails_counted(faults)
     }
@@ -116,12 +112,7 @@ impl Shelf for MemoryShelf {
     ghost write_faults = { λ shelf. shelf.write_faults };
 
     fn names(&mut self, alloc: Global) -> Result<Seq<Name>, ShelfFault>
-        ensures after { self.new ≡ read_called self.old }
-        ensures fails { IsErrOf result Failed ↔ IsTrue (fails self.old) }
-        ensures names { IfOk result (IsNames (Some self.old.held)) }
-        ensures only_reads { OnlyReads (IsErrOf result Failed) (told self.old) (told self.new) }
-        ensures log { Some self.new.log ≡ Some self.old.log }
-        ensures never_missing { ¬ IsErrOf result Missing }
+        ensures { MemoryNames result self.old self.new }
     {
         if self.calls.fails_counted(&mut self.faults) {
             return Err(ShelfFault::Failed);
@@ -130,14 +121,7 @@ impl Shelf for MemoryShelf {
     }
 
     fn length(&mut self, alloc: Global, name: &str) -> Result<u64, ShelfFault>
-        ensures after { self.new ≡ read_called self.old }
-        ensures fails { IsErrOf result Failed ↔ IsTrue (fails self.old) }
-        ensures length { IfOk result (IsLengthOf (Some self.old.held) name.now) }
-        ensures only_reads { OnlyReads (IsErrOf result Failed) (told self.old) (told self.new) }
-        ensures log { Some self.new.log ≡ Some self.old.log }
-        ensures missing { IsErrOf result Missing → Lacks (Some self.old.held) name.now }
-        ensures present { IsErrOf result NoMemory → Has (Some self.old.held) name.now }
-        ensures no_memory { ¬ IsErrOf result NoMemory }
+        ensures { MemoryLength name.now result self.old self.new }
     {
         let _ = alloc;
         if self.calls.fails_counted(&mut self.faults) {
@@ -156,19 +140,7 @@ impl Shelf for MemoryShelf {
         offset: u64,
         into: &mut [u8],
     ) -> Result<usize, ShelfFault>
-        ensures after { IfOk result (λ n.
-            self.new ≡ read_logged name.now offset n (read_called self.old)) }
-        ensures after_fault { OnErr result (self.new ≡ read_called self.old) }
-        ensures fails { IsErrOf result Failed ↔ IsTrue (fails self.old) }
-        ensures bound { IfOk result (λ n. n ≤ length into.old) }
-        ensures bytes { IfOk result (λ n.
-            ReadsAt (Some self.old.held) name.now offset n into.old into.new) }
-        ensures only_reads { OnlyReads (IsErrOf result Failed) (told self.old) (told self.new) }
-        ensures logged { IfOk result (λ n.
-            Some self.new.log ≡ logged name.now offset n (Some self.old.log)) }
-        ensures not_logged { OnErr result (Some self.new.log ≡ Some self.old.log) }
-        ensures missing { IsErrOf result Missing → Lacks (Some self.old.held) name.now }
-        ensures present { IsErrOf result NoMemory → Has (Some self.old.held) name.now }
+        ensures { MemoryBytes name.now offset into.old into.new result self.old self.new }
     {
         if self.calls.fails_counted(&mut self.faults) {
             return Err(ShelfFault::Failed);

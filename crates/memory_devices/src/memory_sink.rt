@@ -1,8 +1,7 @@
 //! Sinks in memory.
-ghost use Rattle.std.specs.Prelude.{◌≡◌, ◌≤◌, true, Some, OnOk, OnErr, IfOk, IsErr, IsTrue, ◌↔◌, length, vec_len, vec_capacity};
-ghost use Rattle.outside.specs.Counts.{Rose};
-ghost use Rattle.memory_devices.specs.Memory.{fresh_sink, refuses, after_put};
-ghost use Rattle.outside.specs.Sink.{appended, AppendsPrefix};
+ghost use Rattle.std.specs.Prelude.{◌≡◌, Some, IfOk, IsErr, IsTrue, ◌↔◌};
+ghost use Rattle.outside.specs.Calls.{PutsBytes};
+ghost use Rattle.memory_devices.specs.Memory.{fresh_sink, refuses, after_put, sink_told};
 
 use crate::memory_calls::MemoryCalls;
 use outside::{NoMemory, Seq, Sink, SinkFault};
@@ -66,13 +65,7 @@ impl Sink for MemorySink {
     fn put(&mut self, bytes: &[u8]) -> Result<(), SinkFault>
         ensures after { self.new ≡ after_put bytes.now self.old }
         ensures refused { IsErr result ↔ IsTrue (refuses bytes.now self.old) }
-        ensures all { OnOk result
-            (Some self.new.written ≡ appended bytes.now (Some self.old.written)) }
-        ensures prefix { OnErr result
-            (AppendsPrefix bytes.now (Some self.old.written) (Some self.new.written)) }
-        ensures later { self.old.faults ≤ self.new.faults }
-        ensures failed { OnErr result (Rose self.old.faults self.new.faults) }
-        ensures unchanged { OnOk result (self.new.faults ≡ self.old.faults) }
+        ensures puts { PutsBytes bytes.now result (sink_told self.old) (sink_told self.new) }
     {
         let fails = self.calls.fails();
         if fails || self.room - self.bytes.len() < bytes.len() {

@@ -78,11 +78,11 @@ pub record GivesNames (result : Result (List (List ℕ)) ShelfFault) (old new : 
 -- a call that gives the length of a file
 pub record GivesLength (name : List ℕ) (result : Result ℕ ShelfFault) (old new : Seen) : Type 0
   where
-  pub length : IfOk result (IsLengthOf old.held name)
-  pub only_reads : OnlyReads (IsErrOf result shelf.Failed) old new
-  pub log : new.log ≡ old.log
-  pub missing : IsErrOf result shelf.Missing → Lacks old.held name
-  pub present : IsErrOf result shelf.NoMemory → Has old.held name
+    pub length : IfOk result (IsLengthOf old.held name)
+    pub only_reads : OnlyReads (IsErrOf result shelf.Failed) old new
+    pub log : new.log ≡ old.log
+    pub missing : IsErrOf result shelf.Missing → Lacks old.held name
+    pub present : IsErrOf result shelf.NoMemory → Has old.held name
 
 -- a call that reads a file from an offset on into the front of a buffer, which was `room` and is
 -- `into`

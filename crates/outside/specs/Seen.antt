@@ -1,7 +1,6 @@
 -- A shelf, a depot and a sink of any type, seen as the record of what it tells.
 use Rattle.outside.specs.declared.shelf.Shelf as shelf
 use Rattle.outside.specs.declared.sink.Sink as sink
-
 pub use Rattle.outside.specs.Calls.{Seen, Heard, OnlyReads, Writes, OnlyWrites}
 
 -- a shelf or a depot, seen through the members of its trait

@@ -2,6 +2,7 @@
 //! tested.
 
 ghost use Rattle.std.specs.Prelude.{◌≤◌, length, IfOk};
+ghost use Rattle.std.proofs.Props.{props};
 ghost use Rattle.values.specs.Order.{value_order};
 ghost use Rattle.values.specs.Tests.{op_holds};
 ghost use Rattle.value_ids.specs.Dictionary.{Ascends, most_values};
@@ -10,6 +11,14 @@ ghost use Rattle.value_ids.specs.Ids.{Cuts, Picks};
 use crate::{IdSet, complement_of, range_of};
 use std::alloc::Global;
 use values::{CompareOp, NoMemory, Value};
+
+/// AscendingValues values, none of them twice, and no more than a column has.
+#[derive(Clone, Copy)]
+pub struct AscendingValues<'a> {
+    pub values: &'a [Value],
+    ghost at_most: { length values.now ≤ most_values },
+    ghost ascends: { Ascends values.now } by { Prim.hlevel props },
+}
 
 /// Where ascending values are cut by a bound: at the first that is not less, and at the first that
 /// is greater.
@@ -20,12 +29,10 @@ pub struct Cut {
 }
 
 /// Where a bound cuts values; it is found by halving.
-pub fn cut_at(values: &[Value], bound: &Value) -> Cut
-    requires at_most { length values.now ≤ most_values }
-    requires ascends { Ascends values.now }
-    ensures { Cuts values.now bound.now result.from result.to }
+pub fn cut_at(ascending: AscendingValues<'_>, bound: &Value) -> Cut
+    ensures { Cuts ascending.entry.values.now bound.now result.from result.to }
 {
-    match values.binary_search(bound) {
+    match ascending.values.binary_search(bound) {
         Ok(id) => Cut {
             from: id as u32,
             to: id as u32 + 1,
@@ -42,14 +49,13 @@ pub fn compared(
     alloc: Global,
     op: CompareOp,
     bound: &Value,
-    values: &[Value],
+    ascending: AscendingValues<'_>,
 ) -> Result<IdSet, NoMemory>
-    requires at_most { length values.now ≤ most_values }
-    requires ascends { Ascends values.now }
-    ensures { IfOk result (Picks (λ value. op_holds op (value_order value bound.now)) values.now) }
+    ensures { IfOk result (Picks (λ value. op_holds op (value_order value bound.now))
+        ascending.entry.values.now) }
 {
-    let count = values.len() as u32;
-    let Cut { from, to } = cut_at(values, bound);
+    let count = ascending.values.len() as u32;
+    let Cut { from, to } = cut_at(ascending, bound);
     match op {
         CompareOp::Equal => range_of(alloc, from, to),
         CompareOp::Unequal => complement_of(alloc, count, &range_of(alloc, from, to)?),

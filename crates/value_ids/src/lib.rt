@@ -10,7 +10,7 @@ mod id_sets;
 mod mask;
 mod ranks;
 
-pub use cuts::{Cut, compared, cut_at};
+pub use cuts::{AscendingValues, Cut, compared, cut_at};
 pub use distinct::distinct_values;
 pub use id_set::IdSet;
 pub use id_sets::{complement_of, intersection_of, range_of, set_of, union_of};

@@ -94,7 +94,8 @@ read bs s c sum count v stored is =
     ∙ counts.read v.count (omega (arith, stored.0.1)))
 
 -- averages are an aggregate
-pub aggregate : IsAggregate AverageState average_of (record { sum = pos 0; count = 0 }) both_averages AverageFits
+pub aggregate : IsAggregate AverageState average_of (record { sum = pos 0; count = 0 })
+    both_averages AverageFits
 aggregate = record {
   of_none = refl;
   nothing_added = nothing_added;

@@ -6,6 +6,6 @@ use Rattle.dictionary.proofs.matching.one_of.Goals as goal
 
 pub returns : goal.returns
 returns c =
-    if_ok c.negated_set.result (AreThose (negated_ids c.args.negated (length c.args.values.now) c.in_ok-ids.ids)) (Picks (λ value. negated_if c.args.negated (is_member c.args.members.now value)) c.args.values.now)
-    (λ new. negated_picks c.args.negated (is_member c.args.members.now) c.args.values.now c.in_ok-ids.ids new
-    (set_picks (is_member c.args.members.now) c.args.values.now c.in_ok-places_of.field-0.items c.in_ok-ids.ids c.in_ok-places_of.ensures c.in_ok-ids.ensures)) c.negated_set.ensures
+    if_ok c.negated_set.result (AreThose (negated_ids c.args.negated (length c.args.ascending.values.now) c.in_ok-ids.ids)) (Picks (λ value. negated_if c.args.negated (is_member c.args.members.now value)) c.args.ascending.values.now)
+    (λ new. negated_picks c.args.negated (is_member c.args.members.now) c.args.ascending.values.now c.in_ok-ids.ids new
+    (set_picks (is_member c.args.members.now) c.args.ascending.values.now c.in_ok-places_of.field-0.items c.in_ok-ids.ids c.in_ok-places_of.ensures c.in_ok-ids.ensures)) c.negated_set.ensures

@@ -5,8 +5,8 @@ use Rattle.value_ids.specs.Ids.{has_id, matching, satisfies}
 use Rattle.value_ids.proofs.MatchLemmas.{ids_so}
 use Rattle.dictionary.proofs.dictionary.Dictionary.ids_matching.Goals as goal
 
-pub matching_ids-requires : goal.matching_ids-requires
-matching_ids-requires c = record {
+pub invariant_of-ascending : goal.invariant_of-ascending
+invariant_of-ascending c = record {
   at_most = subst (λ (vs : List Value). length vs ≤ most_values) (sym c.deref.ensures.value) c.self.invariant.at_most;
   ascends = subst Ascends (sym c.deref.ensures.value) c.self.invariant.ascends;
 }

@@ -6,20 +6,20 @@ use Rattle.dictionary.proofs.CodedLemmas.{column_so, lent_back, ranks_all, renum
 use Rattle.value_ids.proofs.DistinctLemmas.{members_so, stands_so}
 use Rattle.dictionary.proofs.dictionary.Dictionary.of_column.Goals as goal
 
-pub ranks-requires-clause-at_most : goal.ranks-requires-clause-at_most
-ranks-requires-clause-at_most c =
+pub invariant_of-ascending-clause-at_most : goal.invariant_of-ascending-clause-at_most
+invariant_of-ascending-clause-at_most c =
     let so = column_so c.args.column.now.values c.in_ok-seen.field-0.values.items c.deref.result.now c.in_ok-values.values.items c.in_ok-seen.field-0.ids.items c.in_ok-seen.ensures c.deref.ensures.value c.in_ok-values.ensures.distinct in
     let stands = stands_so c.args.kind c.args.column.now.values c.in_ok-values.values.items c.requires.at_most c.requires.fit so c.in_ok-values.ensures.unicode in
     subst (λ (vs : List Value). length vs ≤ most_values) (sym c.deref-2.ensures.value) stands.at_most
 
-pub ranks-requires-clause-ascends : goal.ranks-requires-clause-ascends
-ranks-requires-clause-ascends c =
+pub invariant_of-ascending-clause-ascends : goal.invariant_of-ascending-clause-ascends
+invariant_of-ascending-clause-ascends c =
     let so = column_so c.args.column.now.values c.in_ok-seen.field-0.values.items c.deref.result.now c.in_ok-values.values.items c.in_ok-seen.field-0.ids.items c.in_ok-seen.ensures c.deref.ensures.value c.in_ok-values.ensures.distinct in
     let stands = stands_so c.args.kind c.args.column.now.values c.in_ok-values.values.items c.requires.at_most c.requires.fit so c.in_ok-values.ensures.unicode in
     subst Ascends (sym c.deref-2.ensures.value) stands.ascends
 
-pub ranks-requires-clause-among : goal.ranks-requires-clause-among
-ranks-requires-clause-among c =
+pub ranks-requires : goal.ranks-requires
+ranks-requires c =
     let is : c.in_ok-values.values.items ≡ distinct c.deref-3.result.now = c.in_ok-values.ensures.distinct ∙ ap distinct (c.deref.ensures.value ∙ sym c.deref-3.ensures.value) in
     subst (λ (vs : List Value). AreAmong vs c.deref-3.result.now) (sym c.deref-2.ensures.value) (seen_among c.deref-3.result.now c.in_ok-values.values.items is)
 
