@@ -1,17 +1,4 @@
--- What any calls do to a store, one after another, and print:
---
---     From an empty folder, after any commands, each query prints, unless memory runs out or a
---     device fails, exactly what filtering, grouping and folding the rows ingested and not dropped
---     would print; each segment not already excluded by its values is answered from the tree
---     exactly when the written rule makes it eligible, and then reads no raw document and at most
---     the stated product of star documents.
---
--- "From an empty folder" is `FromEmpty`. "After any commands" is `Proceeds`, over any list of
--- calls. "Each query prints" is `LeavesOf`: the answer of its step is given whole. "Unless memory
--- runs out or a device fails" are its first three lines. "Exactly what filtering, grouping and
--- folding would print" is `Answers`: that answer is the reply over all rows of the state. "The rows
--- ingested and not dropped" is `RowsAreIngested`. "Each segment is answered from the tree exactly
--- when, and then reads" is `ReadsOf`.
+-- What any calls do to a store, one after another, and print.
 use Rattle.std.specs.Prelude.{◌≡◌, ◌≢◌, ◌⊎◌, ℕ, false, List, [], ◌∷◌, ◌++◌, Option, Some, Ok, IfSome, IsSomeAnd}
 use Rattle.std.specs.FinMap as tree
 use Rattle.outside.specs.Counts.{Rose}
@@ -35,6 +22,22 @@ use Rattle.command_model.specs.World.{World}
 use Rattle.pinot_run.specs.Calls.{AreCalls, Call}
 use Rattle.pinot_run.specs.Laws.{ReadsState, is_done}
 use Rattle.pinot_run.specs.Promise.{Counted, IsGiven, IsUndone, Noted}
+
+-- The headline:
+--
+--     From an empty folder, after any commands, each query prints, unless memory runs out or a
+--     device fails, exactly what filtering, grouping and folding the rows ingested and not dropped
+--     would print; each segment not already excluded by its values is answered from the tree
+--     exactly when the written rule makes it eligible, and then reads no raw document and at most
+--     the stated product of star documents.
+--
+-- from an empty folder: `FromEmpty`
+-- after any commands: `Proceeds`, over any list of calls
+-- each query prints: `LeavesOf`, where the answer of the step is given whole
+-- unless memory runs out or a device fails: `LeavesOf`, its cases of these three statuses
+-- exactly what filtering, grouping and folding would print: `Answers`, over all rows of the state
+-- the rows ingested and not dropped: `RowsAreIngested`
+-- each segment is answered so, and then reads: `ReadsOf`, by the plan of its rows
 
 -- ---- one call
 
