@@ -14,9 +14,8 @@ ghost use Rattle.agg_laws.specs.Rows.{row_of, units_of, kinds_of, merged_rows, R
 ghost use Rattle.agg_laws.specs.Rows.{weight_of, row_weight};
 ghost use Rattle.agg_laws.specs.Order.{state_order};
 
-/// The state of a list goes by its numbers alone, in any grouping and order; how many values states
-/// stand for adds up; and each stored state of a kind has a spelling of its own, of the kind's
-/// width.
+/// The state of a list goes by its numbers alone, in any grouping and order, and how many values
+/// states stand for adds up.
 pub fn aggregates_law()
     ensures of_none { (k : AggKind) → state_of k [] ≡ unit_of k }
     ensures nothing_added { (v : AggState) → merged v (unit_of (kind_of v)) ≡ v }
@@ -30,6 +29,11 @@ pub fn aggregates_law()
     ensures fits_both { (v w : AggState) (n m : ℕ) → Fits v n → Fits w m
         → Fits (merged v w) (n + m) }
     ensures fits_more { (v : AggState) (n m : ℕ) → Fits v n → n ≤ m → Fits v m }
+{}
+
+/// Each stored state stands for no more values than a segment has rows, and of a kind has a
+/// spelling of its own, of the kind's width.
+pub fn spellings_law()
     ensures stored_fits { (v : AggState) → IsStored v → Fits v most_stored }
     ensures spelled { (v : AggState) → IsStored v → length (spelling v) ≡ width_of (kind_of v) }
     ensures one_spelling { (v w : AggState) → kind_of v ≡ kind_of w → IsStored v → IsStored w

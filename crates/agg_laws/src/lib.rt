@@ -20,7 +20,7 @@ pub use compare::compare_states;
 pub use counts::Count;
 pub use data_types::NoMemory;
 pub use extremes::{Greatest, Least};
-pub use laws::{aggregates_law, extremes_law, order_law, rows_law, weights_law};
+pub use laws::{aggregates_law, extremes_law, order_law, rows_law, spellings_law, weights_law};
 pub use states::AggState;
 pub use sums::Sum;
 pub use tree_shape::TreeShape;

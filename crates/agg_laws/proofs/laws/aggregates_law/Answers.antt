@@ -12,7 +12,4 @@ returns c = record {
   fits_of = states.fits_of;
   fits_both = states.fits_both;
   fits_more = states.fits_more;
-  stored_fits = states.stored_fits;
-  spelled = states.spelled;
-  one_spelling = states.one_spelling;
 }

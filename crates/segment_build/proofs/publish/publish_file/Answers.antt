@@ -9,7 +9,7 @@ pub returns-in_err-begin-clause-only_writes : goal.returns-in_err-begin-clause-o
 returns-in_err-begin-clause-only_writes g c =
     let e = c.in_err-begin.ensures in
     writes_handed c.from_residual.result c.in_err-begin.field-0.0 incoming (seen g.D.Shelf c.args.depot.now) (seen g.D.Shelf c.begin.new.self) c.from_residual.ensures.1
-    (record { parts = e.unknown; log = e.log; reads = e.reads; later = e.later; rose = e.failed; unchanged = e.unchanged })
+    (record { parts = e.unknown; log = e.writes.log; reads = e.writes.reads; later = e.writes.later; rose = e.writes.rose; unchanged = e.writes.unchanged })
 
 pub returns-in_err-append-clause-only_writes : goal.returns-in_err-append-clause-only_writes
 returns-in_err-append-clause-only_writes g c =
@@ -17,8 +17,8 @@ returns-in_err-append-clause-only_writes g c =
     let b = c.in_ok-begin.ensures in
     writes_handed c.from_residual-in_err-append.result c.in_err-append.field-0.0 incoming (seen g.D.Shelf c.args.depot.now) (seen g.D.Shelf c.append.new.self) c.from_residual-in_err-append.ensures.1
     (writes_after _ incoming (seen g.D.Shelf c.args.depot.now) (seen g.D.Shelf c.begin.new.self) (seen g.D.Shelf c.append.new.self)
-    (record { parts = same_but_new incoming [] _ _ b.begun; log = b.log; reads = b.reads; later = b.later; rose = λ none. absurd none; unchanged = λ _. b.unchanged (λ fails. cc) })
-    (record { parts = e.unknown; log = e.log; reads = e.reads; later = e.later; rose = e.failed; unchanged = e.unchanged }))
+    (record { parts = same_but_new incoming [] _ _ b.begun; log = b.writes.log; reads = b.writes.reads; later = b.writes.later; rose = λ none. absurd none; unchanged = λ _. b.writes.unchanged (λ fails. cc) })
+    (record { parts = e.unknown; log = e.writes.log; reads = e.writes.reads; later = e.writes.later; rose = e.writes.rose; unchanged = e.writes.unchanged }))
 
 pub returns-clause-published : goal.returns-clause-published
 returns-clause-published g c =
@@ -39,6 +39,6 @@ returns-clause-only_writes g c =
     let p = c.publish.ensures in
     writes_after _ incoming (seen g.D.Shelf c.args.depot.now) (seen g.D.Shelf c.append.new.self) (seen g.D.Shelf c.publish.new.self)
     (writes_after ⊥ incoming (seen g.D.Shelf c.args.depot.now) (seen g.D.Shelf c.begin.new.self) (seen g.D.Shelf c.append.new.self)
-    (record { parts = same_but_new incoming [] _ _ b.begun; log = b.log; reads = b.reads; later = b.later; rose = λ none. absurd none; unchanged = λ _. b.unchanged (λ fails. cc) })
-    (record { parts = same_but_new incoming (bytes_of (g.D.Shelf.parts c.begin.new.self) incoming ++ c.args.bytes.now) _ _ a.appended; log = a.log; reads = a.reads; later = a.later; rose = λ none. absurd none; unchanged = λ _. a.unchanged (λ fails. cc) }))
-    (record { parts = after_publish c.publish.result incoming (g.D.Shelf.parts c.append.new.self) (g.D.Shelf.parts c.publish.new.self) p.gone p.unknown; log = p.log; reads = p.reads; later = p.later; rose = p.failed; unchanged = p.unchanged })
+    (record { parts = same_but_new incoming [] _ _ b.begun; log = b.writes.log; reads = b.writes.reads; later = b.writes.later; rose = λ none. absurd none; unchanged = λ _. b.writes.unchanged (λ fails. cc) })
+    (record { parts = same_but_new incoming (bytes_of (g.D.Shelf.parts c.begin.new.self) incoming ++ c.args.bytes.now) _ _ a.appended; log = a.writes.log; reads = a.writes.reads; later = a.writes.later; rose = λ none. absurd none; unchanged = λ _. a.writes.unchanged (λ fails. cc) }))
+    (record { parts = after_publish c.publish.result incoming (g.D.Shelf.parts c.append.new.self) (g.D.Shelf.parts c.publish.new.self) p.gone p.unknown; log = p.writes.log; reads = p.writes.reads; later = p.writes.later; rose = p.writes.rose; unchanged = p.writes.unchanged })
