@@ -58,15 +58,6 @@ impl Columns {
         &self.columns[at]
     }
 
-    /// One row.
-    pub fn row(&self, alloc: Global, at: usize) -> Result<Row, NoMemory>
-        requires { at < self.now.count }
-        ensures value { IfOk result (λ row. row ≡ row_of self.now.columns at) }
-        ensures place { IfOk result (λ row. slice_get (rows_of self.now) at ≡ Some row) }
-    {
-        row_at(alloc, self.columns.as_slice(), self.count, at)
-    }
-
     /// All rows, one list of values each.
     pub fn rows(&self, alloc: Global) -> Result<Rows, NoMemory>
         ensures { IfOk result (λ rows. rows ≡ rows_of self.now) }
