@@ -10,6 +10,7 @@ ghost use Rattle.index_reader.specs.Reading.{NoneTells, ReadsSection};
 
 use crate::ListFault;
 use crate::ends::Ends;
+use crate::id_bounds::IdBounds;
 use crate::list_size::ListSize;
 use crate::word_reading::read_words;
 use outside::{Place, Shelf};
@@ -37,31 +38,26 @@ pub struct BucketParts {
     pub after: Ends,
 }
 
-/// How many buckets so many ids have.
-pub fn buckets_of(count: u32) -> u32
-    requires { count ≤ 1048576 }
-    ensures { result ≡ buckets_for count }
+/// How many buckets the ids have.
+pub fn buckets_of(bounds: IdBounds) -> u32
+    ensures { result ≡ buckets_for bounds.count }
 {
-    (count + (BUCKET - 1)) / BUCKET
+    (bounds.count + (BUCKET - 1)) / BUCKET
 }
 
-/// The buckets that overlap bounds, where there are so many ids. The last bucket may have fewer ids
-/// than the others.
-pub fn overlap_of(count: u32, low: u32, high: u32) -> Overlap
-    requires order { low ≤ high }
-    requires below { high < count }
-    requires at_most { count ≤ 1048576 }
-    ensures { IsOverlap count low high result }
+/// The buckets that overlap bounds. The last bucket may have fewer ids than the others.
+pub fn overlap_of(bounds: IdBounds) -> Overlap
+    ensures { IsOverlap bounds.count bounds.low bounds.high result }
 {
-    let end = high / BUCKET + 1;
-    let sure_from = (low + (BUCKET - 1)) / BUCKET;
-    let whole = if high + 1 == count {
+    let end = bounds.high / BUCKET + 1;
+    let sure_from = (bounds.low + (BUCKET - 1)) / BUCKET;
+    let whole = if bounds.high + 1 == bounds.count {
         end
     } else {
-        (high + 1) / BUCKET
+        (bounds.high + 1) / BUCKET
     };
     Overlap {
-        first: low / BUCKET,
+        first: bounds.low / BUCKET,
         sure_from,
         sure_to: whole.max(sure_from),
         end,

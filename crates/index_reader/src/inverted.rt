@@ -1,11 +1,9 @@
 //! The documents of ids in an inverted index.
-ghost use Rattle.std.specs.Prelude.{◌≡◌, ◌≤◌, ◌<◌, ℕ, List, All, IfOk, IfSome};
+ghost use Rattle.std.specs.Prelude.{◌<◌, All};
 ghost use Rattle.outside.specs.Seen.{seen};
-ghost use Rattle.bit_column.specs.Sections.{section};
-ghost use Rattle.doc_lists.specs.Sets.{AreThose};
 ghost use Rattle.index_reader.specs.Documents.{TellsInverted, is_doc_of};
 ghost use Rattle.index_reader.specs.Entries.{LogsPostings, LogsPostingsPartly};
-ghost use Rattle.index_reader.specs.Reading.{NoneTells, ReadsSection};
+ghost use Rattle.index_reader.specs.Reading.{FindsDocs, NoneTells, ReadsSection};
 
 use crate::ListFault;
 use crate::list_size::ListSize;
@@ -27,10 +25,8 @@ pub fn inverted_docs<S: Shelf>(
     ids: &IdSet,
 ) -> Result<DocList, ListFault>
     requires below { All (λ id. id < size.count) ids.now }
-    ensures docs { IfOk result (λ docs. IfSome (S.held shelf.old) (λ files. (told : List ℕ) →
-        TellsInverted size.count size.rows (section files place.now) told →
-        AreThose (is_doc_of ids.now told) docs)) }
-    ensures within { IfOk result (λ docs. All (λ doc. doc < size.rows) docs) }
+    ensures found { FindsDocs result (TellsInverted size.count size.rows) (is_doc_of ids.now)
+        place.now size.rows (S.held shelf.old) }
     ensures reads { ReadsSection result
         (LogsPostings ids.now (S.held shelf.old) place.now size.count size.rows)
         (LogsPostingsPartly ids.now (S.held shelf.old) place.now size.count size.rows)

@@ -6,6 +6,7 @@ mod buckets;
 mod documents;
 mod ends;
 mod fault;
+mod id_bounds;
 mod inverted;
 mod kind;
 mod laws;

@@ -4,9 +4,8 @@ ghost use Rattle.outside.specs.Reads.{LogsOn, LogsUpTo};
 ghost use Rattle.outside.specs.Seen.{seen};
 ghost use Rattle.bit_column.specs.Sections.{section};
 ghost use Rattle.doc_lists.specs.Docs.{Apart, has_doc};
-ghost use Rattle.doc_lists.specs.Sets.{AreThose};
 ghost use Rattle.index_reader.specs.Entries.{ArePartsOf, Rising, TellsPostings, entries_at, entries_in, entries_of, offsets_of};
-ghost use Rattle.index_reader.specs.Reading.{NoneTells, ReadsSection};
+ghost use Rattle.index_reader.specs.Reading.{FindsDocs, NoneTells, ReadsSection};
 ghost use Rattle.outside.specs.Stretches.{LogsOver, LogsPartly};
 
 use crate::ListFault;
@@ -70,10 +69,9 @@ pub fn docs_of_parts<S: Shelf>(
     parts: &[Ends],
 ) -> Result<DocList, ListFault>
     requires rising { Rising 0 size.rows parts.now }
-    ensures docs { IfOk result (λ docs. IfSome (S.held shelf.old) (λ files. (keys : List ℕ) →
-        TellsPostings size.count size.rows (section files place.now) keys →
-        AreThose (has_doc (entries_in size.count keys parts.now)) docs)) }
-    ensures within { IfOk result (λ docs. All (λ doc. doc < size.rows) docs) }
+    ensures found { FindsDocs result (TellsPostings size.count size.rows)
+        (λ keys. has_doc (entries_in size.count keys parts.now)) place.now size.rows
+        (S.held shelf.old) }
     ensures reads { ReadsSection result
         (LogsOver place.now.file (map (entries_at place.now.offset size.count) parts.now))
         (LogsPartly place.now.file (map (entries_at place.now.offset size.count) parts.now))
@@ -87,7 +85,7 @@ pub fn docs_of_parts<S: Shelf>(
         Ok(entries) => entries,
         Err(fault) => return Err(fault),
     };
-    match docs_of_entries(alloc, size.rows, entries) {
+    match docs_of_entries(alloc, size, entries) {
         Ok(docs) => Ok(docs),
         Err(_) => Err(ListFault::NoMemory),
     }
@@ -104,10 +102,9 @@ fn docs_of_part<S: Shelf>(
 ) -> Result<DocList, ListFault>
     requires order { part.first ≤ part.last }
     requires within { part.last ≤ size.rows }
-    ensures docs { IfOk result (λ docs. IfSome (S.held shelf.old) (λ files. (keys : List ℕ) →
-        TellsPostings size.count size.rows (section files place.now) keys →
-        AreThose (has_doc (entries_of size.count keys part)) docs)) }
-    ensures within { IfOk result (λ docs. All (λ doc. doc < size.rows) docs) }
+    ensures found { FindsDocs result (TellsPostings size.count size.rows)
+        (λ keys. has_doc (entries_of size.count keys part)) place.now size.rows
+        (S.held shelf.old) }
     ensures reads { ReadsSection result
         (LogsOn place.now.file (place.now.offset + 4 * (size.count + 1 + part.first))
         (place.now.offset + 4 * (size.count + 1 + part.last)))
@@ -128,7 +125,7 @@ fn docs_of_part<S: Shelf>(
         Ok(entries) => entries,
         Err(fault) => return Err(fault),
     };
-    match docs_of_entries(alloc, size.rows, entries.into_vec()) {
+    match docs_of_entries(alloc, size, entries.into_vec()) {
         Ok(docs) => Ok(docs),
         Err(_) => Err(ListFault::NoMemory),
     }

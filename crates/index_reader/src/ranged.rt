@@ -9,6 +9,7 @@ ghost use Rattle.index_reader.specs.Reading.{NoneTells, ReadsSection};
 
 use crate::ListFault;
 use crate::buckets::{buckets_of, overlap_of, read_bucket_parts};
+use crate::id_bounds::IdBounds;
 use crate::list_size::ListSize;
 use crate::postings::docs_of_parts;
 use doc_lists::DocList;
@@ -47,8 +48,9 @@ pub fn docs_between<S: Shelf>(
         (NoneTells (TellsRanged count rows) place.now)
         (seen S.Shelf shelf.old) (seen S.Shelf shelf.new) }
 {
-    let overlap = overlap_of(count, low, high);
-    let buckets = buckets_of(count);
+    let bounds = IdBounds { low, high, count };
+    let overlap = overlap_of(bounds);
+    let buckets = buckets_of(bounds);
     let size = ListSize {
         count: buckets,
         rows,

@@ -3,9 +3,8 @@ ghost use Rattle.std.specs.Prelude.{◌≡◌, ◌≤◌, ◌<◌, ℕ, List, Al
 ghost use Rattle.outside.specs.Seen.{seen};
 ghost use Rattle.bit_column.specs.Sections.{section};
 ghost use Rattle.doc_lists.specs.Docs.{Apart};
-ghost use Rattle.doc_lists.specs.Sets.{AreThose};
 ghost use Rattle.index_reader.specs.Documents.{TellsSorted, is_doc_of};
-ghost use Rattle.index_reader.specs.Reading.{NoneTells, ReadsSection};
+ghost use Rattle.index_reader.specs.Reading.{FindsDocs, NoneTells, ReadsSection};
 ghost use Rattle.index_reader.specs.Runs.{LogsSorted, LogsSortedPartly, docs_in, ends_of};
 ghost use Rattle.outside.specs.Stretches.{LogsOver, LogsPartly};
 
@@ -29,10 +28,8 @@ pub fn sorted_docs<S: Shelf>(
     ids: &IdSet,
 ) -> Result<DocList, ListFault>
     requires below { All (λ id. id < size.count) ids.now }
-    ensures docs { IfOk result (λ docs. IfSome (S.held shelf.old) (λ files. (told : List ℕ) →
-        TellsSorted size.count size.rows (section files place.now) told →
-        AreThose (is_doc_of ids.now told) docs)) }
-    ensures within { IfOk result (λ docs. All (λ doc. doc < size.rows) docs) }
+    ensures found { FindsDocs result (TellsSorted size.count size.rows) (is_doc_of ids.now)
+        place.now size.rows (S.held shelf.old) }
     ensures reads { ReadsSection result
         (LogsSorted ids.now place.now.file place.now.offset)
         (LogsSortedPartly ids.now place.now.file place.now.offset)

@@ -15,9 +15,12 @@ returns-in-Err-clause-reads g c = record {
       words_bad (g.S.Shelf.held c.args.shelf.now) c.args.place.now c.args.size.count c.args.size.rows c.args.part c.args.size.rows_at_most c.requires.within (c.in-Err.ensures.reads.bad (same_fault _ _ c.in-Err.fault BadList bad));
 }
 
-pub returns-in-Ok-docs_of_entries-clause-docs : goal.returns-in-Ok-docs_of_entries-clause-docs
-returns-in-Ok-docs_of_entries-clause-docs g c =
-    part_listed (g.S.Shelf.held c.args.shelf.now) c.args.place.now c.args.size.count c.args.size.rows c.args.part c.in-Ok.entries c.into_vec.result.items c.in-Ok-docs_of_entries.docs c.args.size.rows_at_most c.requires.within c.in-Ok.ensures.words c.into_vec.ensures c.in-Ok-docs_of_entries.ensures.those
+pub returns-in-Ok-docs_of_entries-clause-found : goal.returns-in-Ok-docs_of_entries-clause-found
+returns-in-Ok-docs_of_entries-clause-found g c = record {
+  docs =
+      part_listed (g.S.Shelf.held c.args.shelf.now) c.args.place.now c.args.size.count c.args.size.rows c.args.part c.in-Ok.entries c.into_vec.result.items c.in-Ok-docs_of_entries.docs c.args.size.rows_at_most c.requires.within c.in-Ok.ensures.words c.into_vec.ensures c.in-Ok-docs_of_entries.ensures.those;
+  within = c.in-Ok-docs_of_entries.ensures.within;
+}
 
 pub returns-in-Err-docs_of_entries-clause-reads : goal.returns-in-Err-docs_of_entries-clause-reads
 returns-in-Err-docs_of_entries-clause-reads g c = record {

@@ -6,9 +6,12 @@ use Rattle.index_reader.proofs.PostingSteps.{err_weaker, one_over, one_partly, p
 use Rattle.outside.proofs.SeriesLemmas.{over_partly}
 use Rattle.index_reader.proofs.postings.docs_of_parts.Goals as goal
 
-pub returns-in-Ok-docs_of_entries-clause-docs : goal.returns-in-Ok-docs_of_entries-clause-docs
-returns-in-Ok-docs_of_entries-clause-docs g c =
-    parts_listed (g.S.Shelf.held c.args.shelf.now) c.args.place.now c.args.size.count c.args.size.rows c.args.parts.now c.in-Ok.entries.items c.in-Ok-docs_of_entries.docs c.in-Ok.ensures.entries c.in-Ok-docs_of_entries.ensures.those
+pub returns-in-Ok-docs_of_entries-clause-found : goal.returns-in-Ok-docs_of_entries-clause-found
+returns-in-Ok-docs_of_entries-clause-found g c = record {
+  docs =
+      parts_listed (g.S.Shelf.held c.args.shelf.now) c.args.place.now c.args.size.count c.args.size.rows c.args.parts.now c.in-Ok.entries.items c.in-Ok-docs_of_entries.docs c.in-Ok.ensures.entries c.in-Ok-docs_of_entries.ensures.those;
+  within = c.in-Ok-docs_of_entries.ensures.within;
+}
 
 pub returns-in-Err-docs_of_entries-clause-reads : goal.returns-in-Err-docs_of_entries-clause-reads
 returns-in-Err-docs_of_entries-clause-reads g c = record {

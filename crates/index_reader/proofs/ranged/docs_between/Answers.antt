@@ -121,7 +121,7 @@ returns-clause-sure g c =
     let first = seen g.S.Shelf c.args.shelf.now in
     let mid = seen g.S.Shelf c.read_bucket_parts.new.shelf in
     let before = reads_well _ c.in-Ok.parts ReadFault first mid c.in-Ok.ensures.reads.only_reads in
-    sure_told held place count rows c.args.low c.args.high n o parts old now read mid.held c.in-Ok-docs_of_parts.docs before.held c.in-Ok-docs_of_parts.ensures.docs
+    sure_told held place count rows c.args.low c.args.high n o parts old now read mid.held c.in-Ok-docs_of_parts.docs before.held c.in-Ok-docs_of_parts.ensures.found.docs
 
 pub returns-clause-check : goal.returns-clause-check
 returns-clause-check g c =
@@ -147,7 +147,7 @@ returns-clause-check g c =
     let before = reads_well _ c.in-Ok.parts ReadFault first mid c.in-Ok.ensures.reads.only_reads in
     let next = seen g.S.Shelf c.docs_of_parts.new.shelf in
     let both = reads_after ⊥ first mid next before (reads_well DocList c.in-Ok-docs_of_parts.docs ReadFault mid next c.in-Ok-docs_of_parts.ensures.reads.only_reads) in
-    check_told held place count rows c.args.low c.args.high n o parts old now read next.held c.in-Ok-docs_of_parts-2.docs both.held c.in-Ok-docs_of_parts-2.ensures.docs
+    check_told held place count rows c.args.low c.args.high n o parts old now read next.held c.in-Ok-docs_of_parts-2.docs both.held c.in-Ok-docs_of_parts-2.ensures.found.docs
 
 pub returns-clause-reads : goal.returns-clause-reads
 returns-clause-reads g c = record {
