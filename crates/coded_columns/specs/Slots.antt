@@ -1,6 +1,8 @@
 -- Rows in slots: those of one key have one slot.
 use Rattle.std.specs.Prelude.{◌≡◌, ◌≢◌, ◌⊎◌, ◌≤◌, ◌<◌, ◌+◌, ◌*◌, ◌++◌, ℕ, ℤ, pos, Option, Some, None, List, [], ◌∷◌, length, get_or, nat_lt, if◌then◌else◌, ◌==◌}
 use Rattle.values.specs.Columns.{Listed, row_of}
+use Rattle.value_ids.specs.Coding.{AreBelow}
+use Rattle.coded_columns.specs.Coded.{most_rows}
 use Rattle.group_table.specs.Groups.{key_of}
 use Rattle.state_columns.specs.Columns.{Column, state_at}
 use Rattle.agg_laws.specs.declared.aggregate_kind.AggKind.{AggKind}
@@ -26,6 +28,12 @@ from_slot n [] xs = []
 from_slot n (s ∷ slots) [] = []
 from_slot n (s ∷ slots) (x ∷ xs) = if nat_lt s n then from_slot n slots xs else x
     ∷ from_slot n slots xs
+
+-- each of these places has one of so many slots
+pub record AreSlotted (count : ℕ) (slots places : List ℕ) : Type 0 where
+  pub below : AreBelow count slots
+  pub same : length places ≡ length slots
+  pub few : count ≤ most_rows
 
 -- the first so many of a list have slots: two have one slot just where they have one key, and the
 -- first of each slot is kept
@@ -74,6 +82,11 @@ pub record AreSlots (columns : List Listed) (groups places slots firsts : List �
       (row_of columns (get_or places k 0))
   pub firsts_in : (slot : ℕ) → slot < length firsts → get_or firsts slot 0 < length places
   pub firsts_have : (slot : ℕ) → slot < length firsts → get_or slots (get_or firsts slot 0) 0 ≡ slot
+
+-- there is a slot for each of some places, which are no more than a segment has rows
+pub record HaveSlots (slots places : List ℕ) : Type 0 where
+  pub at_most : length places ≤ most_rows
+  pub same : length slots ≡ length places
 
 -- the number of a row, by its id in a column; without one it is 0
 abbrev pub number_at : List ℕ → List ℤ → ℕ → ℤ

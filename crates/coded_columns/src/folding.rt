@@ -11,7 +11,7 @@ ghost use Rattle.value_ids.specs.Coding.{AreBelow};
 ghost use Rattle.group_table.specs.Groups.{number_for, number_of, states_of};
 ghost use Rattle.scan_engine.specs.Places.{rows_at};
 ghost use Rattle.coded_columns.specs.Coded.{AreCoded, IsForAgg, IsUnnumbered, most_rows, table_of};
-ghost use Rattle.coded_columns.specs.Slots.{HoldsSlots, in_slot, number_at};
+ghost use Rattle.coded_columns.specs.Slots.{HaveSlots, HoldsSlots, in_slot, number_at};
 
 use crate::coded::{Coded, SegmentColumns};
 use crate::ids::Ids;
@@ -94,8 +94,7 @@ fn with_numbers(
     ids: &Ids,
     numbers: &[i64],
 ) -> StateColumn
-    requires at_most { length places.now ≤ most_rows }
-    requires same { length slots.now ≡ length places.now }
+    requires slots { HaveSlots slots.now places.now }
     requires below { AreBelow (length states.states) slots.now }
     requires empty { states.states ≡ replicate (length states.states) (unit_of states.kind) }
     ensures states { HoldsSlots states.kind (length states.states) slots.now
@@ -155,8 +154,7 @@ fn units(alloc: Global, kind: AggKind, count: usize) -> Result<StateColumn, NoMe
 
 // Adds the number of each row, by its id, to the state in the row's slot.
 fn add_numbers(column: &mut StateColumn, slots: &[u32], places: &[u32], ids: &Ids, numbers: &[i64])
-    requires at_most { length places.now ≤ most_rows }
-    requires same { length slots.now ≡ length places.now }
+    requires slots { HaveSlots slots.now places.now }
     requires below { AreBelow (length column.old.states) slots.now }
     requires empty { column.old.states
         ≡ replicate (length column.old.states) (unit_of column.old.kind) }

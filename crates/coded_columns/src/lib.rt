@@ -5,6 +5,7 @@
 mod coded;
 mod folding;
 mod ids;
+mod placed_ids;
 mod ranking;
 mod slots;
 

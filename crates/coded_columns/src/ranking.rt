@@ -3,11 +3,10 @@
 ghost use Rattle.std.specs.Prelude.{◌≡◌, ◌≤◌, ◌<◌, ◌*◌, ◌+◌, ◌^◌, ◌++◌, ◌∷◌, [], length, get_or};
 ghost use Rattle.std.specs.Prelude.{IfOk, nat_eq, slice_index};
 ghost use Rattle.std.specs.HashMap.{get};
-ghost use Rattle.value_ids.specs.Coding.{AreBelow};
 ghost use Rattle.coded_columns.specs.Coded.{most_rows};
-ghost use Rattle.coded_columns.specs.Slots.{AreRanked, GivesSlot, led_by, packed};
+ghost use Rattle.coded_columns.specs.Slots.{AreRanked, AreSlotted, GivesSlot, led_by, packed};
 
-use crate::ids::Ids;
+use crate::placed_ids::PlacedIds;
 use std::alloc::Global;
 use std::collections::HashMap;
 use values::NoMemory;
@@ -22,74 +21,52 @@ pub fn refine(
     alloc: Global,
     slots: &mut [u32],
     count: usize,
-    places: &[u32],
-    ids: &Ids,
-    width: usize,
+    column: PlacedIds<'_>,
 ) -> Result<Vec<u32>, NoMemory>
-    requires slots { AreBelow count slots.old }
-    requires same { length places.now ≡ length slots.old }
-    requires rows { AreBelow (length ids.now) places.now }
-    requires ids { AreBelow width ids.now }
-    requires at_most { length slots.old ≤ most_rows }
-    requires few_slots { count ≤ most_rows }
-    requires few_ids { width ≤ most_rows }
-    ensures { IfOk result (λ firsts. AreRanked (packed slots.old width ids.now places.now)
-        (length slots.old) slots.new firsts.items) }
+    requires { AreSlotted count slots.old column.places.now }
+    ensures { IfOk result (λ firsts. AreRanked (packed slots.old column.entry.width
+        column.entry.ids.now column.entry.places.now) (length slots.old) slots.new firsts.items) }
 {
-    if count * width <= MOST_IN_TABLE && count * width / KEYS_A_ROW <= slots.len() {
-        return refine_by_table(alloc, slots, count, places, ids, width);
+    let keys = count * column.width;
+    if keys <= MOST_IN_TABLE && keys / KEYS_A_ROW <= slots.len() {
+        let mut table = vec![in alloc; 0u32; keys]?;
+        return refine_by_table(alloc, slots, &mut table, count, column);
     }
-    refine_by_map(alloc, slots, count, places, ids, width)
+    let mut map = HashMap::new(alloc);
+    let mut firsts = Vec::new(alloc);
+    for k in 0..slots.len() {
+        let key = key_of(
+            slots[k],
+            column.width,
+            column.ids.at(column.places[k] as usize),
+        );
+        slots[k] = slot_in_map(&mut map, &mut firsts, key as u64, k as u32)?;
+    }
+    Ok(firsts)
 }
 
+// The same by a table that leads from no key to a slot yet.
 fn refine_by_table(
-    alloc: Global,
-    slots: &mut [u32],
-    count: usize,
-    places: &[u32],
-    ids: &Ids,
-    width: usize,
-) -> Result<Vec<u32>, NoMemory>
-    requires slots { AreBelow count slots.old }
-    requires same { length places.now ≡ length slots.old }
-    requires rows { AreBelow (length ids.now) places.now }
-    requires ids { AreBelow width ids.now }
-    requires at_most { length slots.old ≤ most_rows }
-    requires few_slots { count ≤ most_rows }
-    requires few_ids { width ≤ most_rows }
-    requires few_keys { count * width ≤ most_rows }
-    ensures { IfOk result (λ firsts. AreRanked (packed slots.old width ids.now places.now)
-        (length slots.old) slots.new firsts.items) }
-{
-    let mut table = vec![in alloc; 0u32; count * width]?;
-    rank_by_table(alloc, slots, &mut table, count, places, ids, width)
-}
-
-fn rank_by_table(
     alloc: Global,
     slots: &mut [u32],
     table: &mut [u32],
     count: usize,
-    places: &[u32],
-    ids: &Ids,
-    width: usize,
+    column: PlacedIds<'_>,
 ) -> Result<Vec<u32>, NoMemory>
-    requires slots { AreBelow count slots.old }
-    requires same { length places.now ≡ length slots.old }
-    requires rows { AreBelow (length ids.now) places.now }
-    requires ids { AreBelow width ids.now }
-    requires at_most { length slots.old ≤ most_rows }
-    requires few_slots { count ≤ most_rows }
-    requires few_ids { width ≤ most_rows }
-    requires few_keys { count * width ≤ most_rows }
-    requires room { length table.old ≡ count * width }
+    requires slots { AreSlotted count slots.old column.places.now }
+    requires few_keys { count * column.width ≤ most_rows }
+    requires room { length table.old ≡ count * column.width }
     requires empty { (key : _) → get_or table.old key 0 ≡ 0 }
-    ensures { IfOk result (λ firsts. AreRanked (packed slots.old width ids.now places.now)
-        (length slots.old) slots.new firsts.items) }
+    ensures { IfOk result (λ firsts. AreRanked (packed slots.old column.entry.width
+        column.entry.ids.now column.entry.places.now) (length slots.old) slots.new firsts.items) }
 {
     let mut firsts = Vec::new(alloc);
     for k in 0..slots.len() {
-        let key = key_of(slots[k], width, ids.at(places[k] as usize));
+        let key = key_of(
+            slots[k],
+            column.width,
+            column.ids.at(column.places[k] as usize),
+        );
         slots[k] = slot_in_table(table, &mut firsts, key, k as u32)?;
     }
     Ok(firsts)
@@ -129,33 +106,6 @@ fn slot_in_table(
     firsts.push(at)?;
     table[key] = slot + 1;
     Ok(slot)
-}
-
-fn refine_by_map(
-    alloc: Global,
-    slots: &mut [u32],
-    count: usize,
-    places: &[u32],
-    ids: &Ids,
-    width: usize,
-) -> Result<Vec<u32>, NoMemory>
-    requires slots { AreBelow count slots.old }
-    requires same { length places.now ≡ length slots.old }
-    requires rows { AreBelow (length ids.now) places.now }
-    requires ids { AreBelow width ids.now }
-    requires at_most { length slots.old ≤ most_rows }
-    requires few_slots { count ≤ most_rows }
-    requires few_ids { width ≤ most_rows }
-    ensures { IfOk result (λ firsts. AreRanked (packed slots.old width ids.now places.now)
-        (length slots.old) slots.new firsts.items) }
-{
-    let mut map = HashMap::new(alloc);
-    let mut firsts = Vec::new(alloc);
-    for k in 0..slots.len() {
-        let key = key_of(slots[k], width, ids.at(places[k] as usize));
-        slots[k] = slot_in_map(&mut map, &mut firsts, key as u64, k as u32)?;
-    }
-    Ok(firsts)
 }
 
 // The slot of a key: a new one where the map has none.

@@ -6,6 +6,7 @@ ghost use Rattle.coded_columns.specs.Coded.{AreCoded, table_of};
 ghost use Rattle.coded_columns.specs.Slots.{AreSlots};
 
 use crate::coded::SegmentColumns;
+use crate::placed_ids::PlacedIds;
 use crate::ranking::refine;
 use std::alloc::Global;
 use values::NoMemory;
@@ -62,7 +63,12 @@ fn refine_by_field(
     match segment.column(group) {
         Some(column) => {
             let width = column.dictionary.count() as usize;
-            refine(alloc, slots, firsts.len(), places, column.ids, width)
+            let ids = PlacedIds {
+                places,
+                ids: column.ids,
+                width,
+            };
+            refine(alloc, slots, firsts.len(), ids)
         }
         None => Ok(firsts),
     }

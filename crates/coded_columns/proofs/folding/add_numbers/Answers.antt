@@ -26,10 +26,10 @@ add_at-requires-clause-fits c =
     let z : ℤ = to_z w64 (of_z w64 c.number_at-number.result) in
     let same : z ≡ c.number_at-number.result = to_z-of_z w64 c.number_at-number.result (record { sfits = c.number_at-number.type_inv }) in
     let whole : IsWhole z = subst IsWhole (sym same) c.number_at-number.ensures.whole in
-    let lt : k < length places = omega (arith, c.requires.same, c.loop-k-test.true) in
+    let lt : k < length places = omega (arith, c.requires.slots.same, c.loop-k-test.true) in
     one-fits c.args.column.now.kind (length c.args.column.now.states) (take k slots) (map f (take k places)) c.loop-k.column (get_or slots k 0) z
     c.loop-k.invariant.holds (c.requires.below k 0 c.loop-k-test.true) c.loop-k.invariant.whole whole
-    (omega (arith, length-map (take k places) f, length-take-le k places (omega (arith, lt)), lt, c.requires.at_most))
+    (omega (arith, length-map (take k places) f, length-take-le k places (omega (arith, lt)), lt, c.requires.slots.at_most))
 
 pub loop-k-preserved : goal.loop-k-preserved
 loop-k-preserved c =
@@ -45,7 +45,7 @@ loop-k-preserved c =
     let is : z ≡ f (get_or places k 0) = same ∙ c.number_at-number.ensures.value in
     let own : IsWhole (f (get_or places k 0)) = subst IsWhole c.number_at-number.ensures.value c.number_at-number.ensures.whole in
     let in_slots : k < length slots = c.loop-k-test.true in
-    let lt : k < length places = omega (arith, c.requires.same, in_slots) in
+    let lt : k < length places = omega (arith, c.requires.slots.same, in_slots) in
     let lengths : length (take k slots) ≡ length (map f (take k places)) =
     length-take-le k slots (omega (arith, in_slots)) ∙ sym (length-map (take k places) f ∙ length-take-le k places (omega (arith, lt))) in
     let h = holds-more kind count (take k slots) (map f (take k places)) c.loop-k.column slot z c.loop-k.invariant.holds (c.requires.below k 0 in_slots) lengths in
@@ -65,9 +65,9 @@ returns-clause-states c =
     let kind : AggKind = c.args.column.now.kind in
     let count : ℕ = length c.args.column.now.states in
     subst (λ (ss : List ℕ). HoldsSlots kind count ss (map f places) c.loop-k.column) (take_all k slots (omega (arith, c.loop-k-test.false)))
-    (subst (λ (ps : List ℕ). HoldsSlots kind count (take k slots) (map f ps) c.loop-k.column) (take_all k places (omega (arith, c.loop-k-test.false, c.requires.same))) c.loop-k.invariant.holds)
+    (subst (λ (ps : List ℕ). HoldsSlots kind count (take k slots) (map f ps) c.loop-k.column) (take_all k places (omega (arith, c.loop-k-test.false, c.requires.slots.same))) c.loop-k.invariant.holds)
 
 pub returns-clause-whole : goal.returns-clause-whole
 returns-clause-whole c =
     let k : ℕ = c.loop-k.k in
-    subst (λ (ps : List ℕ). AreWhole (map (number_at c.args.ids.now c.args.numbers.now) ps)) (take_all k c.args.places.now (omega (arith, c.loop-k-test.false, c.requires.same))) c.loop-k.invariant.whole
+    subst (λ (ps : List ℕ). AreWhole (map (number_at c.args.ids.now c.args.numbers.now) ps)) (take_all k c.args.places.now (omega (arith, c.loop-k-test.false, c.requires.slots.same))) c.loop-k.invariant.whole

@@ -1,13 +1,13 @@
 use Rattle.std.proofs.Common.{◌∙◌, ◌+◌, ◌*◌, get_or, ap, arith}
 use Rattle.coded_columns.specs.Slots.{packed}
 use Rattle.coded_columns.proofs.RankSteps.{rank-step}
-use Rattle.coded_columns.proofs.ranking.rank_by_table.Goals as goal
+use Rattle.coded_columns.proofs.ranking.refine_by_table.Goals as goal
 
 pub loop-k-preserved : goal.loop-k-preserved
 loop-k-preserved c =
-    let ids = c.args.ids.now in
-    let places = c.args.places.now in
-    let width = c.args.width in
+    let ids = c.args.column.ids.now in
+    let places = c.args.column.places.now in
+    let width = c.args.column.width in
     let k = c.loop-k.k in
     rank-step (packed c.args.slots.now width ids places) c.args.slots.now k (λ q. get_or c.loop-k.table q 0) (λ q. get_or c.slot_in_table.new.table q 0)
     c.loop-k.slots c.in_ok-slots.field-0 c.loop-k.firsts.items c.slot_in_table.new.firsts.items (omega arith) c.loop-k.invariant
