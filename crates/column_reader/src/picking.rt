@@ -5,8 +5,8 @@ ghost use Rattle.outside.specs.Seen.{seen};
 ghost use Rattle.doc_lists.specs.Docs.{docs_of};
 ghost use Rattle.column_reader.specs.Bytes.{GrowsBy, column_bytes, most_bytes};
 ghost use Rattle.column_reader.specs.Calls.{ReadsSections};
-ghost use Rattle.column_reader.specs.Forward.{AreReadable, IsFaultAt, IsFaultIn, IsReadable};
-ghost use Rattle.column_reader.specs.Picked.{AreRunsIn, IsPicked, LogsIf, LogsIfPartly, LogsPicked, LogsPickedPartly};
+ghost use Rattle.column_reader.specs.Forward.{IsFaultAt, IsFaultIn, IsReadable};
+ghost use Rattle.column_reader.specs.Picked.{AreRunsIn, CanPick, IsPicked, LogsIf, LogsIfPartly, LogsPicked, LogsPickedPartly};
 ghost use Rattle.outside.specs.Series.{LogsPartOf, LogsTo};
 
 use crate::column::pick_column;
@@ -28,8 +28,7 @@ pub fn pick_columns<S: Shelf>(
     runs: &[Run],
     count: usize,
 ) -> Result<Vec<Option<Ids>>, EngineFault>
-    requires readable { AreReadable head.now named.now }
-    requires runs { AreRunsIn head.now runs.now }
+    requires { CanPick head.now named.now runs.now }
     ensures count { IfOk result (λ all. length all.items ≡ length named.now) }
     ensures ids { IfOk result (λ all. (column : ℕ) → column < length named.now
         → IsPicked (S.held shelf.old) head.now column (docs_of runs.now)

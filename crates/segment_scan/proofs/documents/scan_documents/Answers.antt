@@ -21,12 +21,15 @@ use Rattle.segment_scan.proofs.PickLemmas.{docs-coded, docs-overfull, docs-read,
 use Rattle.outside.proofs.SeriesLemmas.{series_all}
 use Rattle.segment_scan.proofs.documents.scan_documents.Goals as goal
 
-pub pick_columns-requires-clause-runs : goal.pick_columns-requires-clause-runs
-pick_columns-requires-clause-runs g c = record {
-  few_rows = c.requires.few_rows;
-  apart = c.runs-runs.ensures.apart;
-  within =
-      lasts_below 0 c.runs-runs.result.now c.args.answered.now.head.now.rows c.runs-runs.ensures.apart (subst (All (λ doc. doc < c.args.answered.now.head.now.rows)) (sym c.runs-runs.ensures.docs) c.requires.within);
+pub pick_columns-requires : goal.pick_columns-requires
+pick_columns-requires g c = record {
+  readable = c.requires.readable;
+  runs = record {
+    few_rows = c.requires.few_rows;
+    apart = c.runs-runs.ensures.apart;
+    within =
+        lasts_below 0 c.runs-runs.result.now c.args.answered.now.head.now.rows c.runs-runs.ensures.apart (subst (All (λ doc. doc < c.args.answered.now.head.now.rows)) (sym c.runs-runs.ensures.docs) c.requires.within);
+  };
 }
 
 pub coded_columns-requires-clause-loaded : goal.coded_columns-requires-clause-loaded

@@ -53,15 +53,20 @@ ok_both : {T E : Type 0} (r : Result T E) (P Q R : T → Type 0) → ((t : T) �
 ok_both (Ok t) P Q R f p q = f t p q
 ok_both (Err e) P Q R f p q = tt
 
-pub documents-requires-clause-ready : goal.documents-requires-clause-ready
-documents-requires-clause-ready g c =
+pub documents-requires : goal.documents-requires
+documents-requires g c =
     let query = c.args.query.now in
     let table = c.args.table.now in
     let head : Seen = c.args.head.now in
     let held : Option Files = g.S.Shelf.held c.args.shelf.now in
     let choices : c.as_slice-choices.result.now ≡ choices_for query table head = c.as_slice-choices.ensures ∙ c.requires.planned in
     let conjuncts : c.as_slice-conjuncts.result.now ≡ query.conjuncts = c.as_slice-conjuncts.ensures in
-    subst (λ cs. OfEach (IsReady head) cs c.as_slice-conjuncts.result.now) (sym choices) (subst (λ xs. OfEach (IsReady head) (choices_for query table head) xs) (sym conjuncts) (ready_for query table head c.requires.scans.of_table c.requires.scans.loaded))
+    let at_most = c.requires.scans.of_table.at_most in
+    let rows = c.requires.scans.of_table.has.rows_are in
+    record {
+      rows = omega (arith, at_most, rows);
+      ready = subst (λ cs. OfEach (IsReady head) cs c.as_slice-conjuncts.result.now) (sym choices) (subst (λ xs. OfEach (IsReady head) (choices_for query table head) xs) (sym conjuncts) (ready_for query table head c.requires.scans.of_table c.requires.scans.loaded));
+    }
 
 pub returns-in-Err-clause-bad : goal.returns-in-Err-clause-bad
 returns-in-Err-clause-bad g c = λ part bad.
@@ -73,7 +78,7 @@ returns-in-Err-clause-bad g c = λ part bad.
     let conjuncts : c.as_slice-conjuncts.result.now ≡ query.conjuncts = c.as_slice-conjuncts.ensures in
     bad_index c.index_law.ensures query table head c.requires.scans.valid c.requires.scans.of_table c.requires.scans.loaded held part
     (subst (λ cs. IsBadAny held head part cs query.conjuncts) choices (subst (λ xs. IsBadAny held head part c.as_slice-choices.result.now xs) conjuncts
-    (c.in-Err.ensures.bad part (same_err ℕ (Option (List ℕ)) c.in-Err.fault (NotASegment part) bad))))
+    (c.in-Err.ensures.reads.bad part (same_err ℕ (Option (List ℕ)) c.in-Err.fault (NotASegment part) bad))))
 
 pub returns-in-None-clause-count : goal.returns-in-None-clause-count
 returns-in-None-clause-count g c =
@@ -85,7 +90,7 @@ returns-in-None-clause-count g c =
     let conjuncts : c.as_slice-conjuncts.result.now ≡ query.conjuncts = c.as_slice-conjuncts.ensures in
     let none : indexed_for query table head ≡ [] =
     none_left held head c.as_slice-choices.result.now (choices_for query table head) c.as_slice-conjuncts.result.now query.conjuncts c.in-Ok.docs choices conjuncts c.in-None.is c.in-Ok.ensures.docs in
-    let same : g.S.Shelf.held c.documents.new.shelf ≡ held = c.in-Ok.ensures.only_reads.held in
+    let same : g.S.Shelf.held c.documents.new.shelf ≡ held = c.in-Ok.ensures.reads.only_reads.held in
     IfOk-weaker c.scan_whole.result _ _ (λ n is. whole_docs c.image_law.ensures c.index_law.ensures query table held head c.requires.scans.valid c.requires.scans.of_table c.requires.scans.loaded none n is) c.scan_whole.ensures.count
 
 pub returns-in-None-clause-ok : goal.returns-in-None-clause-ok
@@ -98,7 +103,7 @@ returns-in-None-clause-ok g c =
     let conjuncts : c.as_slice-conjuncts.result.now ≡ query.conjuncts = c.as_slice-conjuncts.ensures in
     let none : indexed_for query table head ≡ [] =
     none_left held head c.as_slice-choices.result.now (choices_for query table head) c.as_slice-conjuncts.result.now query.conjuncts c.in-Ok.docs choices conjuncts c.in-None.is c.in-Ok.ensures.docs in
-    let same : g.S.Shelf.held c.documents.new.shelf ≡ held = c.in-Ok.ensures.only_reads.held in
+    let same : g.S.Shelf.held c.documents.new.shelf ≡ held = c.in-Ok.ensures.reads.only_reads.held in
     let old = c.args.groups.now in
     let new = c.scan_whole.new.groups in
     ok_so c.scan_whole.result (AddsWhole query table (g.S.Shelf.held c.documents.new.shelf) head old new) (AddsImage query table held head old new)
@@ -114,7 +119,7 @@ returns-in-None-clause-full g c = λ full.
     let conjuncts : c.as_slice-conjuncts.result.now ≡ query.conjuncts = c.as_slice-conjuncts.ensures in
     let none : indexed_for query table head ≡ [] =
     none_left held head c.as_slice-choices.result.now (choices_for query table head) c.as_slice-conjuncts.result.now query.conjuncts c.in-Ok.docs choices conjuncts c.in-None.is c.in-Ok.ensures.docs in
-    let same : g.S.Shelf.held c.documents.new.shelf ≡ held = c.in-Ok.ensures.only_reads.held in
+    let same : g.S.Shelf.held c.documents.new.shelf ≡ held = c.in-Ok.ensures.reads.only_reads.held in
     whole_full query table held head c.args.groups.now none (subst (λ h. IsWholeOverfull query table h head c.args.groups.now) same (c.scan_whole.ensures.full full))
 
 pub returns-in-None-clause-bad : goal.returns-in-None-clause-bad
@@ -127,7 +132,7 @@ returns-in-None-clause-bad g c = λ part bad.
     let conjuncts : c.as_slice-conjuncts.result.now ≡ query.conjuncts = c.as_slice-conjuncts.ensures in
     let none : indexed_for query table head ≡ [] =
     none_left held head c.as_slice-choices.result.now (choices_for query table head) c.as_slice-conjuncts.result.now query.conjuncts c.in-Ok.docs choices conjuncts c.in-None.is c.in-Ok.ensures.docs in
-    let same : g.S.Shelf.held c.documents.new.shelf ≡ held = c.in-Ok.ensures.only_reads.held in
+    let same : g.S.Shelf.held c.documents.new.shelf ≡ held = c.in-Ok.ensures.reads.only_reads.held in
     whole_bad query table held head part none (subst (λ h. IsBadWhole query table h head part) same (c.scan_whole.ensures.bad part bad))
 
 pub returns-in-None-clause-reads : goal.returns-in-None-clause-reads
@@ -142,12 +147,12 @@ returns-in-None-clause-reads g c = record {
       let conjuncts : c.as_slice-conjuncts.result.now ≡ query.conjuncts = c.as_slice-conjuncts.ensures in
       let none : indexed_for query table head ≡ [] =
       none_left held head c.as_slice-choices.result.now (choices_for query table head) c.as_slice-conjuncts.result.now query.conjuncts c.in-Ok.docs choices conjuncts c.in-None.is c.in-Ok.ensures.docs in
-      let same : g.S.Shelf.held c.documents.new.shelf ≡ held = c.in-Ok.ensures.only_reads.held in
+      let same : g.S.Shelf.held c.documents.new.shelf ≡ held = c.in-Ok.ensures.reads.only_reads.held in
       let old = g.S.Shelf.log c.args.shelf.now in
       let mid = g.S.Shelf.log c.documents.new.shelf in
       let last = g.S.Shelf.log c.scan_whole.new.shelf in
       let unread : mid ≡ old =
-      nothing_read held head c.as_slice-choices.result.now (choices_for query table head) c.as_slice-conjuncts.result.now query.conjuncts old mid choices conjuncts none c.in-Ok.ensures.log in
+      nothing_read held head c.as_slice-choices.result.now (choices_for query table head) c.as_slice-conjuncts.result.now query.conjuncts old mid choices conjuncts none c.in-Ok.ensures.reads.log in
       IfOk-weaker c.scan_whole.result _ _ (λ n logs. inl (none, subst (λ o. LogsColumns head (names_in query table) (length table.schema.fields) o last) unread logs)) c.scan_whole.ensures.reads.log;
   log_of_fault =
       let query = c.args.query.now in
@@ -158,12 +163,12 @@ returns-in-None-clause-reads g c = record {
       let conjuncts : c.as_slice-conjuncts.result.now ≡ query.conjuncts = c.as_slice-conjuncts.ensures in
       let none : indexed_for query table head ≡ [] =
       none_left held head c.as_slice-choices.result.now (choices_for query table head) c.as_slice-conjuncts.result.now query.conjuncts c.in-Ok.docs choices conjuncts c.in-None.is c.in-Ok.ensures.docs in
-      let same : g.S.Shelf.held c.documents.new.shelf ≡ held = c.in-Ok.ensures.only_reads.held in
+      let same : g.S.Shelf.held c.documents.new.shelf ≡ held = c.in-Ok.ensures.reads.only_reads.held in
       let old = g.S.Shelf.log c.args.shelf.now in
       let mid = g.S.Shelf.log c.documents.new.shelf in
       let last = g.S.Shelf.log c.scan_whole.new.shelf in
       let unread : mid ≡ old =
-      nothing_read held head c.as_slice-choices.result.now (choices_for query table head) c.as_slice-conjuncts.result.now query.conjuncts old mid choices conjuncts none c.in-Ok.ensures.log in
+      nothing_read held head c.as_slice-choices.result.now (choices_for query table head) c.as_slice-conjuncts.result.now query.conjuncts old mid choices conjuncts none c.in-Ok.ensures.reads.log in
       err_so c.scan_whole.result (LogsSome head (names_in query table) mid last) (LogsScanPartly query table held head old last)
       (λ logs. inl (none, subst (λ o. LogsSome head (names_in query table) o last) unread logs)) c.scan_whole.ensures.reads.log_of_fault;
 }
@@ -176,7 +181,7 @@ scan_left-requires-clause-leaves g c =
     let held : Option Files = g.S.Shelf.held c.args.shelf.now in
     let docs : List ℕ = c.in-Some.docs in
     let unsure : List ℕ = c.documents.new.unsure in
-    let same : g.S.Shelf.held c.documents.new.shelf ≡ held = c.in-Ok.ensures.only_reads.held in
+    let same : g.S.Shelf.held c.documents.new.shelf ≡ held = c.in-Ok.ensures.reads.only_reads.held in
     let cs = c.as_slice-choices.result.now in
     let choices : cs ≡ choices_for query table head = c.as_slice-choices.ensures ∙ c.requires.planned in
     let conjuncts : c.as_slice-conjuncts.result.now ≡ query.conjuncts = c.as_slice-conjuncts.ensures in
@@ -198,7 +203,7 @@ returns-in-Err-clause-reads g c = record {
       let old = g.S.Shelf.log c.args.shelf.now in
       let last = g.S.Shelf.log c.documents.new.shelf in
       let choices : c.as_slice-choices.result.now ≡ choices_for query table head = c.as_slice-choices.ensures ∙ c.requires.planned in
-      inr (inl (some_read held head c.as_slice-choices.result.now (choices_for query table head) c.as_slice-conjuncts.result.now query.conjuncts old last choices c.as_slice-conjuncts.ensures c.in-Err.ensures.log_of_fault));
+      inr (inl (some_read held head c.as_slice-choices.result.now (choices_for query table head) c.as_slice-conjuncts.result.now query.conjuncts old last choices c.as_slice-conjuncts.ensures c.in-Err.ensures.reads.log_of_fault));
 }
 
 pub returns-clause-reads : goal.returns-clause-reads
@@ -215,7 +220,7 @@ returns-clause-reads g c = record {
       let choices : c.as_slice-choices.result.now ≡ choices_for query table head = c.as_slice-choices.ensures ∙ c.requires.planned in
       let conjuncts : c.as_slice-conjuncts.result.now ≡ query.conjuncts = c.as_slice-conjuncts.ensures in
       let left : AreLeftFor query table held head docs = left_some held head c.as_slice-choices.result.now (choices_for query table head) c.as_slice-conjuncts.result.now query.conjuncts c.in-Ok.docs docs choices conjuncts c.in-Some.is c.in-Ok.ensures.docs in
-      let indexes : LogsIndexes query table held head old mid = indexes_read held head c.as_slice-choices.result.now (choices_for query table head) c.as_slice-conjuncts.result.now query.conjuncts old mid choices conjuncts c.in-Ok.ensures.log in
+      let indexes : LogsIndexes query table held head old mid = indexes_read held head c.as_slice-choices.result.now (choices_for query table head) c.as_slice-conjuncts.result.now query.conjuncts old mid choices conjuncts c.in-Ok.ensures.reads.log in
       ok_both c.scan_left.result _ _ _ (λ n is logs. inr (docs, left, is, mid, indexes, logs)) c.scan_left.ensures.number c.scan_left.ensures.reads.log;
   log_of_fault =
       let query = c.args.query.now in
@@ -229,6 +234,6 @@ returns-clause-reads g c = record {
       let choices : c.as_slice-choices.result.now ≡ choices_for query table head = c.as_slice-choices.ensures ∙ c.requires.planned in
       let conjuncts : c.as_slice-conjuncts.result.now ≡ query.conjuncts = c.as_slice-conjuncts.ensures in
       let left : AreLeftFor query table held head docs = left_some held head c.as_slice-choices.result.now (choices_for query table head) c.as_slice-conjuncts.result.now query.conjuncts c.in-Ok.docs docs choices conjuncts c.in-Some.is c.in-Ok.ensures.docs in
-      let indexes : LogsIndexes query table held head old mid = indexes_read held head c.as_slice-choices.result.now (choices_for query table head) c.as_slice-conjuncts.result.now query.conjuncts old mid choices conjuncts c.in-Ok.ensures.log in
+      let indexes : LogsIndexes query table held head old mid = indexes_read held head c.as_slice-choices.result.now (choices_for query table head) c.as_slice-conjuncts.result.now query.conjuncts old mid choices conjuncts c.in-Ok.ensures.reads.log in
       err_so c.scan_left.result (LogsLeft LogsPartsPartly query table head docs mid last) (LogsScanPartly query table held head old last) (λ logs. inr (inr (docs, left, mid, indexes, logs))) c.scan_left.ensures.reads.log_of_fault;
 }
