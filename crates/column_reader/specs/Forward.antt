@@ -15,6 +15,11 @@ pub record IsReadable (head : Seen) (column : ℕ) : Type 0 where
   pub loaded : IsLoaded head column
   pub placed : IsSome (place_in head.sections (Forward column))
 
+-- each column that is named has a number of a field, and can be read
+pub record AreReadable (head : Seen) (named : List Bool) : Type 0 where
+  pub at_most : length named ≤ 65535
+  pub each : (column : ℕ) → get_or named column false ≡ true → IsReadable head column
+
 -- how many bits an id of the column has in its forward section
 abbrev pub width_in : Seen → ℕ → ℕ
 width_in head column = width_of (count_in head column)

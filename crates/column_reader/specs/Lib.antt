@@ -2,3 +2,4 @@ pub mod Forward
 pub mod Picked
 pub mod Bytes
 pub mod Faults
+pub mod Calls

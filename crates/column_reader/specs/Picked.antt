@@ -1,15 +1,28 @@
 -- The ids of some documents in the columns of a segment, and what is read for them.
-use Rattle.std.specs.Prelude.{◌≡◌, ◌<◌, ◌+◌, ◌⊎◌, ℕ, Bool, true, false, All, List, length, map, Option, Some, None, IfSome, get_or}
+use Rattle.std.specs.Prelude.{◌≡◌, ◌≤◌, ◌<◌, ◌+◌, ◌⊎◌, ℕ, Bool, true, false, All, List, length, map, Option, Some, None, IfSome, get_or}
 use Rattle.outside.specs.Files.{Files}
 use Rattle.outside.specs.Reads.{Entry}
 use Rattle.bit_column.specs.Column.{id_at}
 use Rattle.bit_column.specs.Sections.{end_byte, first_byte}
+use Rattle.doc_lists.specs.Docs.{Apart}
 use Rattle.doc_lists.specs.declared.run.Run.{Run}
+use Rattle.coded_columns.specs.Coded.{most_rows}
 use Rattle.outside.specs.Stretches.{LogsOver, LogsPartly, Stretch}
 use Rattle.segment_head.specs.Heads.{Seen, place_in}
 use Rattle.segment_file.specs.declared.part.Part.TheVariants.{Forward}
-use Rattle.column_reader.specs.Forward.{forward_in, width_in}
+use Rattle.column_reader.specs.Forward.{AreReadable, forward_in, width_in}
 use Rattle.segment_plan.specs.Matched.{count_in}
+
+-- runs of documents of a segment, in ascending order and apart
+pub record AreRunsIn (head : Seen) (runs : List Run) : Type 0 where
+  pub few_rows : head.rows ≤ most_rows
+  pub apart : Apart 0 runs
+  pub within : All (λ run. run.last < head.rows) runs
+
+-- columns that can be read, and runs of documents whose ids are picked of them
+pub record CanPick (head : Seen) (named : List Bool) (docs : List Run) : Type 0 where
+  pub readable : AreReadable head named
+  pub runs : AreRunsIn head docs
 
 -- the ids of documents, by the bytes of a forward section
 abbrev pub ids_at : ℕ → List ℕ → List ℕ → List ℕ

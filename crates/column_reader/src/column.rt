@@ -1,15 +1,15 @@
 //! The ids of some documents in a column of a segment, read from its file.
 
-ghost use Rattle.std.specs.Prelude.{◌≤◌, ◌<◌, ◌+◌, ◌*◌, [], All, Err, IfErr, IfOk, IfSome, IsErrOf, OnErr, Some, length};
-ghost use Rattle.outside.specs.Seen.{OnlyReads, seen};
-ghost use Rattle.doc_lists.specs.Docs.{Apart, docs_of};
+ghost use Rattle.std.specs.Prelude.{◌*◌, IfErr, IfOk, IfSome, IsErrOf, length};
+ghost use Rattle.outside.specs.Seen.{seen};
+ghost use Rattle.doc_lists.specs.Docs.{docs_of};
 ghost use Rattle.segment_file.specs.declared.part.Part.TheVariants.{Forward};
 ghost use Rattle.column_reader.specs.Bytes.{GrowsBy};
-ghost use Rattle.coded_columns.specs.Coded.{most_rows};
+ghost use Rattle.column_reader.specs.Calls.{ReadsSections};
 ghost use Rattle.column_reader.specs.Faults.{IsFaultOf};
 ghost use Rattle.column_reader.specs.Forward.{HasIds, IsReadable};
-ghost use Rattle.column_reader.specs.Picked.{AreIdsAt, LogsRuns, LogsRunsPartly};
-ghost use Rattle.segment_head.specs.declared.fault.EngineFault.TheVariants.{NotASegment, ReadFault};
+ghost use Rattle.column_reader.specs.Picked.{AreIdsAt, AreRunsIn, LogsRuns, LogsRunsPartly};
+ghost use Rattle.segment_head.specs.declared.fault.EngineFault.TheVariants.{NotASegment};
 
 use crate::fault::of_column;
 use bit_column::{IdRange, Width, append_range, width_for};
@@ -31,21 +31,16 @@ pub fn pick_column<S: Shelf>(
     count: usize,
 ) -> Result<Ids, EngineFault>
     requires readable { IsReadable head.now column }
-    requires few_rows { head.now.rows ≤ most_rows }
-    requires apart { Apart 0 runs.now }
-    requires within { All (λ run. run.last < head.now.rows) runs.now }
+    requires runs { AreRunsIn head.now runs.now }
     ensures ids { IfOk result (AreIdsAt (S.held shelf.old) head.now column (docs_of runs.now)) }
     ensures bad { IsErrOf result (NotASegment (Forward column)) →
         IfSome (S.held shelf.old) (λ files. ¬ HasIds files head.now column) }
     ensures only { IfErr result (IsFaultOf column) }
-    ensures only_reads { OnlyReads (IsErrOf result ReadFault)
+    ensures reads { ReadsSections result (λ _. LogsRuns head.now runs.now column)
+        (LogsRunsPartly head.now runs.now column)
         (seen S.Shelf shelf.old) (seen S.Shelf shelf.new) }
-    ensures log { IfOk result (λ _.
-        LogsRuns head.now runs.now column (S.log shelf.old) (S.log shelf.new)) }
     ensures bytes { IfOk result (λ _. GrowsBy (4 * length (docs_of runs.now))
         (S.log shelf.old) (S.log shelf.new)) }
-    ensures log_of_fault { OnErr result
-        (LogsRunsPartly head.now runs.now column (S.log shelf.old) (S.log shelf.new)) }
 {
     let Some(place) = head.place(Part::Forward(column)) else {
         unreachable!();

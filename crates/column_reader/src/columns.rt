@@ -1,9 +1,10 @@
 //! The ids of the columns of a segment that are named, read from its file.
 
-ghost use Rattle.std.specs.Prelude.{◌≡◌, ◌<◌, ◌≤◌, ◌++◌, ◌∷◌, [], ℕ, IfErr, IfOk, IsErrOf, OnErr, OnOk, None, false, true, get_or, length};
-ghost use Rattle.outside.specs.Seen.{OnlyReads, seen};
-ghost use Rattle.column_reader.specs.Forward.{IsFaultAt, IsFaultIn, IsRead, IsReadable, LogsColumns, LogsNamed, LogsPartly, LogsSome};
-ghost use Rattle.segment_head.specs.declared.fault.EngineFault.TheVariants.{NoMemory, ReadFault};
+ghost use Rattle.std.specs.Prelude.{◌≡◌, ◌<◌, ◌++◌, ◌∷◌, [], ℕ, IfErr, IfOk, OnOk, None, false, true, get_or, length};
+ghost use Rattle.outside.specs.Seen.{seen};
+ghost use Rattle.column_reader.specs.Calls.{ReadsSections};
+ghost use Rattle.column_reader.specs.Forward.{AreReadable, IsFaultAt, IsFaultIn, IsRead, IsReadable, LogsColumns, LogsNamed, LogsPartly, LogsSome};
+ghost use Rattle.segment_head.specs.declared.fault.EngineFault.TheVariants.{NoMemory};
 
 use crate::reading::read_column;
 use coded_columns::Ids;
@@ -19,20 +20,15 @@ pub fn read_columns<S: Shelf>(
     head: &Head,
     named: &[bool],
 ) -> Result<Vec<Option<Ids>>, EngineFault>
-    requires at_most { length named.now ≤ 65535 }
-    requires readable { (column : ℕ) → get_or named.now column false ≡ true
-        → IsReadable head.now column }
+    requires { AreReadable head.now named.now }
     ensures count { IfOk result (λ all. length all.items ≡ length named.now) }
     ensures ids { IfOk result (λ all. (column : ℕ) → column < length named.now
         → IsRead (S.held shelf.old) head.now column (get_or named.now column false)
         (get_or all.items column None)) }
     ensures fault { IfErr result (IsFaultIn (S.held shelf.old) head.now named.now) }
-    ensures only_reads { OnlyReads (IsErrOf result ReadFault)
+    ensures reads { ReadsSections result
+        (λ _. LogsColumns head.now named.now (length named.now)) (LogsSome head.now named.now)
         (seen S.Shelf shelf.old) (seen S.Shelf shelf.new) }
-    ensures log { IfOk result (λ _. LogsColumns head.now named.now (length named.now)
-        (S.log shelf.old) (S.log shelf.new)) }
-    ensures log_of_fault { OnErr result (LogsSome head.now named.now
-        (S.log shelf.old) (S.log shelf.new)) }
 {
     let mut all = Vec::with_capacity(alloc, named.len())?;
     for column in 0..named.len() {
@@ -67,12 +63,9 @@ fn read_named<S: Shelf>(
     requires { is_named ≡ true → IsReadable head.now column }
     ensures ids { IfOk result (IsRead (S.held shelf.old) head.now column is_named) }
     ensures fault { IfErr result (IsFaultAt (S.held shelf.old) head.now column is_named) }
-    ensures only_reads { OnlyReads (IsErrOf result ReadFault)
+    ensures reads { ReadsSections result (λ _. LogsNamed head.now column is_named)
+        (LogsPartly head.now column is_named)
         (seen S.Shelf shelf.old) (seen S.Shelf shelf.new) }
-    ensures log { IfOk result (λ _. LogsNamed head.now column is_named
-        (S.log shelf.old) (S.log shelf.new)) }
-    ensures log_of_fault { OnErr result (LogsPartly head.now column is_named
-        (S.log shelf.old) (S.log shelf.new)) }
 {
     if !is_named {
         return Ok(None);

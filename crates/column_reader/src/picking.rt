@@ -1,14 +1,13 @@
 //! The ids of some documents in the columns of a segment, read from its file.
 
-ghost use Rattle.std.specs.Prelude.{◌≡◌, ◌≤◌, ◌<◌, [], ℕ, All, Err, IfErr, IfOk, IsErrOf, OnErr, Some, None, false, true, get_or, length};
-ghost use Rattle.outside.specs.Seen.{OnlyReads, seen};
-ghost use Rattle.doc_lists.specs.Docs.{Apart, docs_of};
+ghost use Rattle.std.specs.Prelude.{◌≡◌, ◌<◌, ℕ, IfErr, IfOk, None, false, true, get_or, length};
+ghost use Rattle.outside.specs.Seen.{seen};
+ghost use Rattle.doc_lists.specs.Docs.{docs_of};
 ghost use Rattle.column_reader.specs.Bytes.{GrowsBy, column_bytes, most_bytes};
-ghost use Rattle.coded_columns.specs.Coded.{most_rows};
+ghost use Rattle.column_reader.specs.Calls.{ReadsSections};
 ghost use Rattle.column_reader.specs.Forward.{IsFaultAt, IsFaultIn, IsReadable};
-ghost use Rattle.column_reader.specs.Picked.{IsPicked, LogsIf, LogsIfPartly, LogsPicked, LogsPickedPartly};
+ghost use Rattle.column_reader.specs.Picked.{AreRunsIn, CanPick, IsPicked, LogsIf, LogsIfPartly, LogsPicked, LogsPickedPartly};
 ghost use Rattle.outside.specs.Series.{LogsPartOf, LogsTo};
-ghost use Rattle.segment_head.specs.declared.fault.EngineFault.TheVariants.{ReadFault};
 
 use crate::column::pick_column;
 use crate::columns::keep;
@@ -29,25 +28,18 @@ pub fn pick_columns<S: Shelf>(
     runs: &[Run],
     count: usize,
 ) -> Result<Vec<Option<Ids>>, EngineFault>
-    requires at_most { length named.now ≤ 65535 }
-    requires readable { (column : ℕ) → get_or named.now column false ≡ true
-        → IsReadable head.now column }
-    requires few_rows { head.now.rows ≤ most_rows }
-    requires apart { Apart 0 runs.now }
-    requires within { All (λ run. run.last < head.now.rows) runs.now }
+    requires { CanPick head.now named.now runs.now }
     ensures count { IfOk result (λ all. length all.items ≡ length named.now) }
     ensures ids { IfOk result (λ all. (column : ℕ) → column < length named.now
         → IsPicked (S.held shelf.old) head.now column (docs_of runs.now)
         (get_or named.now column false) (get_or all.items column None)) }
     ensures fault { IfErr result (IsFaultIn (S.held shelf.old) head.now named.now) }
-    ensures only_reads { OnlyReads (IsErrOf result ReadFault)
+    ensures reads { ReadsSections result
+        (λ _. LogsTo (LogsPicked head.now runs.now named.now) (length named.now))
+        (LogsPartOf (LogsPicked head.now runs.now named.now)
+        (LogsPickedPartly head.now runs.now named.now) (length named.now))
         (seen S.Shelf shelf.old) (seen S.Shelf shelf.new) }
-    ensures log { IfOk result (λ _. LogsTo (LogsPicked head.now runs.now named.now)
-        (length named.now) (S.log shelf.old) (S.log shelf.new)) }
     ensures bytes { IfOk result (λ _. GrowsBy (most_bytes named.now (docs_of runs.now))
-        (S.log shelf.old) (S.log shelf.new)) }
-    ensures log_of_fault { OnErr result (LogsPartOf (LogsPicked head.now runs.now named.now)
-        (LogsPickedPartly head.now runs.now named.now) (length named.now)
         (S.log shelf.old) (S.log shelf.new)) }
 {
     let mut all = Vec::with_capacity(alloc, named.len())?;
@@ -80,19 +72,14 @@ fn pick_named<S: Shelf>(
     count: usize,
 ) -> Result<Option<Ids>, EngineFault>
     requires readable { is_named ≡ true → IsReadable head.now column }
-    requires few_rows { head.now.rows ≤ most_rows }
-    requires apart { Apart 0 runs.now }
-    requires within { All (λ run. run.last < head.now.rows) runs.now }
+    requires runs { AreRunsIn head.now runs.now }
     ensures ids { IfOk result
         (IsPicked (S.held shelf.old) head.now column (docs_of runs.now) is_named) }
     ensures fault { IfErr result (IsFaultAt (S.held shelf.old) head.now column is_named) }
-    ensures only_reads { OnlyReads (IsErrOf result ReadFault)
+    ensures reads { ReadsSections result (λ _. LogsIf head.now runs.now column is_named)
+        (LogsIfPartly head.now runs.now column is_named)
         (seen S.Shelf shelf.old) (seen S.Shelf shelf.new) }
-    ensures log { IfOk result (λ _. LogsIf head.now runs.now column is_named
-        (S.log shelf.old) (S.log shelf.new)) }
     ensures bytes { IfOk result (λ _. GrowsBy (column_bytes (docs_of runs.now) is_named)
-        (S.log shelf.old) (S.log shelf.new)) }
-    ensures log_of_fault { OnErr result (LogsIfPartly head.now runs.now column is_named
         (S.log shelf.old) (S.log shelf.new)) }
 {
     if !is_named {

@@ -1,14 +1,15 @@
 //! The ids of a column, read from a segment's file.
 
-ghost use Rattle.std.specs.Prelude.{◌≡◌, ◌≤◌, ◌<◌, ◌+◌, All, IfErr, IfOk, IfSome, IsErrOf, OnErr, length, min};
+ghost use Rattle.std.specs.Prelude.{◌≡◌, ◌≤◌, ◌<◌, ◌+◌, All, IfErr, IfOk, IfSome, IsErrOf, length, min};
 ghost use Rattle.outside.specs.Reads.{LogsOn, LogsUpTo};
-ghost use Rattle.outside.specs.Seen.{OnlyReads, seen};
+ghost use Rattle.outside.specs.Seen.{seen};
 ghost use Rattle.bit_column.specs.Column.{ids_between, width_of};
 ghost use Rattle.bit_column.specs.Sections.{Readable, end_byte, first_byte, section};
 ghost use Rattle.segment_file.specs.declared.part.Part.TheVariants.{Forward};
+ghost use Rattle.column_reader.specs.Calls.{ReadsSections};
 ghost use Rattle.column_reader.specs.Faults.{IsFaultOf};
 ghost use Rattle.column_reader.specs.Forward.{AreIdsOf, HasIds, IsReadable, LogsForward, LogsPart};
-ghost use Rattle.segment_head.specs.declared.fault.EngineFault.TheVariants.{NotASegment, ReadFault};
+ghost use Rattle.segment_head.specs.declared.fault.EngineFault.TheVariants.{NotASegment};
 
 use crate::fault::of_column;
 use bit_column::{IdRange, Width, append_range, width_for};
@@ -35,12 +36,9 @@ pub fn read_column<S: Shelf>(
     ensures bad { IsErrOf result (NotASegment (Forward column)) →
         IfSome (S.held shelf.old) (λ files. ¬ HasIds files head.now column) }
     ensures only { IfErr result (IsFaultOf column) }
-    ensures only_reads { OnlyReads (IsErrOf result ReadFault)
+    ensures reads { ReadsSections result (λ _. LogsForward head.now column)
+        (LogsPart head.now column)
         (seen S.Shelf shelf.old) (seen S.Shelf shelf.new) }
-    ensures log { IfOk result (λ _.
-        LogsForward head.now column (S.log shelf.old) (S.log shelf.new)) }
-    ensures log_of_fault { OnErr result
-        (LogsPart head.now column (S.log shelf.old) (S.log shelf.new)) }
 {
     let Some(place) = head.place(Part::Forward(column)) else {
         unreachable!();
@@ -68,16 +66,12 @@ fn read_ids<S: Shelf>(
         IfSome (S.held shelf.old) (λ files.
         ¬ Readable (width_of count) count 0 rows (section files place.now)) }
     ensures only { IfErr result (IsFaultOf column) }
-    ensures only_reads { OnlyReads (IsErrOf result ReadFault)
+    ensures reads { ReadsSections result (λ _. LogsOn place.now.file
+        (place.now.offset + first_byte (width_of count) 0)
+        (place.now.offset + end_byte (width_of count) 0 rows)) (LogsUpTo place.now.file
+        (place.now.offset + first_byte (width_of count) 0)
+        (place.now.offset + end_byte (width_of count) 0 rows))
         (seen S.Shelf shelf.old) (seen S.Shelf shelf.new) }
-    ensures log { IfOk result (λ ids. LogsOn place.now.file
-        (place.now.offset + first_byte (width_of count) 0)
-        (place.now.offset + end_byte (width_of count) 0 rows)
-        (S.log shelf.old) (S.log shelf.new)) }
-    ensures log_of_fault { OnErr result (LogsUpTo place.now.file
-        (place.now.offset + first_byte (width_of count) 0)
-        (place.now.offset + end_byte (width_of count) 0 rows)
-        (S.log shelf.old) (S.log shelf.new)) }
 {
     let width = width_for(count);
     let mut buffer = Vec::new(alloc);

@@ -1,13 +1,11 @@
 //! The documents that the indexes of a query's conjuncts leave.
 
-ghost use Rattle.std.specs.Prelude.{◌≡◌, ◌≤◌, ℕ, List, Err, IfOk, IfSome, IsErrOf, OnErr, length};
-ghost use Rattle.outside.specs.Seen.{OnlyReads, seen};
-ghost use Rattle.segment_file.specs.declared.part.Part.{Part};
-ghost use Rattle.coded_columns.specs.Coded.{most_rows};
+ghost use Rattle.std.specs.Prelude.{◌≡◌, ℕ, List, IfOk, IfSome, length};
+ghost use Rattle.outside.specs.Seen.{seen};
+ghost use Rattle.index_filter.specs.Calls.{HasReady, ReadsIndexes};
 ghost use Rattle.index_filter.specs.Indexes.{AddsUnsure, HasUnsure, IsBadAny, IsBadIndex, IsFoundBy, IsIndexed, IsReady, Leaves, LeavesBy, LogsAt, LogsAtPartly, LogsIndex, LogsIndexPartly, LogsIndexed, LogsIndexedPartly, OfEach, TellsIds, part_of};
 ghost use Rattle.outside.specs.Series.{LogsPartOf, LogsTo};
 ghost use Rattle.segment_plan.specs.RowsLeft.{indexed};
-ghost use Rattle.segment_head.specs.declared.fault.EngineFault.TheVariants.{NotASegment, ReadFault, TooManyGroups};
 
 use crate::index::{docs_by_range, in_both, of_list};
 use doc_lists::DocList;
@@ -32,24 +30,19 @@ pub fn documents<S: Shelf>(
     choices: &[IndexChoice],
     unsure: &mut DocList,
 ) -> Result<Option<DocList>, EngineFault>
-    requires rows { head.now.rows ≤ most_rows }
-    requires ready { OfEach (IsReady head.now) choices.now conjuncts.now }
+    requires { HasReady head.now (OfEach (IsReady head.now) choices.now conjuncts.now) }
     ensures docs { IfOk result (Leaves (S.held shelf.old) head.now choices.now conjuncts.now
         (indexed choices.now conjuncts.now)) }
     ensures unsure { IfOk result (λ _. HasUnsure (S.held shelf.old) head.now choices.now
         conjuncts.now (length conjuncts.now) unsure.new) }
-    ensures bad { (part : Part) → result ≡ Err (NotASegment part) →
-        IsBadAny (S.held shelf.old) head.now part choices.now conjuncts.now }
-    ensures full { ¬ IsErrOf result TooManyGroups }
-    ensures only_reads { OnlyReads (IsErrOf result ReadFault)
-        (seen S.Shelf shelf.old) (seen S.Shelf shelf.new) }
-    ensures log { IfOk result (λ _. LogsTo
-        (LogsAt (S.held shelf.old) head.now choices.now conjuncts.now)
-        (length conjuncts.now) (S.log shelf.old) (S.log shelf.new)) }
-    ensures log_of_fault { OnErr result (LogsPartOf
-        (LogsAt (S.held shelf.old) head.now choices.now conjuncts.now)
+    ensures reads { ReadsIndexes result
+        (λ part. IsBadAny (S.held shelf.old) head.now part choices.now conjuncts.now)
+        (LogsTo (LogsAt (S.held shelf.old) head.now choices.now conjuncts.now)
+        (length conjuncts.now))
+        (LogsPartOf (LogsAt (S.held shelf.old) head.now choices.now conjuncts.now)
         (LogsAtPartly (S.held shelf.old) head.now choices.now conjuncts.now)
-        (length conjuncts.now) (S.log shelf.old) (S.log shelf.new)) }
+        (length conjuncts.now))
+        (seen S.Shelf shelf.old) (seen S.Shelf shelf.new) }
 {
     let mut docs: Option<DocList> = None;
     for at in 0..conjuncts.len() {
@@ -75,20 +68,15 @@ fn docs_by<S: Shelf>(
     conjunct: &Conjunct,
     unsure: &mut DocList,
 ) -> Result<Option<DocList>, EngineFault>
-    requires rows { head.now.rows ≤ most_rows }
-    requires ready { IsReady head.now choice conjunct.now }
+    requires { HasReady head.now (IsReady head.now choice conjunct.now) }
     ensures docs { IfOk result (LeavesBy (S.held shelf.old) head.now choice conjunct.now) }
     ensures unsure { IfOk result (λ _. AddsUnsure (S.held shelf.old) head.now choice conjunct.now
         unsure.old unsure.new) }
-    ensures bad { (part : Part) → result ≡ Err (NotASegment part) →
-        IsBadIndex (S.held shelf.old) head.now part choice conjunct.now }
-    ensures full { ¬ IsErrOf result TooManyGroups }
-    ensures only_reads { OnlyReads (IsErrOf result ReadFault)
+    ensures reads { ReadsIndexes result
+        (λ part. IsBadIndex (S.held shelf.old) head.now part choice conjunct.now)
+        (LogsIndexed (S.held shelf.old) head.now choice conjunct.now)
+        (LogsIndexedPartly (S.held shelf.old) head.now choice conjunct.now)
         (seen S.Shelf shelf.old) (seen S.Shelf shelf.new) }
-    ensures log { IfOk result (λ _. LogsIndexed (S.held shelf.old) head.now choice conjunct.now
-        (S.log shelf.old) (S.log shelf.new)) }
-    ensures log_of_fault { OnErr result (LogsIndexedPartly (S.held shelf.old) head.now choice
-        conjunct.now (S.log shelf.old) (S.log shelf.new)) }
 {
     match (choice, conjunct) {
         (IndexChoice::Sorted, Conjunct::One(column, test)) => {
@@ -113,19 +101,14 @@ fn indexed<S: Shelf>(
     column: u16,
     test: &Test,
 ) -> Result<Option<DocList>, EngineFault>
-    requires rows { head.now.rows ≤ most_rows }
-    requires ready { IsIndexed head.now kind column }
+    requires { HasReady head.now (IsIndexed head.now kind column) }
     ensures docs { IfOk result (IsFoundBy (S.held shelf.old) head.now kind column test.now) }
-    ensures bad { (part : Part) → result ≡ Err (NotASegment part) → (part ≡ part_of kind column)
+    ensures reads { ReadsIndexes result (λ part. (part ≡ part_of kind column)
         × IfSome (S.held shelf.old) (λ files. (ids : List ℕ) →
-        TellsIds files head.now kind column ids → ⊥) }
-    ensures full { ¬ IsErrOf result TooManyGroups }
-    ensures only_reads { OnlyReads (IsErrOf result ReadFault)
+        TellsIds files head.now kind column ids → ⊥))
+        (LogsIndex (S.held shelf.old) head.now kind column test.now)
+        (LogsIndexPartly (S.held shelf.old) head.now kind column test.now)
         (seen S.Shelf shelf.old) (seen S.Shelf shelf.new) }
-    ensures log { IfOk result (λ _. LogsIndex (S.held shelf.old) head.now kind column test.now
-        (S.log shelf.old) (S.log shelf.new)) }
-    ensures log_of_fault { OnErr result (LogsIndexPartly (S.held shelf.old) head.now kind column
-        test.now (S.log shelf.old) (S.log shelf.new)) }
 {
     let dictionary = head.dictionary(column);
     let ids = match dictionary.ids_matching(alloc, test) {

@@ -1,15 +1,13 @@
 //! The documents that a range index leaves, and those that two indexes leave.
 
-ghost use Rattle.std.specs.Prelude.{◌≡◌, ◌≤◌, ◌||◌, ℕ, List, Err, IfOk, IfSome, IsErrOf, OnErr};
-ghost use Rattle.outside.specs.Seen.{OnlyReads, seen};
+ghost use Rattle.std.specs.Prelude.{◌≡◌, ◌||◌, ℕ, List, IfOk, IfSome};
+ghost use Rattle.outside.specs.Seen.{seen};
 ghost use Rattle.doc_lists.specs.Docs.{has_doc};
 ghost use Rattle.doc_lists.specs.Sets.{AreThose};
-ghost use Rattle.segment_file.specs.declared.part.Part.{Part};
 ghost use Rattle.segment_file.specs.declared.part.Part.TheVariants.{Range};
-ghost use Rattle.coded_columns.specs.Coded.{most_rows};
+ghost use Rattle.index_filter.specs.Calls.{HasReady, ReadsIndexes};
 ghost use Rattle.index_filter.specs.Faults.{list_fault};
 ghost use Rattle.index_filter.specs.Indexes.{AddsUnsure, AreEndsOf, AreInBoth, IsFoundNear, IsRanged, LogsRange, LogsRangePartly, TellsBuckets};
-ghost use Rattle.segment_head.specs.declared.fault.EngineFault.TheVariants.{NotASegment, ReadFault, TooManyGroups};
 
 use doc_lists::{DocList, join};
 use index_reader::{ListFault, docs_between};
@@ -33,21 +31,16 @@ pub fn docs_by_range<S: Shelf>(
     test: &Test,
     unsure: &mut DocList,
 ) -> Result<Option<DocList>, EngineFault>
-    requires rows { head.now.rows ≤ most_rows }
-    requires ready { IsRanged head.now column test.now }
+    requires { HasReady head.now (IsRanged head.now column test.now) }
     ensures docs { IfOk result (IsFoundNear (S.held shelf.old) head.now column test.now) }
     ensures unsure { IfOk result (λ _. AddsUnsure (S.held shelf.old) head.now IndexChoice.Range
         (Conjunct.One column test.now) unsure.old unsure.new) }
-    ensures bad { (part : Part) → result ≡ Err (NotASegment part) → (part ≡ Range column)
+    ensures reads { ReadsIndexes result (λ part. (part ≡ Range column)
         × IfSome (S.held shelf.old) (λ files. (ids : List ℕ) →
-        TellsBuckets files head.now column ids → ⊥) }
-    ensures full { ¬ IsErrOf result TooManyGroups }
-    ensures only_reads { OnlyReads (IsErrOf result ReadFault)
+        TellsBuckets files head.now column ids → ⊥))
+        (LogsRange (S.held shelf.old) head.now column test.now)
+        (LogsRangePartly (S.held shelf.old) head.now column test.now)
         (seen S.Shelf shelf.old) (seen S.Shelf shelf.new) }
-    ensures log { IfOk result (λ _. LogsRange (S.held shelf.old) head.now column test.now
-        (S.log shelf.old) (S.log shelf.new)) }
-    ensures log_of_fault { OnErr result (LogsRangePartly (S.held shelf.old) head.now column
-        test.now (S.log shelf.old) (S.log shelf.new)) }
 {
     let dictionary = head.dictionary(column);
     let ids = match dictionary.ids_matching(alloc, test) {

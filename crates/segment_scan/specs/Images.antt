@@ -1,6 +1,7 @@
 -- Segments whose file is the image of rows, and what a scan of them does to groups.
 use Rattle.std.specs.Prelude.{◌≡◌, ◌≤◌, ◌<◌, ◌+◌, ◌&&◌, ◌⊎◌, ◌++◌, ℕ, true, false, not, All, Bool, List, [], map, length, get_or, slice_get, Option, Some, IfSome}
 use Rattle.std.specs.List.{range_with_len}
+use Rattle.std.specs.List.Sorted.{IsStrictlyIncreasing}
 use Rattle.outside.specs.Files.{Files}
 use Rattle.outside.specs.Reads.{Entry}
 use Rattle.values.specs.declared.value.Value.{Value}
@@ -59,6 +60,14 @@ sure_for query table head = rest_of query (sure_choices (choices_for query table
 abbrev pub HasUnsureFor : BoundQuery → Table → Option Files → Seen → List ℕ → Type 0
 HasUnsureFor query table held head unsure = HasUnsure held head
     (choices_for query table head) query.conjuncts (length query.conjuncts) unsure
+
+-- what the indexes leave: these documents in ascending order, and those that are not sure among
+-- others
+pub record AreLeftBy (query : BoundQuery) (table : Table) (held : Option Files) (head : Seen)
+    (docs others : List ℕ) : Type 0 where
+  pub left : AreLeftFor query table held head docs
+  pub ascend : IsStrictlyIncreasing docs
+  pub unsure : HasUnsureFor query table held head others
 
 -- documents in two parts: those that are to be checked, and those that are sure
 pub record AreParts (docs unsure check sure : List ℕ) : Type 0 where
@@ -217,6 +226,15 @@ pub record LogsPartsPartly (head : Seen) (named others : List Bool) (docs : List
   pub sure_within : All (λ doc. doc < head.rows) sure
   pub some : LogsDocsPartly head named check old new ⊎ ((between : Option (List Entry))
       × LogsDocs head named check old between × LogsDocsPartly head others sure between new)
+
+-- of the documents that the indexes leave ids were read so, in the columns that are named beside
+-- the served conjuncts, and in those that are named beside the conjuncts of range indexes too
+abbrev pub LogsLeft : (Seen → List Bool → List Bool → List ℕ → Option (List Entry)
+    → Option (List Entry) → Type 0) → BoundQuery → Table → Seen → List ℕ → Option (List Entry)
+    → Option (List Entry) → Type 0
+LogsLeft Logs query table head docs old new =
+    Logs head (names_in (rest_for query table head) table)
+    (names_in (sure_for query table head) table) docs old new
 
 -- where no conjunct is indexed, each column that the query names was read once, one after the
 -- other; else the sections of the indexes were, and then the ids of the documents that the indexes

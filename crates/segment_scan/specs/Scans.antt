@@ -1,5 +1,5 @@
 -- The rows of a segment that are read from its file, and what a scan of them does to groups.
-use Rattle.std.specs.Prelude.{◌≡◌, ℕ, suc, Bool, true, false, pos, List, [], ◌∷◌, Option, Some, None, IfSome, replicate}
+use Rattle.std.specs.Prelude.{◌≡◌, ◌-◌, ℕ, suc, Bool, true, false, pos, List, [], ◌∷◌, Option, Some, None, IfSome, replicate}
 use Rattle.std.specs.List.{list_any}
 use Rattle.outside.specs.Files.{Files}
 use Rattle.values.specs.declared.value.Value.{Value}
@@ -8,10 +8,14 @@ use Rattle.values.specs.Columns.{Listed, ListedColumns, is_text, rows_of}
 use Rattle.value_ids.specs.Coding.{values_at}
 use Rattle.bit_column.specs.Column.{ids_between}
 use Rattle.table_schema.specs.declared.query.BoundQuery.{BoundQuery}
-use Rattle.segment_head.specs.Heads.{Seen}
+use Rattle.agg_laws.specs.Numbers.{most_values}
+use Rattle.table_schema.specs.ValidTable.{IsValidTable}
+use Rattle.table_schema.specs.declared.table.Table.{Table}
+use Rattle.segment_head.specs.Heads.{IsHeadOf, Seen}
+use Rattle.segment_plan.specs.Named.{AreNamedLoaded}
 use Rattle.segment_plan.specs.Matched.{values_in}
-use Rattle.group_table.specs.Kept.{KeptGroups}
-use Rattle.scan_engine.specs.Scanned.{AddsRows, selected}
+use Rattle.group_table.specs.Kept.{IsTableOf, KeptGroups, groups_in}
+use Rattle.scan_engine.specs.Scanned.{AddsRows, HaveAtMost, selected}
 use Rattle.coded_columns.specs.declared.coded.Coded.{Coded}
 use Rattle.column_reader.specs.Forward.{forward_in, width_in}
 
@@ -54,6 +58,21 @@ pub record AddsSegment (query : BoundQuery) (held : Option Files) (head : Seen) 
   pub rows : List (List Value)
   pub adds : AddsRows query head.rows rows old new
   pub told : IfSome held (λ files. rows ≡ selected_read query files head named)
+
+-- groups of a query to which the rows of so many documents may be added
+pub record HaveRoom (query : BoundQuery) (rows : ℕ) (groups : KeptGroups) : Type 0 where
+  pub of_query : IsTableOf query groups
+  pub fits : HaveAtMost (most_values - rows) (groups_in groups)
+
+-- a query over a segment of a table whose head has all that the query names loaded, and groups of
+-- the query to which so many rows may be added
+pub record IsScannable (query : BoundQuery) (table : Table) (head : Seen) (rows : ℕ)
+    (groups : KeptGroups) : Type 0 where
+  pub valid : IsValidTable table
+  pub of_table : IsHeadOf table head
+  pub loaded : AreNamedLoaded query head
+  pub of_query : IsTableOf query groups
+  pub fits : HaveAtMost (most_values - rows) (groups_in groups)
 
 -- the ids of a column beside its dictionary
 abbrev pub IsCodedOf : Seen → ℕ → Option (List ℕ) → Option Coded → Type 0

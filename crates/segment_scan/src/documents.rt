@@ -1,17 +1,18 @@
 //! The rows of some documents of a segment, added to the groups of a query.
 
-ghost use Rattle.std.specs.Prelude.{◌≡◌, ◌<◌, ◌≤◌, ◌-◌, ℕ, All, Err, IfOk, IfSome, IsErrOf, OnErr, OnOk, false, get_or, length, true};
-ghost use Rattle.outside.specs.Seen.{OnlyReads, seen};
-ghost use Rattle.agg_laws.specs.Numbers.{most_values};
-ghost use Rattle.group_table.specs.Kept.{IsTableOf, groups_in};
-ghost use Rattle.scan_engine.specs.Scanned.{HaveAtMost, IsOverfull};
+ghost use Rattle.std.specs.Prelude.{◌≡◌, ◌<◌, ◌≤◌, ℕ, All, Err, IfOk, IfSome, OnOk, false, get_or, length, true};
+ghost use Rattle.outside.specs.Seen.{seen};
+ghost use Rattle.scan_engine.specs.Scanned.{IsOverfull};
 ghost use Rattle.segment_file.specs.declared.part.Part.{Part};
 ghost use Rattle.segment_file.specs.declared.part.Part.TheVariants.{Forward};
 ghost use Rattle.coded_columns.specs.Coded.{most_rows};
-ghost use Rattle.column_reader.specs.Forward.{HasIds, IsReadable};
+ghost use Rattle.column_reader.specs.Calls.{ReadsSections};
+ghost use Rattle.column_reader.specs.Forward.{AreReadable, HasIds};
+ghost use Rattle.segment_scan.specs.Scans.{HaveRoom};
 ghost use Rattle.segment_scan.specs.Documents.{AddsDocs, LogsDocs, LogsDocsPartly, selected_docs};
-ghost use Rattle.segment_head.specs.declared.fault.EngineFault.TheVariants.{NotASegment, ReadFault, TooManyGroups};
+ghost use Rattle.segment_head.specs.declared.fault.EngineFault.TheVariants.{NotASegment, TooManyGroups};
 
+use crate::answered::Answered;
 use crate::scan::coded_columns;
 use coded_columns::SegmentColumns;
 use coded_scan::add_coded;
@@ -19,10 +20,9 @@ use column_reader::pick_columns;
 use doc_lists::DocList;
 use group_table::{GroupTable, TableFault};
 use outside::Shelf;
-use segment_head::{EngineFault, Head};
+use segment_head::EngineFault;
 use segment_plan::IndexChoice;
 use std::alloc::Global;
-use table_schema::BoundQuery;
 
 /// Adds those of the rows of documents that satisfy the conjuncts that are not served, by the
 /// columns that are named. Of the forward section of each the ids of the documents are read, and
@@ -30,36 +30,31 @@ use table_schema::BoundQuery;
 pub fn scan_documents<S: Shelf>(
     alloc: Global,
     shelf: &mut S,
-    head: &Head,
+    answered: &Answered<'_>,
     named: &[bool],
-    query: &BoundQuery,
     choices: &[IndexChoice],
     docs: &DocList,
     groups: &mut GroupTable,
 ) -> Result<(), EngineFault>
-    requires at_most { length named.now ≤ 65535 }
-    requires few_rows { head.now.rows ≤ most_rows }
-    requires within { All (λ doc. doc < head.now.rows) docs.now }
-    requires readable { (column : ℕ) → get_or named.now column false ≡ true
-        → IsReadable head.now column }
-    requires table { IsTableOf query.now groups.old }
-    requires fits { HaveAtMost (most_values - length docs.now) (groups_in groups.old) }
-    ensures count { IfOk result (λ _. length docs.now ≤ head.now.rows) }
-    ensures ok { OnOk result (AddsDocs query.now choices.now (S.held shelf.old) head.now named.now
-        docs.now groups.old groups.new) }
+    requires few_rows { answered.now.head.now.rows ≤ most_rows }
+    requires within { All (λ doc. doc < answered.now.head.now.rows) docs.now }
+    requires readable { AreReadable answered.now.head.now named.now }
+    requires room { HaveRoom answered.now.query.now (length docs.now) groups.old }
+    ensures count { IfOk result (λ _. length docs.now ≤ answered.now.head.now.rows) }
+    ensures ok { OnOk result (AddsDocs answered.now.query.now choices.now (S.held shelf.old)
+        answered.now.head.now named.now docs.now groups.old groups.new) }
     ensures full { result ≡ Err TooManyGroups → IfSome (S.held shelf.old) (λ files. IsOverfull
-        query.now (selected_docs query.now choices.now files head.now named.now docs.now)
-        groups.old) }
+        answered.now.query.now (selected_docs answered.now.query.now choices.now files
+        answered.now.head.now named.now docs.now) groups.old) }
     ensures bad { (part : Part) → result ≡ Err (NotASegment part) → (column : ℕ)
         × (get_or named.now column false ≡ true) × (part ≡ Forward column)
-        × IfSome (S.held shelf.old) (λ files. ¬ HasIds files head.now column) }
-    ensures only_reads { OnlyReads (IsErrOf result ReadFault)
+        × IfSome (S.held shelf.old) (λ files. ¬ HasIds files answered.now.head.now column) }
+    ensures reads { ReadsSections result
+        (λ _. LogsDocs answered.now.head.now named.now docs.now)
+        (LogsDocsPartly answered.now.head.now named.now docs.now)
         (seen S.Shelf shelf.old) (seen S.Shelf shelf.new) }
-    ensures log { IfOk result (λ _. LogsDocs head.now named.now docs.now
-        (S.log shelf.old) (S.log shelf.new)) }
-    ensures log_of_fault { OnErr result (LogsDocsPartly head.now named.now docs.now
-        (S.log shelf.old) (S.log shelf.new)) }
 {
+    let head = answered.head;
     let runs = docs.runs();
     let ids = match pick_columns(alloc, shelf, head, named, runs, docs.len()) {
         Ok(ids) => ids,
@@ -71,7 +66,7 @@ pub fn scan_documents<S: Shelf>(
         columns: columns.as_slice(),
         count: docs.len(),
     };
-    match add_coded(alloc, query, choices, &segment, groups) {
+    match add_coded(alloc, answered.query, choices, &segment, groups) {
         Ok(()) => Ok(()),
         Err(TableFault::TooManyGroups) => Err(EngineFault::TooManyGroups),
         Err(TableFault::NoMemory) => Err(EngineFault::NoMemory),

@@ -1,30 +1,27 @@
 //! The rows that the indexes of a segment leave.
 
-ghost use Rattle.std.specs.Prelude.{◌≡◌, ◌<◌, ◌-◌, All, Err, IfOk, IfSome, IsErrOf, OnErr, OnOk, length};
-ghost use Rattle.std.specs.List.Sorted.{IsStrictlyIncreasing};
-ghost use Rattle.outside.specs.Seen.{OnlyReads, seen};
-ghost use Rattle.agg_laws.specs.Numbers.{most_values};
-ghost use Rattle.group_table.specs.Kept.{IsTableOf, groups_in};
-ghost use Rattle.table_schema.specs.ValidTable.{IsValidTable};
-ghost use Rattle.scan_engine.specs.Scanned.{HaveAtMost, IsOverfull};
-ghost use Rattle.segment_head.specs.Heads.{IsHeadOf};
+ghost use Rattle.std.specs.Prelude.{◌≡◌, ◌<◌, All, Err, IfOk, IfSome, OnOk, length};
+ghost use Rattle.outside.specs.Seen.{seen};
+ghost use Rattle.scan_engine.specs.Scanned.{IsOverfull};
+ghost use Rattle.column_reader.specs.Calls.{ReadsSections};
+ghost use Rattle.segment_scan.specs.Scans.{IsScannable};
 ghost use Rattle.segment_file.specs.declared.part.Part.{Part};
 ghost use Rattle.segment_scan.specs.Documents.{AddsDocs, LogsDocs, LogsDocsPartly, selected_docs};
-ghost use Rattle.segment_scan.specs.Images.{AddsImage, AreDocs, AreLeftFor, HasUnsureFor, IsBadForward, IsImageOverfull, LogsParts, LogsPartsPartly, choices_for, rest_for, sure_for};
+ghost use Rattle.segment_scan.specs.Images.{AddsImage, AreDocs, AreLeftBy, IsBadForward, IsImageOverfull, LogsLeft, LogsParts, LogsPartsPartly, choices_for, rest_for};
 ghost use Rattle.segment_head.specs.Stored.{IsNoImage};
-ghost use Rattle.segment_plan.specs.Named.{AreNamedLoaded, names_in};
+ghost use Rattle.segment_plan.specs.Named.{names_in};
 ghost use Rattle.segment_plan.specs.Served.{rest_of};
-ghost use Rattle.segment_head.specs.declared.fault.EngineFault.TheVariants.{NotASegment, ReadFault, TooManyGroups};
+ghost use Rattle.segment_head.specs.declared.fault.EngineFault.TheVariants.{NotASegment, TooManyGroups};
 
+use crate::answered::Answered;
 use crate::documents::scan_documents;
 use crate::laws::{image_law, index_law};
 use doc_lists::{DocList, meet, without};
 use group_table::GroupTable;
 use outside::Shelf;
-use segment_head::{EngineFault, Head};
+use segment_head::EngineFault;
 use segment_plan::{IndexChoice, named_columns, sure_choices};
 use std::alloc::Global;
-use table_schema::{BoundQuery, Table};
 
 /// Adds those of the rows that the indexes leave that satisfy the other conjuncts to the groups of
 /// a query, and answers how many rows the indexes leave. Of those that are not sure the ids are
@@ -33,42 +30,33 @@ use table_schema::{BoundQuery, Table};
 pub fn scan_left<S: Shelf>(
     alloc: Global,
     shelf: &mut S,
-    head: &Head,
-    table: &Table,
-    query: &BoundQuery,
+    answered: &Answered<'_>,
     choices: &[IndexChoice],
     docs: &DocList,
     unsure: &DocList,
     groups: &mut GroupTable,
 ) -> Result<u32, EngineFault>
-    requires valid { IsValidTable table.now }
-    requires of_table { IsHeadOf table.now head.now }
-    requires loaded { AreNamedLoaded query.now head.now }
-    requires planned { choices.now ≡ choices_for query.now table.now head.now }
-    requires left { AreLeftFor query.now table.now (S.held shelf.old) head.now docs.now }
-    requires ascend { IsStrictlyIncreasing docs.now }
-    requires unsure { HasUnsureFor query.now table.now (S.held shelf.old) head.now unsure.now }
-    requires of_query { IsTableOf query.now groups.old }
-    requires fits { HaveAtMost (most_values - head.now.rows) (groups_in groups.old) }
+    requires scans { IsScannable answered.now.query.now answered.now.table.now
+        answered.now.head.now answered.now.head.now.rows groups.old }
+    requires planned { choices.now ≡ choices_for answered.now.query.now answered.now.table.now
+        answered.now.head.now }
+    requires leaves { AreLeftBy answered.now.query.now answered.now.table.now (S.held shelf.old)
+        answered.now.head.now docs.now unsure.now }
     ensures number { IfOk result (λ n. n ≡ length docs.now) }
-    ensures count { IfOk result (AreDocs query.now table.now (S.held shelf.old) head.now) }
-    ensures ok { OnOk result (AddsImage query.now table.now (S.held shelf.old) head.now
-        groups.old groups.new) }
-    ensures full { result ≡ Err TooManyGroups →
-        IsImageOverfull query.now table.now (S.held shelf.old) head.now groups.old }
+    ensures count { IfOk result (AreDocs answered.now.query.now answered.now.table.now
+        (S.held shelf.old) answered.now.head.now) }
+    ensures ok { OnOk result (AddsImage answered.now.query.now answered.now.table.now
+        (S.held shelf.old) answered.now.head.now groups.old groups.new) }
+    ensures full { result ≡ Err TooManyGroups → IsImageOverfull answered.now.query.now
+        answered.now.table.now (S.held shelf.old) answered.now.head.now groups.old }
     ensures bad { (part : Part) → result ≡ Err (NotASegment part) →
-        IsBadForward (rest_for query.now table.now head.now) (S.held shelf.old) head.now part
-        × IsNoImage table.now (S.held shelf.old) head.now }
-    ensures only_reads { OnlyReads (IsErrOf result ReadFault)
+        IsBadForward (rest_for answered.now.query.now answered.now.table.now
+        answered.now.head.now) (S.held shelf.old) answered.now.head.now part
+        × IsNoImage answered.now.table.now (S.held shelf.old) answered.now.head.now }
+    ensures reads { ReadsSections result (λ _. LogsLeft LogsParts answered.now.query.now
+        answered.now.table.now answered.now.head.now docs.now) (LogsLeft LogsPartsPartly
+        answered.now.query.now answered.now.table.now answered.now.head.now docs.now)
         (seen S.Shelf shelf.old) (seen S.Shelf shelf.new) }
-    ensures log { IfOk result (λ _. LogsParts head.now
-        (names_in (rest_for query.now table.now head.now) table.now)
-        (names_in (sure_for query.now table.now head.now) table.now) docs.now
-        (S.log shelf.old) (S.log shelf.new)) }
-    ensures log_of_fault { OnErr result (LogsPartsPartly head.now
-        (names_in (rest_for query.now table.now head.now) table.now)
-        (names_in (sure_for query.now table.now head.now) table.now) docs.now
-        (S.log shelf.old) (S.log shelf.new)) }
 {
     image_law();
     index_law();
@@ -76,11 +64,11 @@ pub fn scan_left<S: Shelf>(
     let sure = without(alloc, docs, unsure)?;
     let served = sure_choices(alloc, choices)?;
     let served = served.as_slice();
-    match scan_part(alloc, shelf, head, table, query, choices, &check, groups) {
+    match scan_part(alloc, shelf, answered, choices, &check, groups) {
         Ok(()) => {}
         Err(fault) => return Err(fault),
     }
-    match scan_part(alloc, shelf, head, table, query, served, &sure, groups) {
+    match scan_part(alloc, shelf, answered, served, &sure, groups) {
         Ok(()) => Ok(docs.len() as u32),
         Err(fault) => Err(fault),
     }
@@ -92,38 +80,38 @@ pub fn scan_left<S: Shelf>(
 fn scan_part<S: Shelf>(
     alloc: Global,
     shelf: &mut S,
-    head: &Head,
-    table: &Table,
-    query: &BoundQuery,
+    answered: &Answered<'_>,
     choices: &[IndexChoice],
     docs: &DocList,
     groups: &mut GroupTable,
 ) -> Result<(), EngineFault>
-    requires valid { IsValidTable table.now }
-    requires of_table { IsHeadOf table.now head.now }
-    requires loaded { AreNamedLoaded query.now head.now }
-    requires within { All (λ doc. doc < head.now.rows) docs.now }
-    requires of_query { IsTableOf query.now groups.old }
-    requires fits { HaveAtMost (most_values - length docs.now) (groups_in groups.old) }
-    ensures ok { OnOk result (AddsDocs query.now choices.now (S.held shelf.old) head.now
-        (names_in (rest_of query.now choices.now) table.now) docs.now groups.old groups.new) }
+    requires scans { IsScannable answered.now.query.now answered.now.table.now
+        answered.now.head.now (length docs.now) groups.old }
+    requires within { All (λ doc. doc < answered.now.head.now.rows) docs.now }
+    ensures ok { OnOk result (AddsDocs answered.now.query.now choices.now (S.held shelf.old)
+        answered.now.head.now (names_in (rest_of answered.now.query.now choices.now)
+        answered.now.table.now) docs.now groups.old groups.new) }
     ensures full { result ≡ Err TooManyGroups → IfSome (S.held shelf.old) (λ files. IsOverfull
-        query.now (selected_docs query.now choices.now files head.now
-        (names_in (rest_of query.now choices.now) table.now) docs.now) groups.old) }
+        answered.now.query.now (selected_docs answered.now.query.now choices.now files
+        answered.now.head.now (names_in (rest_of answered.now.query.now choices.now)
+        answered.now.table.now) docs.now) groups.old) }
     ensures bad { (part : Part) → result ≡ Err (NotASegment part) →
-        IsBadForward (rest_of query.now choices.now) (S.held shelf.old) head.now part
-        × IsNoImage table.now (S.held shelf.old) head.now }
-    ensures only_reads { OnlyReads (IsErrOf result ReadFault)
+        IsBadForward (rest_of answered.now.query.now choices.now) (S.held shelf.old)
+        answered.now.head.now part
+        × IsNoImage answered.now.table.now (S.held shelf.old) answered.now.head.now }
+    ensures reads { ReadsSections result (λ _. LogsDocs answered.now.head.now
+        (names_in (rest_of answered.now.query.now choices.now) answered.now.table.now) docs.now)
+        (LogsDocsPartly answered.now.head.now
+        (names_in (rest_of answered.now.query.now choices.now) answered.now.table.now) docs.now)
         (seen S.Shelf shelf.old) (seen S.Shelf shelf.new) }
-    ensures log { IfOk result (λ _. LogsDocs head.now
-        (names_in (rest_of query.now choices.now) table.now) docs.now
-        (S.log shelf.old) (S.log shelf.new)) }
-    ensures log_of_fault { OnErr result (LogsDocsPartly head.now
-        (names_in (rest_of query.now choices.now) table.now) docs.now
-        (S.log shelf.old) (S.log shelf.new)) }
 {
     image_law();
-    let named = named_columns(alloc, query, choices, table.schema.fields.len())?;
+    let named = named_columns(
+        alloc,
+        answered.query,
+        choices,
+        answered.table.schema.fields.len(),
+    )?;
     let named = named.as_slice();
-    scan_documents(alloc, shelf, head, named, query, choices, docs, groups)
+    scan_documents(alloc, shelf, answered, named, choices, docs, groups)
 }

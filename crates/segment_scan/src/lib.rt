@@ -2,6 +2,7 @@
 //! are added to the groups of the query.
 #![tactic(auto)]
 
+mod answered;
 mod documents;
 mod laws;
 mod left;

@@ -1,17 +1,16 @@
 //! A segment is scanned for a query: what the query names is read, and the rows are added.
 
-ghost use Rattle.std.specs.Prelude.{◌≡◌, ◌<◌, ◌≤◌, ◌-◌, ℕ, List, Err, IfOk, IfSome, IsErrOf, None, OnErr, OnOk, Some, false, get_or, length, true};
-ghost use Rattle.outside.specs.Seen.{OnlyReads, seen};
-ghost use Rattle.agg_laws.specs.Numbers.{most_values};
-ghost use Rattle.group_table.specs.Kept.{IsTableOf, groups_in};
-ghost use Rattle.scan_engine.specs.Scanned.{HaveAtMost, IsOverfull};
+ghost use Rattle.std.specs.Prelude.{◌≡◌, ◌<◌, ◌≤◌, ℕ, List, Err, IfOk, IfSome, None, OnOk, Some, false, get_or, length, true};
+ghost use Rattle.outside.specs.Seen.{seen};
+ghost use Rattle.scan_engine.specs.Scanned.{IsOverfull};
 ghost use Rattle.segment_head.specs.Heads.{IsLoaded};
 ghost use Rattle.segment_file.specs.declared.part.Part.{Part};
 ghost use Rattle.segment_file.specs.declared.part.Part.TheVariants.{Forward};
 ghost use Rattle.coded_columns.specs.Coded.{most_rows};
-ghost use Rattle.column_reader.specs.Forward.{HasIds, IsReadable, LogsColumns, LogsSome};
-ghost use Rattle.segment_scan.specs.Scans.{AddsSegment, IsCodedOf, selected_read};
-ghost use Rattle.segment_head.specs.declared.fault.EngineFault.TheVariants.{NotASegment, ReadFault, TooManyGroups};
+ghost use Rattle.column_reader.specs.Calls.{ReadsSections};
+ghost use Rattle.column_reader.specs.Forward.{AreReadable, HasIds, LogsColumns, LogsSome};
+ghost use Rattle.segment_scan.specs.Scans.{AddsSegment, HaveRoom, IsCodedOf, selected_read};
+ghost use Rattle.segment_head.specs.declared.fault.EngineFault.TheVariants.{NotASegment, TooManyGroups};
 
 use coded_columns::{Coded, Ids, SegmentColumns};
 use coded_scan::add_coded;
@@ -34,12 +33,9 @@ pub fn scan_columns<S: Shelf>(
     query: &BoundQuery,
     groups: &mut GroupTable,
 ) -> Result<u32, EngineFault>
-    requires at_most { length named.now ≤ 65535 }
     requires few_rows { head.now.rows ≤ most_rows }
-    requires readable { (column : ℕ) → get_or named.now column false ≡ true
-        → IsReadable head.now column }
-    requires table { IsTableOf query.now groups.old }
-    requires fits { HaveAtMost (most_values - head.now.rows) (groups_in groups.old) }
+    requires readable { AreReadable head.now named.now }
+    requires room { HaveRoom query.now head.now.rows groups.old }
     ensures count { IfOk result (λ n. n ≡ head.now.rows) }
     ensures ok { OnOk result (AddsSegment query.now (S.held shelf.old) head.now named.now
         groups.old groups.new) }
@@ -48,12 +44,9 @@ pub fn scan_columns<S: Shelf>(
     ensures bad { (part : Part) → result ≡ Err (NotASegment part) → (column : ℕ)
         × (get_or named.now column false ≡ true) × (part ≡ Forward column)
         × IfSome (S.held shelf.old) (λ files. ¬ HasIds files head.now column) }
-    ensures only_reads { OnlyReads (IsErrOf result ReadFault)
+    ensures reads { ReadsSections result
+        (λ _. LogsColumns head.now named.now (length named.now)) (LogsSome head.now named.now)
         (seen S.Shelf shelf.old) (seen S.Shelf shelf.new) }
-    ensures log { IfOk result (λ _. LogsColumns head.now named.now (length named.now)
-        (S.log shelf.old) (S.log shelf.new)) }
-    ensures log_of_fault { OnErr result (LogsSome head.now named.now
-        (S.log shelf.old) (S.log shelf.new)) }
 {
     let ids = match read_columns(alloc, shelf, head, named) {
         Ok(ids) => ids,

@@ -1,17 +1,14 @@
 //! A segment of a table is scanned for a query.
 
-ghost use Rattle.std.specs.Prelude.{◌≡◌, ◌-◌, Err, IfOk, IsErrOf, OnErr, OnOk};
-ghost use Rattle.outside.specs.Seen.{OnlyReads, seen};
-ghost use Rattle.agg_laws.specs.Numbers.{most_values};
-ghost use Rattle.group_table.specs.Kept.{IsTableOf, groups_in};
-ghost use Rattle.table_schema.specs.ValidTable.{IsValidTable};
-ghost use Rattle.scan_engine.specs.Scanned.{HaveAtMost};
-ghost use Rattle.segment_head.specs.Heads.{IsHeadOf};
+ghost use Rattle.std.specs.Prelude.{◌≡◌, Err, IfOk, OnOk};
+ghost use Rattle.outside.specs.Seen.{seen};
 ghost use Rattle.segment_file.specs.declared.part.Part.{Part};
 ghost use Rattle.segment_scan.specs.Images.{AddsImage, AreDocs, IsBadIn, IsImageOverfull, LogsScan, LogsScanPartly, choices_for};
-ghost use Rattle.segment_plan.specs.Named.{AreNamedLoaded};
-ghost use Rattle.segment_head.specs.declared.fault.EngineFault.TheVariants.{NotASegment, ReadFault, TooManyGroups};
+ghost use Rattle.column_reader.specs.Calls.{ReadsSections};
+ghost use Rattle.segment_scan.specs.Scans.{IsScannable};
+ghost use Rattle.segment_head.specs.declared.fault.EngineFault.TheVariants.{NotASegment, TooManyGroups};
 
+use crate::answered::Answered;
 use crate::laws::{image_law, index_law};
 use crate::left::scan_left;
 use crate::whole::scan_whole;
@@ -40,12 +37,8 @@ pub fn scan_segment<S: Shelf>(
     plan: &ScanPlan,
     groups: &mut GroupTable,
 ) -> Result<u32, EngineFault>
-    requires valid { IsValidTable table.now }
-    requires of_table { IsHeadOf table.now head.now }
-    requires loaded { AreNamedLoaded query.now head.now }
+    requires scans { IsScannable query.now table.now head.now head.now.rows groups.old }
     requires planned { plan.now.choices ≡ choices_for query.now table.now head.now }
-    requires of_query { IsTableOf query.now groups.old }
-    requires fits { HaveAtMost (most_values - head.now.rows) (groups_in groups.old) }
     ensures count { IfOk result (AreDocs query.now table.now (S.held shelf.old) head.now) }
     ensures ok { OnOk result (AddsImage query.now table.now (S.held shelf.old) head.now
         groups.old groups.new) }
@@ -53,12 +46,10 @@ pub fn scan_segment<S: Shelf>(
         IsImageOverfull query.now table.now (S.held shelf.old) head.now groups.old }
     ensures bad { (part : Part) → result ≡ Err (NotASegment part) →
         IsBadIn query.now table.now (S.held shelf.old) head.now part }
-    ensures only_reads { OnlyReads (IsErrOf result ReadFault)
+    ensures reads { ReadsSections result
+        (LogsScan query.now table.now (S.held shelf.old) head.now)
+        (LogsScanPartly query.now table.now (S.held shelf.old) head.now)
         (seen S.Shelf shelf.old) (seen S.Shelf shelf.new) }
-    ensures log { IfOk result (λ count. LogsScan query.now table.now (S.held shelf.old) head.now
-        count (S.log shelf.old) (S.log shelf.new)) }
-    ensures log_of_fault { OnErr result (LogsScanPartly query.now table.now (S.held shelf.old)
-        head.now (S.log shelf.old) (S.log shelf.new)) }
 {
     image_law();
     index_law();
@@ -71,8 +62,9 @@ pub fn scan_segment<S: Shelf>(
     };
     match docs {
         None => scan_whole(alloc, shelf, head, table, query, groups),
-        Some(docs) => scan_left(
-            alloc, shelf, head, table, query, choices, &docs, &unsure, groups,
-        ),
+        Some(docs) => {
+            let answered = Answered { head, table, query };
+            scan_left(alloc, shelf, &answered, choices, &docs, &unsure, groups)
+        }
     }
 }

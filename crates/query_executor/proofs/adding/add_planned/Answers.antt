@@ -55,12 +55,14 @@ scan_segment-requires g c =
     let head = c.args.head.now in
     let planned = planned_as query table head c.in_ok-plan.field-0 (Scan c.in-Scan.plan) c.in-Scan.is c.in_ok-plan.ensures in
     record {
-      valid = c.requires.valid;
-      of_table = c.requires.loaded.of_table;
-      loaded = c.requires.loaded.named (scan_unpicked query table head c.in-Scan.plan planned);
+      scans = record {
+        valid = c.requires.valid;
+        of_table = c.requires.loaded.of_table;
+        loaded = c.requires.loaded.named (scan_unpicked query table head c.in-Scan.plan planned);
+        of_query = c.requires.room.of_query;
+        fits = room table head c.args.groups.now c.requires.loaded.of_table c.requires.room.fits;
+      };
       planned = scan_planned query table head c.in-Scan.plan planned;
-      of_query = c.requires.room.of_query;
-      fits = room table head c.args.groups.now c.requires.loaded.of_table c.requires.room.fits;
     }
 
 pub answer_segment-requires : goal.answer_segment-requires
@@ -119,11 +121,11 @@ returns-in-Ok g c =
         added = adds_scanned query table name head a.held c.args.groups.now c.scan_segment.new.groups c.requires.loaded.of_table c.in-Ok.ensures.ok is;
         full = λ e. absurd (no_fault _ _ engine.TooManyGroups e);
         bad = λ part e. absurd (no_fault _ _ (engine.NotASegment part) e);
-        only_reads = reads_done _ _ docs _ engine.ReadFault a b c.in-Ok.ensures.only_reads;
-        log = scan_in_file query table head (file_of name) inside a.held c.requires.loaded.of_table named _ a.log b.log c.in-Ok.ensures.log;
+        only_reads = reads_done _ _ docs _ engine.ReadFault a b c.in-Ok.ensures.reads.only_reads;
+        log = scan_in_file query table head (file_of name) inside a.held c.requires.loaded.of_table named _ a.log b.log c.in-Ok.ensures.reads.log;
         reads = scan_one query table name c.image_law.ensures c.index_law.ensures c.requires.valid head c.requires.loaded.of_table named plan chosen
             (λ files rows has in_file. scan_plan query table c.head_tells_law.ensures c.plan_over_law.ensures c.requires.valid c.requires.query files name head plan planned c.requires.loaded.filtered in_file rows has)
-            a.held docs a.log b.log is spread c.in-Ok.ensures.log;
+            a.held docs a.log b.log is spread c.in-Ok.ensures.reads.log;
         reads_of_fault = tt;
       };
       done = λ name is.
@@ -148,12 +150,12 @@ returns-in-Err g c =
         added = tt;
         full = λ e. overfull_scanned query table name head a.held c.args.groups.now (c.in-Err.ensures.full (ap Err (own_fault _ fault engine.TooManyGroups e))) is;
         bad = λ part e. bad_scanned query table name head a.held part (c.in-Err.ensures.bad part (ap Err (own_fault _ fault (engine.NotASegment part) e))) is;
-        only_reads = reads_failed _ _ fault engine.ReadFault a b c.in-Err.ensures.only_reads;
-        log = scan_partly query table head (file_of name) inside a.held c.requires.loaded.of_table named a.log b.log c.in-Err.ensures.log_of_fault;
+        only_reads = reads_failed _ _ fault engine.ReadFault a b c.in-Err.ensures.reads.only_reads;
+        log = scan_partly query table head (file_of name) inside a.held c.requires.loaded.of_table named a.log b.log c.in-Err.ensures.reads.log_of_fault;
         reads = tt;
         reads_of_fault = scan_given_up query table name c.image_law.ensures c.index_law.ensures c.requires.valid head c.requires.loaded.of_table named plan chosen
             (λ files rows has in_file. scan_plan query table c.head_tells_law.ensures c.plan_over_law.ensures c.requires.valid c.requires.query files name head plan planned c.requires.loaded.filtered in_file rows has)
-            a.held a.log b.log is spread c.in-Err.ensures.log_of_fault;
+            a.held a.log b.log is spread c.in-Err.ensures.reads.log_of_fault;
       };
       done = tt;
     }

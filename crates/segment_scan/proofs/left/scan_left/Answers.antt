@@ -1,4 +1,4 @@
-use Rattle.std.proofs.Common.{◌≡◌, ◌∙◌, ◌+◌, ◌-◌, ℕ, Bool, List, Option, Err, IsErrOf, IfSome, inl, inr, length, ap, sym, subst, arith}
+use Rattle.std.proofs.Common.{rules, ◌≡◌, ◌∙◌, ◌+◌, ◌-◌, ℕ, Bool, List, Option, Err, IsErrOf, IfSome, inl, inr, length, ap, sym, subst, arith}
 use Rattle.outside.specs.Files.{Files}
 use Rattle.agg_laws.specs.Numbers.{most_values}
 use Rattle.group_table.specs.Kept.{groups_in}
@@ -21,237 +21,269 @@ use Rattle.segment_scan.proofs.left.scan_left.Goals as goal
 same_err : (T U : Type 0) (fault cause : EngineFault) → IsErrOf {T = T} {E = EngineFault} (Err fault) cause → IsErrOf {T = U} {E = EngineFault} (Err fault) cause
 same_err T U fault cause is = let e : fault ≡ cause = cc in ap (λ (f : EngineFault). Err f) e
 
-pub returns-in_err-check-clause-log_of_fault : goal.returns-in_err-check-clause-log_of_fault
-returns-in_err-check-clause-log_of_fault g c =
-    let query = c.args.query.now in
-    let table = c.args.table.now in
-    let head : Seen = c.args.head.now in
-    let log = g.S.Shelf.log c.args.shelf.now in
-    let named : List Bool = names_in (rest_for query table head) table in
-    let others : List Bool = names_in (sure_for query table head) table in
-    err_is c.from_residual.result (LogsPartsPartly head named others c.args.docs.now log log) (no_parts head named others c.args.docs.now log c.requires.left.within)
+pub returns-in_err-check-clause-reads : goal.returns-in_err-check-clause-reads
+returns-in_err-check-clause-reads g c = record {
+  only_reads = search rules;
+  log = search rules;
+  log_of_fault =
+      let query = c.args.answered.now.query.now in
+      let table = c.args.answered.now.table.now in
+      let head : Seen = c.args.answered.now.head.now in
+      let log = g.S.Shelf.log c.args.shelf.now in
+      let named : List Bool = names_in (rest_for query table head) table in
+      let others : List Bool = names_in (sure_for query table head) table in
+      err_is c.from_residual.result (LogsPartsPartly head named others c.args.docs.now log log) (no_parts head named others c.args.docs.now log c.requires.leaves.left.within);
+}
 
-pub returns-in_err-sure-clause-log_of_fault : goal.returns-in_err-sure-clause-log_of_fault
-returns-in_err-sure-clause-log_of_fault g c =
-    let query = c.args.query.now in
-    let table = c.args.table.now in
-    let head : Seen = c.args.head.now in
-    let log = g.S.Shelf.log c.args.shelf.now in
-    let named : List Bool = names_in (rest_for query table head) table in
-    let others : List Bool = names_in (sure_for query table head) table in
-    err_is c.from_residual-in_err-sure.result (LogsPartsPartly head named others c.args.docs.now log log) (no_parts head named others c.args.docs.now log c.requires.left.within)
+pub returns-in_err-sure-clause-reads : goal.returns-in_err-sure-clause-reads
+returns-in_err-sure-clause-reads g c = record {
+  only_reads = search rules;
+  log = search rules;
+  log_of_fault =
+      let query = c.args.answered.now.query.now in
+      let table = c.args.answered.now.table.now in
+      let head : Seen = c.args.answered.now.head.now in
+      let log = g.S.Shelf.log c.args.shelf.now in
+      let named : List Bool = names_in (rest_for query table head) table in
+      let others : List Bool = names_in (sure_for query table head) table in
+      err_is c.from_residual-in_err-sure.result (LogsPartsPartly head named others c.args.docs.now log log) (no_parts head named others c.args.docs.now log c.requires.leaves.left.within);
+}
 
-pub returns-in_err-served-clause-log_of_fault : goal.returns-in_err-served-clause-log_of_fault
-returns-in_err-served-clause-log_of_fault g c =
-    let query = c.args.query.now in
-    let table = c.args.table.now in
-    let head : Seen = c.args.head.now in
-    let log = g.S.Shelf.log c.args.shelf.now in
-    let named : List Bool = names_in (rest_for query table head) table in
-    let others : List Bool = names_in (sure_for query table head) table in
-    err_is c.from_residual-in_err-served.result (LogsPartsPartly head named others c.args.docs.now log log) (no_parts head named others c.args.docs.now log c.requires.left.within)
+pub returns-in_err-served-clause-reads : goal.returns-in_err-served-clause-reads
+returns-in_err-served-clause-reads g c = record {
+  only_reads = search rules;
+  log = search rules;
+  log_of_fault =
+      let query = c.args.answered.now.query.now in
+      let table = c.args.answered.now.table.now in
+      let head : Seen = c.args.answered.now.head.now in
+      let log = g.S.Shelf.log c.args.shelf.now in
+      let named : List Bool = names_in (rest_for query table head) table in
+      let others : List Bool = names_in (sure_for query table head) table in
+      err_is c.from_residual-in_err-served.result (LogsPartsPartly head named others c.args.docs.now log log) (no_parts head named others c.args.docs.now log c.requires.leaves.left.within);
+}
 
 pub scan_part-requires-clause-within : goal.scan_part-requires-clause-within
 scan_part-requires-clause-within g c =
-    let query = c.args.query.now in
-    let table = c.args.table.now in
-    let head : Seen = c.args.head.now in
+    let query = c.args.answered.now.query.now in
+    let table = c.args.answered.now.table.now in
+    let head : Seen = c.args.answered.now.head.now in
     let held : Option Files = g.S.Shelf.held c.args.shelf.now in
     let docs : List ℕ = c.args.docs.now in
     let unsure : List ℕ = c.args.unsure.now in
     let check : List ℕ = c.in_ok-check.check in
     let sure : List ℕ = c.in_ok-sure.sure in
     let parts : AreParts docs unsure check sure = record { checks = c.in_ok-check.ensures; sures = c.in_ok-sure.ensures } in
-    let f : PartsFit head.rows docs check sure = parts_fit docs unsure check sure head.rows c.requires.ascend c.requires.left.within parts in
+    let f : PartsFit head.rows docs check sure = parts_fit docs unsure check sure head.rows c.requires.leaves.ascend c.requires.leaves.left.within parts in
     f.check_within
 
-pub scan_part-requires-clause-fits : goal.scan_part-requires-clause-fits
-scan_part-requires-clause-fits g c =
-    let query = c.args.query.now in
-    let table = c.args.table.now in
-    let head : Seen = c.args.head.now in
-    let held : Option Files = g.S.Shelf.held c.args.shelf.now in
-    let docs : List ℕ = c.args.docs.now in
-    let unsure : List ℕ = c.args.unsure.now in
-    let check : List ℕ = c.in_ok-check.check in
-    let sure : List ℕ = c.in_ok-sure.sure in
-    let parts : AreParts docs unsure check sure = record { checks = c.in_ok-check.ensures; sures = c.in_ok-sure.ensures } in
-    let f : PartsFit head.rows docs check sure = parts_fit docs unsure check sure head.rows c.requires.ascend c.requires.left.within parts in
-    at_most_more (groups_in c.args.groups.now) (most_values - head.rows) (most_values - length check) (omega (arith, f.count, f.at_most)) c.requires.fits
+pub scan_part-requires-clause-scans : goal.scan_part-requires-clause-scans
+scan_part-requires-clause-scans g c = record {
+  valid = c.requires.scans.valid;
+  of_table = c.requires.scans.of_table;
+  loaded = c.requires.scans.loaded;
+  of_query = c.requires.scans.of_query;
+  fits =
+      let query = c.args.answered.now.query.now in
+      let table = c.args.answered.now.table.now in
+      let head : Seen = c.args.answered.now.head.now in
+      let held : Option Files = g.S.Shelf.held c.args.shelf.now in
+      let docs : List ℕ = c.args.docs.now in
+      let unsure : List ℕ = c.args.unsure.now in
+      let check : List ℕ = c.in_ok-check.check in
+      let sure : List ℕ = c.in_ok-sure.sure in
+      let parts : AreParts docs unsure check sure = record { checks = c.in_ok-check.ensures; sures = c.in_ok-sure.ensures } in
+      let f : PartsFit head.rows docs check sure = parts_fit docs unsure check sure head.rows c.requires.leaves.ascend c.requires.leaves.left.within parts in
+      at_most_more (groups_in c.args.groups.now) (most_values - head.rows) (most_values - length check) (omega (arith, f.count, f.at_most)) c.requires.scans.fits;
+}
 
 pub scan_part-requires-2-clause-within : goal.scan_part-requires-2-clause-within
 scan_part-requires-2-clause-within g c =
-    let query = c.args.query.now in
-    let table = c.args.table.now in
-    let head : Seen = c.args.head.now in
+    let query = c.args.answered.now.query.now in
+    let table = c.args.answered.now.table.now in
+    let head : Seen = c.args.answered.now.head.now in
     let held : Option Files = g.S.Shelf.held c.args.shelf.now in
     let docs : List ℕ = c.args.docs.now in
     let unsure : List ℕ = c.args.unsure.now in
     let check : List ℕ = c.in_ok-check.check in
     let sure : List ℕ = c.in_ok-sure.sure in
     let parts : AreParts docs unsure check sure = record { checks = c.in_ok-check.ensures; sures = c.in_ok-sure.ensures } in
-    let f : PartsFit head.rows docs check sure = parts_fit docs unsure check sure head.rows c.requires.ascend c.requires.left.within parts in
+    let f : PartsFit head.rows docs check sure = parts_fit docs unsure check sure head.rows c.requires.leaves.ascend c.requires.leaves.left.within parts in
     f.sure_within
 
-pub scan_part-requires-2-clause-fits : goal.scan_part-requires-2-clause-fits
-scan_part-requires-2-clause-fits g c =
-    let query = c.args.query.now in
-    let table = c.args.table.now in
-    let head : Seen = c.args.head.now in
-    let held : Option Files = g.S.Shelf.held c.args.shelf.now in
-    let docs : List ℕ = c.args.docs.now in
-    let unsure : List ℕ = c.args.unsure.now in
-    let check : List ℕ = c.in_ok-check.check in
-    let sure : List ℕ = c.in_ok-sure.sure in
-    let parts : AreParts docs unsure check sure = record { checks = c.in_ok-check.ensures; sures = c.in_ok-sure.ensures } in
-    let f : PartsFit head.rows docs check sure = parts_fit docs unsure check sure head.rows c.requires.ascend c.requires.left.within parts in
-    at_most_more (groups_in c.scan_part.new.groups) (most_values - head.rows + length check) (most_values - length sure) (omega (arith, f.count, f.at_most, c.requires.of_table.at_most, c.requires.of_table.has.rows_are))
-    (c.in-Ok.ensures.ok.adds.fits (most_values - head.rows) c.requires.fits)
+pub scan_part-requires-2-clause-scans : goal.scan_part-requires-2-clause-scans
+scan_part-requires-2-clause-scans g c = record {
+  valid = c.requires.scans.valid;
+  of_table = c.requires.scans.of_table;
+  loaded = c.requires.scans.loaded;
+  of_query = c.in-Ok.ensures.ok.adds.of_query;
+  fits =
+      let query = c.args.answered.now.query.now in
+      let table = c.args.answered.now.table.now in
+      let head : Seen = c.args.answered.now.head.now in
+      let held : Option Files = g.S.Shelf.held c.args.shelf.now in
+      let docs : List ℕ = c.args.docs.now in
+      let unsure : List ℕ = c.args.unsure.now in
+      let check : List ℕ = c.in_ok-check.check in
+      let sure : List ℕ = c.in_ok-sure.sure in
+      let parts : AreParts docs unsure check sure = record { checks = c.in_ok-check.ensures; sures = c.in_ok-sure.ensures } in
+      let f : PartsFit head.rows docs check sure = parts_fit docs unsure check sure head.rows c.requires.leaves.ascend c.requires.leaves.left.within parts in
+      at_most_more (groups_in c.scan_part.new.groups) (most_values - head.rows + length check) (most_values - length sure) (omega (arith, f.count, f.at_most, c.requires.scans.of_table.at_most, c.requires.scans.of_table.has.rows_are))
+      (c.in-Ok.ensures.ok.adds.fits (most_values - head.rows) c.requires.scans.fits);
+}
 
 pub returns-in-Err-clause-full : goal.returns-in-Err-clause-full
 returns-in-Err-clause-full g c = λ full.
-    let query = c.args.query.now in
-    let table = c.args.table.now in
-    let head : Seen = c.args.head.now in
+    let query = c.args.answered.now.query.now in
+    let table = c.args.answered.now.table.now in
+    let head : Seen = c.args.answered.now.head.now in
     let held : Option Files = g.S.Shelf.held c.args.shelf.now in
     let docs : List ℕ = c.args.docs.now in
     let unsure : List ℕ = c.args.unsure.now in
     let check : List ℕ = c.in_ok-check.check in
     let sure : List ℕ = c.in_ok-sure.sure in
     let parts : AreParts docs unsure check sure = record { checks = c.in_ok-check.ensures; sures = c.in_ok-sure.ensures } in
-    let f : PartsFit head.rows docs check sure = parts_fit docs unsure check sure head.rows c.requires.ascend c.requires.left.within parts in
-    check_full c.image_law.ensures c.index_law.ensures query table head c.requires.valid c.requires.of_table c.requires.loaded docs held unsure check sure c.requires.left c.requires.unsure parts c.args.groups.now
+    let f : PartsFit head.rows docs check sure = parts_fit docs unsure check sure head.rows c.requires.leaves.ascend c.requires.leaves.left.within parts in
+    check_full c.image_law.ensures c.index_law.ensures query table head c.requires.scans.valid c.requires.scans.of_table c.requires.scans.loaded docs held unsure check sure c.requires.leaves.left c.requires.leaves.unsure parts c.args.groups.now
     (subst (λ cs. IfSome held (λ files. IsOverfull query (selected_docs query cs files head (names_in (rest_of query cs) table) check) c.args.groups.now)) c.requires.planned
     (c.in-Err.ensures.full (same_err ℕ (Unit {0}) c.in-Err.fault TooManyGroups full)))
 
-pub returns-in-Err-clause-log_of_fault : goal.returns-in-Err-clause-log_of_fault
-returns-in-Err-clause-log_of_fault g c =
-    let query = c.args.query.now in
-    let table = c.args.table.now in
-    let head : Seen = c.args.head.now in
-    let held : Option Files = g.S.Shelf.held c.args.shelf.now in
-    let docs : List ℕ = c.args.docs.now in
-    let unsure : List ℕ = c.args.unsure.now in
-    let check : List ℕ = c.in_ok-check.check in
-    let sure : List ℕ = c.in_ok-sure.sure in
-    let parts : AreParts docs unsure check sure = record { checks = c.in_ok-check.ensures; sures = c.in_ok-sure.ensures } in
-    let f : PartsFit head.rows docs check sure = parts_fit docs unsure check sure head.rows c.requires.ascend c.requires.left.within parts in
-    record {
-      check = check;
-      sure = sure;
-      count = f.count;
-      check_within = f.check_within;
-      sure_within = f.sure_within;
-      some = inl (subst (λ cs. LogsDocsPartly head (names_in (rest_of query cs) table) check (g.S.Shelf.log c.args.shelf.now) (g.S.Shelf.log c.scan_part.new.shelf)) c.requires.planned c.in-Err.ensures.log_of_fault);
-    }
+pub returns-in-Err-clause-reads : goal.returns-in-Err-clause-reads
+returns-in-Err-clause-reads g c = record {
+  only_reads = search rules;
+  log = tt;
+  log_of_fault =
+      let query = c.args.answered.now.query.now in
+      let table = c.args.answered.now.table.now in
+      let head : Seen = c.args.answered.now.head.now in
+      let held : Option Files = g.S.Shelf.held c.args.shelf.now in
+      let docs : List ℕ = c.args.docs.now in
+      let unsure : List ℕ = c.args.unsure.now in
+      let check : List ℕ = c.in_ok-check.check in
+      let sure : List ℕ = c.in_ok-sure.sure in
+      let parts : AreParts docs unsure check sure = record { checks = c.in_ok-check.ensures; sures = c.in_ok-sure.ensures } in
+      let f : PartsFit head.rows docs check sure = parts_fit docs unsure check sure head.rows c.requires.leaves.ascend c.requires.leaves.left.within parts in
+      record {
+        check = check;
+        sure = sure;
+        count = f.count;
+        check_within = f.check_within;
+        sure_within = f.sure_within;
+        some = inl (subst (λ cs. LogsDocsPartly head (names_in (rest_of query cs) table) check (g.S.Shelf.log c.args.shelf.now) (g.S.Shelf.log c.scan_part.new.shelf)) c.requires.planned c.in-Err.ensures.reads.log_of_fault);
+      };
+}
 
 pub overflow_cast-result : goal.overflow_cast-result
 overflow_cast-result g c =
-    let query = c.args.query.now in
-    let table = c.args.table.now in
-    let head : Seen = c.args.head.now in
+    let query = c.args.answered.now.query.now in
+    let table = c.args.answered.now.table.now in
+    let head : Seen = c.args.answered.now.head.now in
     let held : Option Files = g.S.Shelf.held c.args.shelf.now in
     let docs : List ℕ = c.args.docs.now in
     let unsure : List ℕ = c.args.unsure.now in
     let check : List ℕ = c.in_ok-check.check in
     let sure : List ℕ = c.in_ok-sure.sure in
     let parts : AreParts docs unsure check sure = record { checks = c.in_ok-check.ensures; sures = c.in_ok-sure.ensures } in
-    let f : PartsFit head.rows docs check sure = parts_fit docs unsure check sure head.rows c.requires.ascend c.requires.left.within parts in
-    omega (arith, c.len.ensures, f.at_most, c.requires.of_table.at_most, c.requires.of_table.has.rows_are)
+    let f : PartsFit head.rows docs check sure = parts_fit docs unsure check sure head.rows c.requires.leaves.ascend c.requires.leaves.left.within parts in
+    omega (arith, c.len.ensures, f.at_most, c.requires.scans.of_table.at_most, c.requires.scans.of_table.has.rows_are)
 
 pub returns-in-Ok-scan_part-clause-count : goal.returns-in-Ok-scan_part-clause-count
 returns-in-Ok-scan_part-clause-count g c =
-    let query = c.args.query.now in
-    let table = c.args.table.now in
-    let head : Seen = c.args.head.now in
+    let query = c.args.answered.now.query.now in
+    let table = c.args.answered.now.table.now in
+    let head : Seen = c.args.answered.now.head.now in
     let held : Option Files = g.S.Shelf.held c.args.shelf.now in
     let docs : List ℕ = c.args.docs.now in
     let unsure : List ℕ = c.args.unsure.now in
     let check : List ℕ = c.in_ok-check.check in
     let sure : List ℕ = c.in_ok-sure.sure in
     let parts : AreParts docs unsure check sure = record { checks = c.in_ok-check.ensures; sures = c.in_ok-sure.ensures } in
-    let f : PartsFit head.rows docs check sure = parts_fit docs unsure check sure head.rows c.requires.ascend c.requires.left.within parts in
-    subst (AreDocs query table held head) (sym c.len.ensures) (left_docs c.image_law.ensures c.index_law.ensures query table head c.requires.valid c.requires.of_table c.requires.loaded docs held c.requires.left f.at_most)
+    let f : PartsFit head.rows docs check sure = parts_fit docs unsure check sure head.rows c.requires.leaves.ascend c.requires.leaves.left.within parts in
+    subst (AreDocs query table held head) (sym c.len.ensures) (left_docs c.image_law.ensures c.index_law.ensures query table head c.requires.scans.valid c.requires.scans.of_table c.requires.scans.loaded docs held c.requires.leaves.left f.at_most)
 
 pub returns-in-Ok-scan_part-clause-ok : goal.returns-in-Ok-scan_part-clause-ok
 returns-in-Ok-scan_part-clause-ok g c =
-    let query = c.args.query.now in
-    let table = c.args.table.now in
-    let head : Seen = c.args.head.now in
+    let query = c.args.answered.now.query.now in
+    let table = c.args.answered.now.table.now in
+    let head : Seen = c.args.answered.now.head.now in
     let held : Option Files = g.S.Shelf.held c.args.shelf.now in
     let docs : List ℕ = c.args.docs.now in
     let unsure : List ℕ = c.args.unsure.now in
     let check : List ℕ = c.in_ok-check.check in
     let sure : List ℕ = c.in_ok-sure.sure in
     let parts : AreParts docs unsure check sure = record { checks = c.in_ok-check.ensures; sures = c.in_ok-sure.ensures } in
-    let f : PartsFit head.rows docs check sure = parts_fit docs unsure check sure head.rows c.requires.ascend c.requires.left.within parts in
+    let f : PartsFit head.rows docs check sure = parts_fit docs unsure check sure head.rows c.requires.leaves.ascend c.requires.leaves.left.within parts in
     let served : c.as_slice-served.result.now ≡ sure_choices (choices_for query table head) = c.as_slice-served.ensures.value ∙ c.in_ok-served.ensures ∙ ap sure_choices c.requires.planned in
-    let same : g.S.Shelf.held c.scan_part.new.shelf ≡ held = c.in-Ok.ensures.only_reads.held in
+    let same : g.S.Shelf.held c.scan_part.new.shelf ≡ held = c.in-Ok.ensures.reads.only_reads.held in
     let first : AddsDocs query (choices_for query table head) held head (names_in (rest_for query table head) table) check c.args.groups.now c.scan_part.new.groups =
     subst (λ cs. AddsDocs query cs held head (names_in (rest_of query cs) table) check c.args.groups.now c.scan_part.new.groups) c.requires.planned c.in-Ok.ensures.ok in
-    left_image c.image_law.ensures c.index_law.ensures query table head c.requires.valid c.requires.of_table c.requires.loaded docs held unsure check sure c.requires.left c.requires.unsure parts f.at_most f.count c.args.groups.now c.scan_part.new.groups c.scan_part-2.new.groups first
+    left_image c.image_law.ensures c.index_law.ensures query table head c.requires.scans.valid c.requires.scans.of_table c.requires.scans.loaded docs held unsure check sure c.requires.leaves.left c.requires.leaves.unsure parts f.at_most f.count c.args.groups.now c.scan_part.new.groups c.scan_part-2.new.groups first
     (subst (λ cs. AddsDocs query cs held head (names_in (rest_of query cs) table) sure c.scan_part.new.groups c.scan_part-2.new.groups) served
     (subst (λ h. AddsDocs query c.as_slice-served.result.now h head (names_in (rest_of query c.as_slice-served.result.now) table) sure c.scan_part.new.groups c.scan_part-2.new.groups) same c.in-Ok-scan_part.ensures.ok))
 
-pub returns-in-Ok-scan_part-clause-log : goal.returns-in-Ok-scan_part-clause-log
-returns-in-Ok-scan_part-clause-log g c =
-    let query = c.args.query.now in
-    let table = c.args.table.now in
-    let head : Seen = c.args.head.now in
-    let held : Option Files = g.S.Shelf.held c.args.shelf.now in
-    let docs : List ℕ = c.args.docs.now in
-    let unsure : List ℕ = c.args.unsure.now in
-    let check : List ℕ = c.in_ok-check.check in
-    let sure : List ℕ = c.in_ok-sure.sure in
-    let parts : AreParts docs unsure check sure = record { checks = c.in_ok-check.ensures; sures = c.in_ok-sure.ensures } in
-    let f : PartsFit head.rows docs check sure = parts_fit docs unsure check sure head.rows c.requires.ascend c.requires.left.within parts in
-    let served : c.as_slice-served.result.now ≡ sure_choices (choices_for query table head) = c.as_slice-served.ensures.value ∙ c.in_ok-served.ensures ∙ ap sure_choices c.requires.planned in
-    record {
-      check = check;
-      sure = sure;
-      count = f.count;
-      check_within = f.check_within;
-      sure_within = f.sure_within;
-      between = g.S.Shelf.log c.scan_part.new.shelf;
-      checked = subst (λ cs. LogsDocs head (names_in (rest_of query cs) table) check (g.S.Shelf.log c.args.shelf.now) (g.S.Shelf.log c.scan_part.new.shelf)) c.requires.planned c.in-Ok.ensures.log;
-      surely = subst (λ cs. LogsDocs head (names_in (rest_of query cs) table) sure (g.S.Shelf.log c.scan_part.new.shelf) (g.S.Shelf.log c.scan_part-2.new.shelf)) served c.in-Ok-scan_part.ensures.log;
-    }
+pub returns-in-Ok-scan_part-clause-reads : goal.returns-in-Ok-scan_part-clause-reads
+returns-in-Ok-scan_part-clause-reads g c = record {
+  only_reads = search rules;
+  log =
+      let query = c.args.answered.now.query.now in
+      let table = c.args.answered.now.table.now in
+      let head : Seen = c.args.answered.now.head.now in
+      let held : Option Files = g.S.Shelf.held c.args.shelf.now in
+      let docs : List ℕ = c.args.docs.now in
+      let unsure : List ℕ = c.args.unsure.now in
+      let check : List ℕ = c.in_ok-check.check in
+      let sure : List ℕ = c.in_ok-sure.sure in
+      let parts : AreParts docs unsure check sure = record { checks = c.in_ok-check.ensures; sures = c.in_ok-sure.ensures } in
+      let f : PartsFit head.rows docs check sure = parts_fit docs unsure check sure head.rows c.requires.leaves.ascend c.requires.leaves.left.within parts in
+      let served : c.as_slice-served.result.now ≡ sure_choices (choices_for query table head) = c.as_slice-served.ensures.value ∙ c.in_ok-served.ensures ∙ ap sure_choices c.requires.planned in
+      record {
+        check = check;
+        sure = sure;
+        count = f.count;
+        check_within = f.check_within;
+        sure_within = f.sure_within;
+        between = g.S.Shelf.log c.scan_part.new.shelf;
+        checked = subst (λ cs. LogsDocs head (names_in (rest_of query cs) table) check (g.S.Shelf.log c.args.shelf.now) (g.S.Shelf.log c.scan_part.new.shelf)) c.requires.planned c.in-Ok.ensures.reads.log;
+        surely = subst (λ cs. LogsDocs head (names_in (rest_of query cs) table) sure (g.S.Shelf.log c.scan_part.new.shelf) (g.S.Shelf.log c.scan_part-2.new.shelf)) served c.in-Ok-scan_part.ensures.reads.log;
+      };
+  log_of_fault = tt;
+}
 
 pub returns-clause-full : goal.returns-clause-full
 returns-clause-full g c = λ full.
-    let query = c.args.query.now in
-    let table = c.args.table.now in
-    let head : Seen = c.args.head.now in
+    let query = c.args.answered.now.query.now in
+    let table = c.args.answered.now.table.now in
+    let head : Seen = c.args.answered.now.head.now in
     let held : Option Files = g.S.Shelf.held c.args.shelf.now in
     let docs : List ℕ = c.args.docs.now in
     let unsure : List ℕ = c.args.unsure.now in
     let check : List ℕ = c.in_ok-check.check in
     let sure : List ℕ = c.in_ok-sure.sure in
     let parts : AreParts docs unsure check sure = record { checks = c.in_ok-check.ensures; sures = c.in_ok-sure.ensures } in
-    let f : PartsFit head.rows docs check sure = parts_fit docs unsure check sure head.rows c.requires.ascend c.requires.left.within parts in
+    let f : PartsFit head.rows docs check sure = parts_fit docs unsure check sure head.rows c.requires.leaves.ascend c.requires.leaves.left.within parts in
     let served : c.as_slice-served.result.now ≡ sure_choices (choices_for query table head) = c.as_slice-served.ensures.value ∙ c.in_ok-served.ensures ∙ ap sure_choices c.requires.planned in
-    let same : g.S.Shelf.held c.scan_part.new.shelf ≡ held = c.in-Ok.ensures.only_reads.held in
+    let same : g.S.Shelf.held c.scan_part.new.shelf ≡ held = c.in-Ok.ensures.reads.only_reads.held in
     let first : AddsDocs query (choices_for query table head) held head (names_in (rest_for query table head) table) check c.args.groups.now c.scan_part.new.groups =
     subst (λ cs. AddsDocs query cs held head (names_in (rest_of query cs) table) check c.args.groups.now c.scan_part.new.groups) c.requires.planned c.in-Ok.ensures.ok in
-    sure_full c.image_law.ensures c.index_law.ensures query table head c.requires.valid c.requires.of_table c.requires.loaded docs held unsure check sure c.requires.left c.requires.unsure parts c.args.groups.now c.scan_part.new.groups first
+    sure_full c.image_law.ensures c.index_law.ensures query table head c.requires.scans.valid c.requires.scans.of_table c.requires.scans.loaded docs held unsure check sure c.requires.leaves.left c.requires.leaves.unsure parts c.args.groups.now c.scan_part.new.groups first
     (subst (λ cs. IfSome held (λ files. IsOverfull query (selected_docs query cs files head (names_in (rest_of query cs) table) sure) c.scan_part.new.groups)) served
     (subst (λ h. IfSome h (λ files. IsOverfull query (selected_docs query c.as_slice-served.result.now files head (names_in (rest_of query c.as_slice-served.result.now) table) sure) c.scan_part.new.groups)) same
     (c.in-Err-scan_part.ensures.full (same_err ℕ (Unit {0}) c.in-Err-scan_part.fault TooManyGroups full))))
 
 pub returns-clause-bad : goal.returns-clause-bad
 returns-clause-bad g c = λ part bad.
-    let query = c.args.query.now in
-    let table = c.args.table.now in
-    let head : Seen = c.args.head.now in
+    let query = c.args.answered.now.query.now in
+    let table = c.args.answered.now.table.now in
+    let head : Seen = c.args.answered.now.head.now in
     let held : Option Files = g.S.Shelf.held c.args.shelf.now in
     let docs : List ℕ = c.args.docs.now in
     let unsure : List ℕ = c.args.unsure.now in
     let check : List ℕ = c.in_ok-check.check in
     let sure : List ℕ = c.in_ok-sure.sure in
     let parts : AreParts docs unsure check sure = record { checks = c.in_ok-check.ensures; sures = c.in_ok-sure.ensures } in
-    let f : PartsFit head.rows docs check sure = parts_fit docs unsure check sure head.rows c.requires.ascend c.requires.left.within parts in
+    let f : PartsFit head.rows docs check sure = parts_fit docs unsure check sure head.rows c.requires.leaves.ascend c.requires.leaves.left.within parts in
     let served : c.as_slice-served.result.now ≡ sure_choices (choices_for query table head) = c.as_slice-served.ensures.value ∙ c.in_ok-served.ensures ∙ ap sure_choices c.requires.planned in
-    let same : g.S.Shelf.held c.scan_part.new.shelf ≡ held = c.in-Ok.ensures.only_reads.held in
+    let same : g.S.Shelf.held c.scan_part.new.shelf ≡ held = c.in-Ok.ensures.reads.only_reads.held in
     let bad_now : IsBadForward (sure_for query table head) held head part × IsNoImage table held head =
     subst (λ cs. IsBadForward (rest_of query cs) held head part × IsNoImage table held head) served
     (subst (λ h. IsBadForward (rest_of query c.as_slice-served.result.now) h head part × IsNoImage table h head) same
@@ -260,28 +292,32 @@ returns-clause-bad g c = λ part bad.
       bad_now.1,
     )
 
-pub returns-clause-log_of_fault : goal.returns-clause-log_of_fault
-returns-clause-log_of_fault g c =
-    let query = c.args.query.now in
-    let table = c.args.table.now in
-    let head : Seen = c.args.head.now in
-    let held : Option Files = g.S.Shelf.held c.args.shelf.now in
-    let docs : List ℕ = c.args.docs.now in
-    let unsure : List ℕ = c.args.unsure.now in
-    let check : List ℕ = c.in_ok-check.check in
-    let sure : List ℕ = c.in_ok-sure.sure in
-    let parts : AreParts docs unsure check sure = record { checks = c.in_ok-check.ensures; sures = c.in_ok-sure.ensures } in
-    let f : PartsFit head.rows docs check sure = parts_fit docs unsure check sure head.rows c.requires.ascend c.requires.left.within parts in
-    let served : c.as_slice-served.result.now ≡ sure_choices (choices_for query table head) = c.as_slice-served.ensures.value ∙ c.in_ok-served.ensures ∙ ap sure_choices c.requires.planned in
-    record {
-      check = check;
-      sure = sure;
-      count = f.count;
-      check_within = f.check_within;
-      sure_within = f.sure_within;
-      some = inr (
-        g.S.Shelf.log c.scan_part.new.shelf,
-        subst (λ cs. LogsDocs head (names_in (rest_of query cs) table) check (g.S.Shelf.log c.args.shelf.now) (g.S.Shelf.log c.scan_part.new.shelf)) c.requires.planned c.in-Ok.ensures.log,
-        subst (λ cs. LogsDocsPartly head (names_in (rest_of query cs) table) sure (g.S.Shelf.log c.scan_part.new.shelf) (g.S.Shelf.log c.scan_part-2.new.shelf)) served c.in-Err-scan_part.ensures.log_of_fault,
-      );
-    }
+pub returns-clause-reads : goal.returns-clause-reads
+returns-clause-reads g c = record {
+  only_reads = search rules;
+  log = tt;
+  log_of_fault =
+      let query = c.args.answered.now.query.now in
+      let table = c.args.answered.now.table.now in
+      let head : Seen = c.args.answered.now.head.now in
+      let held : Option Files = g.S.Shelf.held c.args.shelf.now in
+      let docs : List ℕ = c.args.docs.now in
+      let unsure : List ℕ = c.args.unsure.now in
+      let check : List ℕ = c.in_ok-check.check in
+      let sure : List ℕ = c.in_ok-sure.sure in
+      let parts : AreParts docs unsure check sure = record { checks = c.in_ok-check.ensures; sures = c.in_ok-sure.ensures } in
+      let f : PartsFit head.rows docs check sure = parts_fit docs unsure check sure head.rows c.requires.leaves.ascend c.requires.leaves.left.within parts in
+      let served : c.as_slice-served.result.now ≡ sure_choices (choices_for query table head) = c.as_slice-served.ensures.value ∙ c.in_ok-served.ensures ∙ ap sure_choices c.requires.planned in
+      record {
+        check = check;
+        sure = sure;
+        count = f.count;
+        check_within = f.check_within;
+        sure_within = f.sure_within;
+        some = inr (
+          g.S.Shelf.log c.scan_part.new.shelf,
+          subst (λ cs. LogsDocs head (names_in (rest_of query cs) table) check (g.S.Shelf.log c.args.shelf.now) (g.S.Shelf.log c.scan_part.new.shelf)) c.requires.planned c.in-Ok.ensures.reads.log,
+          subst (λ cs. LogsDocsPartly head (names_in (rest_of query cs) table) sure (g.S.Shelf.log c.scan_part.new.shelf) (g.S.Shelf.log c.scan_part-2.new.shelf)) served c.in-Err-scan_part.ensures.reads.log_of_fault,
+        );
+      };
+}

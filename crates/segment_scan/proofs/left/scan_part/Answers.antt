@@ -1,4 +1,4 @@
-use Rattle.std.proofs.Common.{◌≡◌, Bool, List, inl, refl, subst}
+use Rattle.std.proofs.Common.{rules, ◌≡◌, Bool, List, inl, refl, subst, arith}
 use Rattle.std.specs.Prelude.{OnOk, OnErr, IfOk, IfSome}
 use Rattle.segment_head.specs.Heads.{Seen}
 use Rattle.scan_engine.specs.Scanned.{IsOverfull}
@@ -11,38 +11,43 @@ use Rattle.outside.proofs.SeenLemmas.{err_is}
 use Rattle.segment_scan.proofs.SegmentLemmas.{mark_named, marks_few}
 use Rattle.segment_scan.proofs.left.scan_part.Goals as goal
 
-pub returns-in_err-named-clause-log_of_fault : goal.returns-in_err-named-clause-log_of_fault
-returns-in_err-named-clause-log_of_fault g c =
-    let log = g.S.Shelf.log c.args.shelf.now in
-    let names = names_in (rest_of c.args.query.now c.args.choices.now) c.args.table.now in
-    err_is c.from_residual.result (LogsDocsPartly c.args.head.now names c.args.docs.now log log) (inl refl)
-
-pub scan_documents-requires-clause-at_most : goal.scan_documents-requires-clause-at_most
-scan_documents-requires-clause-at_most g c =
-    let query = c.args.query.now in
-    let table = c.args.table.now in
-    let choices = c.args.choices.now in
-    let named : List Bool = c.as_slice-named.result.now in
-    let is : named ≡ names_in (rest_of query choices) table =
-    marks_left query table choices named c.in_ok-named.named.items c.len.result c.len.ensures c.as_slice-named.ensures.value c.in_ok-named.ensures.count c.in_ok-named.ensures.each in
-    marks_few (rest_of query choices) table named is c.requires.valid
+pub returns-in_err-named-clause-reads : goal.returns-in_err-named-clause-reads
+returns-in_err-named-clause-reads g c = record {
+  only_reads = search rules;
+  log = search rules;
+  log_of_fault =
+      let log = g.S.Shelf.log c.args.shelf.now in
+      let names = names_in (rest_of c.args.answered.now.query.now c.args.choices.now) c.args.answered.now.table.now in
+      err_is c.from_residual.result (LogsDocsPartly c.args.answered.now.head.now names c.args.docs.now log log) (inl refl);
+}
 
 pub scan_documents-requires-clause-readable : goal.scan_documents-requires-clause-readable
-scan_documents-requires-clause-readable g c = λ column marked.
-    let query = c.args.query.now in
-    let table = c.args.table.now in
-    let head : Seen = c.args.head.now in
-    let choices = c.args.choices.now in
-    let named : List Bool = c.as_slice-named.result.now in
-    let is : named ≡ names_in (rest_of query choices) table =
-    marks_left query table choices named c.in_ok-named.named.items c.len.result c.len.ensures c.as_slice-named.ensures.value c.in_ok-named.ensures.count c.in_ok-named.ensures.each in
-    loaded_readable table head column c.requires.of_table (rest_loaded query choices head c.requires.loaded column (mark_named (rest_of query choices) table named is column marked))
+scan_documents-requires-clause-readable g c = record {
+  at_most =
+      let query = c.args.answered.now.query.now in
+      let table = c.args.answered.now.table.now in
+      let choices = c.args.choices.now in
+      let named : List Bool = c.as_slice-named.result.now in
+      let is : named ≡ names_in (rest_of query choices) table =
+      marks_left query table choices named c.in_ok-named.named.items c.len.result c.len.ensures c.as_slice-named.ensures.value c.in_ok-named.ensures.count c.in_ok-named.ensures.each in
+      marks_few (rest_of query choices) table named is c.requires.scans.valid;
+  each =
+      λ column marked.
+      let query = c.args.answered.now.query.now in
+      let table = c.args.answered.now.table.now in
+      let head : Seen = c.args.answered.now.head.now in
+      let choices = c.args.choices.now in
+      let named : List Bool = c.as_slice-named.result.now in
+      let is : named ≡ names_in (rest_of query choices) table =
+      marks_left query table choices named c.in_ok-named.named.items c.len.result c.len.ensures c.as_slice-named.ensures.value c.in_ok-named.ensures.count c.in_ok-named.ensures.each in
+      loaded_readable table head column c.requires.scans.of_table (rest_loaded query choices head c.requires.scans.loaded column (mark_named (rest_of query choices) table named is column marked));
+}
 
 pub returns-clause-ok : goal.returns-clause-ok
 returns-clause-ok g c =
-    let query = c.args.query.now in
-    let table = c.args.table.now in
-    let head : Seen = c.args.head.now in
+    let query = c.args.answered.now.query.now in
+    let table = c.args.answered.now.table.now in
+    let head : Seen = c.args.answered.now.head.now in
     let choices = c.args.choices.now in
     let named : List Bool = c.as_slice-named.result.now in
     let is : named ≡ names_in (rest_of query choices) table =
@@ -51,9 +56,9 @@ returns-clause-ok g c =
 
 pub returns-clause-full : goal.returns-clause-full
 returns-clause-full g c = λ full.
-    let query = c.args.query.now in
-    let table = c.args.table.now in
-    let head : Seen = c.args.head.now in
+    let query = c.args.answered.now.query.now in
+    let table = c.args.answered.now.table.now in
+    let head : Seen = c.args.answered.now.head.now in
     let choices = c.args.choices.now in
     let named : List Bool = c.as_slice-named.result.now in
     let is : named ≡ names_in (rest_of query choices) table =
@@ -62,33 +67,40 @@ returns-clause-full g c = λ full.
 
 pub returns-clause-bad : goal.returns-clause-bad
 returns-clause-bad g c = λ part bad.
-    let query = c.args.query.now in
-    let table = c.args.table.now in
-    let head : Seen = c.args.head.now in
+    let query = c.args.answered.now.query.now in
+    let table = c.args.answered.now.table.now in
+    let head : Seen = c.args.answered.now.head.now in
     let choices = c.args.choices.now in
     let named : List Bool = c.as_slice-named.result.now in
     let is : named ≡ names_in (rest_of query choices) table =
     marks_left query table choices named c.in_ok-named.named.items c.len.result c.len.ensures c.as_slice-named.ensures.value c.in_ok-named.ensures.count c.in_ok-named.ensures.each in
-    bad_left c.image_law.ensures (rest_of query choices) table (g.S.Shelf.held c.args.shelf.now) head c.requires.valid c.requires.of_table (rest_loaded query choices head c.requires.loaded) named is part (c.scan_documents.ensures.bad part bad)
+    bad_left c.image_law.ensures (rest_of query choices) table (g.S.Shelf.held c.args.shelf.now) head c.requires.scans.valid c.requires.scans.of_table (rest_loaded query choices head c.requires.scans.loaded) named is part (c.scan_documents.ensures.bad part bad)
 
-pub returns-clause-log : goal.returns-clause-log
-returns-clause-log g c =
-    let query = c.args.query.now in
-    let table = c.args.table.now in
-    let head : Seen = c.args.head.now in
-    let choices = c.args.choices.now in
-    let named : List Bool = c.as_slice-named.result.now in
-    let is : named ≡ names_in (rest_of query choices) table =
-    marks_left query table choices named c.in_ok-named.named.items c.len.result c.len.ensures c.as_slice-named.ensures.value c.in_ok-named.ensures.count c.in_ok-named.ensures.each in
-    subst (λ (l : List Bool). IfOk c.scan_documents.result (λ _. LogsDocs head l c.args.docs.now (g.S.Shelf.log c.args.shelf.now) (g.S.Shelf.log c.scan_documents.new.shelf))) is c.scan_documents.ensures.log
+pub returns-clause-reads : goal.returns-clause-reads
+returns-clause-reads g c = record {
+  only_reads = search rules;
+  log =
+      let query = c.args.answered.now.query.now in
+      let table = c.args.answered.now.table.now in
+      let head : Seen = c.args.answered.now.head.now in
+      let choices = c.args.choices.now in
+      let named : List Bool = c.as_slice-named.result.now in
+      let is : named ≡ names_in (rest_of query choices) table =
+      marks_left query table choices named c.in_ok-named.named.items c.len.result c.len.ensures c.as_slice-named.ensures.value c.in_ok-named.ensures.count c.in_ok-named.ensures.each in
+      subst (λ (l : List Bool). IfOk c.scan_documents.result (λ _. LogsDocs head l c.args.docs.now (g.S.Shelf.log c.args.shelf.now) (g.S.Shelf.log c.scan_documents.new.shelf))) is c.scan_documents.ensures.reads.log;
+  log_of_fault =
+      let query = c.args.answered.now.query.now in
+      let table = c.args.answered.now.table.now in
+      let head : Seen = c.args.answered.now.head.now in
+      let choices = c.args.choices.now in
+      let named : List Bool = c.as_slice-named.result.now in
+      let is : named ≡ names_in (rest_of query choices) table =
+      marks_left query table choices named c.in_ok-named.named.items c.len.result c.len.ensures c.as_slice-named.ensures.value c.in_ok-named.ensures.count c.in_ok-named.ensures.each in
+      subst (λ (l : List Bool). OnErr c.scan_documents.result (LogsDocsPartly head l c.args.docs.now (g.S.Shelf.log c.args.shelf.now) (g.S.Shelf.log c.scan_documents.new.shelf))) is c.scan_documents.ensures.reads.log_of_fault;
+}
 
-pub returns-clause-log_of_fault : goal.returns-clause-log_of_fault
-returns-clause-log_of_fault g c =
-    let query = c.args.query.now in
-    let table = c.args.table.now in
-    let head : Seen = c.args.head.now in
-    let choices = c.args.choices.now in
-    let named : List Bool = c.as_slice-named.result.now in
-    let is : named ≡ names_in (rest_of query choices) table =
-    marks_left query table choices named c.in_ok-named.named.items c.len.result c.len.ensures c.as_slice-named.ensures.value c.in_ok-named.ensures.count c.in_ok-named.ensures.each in
-    subst (λ (l : List Bool). OnErr c.scan_documents.result (LogsDocsPartly head l c.args.docs.now (g.S.Shelf.log c.args.shelf.now) (g.S.Shelf.log c.scan_documents.new.shelf))) is c.scan_documents.ensures.log_of_fault
+pub scan_documents-requires-clause-few_rows : goal.scan_documents-requires-clause-few_rows
+scan_documents-requires-clause-few_rows g c = let at_most = c.requires.scans.of_table.at_most in let rows = c.requires.scans.of_table.has.rows_are in omega (arith, at_most, rows)
+
+pub scan_documents-requires-clause-room : goal.scan_documents-requires-clause-room
+scan_documents-requires-clause-room g c = record { of_query = c.requires.scans.of_query; fits = c.requires.scans.fits }

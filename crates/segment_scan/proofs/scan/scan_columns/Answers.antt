@@ -1,4 +1,4 @@
-use Rattle.std.proofs.Common.{◌≡◌, ◌∙◌, ◌<◌, ◌-◌, ℕ, Bool, List, Option, None, Err, false, length, get_or, ap, sym, subst, arith}
+use Rattle.std.proofs.Common.{rules, ◌≡◌, ◌∙◌, ◌<◌, ◌-◌, ℕ, Bool, List, Option, None, Err, false, length, get_or, ap, sym, subst, arith}
 use Rattle.values.specs.Columns.{rows_of}
 use Rattle.agg_laws.specs.Numbers.{most_values}
 use Rattle.group_table.specs.Kept.{groups_in}
@@ -18,7 +18,7 @@ pub coded_columns-requires-clause-loaded : goal.coded_columns-requires-clause-lo
 coded_columns-requires-clause-loaded g c = λ column list lt got.
     let within : column < length c.args.named.now = omega (arith, lt, ap length c.as_slice-ids.ensures.value, c.in-Ok.ensures.count) in
     let same : get_or c.in-Ok.ids.items column None ≡ get_or c.as_slice-ids.result.now column None = ap (λ (l : List (Option (List ℕ))). get_or l column None) (sym c.as_slice-ids.ensures.value) in
-    (c.requires.readable column (named-of (g.S.Shelf.held c.args.shelf.now) c.args.head.now column (get_or c.args.named.now column false) (get_or c.in-Ok.ids.items column None) list (c.in-Ok.ensures.ids column within) (same ∙ got))).loaded
+    (c.requires.readable.each column (named-of (g.S.Shelf.held c.args.shelf.now) c.args.head.now column (get_or c.args.named.now column false) (get_or c.in-Ok.ids.items column None) list (c.in-Ok.ensures.ids column within) (same ∙ got))).loaded
 
 pub add_coded-requires-clause-coded : goal.add_coded-requires-clause-coded
 add_coded-requires-clause-coded g c =
@@ -36,7 +36,7 @@ add_coded-requires-clause-coded g c =
     coded-all held head named ids segment c.rows.ensures c.requires.few_rows lengths c.in-Ok.ensures.ids of
 
 pub add_coded-requires-clause-fits : goal.add_coded-requires-clause-fits
-add_coded-requires-clause-fits g c = subst (λ n. HaveAtMost (most_values - n) (groups_in c.args.groups.now)) (sym c.rows.ensures) c.requires.fits
+add_coded-requires-clause-fits g c = subst (λ n. HaveAtMost (most_values - n) (groups_in c.args.groups.now)) (sym c.rows.ensures) c.requires.room.fits
 
 pub returns-in-Ok-add_coded-clause-ok : goal.returns-in-Ok-add_coded-clause-ok
 returns-in-Ok-add_coded-clause-ok g c =
@@ -74,13 +74,41 @@ returns-in-Err-TooManyGroups-clause-full g c = λ bad.
     (rows-read held head named ids segment c.rows.ensures c.requires.few_rows lengths c.in-Ok.ensures.ids of c.args.query.now)
     (c.add_coded.ensures.full (c.in-Err-TooManyGroups.is ∙ ap Err c.in-Err-TooManyGroups.field-0-is))
 
-pub returns-in_err-columns-clause-log_of_fault : goal.returns-in_err-columns-clause-log_of_fault
-returns-in_err-columns-clause-log_of_fault g c =
-    err_is c.from_residual.result (LogsSome c.args.head.now c.args.named.now (g.S.Shelf.log c.args.shelf.now) (g.S.Shelf.log c.read_columns.new.shelf))
-    (logs_all c.args.head.now c.args.named.now (g.S.Shelf.log c.args.shelf.now) (g.S.Shelf.log c.read_columns.new.shelf) c.in-Ok.ensures.log)
+pub returns-in_err-columns-clause-reads : goal.returns-in_err-columns-clause-reads
+returns-in_err-columns-clause-reads g c = record {
+  only_reads = search rules;
+  log = search rules;
+  log_of_fault =
+      err_is c.from_residual.result (LogsSome c.args.head.now c.args.named.now (g.S.Shelf.log c.args.shelf.now) (g.S.Shelf.log c.read_columns.new.shelf))
+      (logs_all c.args.head.now c.args.named.now (g.S.Shelf.log c.args.shelf.now) (g.S.Shelf.log c.read_columns.new.shelf) c.in-Ok.ensures.reads.log);
+}
 
-pub returns-in-Err-TooManyGroups-clause-log_of_fault : goal.returns-in-Err-TooManyGroups-clause-log_of_fault
-returns-in-Err-TooManyGroups-clause-log_of_fault g c = logs_all c.args.head.now c.args.named.now (g.S.Shelf.log c.args.shelf.now) (g.S.Shelf.log c.read_columns.new.shelf) c.in-Ok.ensures.log
+pub returns-in-Err-TooManyGroups-clause-reads : goal.returns-in-Err-TooManyGroups-clause-reads
+returns-in-Err-TooManyGroups-clause-reads g c = record {
+  only_reads = search rules;
+  log = tt;
+  log_of_fault =
+      logs_all c.args.head.now c.args.named.now (g.S.Shelf.log c.args.shelf.now) (g.S.Shelf.log c.read_columns.new.shelf) c.in-Ok.ensures.reads.log;
+}
 
-pub returns-clause-log_of_fault : goal.returns-clause-log_of_fault
-returns-clause-log_of_fault g c = logs_all c.args.head.now c.args.named.now (g.S.Shelf.log c.args.shelf.now) (g.S.Shelf.log c.read_columns.new.shelf) c.in-Ok.ensures.log
+pub returns-clause-reads : goal.returns-clause-reads
+returns-clause-reads g c = record {
+  only_reads = search rules;
+  log = tt;
+  log_of_fault =
+      logs_all c.args.head.now c.args.named.now (g.S.Shelf.log c.args.shelf.now) (g.S.Shelf.log c.read_columns.new.shelf) c.in-Ok.ensures.reads.log;
+}
+
+pub returns-in-Err-clause-reads : goal.returns-in-Err-clause-reads
+returns-in-Err-clause-reads g c = record {
+  only_reads = search rules;
+  log = tt;
+  log_of_fault = c.in-Err.ensures.reads.log_of_fault;
+}
+
+pub returns-in-Ok-add_coded-clause-reads : goal.returns-in-Ok-add_coded-clause-reads
+returns-in-Ok-add_coded-clause-reads g c = record {
+  only_reads = search rules;
+  log = c.in-Ok.ensures.reads.log;
+  log_of_fault = tt;
+}

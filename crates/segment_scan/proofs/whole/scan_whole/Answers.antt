@@ -1,4 +1,4 @@
-use Rattle.std.proofs.Common.{◌≡◌, ◌∙◌, Bool, List, Option, false, length, get_or, ap, arith}
+use Rattle.std.proofs.Common.{rules, ◌≡◌, ◌∙◌, Bool, List, Option, false, length, get_or, ap, arith}
 use Rattle.outside.specs.Files.{Files}
 use Rattle.column_reader.specs.Forward.{LogsColumns, LogsSome}
 use Rattle.segment_scan.specs.Images.{AddsWhole}
@@ -13,22 +13,23 @@ use Rattle.segment_scan.proofs.whole.scan_whole.Goals as goal
 pub named_columns-requires : goal.named_columns-requires
 named_columns-requires g c = let at_most = c.requires.valid.schema.at_most in omega (arith, at_most, c.len.ensures)
 
-pub scan_columns-requires-clause-at_most : goal.scan_columns-requires-clause-at_most
-scan_columns-requires-clause-at_most g c =
-    let named : List Bool = c.as_slice-named.result.now in
-    let is : named ≡ names_in c.args.query.now c.args.table.now =
-    marks_are c.args.query.now c.args.table.now named c.len.result c.len.ensures (ap length c.as_slice-named.ensures.value ∙ c.in_ok-named.ensures.count) (λ column lt. ap (λ (l : List Bool). get_or l column false) c.as_slice-named.ensures.value ∙ c.in_ok-named.ensures.each column lt) in
-    marks_few c.args.query.now c.args.table.now named is c.requires.valid
+pub scan_columns-requires-clause-readable : goal.scan_columns-requires-clause-readable
+scan_columns-requires-clause-readable g c = record {
+  at_most =
+      let named : List Bool = c.as_slice-named.result.now in
+      let is : named ≡ names_in c.args.query.now c.args.table.now =
+      marks_are c.args.query.now c.args.table.now named c.len.result c.len.ensures (ap length c.as_slice-named.ensures.value ∙ c.in_ok-named.ensures.count) (λ column lt. ap (λ (l : List Bool). get_or l column false) c.as_slice-named.ensures.value ∙ c.in_ok-named.ensures.each column lt) in
+      marks_few c.args.query.now c.args.table.now named is c.requires.valid;
+  each =
+      λ column marked.
+      let named : List Bool = c.as_slice-named.result.now in
+      let is : named ≡ names_in c.args.query.now c.args.table.now =
+      marks_are c.args.query.now c.args.table.now named c.len.result c.len.ensures (ap length c.as_slice-named.ensures.value ∙ c.in_ok-named.ensures.count) (λ column lt. ap (λ (l : List Bool). get_or l column false) c.as_slice-named.ensures.value ∙ c.in_ok-named.ensures.each column lt) in
+      loaded_readable c.args.table.now c.args.head.now column c.requires.of_table (c.requires.loaded column (mark_named c.args.query.now c.args.table.now named is column marked));
+}
 
 pub scan_columns-requires-clause-few_rows : goal.scan_columns-requires-clause-few_rows
 scan_columns-requires-clause-few_rows g c = let at_most = c.requires.of_table.at_most in let rows = c.requires.of_table.has.rows_are in omega (arith, at_most, rows)
-
-pub scan_columns-requires-clause-readable : goal.scan_columns-requires-clause-readable
-scan_columns-requires-clause-readable g c = λ column marked.
-    let named : List Bool = c.as_slice-named.result.now in
-    let is : named ≡ names_in c.args.query.now c.args.table.now =
-    marks_are c.args.query.now c.args.table.now named c.len.result c.len.ensures (ap length c.as_slice-named.ensures.value ∙ c.in_ok-named.ensures.count) (λ column lt. ap (λ (l : List Bool). get_or l column false) c.as_slice-named.ensures.value ∙ c.in_ok-named.ensures.each column lt) in
-    loaded_readable c.args.table.now c.args.head.now column c.requires.of_table (c.requires.loaded column (mark_named c.args.query.now c.args.table.now named is column marked))
 
 pub returns-clause-ok : goal.returns-clause-ok
 returns-clause-ok g c =
@@ -54,25 +55,33 @@ returns-clause-bad g c = λ part bad.
     marks_are c.args.query.now c.args.table.now named c.len.result c.len.ensures (ap length c.as_slice-named.ensures.value ∙ c.in_ok-named.ensures.count) (λ column lt. ap (λ (l : List Bool). get_or l column false) c.as_slice-named.ensures.value ∙ c.in_ok-named.ensures.each column lt) in
     bad_whole c.image_law.ensures c.args.query.now c.args.table.now (g.S.Shelf.held c.args.shelf.now) c.args.head.now c.requires.valid c.requires.of_table c.requires.loaded named is part (c.scan_columns.ensures.bad part bad)
 
-pub returns-clause-log : goal.returns-clause-log
-returns-clause-log g c =
-    let named : List Bool = c.as_slice-named.result.now in
-    let is : named ≡ names_in c.args.query.now c.args.table.now =
-    marks_are c.args.query.now c.args.table.now named c.len.result c.len.ensures (ap length c.as_slice-named.ensures.value ∙ c.in_ok-named.ensures.count) (λ column lt. ap (λ (l : List Bool). get_or l column false) c.as_slice-named.ensures.value ∙ c.in_ok-named.ensures.each column lt) in
-    ok_so c.scan_columns.result (LogsColumns c.args.head.now named (length named) (g.S.Shelf.log c.args.shelf.now) (g.S.Shelf.log c.scan_columns.new.shelf)) (LogsColumns c.args.head.now (names_in c.args.query.now c.args.table.now) (length c.args.table.now.schema.fields) (g.S.Shelf.log c.args.shelf.now) (g.S.Shelf.log c.scan_columns.new.shelf))
-    (logs_names c.args.query.now c.args.table.now named is c.args.head.now (g.S.Shelf.log c.args.shelf.now) (g.S.Shelf.log c.scan_columns.new.shelf))
-    c.scan_columns.ensures.log
+pub returns-clause-reads : goal.returns-clause-reads
+returns-clause-reads g c = record {
+  only_reads = search rules;
+  log =
+      let named : List Bool = c.as_slice-named.result.now in
+      let is : named ≡ names_in c.args.query.now c.args.table.now =
+      marks_are c.args.query.now c.args.table.now named c.len.result c.len.ensures (ap length c.as_slice-named.ensures.value ∙ c.in_ok-named.ensures.count) (λ column lt. ap (λ (l : List Bool). get_or l column false) c.as_slice-named.ensures.value ∙ c.in_ok-named.ensures.each column lt) in
+      ok_so c.scan_columns.result (LogsColumns c.args.head.now named (length named) (g.S.Shelf.log c.args.shelf.now) (g.S.Shelf.log c.scan_columns.new.shelf)) (LogsColumns c.args.head.now (names_in c.args.query.now c.args.table.now) (length c.args.table.now.schema.fields) (g.S.Shelf.log c.args.shelf.now) (g.S.Shelf.log c.scan_columns.new.shelf))
+      (logs_names c.args.query.now c.args.table.now named is c.args.head.now (g.S.Shelf.log c.args.shelf.now) (g.S.Shelf.log c.scan_columns.new.shelf))
+      c.scan_columns.ensures.reads.log;
+  log_of_fault =
+      let named : List Bool = c.as_slice-named.result.now in
+      let is : named ≡ names_in c.args.query.now c.args.table.now =
+      marks_are c.args.query.now c.args.table.now named c.len.result c.len.ensures (ap length c.as_slice-named.ensures.value ∙ c.in_ok-named.ensures.count) (λ column lt. ap (λ (l : List Bool). get_or l column false) c.as_slice-named.ensures.value ∙ c.in_ok-named.ensures.each column lt) in
+      err_so c.scan_columns.result (LogsSome c.args.head.now named (g.S.Shelf.log c.args.shelf.now) (g.S.Shelf.log c.scan_columns.new.shelf)) (LogsSome c.args.head.now (names_in c.args.query.now c.args.table.now) (g.S.Shelf.log c.args.shelf.now) (g.S.Shelf.log c.scan_columns.new.shelf))
+      (logs_as c.args.head.now named (names_in c.args.query.now c.args.table.now) (g.S.Shelf.log c.args.shelf.now) (g.S.Shelf.log c.scan_columns.new.shelf) is)
+      c.scan_columns.ensures.reads.log_of_fault;
+}
 
-pub returns-clause-log_of_fault : goal.returns-clause-log_of_fault
-returns-clause-log_of_fault g c =
-    let named : List Bool = c.as_slice-named.result.now in
-    let is : named ≡ names_in c.args.query.now c.args.table.now =
-    marks_are c.args.query.now c.args.table.now named c.len.result c.len.ensures (ap length c.as_slice-named.ensures.value ∙ c.in_ok-named.ensures.count) (λ column lt. ap (λ (l : List Bool). get_or l column false) c.as_slice-named.ensures.value ∙ c.in_ok-named.ensures.each column lt) in
-    err_so c.scan_columns.result (LogsSome c.args.head.now named (g.S.Shelf.log c.args.shelf.now) (g.S.Shelf.log c.scan_columns.new.shelf)) (LogsSome c.args.head.now (names_in c.args.query.now c.args.table.now) (g.S.Shelf.log c.args.shelf.now) (g.S.Shelf.log c.scan_columns.new.shelf))
-    (logs_as c.args.head.now named (names_in c.args.query.now c.args.table.now) (g.S.Shelf.log c.args.shelf.now) (g.S.Shelf.log c.scan_columns.new.shelf) is)
-    c.scan_columns.ensures.log_of_fault
+pub returns-in_err-named-clause-reads : goal.returns-in_err-named-clause-reads
+returns-in_err-named-clause-reads g c = record {
+  only_reads = search rules;
+  log = search rules;
+  log_of_fault =
+      let log = g.S.Shelf.log c.args.shelf.now in
+      err_is c.from_residual.result (LogsSome c.args.head.now (names_in c.args.query.now c.args.table.now) log log) (logs_none c.args.head.now (names_in c.args.query.now c.args.table.now) log);
+}
 
-pub returns-in_err-named-clause-log_of_fault : goal.returns-in_err-named-clause-log_of_fault
-returns-in_err-named-clause-log_of_fault g c =
-    let log = g.S.Shelf.log c.args.shelf.now in
-    err_is c.from_residual.result (LogsSome c.args.head.now (names_in c.args.query.now c.args.table.now) log log) (logs_none c.args.head.now (names_in c.args.query.now c.args.table.now) log)
+pub scan_columns-requires-clause-room : goal.scan_columns-requires-clause-room
+scan_columns-requires-clause-room g c = record { of_query = c.requires.of_query; fits = c.requires.fits }
