@@ -25,8 +25,8 @@ unfoldable pub short : ℕ → List ℕ
 short n = to_be_bytes w16 n
 
 -- eight bytes
-unfoldable pub lengths : ℕ → List ℕ
-lengths n = to_be_bytes w64 n
+unfoldable pub long : ℕ → List ℕ
+long n = to_be_bytes w64 n
 
 -- ---- where the sections are
 
@@ -66,7 +66,7 @@ file_end table name front = front_size table name + sum front.sizes
 -- the kind and the owner of a section, where it begins and how long it is
 abbrev pub extent_bytes : Extent → List ℕ
 extent_bytes extent = (kind_of extent.part ∷ []) ++ (short (owner_of extent.part)
-    ++ (lengths extent.offset ++ lengths extent.size))
+    ++ (long extent.offset ++ long extent.size))
 
 -- the entries of the sections
 abbrev pub directory : List Extent → List ℕ
@@ -80,7 +80,7 @@ title_bytes front name = codes "STARSEG1" ++ (counted front.format
 -- how many fields and sections there are, and where the head and the file end
 abbrev pub counts_bytes : ℕ → ℕ → ℕ → ℕ → List ℕ
 counts_bytes fields sections head file = short fields ++ (short sections
-    ++ (lengths head ++ lengths file))
+    ++ (long head ++ long file))
 
 -- the header
 abbrev pub header_bytes : Table → List ℕ → Front → List ℕ
