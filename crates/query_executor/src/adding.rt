@@ -7,7 +7,6 @@ ghost use Rattle.segment_reads.specs.Looked.{IsDoneIn};
 ghost use Rattle.segment_opening.specs.Opened.{IsHeadIn, IsSpreadIn};
 ghost use Rattle.query_executor.specs.Passes.{AddsSegment, HasRoomFor, IsLoadedFor};
 
-
 use crate::scanned::{Scanned, nothing};
 use group_table::GroupTable;
 use outside::Shelf;

@@ -16,14 +16,14 @@ returns-clause-loads g c =
 
 pub returns-clause-reads : goal.returns-clause-reads
 returns-clause-reads g c = record {
-  told =     let table = c.args.table.now in
-        let head = c.args.self.now in
-        let held = g.S.Shelf.held c.args.shelf.now in
-        subst (λ h. OfWhole table held head (λ whole. IsPartOf whole h)) (sym c.keep.ensures) (kept_part table head c.args.column c.in-Ok.dictionary held c.in-Ok.ensures.reads.told);
+  told = let table = c.args.table.now in
+      let head = c.args.self.now in
+      let held = g.S.Shelf.held c.args.shelf.now in
+      subst (λ h. OfWhole table held head (λ whole. IsPartOf whole h)) (sym c.keep.ensures) (kept_part table head c.args.column c.in-Ok.dictionary held c.in-Ok.ensures.reads.told);
   refused = tt;
-  only_reads =     let old = seen g.S.Shelf c.args.shelf.now in
-        let new = seen g.S.Shelf c.read_dictionary.new.shelf in
-        reads_ended tt old new (reads_well c.in-Ok.dictionary old new c.in-Ok.ensures.reads.only_reads);
+  only_reads = let old = seen g.S.Shelf c.args.shelf.now in
+      let new = seen g.S.Shelf c.read_dictionary.new.shelf in
+      reads_ended tt old new (reads_well c.in-Ok.dictionary old new c.in-Ok.ensures.reads.only_reads);
 }
 
 pub returns-then-is_some-clause-same : goal.returns-then-is_some-clause-same

@@ -19,8 +19,8 @@ pub returns-then-place-lt4-clause-reads : goal.returns-then-place-lt4-clause-rea
 returns-then-place-lt4-clause-reads g c = record {
   told = tt;
   refused = λ p is. section_few c.args.table.now c.args.self.now c.args.column c.dictionary_section.result.now c.requires.column c.dictionary_section.ensures (g.S.Shelf.held c.args.shelf.now) c.if-place-lt4.true;
-  only_reads =     let old = seen g.S.Shelf c.args.shelf.now in
-        reads_other (NotASegment (Dictionary c.args.column)) old old (other_fault (Dictionary c.args.column)) (reads_none old);
+  only_reads = let old = seen g.S.Shelf c.args.shelf.now in
+      reads_other (NotASegment (Dictionary c.args.column)) old old (other_fault (Dictionary c.args.column)) (reads_none old);
 }
 
 pub returns-then-place-lt4-clause-log : goal.returns-then-place-lt4-clause-log
@@ -38,10 +38,10 @@ pub returns-in-Err-clause-reads : goal.returns-in-Err-clause-reads
 returns-in-Err-clause-reads g c = record {
   told = tt;
   refused = λ p is.
-        let s = c.dictionary_section.result.now in
-        let held = g.S.Shelf.held c.args.shelf.now in
-        section_cut c.args.table.now c.args.self.now c.args.column s c.requires.column c.dictionary_section.ensures held 4 c.if-place-lt4.false
-        (subst (λ f. IfSome held (λ files. length (bytes_of (Some files) f) < s.place.offset + 4)) c.as_str.ensures (c.in-Err.ensures.short p is).1);
+      let s = c.dictionary_section.result.now in
+      let held = g.S.Shelf.held c.args.shelf.now in
+      section_cut c.args.table.now c.args.self.now c.args.column s c.requires.column c.dictionary_section.ensures held 4 c.if-place-lt4.false
+      (subst (λ f. IfSome held (λ files. length (bytes_of (Some files) f) < s.place.offset + 4)) c.as_str.ensures (c.in-Err.ensures.short p is).1);
   only_reads = reads_handed c.in-Err.fault (seen g.S.Shelf c.args.shelf.now) (seen g.S.Shelf c.read_exactly.new.shelf) c.in-Err.ensures.only_reads;
 }
 
@@ -54,15 +54,15 @@ pub returns-then-count-self-clause-reads : goal.returns-then-count-self-clause-r
 returns-then-count-self-clause-reads g c = record {
   told = tt;
   refused = λ p is.
-        let s = c.dictionary_section.result.now in
-        let held = g.S.Shelf.held c.args.shelf.now in
-        count_over c.args.table.now c.args.self.now c.args.column s c.requires.column c.dictionary_section.ensures held c.in-Ok.bytes c.four_at-count.result c.if-place-lt4.false
-        (subst (λ f. IfSome held (λ files. c.in-Ok.bytes ≡ bytes_at files f s.place.offset 4)) c.as_str.ensures c.in-Ok.ensures.bytes)
-        (c.four_at-count.ensures ∙ ap (λ b. from_be_bytes w32 (take 4 b)) c.as_slice.ensures)
-        (omega (arith, c.if-count-self.true, ap (λ h. h.rows) c.self.view_is));
-  only_reads =     let old = seen g.S.Shelf c.args.shelf.now in
-        let new = seen g.S.Shelf c.read_exactly.new.shelf in
-        reads_other (NotASegment (Dictionary c.args.column)) old new (other_fault (Dictionary c.args.column)) (reads_well c.in-Ok.bytes old new c.in-Ok.ensures.only_reads);
+      let s = c.dictionary_section.result.now in
+      let held = g.S.Shelf.held c.args.shelf.now in
+      count_over c.args.table.now c.args.self.now c.args.column s c.requires.column c.dictionary_section.ensures held c.in-Ok.bytes c.four_at-count.result c.if-place-lt4.false
+      (subst (λ f. IfSome held (λ files. c.in-Ok.bytes ≡ bytes_at files f s.place.offset 4)) c.as_str.ensures c.in-Ok.ensures.bytes)
+      (c.four_at-count.ensures ∙ ap (λ b. from_be_bytes w32 (take 4 b)) c.as_slice.ensures)
+      (omega (arith, c.if-count-self.true, ap (λ h. h.rows) c.self.view_is));
+  only_reads = let old = seen g.S.Shelf c.args.shelf.now in
+      let new = seen g.S.Shelf c.read_exactly.new.shelf in
+      reads_other (NotASegment (Dictionary c.args.column)) old new (other_fault (Dictionary c.args.column)) (reads_well c.in-Ok.bytes old new c.in-Ok.ensures.only_reads);
 }
 
 pub returns-then-count-self-clause-log : goal.returns-then-count-self-clause-log
@@ -75,16 +75,16 @@ pub returns-then-self-gt0-clause-reads : goal.returns-then-self-gt0-clause-reads
 returns-then-self-gt0-clause-reads g c = record {
   told = tt;
   refused = λ p is.
-        let s = c.dictionary_section.result.now in
-        let held = g.S.Shelf.held c.args.shelf.now in
-        count_none c.args.table.now c.args.self.now c.args.column s c.requires.column c.dictionary_section.ensures held c.in-Ok.bytes c.four_at-count.result c.if-place-lt4.false
-        (subst (λ f. IfSome held (λ files. c.in-Ok.bytes ≡ bytes_at files f s.place.offset 4)) c.as_str.ensures c.in-Ok.ensures.bytes)
-        (c.four_at-count.ensures ∙ ap (λ b. from_be_bytes w32 (take 4 b)) c.as_slice.ensures)
-        (omega (arith, c.if-count-eq0.true))
-        (omega (arith, c.if-self-gt0.true, ap (λ h. h.rows) c.self.view_is));
-  only_reads =     let old = seen g.S.Shelf c.args.shelf.now in
-        let new = seen g.S.Shelf c.read_exactly.new.shelf in
-        reads_other (NotASegment (Dictionary c.args.column)) old new (other_fault (Dictionary c.args.column)) (reads_well c.in-Ok.bytes old new c.in-Ok.ensures.only_reads);
+      let s = c.dictionary_section.result.now in
+      let held = g.S.Shelf.held c.args.shelf.now in
+      count_none c.args.table.now c.args.self.now c.args.column s c.requires.column c.dictionary_section.ensures held c.in-Ok.bytes c.four_at-count.result c.if-place-lt4.false
+      (subst (λ f. IfSome held (λ files. c.in-Ok.bytes ≡ bytes_at files f s.place.offset 4)) c.as_str.ensures c.in-Ok.ensures.bytes)
+      (c.four_at-count.ensures ∙ ap (λ b. from_be_bytes w32 (take 4 b)) c.as_slice.ensures)
+      (omega (arith, c.if-count-eq0.true))
+      (omega (arith, c.if-self-gt0.true, ap (λ h. h.rows) c.self.view_is));
+  only_reads = let old = seen g.S.Shelf c.args.shelf.now in
+      let new = seen g.S.Shelf c.read_exactly.new.shelf in
+      reads_other (NotASegment (Dictionary c.args.column)) old new (other_fault (Dictionary c.args.column)) (reads_well c.in-Ok.bytes old new c.in-Ok.ensures.only_reads);
 }
 
 pub returns-then-self-gt0-clause-log : goal.returns-then-self-gt0-clause-log
@@ -95,15 +95,15 @@ returns-then-self-gt0-clause-log g c =
 
 pub returns-clause-reads : goal.returns-clause-reads
 returns-clause-reads g c = record {
-  told =     let s = c.dictionary_section.result.now in
-        let held = g.S.Shelf.held c.args.shelf.now in
-        count_whole c.args.table.now c.args.self.now c.args.column s c.requires.column c.dictionary_section.ensures held c.in-Ok.bytes c.four_at-count.result c.if-place-lt4.false
-        (subst (λ f. IfSome held (λ files. c.in-Ok.bytes ≡ bytes_at files f s.place.offset 4)) c.as_str.ensures c.in-Ok.ensures.bytes)
-        (c.four_at-count.ensures ∙ ap (λ b. from_be_bytes w32 (take 4 b)) c.as_slice.ensures);
+  told = let s = c.dictionary_section.result.now in
+      let held = g.S.Shelf.held c.args.shelf.now in
+      count_whole c.args.table.now c.args.self.now c.args.column s c.requires.column c.dictionary_section.ensures held c.in-Ok.bytes c.four_at-count.result c.if-place-lt4.false
+      (subst (λ f. IfSome held (λ files. c.in-Ok.bytes ≡ bytes_at files f s.place.offset 4)) c.as_str.ensures c.in-Ok.ensures.bytes)
+      (c.four_at-count.ensures ∙ ap (λ b. from_be_bytes w32 (take 4 b)) c.as_slice.ensures);
   refused = tt;
-  only_reads =     let old = seen g.S.Shelf c.args.shelf.now in
-        let new = seen g.S.Shelf c.read_exactly.new.shelf in
-        reads_ended c.four_at-count.result old new (reads_well c.in-Ok.bytes old new c.in-Ok.ensures.only_reads);
+  only_reads = let old = seen g.S.Shelf c.args.shelf.now in
+      let new = seen g.S.Shelf c.read_exactly.new.shelf in
+      reads_ended c.four_at-count.result old new (reads_well c.in-Ok.bytes old new c.in-Ok.ensures.only_reads);
 }
 
 pub returns-clause-log : goal.returns-clause-log

@@ -44,17 +44,17 @@ pub returns-in-Err-read_exactly-clause-reads : goal.returns-in-Err-read_exactly-
 returns-in-Err-read_exactly-clause-reads g c = record {
   told = tt;
   refused = λ p is.
-        let table = c.args.table.now in
-        let head = c.args.self.now in
-        let t = c.args.tree in
-        let s = c.nodes_section.result.now in
-        let held = g.S.Shelf.held c.args.shelf.now in
-        nodes_cut table head t s c.requires.tree c.nodes_section.ensures held
-        (subst (λ f. IfSome held (λ files. length (bytes_of (Some files) f) < s.place.offset + s.place.length)) c.as_str-file.ensures
-        (subst (λ h. IfSome h (λ files. length (bytes_of (Some files) c.as_str-file.result.now) < s.place.offset + s.place.length)) c.in-Ok.ensures.reads.only_reads.held (c.in-Err-read_exactly.ensures.short p is).1));
-  only_reads =     let old = seen g.S.Shelf c.args.shelf.now in
-        let between = seen g.S.Shelf c.split_counts.new.shelf in
-        reads_err c.in-Err-read_exactly.fault old between (seen g.S.Shelf c.read_exactly.new.shelf) (reads_well c.in-Ok.counts old between c.in-Ok.ensures.reads.only_reads) c.in-Err-read_exactly.ensures.only_reads;
+      let table = c.args.table.now in
+      let head = c.args.self.now in
+      let t = c.args.tree in
+      let s = c.nodes_section.result.now in
+      let held = g.S.Shelf.held c.args.shelf.now in
+      nodes_cut table head t s c.requires.tree c.nodes_section.ensures held
+      (subst (λ f. IfSome held (λ files. length (bytes_of (Some files) f) < s.place.offset + s.place.length)) c.as_str-file.ensures
+      (subst (λ h. IfSome h (λ files. length (bytes_of (Some files) c.as_str-file.result.now) < s.place.offset + s.place.length)) c.in-Ok.ensures.reads.only_reads.held (c.in-Err-read_exactly.ensures.short p is).1));
+  only_reads = let old = seen g.S.Shelf c.args.shelf.now in
+      let between = seen g.S.Shelf c.split_counts.new.shelf in
+      reads_err c.in-Err-read_exactly.fault old between (seen g.S.Shelf c.read_exactly.new.shelf) (reads_well c.in-Ok.counts old between c.in-Ok.ensures.reads.only_reads) c.in-Err-read_exactly.ensures.only_reads;
 }
 
 pub returns-in-Err-read_exactly-clause-log : goal.returns-in-Err-read_exactly-clause-log
@@ -85,25 +85,25 @@ check_tree-requires g c =
 
 pub returns-in-Ok-check_tree-clause-reads : goal.returns-in-Ok-check_tree-clause-reads
 returns-in-Ok-check_tree-clause-reads g c = record {
-  told =     let table = c.args.table.now in
-        let head = c.args.self.now in
-        let t = c.args.tree in
-        let s = c.nodes_section.result.now in
-        let held = g.S.Shelf.held c.args.shelf.now in
-        let tree = c.at.result.now in
-        let counts = c.in-Ok.counts.items in
-        let bytes = c.in-Ok-read_exactly.bytes in
-        let setting = c.at.ensures in
-        let have : OfWhole table held head (HaveCounts tree.split counts) = subst (λ xs. OfWhole table held head (HaveCounts xs counts)) (split_is table t tree setting) c.in-Ok.ensures.reads.told in
-        let read : IfSome held (λ files. bytes ≡ bytes_at files s.place.file s.place.offset s.place.length) =
-        subst (λ f. IfSome held (λ files. bytes ≡ bytes_at files f s.place.offset s.place.length)) c.as_str-file.ensures
-        (subst (λ h. IfSome h (λ files. bytes ≡ bytes_at files c.as_str-file.result.now s.place.offset s.place.length)) c.in-Ok.ensures.reads.only_reads.held c.in-Ok-read_exactly.ensures.bytes) in
-        nodes_whole table head t s tree c.requires.valid c.requires.tree c.nodes_section.ensures setting held bytes counts c.in-Ok-check_tree.nodes read have (c.in-Ok-check_tree.ensures.said ∙ ap nodes_said c.as_slice.ensures);
+  told = let table = c.args.table.now in
+      let head = c.args.self.now in
+      let t = c.args.tree in
+      let s = c.nodes_section.result.now in
+      let held = g.S.Shelf.held c.args.shelf.now in
+      let tree = c.at.result.now in
+      let counts = c.in-Ok.counts.items in
+      let bytes = c.in-Ok-read_exactly.bytes in
+      let setting = c.at.ensures in
+      let have : OfWhole table held head (HaveCounts tree.split counts) = subst (λ xs. OfWhole table held head (HaveCounts xs counts)) (split_is table t tree setting) c.in-Ok.ensures.reads.told in
+      let read : IfSome held (λ files. bytes ≡ bytes_at files s.place.file s.place.offset s.place.length) =
+      subst (λ f. IfSome held (λ files. bytes ≡ bytes_at files f s.place.offset s.place.length)) c.as_str-file.ensures
+      (subst (λ h. IfSome h (λ files. bytes ≡ bytes_at files c.as_str-file.result.now s.place.offset s.place.length)) c.in-Ok.ensures.reads.only_reads.held c.in-Ok-read_exactly.ensures.bytes) in
+      nodes_whole table head t s tree c.requires.valid c.requires.tree c.nodes_section.ensures setting held bytes counts c.in-Ok-check_tree.nodes read have (c.in-Ok-check_tree.ensures.said ∙ ap nodes_said c.as_slice.ensures);
   refused = tt;
-  only_reads =     let old = seen g.S.Shelf c.args.shelf.now in
-        let between = seen g.S.Shelf c.split_counts.new.shelf in
-        let new = seen g.S.Shelf c.read_exactly.new.shelf in
-        reads_ended _ old new (reads_after ⊥ old between new (reads_well c.in-Ok.counts old between c.in-Ok.ensures.reads.only_reads) (reads_well c.in-Ok-read_exactly.bytes between new c.in-Ok-read_exactly.ensures.only_reads));
+  only_reads = let old = seen g.S.Shelf c.args.shelf.now in
+      let between = seen g.S.Shelf c.split_counts.new.shelf in
+      let new = seen g.S.Shelf c.read_exactly.new.shelf in
+      reads_ended _ old new (reads_after ⊥ old between new (reads_well c.in-Ok.counts old between c.in-Ok.ensures.reads.only_reads) (reads_well c.in-Ok-read_exactly.bytes between new c.in-Ok-read_exactly.ensures.only_reads));
 }
 
 pub returns-in-Ok-check_tree-clause-log : goal.returns-in-Ok-check_tree-clause-log
@@ -125,27 +125,27 @@ pub returns-in-Err-check_tree-clause-reads : goal.returns-in-Err-check_tree-clau
 returns-in-Err-check_tree-clause-reads g c = record {
   told = tt;
   refused = λ p is.
-        let table = c.args.table.now in
-        let head = c.args.self.now in
-        let t = c.args.tree in
-        let s = c.nodes_section.result.now in
-        let held = g.S.Shelf.held c.args.shelf.now in
-        let tree = c.at.result.now in
-        let counts = c.in-Ok.counts.items in
-        let bytes = c.in-Ok-read_exactly.bytes in
-        let setting = c.at.ensures in
-        let have : OfWhole table held head (HaveCounts tree.split counts) = subst (λ xs. OfWhole table held head (HaveCounts xs counts)) (split_is table t tree setting) c.in-Ok.ensures.reads.told in
-        let read : IfSome held (λ files. bytes ≡ bytes_at files s.place.file s.place.offset s.place.length) =
-        subst (λ f. IfSome held (λ files. bytes ≡ bytes_at files f s.place.offset s.place.length)) c.as_str-file.ensures
-        (subst (λ h. IfSome h (λ files. bytes ≡ bytes_at files c.as_str-file.result.now s.place.offset s.place.length)) c.in-Ok.ensures.reads.only_reads.held c.in-Ok-read_exactly.ensures.bytes) in
-        let bad = bad_nodes c.in-Err-check_tree.fault c.of_nodes.result p c.of_nodes.ensures.memory is in
-        nodes_none table head t s tree c.requires.valid c.requires.tree c.nodes_section.ensures setting held bytes counts read have
-        (λ are. c.in-Err-check_tree.ensures.bad (ap Err bad) (nodes_as _ _ _ _ _ _ _ (sym c.deref.ensures.value) (sym (ap (λ h. h.rows) c.self.view_is)) (sym c.as_slice.ensures) are));
-  only_reads =     let old = seen g.S.Shelf c.args.shelf.now in
-        let between = seen g.S.Shelf c.split_counts.new.shelf in
-        let new = seen g.S.Shelf c.read_exactly.new.shelf in
-        reads_other c.of_nodes.result old new c.of_nodes.ensures.read
-        (reads_after ⊥ old between new (reads_well c.in-Ok.counts old between c.in-Ok.ensures.reads.only_reads) (reads_well c.in-Ok-read_exactly.bytes between new c.in-Ok-read_exactly.ensures.only_reads));
+      let table = c.args.table.now in
+      let head = c.args.self.now in
+      let t = c.args.tree in
+      let s = c.nodes_section.result.now in
+      let held = g.S.Shelf.held c.args.shelf.now in
+      let tree = c.at.result.now in
+      let counts = c.in-Ok.counts.items in
+      let bytes = c.in-Ok-read_exactly.bytes in
+      let setting = c.at.ensures in
+      let have : OfWhole table held head (HaveCounts tree.split counts) = subst (λ xs. OfWhole table held head (HaveCounts xs counts)) (split_is table t tree setting) c.in-Ok.ensures.reads.told in
+      let read : IfSome held (λ files. bytes ≡ bytes_at files s.place.file s.place.offset s.place.length) =
+      subst (λ f. IfSome held (λ files. bytes ≡ bytes_at files f s.place.offset s.place.length)) c.as_str-file.ensures
+      (subst (λ h. IfSome h (λ files. bytes ≡ bytes_at files c.as_str-file.result.now s.place.offset s.place.length)) c.in-Ok.ensures.reads.only_reads.held c.in-Ok-read_exactly.ensures.bytes) in
+      let bad = bad_nodes c.in-Err-check_tree.fault c.of_nodes.result p c.of_nodes.ensures.memory is in
+      nodes_none table head t s tree c.requires.valid c.requires.tree c.nodes_section.ensures setting held bytes counts read have
+      (λ are. c.in-Err-check_tree.ensures.bad (ap Err bad) (nodes_as _ _ _ _ _ _ _ (sym c.deref.ensures.value) (sym (ap (λ h. h.rows) c.self.view_is)) (sym c.as_slice.ensures) are));
+  only_reads = let old = seen g.S.Shelf c.args.shelf.now in
+      let between = seen g.S.Shelf c.split_counts.new.shelf in
+      let new = seen g.S.Shelf c.read_exactly.new.shelf in
+      reads_other c.of_nodes.result old new c.of_nodes.ensures.read
+      (reads_after ⊥ old between new (reads_well c.in-Ok.counts old between c.in-Ok.ensures.reads.only_reads) (reads_well c.in-Ok-read_exactly.bytes between new c.in-Ok-read_exactly.ensures.only_reads));
 }
 
 pub returns-in-Err-check_tree-clause-log : goal.returns-in-Err-check_tree-clause-log
