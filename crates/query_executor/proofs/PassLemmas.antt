@@ -19,7 +19,8 @@ use Rattle.segment_reads.proofs.GrownLemmas.{each_as}
 use Rattle.segment_reads.proofs.LogLemmas.{entries_none, logs_none}
 use Rattle.query_executor.proofs.OneReads.{one_less}
 use Rattle.segment_reads.proofs.SpanLemmas.{planned_less}
-use Rattle.query_executor.specs.Passes.{AddsSegment, LooksAtHead, LooksAtHeads, PassReads, TextReads}
+use Rattle.segment_opening.specs.Calls.{LooksAtHead}
+use Rattle.query_executor.specs.Passes.{AddsSegment, LooksAtHeads, PassReads, TextReads}
 use Rattle.query_executor.specs.declared.fault.ExecutorFault.{ExecutorFault}
 use Rattle.query_executor.specs.declared.fault.ExecutorFault.TheVariants.{NotASegment, ReadFault, Sql}
 use Rattle.query_executor.proofs.EndLemmas.{Done, Failed, fault_not, fault_ok, memory_not_bad, memory_not_full, memory_not_read, no_fault, own_fault, reads_done, reads_failed, reads_lacking, reads_still, reads_unread}

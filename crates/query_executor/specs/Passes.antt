@@ -1,6 +1,6 @@
 -- What is asked of a query over the segments of a table, and what a pass over them gives, is
 -- refused by and reads.
-use Rattle.std.specs.Prelude.{◌≡◌, ◌≢◌, ◌≤◌, ◌<◌, ◌-◌, true, false, ℕ, Bool, List, [], Option, None, Result, Ok, Err, IfSome, IsErrOf, OnErr, OnOk, get_or, length}
+use Rattle.std.specs.Prelude.{◌≡◌, ◌≤◌, ◌<◌, ◌-◌, true, false, ℕ, Bool, List, [], Option, None, Result, Ok, Err, IfSome, IsErrOf, OnErr, OnOk, get_or, length}
 use Rattle.std.specs.List.{All}
 use Rattle.agg_laws.specs.Numbers.{most_values}
 use Rattle.outside.specs.Files.{Files}
@@ -23,9 +23,10 @@ use Rattle.segment_head.specs.declared.fault.EngineFault.TheVariants as engine
 use Rattle.sql_reply.specs.Asked.{asked}
 use Rattle.sql_reply.specs.Reply.{most_groups}
 use Rattle.sql_reply.specs.declared.fault.SqlFault.{SqlFault}
-use Rattle.segment_reads.specs.Logs.{LogsHeadOf, LogsHeadsOf, LogsIn, LogsOf}
+use Rattle.segment_reads.specs.Logs.{LogsHeadsOf, LogsIn, LogsOf}
 use Rattle.segment_reads.specs.Reads.{LogsEach, LogsOne, ReadsPlanned}
 use Rattle.segment_head.specs.Stored.{HasNoImage}
+use Rattle.segment_opening.specs.Calls.{IsQueryOnHead}
 use Rattle.query_executor.specs.Lines.{stats_line}
 use Rattle.query_executor.specs.Steps.{AddsStored, HasGroups, HasLines, IsStoredOverfull}
 use Rattle.query_executor.specs.declared.fault.ExecutorFault.{ExecutorFault}
@@ -57,7 +58,7 @@ pub record HasRoomFor (query : BoundQuery) (groups : KeptGroups) : Type 0 where
 
 -- the head of a segment is loaded as far as the plan for a query, and the plan's work, ask
 pub record IsLoadedFor (query : BoundQuery) (table : Table) (head : heads.Seen) : Type 0 where
-  pub of_table : heads.IsHeadOf table head
+  pub asked : IsQueryOnHead query table head
   pub filtered : AreLoaded query.conjuncts head
   pub grouped : AreGroupsLoaded query.groups head
   pub named : picked query table.settings.trees ≡ None → AreNamedLoaded query head
@@ -78,15 +79,6 @@ pub record AddsSegment {A : Type 0} (query : BoundQuery) (table : Table) (name :
       (LogsOne (ReadsPlanned query table true) table old.held name old.log new.log)
   pub reads_of_fault : OnErr result
       (LogsOne (ReadsPlanned query table false) table old.held name old.log new.log)
-
--- the head of the segment of this name alone was read, or it is refused
-pub record LooksAtHead {A : Type 0} (table : Table) (name : List ℕ) (old new : Seen)
-    (result : Result A EngineFault) : Type 0 where
-  pub bad : (part : Part) → result ≡ Err (engine.NotASegment part)
-      → IfSome old.held (λ files. HasNoImage table files name)
-  pub never_full : result ≢ Err engine.TooManyGroups
-  pub only_reads : OnlyReads (IsErrOf result engine.ReadFault) old new
-  pub log : LogsHeadOf table old.held name old.log new.log
 
 -- ---- the segments of a table
 

@@ -1,14 +1,11 @@
 //! The rows of a segment whose head is loaded are added to the groups of a query.
-ghost use Rattle.std.specs.Prelude.{◌≡◌, IfOk, List, ℕ};
+ghost use Rattle.std.specs.Prelude.{IfOk, List, ℕ};
 ghost use Rattle.outside.specs.Seen.{seen};
 ghost use Rattle.segment_file.specs.Names.{file_of};
 ghost use Rattle.segment_head.specs.Heads.{AreIn};
-ghost use Rattle.table_schema.specs.ValidQuery.{IsValidQuery};
-ghost use Rattle.table_schema.specs.ValidTable.{IsValidTable};
 ghost use Rattle.segment_reads.specs.Looked.{IsDoneIn};
 ghost use Rattle.segment_opening.specs.Opened.{IsHeadIn, IsSpreadIn};
 ghost use Rattle.query_executor.specs.Passes.{AddsSegment, HasRoomFor, IsLoadedFor};
-ghost use Rattle.query_executor.specs.Steps as spec;
 
 use crate::scanned::{Scanned, nothing};
 use group_table::GroupTable;
@@ -29,8 +26,6 @@ pub fn add_planned<S: Shelf>(
     query: &BoundQuery,
     groups: &mut GroupTable,
 ) -> Result<Scanned, EngineFault>
-    requires valid { IsValidTable table.now }
-    requires query { IsValidQuery table.now query.now }
     requires room { HasRoomFor query.now groups.old }
     requires loaded { IsLoadedFor query.now table.now head.now }
     ensures adds { (name : List ℕ) → IsHeadIn table.now (S.held shelf.old) name head.now →

@@ -5,7 +5,8 @@ ghost use Rattle.table_schema.specs.ValidTable.{IsValidTable};
 ghost use Rattle.segment_plan.specs.Explained.{IsDetailed, explained_by};
 ghost use Rattle.segment_plan.specs.Plan.{plan_of};
 ghost use Rattle.query_executor.specs.Lines.{line_by, plan_line};
-ghost use Rattle.query_executor.specs.Passes.{IsQueryOf, LooksAtHead};
+ghost use Rattle.segment_opening.specs.Calls.{LooksAtHead};
+ghost use Rattle.query_executor.specs.Passes.{IsQueryOf};
 ghost use Rattle.query_executor.specs.Steps.{AddsLine, IsPlannedIn};
 
 use eligibility::pick;

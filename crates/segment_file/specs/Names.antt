@@ -1,6 +1,8 @@
 -- The names of segments.
 use Rattle.std.specs.Prelude.{◌≡◌, ℕ, Bool, true, ◌==◌, ◌&&◌, ◌||◌, nat_le, nat_lt, List, length, codes, ◌++◌}
 use Rattle.std.specs.List.{list_all}
+use Rattle.table_schema.specs.ValidTable.{IsValidTable}
+use Rattle.table_schema.specs.declared.table.Table.{Table}
 
 -- a letter, a digit, `_` or `-`
 abbrev pub is_name_byte : ℕ → Bool
@@ -17,6 +19,11 @@ pub record IsSegmentName (name : List ℕ) : Type 0 where
 abbrev pub is_segment_name : List ℕ → Bool
 is_segment_name name = nat_lt 0 (length name) && nat_le (length name) 64
     && list_all is_name_byte name
+
+-- this may be the name of a segment of the table
+pub record IsSegmentOf (table : Table) (text : List ℕ) : Type 0 where
+  pub valid : IsValidTable table
+  pub name : IsSegmentName text
 
 -- the file that a segment is published as
 abbrev pub file_of : List ℕ → List ℕ

@@ -1,5 +1,6 @@
 pub mod Reading
 pub mod Heads
+pub mod Calls
 pub mod Laws
 pub mod Stored
 pub mod Faults

@@ -1,10 +1,9 @@
 //! The bytes of a head are looked at.
 ghost use Rattle.std.specs.Prelude.{◌≡◌, ◌≤◌, ◌<◌, ◌+◌, ◌^◌, List, ℕ, take, drop, map, length, sum, Some, IfOk, IfErr, IsErrOf, MatchBool, OnOk, ◌≢◌, ◌++◌};
-ghost use Rattle.table_schema.specs.ValidTable.{IsValidTable};
 ghost use Rattle.segment_file.specs.Bounds.{bounds_bytes, bounds_of, ends_of};
-ghost use Rattle.segment_file.specs.Front.{extents_from, file_end, head_end};
+ghost use Rattle.segment_file.specs.Front.{extents_from, head_end};
+ghost use Rattle.segment_head.specs.Calls.{MayBeFront};
 ghost use Rattle.segment_head.specs.Heads.{IsHead, IsPlaced, placed};
-ghost use Rattle.segment_file.specs.Parts.{sections_of};
 ghost use Rattle.segment_file.specs.Rules.{FailsAt, HasFront};
 ghost use Rattle.segment_file.specs.declared.part.Part.{Part};
 ghost use Rattle.segment_file.specs.declared.fault.HeadFault.TheVariants.{NotASegment};
@@ -29,12 +28,7 @@ pub fn check_head(
     parts: &[Part],
     bytes: &[u8],
 ) -> Result<Head, HeadFault>
-    requires valid { IsValidTable table.now }
-    requires name { length name.now ≤ 64 }
-    requires parts { parts.now ≡ sections_of table.now }
-    requires each { length front.now.sizes ≡ length parts.now }
-    requires rows { front.now.rows ≤ 1048576 }
-    requires short { file_end table.now name.now front.now < 2 ^ 64 }
+    requires { MayBeFront table.now name.now front.now parts.now }
     ensures ok { IfOk result (λ head. (whole : List ℕ) →
         HasFront table.now name.now whole front.now →
         bytes.now ≡ take (head_end table.now name.now front.now) whole →

@@ -1,10 +1,9 @@
 //! The dictionaries of a head that is open are loaded.
-ghost use Rattle.std.specs.Prelude.{◌≡◌, ◌≤◌, ◌<◌, ◌+◌, IfOk, IfErr, IfSome, MatchOption, OnErr, IsErrOf, None, Some, length, slice_get};
+ghost use Rattle.std.specs.Prelude.{◌≡◌, ◌≤◌, ◌<◌, ◌+◌, IfOk, IfSome, MatchOption, OnErr, None, Some, length, slice_get};
 ghost use Rattle.outside.specs.Reads.{LogsUpTo};
-ghost use Rattle.outside.specs.Seen.{OnlyReads, seen};
-ghost use Rattle.segment_head.specs.Heads.{HasCount, IsHeadOf, IsLoaded, IsPartOf, Loads, OfWhole, dictionary_section, with_dictionary};
-ghost use Rattle.segment_file.specs.declared.fault.HeadFault.TheVariants.{NotASegment};
-ghost use Rattle.segment_file.specs.declared.part.Part.{Part};
+ghost use Rattle.outside.specs.Seen.{seen};
+ghost use Rattle.segment_head.specs.Calls.{IsColumnOf, ReadsPart};
+ghost use Rattle.segment_head.specs.Heads.{HasCount, IsHeadOf, IsLoaded, IsPartOf, Loads, dictionary_section, with_dictionary};
 
 use crate::Head;
 use crate::dictionaries::{check_dictionary, of_dictionary};
@@ -23,17 +22,12 @@ impl Head {
         table: &Table,
         column: u16,
     ) -> Result<(), HeadFault>
-        requires opened { IsHeadOf table.now self.old }
-        requires column { column < length table.now.schema.fields }
+        requires { IsColumnOf table.now self.old column }
         ensures loads { IfOk result (λ _. Loads column self.old self.new) }
         ensures same { OnErr result (self.new ≡ self.old) }
         ensures of { IsHeadOf table.now self.new }
-        ensures part { IfOk result (λ _. OfWhole table.now (S.held shelf.old) self.old
-            (λ whole. IsPartOf whole self.new)) }
-        ensures refused { IfErr result (λ fault. (p : Part) → fault ≡ NotASegment p →
-            OfWhole table.now (S.held shelf.old) self.old (λ _. ⊥)) }
-        ensures only_reads { OnlyReads (IsErrOf result HeadFault.ReadFault)
-            (seen S.Shelf shelf.old) (seen S.Shelf shelf.new) }
+        ensures reads { ReadsPart (λ _ whole. IsPartOf whole self.new) table.now self.old
+            (seen S.Shelf shelf.old) (seen S.Shelf shelf.new) result }
         ensures log { IfSome (dictionary_section self.old column) (λ s.
             LogsUpTo s.place.file s.place.offset (s.place.offset + s.place.length)
             (S.log shelf.old) (S.log shelf.new)) }
@@ -60,15 +54,10 @@ impl Head {
         table: &Table,
         column: u16,
     ) -> Result<u32, HeadFault>
-        requires opened { IsHeadOf table.now self.now }
-        requires column { column < length table.now.schema.fields }
-        ensures count { IfOk result (λ n. OfWhole table.now (S.held shelf.old) self.now
-            (HasCount column n)) }
+        requires { IsColumnOf table.now self.now column }
+        ensures reads { ReadsPart (HasCount column) table.now self.now
+            (seen S.Shelf shelf.old) (seen S.Shelf shelf.new) result }
         ensures loaded { IfOk result (λ n. IsLoaded self.now column → HasCount column n self.now) }
-        ensures refused { IfErr result (λ fault. (p : Part) → fault ≡ NotASegment p →
-            OfWhole table.now (S.held shelf.old) self.now (λ _. ⊥)) }
-        ensures only_reads { OnlyReads (IsErrOf result HeadFault.ReadFault)
-            (seen S.Shelf shelf.old) (seen S.Shelf shelf.new) }
         ensures log { IfSome (dictionary_section self.now column) (λ s.
             LogsUpTo s.place.file s.place.offset (s.place.offset + 4)
             (S.log shelf.old) (S.log shelf.new)) }
@@ -88,15 +77,10 @@ impl Head {
         table: &Table,
         column: u16,
     ) -> Result<u32, HeadFault>
-        requires opened { IsHeadOf table.now self.now }
-        requires column { column < length table.now.schema.fields }
-        ensures count { IfOk result (λ n. OfWhole table.now (S.held shelf.old) self.now
-            (HasCount column n)) }
+        requires { IsColumnOf table.now self.now column }
+        ensures reads { ReadsPart (HasCount column) table.now self.now
+            (seen S.Shelf shelf.old) (seen S.Shelf shelf.new) result }
         ensures at_most { IfOk result (λ n. n ≤ self.now.rows) }
-        ensures refused { IfErr result (λ fault. (p : Part) → fault ≡ NotASegment p →
-            OfWhole table.now (S.held shelf.old) self.now (λ _. ⊥)) }
-        ensures only_reads { OnlyReads (IsErrOf result HeadFault.ReadFault)
-            (seen S.Shelf shelf.old) (seen S.Shelf shelf.new) }
         ensures log { IfSome (dictionary_section self.now column) (λ s.
             LogsUpTo s.place.file s.place.offset (s.place.offset + 4)
             (S.log shelf.old) (S.log shelf.new)) }
@@ -127,14 +111,9 @@ impl Head {
         table: &Table,
         column: u16,
     ) -> Result<Dictionary, HeadFault>
-        requires opened { IsHeadOf table.now self.now }
-        requires column { column < length table.now.schema.fields }
-        ensures dictionary { IfOk result (λ d. OfWhole table.now (S.held shelf.old) self.now
-            (λ whole. slice_get whole.dictionaries column ≡ Some (Some d))) }
-        ensures refused { IfErr result (λ fault. (p : Part) → fault ≡ NotASegment p →
-            OfWhole table.now (S.held shelf.old) self.now (λ _. ⊥)) }
-        ensures only_reads { OnlyReads (IsErrOf result HeadFault.ReadFault)
-            (seen S.Shelf shelf.old) (seen S.Shelf shelf.new) }
+        requires { IsColumnOf table.now self.now column }
+        ensures reads { ReadsPart (λ d whole. slice_get whole.dictionaries column ≡ Some (Some d))
+            table.now self.now (seen S.Shelf shelf.old) (seen S.Shelf shelf.new) result }
         ensures log { IfSome (dictionary_section self.now column) (λ s.
             LogsUpTo s.place.file s.place.offset (s.place.offset + s.place.length)
             (S.log shelf.old) (S.log shelf.new)) }

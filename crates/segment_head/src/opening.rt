@@ -1,14 +1,7 @@
 //! The head of a segment's file is read.
-ghost use Rattle.std.specs.Prelude.{◌≡◌, IfOk, IfErr, IfSome, IsErrOf, Some};
-ghost use Rattle.outside.specs.Files.{bytes_of};
-ghost use Rattle.outside.specs.Seen.{OnlyReads, seen};
-ghost use Rattle.table_schema.specs.ValidTable.{IsValidTable};
-ghost use Rattle.segment_head.specs.Heads.{IsHead, IsHeadOf, LogsHead};
-ghost use Rattle.segment_file.specs.Names.{IsSegmentName};
-ghost use Rattle.segment_file.specs.Parts.{sections_of};
-ghost use Rattle.segment_file.specs.Rules.{FailsAt};
-ghost use Rattle.segment_file.specs.declared.fault.HeadFault.TheVariants.{NotASegment};
-ghost use Rattle.segment_file.specs.declared.part.Part.{Part};
+ghost use Rattle.outside.specs.Seen.{seen};
+ghost use Rattle.segment_file.specs.Names.{IsSegmentOf};
+ghost use Rattle.segment_head.specs.Calls.{ReadsHead};
 
 use crate::{Head, check_head};
 use outside::Shelf;
@@ -26,18 +19,9 @@ pub fn read_head<S: Shelf>(
     name: &str,
     table: &Table,
 ) -> Result<Head, HeadFault>
-    requires valid { IsValidTable table.now }
-    requires name { IsSegmentName name.now }
-    ensures of { IfOk result (IsHeadOf table.now) }
-    ensures head { IfOk result (λ head. IfSome (S.held shelf.old) (λ files.
-        IsHead table.now name.now file.now (bytes_of (Some files) file.now) head)) }
-    ensures refused { IfErr result (λ fault. (p : Part) → fault ≡ NotASegment p →
-        IfSome (S.held shelf.old) (λ files.
-        FailsAt table.now name.now (bytes_of (Some files) file.now) p)) }
-    ensures only_reads { OnlyReads (IsErrOf result HeadFault.ReadFault)
-        (seen S.Shelf shelf.old) (seen S.Shelf shelf.new) }
-    ensures log { LogsHead table.now name.now file.now (S.held shelf.old)
-        (S.log shelf.old) (S.log shelf.new) }
+    requires { IsSegmentOf table.now name.now }
+    ensures { ReadsHead table.now name.now file.now
+        (seen S.Shelf shelf.old) (seen S.Shelf shelf.new) result }
 {
     let parts = sections_of(alloc, table)?;
     let read = match read_front(alloc, shelf, file, name, table, &parts) {

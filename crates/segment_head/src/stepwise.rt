@@ -3,13 +3,12 @@ ghost use Rattle.std.specs.Prelude.{◌≡◌, ◌<◌, ◌+◌, ◌^◌, [], Li
 ghost use Rattle.outside.specs.Files.{bytes_of};
 ghost use Rattle.outside.specs.Reads.{LogsUpTo};
 ghost use Rattle.outside.specs.Seen.{OnlyReads, seen};
-ghost use Rattle.table_schema.specs.ValidTable.{IsValidTable};
 ghost use Rattle.segment_file.specs.Bounds.{AreBounds, bounded};
 ghost use Rattle.segment_file.specs.Front.{bounds_end, extents_from, front_size};
-ghost use Rattle.segment_head.specs.Heads as spec;
-ghost use Rattle.segment_head.specs.Heads.{AreIn, IsBare, IsHead, IsHeadOf, IsOpened, IsPartOf, LogsOpened, placed};
-ghost use Rattle.segment_file.specs.Rules.{KeepsRules, heads_in};
-ghost use Rattle.segment_file.specs.Names.{IsSegmentName};
+ghost use Rattle.segment_file.specs.Names.{IsSegmentOf};
+ghost use Rattle.segment_head.specs.Calls.{OpensHead};
+ghost use Rattle.segment_head.specs.Heads.{placed};
+ghost use Rattle.segment_file.specs.Rules.{heads_in};
 ghost use Rattle.segment_file.specs.Reading.{IsFrontOf};
 ghost use Rattle.segment_file.specs.declared.bounds.Ends.{Ends};
 ghost use Rattle.segment_file.specs.declared.fault.HeadFault.TheVariants.{NotASegment};
@@ -32,23 +31,9 @@ pub fn open_head<S: Shelf>(
     name: &str,
     table: &Table,
 ) -> Result<Head, HeadFault>
-    requires valid { IsValidTable table.now }
-    requires name { IsSegmentName name.now }
-    ensures of { IfOk result (IsHeadOf table.now) }
-    ensures bare { IfOk result IsBare }
-    ensures placed { IfOk result (λ head. AreIn file.now head.sections) }
-    ensures opened { IfOk result (λ head. IfSome (S.held shelf.old) (λ files.
-        IsOpened table.now name.now file.now (bytes_of (Some files) file.now) head)) }
-    ensures part { IfOk result (λ head. IfSome (S.held shelf.old) (λ files. (whole : spec.Seen) →
-        IsHead table.now name.now file.now (bytes_of (Some files) file.now) whole →
-        IsPartOf whole head)) }
-    ensures refused { IfErr result (λ fault. (p : Part) → fault ≡ NotASegment p →
-        IfSome (S.held shelf.old) (λ files.
-        ¬ KeepsRules table.now name.now (bytes_of (Some files) file.now))) }
-    ensures only_reads { OnlyReads (IsErrOf result HeadFault.ReadFault)
-        (seen S.Shelf shelf.old) (seen S.Shelf shelf.new) }
-    ensures log { LogsOpened table.now name.now file.now (S.held shelf.old)
-        (S.log shelf.old) (S.log shelf.new) }
+    requires { IsSegmentOf table.now name.now }
+    ensures { OpensHead table.now name.now file.now
+        (seen S.Shelf shelf.old) (seen S.Shelf shelf.new) result }
 {
     let parts = sections_of(alloc, table)?;
     let read = match read_front(alloc, shelf, file, name, table, &parts) {

@@ -1,10 +1,8 @@
 //! The nodes of a tree of a head that is open are read.
-ghost use Rattle.std.specs.Prelude.{◌≡◌, ◌<◌, ◌≤◌, ◌+◌, ◌++◌, ◌∷◌, [], IfOk, IfErr, IfSome, OnOk, IsErrOf, Some, length, slice_get};
-ghost use Rattle.outside.specs.Seen.{OnlyReads, seen};
-ghost use Rattle.table_schema.specs.ValidTable.{IsValidTable};
-ghost use Rattle.segment_head.specs.Heads.{AreKept, HaveCounts, IsHeadOf, LogsCounts, LogsTree, OfWhole, nodes_section, split_of};
-ghost use Rattle.segment_file.specs.declared.fault.HeadFault.TheVariants.{NotASegment};
-ghost use Rattle.segment_file.specs.declared.part.Part.{Part};
+ghost use Rattle.std.specs.Prelude.{◌≡◌, ◌<◌, ◌≤◌, ◌+◌, ◌++◌, ◌∷◌, [], IfOk, IfSome, OnOk, Some, length, slice_get};
+ghost use Rattle.outside.specs.Seen.{seen};
+ghost use Rattle.segment_head.specs.Calls.{IsTreeOf, ReadsPart};
+ghost use Rattle.segment_head.specs.Heads.{AreKept, HaveCounts, LogsCounts, LogsTree, OfWhole, nodes_section, split_of};
 
 use crate::trees::of_nodes;
 use crate::{Head, NoMemory};
@@ -31,19 +29,13 @@ impl Head {
         table: &Table,
         tree: u8,
     ) -> Result<OpenTree, HeadFault>
-        requires valid { IsValidTable table.now }
-        requires opened { IsHeadOf table.now self.now }
-        requires tree { tree < length table.now.settings.trees }
-        ensures nodes { IfOk result (λ t. OfWhole table.now (S.held shelf.old) self.now
-            (λ whole. slice_get whole.trees tree ≡ Some (Some t.nodes))) }
+        requires { IsTreeOf table.now self.now tree }
+        ensures reads { ReadsPart (λ t whole. slice_get whole.trees tree ≡ Some (Some t.nodes))
+            table.now self.now (seen S.Shelf shelf.old) (seen S.Shelf shelf.new) result }
         ensures counts { IfOk result (λ t. OfWhole table.now (S.held shelf.old) self.now
             (HaveCounts (split_of table.now tree) t.counts.items)) }
         ensures keeps { IfOk result (λ t. IfSome (slice_get table.now.settings.trees tree)
             (λ setting. AreKept setting.shape t.counts.items t.nodes)) }
-        ensures refused { IfErr result (λ fault. (p : Part) → fault ≡ NotASegment p →
-            OfWhole table.now (S.held shelf.old) self.now (λ _. ⊥)) }
-        ensures only_reads { OnlyReads (IsErrOf result HeadFault.ReadFault)
-            (seen S.Shelf shelf.old) (seen S.Shelf shelf.new) }
         ensures log { LogsTree table.now self.now tree (S.log shelf.old) (S.log shelf.new) }
     {
         let counts = match self.split_counts(alloc, shelf, table, tree) {
@@ -71,17 +63,11 @@ impl Head {
         table: &Table,
         tree: u8,
     ) -> Result<Vec<u32>, HeadFault>
-        requires valid { IsValidTable table.now }
-        requires opened { IsHeadOf table.now self.now }
-        requires tree { tree < length table.now.settings.trees }
-        ensures counts { IfOk result (λ counts. OfWhole table.now (S.held shelf.old) self.now
-            (HaveCounts (split_of table.now tree) counts.items)) }
+        requires { IsTreeOf table.now self.now tree }
+        ensures reads { ReadsPart (λ counts. HaveCounts (split_of table.now tree) counts.items)
+            table.now self.now (seen S.Shelf shelf.old) (seen S.Shelf shelf.new) result }
         ensures each { IfOk result (λ counts. length counts.items
             ≡ length (split_of table.now tree)) }
-        ensures refused { IfErr result (λ fault. (p : Part) → fault ≡ NotASegment p →
-            OfWhole table.now (S.held shelf.old) self.now (λ _. ⊥)) }
-        ensures only_reads { OnlyReads (IsErrOf result HeadFault.ReadFault)
-            (seen S.Shelf shelf.old) (seen S.Shelf shelf.new) }
         ensures log { LogsCounts self.now (split_of table.now tree)
             (S.log shelf.old) (S.log shelf.new) }
     {

@@ -1,16 +1,11 @@
 //! The dictionaries of a segment that a query wants are loaded.
-ghost use Rattle.std.specs.Prelude.{◌≡◌, ◌≢◌, ◌<◌, true, false, Err, IfSome, IsErrOf, List, ℕ, OnOk, get_or, length};
-ghost use Rattle.outside.specs.Seen.{OnlyReads, seen};
-ghost use Rattle.segment_head.specs.Heads.{AreIn, IsHeadOf, IsLoaded};
-ghost use Rattle.segment_file.specs.declared.part.Part.{Part};
+ghost use Rattle.std.specs.Prelude.{◌≡◌, ◌<◌, true, false, IfSome, ℕ, OnOk, get_or, length};
+ghost use Rattle.outside.specs.Seen.{seen};
+ghost use Rattle.segment_head.specs.Heads.{IsHeadOf, IsLoaded};
 ghost use Rattle.segment_plan.specs.Matched.{AreLoaded};
 ghost use Rattle.segment_plan.specs.Named.{AreGroupsLoaded, AreNamedLoaded};
-ghost use Rattle.segment_head.specs.declared.fault.EngineFault.TheVariants.{NotASegment, ReadFault, TooManyGroups};
-ghost use Rattle.table_schema.specs.ValidQuery.{IsValidQuery};
 ghost use Rattle.table_schema.specs.ValidTable.{IsValidTable};
-ghost use Rattle.segment_reads.specs.Logs.{DictionariesEnd, EndsBy, LogsThat};
-ghost use Rattle.segment_head.specs.Stored.{HasNoImage};
-ghost use Rattle.segment_opening.specs.Opened.{Grows, IsHeadIn};
+ghost use Rattle.segment_opening.specs.Calls.{IsQueryOnHead, LoadsMore};
 ghost use Rattle.segment_opening.specs.Wanted.{AreFactorsLoaded};
 
 use crate::wanted::{detailed_columns, wanted_columns};
@@ -30,22 +25,12 @@ pub fn load_wanted<S: Shelf>(
     by_tree: bool,
     head: &mut Head,
 ) -> Result<(), EngineFault>
-    requires valid { IsValidTable table.now }
-    requires query { IsValidQuery table.now query.now }
-    requires of_table { IsHeadOf table.now head.old }
-    ensures grows { OnOk result (Grows table.now (S.held shelf.old) head.old head.new) }
+    requires { IsQueryOnHead query.now table.now head.old }
+    ensures loads { LoadsMore table.now result head.old head.new
+        (seen S.Shelf shelf.old) (seen S.Shelf shelf.new) }
     ensures filtered { OnOk result (AreLoaded query.now.conjuncts head.new) }
     ensures grouped { OnOk result (AreGroupsLoaded query.now.groups head.new) }
     ensures named { OnOk result (by_tree ≡ false → AreNamedLoaded query.now head.new) }
-    ensures bad { (part : Part) → result ≡ Err (NotASegment part) → (name : List ℕ) →
-        IsHeadIn table.now (S.held shelf.old) name head.old →
-        IfSome (S.held shelf.old) (λ files. HasNoImage table.now files name) }
-    ensures never_full { result ≢ Err TooManyGroups }
-    ensures only_reads { OnlyReads (IsErrOf result ReadFault)
-        (seen S.Shelf shelf.old) (seen S.Shelf shelf.new) }
-    ensures log { (file : List ℕ) (end : ℕ) → AreIn file head.old.sections →
-        DictionariesEnd table.now head.old end →
-        LogsThat (EndsBy file end) (S.log shelf.old) (S.log shelf.new) }
 {
     let wanted = wanted_columns(alloc, query, by_tree, table.schema.fields.len())?;
     load_marked(alloc, shelf, table, wanted.as_slice(), head)
@@ -62,22 +47,12 @@ pub fn load_detailed<S: Shelf>(
     tree: Option<u8>,
     head: &mut Head,
 ) -> Result<(), EngineFault>
-    requires valid { IsValidTable table.now }
-    requires query { IsValidQuery table.now query.now }
-    requires of_table { IsHeadOf table.now head.old }
+    requires asked { IsQueryOnHead query.now table.now head.old }
     requires tree { IfSome tree (λ n. n < length table.now.settings.trees) }
-    ensures grows { OnOk result (Grows table.now (S.held shelf.old) head.old head.new) }
+    ensures loads { LoadsMore table.now result head.old head.new
+        (seen S.Shelf shelf.old) (seen S.Shelf shelf.new) }
     ensures filtered { OnOk result (AreLoaded query.now.conjuncts head.new) }
     ensures factors { OnOk result (AreFactorsLoaded query.now table.now tree head.new) }
-    ensures bad { (part : Part) → result ≡ Err (NotASegment part) → (name : List ℕ) →
-        IsHeadIn table.now (S.held shelf.old) name head.old →
-        IfSome (S.held shelf.old) (λ files. HasNoImage table.now files name) }
-    ensures never_full { result ≢ Err TooManyGroups }
-    ensures only_reads { OnlyReads (IsErrOf result ReadFault)
-        (seen S.Shelf shelf.old) (seen S.Shelf shelf.new) }
-    ensures log { (file : List ℕ) (end : ℕ) → AreIn file head.old.sections →
-        DictionariesEnd table.now head.old end →
-        LogsThat (EndsBy file end) (S.log shelf.old) (S.log shelf.new) }
 {
     let detailed = detailed_columns(alloc, query, table, tree, table.schema.fields.len())?;
     load_marked(alloc, shelf, table, detailed.as_slice(), head)
@@ -94,18 +69,10 @@ fn load_marked<S: Shelf>(
     requires valid { IsValidTable table.now }
     requires of_table { IsHeadOf table.now head.old }
     requires each { length marks.now ≡ length table.now.schema.fields }
-    ensures grows { OnOk result (Grows table.now (S.held shelf.old) head.old head.new) }
+    ensures loads { LoadsMore table.now result head.old head.new
+        (seen S.Shelf shelf.old) (seen S.Shelf shelf.new) }
     ensures loaded { OnOk result ((column : ℕ) → column < length table.now.schema.fields →
         get_or marks.now column false ≡ true → IsLoaded head.new column) }
-    ensures bad { (part : Part) → result ≡ Err (NotASegment part) → (name : List ℕ) →
-        IsHeadIn table.now (S.held shelf.old) name head.old →
-        IfSome (S.held shelf.old) (λ files. HasNoImage table.now files name) }
-    ensures never_full { result ≢ Err TooManyGroups }
-    ensures only_reads { OnlyReads (IsErrOf result ReadFault)
-        (seen S.Shelf shelf.old) (seen S.Shelf shelf.new) }
-    ensures log { (file : List ℕ) (end : ℕ) → AreIn file head.old.sections →
-        DictionariesEnd table.now head.old end →
-        LogsThat (EndsBy file end) (S.log shelf.old) (S.log shelf.new) }
 {
     'columns: for column in 0..table.schema.fields.len() {
         match load_if(alloc, shelf, table, marks[column], column as u16, head) {
@@ -127,17 +94,9 @@ fn load_if<S: Shelf>(
 ) -> Result<(), EngineFault>
     requires of_table { IsHeadOf table.now head.old }
     requires column { column < length table.now.schema.fields }
-    ensures grows { OnOk result (Grows table.now (S.held shelf.old) head.old head.new) }
-    ensures loaded { OnOk result (marked ≡ true → IsLoaded head.new column) }
-    ensures bad { (part : Part) → result ≡ Err (NotASegment part) → (name : List ℕ) →
-        IsHeadIn table.now (S.held shelf.old) name head.old →
-        IfSome (S.held shelf.old) (λ files. HasNoImage table.now files name) }
-    ensures never_full { result ≢ Err TooManyGroups }
-    ensures only_reads { OnlyReads (IsErrOf result ReadFault)
+    ensures loads { LoadsMore table.now result head.old head.new
         (seen S.Shelf shelf.old) (seen S.Shelf shelf.new) }
-    ensures log { (file : List ℕ) (end : ℕ) → AreIn file head.old.sections →
-        DictionariesEnd table.now head.old end →
-        LogsThat (EndsBy file end) (S.log shelf.old) (S.log shelf.new) }
+    ensures loaded { OnOk result (marked ≡ true → IsLoaded head.new column) }
 {
     if !marked {
         return Ok(());

@@ -1,5 +1,6 @@
 //! Of which columns of a segment the dictionaries are wanted for a query.
-ghost use Rattle.std.specs.Prelude.{◌≡◌, ◌<◌, ◌≤◌, false, IfOk, IfSome, None, ℕ, Some, get_or, length};
+ghost use Rattle.std.specs.Prelude.{◌≡◌, ◌<◌, ◌≤◌, IfSome, None, Some, length};
+ghost use Rattle.segment_plan.specs.Named.{MarksColumns};
 ghost use Rattle.segment_opening.specs.Wanted as spec;
 ghost use Rattle.table_schema.specs.ValidTable.{IsValidTable};
 
@@ -15,9 +16,8 @@ pub fn wanted_columns(
     count: usize,
 ) -> Result<Vec<bool>, AllocError>
     requires { count ≤ 65535 }
-    ensures count { IfOk result (λ marks. length marks.items ≡ count) }
-    ensures each { IfOk result (λ marks. (column : ℕ) → column < count
-        → get_or marks.items column false ≡ spec.is_wanted query.now by_tree column) }
+    ensures { MarksColumns count result (λ marks. marks.items)
+        (spec.is_wanted query.now by_tree) }
 {
     if !by_tree {
         return named_columns(alloc, query, &[], count);
@@ -48,9 +48,8 @@ pub fn detailed_columns(
     requires valid { IsValidTable table.now }
     requires tree { IfSome tree (λ n. n < length table.now.settings.trees) }
     requires at_most { count ≤ 65535 }
-    ensures count { IfOk result (λ marks. length marks.items ≡ count) }
-    ensures each { IfOk result (λ marks. (column : ℕ) → column < count → get_or marks.items column
-        false ≡ spec.is_detailed query.now (spec.tree_at table.now tree) column) }
+    ensures { MarksColumns count result (λ marks. marks.items)
+        (spec.is_detailed query.now (spec.tree_at table.now tree)) }
 {
     match tree {
         Some(number) => {
@@ -68,9 +67,7 @@ fn filtered_columns(
     count: usize,
 ) -> Result<Vec<bool>, AllocError>
     requires { count ≤ 65535 }
-    ensures count { IfOk result (λ marks. length marks.items ≡ count) }
-    ensures each { IfOk result (λ marks. (column : ℕ) → column < count → get_or marks.items column
-        false ≡ spec.is_detailed query.now None column) }
+    ensures { MarksColumns count result (λ marks. marks.items) (spec.is_detailed query.now None) }
 {
     let mut marks = Vec::with_capacity(alloc, count)?;
     for column in 0..count {
@@ -88,9 +85,8 @@ fn tree_columns(
 ) -> Result<Vec<bool>, AllocError>
     requires split { length tree.now.split ≤ 16 }
     requires at_most { count ≤ 65535 }
-    ensures count { IfOk result (λ marks. length marks.items ≡ count) }
-    ensures each { IfOk result (λ marks. (column : ℕ) → column < count → get_or marks.items column
-        false ≡ spec.is_detailed query.now (Some tree.now) column) }
+    ensures { MarksColumns count result (λ marks. marks.items)
+        (spec.is_detailed query.now (Some tree.now)) }
 {
     let mut marks = Vec::with_capacity(alloc, count)?;
     for column in 0..count {

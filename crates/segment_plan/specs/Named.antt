@@ -1,5 +1,5 @@
 -- Which columns a query names, and whether their dictionaries were loaded.
-use Rattle.std.specs.Prelude.{◌≡◌, ℕ, Bool, true, false, ◌||◌, ◌==◌, List, length, map}
+use Rattle.std.specs.Prelude.{◌≡◌, ◌<◌, ℕ, Bool, true, false, ◌||◌, ◌==◌, List, length, map, get_or, Result, IfOk}
 use Rattle.std.specs.List.{list_any, range_with_len}
 use Rattle.std.specs.Option.{option_map_or}
 use Rattle.table_schema.specs.declared.query.Agg.{Agg}
@@ -53,3 +53,10 @@ names_in query table = map (query_names query) (range_with_len 0 (length table.s
 -- the dictionary of each group column was loaded
 abbrev pub AreGroupsLoaded : List ℕ → Seen → Type 0
 AreGroupsLoaded groups head = (column : ℕ) → is_member groups column ≡ true → IsLoaded head column
+
+-- marks for so many columns are made, each whether the column passes
+pub record MarksColumns {A E : Type 0} (columns : ℕ) (result : Result A E) (items : A → List Bool)
+    (passes : ℕ → Bool) : Type 0 where
+  pub count : IfOk result (λ marks. length (items marks) ≡ columns)
+  pub each : IfOk result (λ marks. (column : ℕ) → column < columns
+      → get_or (items marks) column false ≡ passes column)

@@ -1,6 +1,6 @@
 //! Which columns a query names.
 
-ghost use Rattle.std.specs.Prelude.{◌≡◌, ◌<◌, ◌≤◌, ◌&&◌, ℕ, IfOk, false, get_or, length, not};
+ghost use Rattle.std.specs.Prelude.{◌≡◌, ◌≤◌, ◌&&◌, not};
 ghost use Rattle.std.specs.List.{list_any};
 ghost use Rattle.segment_plan.specs.Named as spec;
 ghost use Rattle.segment_plan.specs.Served.{is_served, rest_of, unserved};
@@ -20,10 +20,8 @@ pub fn named_columns(
     count: usize,
 ) -> Result<Vec<bool>, NoMemory>
     requires { count ≤ 65535 }
-    ensures count { IfOk result (λ named. length named.items ≡ count) }
-    ensures each { IfOk result (λ named. (column : ℕ) → column < count
-        → get_or named.items column false
-        ≡ spec.query_names (rest_of query.now choices.now) column) }
+    ensures { spec.MarksColumns count result (λ named. named.items)
+        (spec.query_names (rest_of query.now choices.now)) }
 {
     let mut named = Vec::with_capacity(alloc, count)?;
     for column in 0..count {

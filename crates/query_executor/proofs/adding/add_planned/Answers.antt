@@ -46,7 +46,7 @@ tree_plan query table tells law valid query_valid files name head t is loaded in
     is ∙ law query table (ordered table.settings.sorted rows) head query_valid (tells table i.name i.file rows i.whole head valid i.named i.can i.is_head i.part) (inr loaded)
 
 pub plan-requires : goal.plan-requires
-plan-requires g c = record { valid = c.requires.valid; loaded = c.requires.loaded.filtered }
+plan-requires g c = record { valid = c.requires.loaded.asked.valid; loaded = c.requires.loaded.filtered }
 
 pub scan_segment-requires : goal.scan_segment-requires
 scan_segment-requires g c =
@@ -56,11 +56,11 @@ scan_segment-requires g c =
     let planned = planned_as query table head c.in_ok-plan.field-0 (Scan c.in-Scan.plan) c.in-Scan.is c.in_ok-plan.ensures in
     record {
       scans = record {
-        valid = c.requires.valid;
-        of_table = c.requires.loaded.of_table;
+        valid = c.requires.loaded.asked.valid;
+        of_table = c.requires.loaded.asked.of_table;
         loaded = c.requires.loaded.named (scan_unpicked query table head c.in-Scan.plan planned);
         of_query = c.requires.room.of_query;
-        fits = room table head c.args.groups.now c.requires.loaded.of_table c.requires.room.fits;
+        fits = room table head c.args.groups.now c.requires.loaded.asked.of_table c.requires.room.fits;
       };
       planned = scan_planned query table head c.in-Scan.plan planned;
     }
@@ -73,14 +73,14 @@ answer_segment-requires g c =
     let tree = c.in-StarTree.tree in
     let planned = planned_as query table head c.in_ok-plan.field-0 (StarTree tree) c.in-StarTree.is c.in_ok-plan.ensures in
     record {
-      valid = c.requires.valid;
-      of_table = c.requires.loaded.of_table;
-      query = c.requires.query;
+      valid = c.requires.loaded.asked.valid;
+      of_table = c.requires.loaded.asked.of_table;
+      query = c.requires.loaded.asked.query;
       picked = tree_planned query table head tree planned;
       loaded = c.requires.loaded.filtered;
       groups_loaded = c.requires.loaded.grouped;
       of_query = c.requires.room.of_query;
-      fits = room table head c.args.groups.now c.requires.loaded.of_table c.requires.room.fits;
+      fits = room table head c.args.groups.now c.requires.loaded.asked.of_table c.requires.room.fits;
     }
 
 pub returns-in_err-plan : goal.returns-in_err-plan
@@ -99,7 +99,7 @@ returns-in_err-plan g c =
         log = logs_none (λ other. other ≡ file_of name) a.log;
         reads = fault_ok _ r engine.NoMemory _ is;
         reads_of_fault = on-err r (LogsOne (ReadsPlanned query table false) table a.held name a.log a.log)
-            (given_up query table name c.docs_bound_law.ensures.bound c.requires.valid a.held a.log a.log (none_one query table name a.held a.log));
+            (given_up query table name c.docs_bound_law.ensures.bound c.requires.loaded.asked.valid a.held a.log a.log (none_one query table name a.held a.log));
       };
       done = fault_if _ r engine.NoMemory _ is;
     }
@@ -118,18 +118,18 @@ returns-in-Ok g c =
     let chosen = scan_planned query table head plan planned in
     record {
       adds = λ name is spread inside. record {
-        added = adds_scanned query table name head a.held c.args.groups.now c.scan_segment.new.groups c.requires.loaded.of_table c.in-Ok.ensures.ok is;
+        added = adds_scanned query table name head a.held c.args.groups.now c.scan_segment.new.groups c.requires.loaded.asked.of_table c.in-Ok.ensures.ok is;
         full = λ e. absurd (no_fault _ _ engine.TooManyGroups e);
         bad = λ part e. absurd (no_fault _ _ (engine.NotASegment part) e);
         only_reads = reads_done _ _ docs _ engine.ReadFault a b c.in-Ok.ensures.reads.only_reads;
-        log = scan_in_file query table head (file_of name) inside a.held c.requires.loaded.of_table named _ a.log b.log c.in-Ok.ensures.reads.log;
-        reads = scan_one query table name c.image_law.ensures c.index_law.ensures c.requires.valid head c.requires.loaded.of_table named plan chosen
-            (λ files rows has in_file. scan_plan query table c.head_tells_law.ensures c.plan_over_law.ensures c.requires.valid c.requires.query files name head plan planned c.requires.loaded.filtered in_file rows has)
+        log = scan_in_file query table head (file_of name) inside a.held c.requires.loaded.asked.of_table named _ a.log b.log c.in-Ok.ensures.reads.log;
+        reads = scan_one query table name c.image_law.ensures c.index_law.ensures c.requires.loaded.asked.valid head c.requires.loaded.asked.of_table named plan chosen
+            (λ files rows has in_file. scan_plan query table c.head_tells_law.ensures c.plan_over_law.ensures c.requires.loaded.asked.valid c.requires.loaded.asked.query files name head plan planned c.requires.loaded.filtered in_file rows has)
             a.held docs a.log b.log is spread c.in-Ok.ensures.reads.log;
         reads_of_fault = tt;
       };
       done = λ name is.
-          done_so query table c.head_tells_law.ensures c.plan_over_law.ensures c.requires.valid c.requires.query a.held name head (Scan plan) docs planned (inr c.requires.loaded.filtered)
+          done_so query table c.head_tells_law.ensures c.plan_over_law.ensures c.requires.loaded.asked.valid c.requires.loaded.asked.query a.held name head (Scan plan) docs planned (inr c.requires.loaded.filtered)
           (scan_looked query table a.held head plan docs chosen c.in-Ok.ensures.count) is;
     }
 
@@ -151,10 +151,10 @@ returns-in-Err g c =
         full = λ e. overfull_scanned query table name head a.held c.args.groups.now (c.in-Err.ensures.full (ap Err (own_fault _ fault engine.TooManyGroups e))) is;
         bad = λ part e. bad_scanned query table name head a.held part (c.in-Err.ensures.bad part (ap Err (own_fault _ fault (engine.NotASegment part) e))) is;
         only_reads = reads_failed _ _ fault engine.ReadFault a b c.in-Err.ensures.reads.only_reads;
-        log = scan_partly query table head (file_of name) inside a.held c.requires.loaded.of_table named a.log b.log c.in-Err.ensures.reads.log_of_fault;
+        log = scan_partly query table head (file_of name) inside a.held c.requires.loaded.asked.of_table named a.log b.log c.in-Err.ensures.reads.log_of_fault;
         reads = tt;
-        reads_of_fault = scan_given_up query table name c.image_law.ensures c.index_law.ensures c.requires.valid head c.requires.loaded.of_table named plan chosen
-            (λ files rows has in_file. scan_plan query table c.head_tells_law.ensures c.plan_over_law.ensures c.requires.valid c.requires.query files name head plan planned c.requires.loaded.filtered in_file rows has)
+        reads_of_fault = scan_given_up query table name c.image_law.ensures c.index_law.ensures c.requires.loaded.asked.valid head c.requires.loaded.asked.of_table named plan chosen
+            (λ files rows has in_file. scan_plan query table c.head_tells_law.ensures c.plan_over_law.ensures c.requires.loaded.asked.valid c.requires.loaded.asked.query files name head plan planned c.requires.loaded.filtered in_file rows has)
             a.held a.log b.log is spread c.in-Err.ensures.reads.log_of_fault;
       };
       done = tt;
@@ -168,10 +168,10 @@ returns-in-Pruned g c =
     let a : outside.Seen = seen g.S.Shelf c.args.shelf.now in
     let planned = planned_as query table head c.in_ok-plan.field-0 Pruned c.in-Pruned.is c.in_ok-plan.ensures in
     let all : (name : List ℕ) → IsHeadIn table a.held name head → IsDoneIn query table a.held name c.nothing.result.plan c.nothing.result.docs =
-    λ name is. none_done query table c.head_tells_law.ensures c.plan_over_law.ensures c.requires.valid c.requires.query a.held name head c.nothing.result.plan Pruned c.nothing.result.docs c.nothing.ensures.plan planned (inr c.requires.loaded.filtered) (λ rows. refl) c.nothing.ensures.none is in
+    λ name is. none_done query table c.head_tells_law.ensures c.plan_over_law.ensures c.requires.loaded.asked.valid c.requires.loaded.asked.query a.held name head c.nothing.result.plan Pruned c.nothing.result.docs c.nothing.ensures.plan planned (inr c.requires.loaded.filtered) (λ rows. refl) c.nothing.ensures.none is in
     record {
       adds = λ name is spread inside. record {
-        added = adds_none query table name head c.head_tells_law.ensures c.requires.valid a.held c.args.groups.now c.requires.room.of_query (λ rows tells. c.pruned_law.ensures query table rows head tells (is_pruned_so query table head planned)) is;
+        added = adds_none query table name head c.head_tells_law.ensures c.requires.loaded.asked.valid a.held c.args.groups.now c.requires.room.of_query (λ rows tells. c.pruned_law.ensures query table rows head tells (is_pruned_so query table head planned)) is;
         full = λ e. absurd (no_fault _ _ engine.TooManyGroups e);
         bad = λ part e. absurd (no_fault _ _ (engine.NotASegment part) e);
         only_reads = reads_unread _ a (λ e. no_fault _ _ engine.ReadFault e);
@@ -190,10 +190,10 @@ returns-in-Empty g c =
     let a : outside.Seen = seen g.S.Shelf c.args.shelf.now in
     let planned = planned_as query table head c.in_ok-plan.field-0 Empty c.in-Empty.is c.in_ok-plan.ensures in
     let all : (name : List ℕ) → IsHeadIn table a.held name head → IsDoneIn query table a.held name c.nothing-in-Empty.result.plan c.nothing-in-Empty.result.docs =
-    λ name is. none_done query table c.head_tells_law.ensures c.plan_over_law.ensures c.requires.valid c.requires.query a.held name head c.nothing-in-Empty.result.plan Empty c.nothing-in-Empty.result.docs c.nothing-in-Empty.ensures.plan planned (inr c.requires.loaded.filtered) (λ rows. refl) c.nothing-in-Empty.ensures.none is in
+    λ name is. none_done query table c.head_tells_law.ensures c.plan_over_law.ensures c.requires.loaded.asked.valid c.requires.loaded.asked.query a.held name head c.nothing-in-Empty.result.plan Empty c.nothing-in-Empty.result.docs c.nothing-in-Empty.ensures.plan planned (inr c.requires.loaded.filtered) (λ rows. refl) c.nothing-in-Empty.ensures.none is in
     record {
       adds = λ name is spread inside. record {
-        added = adds_none query table name head c.head_tells_law.ensures c.requires.valid a.held c.args.groups.now c.requires.room.of_query (λ rows tells. c.empty_law.ensures query.conjuncts table rows head tells c.requires.loaded.filtered (is_empty_so query table head planned)) is;
+        added = adds_none query table name head c.head_tells_law.ensures c.requires.loaded.asked.valid a.held c.args.groups.now c.requires.room.of_query (λ rows tells. c.empty_law.ensures query.conjuncts table rows head tells c.requires.loaded.filtered (is_empty_so query table head planned)) is;
         full = λ e. absurd (no_fault _ _ engine.TooManyGroups e);
         bad = λ part e. absurd (no_fault _ _ (engine.NotASegment part) e);
         only_reads = reads_unread _ a (λ e. no_fault _ _ engine.ReadFault e);
@@ -217,17 +217,17 @@ returns-in-Ok-answer_segment g c =
     let docs = c.in-Ok-answer_segment.read in
     record {
       adds = λ name is spread inside. record {
-        added = adds_answered query table name head a.held c.args.groups.now c.answer_segment.new.groups c.requires.loaded.of_table c.in-Ok-answer_segment.ensures.ok is;
+        added = adds_answered query table name head a.held c.args.groups.now c.answer_segment.new.groups c.requires.loaded.asked.of_table c.in-Ok-answer_segment.ensures.ok is;
         full = λ e. absurd (no_fault _ _ engine.TooManyGroups e);
         bad = λ part e. absurd (no_fault _ _ (engine.NotASegment part) e);
         only_reads = reads_as a b c.in-Ok-answer_segment.ensures.only_reads (λ e. absurd (no_fault _ _ engine.ReadFault e)) (λ e. absurd (no_fault _ docs engine.ReadFault e));
-        log = answer_in_file table c.requires.valid head c.requires.loaded.of_table (file_of name) inside query a.held tree docs a.log b.log within c.in-Ok-answer_segment.ensures.log;
-        reads = tree_one query table name c.docs_bound_law.ensures.bound c.requires.valid head c.requires.loaded.of_table tree within a.held docs a.log b.log
-            (λ files rows has in_file. tree_plan query table c.head_tells_law.ensures c.plan_over_law.ensures c.requires.valid c.requires.query files name head tree planned c.requires.loaded.filtered in_file rows has) is spread c.in-Ok-answer_segment.ensures.log;
+        log = answer_in_file table c.requires.loaded.asked.valid head c.requires.loaded.asked.of_table (file_of name) inside query a.held tree docs a.log b.log within c.in-Ok-answer_segment.ensures.log;
+        reads = tree_one query table name c.docs_bound_law.ensures.bound c.requires.loaded.asked.valid head c.requires.loaded.asked.of_table tree within a.held docs a.log b.log
+            (λ files rows has in_file. tree_plan query table c.head_tells_law.ensures c.plan_over_law.ensures c.requires.loaded.asked.valid c.requires.loaded.asked.query files name head tree planned c.requires.loaded.filtered in_file rows has) is spread c.in-Ok-answer_segment.ensures.log;
         reads_of_fault = tt;
       };
       done = λ name is.
-          done_so query table c.head_tells_law.ensures c.plan_over_law.ensures c.requires.valid c.requires.query a.held name head (StarTree tree) docs planned (inr c.requires.loaded.filtered)
+          done_so query table c.head_tells_law.ensures c.plan_over_law.ensures c.requires.loaded.asked.valid c.requires.loaded.asked.query a.held name head (StarTree tree) docs planned (inr c.requires.loaded.filtered)
           (tree_looked query table a.held head tree docs c.in-Ok-answer_segment.ensures.count.told) is;
     }
 
@@ -252,10 +252,10 @@ returns-in-Err-answer_segment g c =
             bad_answered query table name head a.held
             (c.in-Err-answer_segment.ensures.bad part (ap Err (own_fault _ fault (engine.NotASegment part) e))) is;
         only_reads = reads_failed _ _ fault engine.ReadFault a b c.in-Err-answer_segment.ensures.only_reads;
-        log = answer_partly table c.requires.valid head c.requires.loaded.of_table (file_of name) inside query a.held tree a.log b.log within c.in-Err-answer_segment.ensures.log_of_fault;
+        log = answer_partly table c.requires.loaded.asked.valid head c.requires.loaded.asked.of_table (file_of name) inside query a.held tree a.log b.log within c.in-Err-answer_segment.ensures.log_of_fault;
         reads = tt;
-        reads_of_fault = tree_given_up query table name c.docs_bound_law.ensures.bound c.requires.valid head c.requires.loaded.of_table tree within a.held a.log b.log
-            (λ files rows has in_file. tree_plan query table c.head_tells_law.ensures c.plan_over_law.ensures c.requires.valid c.requires.query files name head tree planned c.requires.loaded.filtered in_file rows has) is spread c.in-Err-answer_segment.ensures.log_of_fault;
+        reads_of_fault = tree_given_up query table name c.docs_bound_law.ensures.bound c.requires.loaded.asked.valid head c.requires.loaded.asked.of_table tree within a.held a.log b.log
+            (λ files rows has in_file. tree_plan query table c.head_tells_law.ensures c.plan_over_law.ensures c.requires.loaded.asked.valid c.requires.loaded.asked.query files name head tree planned c.requires.loaded.filtered in_file rows has) is spread c.in-Err-answer_segment.ensures.log_of_fault;
       };
       done = tt;
     }

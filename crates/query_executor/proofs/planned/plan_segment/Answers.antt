@@ -16,9 +16,7 @@ open_segment-requires g c = record { valid = c.requires.valid; name = c.requires
 
 pub load_detailed-requires : goal.load_detailed-requires
 load_detailed-requires g c = record {
-  valid = c.requires.valid;
-  query = c.requires.query;
-  of_table = c.in-Ok.ensures.of;
+  asked = record { valid = c.requires.valid; query = c.requires.query; of_table = c.in-Ok.ensures.opened.of };
   tree = picked_is_within c.args.query.now c.args.table.now.settings.trees c.pick-tree.result (c.pick-tree.ensures ∙ ap (picked c.args.query.now) c.as_slice.ensures);
 }
 
@@ -33,10 +31,10 @@ returns-in-Err g c =
     record {
       planned = tt;
       looks = record {
-        bad = λ part is. c.in-Err.ensures.bad part (ap Err (own_fault _ fault (engine.NotASegment part) is));
-        never_full = λ is. c.in-Err.ensures.never_full (ap Err (own_fault _ fault engine.TooManyGroups is));
-        only_reads = reads_failed _ _ fault engine.ReadFault a b c.in-Err.ensures.only_reads;
-        log = c.in-Err.ensures.log;
+        bad = λ part is. c.in-Err.ensures.looks.bad part (ap Err (own_fault _ fault (engine.NotASegment part) is));
+        never_full = λ is. c.in-Err.ensures.looks.never_full (ap Err (own_fault _ fault engine.TooManyGroups is));
+        only_reads = reads_failed _ _ fault engine.ReadFault a b c.in-Err.ensures.looks.only_reads;
+        log = c.in-Err.ensures.looks.log;
       };
     }
 
@@ -47,12 +45,12 @@ returns-then-prune g c =
     let head = c.in-Ok.head in
     let is = sym c.prune.ensures ∙ c.if-prune.true in
     record {
-      planned = record { known = inl is; plan_is = pruned_planned c.args.query.now c.args.table.now head is; detailed = tt; image = c.in-Ok.ensures.image };
+      planned = record { known = inl is; plan_is = pruned_planned c.args.query.now c.args.table.now head is; detailed = tt; image = c.in-Ok.ensures.opened.image };
       looks = record {
         bad = λ part e. absurd (no_fault _ _ (engine.NotASegment part) e);
         never_full = λ e. no_fault _ _ engine.TooManyGroups e;
-        only_reads = reads_done _ _ head _ engine.ReadFault a b c.in-Ok.ensures.only_reads;
-        log = c.in-Ok.ensures.log;
+        only_reads = reads_done _ _ head _ engine.ReadFault a b c.in-Ok.ensures.looks.only_reads;
+        log = c.in-Ok.ensures.looks.log;
       };
     }
 
@@ -65,17 +63,17 @@ returns-in-Err-load_detailed g c =
     let d : Seen = seen g.S.Shelf c.load_detailed.new.shelf in
     let head = c.in-Ok.head in
     let fault = c.in-Err-load_detailed.fault in
-    let same = c.in-Ok.ensures.only_reads.held in
+    let same = c.in-Ok.ensures.looks.only_reads.held in
     record {
       planned = tt;
       looks = record {
         bad = λ part is.
             subst (λ held. IfSome held (λ files. HasNoImage table files name)) same
-            (c.in-Err-load_detailed.ensures.bad part (ap Err (own_fault _ fault (engine.NotASegment part) is)) name (subst (λ held. IsHeadIn table held name head) (sym same) c.in-Ok.ensures.image));
-        never_full = λ is. c.in-Err-load_detailed.ensures.never_full (ap Err (own_fault _ fault engine.TooManyGroups is));
-        only_reads = reads_then a b d (reads_still _ head engine.ReadFault a b c.in-Ok.ensures.only_reads) (reads_failed _ _ fault engine.ReadFault b d c.in-Err-load_detailed.ensures.only_reads);
-        log = entries_then (IsHeadRead table a.held name) a.log b.log d.log c.in-Ok.ensures.log
-            (loaded_log table name a.held head b.log d.log c.in-Ok.ensures.of c.in-Ok.ensures.placed c.in-Ok.ensures.ends c.in-Err-load_detailed.ensures.log);
+            (c.in-Err-load_detailed.ensures.loads.bad part (ap Err (own_fault _ fault (engine.NotASegment part) is)) name (subst (λ held. IsHeadIn table held name head) (sym same) c.in-Ok.ensures.opened.image));
+        never_full = λ is. c.in-Err-load_detailed.ensures.loads.never_full (ap Err (own_fault _ fault engine.TooManyGroups is));
+        only_reads = reads_then a b d (reads_still _ head engine.ReadFault a b c.in-Ok.ensures.looks.only_reads) (reads_failed _ _ fault engine.ReadFault b d c.in-Err-load_detailed.ensures.loads.only_reads);
+        log = entries_then (IsHeadRead table a.held name) a.log b.log d.log c.in-Ok.ensures.looks.log
+            (loaded_log table name a.held head b.log d.log c.in-Ok.ensures.opened.of c.in-Ok.ensures.opened.placed c.in-Ok.ensures.opened.ends c.in-Err-load_detailed.ensures.loads.log);
       };
     }
 
@@ -95,9 +93,9 @@ returns-in_err-plan g c =
         bad = λ part e. absurd (fault_not _ r engine.NoMemory (engine.NotASegment part) (memory_not_bad part) is e);
         never_full = λ e. fault_not _ r engine.NoMemory engine.TooManyGroups memory_not_full is e;
         only_reads = reads_lacking _ a d (λ e. fault_not _ r engine.NoMemory engine.ReadFault memory_not_read is e)
-            (reads_then a b d (reads_still _ head engine.ReadFault a b c.in-Ok.ensures.only_reads) (reads_still _ tt engine.ReadFault b d c.in-Ok-load_detailed.ensures.only_reads));
-        log = entries_then (IsHeadRead table a.held name) a.log b.log d.log c.in-Ok.ensures.log
-            (loaded_log table name a.held head b.log d.log c.in-Ok.ensures.of c.in-Ok.ensures.placed c.in-Ok.ensures.ends c.in-Ok-load_detailed.ensures.log);
+            (reads_then a b d (reads_still _ head engine.ReadFault a b c.in-Ok.ensures.looks.only_reads) (reads_still _ tt engine.ReadFault b d c.in-Ok-load_detailed.ensures.loads.only_reads));
+        log = entries_then (IsHeadRead table a.held name) a.log b.log d.log c.in-Ok.ensures.looks.log
+            (loaded_log table name a.held head b.log d.log c.in-Ok.ensures.opened.of c.in-Ok.ensures.opened.placed c.in-Ok.ensures.opened.ends c.in-Ok-load_detailed.ensures.loads.log);
       };
     }
 
@@ -117,14 +115,14 @@ returns g c =
         plan_is = c.in_ok-plan.ensures;
         detailed = detailed query table full c.in_ok-plan.plan c.pick-tree.result
             (c.pick-tree.ensures ∙ ap (picked query) c.as_slice.ensures) c.in-Ok-load_detailed.ensures.filtered c.in-Ok-load_detailed.ensures.factors c.in_ok-plan.ensures;
-        image = image_grown table name a.held b.held head full c.in-Ok.ensures.only_reads.held c.in-Ok-load_detailed.ensures.grows c.in-Ok.ensures.image;
+        image = image_grown table name a.held b.held head full c.in-Ok.ensures.looks.only_reads.held c.in-Ok-load_detailed.ensures.loads.grows c.in-Ok.ensures.opened.image;
       };
       looks = record {
         bad = λ part e. absurd (no_fault _ _ (engine.NotASegment part) e);
         never_full = λ e. no_fault _ _ engine.TooManyGroups e;
         only_reads = reads_lacking _ a d (λ e. no_fault _ _ engine.ReadFault e)
-            (reads_then a b d (reads_still _ head engine.ReadFault a b c.in-Ok.ensures.only_reads) (reads_still _ tt engine.ReadFault b d c.in-Ok-load_detailed.ensures.only_reads));
-        log = entries_then (IsHeadRead table a.held name) a.log b.log d.log c.in-Ok.ensures.log
-            (loaded_log table name a.held head b.log d.log c.in-Ok.ensures.of c.in-Ok.ensures.placed c.in-Ok.ensures.ends c.in-Ok-load_detailed.ensures.log);
+            (reads_then a b d (reads_still _ head engine.ReadFault a b c.in-Ok.ensures.looks.only_reads) (reads_still _ tt engine.ReadFault b d c.in-Ok-load_detailed.ensures.loads.only_reads));
+        log = entries_then (IsHeadRead table a.held name) a.log b.log d.log c.in-Ok.ensures.looks.log
+            (loaded_log table name a.held head b.log d.log c.in-Ok.ensures.opened.of c.in-Ok.ensures.opened.placed c.in-Ok.ensures.opened.ends c.in-Ok-load_detailed.ensures.loads.log);
       };
     }

@@ -25,15 +25,13 @@ pub open_segment-requires : goal.open_segment-requires
 open_segment-requires g c = record { valid = c.requires.of_table.valid; name = c.requires.of_table.name }
 
 pub load_wanted-requires : goal.load_wanted-requires
-load_wanted-requires g c = record { valid = c.requires.of_table.valid; query = c.requires.of_table.query; of_table = c.in-Ok.ensures.of }
+load_wanted-requires g c = record { valid = c.requires.of_table.valid; query = c.requires.of_table.query; of_table = c.in-Ok.ensures.opened.of }
 
 pub add_planned-requires : goal.add_planned-requires
 add_planned-requires g c = record {
-  valid = c.requires.of_table.valid;
-  query = c.requires.of_table.query;
   room = c.requires.room;
   loaded = record {
-    of_table = c.in-Ok-load_wanted.ensures.grows.of_table;
+    asked = record { valid = c.requires.of_table.valid; query = c.requires.of_table.query; of_table = c.in-Ok-load_wanted.ensures.loads.grows.of_table };
     filtered = c.in-Ok-load_wanted.ensures.filtered;
     grouped = c.in-Ok-load_wanted.ensures.grouped;
     named = λ none. c.in-Ok-load_wanted.ensures.named (c.is_some-by_tree.ensures ∙ ap is_some (c.pick.ensures ∙ ap (picked c.args.query.now) c.as_slice.ensures ∙ none));
@@ -49,12 +47,12 @@ returns-in-Err g c =
     record {
       adds = record {
         added = tt;
-        full = λ is. absurd (c.in-Err.ensures.never_full (ap Err (own_fault _ c.in-Err.fault engine.TooManyGroups is)));
-        bad = λ part is. c.in-Err.ensures.bad part (ap Err (own_fault _ c.in-Err.fault (engine.NotASegment part) is));
-        only_reads = reads_failed _ _ c.in-Err.fault engine.ReadFault a b c.in-Err.ensures.only_reads;
-        log = head_in table name a.held a.log b.log c.in-Err.ensures.log;
+        full = λ is. absurd (c.in-Err.ensures.looks.never_full (ap Err (own_fault _ c.in-Err.fault engine.TooManyGroups is)));
+        bad = λ part is. c.in-Err.ensures.looks.bad part (ap Err (own_fault _ c.in-Err.fault (engine.NotASegment part) is));
+        only_reads = reads_failed _ _ c.in-Err.fault engine.ReadFault a b c.in-Err.ensures.looks.only_reads;
+        log = head_in table name a.held a.log b.log c.in-Err.ensures.looks.log;
         reads = tt;
-        reads_of_fault = given_up c.args.query.now table name c.docs_bound_law.ensures.bound c.requires.of_table.valid a.held a.log b.log (opened_one c.args.query.now table name c.requires.of_table.valid c.requires.of_table.name a.held a.log b.log c.in-Err.ensures.log);
+        reads_of_fault = given_up c.args.query.now table name c.docs_bound_law.ensures.bound c.requires.of_table.valid a.held a.log b.log (opened_one c.args.query.now table name c.requires.of_table.valid c.requires.of_table.name a.held a.log b.log c.in-Err.ensures.looks.log);
       };
       done = tt;
     }
@@ -69,15 +67,15 @@ returns-then-prune g c =
     let head = c.in-Ok.head in
     let is = sym c.prune.ensures ∙ c.if-prune.true in
     let done = done_so query table c.head_tells_law.ensures c.plan_over_law.ensures c.requires.of_table.valid c.requires.of_table.query a.held name head c.nothing.result.plan c.nothing.result.docs
-    (c.nothing.ensures.plan ∙ pruned_planned query table head is) (inl is) (none_looked query table a.held head c.nothing.result.plan Pruned c.nothing.result.docs c.nothing.ensures.plan (λ rows. refl) c.nothing.ensures.none) c.in-Ok.ensures.image in
+    (c.nothing.ensures.plan ∙ pruned_planned query table head is) (inl is) (none_looked query table a.held head c.nothing.result.plan Pruned c.nothing.result.docs c.nothing.ensures.plan (λ rows. refl) c.nothing.ensures.none) c.in-Ok.ensures.opened.image in
     record {
       adds = record {
-        added = adds_none query table name head c.head_tells_law.ensures c.requires.of_table.valid a.held c.args.groups.now c.requires.room.of_query (λ rows tells. c.pruned_law.ensures query table rows head tells is) c.in-Ok.ensures.image;
+        added = adds_none query table name head c.head_tells_law.ensures c.requires.of_table.valid a.held c.args.groups.now c.requires.room.of_query (λ rows tells. c.pruned_law.ensures query table rows head tells is) c.in-Ok.ensures.opened.image;
         full = λ fault. absurd (no_fault _ _ engine.TooManyGroups fault);
         bad = λ part fault. absurd (no_fault _ _ (engine.NotASegment part) fault);
-        only_reads = reads_done _ _ head _ engine.ReadFault a b c.in-Ok.ensures.only_reads;
-        log = head_in table name a.held a.log b.log c.in-Ok.ensures.log;
-        reads = quiet_one query table name a.held c.nothing.result.plan c.nothing.result.docs a.log b.log done (inl c.nothing.ensures.plan) (opened_one query table name c.requires.of_table.valid c.requires.of_table.name a.held a.log b.log c.in-Ok.ensures.log);
+        only_reads = reads_done _ _ head _ engine.ReadFault a b c.in-Ok.ensures.looks.only_reads;
+        log = head_in table name a.held a.log b.log c.in-Ok.ensures.looks.log;
+        reads = quiet_one query table name a.held c.nothing.result.plan c.nothing.result.docs a.log b.log done (inl c.nothing.ensures.plan) (opened_one query table name c.requires.of_table.valid c.requires.of_table.name a.held a.log b.log c.in-Ok.ensures.looks.log);
         reads_of_fault = tt;
       };
       done = done;
@@ -93,22 +91,22 @@ returns-in-Err-load_wanted g c =
     let name = c.args.name.now in
     let head = c.in-Ok.head in
     let fault = c.in-Err-load_wanted.fault in
-    let same = c.in-Ok.ensures.only_reads.held in
-    let opened = head_in table name a.held a.log b.log c.in-Ok.ensures.log in
-    let loaded = loaded_in table name head b.log d.log c.in-Ok.ensures.of c.in-Ok.ensures.placed c.in-Err-load_wanted.ensures.log in
+    let same = c.in-Ok.ensures.looks.only_reads.held in
+    let opened = head_in table name a.held a.log b.log c.in-Ok.ensures.looks.log in
+    let loaded = loaded_in table name head b.log d.log c.in-Ok.ensures.opened.of c.in-Ok.ensures.opened.placed c.in-Err-load_wanted.ensures.loads.log in
     record {
       adds = record {
         added = tt;
-        full = λ is. absurd (c.in-Err-load_wanted.ensures.never_full (ap Err (own_fault _ fault engine.TooManyGroups is)));
+        full = λ is. absurd (c.in-Err-load_wanted.ensures.loads.never_full (ap Err (own_fault _ fault engine.TooManyGroups is)));
         bad = λ part is.
             subst (λ held. IfSome held (λ files. HasNoImage table files name)) same
-            (c.in-Err-load_wanted.ensures.bad part (ap Err (own_fault _ fault (engine.NotASegment part) is)) name (subst (λ held. IsHeadIn table held name head) (sym same) c.in-Ok.ensures.image));
-        only_reads = reads_then a b d (reads_still _ head engine.ReadFault a b c.in-Ok.ensures.only_reads) (reads_failed _ _ fault engine.ReadFault b d c.in-Err-load_wanted.ensures.only_reads);
+            (c.in-Err-load_wanted.ensures.loads.bad part (ap Err (own_fault _ fault (engine.NotASegment part) is)) name (subst (λ held. IsHeadIn table held name head) (sym same) c.in-Ok.ensures.opened.image));
+        only_reads = reads_then a b d (reads_still _ head engine.ReadFault a b c.in-Ok.ensures.looks.only_reads) (reads_failed _ _ fault engine.ReadFault b d c.in-Err-load_wanted.ensures.loads.only_reads);
         log = logs_then (λ other. other ≡ file_of name) a.log b.log d.log opened loaded;
         reads = tt;
         reads_of_fault = given_up query table name c.docs_bound_law.ensures.bound c.requires.of_table.valid a.held a.log d.log
             (heads_then query table name a.held a.log b.log d.log opened loaded
-            (opened_one query table name c.requires.of_table.valid c.requires.of_table.name a.held a.log b.log c.in-Ok.ensures.log) (loaded_one query table name a.held head b.log d.log c.in-Ok.ensures.placed c.in-Ok.ensures.spread c.in-Err-load_wanted.ensures.log));
+            (opened_one query table name c.requires.of_table.valid c.requires.of_table.name a.held a.log b.log c.in-Ok.ensures.looks.log) (loaded_one query table name a.held head b.log d.log c.in-Ok.ensures.opened.placed c.in-Ok.ensures.opened.spread c.in-Err-load_wanted.ensures.loads.log));
       };
       done = tt;
     }
@@ -124,15 +122,15 @@ returns g c =
     let name = c.args.name.now in
     let head = c.in-Ok.head in
     let full = c.load_wanted.new.head in
-    let same = c.in-Ok-load_wanted.ensures.only_reads.held ∙ c.in-Ok.ensures.only_reads.held in
-    let later = image_later table name a.held b.held d.held head full c.in-Ok.ensures.only_reads.held c.in-Ok-load_wanted.ensures.only_reads.held c.in-Ok-load_wanted.ensures.grows c.in-Ok.ensures.image in
-    let spread : IsSpreadIn table d.held name full = subst (λ h. IsSpreadIn table h name full) (sym same) (spread_later table a.held name head full c.in-Ok-load_wanted.ensures.grows.sections_same c.in-Ok.ensures.spread) in
-    let opened = head_in table name a.held a.log b.log c.in-Ok.ensures.log in
-    let loaded = loaded_in table name head b.log d.log c.in-Ok.ensures.of c.in-Ok.ensures.placed c.in-Ok-load_wanted.ensures.log in
+    let same = c.in-Ok-load_wanted.ensures.loads.only_reads.held ∙ c.in-Ok.ensures.looks.only_reads.held in
+    let later = image_later table name a.held b.held d.held head full c.in-Ok.ensures.looks.only_reads.held c.in-Ok-load_wanted.ensures.loads.only_reads.held c.in-Ok-load_wanted.ensures.loads.grows c.in-Ok.ensures.opened.image in
+    let spread : IsSpreadIn table d.held name full = subst (λ h. IsSpreadIn table h name full) (sym same) (spread_later table a.held name head full c.in-Ok-load_wanted.ensures.loads.grows.sections_same c.in-Ok.ensures.opened.spread) in
+    let opened = head_in table name a.held a.log b.log c.in-Ok.ensures.looks.log in
+    let loaded = loaded_in table name head b.log d.log c.in-Ok.ensures.opened.of c.in-Ok.ensures.opened.placed c.in-Ok-load_wanted.ensures.loads.log in
     let first = logs_then (λ other. other ≡ file_of name) a.log b.log d.log opened loaded in
     let heads = heads_then query table name a.held a.log b.log d.log opened loaded
-    (opened_one query table name c.requires.of_table.valid c.requires.of_table.name a.held a.log b.log c.in-Ok.ensures.log) (loaded_one query table name a.held head b.log d.log c.in-Ok.ensures.placed c.in-Ok.ensures.spread c.in-Ok-load_wanted.ensures.log) in
-    let placed : AreIn (file_of name) full.sections = subst (AreIn (file_of name)) (sym c.in-Ok-load_wanted.ensures.grows.sections_same) c.in-Ok.ensures.placed in
+    (opened_one query table name c.requires.of_table.valid c.requires.of_table.name a.held a.log b.log c.in-Ok.ensures.looks.log) (loaded_one query table name a.held head b.log d.log c.in-Ok.ensures.opened.placed c.in-Ok.ensures.opened.spread c.in-Ok-load_wanted.ensures.loads.log) in
+    let placed : AreIn (file_of name) full.sections = subst (AreIn (file_of name)) (sym c.in-Ok-load_wanted.ensures.loads.grows.sections_same) c.in-Ok.ensures.opened.placed in
     let adds = c.add_planned.ensures.adds name later spread placed in
     record {
       adds = record {
@@ -140,7 +138,7 @@ returns g c =
         full = λ is. subst (λ h. IsStoredOverfull query table h name c.args.groups.now) same (adds.full is);
         bad = λ part is. subst (λ h. IfSome h (λ files. HasNoImage table files name)) same (adds.bad part is);
         only_reads = reads_then a d e
-            (reads_then a b d (reads_still _ head engine.ReadFault a b c.in-Ok.ensures.only_reads) (reads_still _ tt engine.ReadFault b d c.in-Ok-load_wanted.ensures.only_reads))
+            (reads_then a b d (reads_still _ head engine.ReadFault a b c.in-Ok.ensures.looks.only_reads) (reads_still _ tt engine.ReadFault b d c.in-Ok-load_wanted.ensures.loads.only_reads))
             adds.only_reads;
         log = logs_then (λ other. other ≡ file_of name) a.log d.log e.log first adds.log;
         reads = ok_so c.add_planned.result (LogsOne (ReadsPlanned query table true) table d.held name d.log e.log) (LogsOne (ReadsPlanned query table true) table a.held name a.log e.log)

@@ -98,19 +98,14 @@ read_rest-requires g c =
     let read = c.in-Ok.read in
     record { front = subst (λ h. IsFrontOf c.args.table.now c.args.name.now c.args.file.now h read.bytes.items read.front) (sym c.in-Ok.ensures.only_reads.held) c.in-Ok.ensures.front }
 
-pub check_head-requires-clause-parts : goal.check_head-requires-clause-parts
-check_head-requires-clause-parts g c = c.deref-2.ensures.value ∙ c.in_ok-parts.ensures
-
-pub check_head-requires-clause-each : goal.check_head-requires-clause-each
-check_head-requires-clause-each g c = c.in-Ok.ensures.front.front_is.each ∙ ap length (sym c.in_ok-parts.ensures ∙ sym c.deref-2.ensures.value)
-
-pub check_head-requires-clause-short : goal.check_head-requires-clause-short
-check_head-requires-clause-short g c =
+pub check_head-requires : goal.check_head-requires
+check_head-requires g c =
     let is = c.in-Ok.ensures.front.front_is in
-    omega (arith, is.whole, is.small)
-
-pub check_head-requires-clause-rows : goal.check_head-requires-clause-rows
-check_head-requires-clause-rows g c = few_rows c.args.table.now c.in-Ok.read.front.rows c.in-Ok.ensures.front.front_is.at_most
-
-pub check_head-requires-clause-name : goal.check_head-requires-clause-name
-check_head-requires-clause-name g c = few_bytes c.args.name.now c.requires.name
+    record {
+      valid = c.requires.valid;
+      name = few_bytes c.args.name.now c.requires.name;
+      parts = c.deref-2.ensures.value ∙ c.in_ok-parts.ensures;
+      each = is.each ∙ ap length (sym c.in_ok-parts.ensures ∙ sym c.deref-2.ensures.value);
+      rows = few_rows c.args.table.now c.in-Ok.read.front.rows is.at_most;
+      short = omega (arith, is.whole, is.small);
+    }

@@ -12,7 +12,7 @@ returns-clause-filtered g c =
     let head = c.load_marked.new.head in
     let marks = c.as_slice.result.now in
     ok_so c.load_marked.result (AreMarkedLoaded table marks head) (AreLoaded query.conjuncts head)
-    (filtered_detailed table query c.requires.query head marks c.args.tree
+    (filtered_detailed table query c.requires.asked.query head marks c.args.tree
     (λ column lt. ap (λ l. get_or l column false) c.as_slice.ensures.value ∙ c.in_ok-detailed.ensures.each column (omega (arith, lt, c.len.ensures))))
     c.load_marked.ensures.loaded
 
@@ -23,7 +23,7 @@ returns-clause-factors g c =
     let head = c.load_marked.new.head in
     let marks = c.as_slice.result.now in
     ok_so c.load_marked.result (AreMarkedLoaded table marks head) (AreFactorsLoaded query table c.args.tree head)
-    (λ loaded. factors_detailed table query c.requires.query head marks c.args.tree
+    (λ loaded. factors_detailed table query c.requires.asked.query head marks c.args.tree
     (λ column lt. ap (λ l. get_or l column false) c.as_slice.ensures.value ∙ c.in_ok-detailed.ensures.each column (omega (arith, lt, c.len.ensures)))
-    loaded c.requires.valid)
+    loaded c.requires.asked.valid)
     c.load_marked.ensures.loaded

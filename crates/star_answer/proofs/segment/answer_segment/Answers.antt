@@ -7,15 +7,18 @@ use Rattle.segment_head.specs.declared.fault.EngineFault.TheVariants as segments
 use Rattle.star_answer.proofs.SegmentSteps as steps
 use Rattle.star_answer.proofs.segment.answer_segment.Goals as goal
 
-pub read_tree-requires-clause-tree : goal.read_tree-requires-clause-tree
-read_tree-requires-clause-tree g c =
-    (steps.picked_there c.args.query.now c.args.table.now.settings.trees c.args.tree c.requires.picked).lt
+pub read_tree-requires : goal.read_tree-requires
+read_tree-requires g c = record {
+  valid = c.requires.valid;
+  opened = c.requires.of_table;
+  tree = (steps.picked_there c.args.query.now c.args.table.now.settings.trees c.args.tree c.requires.picked).lt;
+}
 
 pub returns-in-Err-clause-bad : goal.returns-in-Err-clause-bad
 returns-in-Err-clause-bad g c part is =
     let own : c.engine_fault.result ≡ segments.NotASegment part = cc in
     steps.none_whole c.args.table.now c.args.head.now (g.S.Shelf.held c.args.shelf.now)
-    (c.in-Err.ensures.refused part (bad_head c.in-Err.fault part (sym c.engine_fault.ensures ∙ own)))
+    (c.in-Err.ensures.reads.refused part (bad_head c.in-Err.fault part (sym c.engine_fault.ensures ∙ own)))
 
 pub at-setting-requires : goal.at-setting-requires
 at-setting-requires g c =
@@ -67,13 +70,13 @@ answer_tree-requires-clause-tree g c =
     c.in-Ok.opened.counts.items c.documents_of.result.now c.in_ok-columns.columns.items
     c.in_ok-pairs.pairs.items held c.requires.valid c.requires.of_table c.requires.query
     c.requires.picked c.requires.loaded c.requires.groups_loaded c.at-setting.ensures
-    c.in-Ok.ensures.nodes c.in-Ok.ensures.counts c.in-Ok.ensures.keeps c.of_file-part.ensures.shape
+    c.in-Ok.ensures.reads.told c.in-Ok.ensures.counts c.in-Ok.ensures.keeps c.of_file-part.ensures.shape
     c.of_file-part.ensures.counts c.of_file-part.ensures.nodes c.of_file-part.ensures.documents
     c.documents_of.ensures c.in_ok-task.ensures.each c.in_ok-task.ensures.entries
     c.in_ok-task.ensures.asks c.in_ok-columns.ensures c.as_slice.ensures.value c.in_ok-pairs.ensures
     c.as_slice-2.ensures.value in
     steps.ready_tree query table head t setting part task asked said held now ready
-    c.in-Ok.ensures.only_reads.held c.head_tells_law.ensures c.rows.result c.rows.ensures
+    c.in-Ok.ensures.reads.only_reads.held c.head_tells_law.ensures c.rows.result c.rows.ensures
 
 pub answer_tree-requires-clause-asked : goal.answer_tree-requires-clause-asked
 answer_tree-requires-clause-asked g c =
@@ -92,13 +95,13 @@ answer_tree-requires-clause-asked g c =
     c.in-Ok.opened.counts.items c.documents_of.result.now c.in_ok-columns.columns.items
     c.in_ok-pairs.pairs.items held c.requires.valid c.requires.of_table c.requires.query
     c.requires.picked c.requires.loaded c.requires.groups_loaded c.at-setting.ensures
-    c.in-Ok.ensures.nodes c.in-Ok.ensures.counts c.in-Ok.ensures.keeps c.of_file-part.ensures.shape
+    c.in-Ok.ensures.reads.told c.in-Ok.ensures.counts c.in-Ok.ensures.keeps c.of_file-part.ensures.shape
     c.of_file-part.ensures.counts c.of_file-part.ensures.nodes c.of_file-part.ensures.documents
     c.documents_of.ensures c.in_ok-task.ensures.each c.in_ok-task.ensures.entries
     c.in_ok-task.ensures.asks c.in_ok-columns.ensures c.as_slice.ensures.value c.in_ok-pairs.ensures
     c.as_slice-2.ensures.value in
     steps.ready_asked query table head t setting part task asked said held now ready
-    c.in-Ok.ensures.only_reads.held c.head_tells_law.ensures c.rows.result c.rows.ensures
+    c.in-Ok.ensures.reads.only_reads.held c.head_tells_law.ensures c.rows.result c.rows.ensures
 
 pub answer_tree-requires-clause-table : goal.answer_tree-requires-clause-table
 answer_tree-requires-clause-table g c =
@@ -117,13 +120,13 @@ answer_tree-requires-clause-table g c =
     c.in-Ok.opened.counts.items c.documents_of.result.now c.in_ok-columns.columns.items
     c.in_ok-pairs.pairs.items held c.requires.valid c.requires.of_table c.requires.query
     c.requires.picked c.requires.loaded c.requires.groups_loaded c.at-setting.ensures
-    c.in-Ok.ensures.nodes c.in-Ok.ensures.counts c.in-Ok.ensures.keeps c.of_file-part.ensures.shape
+    c.in-Ok.ensures.reads.told c.in-Ok.ensures.counts c.in-Ok.ensures.keeps c.of_file-part.ensures.shape
     c.of_file-part.ensures.counts c.of_file-part.ensures.nodes c.of_file-part.ensures.documents
     c.documents_of.ensures c.in_ok-task.ensures.each c.in_ok-task.ensures.entries
     c.in_ok-task.ensures.asks c.in_ok-columns.ensures c.as_slice.ensures.value c.in_ok-pairs.ensures
     c.as_slice-2.ensures.value in
     steps.ready_table query table head t setting part task asked said held now ready
-    c.in-Ok.ensures.only_reads.held c.head_tells_law.ensures c.rows.result c.rows.ensures c.args.groups.now c.requires.of_query
+    c.in-Ok.ensures.reads.only_reads.held c.head_tells_law.ensures c.rows.result c.rows.ensures c.args.groups.now c.requires.of_query
 
 pub returns-in-Ok-answer_tree-clause-count : goal.returns-in-Ok-answer_tree-clause-count
 returns-in-Ok-answer_tree-clause-count g c =
@@ -142,13 +145,13 @@ returns-in-Ok-answer_tree-clause-count g c =
     c.in-Ok.opened.counts.items c.documents_of.result.now c.in_ok-columns.columns.items
     c.in_ok-pairs.pairs.items held c.requires.valid c.requires.of_table c.requires.query
     c.requires.picked c.requires.loaded c.requires.groups_loaded c.at-setting.ensures
-    c.in-Ok.ensures.nodes c.in-Ok.ensures.counts c.in-Ok.ensures.keeps c.of_file-part.ensures.shape
+    c.in-Ok.ensures.reads.told c.in-Ok.ensures.counts c.in-Ok.ensures.keeps c.of_file-part.ensures.shape
     c.of_file-part.ensures.counts c.of_file-part.ensures.nodes c.of_file-part.ensures.documents
     c.documents_of.ensures c.in_ok-task.ensures.each c.in_ok-task.ensures.entries
     c.in_ok-task.ensures.asks c.in_ok-columns.ensures c.as_slice.ensures.value c.in_ok-pairs.ensures
     c.as_slice-2.ensures.value in
     steps.ready_docs query table head t setting part task asked said held now ready
-    c.in-Ok.ensures.only_reads.held c.head_tells_law.ensures c.rows.result c.rows.ensures
+    c.in-Ok.ensures.reads.only_reads.held c.head_tells_law.ensures c.rows.result c.rows.ensures
     c.docs_read_law.ensures.read c.args.groups.now c.answer_tree.new.groups c.in-Ok-answer_tree.count
     c.in-Ok-answer_tree.ensures.count c.in-Ok-answer_tree.ensures.ok
 
@@ -169,13 +172,13 @@ returns-in-Ok-answer_tree-clause-ok g c =
     c.in-Ok.opened.counts.items c.documents_of.result.now c.in_ok-columns.columns.items
     c.in_ok-pairs.pairs.items held c.requires.valid c.requires.of_table c.requires.query
     c.requires.picked c.requires.loaded c.requires.groups_loaded c.at-setting.ensures
-    c.in-Ok.ensures.nodes c.in-Ok.ensures.counts c.in-Ok.ensures.keeps c.of_file-part.ensures.shape
+    c.in-Ok.ensures.reads.told c.in-Ok.ensures.counts c.in-Ok.ensures.keeps c.of_file-part.ensures.shape
     c.of_file-part.ensures.counts c.of_file-part.ensures.nodes c.of_file-part.ensures.documents
     c.documents_of.ensures c.in_ok-task.ensures.each c.in_ok-task.ensures.entries
     c.in_ok-task.ensures.asks c.in_ok-columns.ensures c.as_slice.ensures.value c.in_ok-pairs.ensures
     c.as_slice-2.ensures.value in
     steps.ready_adds query table head t setting part task asked said held now ready
-    c.in-Ok.ensures.only_reads.held c.head_tells_law.ensures c.rows.result c.rows.ensures
+    c.in-Ok.ensures.reads.only_reads.held c.head_tells_law.ensures c.rows.result c.rows.ensures
     c.served_law.ensures.adds c.args.groups.now c.answer_tree.new.groups c.requires.of_query
     c.in-Ok-answer_tree.ensures.ok
 
@@ -196,13 +199,13 @@ returns-in-Ok-answer_tree-clause-log g c =
     c.in-Ok.opened.counts.items c.documents_of.result.now c.in_ok-columns.columns.items
     c.in_ok-pairs.pairs.items held c.requires.valid c.requires.of_table c.requires.query
     c.requires.picked c.requires.loaded c.requires.groups_loaded c.at-setting.ensures
-    c.in-Ok.ensures.nodes c.in-Ok.ensures.counts c.in-Ok.ensures.keeps c.of_file-part.ensures.shape
+    c.in-Ok.ensures.reads.told c.in-Ok.ensures.counts c.in-Ok.ensures.keeps c.of_file-part.ensures.shape
     c.of_file-part.ensures.counts c.of_file-part.ensures.nodes c.of_file-part.ensures.documents
     c.documents_of.ensures c.in_ok-task.ensures.each c.in_ok-task.ensures.entries
     c.in_ok-task.ensures.asks c.in_ok-columns.ensures c.as_slice.ensures.value c.in_ok-pairs.ensures
     c.as_slice-2.ensures.value in
     steps.ready_log query table head t setting part task asked said held now ready
-    c.in-Ok.ensures.only_reads.held c.head_tells_law.ensures c.rows.result c.rows.ensures
+    c.in-Ok.ensures.reads.only_reads.held c.head_tells_law.ensures c.rows.result c.rows.ensures
     c.docs_read_law.ensures.read c.walkable_law.ensures.within c.in-Ok-answer_tree.count
     (g.S.Shelf.log c.args.shelf.now) (g.S.Shelf.log c.read_tree.new.shelf)
     (g.S.Shelf.log c.answer_tree.new.shelf) c.in-Ok-answer_tree.ensures.count c.in-Ok.ensures.log
@@ -225,14 +228,14 @@ returns-clause-full g c is =
     c.in-Ok.opened.counts.items c.documents_of.result.now c.in_ok-columns.columns.items
     c.in_ok-pairs.pairs.items held c.requires.valid c.requires.of_table c.requires.query
     c.requires.picked c.requires.loaded c.requires.groups_loaded c.at-setting.ensures
-    c.in-Ok.ensures.nodes c.in-Ok.ensures.counts c.in-Ok.ensures.keeps c.of_file-part.ensures.shape
+    c.in-Ok.ensures.reads.told c.in-Ok.ensures.counts c.in-Ok.ensures.keeps c.of_file-part.ensures.shape
     c.of_file-part.ensures.counts c.of_file-part.ensures.nodes c.of_file-part.ensures.documents
     c.documents_of.ensures c.in_ok-task.ensures.each c.in_ok-task.ensures.entries
     c.in_ok-task.ensures.asks c.in_ok-columns.ensures c.as_slice.ensures.value c.in_ok-pairs.ensures
     c.as_slice-2.ensures.value in
     let own : c.of_tree.result ≡ segments.TooManyGroups = cc in
     steps.ready_full query table head t setting part task asked said held now ready
-    c.in-Ok.ensures.only_reads.held c.head_tells_law.ensures c.rows.result c.rows.ensures
+    c.in-Ok.ensures.reads.only_reads.held c.head_tells_law.ensures c.rows.result c.rows.ensures
     c.served_law.ensures.overfull c.args.groups.now c.requires.of_query
     (c.in-Err-answer_tree.ensures.full (ap Err (c.of_tree.ensures.full own)))
 
@@ -253,14 +256,14 @@ returns-clause-bad g c bad is =
     c.in-Ok.opened.counts.items c.documents_of.result.now c.in_ok-columns.columns.items
     c.in_ok-pairs.pairs.items held c.requires.valid c.requires.of_table c.requires.query
     c.requires.picked c.requires.loaded c.requires.groups_loaded c.at-setting.ensures
-    c.in-Ok.ensures.nodes c.in-Ok.ensures.counts c.in-Ok.ensures.keeps c.of_file-part.ensures.shape
+    c.in-Ok.ensures.reads.told c.in-Ok.ensures.counts c.in-Ok.ensures.keeps c.of_file-part.ensures.shape
     c.of_file-part.ensures.counts c.of_file-part.ensures.nodes c.of_file-part.ensures.documents
     c.documents_of.ensures c.in_ok-task.ensures.each c.in_ok-task.ensures.entries
     c.in_ok-task.ensures.asks c.in_ok-columns.ensures c.as_slice.ensures.value c.in_ok-pairs.ensures
     c.as_slice-2.ensures.value in
     let own : c.of_tree.result ≡ segments.NotASegment bad = cc in
     steps.ready_bad query table head t setting part task asked said held now ready
-    c.in-Ok.ensures.only_reads.held c.head_tells_law.ensures c.rows.result c.rows.ensures
+    c.in-Ok.ensures.reads.only_reads.held c.head_tells_law.ensures c.rows.result c.rows.ensures
     c.served_law.ensures.never_bad
     (c.in-Err-answer_tree.ensures.bad (ap Err (c.of_tree.ensures.bad bad own)))
 
@@ -281,13 +284,13 @@ returns-clause-log_of_fault g c =
     c.in-Ok.opened.counts.items c.documents_of.result.now c.in_ok-columns.columns.items
     c.in_ok-pairs.pairs.items held c.requires.valid c.requires.of_table c.requires.query
     c.requires.picked c.requires.loaded c.requires.groups_loaded c.at-setting.ensures
-    c.in-Ok.ensures.nodes c.in-Ok.ensures.counts c.in-Ok.ensures.keeps c.of_file-part.ensures.shape
+    c.in-Ok.ensures.reads.told c.in-Ok.ensures.counts c.in-Ok.ensures.keeps c.of_file-part.ensures.shape
     c.of_file-part.ensures.counts c.of_file-part.ensures.nodes c.of_file-part.ensures.documents
     c.documents_of.ensures c.in_ok-task.ensures.each c.in_ok-task.ensures.entries
     c.in_ok-task.ensures.asks c.in_ok-columns.ensures c.as_slice.ensures.value c.in_ok-pairs.ensures
     c.as_slice-2.ensures.value in
     steps.ready_partly query table head t setting part task asked said held now ready
-    c.in-Ok.ensures.only_reads.held c.head_tells_law.ensures c.rows.result c.rows.ensures
+    c.in-Ok.ensures.reads.only_reads.held c.head_tells_law.ensures c.rows.result c.rows.ensures
     c.docs_read_law.ensures.read c.walkable_law.ensures.within
     (g.S.Shelf.log c.args.shelf.now) (g.S.Shelf.log c.read_tree.new.shelf)
     (g.S.Shelf.log c.answer_tree.new.shelf) c.in-Ok.ensures.log

@@ -14,12 +14,17 @@ returns-clause-loads g c =
     let head = c.args.self.now in
     subst (Loads c.args.column head) (sym c.keep.ensures) (kept_loads head c.args.column c.in-Ok.dictionary (omega (arith, c.requires.column, c.requires.opened.has.slots)))
 
-pub returns-clause-part : goal.returns-clause-part
-returns-clause-part g c =
-    let table = c.args.table.now in
-    let head = c.args.self.now in
-    let held = g.S.Shelf.held c.args.shelf.now in
-    subst (λ h. OfWhole table held head (λ whole. IsPartOf whole h)) (sym c.keep.ensures) (kept_part table head c.args.column c.in-Ok.dictionary held c.in-Ok.ensures.dictionary)
+pub returns-clause-reads : goal.returns-clause-reads
+returns-clause-reads g c = record {
+  told = let table = c.args.table.now in
+      let head = c.args.self.now in
+      let held = g.S.Shelf.held c.args.shelf.now in
+      subst (λ h. OfWhole table held head (λ whole. IsPartOf whole h)) (sym c.keep.ensures) (kept_part table head c.args.column c.in-Ok.dictionary held c.in-Ok.ensures.reads.told);
+  refused = tt;
+  only_reads = let old = seen g.S.Shelf c.args.shelf.now in
+      let new = seen g.S.Shelf c.read_dictionary.new.shelf in
+      reads_ended tt old new (reads_well c.in-Ok.dictionary old new c.in-Ok.ensures.reads.only_reads);
+}
 
 pub returns-then-is_some-clause-same : goal.returns-then-is_some-clause-same
 returns-then-is_some-clause-same g c = tt
@@ -27,11 +32,12 @@ returns-then-is_some-clause-same g c = tt
 pub returns-then-is_some-clause-of : goal.returns-then-is_some-clause-of
 returns-then-is_some-clause-of g c = c.requires.opened
 
-pub returns-then-is_some-clause-refused : goal.returns-then-is_some-clause-refused
-returns-then-is_some-clause-refused g c = tt
-
-pub returns-then-is_some-clause-only_reads : goal.returns-then-is_some-clause-only_reads
-returns-then-is_some-clause-only_reads g c = reads_ended tt (seen g.S.Shelf c.args.shelf.now) (seen g.S.Shelf c.args.shelf.now) (reads_none (seen g.S.Shelf c.args.shelf.now))
+pub returns-then-is_some-clause-reads : goal.returns-then-is_some-clause-reads
+returns-then-is_some-clause-reads g c = record {
+  told = same_part c.args.table.now c.args.self.now (g.S.Shelf.held c.args.shelf.now);
+  refused = tt;
+  only_reads = reads_ended tt (seen g.S.Shelf c.args.shelf.now) (seen g.S.Shelf c.args.shelf.now) (reads_none (seen g.S.Shelf c.args.shelf.now));
+}
 
 pub returns-in-Err-clause-loads : goal.returns-in-Err-clause-loads
 returns-in-Err-clause-loads g c = tt
@@ -42,26 +48,15 @@ returns-in-Err-clause-same g c = refl
 pub returns-in-Err-clause-of : goal.returns-in-Err-clause-of
 returns-in-Err-clause-of g c = c.requires.opened
 
-pub returns-in-Err-clause-part : goal.returns-in-Err-clause-part
-returns-in-Err-clause-part g c = tt
-
-pub returns-in-Err-clause-refused : goal.returns-in-Err-clause-refused
-returns-in-Err-clause-refused g c = c.in-Err.ensures.refused
-
-pub returns-in-Err-clause-only_reads : goal.returns-in-Err-clause-only_reads
-returns-in-Err-clause-only_reads g c = reads_handed c.in-Err.fault (seen g.S.Shelf c.args.shelf.now) (seen g.S.Shelf c.read_dictionary.new.shelf) c.in-Err.ensures.only_reads
+pub returns-in-Err-clause-reads : goal.returns-in-Err-clause-reads
+returns-in-Err-clause-reads g c = record {
+  told = tt;
+  refused = c.in-Err.ensures.reads.refused;
+  only_reads = reads_handed c.in-Err.fault (seen g.S.Shelf c.args.shelf.now) (seen g.S.Shelf c.read_dictionary.new.shelf) c.in-Err.ensures.reads.only_reads;
+}
 
 pub returns-clause-same : goal.returns-clause-same
 returns-clause-same g c = tt
-
-pub returns-clause-refused : goal.returns-clause-refused
-returns-clause-refused g c = tt
-
-pub returns-clause-only_reads : goal.returns-clause-only_reads
-returns-clause-only_reads g c =
-    let old = seen g.S.Shelf c.args.shelf.now in
-    let new = seen g.S.Shelf c.read_dictionary.new.shelf in
-    reads_ended tt old new (reads_well c.in-Ok.dictionary old new c.in-Ok.ensures.only_reads)
 
 pub returns-clause-of : goal.returns-clause-of
 returns-clause-of g c = subst (IsHeadOf c.args.table.now) (sym c.keep.ensures) (kept_head c.args.table.now c.args.self.now c.args.column c.in-Ok.dictionary c.requires.opened)
@@ -85,6 +80,3 @@ pub returns-then-is_some-clause-loads : goal.returns-then-is_some-clause-loads
 returns-then-is_some-clause-loads g c =
     let (d, at) = present c.loaded.result _ _ c.if-is_some.ensures c.loaded.ensures in
     same_loads c.args.self.now c.args.column d.now at
-
-pub returns-then-is_some-clause-part : goal.returns-then-is_some-clause-part
-returns-then-is_some-clause-part g c = same_part c.args.table.now c.args.self.now (g.S.Shelf.held c.args.shelf.now)

@@ -15,8 +15,13 @@ use Rattle.segment_head.proofs.head.Head.read_count.Goals as goal
 pub dictionary_section-requires : goal.dictionary_section-requires
 dictionary_section-requires g c = dictionary_slot c.args.table.now c.args.self.now c.args.column c.requires.opened c.requires.column
 
-pub returns-then-place-lt4-clause-refused : goal.returns-then-place-lt4-clause-refused
-returns-then-place-lt4-clause-refused g c = λ p is. section_few c.args.table.now c.args.self.now c.args.column c.dictionary_section.result.now c.requires.column c.dictionary_section.ensures (g.S.Shelf.held c.args.shelf.now) c.if-place-lt4.true
+pub returns-then-place-lt4-clause-reads : goal.returns-then-place-lt4-clause-reads
+returns-then-place-lt4-clause-reads g c = record {
+  told = tt;
+  refused = λ p is. section_few c.args.table.now c.args.self.now c.args.column c.dictionary_section.result.now c.requires.column c.dictionary_section.ensures (g.S.Shelf.held c.args.shelf.now) c.if-place-lt4.true;
+  only_reads = let old = seen g.S.Shelf c.args.shelf.now in
+      reads_other (NotASegment (Dictionary c.args.column)) old old (other_fault (Dictionary c.args.column)) (reads_none old);
+}
 
 pub returns-then-place-lt4-clause-log : goal.returns-then-place-lt4-clause-log
 returns-then-place-lt4-clause-log g c =
@@ -29,26 +34,36 @@ read_exactly-requires-clause-fits g c =
     let both = section_within c.args.table.now c.args.self.now (c.args.column + 1) s c.requires.opened c.dictionary_section.ensures in
     omega (arith, both.1, c.if-place-lt4.false)
 
-pub returns-in-Err-clause-refused : goal.returns-in-Err-clause-refused
-returns-in-Err-clause-refused g c = λ p is.
-    let s = c.dictionary_section.result.now in
-    let held = g.S.Shelf.held c.args.shelf.now in
-    section_cut c.args.table.now c.args.self.now c.args.column s c.requires.column c.dictionary_section.ensures held 4 c.if-place-lt4.false
-    (subst (λ f. IfSome held (λ files. length (bytes_of (Some files) f) < s.place.offset + 4)) c.as_str.ensures (c.in-Err.ensures.short p is).1)
+pub returns-in-Err-clause-reads : goal.returns-in-Err-clause-reads
+returns-in-Err-clause-reads g c = record {
+  told = tt;
+  refused = λ p is.
+      let s = c.dictionary_section.result.now in
+      let held = g.S.Shelf.held c.args.shelf.now in
+      section_cut c.args.table.now c.args.self.now c.args.column s c.requires.column c.dictionary_section.ensures held 4 c.if-place-lt4.false
+      (subst (λ f. IfSome held (λ files. length (bytes_of (Some files) f) < s.place.offset + 4)) c.as_str.ensures (c.in-Err.ensures.short p is).1);
+  only_reads = reads_handed c.in-Err.fault (seen g.S.Shelf c.args.shelf.now) (seen g.S.Shelf c.read_exactly.new.shelf) c.in-Err.ensures.only_reads;
+}
 
 pub returns-in-Err-clause-log : goal.returns-in-Err-clause-log
 returns-in-Err-clause-log g c =
     let s = c.dictionary_section.result.now in
     if_some _ s _ c.dictionary_section.ensures (subst (λ f. LogsUpTo f s.place.offset (s.place.offset + 4) (g.S.Shelf.log c.args.shelf.now) (g.S.Shelf.log c.read_exactly.new.shelf)) c.as_str.ensures c.in-Err.ensures.log_of_fault)
 
-pub returns-then-count-self-clause-refused : goal.returns-then-count-self-clause-refused
-returns-then-count-self-clause-refused g c = λ p is.
-    let s = c.dictionary_section.result.now in
-    let held = g.S.Shelf.held c.args.shelf.now in
-    count_over c.args.table.now c.args.self.now c.args.column s c.requires.column c.dictionary_section.ensures held c.in-Ok.bytes c.four_at-count.result c.if-place-lt4.false
-    (subst (λ f. IfSome held (λ files. c.in-Ok.bytes ≡ bytes_at files f s.place.offset 4)) c.as_str.ensures c.in-Ok.ensures.bytes)
-    (c.four_at-count.ensures ∙ ap (λ b. from_be_bytes w32 (take 4 b)) c.as_slice.ensures)
-    (omega (arith, c.if-count-self.true, ap (λ h. h.rows) c.self.view_is))
+pub returns-then-count-self-clause-reads : goal.returns-then-count-self-clause-reads
+returns-then-count-self-clause-reads g c = record {
+  told = tt;
+  refused = λ p is.
+      let s = c.dictionary_section.result.now in
+      let held = g.S.Shelf.held c.args.shelf.now in
+      count_over c.args.table.now c.args.self.now c.args.column s c.requires.column c.dictionary_section.ensures held c.in-Ok.bytes c.four_at-count.result c.if-place-lt4.false
+      (subst (λ f. IfSome held (λ files. c.in-Ok.bytes ≡ bytes_at files f s.place.offset 4)) c.as_str.ensures c.in-Ok.ensures.bytes)
+      (c.four_at-count.ensures ∙ ap (λ b. from_be_bytes w32 (take 4 b)) c.as_slice.ensures)
+      (omega (arith, c.if-count-self.true, ap (λ h. h.rows) c.self.view_is));
+  only_reads = let old = seen g.S.Shelf c.args.shelf.now in
+      let new = seen g.S.Shelf c.read_exactly.new.shelf in
+      reads_other (NotASegment (Dictionary c.args.column)) old new (other_fault (Dictionary c.args.column)) (reads_well c.in-Ok.bytes old new c.in-Ok.ensures.only_reads);
+}
 
 pub returns-then-count-self-clause-log : goal.returns-then-count-self-clause-log
 returns-then-count-self-clause-log g c =
@@ -56,15 +71,21 @@ returns-then-count-self-clause-log g c =
     if_some _ s _ c.dictionary_section.ensures
     (s.place.offset + 4, omega arith, subst (λ f. LogsThrough f s.place.offset (s.place.offset + 4) (g.S.Shelf.log c.args.shelf.now) (g.S.Shelf.log c.read_exactly.new.shelf)) c.as_str.ensures c.in-Ok.ensures.log)
 
-pub returns-then-self-gt0-clause-refused : goal.returns-then-self-gt0-clause-refused
-returns-then-self-gt0-clause-refused g c = λ p is.
-    let s = c.dictionary_section.result.now in
-    let held = g.S.Shelf.held c.args.shelf.now in
-    count_none c.args.table.now c.args.self.now c.args.column s c.requires.column c.dictionary_section.ensures held c.in-Ok.bytes c.four_at-count.result c.if-place-lt4.false
-    (subst (λ f. IfSome held (λ files. c.in-Ok.bytes ≡ bytes_at files f s.place.offset 4)) c.as_str.ensures c.in-Ok.ensures.bytes)
-    (c.four_at-count.ensures ∙ ap (λ b. from_be_bytes w32 (take 4 b)) c.as_slice.ensures)
-    (omega (arith, c.if-count-eq0.true))
-    (omega (arith, c.if-self-gt0.true, ap (λ h. h.rows) c.self.view_is))
+pub returns-then-self-gt0-clause-reads : goal.returns-then-self-gt0-clause-reads
+returns-then-self-gt0-clause-reads g c = record {
+  told = tt;
+  refused = λ p is.
+      let s = c.dictionary_section.result.now in
+      let held = g.S.Shelf.held c.args.shelf.now in
+      count_none c.args.table.now c.args.self.now c.args.column s c.requires.column c.dictionary_section.ensures held c.in-Ok.bytes c.four_at-count.result c.if-place-lt4.false
+      (subst (λ f. IfSome held (λ files. c.in-Ok.bytes ≡ bytes_at files f s.place.offset 4)) c.as_str.ensures c.in-Ok.ensures.bytes)
+      (c.four_at-count.ensures ∙ ap (λ b. from_be_bytes w32 (take 4 b)) c.as_slice.ensures)
+      (omega (arith, c.if-count-eq0.true))
+      (omega (arith, c.if-self-gt0.true, ap (λ h. h.rows) c.self.view_is));
+  only_reads = let old = seen g.S.Shelf c.args.shelf.now in
+      let new = seen g.S.Shelf c.read_exactly.new.shelf in
+      reads_other (NotASegment (Dictionary c.args.column)) old new (other_fault (Dictionary c.args.column)) (reads_well c.in-Ok.bytes old new c.in-Ok.ensures.only_reads);
+}
 
 pub returns-then-self-gt0-clause-log : goal.returns-then-self-gt0-clause-log
 returns-then-self-gt0-clause-log g c =
@@ -72,42 +93,21 @@ returns-then-self-gt0-clause-log g c =
     if_some _ s _ c.dictionary_section.ensures
     (s.place.offset + 4, omega arith, subst (λ f. LogsThrough f s.place.offset (s.place.offset + 4) (g.S.Shelf.log c.args.shelf.now) (g.S.Shelf.log c.read_exactly.new.shelf)) c.as_str.ensures c.in-Ok.ensures.log)
 
-pub returns-clause-count : goal.returns-clause-count
-returns-clause-count g c =
-    let s = c.dictionary_section.result.now in
-    let held = g.S.Shelf.held c.args.shelf.now in
-    count_whole c.args.table.now c.args.self.now c.args.column s c.requires.column c.dictionary_section.ensures held c.in-Ok.bytes c.four_at-count.result c.if-place-lt4.false
-    (subst (λ f. IfSome held (λ files. c.in-Ok.bytes ≡ bytes_at files f s.place.offset 4)) c.as_str.ensures c.in-Ok.ensures.bytes)
-    (c.four_at-count.ensures ∙ ap (λ b. from_be_bytes w32 (take 4 b)) c.as_slice.ensures)
+pub returns-clause-reads : goal.returns-clause-reads
+returns-clause-reads g c = record {
+  told = let s = c.dictionary_section.result.now in
+      let held = g.S.Shelf.held c.args.shelf.now in
+      count_whole c.args.table.now c.args.self.now c.args.column s c.requires.column c.dictionary_section.ensures held c.in-Ok.bytes c.four_at-count.result c.if-place-lt4.false
+      (subst (λ f. IfSome held (λ files. c.in-Ok.bytes ≡ bytes_at files f s.place.offset 4)) c.as_str.ensures c.in-Ok.ensures.bytes)
+      (c.four_at-count.ensures ∙ ap (λ b. from_be_bytes w32 (take 4 b)) c.as_slice.ensures);
+  refused = tt;
+  only_reads = let old = seen g.S.Shelf c.args.shelf.now in
+      let new = seen g.S.Shelf c.read_exactly.new.shelf in
+      reads_ended c.four_at-count.result old new (reads_well c.in-Ok.bytes old new c.in-Ok.ensures.only_reads);
+}
 
 pub returns-clause-log : goal.returns-clause-log
 returns-clause-log g c =
     let s = c.dictionary_section.result.now in
     if_some _ s _ c.dictionary_section.ensures
     (s.place.offset + 4, omega arith, subst (λ f. LogsThrough f s.place.offset (s.place.offset + 4) (g.S.Shelf.log c.args.shelf.now) (g.S.Shelf.log c.read_exactly.new.shelf)) c.as_str.ensures c.in-Ok.ensures.log)
-
-pub returns-in-Err-clause-only_reads : goal.returns-in-Err-clause-only_reads
-returns-in-Err-clause-only_reads g c = reads_handed c.in-Err.fault (seen g.S.Shelf c.args.shelf.now) (seen g.S.Shelf c.read_exactly.new.shelf) c.in-Err.ensures.only_reads
-
-pub returns-then-place-lt4-clause-only_reads : goal.returns-then-place-lt4-clause-only_reads
-returns-then-place-lt4-clause-only_reads g c =
-    let old = seen g.S.Shelf c.args.shelf.now in
-    reads_other (NotASegment (Dictionary c.args.column)) old old (other_fault (Dictionary c.args.column)) (reads_none old)
-
-pub returns-then-count-self-clause-only_reads : goal.returns-then-count-self-clause-only_reads
-returns-then-count-self-clause-only_reads g c =
-    let old = seen g.S.Shelf c.args.shelf.now in
-    let new = seen g.S.Shelf c.read_exactly.new.shelf in
-    reads_other (NotASegment (Dictionary c.args.column)) old new (other_fault (Dictionary c.args.column)) (reads_well c.in-Ok.bytes old new c.in-Ok.ensures.only_reads)
-
-pub returns-then-self-gt0-clause-only_reads : goal.returns-then-self-gt0-clause-only_reads
-returns-then-self-gt0-clause-only_reads g c =
-    let old = seen g.S.Shelf c.args.shelf.now in
-    let new = seen g.S.Shelf c.read_exactly.new.shelf in
-    reads_other (NotASegment (Dictionary c.args.column)) old new (other_fault (Dictionary c.args.column)) (reads_well c.in-Ok.bytes old new c.in-Ok.ensures.only_reads)
-
-pub returns-clause-only_reads : goal.returns-clause-only_reads
-returns-clause-only_reads g c =
-    let old = seen g.S.Shelf c.args.shelf.now in
-    let new = seen g.S.Shelf c.read_exactly.new.shelf in
-    reads_ended c.four_at-count.result old new (reads_well c.in-Ok.bytes old new c.in-Ok.ensures.only_reads)

@@ -40,16 +40,22 @@ read_exactly-requires-clause-fits g c =
     let s = c.nodes_section.result.now in
     (section_within table head (length table.schema.fields + 1 + t) s c.requires.opened c.nodes_section.ensures).1
 
-pub returns-in-Err-read_exactly-clause-refused : goal.returns-in-Err-read_exactly-clause-refused
-returns-in-Err-read_exactly-clause-refused g c = λ p is.
-    let table = c.args.table.now in
-    let head = c.args.self.now in
-    let t = c.args.tree in
-    let s = c.nodes_section.result.now in
-    let held = g.S.Shelf.held c.args.shelf.now in
-    nodes_cut table head t s c.requires.tree c.nodes_section.ensures held
-    (subst (λ f. IfSome held (λ files. length (bytes_of (Some files) f) < s.place.offset + s.place.length)) c.as_str-file.ensures
-    (subst (λ h. IfSome h (λ files. length (bytes_of (Some files) c.as_str-file.result.now) < s.place.offset + s.place.length)) c.in-Ok.ensures.only_reads.held (c.in-Err-read_exactly.ensures.short p is).1))
+pub returns-in-Err-read_exactly-clause-reads : goal.returns-in-Err-read_exactly-clause-reads
+returns-in-Err-read_exactly-clause-reads g c = record {
+  told = tt;
+  refused = λ p is.
+      let table = c.args.table.now in
+      let head = c.args.self.now in
+      let t = c.args.tree in
+      let s = c.nodes_section.result.now in
+      let held = g.S.Shelf.held c.args.shelf.now in
+      nodes_cut table head t s c.requires.tree c.nodes_section.ensures held
+      (subst (λ f. IfSome held (λ files. length (bytes_of (Some files) f) < s.place.offset + s.place.length)) c.as_str-file.ensures
+      (subst (λ h. IfSome h (λ files. length (bytes_of (Some files) c.as_str-file.result.now) < s.place.offset + s.place.length)) c.in-Ok.ensures.reads.only_reads.held (c.in-Err-read_exactly.ensures.short p is).1));
+  only_reads = let old = seen g.S.Shelf c.args.shelf.now in
+      let between = seen g.S.Shelf c.split_counts.new.shelf in
+      reads_err c.in-Err-read_exactly.fault old between (seen g.S.Shelf c.read_exactly.new.shelf) (reads_well c.in-Ok.counts old between c.in-Ok.ensures.reads.only_reads) c.in-Err-read_exactly.ensures.only_reads;
+}
 
 pub returns-in-Err-read_exactly-clause-log : goal.returns-in-Err-read_exactly-clause-log
 returns-in-Err-read_exactly-clause-log g c =
@@ -77,22 +83,28 @@ check_tree-requires g c =
       counts_are = ap length c.deref.ensures.value ∙ c.in-Ok.ensures.each ∙ ap length (split_is table c.args.tree tree c.at.ensures) ∙ sym valid.has_dims;
     }
 
-pub returns-in-Ok-check_tree-clause-nodes : goal.returns-in-Ok-check_tree-clause-nodes
-returns-in-Ok-check_tree-clause-nodes g c =
-    let table = c.args.table.now in
-    let head = c.args.self.now in
-    let t = c.args.tree in
-    let s = c.nodes_section.result.now in
-    let held = g.S.Shelf.held c.args.shelf.now in
-    let tree = c.at.result.now in
-    let counts = c.in-Ok.counts.items in
-    let bytes = c.in-Ok-read_exactly.bytes in
-    let setting = c.at.ensures in
-    let have : OfWhole table held head (HaveCounts tree.split counts) = subst (λ xs. OfWhole table held head (HaveCounts xs counts)) (split_is table t tree setting) c.in-Ok.ensures.counts in
-    let read : IfSome held (λ files. bytes ≡ bytes_at files s.place.file s.place.offset s.place.length) =
-    subst (λ f. IfSome held (λ files. bytes ≡ bytes_at files f s.place.offset s.place.length)) c.as_str-file.ensures
-    (subst (λ h. IfSome h (λ files. bytes ≡ bytes_at files c.as_str-file.result.now s.place.offset s.place.length)) c.in-Ok.ensures.only_reads.held c.in-Ok-read_exactly.ensures.bytes) in
-    nodes_whole table head t s tree c.requires.valid c.requires.tree c.nodes_section.ensures setting held bytes counts c.in-Ok-check_tree.nodes read have (c.in-Ok-check_tree.ensures.said ∙ ap nodes_said c.as_slice.ensures)
+pub returns-in-Ok-check_tree-clause-reads : goal.returns-in-Ok-check_tree-clause-reads
+returns-in-Ok-check_tree-clause-reads g c = record {
+  told = let table = c.args.table.now in
+      let head = c.args.self.now in
+      let t = c.args.tree in
+      let s = c.nodes_section.result.now in
+      let held = g.S.Shelf.held c.args.shelf.now in
+      let tree = c.at.result.now in
+      let counts = c.in-Ok.counts.items in
+      let bytes = c.in-Ok-read_exactly.bytes in
+      let setting = c.at.ensures in
+      let have : OfWhole table held head (HaveCounts tree.split counts) = subst (λ xs. OfWhole table held head (HaveCounts xs counts)) (split_is table t tree setting) c.in-Ok.ensures.reads.told in
+      let read : IfSome held (λ files. bytes ≡ bytes_at files s.place.file s.place.offset s.place.length) =
+      subst (λ f. IfSome held (λ files. bytes ≡ bytes_at files f s.place.offset s.place.length)) c.as_str-file.ensures
+      (subst (λ h. IfSome h (λ files. bytes ≡ bytes_at files c.as_str-file.result.now s.place.offset s.place.length)) c.in-Ok.ensures.reads.only_reads.held c.in-Ok-read_exactly.ensures.bytes) in
+      nodes_whole table head t s tree c.requires.valid c.requires.tree c.nodes_section.ensures setting held bytes counts c.in-Ok-check_tree.nodes read have (c.in-Ok-check_tree.ensures.said ∙ ap nodes_said c.as_slice.ensures);
+  refused = tt;
+  only_reads = let old = seen g.S.Shelf c.args.shelf.now in
+      let between = seen g.S.Shelf c.split_counts.new.shelf in
+      let new = seen g.S.Shelf c.read_exactly.new.shelf in
+      reads_ended _ old new (reads_after ⊥ old between new (reads_well c.in-Ok.counts old between c.in-Ok.ensures.reads.only_reads) (reads_well c.in-Ok-read_exactly.bytes between new c.in-Ok-read_exactly.ensures.only_reads));
+}
 
 pub returns-in-Ok-check_tree-clause-log : goal.returns-in-Ok-check_tree-clause-log
 returns-in-Ok-check_tree-clause-log g c =
@@ -109,24 +121,32 @@ returns-in-Ok-check_tree-clause-log g c =
       nodes = if_some _ s _ c.nodes_section.ensures (s.place.offset + s.place.length, omega arith, subst (λ f. LogsThrough f s.place.offset (s.place.offset + s.place.length) between last) c.as_str-file.ensures c.in-Ok-read_exactly.ensures.log);
     }
 
-pub returns-in-Err-check_tree-clause-refused : goal.returns-in-Err-check_tree-clause-refused
-returns-in-Err-check_tree-clause-refused g c = λ p is.
-    let table = c.args.table.now in
-    let head = c.args.self.now in
-    let t = c.args.tree in
-    let s = c.nodes_section.result.now in
-    let held = g.S.Shelf.held c.args.shelf.now in
-    let tree = c.at.result.now in
-    let counts = c.in-Ok.counts.items in
-    let bytes = c.in-Ok-read_exactly.bytes in
-    let setting = c.at.ensures in
-    let have : OfWhole table held head (HaveCounts tree.split counts) = subst (λ xs. OfWhole table held head (HaveCounts xs counts)) (split_is table t tree setting) c.in-Ok.ensures.counts in
-    let read : IfSome held (λ files. bytes ≡ bytes_at files s.place.file s.place.offset s.place.length) =
-    subst (λ f. IfSome held (λ files. bytes ≡ bytes_at files f s.place.offset s.place.length)) c.as_str-file.ensures
-    (subst (λ h. IfSome h (λ files. bytes ≡ bytes_at files c.as_str-file.result.now s.place.offset s.place.length)) c.in-Ok.ensures.only_reads.held c.in-Ok-read_exactly.ensures.bytes) in
-    let bad = bad_nodes c.in-Err-check_tree.fault c.of_nodes.result p c.of_nodes.ensures.memory is in
-    nodes_none table head t s tree c.requires.valid c.requires.tree c.nodes_section.ensures setting held bytes counts read have
-    (λ are. c.in-Err-check_tree.ensures.bad (ap Err bad) (nodes_as _ _ _ _ _ _ _ (sym c.deref.ensures.value) (sym (ap (λ h. h.rows) c.self.view_is)) (sym c.as_slice.ensures) are))
+pub returns-in-Err-check_tree-clause-reads : goal.returns-in-Err-check_tree-clause-reads
+returns-in-Err-check_tree-clause-reads g c = record {
+  told = tt;
+  refused = λ p is.
+      let table = c.args.table.now in
+      let head = c.args.self.now in
+      let t = c.args.tree in
+      let s = c.nodes_section.result.now in
+      let held = g.S.Shelf.held c.args.shelf.now in
+      let tree = c.at.result.now in
+      let counts = c.in-Ok.counts.items in
+      let bytes = c.in-Ok-read_exactly.bytes in
+      let setting = c.at.ensures in
+      let have : OfWhole table held head (HaveCounts tree.split counts) = subst (λ xs. OfWhole table held head (HaveCounts xs counts)) (split_is table t tree setting) c.in-Ok.ensures.reads.told in
+      let read : IfSome held (λ files. bytes ≡ bytes_at files s.place.file s.place.offset s.place.length) =
+      subst (λ f. IfSome held (λ files. bytes ≡ bytes_at files f s.place.offset s.place.length)) c.as_str-file.ensures
+      (subst (λ h. IfSome h (λ files. bytes ≡ bytes_at files c.as_str-file.result.now s.place.offset s.place.length)) c.in-Ok.ensures.reads.only_reads.held c.in-Ok-read_exactly.ensures.bytes) in
+      let bad = bad_nodes c.in-Err-check_tree.fault c.of_nodes.result p c.of_nodes.ensures.memory is in
+      nodes_none table head t s tree c.requires.valid c.requires.tree c.nodes_section.ensures setting held bytes counts read have
+      (λ are. c.in-Err-check_tree.ensures.bad (ap Err bad) (nodes_as _ _ _ _ _ _ _ (sym c.deref.ensures.value) (sym (ap (λ h. h.rows) c.self.view_is)) (sym c.as_slice.ensures) are));
+  only_reads = let old = seen g.S.Shelf c.args.shelf.now in
+      let between = seen g.S.Shelf c.split_counts.new.shelf in
+      let new = seen g.S.Shelf c.read_exactly.new.shelf in
+      reads_other c.of_nodes.result old new c.of_nodes.ensures.read
+      (reads_after ⊥ old between new (reads_well c.in-Ok.counts old between c.in-Ok.ensures.reads.only_reads) (reads_well c.in-Ok-read_exactly.bytes between new c.in-Ok-read_exactly.ensures.only_reads));
+}
 
 pub returns-in-Err-check_tree-clause-log : goal.returns-in-Err-check_tree-clause-log
 returns-in-Err-check_tree-clause-log g c =
@@ -152,32 +172,12 @@ returns-in-Ok-check_tree-clause-keeps g c =
     if_some _ tree (λ setting. AreKept setting.shape c.in-Ok.counts.items c.in-Ok-check_tree.nodes) c.at.ensures
     (kept_so tree.shape c.deref.result.now c.in-Ok.counts.items c.as_slice.result.now _ c.in-Ok-check_tree.nodes c.deref.ensures.value c.in-Ok-check_tree.ensures.said c.in-Ok-check_tree.ensures.ok each)
 
-pub returns-in-Err-clause-refused : goal.returns-in-Err-clause-refused
-returns-in-Err-clause-refused g c = c.in-Err.ensures.refused
-
-pub returns-in-Err-clause-only_reads : goal.returns-in-Err-clause-only_reads
-returns-in-Err-clause-only_reads g c = reads_handed c.in-Err.fault (seen g.S.Shelf c.args.shelf.now) (seen g.S.Shelf c.split_counts.new.shelf) c.in-Err.ensures.only_reads
-
-pub returns-in-Err-read_exactly-clause-only_reads : goal.returns-in-Err-read_exactly-clause-only_reads
-returns-in-Err-read_exactly-clause-only_reads g c =
-    let old = seen g.S.Shelf c.args.shelf.now in
-    let between = seen g.S.Shelf c.split_counts.new.shelf in
-    reads_err c.in-Err-read_exactly.fault old between (seen g.S.Shelf c.read_exactly.new.shelf) (reads_well c.in-Ok.counts old between c.in-Ok.ensures.only_reads) c.in-Err-read_exactly.ensures.only_reads
+pub returns-in-Err-clause-reads : goal.returns-in-Err-clause-reads
+returns-in-Err-clause-reads g c = record {
+  told = tt;
+  refused = c.in-Err.ensures.reads.refused;
+  only_reads = reads_handed c.in-Err.fault (seen g.S.Shelf c.args.shelf.now) (seen g.S.Shelf c.split_counts.new.shelf) c.in-Err.ensures.reads.only_reads;
+}
 
 pub returns-in-Ok-check_tree-clause-counts : goal.returns-in-Ok-check_tree-clause-counts
-returns-in-Ok-check_tree-clause-counts g c = c.in-Ok.ensures.counts
-
-pub returns-in-Ok-check_tree-clause-only_reads : goal.returns-in-Ok-check_tree-clause-only_reads
-returns-in-Ok-check_tree-clause-only_reads g c =
-    let old = seen g.S.Shelf c.args.shelf.now in
-    let between = seen g.S.Shelf c.split_counts.new.shelf in
-    let new = seen g.S.Shelf c.read_exactly.new.shelf in
-    reads_ended _ old new (reads_after ⊥ old between new (reads_well c.in-Ok.counts old between c.in-Ok.ensures.only_reads) (reads_well c.in-Ok-read_exactly.bytes between new c.in-Ok-read_exactly.ensures.only_reads))
-
-pub returns-in-Err-check_tree-clause-only_reads : goal.returns-in-Err-check_tree-clause-only_reads
-returns-in-Err-check_tree-clause-only_reads g c =
-    let old = seen g.S.Shelf c.args.shelf.now in
-    let between = seen g.S.Shelf c.split_counts.new.shelf in
-    let new = seen g.S.Shelf c.read_exactly.new.shelf in
-    reads_other c.of_nodes.result old new c.of_nodes.ensures.read
-    (reads_after ⊥ old between new (reads_well c.in-Ok.counts old between c.in-Ok.ensures.only_reads) (reads_well c.in-Ok-read_exactly.bytes between new c.in-Ok-read_exactly.ensures.only_reads))
+returns-in-Ok-check_tree-clause-counts g c = c.in-Ok.ensures.reads.told

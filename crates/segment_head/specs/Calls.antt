@@ -1,0 +1,76 @@
+-- What the calls that read a head, or a part of one, ask, tell, are refused by and read.
+use Rattle.std.specs.Prelude.{◌≡◌, ◌≤◌, ◌<◌, ◌^◌, ℕ, List, length, Some, Result, IfErr, IfOk, IfSome, IsErrOf}
+use Rattle.outside.specs.Files.{bytes_of}
+use Rattle.outside.specs.Seen as outside
+use Rattle.outside.specs.Seen.{OnlyReads}
+use Rattle.table_schema.specs.ValidTable.{IsValidTable}
+use Rattle.table_schema.specs.declared.table.Table.{Table}
+use Rattle.segment_file.specs.Front.{Front, file_end}
+use Rattle.segment_file.specs.Parts.{sections_of}
+use Rattle.segment_file.specs.Rules.{FailsAt, KeepsRules}
+use Rattle.segment_file.specs.declared.fault.HeadFault.{HeadFault}
+use Rattle.segment_file.specs.declared.fault.HeadFault.TheVariants.{NotASegment, ReadFault}
+use Rattle.segment_file.specs.declared.part.Part.{Part}
+use Rattle.segment_head.specs.Heads.{AreIn, IsBare, IsHead, IsHeadOf, IsOpened, IsPartOf, LogsHead, LogsOpened, OfWhole, Seen}
+
+-- ---- what is asked
+
+-- a column of the table that an open head is of
+pub record IsColumnOf (table : Table) (head : Seen) (number : ℕ) : Type 0 where
+  pub opened : IsHeadOf table head
+  pub column : number < length table.schema.fields
+
+-- a star-tree of the table that an open head is of
+pub record IsTreeOf (table : Table) (head : Seen) (number : ℕ) : Type 0 where
+  pub valid : IsValidTable table
+  pub opened : IsHeadOf table head
+  pub tree : number < length table.settings.trees
+
+-- what a front says may be said of a file of the table, whose sections these are
+pub record MayBeFront (table : Table) (text : List ℕ) (front : Front) (sections : List Part)
+    : Type 0 where
+  pub valid : IsValidTable table
+  pub name : length text ≤ 64
+  pub parts : sections ≡ sections_of table
+  pub each : length front.sizes ≡ length sections
+  pub rows : front.rows ≤ 1048576
+  pub short : file_end table text front < 2 ^ 64
+
+-- ---- a head that is read
+
+-- the whole head of a file was read, or the part of the first rule that fails; and nothing past it
+pub record ReadsHead (table : Table) (name file : List ℕ) (old new : outside.Seen)
+    (result : Result Seen HeadFault) : Type 0 where
+  pub of : IfOk result (IsHeadOf table)
+  pub head : IfOk result (λ head. IfSome old.held (λ files.
+      IsHead table name file (bytes_of (Some files) file) head))
+  pub refused : IfErr result (λ fault. (p : Part) → fault ≡ NotASegment p
+      → IfSome old.held (λ files. FailsAt table name (bytes_of (Some files) file) p))
+  pub only_reads : OnlyReads (IsErrOf result ReadFault) old new
+  pub log : LogsHead table name file old.held old.log new.log
+
+-- the front and the bounds of a file were read, so that its head is open and nothing of it loaded;
+-- or a rule fails
+pub record OpensHead (table : Table) (name file : List ℕ) (old new : outside.Seen)
+    (result : Result Seen HeadFault) : Type 0 where
+  pub of : IfOk result (IsHeadOf table)
+  pub bare : IfOk result IsBare
+  pub placed : IfOk result (λ head. AreIn file head.sections)
+  pub opened : IfOk result (λ head. IfSome old.held (λ files.
+      IsOpened table name file (bytes_of (Some files) file) head))
+  pub part : IfOk result (λ head. IfSome old.held (λ files. (whole : Seen)
+      → IsHead table name file (bytes_of (Some files) file) whole → IsPartOf whole head))
+  pub refused : IfErr result (λ fault. (p : Part) → fault ≡ NotASegment p
+      → IfSome old.held (λ files. ¬ KeepsRules table name (bytes_of (Some files) file)))
+  pub only_reads : OnlyReads (IsErrOf result ReadFault) old new
+  pub log : LogsOpened table name file old.held old.log new.log
+
+-- ---- a part of a head that is read
+
+-- a part of an open head was read: what was read has P with the whole head, or the file is refused
+pub record ReadsPart {A : Type 0} (P : A → Seen → Type 0) (table : Table) (head : Seen)
+    (old new : outside.Seen) (result : Result A HeadFault) : Type 0 where
+  pub told : IfOk result (λ a. OfWhole table old.held head (P a))
+  pub refused : IfErr result (λ fault. (p : Part) → fault ≡ NotASegment p
+      → OfWhole table old.held head (λ _. ⊥))
+  pub only_reads : OnlyReads (IsErrOf result ReadFault) old new

@@ -1,0 +1,59 @@
+-- What the calls that open a segment ask, give, are refused by and read.
+use Rattle.std.specs.Prelude.{◌≡◌, ◌≢◌, ℕ, List, Option, Result, Err, IfSome, IsErrOf, OnOk}
+use Rattle.outside.specs.Files.{Files}
+use Rattle.outside.specs.Seen.{OnlyReads, Seen}
+use Rattle.table_schema.specs.ValidQuery.{IsValidQuery}
+use Rattle.table_schema.specs.ValidTable.{IsValidTable}
+use Rattle.table_schema.specs.declared.query.BoundQuery.{BoundQuery}
+use Rattle.table_schema.specs.declared.table.Table.{Table}
+use Rattle.segment_file.specs.Names.{file_of}
+use Rattle.segment_file.specs.declared.part.Part.{Part}
+use Rattle.segment_head.specs.Heads as heads
+use Rattle.segment_head.specs.Stored.{HasNoImage}
+use Rattle.segment_head.specs.declared.fault.EngineFault.{EngineFault}
+use Rattle.segment_head.specs.declared.fault.EngineFault.TheVariants as engine
+use Rattle.segment_reads.specs.Logs.{DictionariesEnd, EndsBy, EndsInHead, LogsHeadOf, LogsThat}
+use Rattle.segment_opening.specs.Opened.{Grows, IsHeadIn, IsSpreadIn}
+
+-- ---- what is asked
+
+-- a query over the segment of a table that has this head
+pub record IsQueryOnHead (bound : BoundQuery) (table : Table) (head : heads.Seen) : Type 0 where
+  pub valid : IsValidTable table
+  pub query : IsValidQuery table bound
+  pub of_table : heads.IsHeadOf table head
+
+-- ---- a head that is opened
+
+-- the head of the segment of this name: where its sections are, and where files are told, that of
+-- the image that its file is
+pub record IsOpened (table : Table) (held : Option Files) (name : List ℕ) (head : heads.Seen)
+    : Type 0 where
+  pub of : heads.IsHeadOf table head
+  pub placed : heads.AreIn (file_of name) head.sections
+  pub image : IsHeadIn table held name head
+  pub ends : IfSome held (λ files. EndsInHead table files name head)
+  pub spread : IsSpreadIn table held name head
+
+-- the head of the segment of this name alone was read, or it is refused
+pub record LooksAtHead {A : Type 0} (table : Table) (name : List ℕ) (old new : Seen)
+    (result : Result A EngineFault) : Type 0 where
+  pub bad : (part : Part) → result ≡ Err (engine.NotASegment part)
+      → IfSome old.held (λ files. HasNoImage table files name)
+  pub never_full : result ≢ Err engine.TooManyGroups
+  pub only_reads : OnlyReads (IsErrOf result engine.ReadFault) old new
+  pub log : LogsHeadOf table old.held name old.log new.log
+
+-- ---- dictionaries that are loaded
+
+-- more dictionaries of a head were loaded, or its file is refused; and nothing past them was read
+pub record LoadsMore {A : Type 0} (table : Table) (result : Result A EngineFault)
+    (head grown : heads.Seen) (old new : Seen) : Type 0 where
+  pub grows : OnOk result (Grows table old.held head grown)
+  pub bad : (part : Part) → result ≡ Err (engine.NotASegment part) → (name : List ℕ)
+      → IsHeadIn table old.held name head
+      → IfSome old.held (λ files. HasNoImage table files name)
+  pub never_full : result ≢ Err engine.TooManyGroups
+  pub only_reads : OnlyReads (IsErrOf result engine.ReadFault) old new
+  pub log : (file : List ℕ) (end : ℕ) → heads.AreIn file head.sections
+      → DictionariesEnd table head end → LogsThat (EndsBy file end) old.log new.log
