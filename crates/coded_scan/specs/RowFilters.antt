@@ -1,6 +1,6 @@
 -- Conditions on the rows of a segment by their ids, and the places of the rows that they let
 -- through.
-use Rattle.std.specs.Prelude.{ℕ, zero, suc, ◌+◌, ◌≡◌, Bool, true, List, [], ◌∷◌, ◌++◌, cond, length, get_or, nat_eq}
+use Rattle.std.specs.Prelude.{ℕ, zero, suc, ◌+◌, ◌-◌, ◌≤◌, ◌≡◌, Bool, true, List, [], ◌∷◌, ◌++◌, cond, length, get_or, nat_eq}
 use Rattle.std.specs.List.{list_all}
 use Rattle.values.specs.Tests.{all_true, any_true}
 use Rattle.value_ids.specs.Ids.{has_id}
@@ -42,3 +42,8 @@ AllCover count row_filters = list_all (covers count) row_filters ≡ true
 abbrev pub passing : (ℕ → Bool) → ℕ → ℕ → List ℕ
 passing holds from zero = []
 passing holds from (suc n) = passing holds from n ++ cond (holds (from + n)) ((from + n) ∷ []) []
+
+-- these are the places from one up to another of which it holds
+pub record ArePassing (holds : ℕ → Bool) (from to : ℕ) (places : List ℕ) : Type 0 where
+  pub within : from ≤ to
+  pub are : places ≡ passing holds from (to - from)

@@ -7,12 +7,13 @@ ghost use Rattle.group_table.specs.declared.fault.TableFault.TheVariants.{TooMan
 ghost use Rattle.group_table.specs.Kept.{IsTableOf, groups_in};
 ghost use Rattle.scan_engine.specs.Scanned.{AddsRows, HaveAtMost, IsOverfull, selected};
 ghost use Rattle.coded_columns.specs.Coded.{AreCoded, table_of};
-ghost use Rattle.coded_scan.specs.RowFilters.{AllCover, all_let, passing};
+ghost use Rattle.coded_scan.specs.RowFilters.{AllCover, ArePassing, all_let, passing};
 ghost use Rattle.segment_plan.specs.Served.{rest_of};
 ghost use Rattle.value_ids.specs.Coding.{AreBelow};
 ghost use Rattle.scan_engine.specs.Places.{rows_at};
 
 use crate::coded_filter::row_filters_of;
+use crate::filtered_rows::FilteredRows;
 use crate::merging::merge_slots;
 use crate::row_filter::RowFilter;
 use crate::selection::{Block, push_block};
@@ -54,11 +55,11 @@ pub fn add_coded(
 }
 
 // Adds the rows of a segment that conditions let through.
-fn add_blocks(
+fn add_blocks<'a, 'i>(
     alloc: Global,
     query: &BoundQuery,
-    segment: &SegmentColumns<'_>,
-    row_filters: &[RowFilter<'_>],
+    segment: &'a SegmentColumns<'i>,
+    row_filters: &'a [RowFilter<'i>],
     table: &mut GroupTable,
 ) -> Result<(), TableFault>
     requires coded { AreCoded segment.now }
@@ -72,21 +73,16 @@ fn add_blocks(
         (rows_at (table_of segment.now).columns
         (passing (λ at. all_let at row_filters.now) 0 segment.now.count)) table.old }
 {
+    let rows = FilteredRows {
+        segment,
+        row_filters,
+    };
     let mut places = Vec::with_capacity(alloc, FEW_PLACES.min(segment.count) + BLOCK)?;
     let mut from = 0;
     let mut done = 0;
     for _ in 0..segment.count / BLOCK + 1 {
         let block = block_from(from, segment.count);
-        match add_block(
-            alloc,
-            query,
-            segment,
-            row_filters,
-            block,
-            done,
-            &mut places,
-            table,
-        ) {
+        match add_block(alloc, query, rows, block, done, &mut places, table) {
             Ok(next) => done = next,
             Err(fault) => return Err(fault),
         }
@@ -117,39 +113,36 @@ fn block_from(from: usize, count: usize) -> Block
 fn add_block(
     alloc: Global,
     query: &BoundQuery,
-    segment: &SegmentColumns<'_>,
-    row_filters: &[RowFilter<'_>],
+    rows: FilteredRows<'_, '_>,
     block: Block,
     done: usize,
     places: &mut Vec<u32>,
     table: &mut GroupTable,
 ) -> Result<usize, TableFault>
-    requires coded { AreCoded segment.now }
-    requires covers { AllCover segment.now.count row_filters.now }
-    requires within { block.from + block.length ≤ segment.now.count }
+    requires coded { AreCoded rows.segment.now }
+    requires within { block.from + block.length ≤ rows.segment.now.count }
     requires table { IsTableOf query.now table.old }
-    requires fits { HaveAtMost (most_values - segment.now.count + done) (groups_in table.old) }
-    requires done { done ≤ block.from }
-    requires places { places.old.items
-        ≡ passing (λ at. all_let at row_filters.now) done (block.from - done) }
-    ensures next { IfOk result (λ next. next ≤ block.from + block.length) }
+    requires fits { HaveAtMost (most_values - rows.segment.now.count + done) (groups_in table.old) }
+    requires left { ArePassing (λ at. all_let at rows.row_filters.now) done block.from
+        places.old.items }
     ensures from { IfOk result (λ next. done ≤ next) }
-    ensures places { IfOk result (λ next. places.new.items
-        ≡ passing (λ at. all_let at row_filters.now) next (block.from + block.length - next)) }
+    ensures left { IfOk result (λ next. ArePassing (λ at. all_let at rows.entry.row_filters.now)
+        next (block.from + block.length) places.new.items) }
     ensures ok { IfOk result (λ next. AddsRows query.now (next - done)
-        (rows_at (table_of segment.now).columns
-        (passing (λ at. all_let at row_filters.now) done (next - done))) table.old table.new) }
+        (rows_at (table_of rows.entry.segment.now).columns
+        (passing (λ at. all_let at rows.entry.row_filters.now) done (next - done)))
+        table.old table.new) }
     ensures full { result ≡ Err TooManyGroups → IsOverfull query.now
-        (rows_at (table_of segment.now).columns
-        (passing (λ at. all_let at row_filters.now) done (block.from + block.length - done)))
-        table.old }
+        (rows_at (table_of rows.entry.segment.now).columns
+        (passing (λ at. all_let at rows.entry.row_filters.now) done
+        (block.from + block.length - done))) table.old }
 {
-    push_block(alloc, row_filters, segment.count, block, places)?;
+    push_block(alloc, rows.row_filters, rows.segment.count, block, places)?;
     let most = FEW_PLACES.max(table.groups() as usize * PLACES_A_GROUP);
     if places.len() < most {
         return Ok(done);
     }
-    match add_some(alloc, query, segment, places.as_slice(), table) {
+    match add_some(alloc, query, rows.segment, places.as_slice(), table) {
         Ok(()) => {}
         Err(fault) => return Err(fault),
     }

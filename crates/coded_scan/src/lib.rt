@@ -6,6 +6,7 @@
 
 mod adding;
 mod coded_filter;
+mod filtered_rows;
 mod marking;
 mod merging;
 mod row_filter;

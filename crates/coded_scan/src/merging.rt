@@ -5,16 +5,16 @@ ghost use Rattle.std.specs.List.{All};
 ghost use Rattle.values.specs.Columns.{row_of};
 ghost use Rattle.state_columns.specs.Columns.{row_at};
 ghost use Rattle.agg_laws.specs.Numbers.{most_values};
-ghost use Rattle.agg_laws.specs.Rows.{RowFits};
 ghost use Rattle.value_ids.specs.Coding.{AreBelow};
 ghost use Rattle.group_table.specs.declared.fault.TableFault.TheVariants.{TooManyGroups};
-ghost use Rattle.group_table.specs.Groups.{key_of, states_of};
+ghost use Rattle.group_table.specs.Groups.{key_of};
 ghost use Rattle.group_table.specs.Kept.{IsTableOf, groups_in};
 ghost use Rattle.scan_engine.specs.Places.{rows_at};
 ghost use Rattle.table_schema.specs.Conditions.{cell};
 ghost use Rattle.scan_engine.specs.Scanned.{AddsRows, HaveAtMost, IsOverfull};
 ghost use Rattle.coded_columns.specs.Coded.{AreCoded, table_of};
-ghost use Rattle.coded_columns.specs.Slots.{AreSlots, in_slot};
+ghost use Rattle.coded_columns.specs.Slots.{AreSlots};
+ghost use Rattle.coded_scan.specs.SlotStates.{HoldStates};
 
 use coded_columns::{SegmentColumns, Slots};
 use group_table::{GroupTable, TableFault};
@@ -40,13 +40,8 @@ pub fn merge_slots(
     requires fits { HaveAtMost (most_values - length places.now) (groups_in table.old) }
     requires slots { AreSlots (table_of segment.now).columns query.now.groups places.now
         groups.now.slots.items groups.now.firsts.items }
-    requires lengths { All (λ c. length c.states ≡ length groups.now.firsts.items) states.now }
-    requires states { (slot : ℕ) → slot < length groups.now.firsts.items
-        → row_at states.now slot ≡ states_of query.now.aggs (in_slot slot groups.now.slots.items
-        (rows_at (table_of segment.now).columns places.now)) }
-    requires row_fits { (slot : ℕ) → slot < length groups.now.firsts.items
-        → RowFits (row_at states.now slot) (length (in_slot slot groups.now.slots.items
-        (rows_at (table_of segment.now).columns places.now))) }
+    requires states { HoldStates query.now.aggs (length groups.now.firsts.items)
+        groups.now.slots.items (rows_at (table_of segment.now).columns places.now) states.now }
     ensures ok { OnOk result (AddsRows query.now (length places.now)
         (rows_at (table_of segment.now).columns places.now) table.old table.new) }
     ensures full { result ≡ Err TooManyGroups

@@ -33,7 +33,7 @@ merge_row-requires-clause-kinds c =
     let slot : ℕ = c.loop-slot.slot in
     let run : List (List Value) = in_slot slot slots rows in
     let lt : slot < length firsts = omega (arith, c.loop-slot-test.true, c.len-slot-end.ensures) in
-    let row_is : c.in_ok-row.row ≡ states_of q.aggs run = c.in_ok-row.ensures ∙ c.requires.states slot lt in
+    let row_is : c.in_ok-row.row ≡ states_of q.aggs run = c.in_ok-row.ensures ∙ c.requires.states.states slot lt in
     ap kinds_of row_is ∙ kinds_states q.aggs run ∙ sym c.loop-slot.invariant.of_query.kinds
 
 pub merge_row-requires-clause-values : goal.merge_row-requires-clause-values
@@ -47,7 +47,7 @@ merge_row-requires-clause-values c =
     let slot : ℕ = c.loop-slot.slot in
     let run : List (List Value) = in_slot slot slots rows in
     let lt : slot < length firsts = omega (arith, c.loop-slot-test.true, c.len-slot-end.ensures) in
-    let row_is : c.in_ok-row.row ≡ states_of q.aggs run = c.in_ok-row.ensures ∙ c.requires.states slot lt in
+    let row_is : c.in_ok-row.row ≡ states_of q.aggs run = c.in_ok-row.ensures ∙ c.requires.states.states slot lt in
     let first : c.index.result.now ≡ get_or firsts slot 0 = c.index.ensures ∙ get_or_default firsts slot c.index.result.now 0 lt in
     let key : c.in_ok-key.key ≡ key_of q.groups (row_of columns (get_or places (get_or firsts slot 0) 0)) =
     c.in_ok-key.ensures ∙ ap (λ (gs : List ℕ). key_of gs (row_of columns (get_or places c.index.result.now 0))) c.as_slice-columns.ensures
@@ -66,10 +66,10 @@ merge_row-requires-clause-fits c =
     let slot : ℕ = c.loop-slot.slot in
     let run : List (List Value) = in_slot slot slots rows in
     let lt : slot < length firsts = omega (arith, c.loop-slot-test.true, c.len-slot-end.ensures) in
-    let row_is : c.in_ok-row.row ≡ states_of q.aggs run = c.in_ok-row.ensures ∙ c.requires.states slot lt in
+    let row_is : c.in_ok-row.row ≡ states_of q.aggs run = c.in_ok-row.ensures ∙ c.requires.states.states slot lt in
     let many : length rows ≡ length places = length-map places (row_of columns) in
     let as_many : length slots ≡ length rows = c.requires.slots.count ∙ sym many in
-    let fits : RowFits c.in_ok-row.row (length run) = subst (λ (s : List AggState). RowFits s (length run)) (sym c.in_ok-row.ensures) (c.requires.row_fits slot lt) in
+    let fits : RowFits c.in_ok-row.row (length run) = subst (λ (s : List AggState). RowFits s (length run)) (sym c.in_ok-row.ensures) (c.requires.states.fits slot lt) in
     let at_most : length run ≤ most_values = omega (arith, in_slot-few slot slots rows, many, c.requires.at_most) in
     let room : HaveAtMost (most_values - length rows) (groups_in c.args.table.now) = subst (λ n. HaveAtMost (most_values - n) (groups_in c.args.table.now)) (sym many) c.requires.fits in
     merged_within (groups_in c.loop-slot.table) c.in_ok-key.key c.in_ok-row.row (length run) at_most
@@ -86,7 +86,7 @@ returns-in-Err-clause-full c =
     let slot : ℕ = c.loop-slot.slot in
     let run : List (List Value) = in_slot slot slots rows in
     let lt : slot < length firsts = omega (arith, c.loop-slot-test.true, c.len-slot-end.ensures) in
-    let row_is : c.in_ok-row.row ≡ states_of q.aggs run = c.in_ok-row.ensures ∙ c.requires.states slot lt in
+    let row_is : c.in_ok-row.row ≡ states_of q.aggs run = c.in_ok-row.ensures ∙ c.requires.states.states slot lt in
     let first : c.index.result.now ≡ get_or firsts slot 0 = c.index.ensures ∙ get_or_default firsts slot c.index.result.now 0 lt in
     let key : c.in_ok-key.key ≡ key_of q.groups (row_of columns (get_or places (get_or firsts slot 0) 0)) =
     c.in_ok-key.ensures ∙ ap (λ (gs : List ℕ). key_of gs (row_of columns (get_or places c.index.result.now 0))) c.as_slice-columns.ensures
@@ -110,13 +110,13 @@ loop-slot-preserved c =
     let slot : ℕ = c.loop-slot.slot in
     let run : List (List Value) = in_slot slot slots rows in
     let lt : slot < length firsts = omega (arith, c.loop-slot-test.true, c.len-slot-end.ensures) in
-    let row_is : c.in_ok-row.row ≡ states_of q.aggs run = c.in_ok-row.ensures ∙ c.requires.states slot lt in
+    let row_is : c.in_ok-row.row ≡ states_of q.aggs run = c.in_ok-row.ensures ∙ c.requires.states.states slot lt in
     let first : c.index.result.now ≡ get_or firsts slot 0 = c.index.ensures ∙ get_or_default firsts slot c.index.result.now 0 lt in
     let key : c.in_ok-key.key ≡ key_of q.groups (row_of columns (get_or places (get_or firsts slot 0) 0)) =
     c.in_ok-key.ensures ∙ ap (λ (gs : List ℕ). key_of gs (row_of columns (get_or places c.index.result.now 0))) c.as_slice-columns.ensures
     ∙ ap (λ (f : ℕ). key_of q.groups (row_of columns (get_or places f 0))) first in
     let r : IsRun q.groups c.in_ok-key.key run = slot-run columns q.groups places slots firsts slot c.in_ok-key.key c.requires.slots lt key in
-    let fits : RowFits c.in_ok-row.row (length run) = subst (λ (s : List AggState). RowFits s (length run)) (sym c.in_ok-row.ensures) (c.requires.row_fits slot lt) in
+    let fits : RowFits c.in_ok-row.row (length run) = subst (λ (s : List AggState). RowFits s (length run)) (sym c.in_ok-row.ensures) (c.requires.states.fits slot lt) in
     merge-next q slots rows slot c.args.table.now c.loop-slot.table c.merge_row.new.self c.loop-slot.invariant
     (adds_run q (length run) run c.in_ok-key.key c.in_ok-row.row c.loop-slot.table c.merge_row.new.self c.loop-slot.invariant.of_query r row_is fits c.in_default.ensures.ok)
 
