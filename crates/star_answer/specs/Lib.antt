@@ -4,3 +4,4 @@ pub mod OfRows
 pub mod Segments
 pub mod Covered
 pub mod DocLaws
+pub mod Merging

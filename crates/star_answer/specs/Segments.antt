@@ -1,17 +1,23 @@
 -- The answer of a segment from a star-tree of its file: what it does to groups, how many documents
 -- are read, and what is read of the file.
-use Rattle.std.specs.Prelude.{◌≡◌, ◌≤◌, ◌+◌, ◌⊎◌, ℕ, List, map, length, slice_get, Option, Some, IfSome}
+use Rattle.std.specs.Prelude.{◌≡◌, ◌≤◌, ◌+◌, ◌-◌, ◌⊎◌, ℕ, List, map, length, slice_get, Option, Some, IfSome}
 use Rattle.std.specs.List.{AllByRecursion}
 use Rattle.outside.specs.Files.{Files}
 use Rattle.outside.specs.Reads.{Entry}
 use Rattle.outside.specs.declared.place.Place.{Place}
 use Rattle.values.specs.declared.value.Value.{Value}
+use Rattle.agg_laws.specs.Numbers.{most_values}
+use Rattle.table_schema.specs.ValidQuery.{IsValidQuery}
+use Rattle.table_schema.specs.ValidTable.{IsValidTable}
+use Rattle.eligibility.specs.Rule.{picked}
+use Rattle.segment_plan.specs.Matched.{AreLoaded}
+use Rattle.segment_plan.specs.Named.{AreGroupsLoaded}
 use Rattle.table_schema.specs.declared.query.BoundQuery.{BoundQuery}
 use Rattle.table_schema.specs.declared.settings.TreeSetting.{TreeSetting}
 use Rattle.table_schema.specs.declared.table.Table.{Table}
 use Rattle.star_file.specs.Reading.{doc_width}
 use Rattle.segment_file.specs.declared.part.Part.TheVariants.{Star}
-use Rattle.segment_head.specs.Heads.{LogsTree, Seen, place_in}
+use Rattle.segment_head.specs.Heads.{IsHeadOf, LogsTree, Seen, place_in}
 use Rattle.segment_file.specs.Ordered.{ordered}
 use Rattle.segment_head.specs.Stored.{IsOfImage}
 use Rattle.outside.specs.Stretches.{LogsOver, LogsPartly, Stretch}
@@ -25,6 +31,19 @@ use Rattle.segment_reads.specs.Docs.{docs_read}
 -- the rows of an image that satisfy the filter, in their order
 abbrev pub rows_of_image : BoundQuery → Table → List (List Value) → List (List Value)
 rows_of_image query table rows = selected query (ordered table.settings.sorted rows)
+
+-- a query over a segment of a table, for which this tree is picked, whose head has all that the
+-- answer names loaded, and groups of the query to which the rows of the segment may be added
+pub record IsServable (query : BoundQuery) (table : Table) (head : Seen) (tree : ℕ)
+    (groups : KeptGroups) : Type 0 where
+  pub valid : IsValidTable table
+  pub of_table : IsHeadOf table head
+  pub query_valid : IsValidQuery table query
+  pub is_picked : picked query table.settings.trees ≡ Some tree
+  pub loaded : AreLoaded query.conjuncts head
+  pub groups_loaded : AreGroupsLoaded query.groups head
+  pub of_query : IsTableOf query groups
+  pub fits : HaveAtMost (most_values - head.rows) (groups_in groups)
 
 -- ---- groups
 

@@ -1,17 +1,14 @@
 //! The answer of a segment from a star-tree.
 
-ghost use Rattle.std.specs.Prelude.{◌≡◌, ◌-◌, ◌<◌, ◌≤◌, Err, IfOk, IsErrOf, MatchOption};
+ghost use Rattle.std.specs.Prelude.{◌≡◌, ◌<◌, ◌≤◌, Err, IfOk, IsErrOf, MatchOption};
 ghost use Rattle.std.specs.Prelude.{OnErr, OnOk};
 ghost use Rattle.std.specs.FinMap as finite;
 ghost use Rattle.outside.specs.Seen.{OnlyReads, seen};
-ghost use Rattle.agg_laws.specs.Numbers.{most_stored, most_values};
 ghost use Rattle.group_table.specs.Kept.{groups_in};
-ghost use Rattle.scan_engine.specs.Scanned.{HaveAtMost};
 ghost use Rattle.star_walk.specs.Images.{read_of};
 ghost use Rattle.star_reader.specs.declared.fault.AnswerFault.TheVariants.{BadDocs, ReadFault};
 ghost use Rattle.star_reader.specs.declared.fault.AnswerFault.TheVariants.{TooManyGroups};
-ghost use Rattle.star_reader.specs.Asked.{AreAsked, IsTableFor};
-ghost use Rattle.star_reader.specs.Answers.{Answers, IsBad, IsOverfull, IsTree, LogsPicks};
+ghost use Rattle.star_reader.specs.Answers.{Answers, CanAnswer, IsBad, IsOverfull, LogsPicks};
 ghost use Rattle.star_reader.specs.Answers.{LogsSome, picks_of, reads_of};
 
 use crate::merging::merge_documents;
@@ -33,11 +30,7 @@ pub fn answer_tree<S: Shelf>(
     rows: u32,
     groups: &mut GroupTable,
 ) -> Result<u32, AnswerFault>
-    requires tree { IsTree tree.now task.now }
-    requires asked { AreAsked tree.now.shape.now asked.now }
-    requires table { IsTableFor tree.now.shape.now asked.now groups.old }
-    requires rows { rows ≤ most_stored }
-    requires fits { HaveAtMost (most_values - rows) (groups_in groups.old) }
+    requires { CanAnswer tree.now task.now asked.now rows groups.old }
     ensures count { IfOk result (λ n. n ≡ read_of (picks_of tree.now task.now)) }
     ensures ok { OnOk result (Answers tree.now task.now asked.now rows (S.held shelf.old)
         groups.old groups.new) }

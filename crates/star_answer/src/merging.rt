@@ -1,17 +1,16 @@
 //! Documents that were selected are merged by their ids, and then into groups: a key for each.
 
-ghost use Rattle.std.specs.Prelude.{◌≡◌, ◌-◌, ◌^◌, ◌<◌, ◌≤◌, Err, IfOk, OnOk, drop, length};
-ghost use Rattle.std.specs.List.{All};
+ghost use Rattle.std.specs.Prelude.{◌≡◌, ◌^◌, ◌<◌, ◌≤◌, Err, IfOk, OnOk, drop, length};
 ghost use Rattle.std.specs.FinMap as finite;
-ghost use Rattle.agg_laws.specs.Numbers.{most_stored, most_values};
+ghost use Rattle.agg_laws.specs.Numbers.{most_stored};
 ghost use Rattle.agg_laws.specs.Rows.{row_weight};
 ghost use Rattle.state_columns.specs.Docs.{HaveShape, doc_at};
 ghost use Rattle.agg_laws.specs.Merged.{weights};
 ghost use Rattle.group_table.specs.declared.fault.TableFault.TheVariants.{TooManyGroups};
 ghost use Rattle.group_table.specs.Kept.{groups_in};
-ghost use Rattle.scan_engine.specs.Scanned.{HaveAtMost};
 ghost use Rattle.star_reader.specs.Entries.{MergesEntries, with_entries};
-ghost use Rattle.star_reader.specs.Selected.{AreKeyIds, keyed};
+ghost use Rattle.star_reader.specs.Selected.{keyed};
+ghost use Rattle.star_answer.specs.Merging.{CanMerge};
 
 use group_table::{GroupTable, TableFault};
 use star_reader::{GroupColumn, key_at};
@@ -28,15 +27,7 @@ pub fn merge_documents(
     groups: &mut GroupTable,
 ) -> Result<(), TableFault>
     requires at_most { length selected.docs ≤ most_stored }
-    requires dims { selected.dims ≡ length columns.now }
-    requires few_columns { length columns.now ≤ 16 }
-    requires keyed { All (λ e. AreKeyIds columns.now e.0) selected.docs }
-    requires weight_fits { weights row_weight selected.docs ≤ most_stored }
-    requires few_kinds { length selected.kinds ≤ 16 }
-    requires columns { groups.old.columns ≡ length columns.now }
-    requires kinds { groups.old.kinds ≡ selected.kinds }
-    requires fits { HaveAtMost (most_values - weights row_weight selected.docs)
-        (groups_in groups.old) }
+    requires merges { CanMerge columns.now selected selected.docs groups.old }
     ensures ok { OnOk result (MergesEntries (weights row_weight selected.docs)
         (keyed columns.now selected.docs) groups.old groups.new) }
     ensures full { result ≡ Err TooManyGroups → groups.old.most < finite.len
@@ -64,16 +55,8 @@ fn merge_last(
     groups: &mut GroupTable,
 ) -> Result<(), TableFault>
     requires at_most { length selected.now.docs < 2 ^ 32 }
-    requires dims { selected.now.dims ≡ length columns.now }
-    requires few_columns { length columns.now ≤ 16 }
     requires from { from ≤ length selected.now.docs }
-    requires keyed { All (λ e. AreKeyIds columns.now e.0) (drop from selected.now.docs) }
-    requires weight_fits { weights row_weight (drop from selected.now.docs) ≤ most_stored }
-    requires few_kinds { length selected.now.kinds ≤ 16 }
-    requires columns { groups.old.columns ≡ length columns.now }
-    requires kinds { groups.old.kinds ≡ selected.now.kinds }
-    requires fits { HaveAtMost (most_values - weights row_weight (drop from selected.now.docs))
-        (groups_in groups.old) }
+    requires merges { CanMerge columns.now selected.now (drop from selected.now.docs) groups.old }
     ensures ok { OnOk result (MergesEntries (weights row_weight (drop from selected.now.docs))
         (keyed columns.now (drop from selected.now.docs)) groups.old groups.new) }
     ensures full { result ≡ Err TooManyGroups → groups.old.most < finite.len (with_entries

@@ -1,21 +1,13 @@
 //! A segment is answered from a star-tree of its file.
 
-ghost use Rattle.std.specs.Prelude.{◌≡◌, ◌-◌, ◌<◌, Err, IfOk, IsErrOf, OnErr, OnOk, Some, length};
+ghost use Rattle.std.specs.Prelude.{◌≡◌, ◌<◌, Err, IfOk, IsErrOf, OnErr, OnOk, Some, length};
 ghost use Rattle.outside.specs.Seen.{OnlyReads, seen};
-ghost use Rattle.agg_laws.specs.Numbers.{most_values};
-ghost use Rattle.table_schema.specs.ValidQuery.{IsValidQuery};
-ghost use Rattle.table_schema.specs.ValidTable.{IsValidTable};
-ghost use Rattle.group_table.specs.Kept.{IsTableOf, groups_in};
-ghost use Rattle.scan_engine.specs.Scanned.{HaveAtMost};
-ghost use Rattle.eligibility.specs.Rule.{picked};
 ghost use Rattle.segment_file.specs.declared.part.Part.{Part};
 ghost use Rattle.segment_file.specs.declared.part.Part.TheVariants as parts;
 ghost use Rattle.segment_head.specs.Heads.{IsHeadOf, place_in};
 ghost use Rattle.segment_head.specs.Stored.{IsNoImage};
-ghost use Rattle.segment_plan.specs.Matched.{AreLoaded};
 ghost use Rattle.segment_head.specs.declared.fault.EngineFault.TheVariants.{NotASegment, ReadFault, TooManyGroups};
-ghost use Rattle.star_answer.specs.Segments.{AddsAnswer, AreDocsRead, IsAnswerOverfull, LogsAnswer, LogsAnswerPartly};
-ghost use Rattle.segment_plan.specs.Named.{AreGroupsLoaded};
+ghost use Rattle.star_answer.specs.Segments.{AddsAnswer, AreDocsRead, IsAnswerOverfull, IsServable, LogsAnswer, LogsAnswerPartly};
 
 use crate::answer::answer_tree;
 use crate::asking::{group_columns, pair_numbers};
@@ -45,14 +37,7 @@ pub fn answer_segment<S: Shelf>(
     query: &BoundQuery,
     groups: &mut GroupTable,
 ) -> Result<u32, EngineFault>
-    requires valid { IsValidTable table.now }
-    requires of_table { IsHeadOf table.now head.now }
-    requires query { IsValidQuery table.now query.now }
-    requires picked { picked query.now table.now.settings.trees ≡ Some tree }
-    requires loaded { AreLoaded query.now.conjuncts head.now }
-    requires groups_loaded { AreGroupsLoaded query.now.groups head.now }
-    requires of_query { IsTableOf query.now groups.old }
-    requires fits { HaveAtMost (most_values - head.now.rows) (groups_in groups.old) }
+    requires { IsServable query.now table.now head.now tree groups.old }
     ensures count { IfOk result
         (AreDocsRead query.now table.now (S.held shelf.old) head.now tree) }
     ensures ok { OnOk result (AddsAnswer query.now table.now (S.held shelf.old) head.now

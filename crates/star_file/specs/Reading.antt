@@ -1,7 +1,7 @@
 -- The documents that bytes spell, and the documents of a section of a file.
 use Rattle.std.specs.Prelude.{◌≡◌, ℕ, zero, suc, ◌+◌, ◌-◌, ◌*◌, ◌^◌, ◌<◌, ◌≤◌, ◌⊎◌, List, [], ◌∷◌}
 use Rattle.std.specs.Prelude.{◌++◌}
-use Rattle.std.specs.Prelude.{length, take, drop, Option, Some, IfSome}
+use Rattle.std.specs.Prelude.{length, take, drop, Option, Some, IfSome, Result, IsErrOf}
 use Rattle.outside.specs.Files.{Files, bytes_at, bytes_of}
 use Rattle.outside.specs.declared.place.Place.{Place}
 use Rattle.agg_laws.specs.declared.tree_shape.TreeShape.{TreeShape}
@@ -10,6 +10,8 @@ use Rattle.agg_laws.specs.Tree.{star}
 use Rattle.state_columns.specs.Docs.{Doc, HaveShape, AreStored, Docs}
 use Rattle.star_file.specs.Bytes.{words, state_bytes}
 use Rattle.star_file.specs.Rules.{widths}
+use Rattle.star_file.specs.declared.docs_fault.DocsFault.{DocsFault}
+use Rattle.star_file.specs.declared.docs_fault.DocsFault.TheVariants.{BadDocs, ReadFault}
 
 -- how many bytes a document takes
 abbrev pub doc_width : TreeShape → ℕ
@@ -72,6 +74,17 @@ EndsBefore held name to = IfSome held (λ files. length (bytes_of (Some files) n
 pub record AreReadable (shape : TreeShape) (counts : List ℕ) : Type 0 where
   pub counts_are : length counts ≡ shape.dims
   pub at_most : length shape.kinds ≤ 16
+
+-- bytes are refused only where they are bad, and nothing is read for them
+pub record RefusesBytes {A : Type 0} (result : Result A DocsFault) (Bad : Type 0) : Type 0 where
+  pub bad : IsErrOf result BadDocs → Bad
+  pub read : IsErrOf result ReadFault → ⊥
+
+-- a range of documents of a shape can be read
+pub record IsReadableRange (shape : TreeShape) (counts : List ℕ) (from to : ℕ) : Type 0 where
+  pub order : from ≤ to
+  pub dims : 1 ≤ shape.dims
+  pub readable : AreReadable shape counts
 
 -- a table has a document with this number, and its documents can be written
 pub record IsWritable (at : ℕ) (table : Docs) : Type 0 where

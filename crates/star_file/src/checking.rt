@@ -5,8 +5,8 @@ ghost use Rattle.star_file.specs.Rules.{number_at, node_in, nodes_in, count_in};
 ghost use Rattle.star_file.specs.Rules.{IsCounted, KeepsSection};
 
 use crate::NoMemory;
-use crate::tree::Nodes;
 use crate::rules::nodes_keep;
+use crate::tree::Nodes;
 use agg_laws::TreeShape;
 use star_tree::Node;
 use std::alloc::{AllocError, Global};

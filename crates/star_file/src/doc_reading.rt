@@ -1,16 +1,15 @@
 //! Documents out of bytes.
 
 ghost use Rattle.std.specs.Prelude.{◌≡◌, ◌+◌, ◌-◌, ◌*◌, ◌≤◌, ◌<◌, length, take, drop};
-ghost use Rattle.std.specs.Prelude.{IfOk, OnOk, IsErrOf, IsTrue, ◌↔◌, List, ℕ};
+ghost use Rattle.std.specs.Prelude.{IfOk, OnOk, IsTrue, ◌↔◌, List, ℕ};
 ghost use Rattle.agg_laws.specs.declared.states.AggState.{AggState};
 ghost use Rattle.agg_laws.specs.Rows.{kinds_of, RowStored};
 ghost use Rattle.state_columns.specs.Docs.{Doc};
 ghost use Rattle.star_file.specs.Bytes.{words, state_bytes};
 ghost use Rattle.star_file.specs.Rules.{widths};
 ghost use Rattle.star_file.specs.Reading.{doc_width, IsId, AreIds, AreReadable};
-ghost use Rattle.star_file.specs.Reading.{SpellsDoc, SpellDocs};
+ghost use Rattle.star_file.specs.Reading.{RefusesBytes, SpellsDoc, SpellDocs};
 ghost use Rattle.star_table.specs.Tables.{IsOfShape};
-ghost use Rattle.star_file.specs.declared.docs_fault.DocsFault.TheVariants as DocsFault;
 
 use crate::checking::number;
 use crate::docs_fault::DocsFault;
@@ -33,9 +32,8 @@ pub fn docs_from(
     ensures docs { IfOk result (λ table.
         SpellDocs shape.now counts.now number bytes.now table.docs) }
     ensures shape { IfOk result (IsOfShape shape.now.dims shape.now.kinds) }
-    ensures bad { IsErrOf result DocsFault.BadDocs → (docs : List Doc)
-        → SpellDocs shape.now counts.now number bytes.now docs → ⊥ }
-    ensures read { IsErrOf result DocsFault.ReadFault → ⊥ }
+    ensures refused { RefusesBytes result ((docs : List Doc)
+        → SpellDocs shape.now counts.now number bytes.now docs → ⊥) }
 {
     let mut table = StarTable::new(alloc, shape)?;
     let mut ids = Vec::with_capacity(alloc, counts.len())?;
@@ -74,9 +72,8 @@ fn read_ids(bytes: &[u8], counts: &[u32], ids: &mut Vec<u32>) -> Result<(), Docs
     requires { length bytes.now ≡ 4 * length counts.now }
     ensures ids { OnOk result (AreIds counts.now ids.new.items) }
     ensures bytes { OnOk result (bytes.now ≡ words ids.new.items) }
-    ensures bad { IsErrOf result DocsFault.BadDocs → (xs : List ℕ) → AreIds counts.now xs
-        → bytes.now ≡ words xs → ⊥ }
-    ensures read { IsErrOf result DocsFault.ReadFault → ⊥ }
+    ensures refused { RefusesBytes result ((xs : List ℕ) → AreIds counts.now xs
+        → bytes.now ≡ words xs → ⊥) }
 {
     ids.clear();
     for i in 0..counts.len() {
@@ -106,9 +103,8 @@ fn read_states(bytes: &[u8], kinds: &[AggKind], states: &mut Vec<AggState>) -> R
     ensures kinds { OnOk result (kinds_of states.new.items ≡ kinds.now) }
     ensures stored { OnOk result (RowStored states.new.items) }
     ensures bytes { OnOk result (bytes.now ≡ state_bytes states.new.items) }
-    ensures bad { IsErrOf result DocsFault.BadDocs → (vs : List AggState)
-        → kinds_of vs ≡ kinds.now → RowStored vs → bytes.now ≡ state_bytes vs → ⊥ }
-    ensures read { IsErrOf result DocsFault.ReadFault → ⊥ }
+    ensures refused { RefusesBytes result ((vs : List AggState) → kinds_of vs ≡ kinds.now
+        → RowStored vs → bytes.now ≡ state_bytes vs → ⊥) }
 {
     states.clear();
     let mut at = 0;
@@ -135,9 +131,8 @@ fn read_doc(
     requires shape { AreReadable shape.now counts.now }
     ensures doc { OnOk result (SpellsDoc shape.now counts.now bytes.now
         (ids.new.items, states.new.items)) }
-    ensures bad { IsErrOf result DocsFault.BadDocs → (e : Doc)
-        → SpellsDoc shape.now counts.now bytes.now e → ⊥ }
-    ensures read { IsErrOf result DocsFault.ReadFault → ⊥ }
+    ensures refused { RefusesBytes result ((e : Doc)
+        → SpellsDoc shape.now counts.now bytes.now e → ⊥) }
 {
     let end = 4 * counts.len();
     if let Err(fault) = read_ids(between(bytes, 0, end), counts, ids) {

@@ -1,11 +1,11 @@
 //! A range of documents is read from a section of a file.
 
-ghost use Rattle.std.specs.Prelude.{◌≡◌, ◌≤◌, ◌<◌, ◌+◌, ◌-◌, ◌*◌, IfOk, OnErr, IfSome, IsErrOf};
+ghost use Rattle.std.specs.Prelude.{◌≡◌, ◌<◌, ◌+◌, ◌-◌, ◌*◌, IfOk, OnErr, IfSome, IsErrOf};
 ghost use Rattle.std.specs.Prelude.{length, List};
 ghost use Rattle.outside.specs.Reads.{LogsOn, LogsUpTo};
 ghost use Rattle.outside.specs.Seen.{OnlyReads, seen};
 ghost use Rattle.state_columns.specs.Docs.{Doc};
-ghost use Rattle.star_file.specs.Reading.{doc_width, section, AreReadable, HasDocuments};
+ghost use Rattle.star_file.specs.Reading.{doc_width, section, IsReadableRange, HasDocuments};
 ghost use Rattle.star_table.specs.Tables.{IsOfShape};
 ghost use Rattle.star_file.specs.declared.docs_fault.DocsFault.TheVariants as DocsFault;
 
@@ -28,9 +28,7 @@ pub fn read_docs<S: Shelf>(
     from: u32,
     to: u32,
 ) -> Result<StarTable, DocsFault>
-    requires order { from ≤ to }
-    requires dims { 1 ≤ shape.now.dims }
-    requires shape { AreReadable shape.now counts.now }
+    requires { IsReadableRange shape.now counts.now from to }
     ensures docs { IfOk result (λ table. IfSome (S.held shelf.old) (λ files.
         HasDocuments shape.now counts.now from to (section files place.now) table.docs)) }
     ensures number { IfOk result (λ table. length table.docs ≡ to - from) }

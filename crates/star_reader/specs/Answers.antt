@@ -14,13 +14,15 @@ use Rattle.star_file.specs.Rules.{KeepAll}
 use Rattle.star_walk.specs.declared.pick.Pick.{Pick}
 use Rattle.star_walk.specs.declared.task.Task.{Task}
 use Rattle.star_walk.specs.Walking.{task_of, tree_picks, HasEach}
-use Rattle.star_walk.specs.Images.{read_of}
+use Rattle.star_walk.specs.Images.{AreWithin, read_of}
 use Rattle.star_walk.specs.Coalescing.{coalesced}
 use Rattle.outside.specs.Stretches.{LogsOver, LogsPartly, Stretch}
 use Rattle.group_table.specs.Kept.{KeptGroups, groups_in}
 use Rattle.star_reader.specs.declared.asked.Asked.{Asked}
 use Rattle.star_reader.specs.declared.tree_part.TreePart.{TreePart}
-use Rattle.star_reader.specs.Asked.{AreSound, entries_of}
+use Rattle.star_reader.specs.Asked.{AreAsked, AreSound, IsTableFor, entries_of}
+use Rattle.agg_laws.specs.Numbers.{most_stored, most_values}
+use Rattle.scan_engine.specs.Scanned.{HaveAtMost}
 use Rattle.star_reader.specs.Entries.{MergesEntries, with_entries}
 
 -- nodes of some documents that keep all rules, and a count for each dimension
@@ -34,6 +36,26 @@ pub record IsTree (tree : TreePart) (task : Task) : Type 0 where
   pub counts : length tree.counts.now ≡ tree.shape.now.dims
   pub each : HasEach task.matched task.grouped
   pub entries : length task.matched ≡ tree.shape.now.dims
+
+-- picks of a tree, of at most as many documents as a segment has rows, whose documents may be taken
+-- for what a query asks
+pub record CanTake (part : TreePart) (task : Task) (question : Asked) (rows : ℕ) (picks : List Pick)
+    : Type 0 where
+  pub tree : IsTree part task
+  pub asked : AreAsked part.shape.now question
+  pub within : (documents : ℕ) × AreWithin documents (length task.matched) picks
+  pub at_most : read_of picks ≤ rows
+  pub few_rows : rows ≤ most_stored
+
+-- a tree of a segment of so many rows, what a query asks of it, and groups to which the answer may
+-- be added
+pub record CanAnswer (part : TreePart) (task : Task) (question : Asked) (rows : ℕ)
+    (groups : KeptGroups) : Type 0 where
+  pub tree : IsTree part task
+  pub asked : AreAsked part.shape.now question
+  pub table : IsTableFor part.shape.now question groups
+  pub few_rows : rows ≤ most_stored
+  pub fits : HaveAtMost (most_values - rows) (groups_in groups)
 
 -- what is asked of each dimension
 abbrev pub asked_of : Task → asks.Task

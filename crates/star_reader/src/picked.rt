@@ -1,16 +1,13 @@
 //! The documents of picks are read, pick by pick, and those that pass their remaining tests are
 //! selected.
 
-ghost use Rattle.std.specs.Prelude.{◌≡◌, ◌<◌, ◌≤◌, ℕ, IfOk, IfSome, IsErrOf, List, OnErr, length};
+ghost use Rattle.std.specs.Prelude.{◌≡◌, IfOk, IfSome, IsErrOf, List, OnErr, length};
 ghost use Rattle.outside.specs.Seen.{OnlyReads, seen};
-ghost use Rattle.agg_laws.specs.Numbers.{most_stored};
 ghost use Rattle.state_columns.specs.Docs.{Doc};
 ghost use Rattle.star_file.specs.Reading.{section};
-ghost use Rattle.star_walk.specs.Images.{AreWithin, read_of};
 ghost use Rattle.star_reader.specs.declared.fault.AnswerFault.TheVariants.{BadDocs, ReadFault};
 ghost use Rattle.star_reader.specs.declared.fault.AnswerFault.TheVariants.{TooManyGroups};
-ghost use Rattle.star_reader.specs.Asked.{AreAsked};
-ghost use Rattle.star_reader.specs.Answers.{AreRead, IsTree, LogsPicks, LogsSome, asked_of, passed};
+ghost use Rattle.star_reader.specs.Answers.{AreRead, CanTake, LogsPicks, LogsSome, asked_of, passed};
 ghost use Rattle.star_reader.specs.Selected.{ArePicked, MayBeSelected, fault_of, selected_docs};
 
 use crate::asked::Asked;
@@ -33,11 +30,7 @@ pub fn take_picks<S: Shelf>(
     rows: u32,
     picks: &[Pick],
 ) -> Result<StarTable, AnswerFault>
-    requires tree { IsTree tree.now task.now }
-    requires asked { AreAsked tree.now.shape.now asked.now }
-    requires within { (documents : ℕ) × AreWithin documents (length task.now.matched) picks.now }
-    requires at_most { read_of picks.now ≤ rows }
-    requires rows { rows ≤ most_stored }
+    requires { CanTake tree.now task.now asked.now rows picks.now }
     ensures selected { IfOk result
         (ArePicked tree.now task.now asked.now rows (S.held shelf.old) picks.now) }
     ensures bad { IsErrOf result BadDocs → IfSome (S.held shelf.old) (λ files.

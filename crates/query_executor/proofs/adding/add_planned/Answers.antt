@@ -75,8 +75,8 @@ answer_segment-requires g c =
     record {
       valid = c.requires.loaded.asked.valid;
       of_table = c.requires.loaded.asked.of_table;
-      query = c.requires.loaded.asked.query;
-      picked = tree_planned query table head tree planned;
+      query_valid = c.requires.loaded.asked.query;
+      is_picked = tree_planned query table head tree planned;
       loaded = c.requires.loaded.filtered;
       groups_loaded = c.requires.loaded.grouped;
       of_query = c.requires.room.of_query;

@@ -1,5 +1,8 @@
 use Rattle.std.proofs.Common.{◌≡◌, ◌∙◌, ◌≤◌, ◌-◌, ℕ, Err, inl, length, ap, sym, subst, arith}
 use Rattle.outside.proofs.ReadLemmas.{on-err}
+use Rattle.std.specs.Prelude.{slice_index_or}
+use Rattle.std.proofs.lemmas.List.{length-map}
+use Rattle.agg_laws.specs.declared.aggregate_kind.AggKind.TheVariants as kinds
 use Rattle.agg_laws.specs.Numbers.{most_values}
 use Rattle.agg_laws.specs.Merged.{weights}
 use Rattle.agg_laws.specs.Rows.{row_weight}
@@ -42,15 +45,24 @@ returns-in_default-clause-log_of_fault g c =
     steps.nothing_logged c.args.tree.now c.args.task.now c.requires.tree
     c.walkable_law.ensures.within (g.S.Shelf.log c.args.shelf.now)
 
-pub take_picks-requires-clause-within : goal.take_picks-requires-clause-within
-take_picks-requires-clause-within g c =
+pub take_picks-requires : goal.take_picks-requires
+take_picks-requires g c =
     let reads : c.as_slice-2.result.now ≡ reads_of c.args.tree.now c.args.task.now = c.as_slice-2.ensures
-    ∙ c.in_ok-picks-2.ensures ∙ ap coalesced c.in_ok-picks.ensures in (
-      c.requires.tree.documents,
-      subst (AreWithin c.requires.tree.documents (length c.args.task.now.matched)) (sym reads)
-          (steps.reads_within c.args.tree.now c.args.task.now c.requires.tree
-          c.walkable_law.ensures.within),
-    )
+    ∙ c.in_ok-picks-2.ensures ∙ ap coalesced c.in_ok-picks.ensures in
+    let same : c.as_slice-2.result.now ≡ c.as_slice.result.now = c.as_slice-2.ensures ∙ sym c.as_slice.ensures in
+    let many : read_of c.as_slice-2.result.now ≡ read_of c.as_slice.result.now = ap read_of same in
+    record {
+      tree = c.requires.tree;
+      asked = c.requires.asked;
+      within = (
+        c.requires.tree.documents,
+        subst (AreWithin c.requires.tree.documents (length c.args.task.now.matched)) (sym reads)
+            (steps.reads_within c.args.tree.now c.args.task.now c.requires.tree
+            c.walkable_law.ensures.within),
+      );
+      at_most = omega (arith, many, c.in-Some.ensures.0, c.in-Some.ensures.1);
+      few_rows = c.requires.few_rows;
+    }
 
 pub returns-in-Err-clause-bad : goal.returns-in-Err-clause-bad
 returns-in-Err-clause-bad g c is =
@@ -60,11 +72,24 @@ returns-in-Err-clause-bad g c is =
     (g.S.Shelf.held c.args.shelf.now) c.as_slice-2.result.now reads
     (c.in-Err.ensures.bad (same_fault ℕ StarTable AnswerFault c.in-Err.fault BadDocs is))
 
-pub merge_documents-requires-clause-fits : goal.merge_documents-requires-clause-fits
-merge_documents-requires-clause-fits g c =
-    let weight_fits = c.in-Ok.ensures.selected.selected.may.weight_fits in
-    at_most_more (groups_in c.args.groups.now) (most_values - c.args.rows)
-    (most_values - weights row_weight c.in-Ok.selected.docs) (omega (arith, weight_fits)) c.requires.fits
+pub merge_documents-requires-clause-merges : goal.merge_documents-requires-clause-merges
+merge_documents-requires-clause-merges g c =
+    let selected = c.in-Ok.ensures.selected.selected in
+    let weight_fits = selected.may.weight_fits in
+    let few_rows = c.requires.few_rows in
+    record {
+      dims = selected.dims;
+      few_columns = c.requires.asked.few_columns;
+      keyed = selected.may.keyed;
+      weight_fits = omega (arith, weight_fits, few_rows);
+      few_kinds =
+          let many = ap length selected.kinds ∙ length-map c.args.asked.now.pairs.now (λ pair. slice_index_or c.args.tree.now.shape.now.kinds pair kinds.Count) in
+          omega (arith, many, c.requires.asked.few_pairs);
+      as_many = c.requires.table.columns;
+      kinds = c.requires.table.kinds ∙ sym selected.kinds;
+      fits = at_most_more (groups_in c.args.groups.now) (most_values - c.args.rows)
+          (most_values - weights row_weight c.in-Ok.selected.docs) (omega (arith, weight_fits)) c.requires.fits;
+    }
 
 pub returns-in-Ok-merge_documents-clause-count : goal.returns-in-Ok-merge_documents-clause-count
 returns-in-Ok-merge_documents-clause-count g c =

@@ -17,7 +17,7 @@ key_at-requires-clause-ids c =
     let at = c.loop-at.at in
     let lt : at < length docs = omega (arith, c.loop-at-test.true, c.len-at-end.ensures.count) in
     let le : c.args.from ≤ at = omega (arith, c.loop-at.auto.at) in
-    steps.key_there docs c.args.from at le lt c.args.columns.now c.requires.keyed
+    steps.key_there docs c.args.from at le lt c.args.columns.now c.requires.merges.keyed
 
 pub merge_row-requires-clause-key : goal.merge_row-requires-clause-key
 merge_row-requires-clause-key c =
@@ -27,8 +27,8 @@ merge_row-requires-clause-key c =
     let le : c.args.from ≤ at = omega (arith, c.loop-at.auto.at) in
     ap length c.in_ok-key.ensures
     ∙ steps.length_key c.args.columns.now (doc_at docs at).0
-    (steps.key_there docs c.args.from at le lt c.args.columns.now c.requires.keyed)
-    ∙ sym (c.loop-at.invariant.columns ∙ c.requires.columns)
+    (steps.key_there docs c.args.from at le lt c.args.columns.now c.requires.merges.keyed)
+    ∙ sym (c.loop-at.invariant.columns ∙ c.requires.merges.as_many)
 
 pub merge_row-requires-clause-kinds : goal.merge_row-requires-clause-kinds
 merge_row-requires-clause-kinds c =
@@ -37,7 +37,7 @@ merge_row-requires-clause-kinds c =
     let lt : at < length t.docs = omega (arith, c.loop-at-test.true, c.len-at-end.ensures.count) in
     ap kinds_of c.in_ok-states.ensures
     ∙ (shape_at t.dims t.kinds t.docs at c.len-at-end.ensures.shape lt).1
-    ∙ sym (c.loop-at.invariant.kinds ∙ c.requires.kinds)
+    ∙ sym (c.loop-at.invariant.kinds ∙ c.requires.merges.kinds)
 
 pub merge_row-requires-clause-values : goal.merge_row-requires-clause-values
 merge_row-requires-clause-values c some =
@@ -60,9 +60,9 @@ merge_row-requires-clause-fits c =
     subst (λ (s : List AggState). RowFits s (row_weight e.1)) (sym c.in_ok-states.ensures)
     (steps.fits_stored e.1 (stored_at docs at c.len-at-end.ensures.stored lt)) in
     merged_within _ c.in_ok-key.key c.in_ok-states.states (row_weight e.1)
-    (steps.few_there docs from at le lt c.requires.weight_fits)
-    (steps.room_there docs from at le lt es c.args.groups.now c.loop-at.groups c.requires.weight_fits
-    c.requires.fits c.loop-at.invariant) fits
+    (steps.few_there docs from at le lt c.requires.merges.weight_fits)
+    (steps.room_there docs from at le lt es c.args.groups.now c.loop-at.groups c.requires.merges.weight_fits
+    c.requires.merges.fits c.loop-at.invariant) fits
 
 pub returns-in-Err-clause-full : goal.returns-in-Err-clause-full
 returns-in-Err-clause-full c is =

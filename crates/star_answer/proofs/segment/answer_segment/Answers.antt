@@ -1,5 +1,8 @@
-use Rattle.std.proofs.Common.{◌≡◌, ◌∙◌, ℕ, Option, Err, ap, sym}
+use Rattle.std.proofs.Common.{◌≡◌, ◌∙◌, ◌-◌, ℕ, Option, Err, ap, sym, subst, arith}
 use Rattle.outside.specs.Files.{Files}
+use Rattle.agg_laws.specs.Numbers.{most_values}
+use Rattle.group_table.specs.Kept.{groups_in}
+use Rattle.scan_engine.specs.Scanned.{HaveAtMost}
 use Rattle.segment_head.specs.Heads.{Seen}
 use Rattle.segment_head.proofs.FaultLemmas.{bad_head}
 use Rattle.star_reader.specs.declared.asked.Asked.{Asked}
@@ -11,7 +14,7 @@ pub read_tree-requires : goal.read_tree-requires
 read_tree-requires g c = record {
   valid = c.requires.valid;
   opened = c.requires.of_table;
-  tree = (steps.picked_there c.args.query.now c.args.table.now.settings.trees c.args.tree c.requires.picked).lt;
+  tree = (steps.picked_there c.args.query.now c.args.table.now.settings.trees c.args.tree c.requires.is_picked).lt;
 }
 
 pub returns-in-Err-clause-bad : goal.returns-in-Err-clause-bad
@@ -22,26 +25,26 @@ returns-in-Err-clause-bad g c part is =
 
 pub at-setting-requires : goal.at-setting-requires
 at-setting-requires g c =
-    (steps.picked_there c.args.query.now c.args.table.now.settings.trees c.args.tree c.requires.picked).lt
+    (steps.picked_there c.args.query.now c.args.table.now.settings.trees c.args.tree c.requires.is_picked).lt
 
 pub documents_of-requires-clause-tree : goal.documents_of-requires-clause-tree
 documents_of-requires-clause-tree g c =
-    (steps.picked_there c.args.query.now c.args.table.now.settings.trees c.args.tree c.requires.picked).lt
+    (steps.picked_there c.args.query.now c.args.table.now.settings.trees c.args.tree c.requires.is_picked).lt
 
 pub tree_task-requires-clause-eligible : goal.tree_task-requires-clause-eligible
 tree_task-requires-clause-eligible g c =
     steps.picked_eligible c.args.query.now c.args.table.now.settings.trees c.args.tree
-    c.at-setting.result.now c.requires.picked c.at-setting.ensures
+    c.at-setting.result.now c.requires.is_picked c.at-setting.ensures
 
 pub group_columns-requires-clause-eligible : goal.group_columns-requires-clause-eligible
 group_columns-requires-clause-eligible g c =
     steps.picked_eligible c.args.query.now c.args.table.now.settings.trees c.args.tree
-    c.at-setting.result.now c.requires.picked c.at-setting.ensures
+    c.at-setting.result.now c.requires.is_picked c.at-setting.ensures
 
 pub pair_numbers-requires-clause-eligible : goal.pair_numbers-requires-clause-eligible
 pair_numbers-requires-clause-eligible g c =
     steps.picked_eligible c.args.query.now c.args.table.now.settings.trees c.args.tree
-    c.at-setting.result.now c.requires.picked c.at-setting.ensures
+    c.at-setting.result.now c.requires.is_picked c.at-setting.ensures
 
 pub group_columns-requires-clause-at_most : goal.group_columns-requires-clause-at_most
 group_columns-requires-clause-at_most g c =
@@ -53,8 +56,8 @@ pair_numbers-requires-clause-at_most g c =
     (steps.setting_valid c.args.table.now c.args.tree c.at-setting.result.now c.requires.valid
     c.at-setting.ensures).few_pairs
 
-pub answer_tree-requires-clause-tree : goal.answer_tree-requires-clause-tree
-answer_tree-requires-clause-tree g c =
+pub answer_tree-requires : goal.answer_tree-requires
+answer_tree-requires g c =
     let query = c.args.query.now in
     let table = c.args.table.now in
     let head : Seen = c.args.head.now in
@@ -68,65 +71,29 @@ answer_tree-requires-clause-tree g c =
     let now : Option Files = g.S.Shelf.held c.read_tree.new.shelf in
     let ready = steps.ready_so query table head t setting part task asked said
     c.in-Ok.opened.counts.items c.documents_of.result.now c.in_ok-columns.columns.items
-    c.in_ok-pairs.pairs.items held c.requires.valid c.requires.of_table c.requires.query
-    c.requires.picked c.requires.loaded c.requires.groups_loaded c.at-setting.ensures
+    c.in_ok-pairs.pairs.items held c.requires.valid c.requires.of_table c.requires.query_valid
+    c.requires.is_picked c.requires.loaded c.requires.groups_loaded c.at-setting.ensures
     c.in-Ok.ensures.reads.told c.in-Ok.ensures.counts c.in-Ok.ensures.keeps c.of_file-part.ensures.shape
     c.of_file-part.ensures.counts c.of_file-part.ensures.nodes c.of_file-part.ensures.documents
     c.documents_of.ensures c.in_ok-task.ensures.each c.in_ok-task.ensures.entries
     c.in_ok-task.ensures.asks c.in_ok-columns.ensures c.as_slice.ensures.value c.in_ok-pairs.ensures
     c.as_slice-2.ensures.value in
-    steps.ready_tree query table head t setting part task asked said held now ready
-    c.in-Ok.ensures.reads.only_reads.held c.head_tells_law.ensures c.rows.result c.rows.ensures
-
-pub answer_tree-requires-clause-asked : goal.answer_tree-requires-clause-asked
-answer_tree-requires-clause-asked g c =
-    let query = c.args.query.now in
-    let table = c.args.table.now in
-    let head : Seen = c.args.head.now in
-    let t : ℕ = c.args.tree in
-    let setting = c.at-setting.result.now in
-    let part = c.of_file-part.result in
-    let task = c.in_ok-task.task in
-    let asked : Asked = record { columns = c.as_slice.result; pairs = c.as_slice-2.result } in
-    let said = c.in-Ok.opened.nodes in
-    let held : Option Files = g.S.Shelf.held c.args.shelf.now in
-    let now : Option Files = g.S.Shelf.held c.read_tree.new.shelf in
-    let ready = steps.ready_so query table head t setting part task asked said
-    c.in-Ok.opened.counts.items c.documents_of.result.now c.in_ok-columns.columns.items
-    c.in_ok-pairs.pairs.items held c.requires.valid c.requires.of_table c.requires.query
-    c.requires.picked c.requires.loaded c.requires.groups_loaded c.at-setting.ensures
-    c.in-Ok.ensures.reads.told c.in-Ok.ensures.counts c.in-Ok.ensures.keeps c.of_file-part.ensures.shape
-    c.of_file-part.ensures.counts c.of_file-part.ensures.nodes c.of_file-part.ensures.documents
-    c.documents_of.ensures c.in_ok-task.ensures.each c.in_ok-task.ensures.entries
-    c.in_ok-task.ensures.asks c.in_ok-columns.ensures c.as_slice.ensures.value c.in_ok-pairs.ensures
-    c.as_slice-2.ensures.value in
-    steps.ready_asked query table head t setting part task asked said held now ready
-    c.in-Ok.ensures.reads.only_reads.held c.head_tells_law.ensures c.rows.result c.rows.ensures
-
-pub answer_tree-requires-clause-table : goal.answer_tree-requires-clause-table
-answer_tree-requires-clause-table g c =
-    let query = c.args.query.now in
-    let table = c.args.table.now in
-    let head : Seen = c.args.head.now in
-    let t : ℕ = c.args.tree in
-    let setting = c.at-setting.result.now in
-    let part = c.of_file-part.result in
-    let task = c.in_ok-task.task in
-    let asked : Asked = record { columns = c.as_slice.result; pairs = c.as_slice-2.result } in
-    let said = c.in-Ok.opened.nodes in
-    let held : Option Files = g.S.Shelf.held c.args.shelf.now in
-    let now : Option Files = g.S.Shelf.held c.read_tree.new.shelf in
-    let ready = steps.ready_so query table head t setting part task asked said
-    c.in-Ok.opened.counts.items c.documents_of.result.now c.in_ok-columns.columns.items
-    c.in_ok-pairs.pairs.items held c.requires.valid c.requires.of_table c.requires.query
-    c.requires.picked c.requires.loaded c.requires.groups_loaded c.at-setting.ensures
-    c.in-Ok.ensures.reads.told c.in-Ok.ensures.counts c.in-Ok.ensures.keeps c.of_file-part.ensures.shape
-    c.of_file-part.ensures.counts c.of_file-part.ensures.nodes c.of_file-part.ensures.documents
-    c.documents_of.ensures c.in_ok-task.ensures.each c.in_ok-task.ensures.entries
-    c.in_ok-task.ensures.asks c.in_ok-columns.ensures c.as_slice.ensures.value c.in_ok-pairs.ensures
-    c.as_slice-2.ensures.value in
-    steps.ready_table query table head t setting part task asked said held now ready
-    c.in-Ok.ensures.reads.only_reads.held c.head_tells_law.ensures c.rows.result c.rows.ensures c.args.groups.now c.requires.of_query
+    record {
+      tree =
+          steps.ready_tree query table head t setting part task asked said held now ready
+          c.in-Ok.ensures.reads.only_reads.held c.head_tells_law.ensures c.rows.result c.rows.ensures;
+      asked =
+          steps.ready_asked query table head t setting part task asked said held now ready
+          c.in-Ok.ensures.reads.only_reads.held c.head_tells_law.ensures c.rows.result c.rows.ensures;
+      table =
+          steps.ready_table query table head t setting part task asked said held now ready
+          c.in-Ok.ensures.reads.only_reads.held c.head_tells_law.ensures c.rows.result c.rows.ensures c.args.groups.now c.requires.of_query;
+      few_rows =
+          let at_most = c.requires.of_table.at_most in
+          let rows = c.requires.of_table.has.rows_are in
+          omega (arith, at_most, rows, c.rows.ensures);
+      fits = subst (λ n. HaveAtMost (most_values - n) (groups_in c.args.groups.now)) (sym c.rows.ensures) c.requires.fits;
+    }
 
 pub returns-in-Ok-answer_tree-clause-count : goal.returns-in-Ok-answer_tree-clause-count
 returns-in-Ok-answer_tree-clause-count g c =
@@ -143,8 +110,8 @@ returns-in-Ok-answer_tree-clause-count g c =
     let now : Option Files = g.S.Shelf.held c.read_tree.new.shelf in
     let ready = steps.ready_so query table head t setting part task asked said
     c.in-Ok.opened.counts.items c.documents_of.result.now c.in_ok-columns.columns.items
-    c.in_ok-pairs.pairs.items held c.requires.valid c.requires.of_table c.requires.query
-    c.requires.picked c.requires.loaded c.requires.groups_loaded c.at-setting.ensures
+    c.in_ok-pairs.pairs.items held c.requires.valid c.requires.of_table c.requires.query_valid
+    c.requires.is_picked c.requires.loaded c.requires.groups_loaded c.at-setting.ensures
     c.in-Ok.ensures.reads.told c.in-Ok.ensures.counts c.in-Ok.ensures.keeps c.of_file-part.ensures.shape
     c.of_file-part.ensures.counts c.of_file-part.ensures.nodes c.of_file-part.ensures.documents
     c.documents_of.ensures c.in_ok-task.ensures.each c.in_ok-task.ensures.entries
@@ -170,8 +137,8 @@ returns-in-Ok-answer_tree-clause-ok g c =
     let now : Option Files = g.S.Shelf.held c.read_tree.new.shelf in
     let ready = steps.ready_so query table head t setting part task asked said
     c.in-Ok.opened.counts.items c.documents_of.result.now c.in_ok-columns.columns.items
-    c.in_ok-pairs.pairs.items held c.requires.valid c.requires.of_table c.requires.query
-    c.requires.picked c.requires.loaded c.requires.groups_loaded c.at-setting.ensures
+    c.in_ok-pairs.pairs.items held c.requires.valid c.requires.of_table c.requires.query_valid
+    c.requires.is_picked c.requires.loaded c.requires.groups_loaded c.at-setting.ensures
     c.in-Ok.ensures.reads.told c.in-Ok.ensures.counts c.in-Ok.ensures.keeps c.of_file-part.ensures.shape
     c.of_file-part.ensures.counts c.of_file-part.ensures.nodes c.of_file-part.ensures.documents
     c.documents_of.ensures c.in_ok-task.ensures.each c.in_ok-task.ensures.entries
@@ -197,8 +164,8 @@ returns-in-Ok-answer_tree-clause-log g c =
     let now : Option Files = g.S.Shelf.held c.read_tree.new.shelf in
     let ready = steps.ready_so query table head t setting part task asked said
     c.in-Ok.opened.counts.items c.documents_of.result.now c.in_ok-columns.columns.items
-    c.in_ok-pairs.pairs.items held c.requires.valid c.requires.of_table c.requires.query
-    c.requires.picked c.requires.loaded c.requires.groups_loaded c.at-setting.ensures
+    c.in_ok-pairs.pairs.items held c.requires.valid c.requires.of_table c.requires.query_valid
+    c.requires.is_picked c.requires.loaded c.requires.groups_loaded c.at-setting.ensures
     c.in-Ok.ensures.reads.told c.in-Ok.ensures.counts c.in-Ok.ensures.keeps c.of_file-part.ensures.shape
     c.of_file-part.ensures.counts c.of_file-part.ensures.nodes c.of_file-part.ensures.documents
     c.documents_of.ensures c.in_ok-task.ensures.each c.in_ok-task.ensures.entries
@@ -226,8 +193,8 @@ returns-clause-full g c is =
     let now : Option Files = g.S.Shelf.held c.read_tree.new.shelf in
     let ready = steps.ready_so query table head t setting part task asked said
     c.in-Ok.opened.counts.items c.documents_of.result.now c.in_ok-columns.columns.items
-    c.in_ok-pairs.pairs.items held c.requires.valid c.requires.of_table c.requires.query
-    c.requires.picked c.requires.loaded c.requires.groups_loaded c.at-setting.ensures
+    c.in_ok-pairs.pairs.items held c.requires.valid c.requires.of_table c.requires.query_valid
+    c.requires.is_picked c.requires.loaded c.requires.groups_loaded c.at-setting.ensures
     c.in-Ok.ensures.reads.told c.in-Ok.ensures.counts c.in-Ok.ensures.keeps c.of_file-part.ensures.shape
     c.of_file-part.ensures.counts c.of_file-part.ensures.nodes c.of_file-part.ensures.documents
     c.documents_of.ensures c.in_ok-task.ensures.each c.in_ok-task.ensures.entries
@@ -254,8 +221,8 @@ returns-clause-bad g c bad is =
     let now : Option Files = g.S.Shelf.held c.read_tree.new.shelf in
     let ready = steps.ready_so query table head t setting part task asked said
     c.in-Ok.opened.counts.items c.documents_of.result.now c.in_ok-columns.columns.items
-    c.in_ok-pairs.pairs.items held c.requires.valid c.requires.of_table c.requires.query
-    c.requires.picked c.requires.loaded c.requires.groups_loaded c.at-setting.ensures
+    c.in_ok-pairs.pairs.items held c.requires.valid c.requires.of_table c.requires.query_valid
+    c.requires.is_picked c.requires.loaded c.requires.groups_loaded c.at-setting.ensures
     c.in-Ok.ensures.reads.told c.in-Ok.ensures.counts c.in-Ok.ensures.keeps c.of_file-part.ensures.shape
     c.of_file-part.ensures.counts c.of_file-part.ensures.nodes c.of_file-part.ensures.documents
     c.documents_of.ensures c.in_ok-task.ensures.each c.in_ok-task.ensures.entries
@@ -282,8 +249,8 @@ returns-clause-log_of_fault g c =
     let now : Option Files = g.S.Shelf.held c.read_tree.new.shelf in
     let ready = steps.ready_so query table head t setting part task asked said
     c.in-Ok.opened.counts.items c.documents_of.result.now c.in_ok-columns.columns.items
-    c.in_ok-pairs.pairs.items held c.requires.valid c.requires.of_table c.requires.query
-    c.requires.picked c.requires.loaded c.requires.groups_loaded c.at-setting.ensures
+    c.in_ok-pairs.pairs.items held c.requires.valid c.requires.of_table c.requires.query_valid
+    c.requires.is_picked c.requires.loaded c.requires.groups_loaded c.at-setting.ensures
     c.in-Ok.ensures.reads.told c.in-Ok.ensures.counts c.in-Ok.ensures.keeps c.of_file-part.ensures.shape
     c.of_file-part.ensures.counts c.of_file-part.ensures.nodes c.of_file-part.ensures.documents
     c.documents_of.ensures c.in_ok-task.ensures.each c.in_ok-task.ensures.entries

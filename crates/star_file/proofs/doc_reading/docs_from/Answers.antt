@@ -1,4 +1,4 @@
-use Rattle.std.proofs.Common.{◌≡◌, ◌+◌, ◌-◌, ◌*◌, ◌≤◌, ◌++◌, ◌∷◌, [], List, ℕ, length, take, drop}
+use Rattle.std.proofs.Common.{rules, ◌≡◌, ◌+◌, ◌-◌, ◌*◌, ◌≤◌, ◌++◌, ◌∷◌, [], List, ℕ, length, take, drop}
 use Rattle.std.proofs.Common.{ap, sym, subst, ◌∙◌, arith, Err}
 use Rattle.star_file.specs.declared.docs_fault.DocsFault.TheVariants.{BadDocs}
 use Rattle.state_columns.specs.Docs.{Doc}
@@ -22,18 +22,22 @@ between-part-requires-clause-within c =
     (room_in c.args.number c.loop-i.i w (length c.args.bytes.now) c.requires.width
     c.loop-i-test.true)
 
-pub returns-in-Err-clause-bad : goal.returns-in-Err-clause-bad
-returns-in-Err-clause-bad c bad docs h =
-    let shape = c.args.shape.now in
-    let counts = c.args.counts.now in
-    let i = c.loop-i.i in
-    let there = steps.doc_there shape counts c.args.number i c.args.bytes.now docs h
-    c.loop-i-test.true in
-    let same = part_is i (doc_width shape) c.width_of-width.result c.args.bytes.now
-    c.between-part.result.now c.width_of-width.ensures.value c.between-part.ensures.part in
-    let fault : c.in-Err.fault ≡ BadDocs = cc in
-    c.in-Err.ensures.bad (ap (λ x. Err x) fault) there.0
-    (subst (λ (l : List ℕ). SpellsDoc shape counts l there.0) (sym same) there.1)
+pub returns-in-Err-clause-refused : goal.returns-in-Err-clause-refused
+returns-in-Err-clause-refused c = record {
+  bad =
+      λ bad docs h.
+      let shape = c.args.shape.now in
+      let counts = c.args.counts.now in
+      let i = c.loop-i.i in
+      let there = steps.doc_there shape counts c.args.number i c.args.bytes.now docs h
+      c.loop-i-test.true in
+      let same = part_is i (doc_width shape) c.width_of-width.result c.args.bytes.now
+      c.between-part.result.now c.width_of-width.ensures.value c.between-part.ensures.part in
+      let fault : c.in-Err.fault ≡ BadDocs = cc in
+      c.in-Err.ensures.refused.bad (ap (λ x. Err x) fault) there.0
+      (subst (λ (l : List ℕ). SpellsDoc shape counts l there.0) (sym same) there.1);
+  read = search rules;
+}
 
 pub append_parts-requires-clause-dims : goal.append_parts-requires-clause-dims
 append_parts-requires-clause-dims c =

@@ -1,4 +1,4 @@
-use Rattle.std.proofs.Common.{◌≡◌, ◌*◌, get_or, arith, true, false, sym, subst, ◌∙◌}
+use Rattle.std.proofs.Common.{rules, ◌≡◌, ◌*◌, get_or, arith, true, false, sym, subst, ◌∙◌}
 use Rattle.star_file.specs.Reading.{IsId}
 use Rattle.star_file.proofs.DocSteps as steps
 use Rattle.star_file.proofs.doc_reading.read_ids.Goals as goal
@@ -6,14 +6,18 @@ use Rattle.star_file.proofs.doc_reading.read_ids.Goals as goal
 clash : true ≡ false → ⊥
 clash e = cc
 
-pub returns-then-not-is_id-clause-bad : goal.returns-then-not-is_id-clause-bad
-returns-then-not-is_id-clause-bad c e xs ids is =
-    let counts = c.args.counts.now in
-    let i = c.loop-i.i in
-    let there = steps.id_there counts xs c.args.bytes.now i 0 ids is c.loop-i-test.true in
-    clash (sym (c.is_id.ensures.1 (subst (IsId (get_or counts i 0)) (sym c.number-id.ensures)
-    there))
-    ∙ c.if-not-is_id.true)
+pub returns-then-not-is_id-clause-refused : goal.returns-then-not-is_id-clause-refused
+returns-then-not-is_id-clause-refused c = record {
+  bad =
+      λ e xs ids is.
+      let counts = c.args.counts.now in
+      let i = c.loop-i.i in
+      let there = steps.id_there counts xs c.args.bytes.now i 0 ids is c.loop-i-test.true in
+      clash (sym (c.is_id.ensures.1 (subst (IsId (get_or counts i 0)) (sym c.number-id.ensures)
+      there))
+      ∙ c.if-not-is_id.true);
+  read = search rules;
+}
 
 pub loop-i-preserved : goal.loop-i-preserved
 loop-i-preserved c =

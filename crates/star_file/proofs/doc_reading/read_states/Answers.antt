@@ -1,4 +1,4 @@
-use Rattle.std.proofs.Common.{◌≡◌, ◌+◌, ◌-◌, get_or, take, drop, arith, ap, sym, ◌∙◌}
+use Rattle.std.proofs.Common.{rules, ◌≡◌, ◌+◌, ◌-◌, get_or, take, drop, arith, ap, sym, ◌∙◌}
 use Rattle.agg_laws.specs.declared.aggregate_kind.AggKind.TheVariants as kinds
 use Rattle.agg_laws.specs.Kind.{width_of}
 use Rattle.star_file.proofs.DocSteps as steps
@@ -19,18 +19,22 @@ between-requires-clause-within c =
 pub take-requires : goal.take-requires
 take-requires c = omega (arith, c.between.ensures.lengths, c.width.ensures)
 
-pub returns-in-Err-clause-bad : goal.returns-in-Err-clause-bad
-returns-in-Err-clause-bad c e vs same stored is =
-    let ks = c.args.kinds.now in
-    let i = c.loop-i.i in
-    let at = c.loop-i.at in
-    let there = steps.state_there ks vs c.args.bytes.now i at kinds.Count same stored is
-    c.loop-i-test.true c.loop-i.invariant.at in
-    let w : c.loop-i.at + c.width.result - c.loop-i.at ≡ width_of (get_or ks i kinds.Count) =
-    omega (arith, c.width.ensures) in
-    let again = c.in-Err.ensures.again there.v there.kind_is there.stored
-    (there.is ∙ sym (c.between.ensures.part ∙ ap (λ n. take n (drop at c.args.bytes.now)) w)) in
-    cc again
+pub returns-in-Err-clause-refused : goal.returns-in-Err-clause-refused
+returns-in-Err-clause-refused c = record {
+  bad =
+      λ e vs same stored is.
+      let ks = c.args.kinds.now in
+      let i = c.loop-i.i in
+      let at = c.loop-i.at in
+      let there = steps.state_there ks vs c.args.bytes.now i at kinds.Count same stored is
+      c.loop-i-test.true c.loop-i.invariant.at in
+      let w : c.loop-i.at + c.width.result - c.loop-i.at ≡ width_of (get_or ks i kinds.Count) =
+      omega (arith, c.width.ensures) in
+      let again = c.in-Err.ensures.again there.v there.kind_is there.stored
+      (there.is ∙ sym (c.between.ensures.part ∙ ap (λ n. take n (drop at c.args.bytes.now)) w)) in
+      cc again;
+  read = search rules;
+}
 
 pub loop-i-preserved : goal.loop-i-preserved
 loop-i-preserved c =

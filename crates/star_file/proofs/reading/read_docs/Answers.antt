@@ -83,4 +83,4 @@ returns-clause-bad g c bad =
     c.args.to w c.width_of-width.result c.in-Ok.bytes c.as_slice.result.now c.as_str.ensures
     c.as_slice.ensures c.width_of-width.ensures.value c.in-Ok.ensures.part in
     steps.docs_bad place s c.args.counts.now c.args.from c.args.to c.as_slice.result.now some within
-    held part (c.docs_from.ensures.bad bad)
+    held part (c.docs_from.ensures.refused.bad bad)
