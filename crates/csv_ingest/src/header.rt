@@ -5,7 +5,7 @@ ghost use Rattle.csv_ingest.specs.Names.{is_among, schema_name, names_of, number
 ghost use Rattle.csv_ingest.specs.Rows.{header_of};
 
 use csv::ByteRecord;
-use csv_row::{CsvFault, CsvKind, cell, text_of};
+use csv_row::{CsvFault, CsvKind, cell};
 use data_types::{FieldKind, Name, Seq};
 use std::alloc::{AllocError, Global};
 use table_schema::{Field, Role, is_column_name};

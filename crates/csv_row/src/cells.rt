@@ -7,7 +7,7 @@ ghost use Rattle.csv_row.specs.Row.{cell_value, placed, value_at, value_in};
 
 use crate::{CsvFault, CsvKind};
 use csv::ByteRecord;
-use data_types::{FieldKind, read_whole};
+use data_types::{FieldKind, read_whole, text_of};
 use std::alloc::Global;
 use table_schema::Field;
 use values::{MOST_TEXT_BYTES, Value, ValueFault, read_value};
@@ -20,17 +20,6 @@ pub fn cell(cells: &ByteRecord, at: usize) -> &[u8]
     match cells.get(at) {
         Some(cell) => cell,
         None => unreachable!(),
-    }
-}
-
-/// The text of some bytes, if they are UTF-8.
-pub fn text_of(bytes: &[u8]) -> Option<&str>
-    ensures { MatchOption result (is_utf8 bytes.now ≡ false)
-        (λ text. (text.now ≡ bytes.now) × (is_utf8 bytes.now ≡ true)) }
-{
-    match str::from_utf8(bytes) {
-        Ok(text) => Some(text),
-        Err(_) => None,
     }
 }
 

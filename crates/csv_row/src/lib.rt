@@ -6,6 +6,6 @@ mod fault;
 mod layout;
 mod row;
 
-pub use cells::{cell, text_of};
+pub use cells::cell;
 pub use fault::{CsvFault, CsvKind};
 pub use layout::Layout;

@@ -5,7 +5,7 @@ ghost use Rattle.host_devices.specs.Faults.{Counts};
 use crate::folder_lock::LockFile;
 use crate::folder_parts::{FolderParts, is_published_name};
 use crate::{count_read, count_write};
-use outside::{Depot, DepotFault, Name, Seq, Shelf, ShelfFault};
+use outside::{Depot, DepotFault, Name, ReadResult, Seq, Shelf, ShelfFault};
 use std::alloc::Global;
 use std::rt::Files;
 
@@ -63,13 +63,7 @@ where
     // Reads bytes of a file that were not read ahead.
     #[cold]
     #[inline(never)]
-    fn read_other(
-        &mut self,
-        alloc: Global,
-        name: &str,
-        offset: u64,
-        into: &mut [u8],
-    ) -> Result<usize, ShelfFault>
+    fn read_other(&mut self, alloc: Global, name: &str, offset: u64, into: &mut [u8]) -> ReadResult
         ensures read { IfOk result (λ n. n ≤ length into.old) }
         ensures counts { Counts (IsErrOf result ShelfFault.Failed)
             self.old.read_faults self.new.read_faults }
@@ -123,13 +117,7 @@ where
     }
 
     #[inline(always)]
-    fn read_at(
-        &mut self,
-        alloc: Global,
-        name: &str,
-        offset: u64,
-        into: &mut [u8],
-    ) -> Result<usize, ShelfFault> {
+    fn read_at(&mut self, alloc: Global, name: &str, offset: u64, into: &mut [u8]) -> ReadResult {
         match self.parts.files.copy_ahead(name, offset, into) {
             Some(n) => Ok(n),
             None => self.read_other(alloc, name, offset, into),

@@ -9,7 +9,7 @@ use crate::file_reader::FileReader;
 use crate::file_stamp::FileStamp;
 use crate::folder_lock::is_folder;
 use crate::listed_names::ListedNames;
-use outside::{Name, ShelfFault};
+use outside::{Name, ReadResult, ShelfFault};
 use std::alloc::{AllocError, Global};
 use std::fs::{Metadata, OpenFile};
 use std::io::ErrorKind;
@@ -79,13 +79,7 @@ impl<R: Files + AllocGlobal + Clone + Drop> FolderFiles<R> {
     }
 
     /// Reads bytes of a file from an offset on.
-    pub fn read_at(
-        &mut self,
-        alloc: Global,
-        name: &str,
-        offset: u64,
-        into: &mut [u8],
-    ) -> Result<usize, ShelfFault>
+    pub fn read_at(&mut self, alloc: Global, name: &str, offset: u64, into: &mut [u8]) -> ReadResult
         ensures { IfOk result (λ n. n ≤ length into.old) }
     {
         if !self.is_kept(name) {

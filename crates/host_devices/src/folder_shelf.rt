@@ -3,7 +3,7 @@ ghost use Rattle.std.specs.Prelude.{None};
 
 use crate::count_read;
 use crate::folder_files::FolderFiles;
-use outside::{Name, Seq, Shelf, ShelfFault};
+use outside::{Name, ReadResult, Seq, Shelf, ShelfFault};
 use std::alloc::Global;
 use std::rt::Files;
 
@@ -49,13 +49,7 @@ impl<R: Files + AllocGlobal + Clone + Drop> Shelf for FolderShelf<R> {
         count_read(&mut self.faults, answer)
     }
 
-    fn read_at(
-        &mut self,
-        alloc: Global,
-        name: &str,
-        offset: u64,
-        into: &mut [u8],
-    ) -> Result<usize, ShelfFault> {
+    fn read_at(&mut self, alloc: Global, name: &str, offset: u64, into: &mut [u8]) -> ReadResult {
         let answer = self.files.read_unwritten(alloc, name, offset, into);
         count_read(&mut self.faults, answer)
     }

@@ -5,7 +5,7 @@ ghost use Rattle.memory_devices.specs.Calls.{MemoryBytes, MemoryLength, MemoryNa
 ghost use Rattle.memory_devices.specs.Memory.{fresh, write_called, part_begun, part_grown, part_lost, part_published, file_removed, told};
 
 use crate::{FileMap, MemoryShelf};
-use outside::{Bytes, Depot, DepotFault, Name, NoMemory, Seq, Shelf, ShelfFault};
+use outside::{Bytes, Depot, DepotFault, Name, NoMemory, ReadResult, Seq, Shelf, ShelfFault};
 use std::alloc::Global;
 use std::marker::Model;
 
@@ -69,13 +69,7 @@ impl Shelf for MemoryDepot {
         self.shelf.length(alloc, name)
     }
 
-    fn read_at(
-        &mut self,
-        alloc: Global,
-        name: &str,
-        offset: u64,
-        into: &mut [u8],
-    ) -> Result<usize, ShelfFault>
+    fn read_at(&mut self, alloc: Global, name: &str, offset: u64, into: &mut [u8]) -> ReadResult
         ensures { MemoryBytes name.now offset into.old into.new result self.old self.new }
     {
         self.shelf.read_at(alloc, name, offset, into)

@@ -8,7 +8,7 @@ ghost use Rattle.memory_devices.specs.Memory.{fresh, fails, file_removed};
 use crate::file_map::FileMap;
 use crate::memory_calls::MemoryCalls;
 use crate::read_log::ReadLog;
-use outside::{Bytes, Name, NoMemory, Seq, Shelf, ShelfFault};
+use outside::{Bytes, Name, NoMemory, ReadResult, Seq, Shelf, ShelfFault};
 use std::alloc::Global;
 use std::marker::Model;
 
@@ -133,13 +133,7 @@ impl Shelf for MemoryShelf {
         }
     }
 
-    fn read_at(
-        &mut self,
-        alloc: Global,
-        name: &str,
-        offset: u64,
-        into: &mut [u8],
-    ) -> Result<usize, ShelfFault>
+    fn read_at(&mut self, alloc: Global, name: &str, offset: u64, into: &mut [u8]) -> ReadResult
         ensures { MemoryBytes name.now offset into.old into.new result self.old self.new }
     {
         if self.calls.fails_counted(&mut self.faults) {

@@ -17,6 +17,9 @@ pub enum ShelfFault {
     NoMemory,
 }
 
+/// How many bytes were read, as a shelf answers.
+pub type ReadResult = Result<usize, ShelfFault>;
+
 impl From<AllocError> for ShelfFault {
     ghost use Rattle.outside.specs.declared.shelf.ShelfFault.TheVariants.{NoMemory};
 
@@ -59,13 +62,7 @@ pub trait Shelf {
 
     /// Reads the bytes of a file from an offset on, as many as there are and fit, into the front of
     /// `into`, and says how many. After a refusal nothing is known of the bytes of `into`.
-    fn read_at(
-        &mut self,
-        alloc: Global,
-        name: &str,
-        offset: u64,
-        into: &mut [u8],
-    ) -> Result<usize, ShelfFault>
+    fn read_at(&mut self, alloc: Global, name: &str, offset: u64, into: &mut [u8]) -> ReadResult
         ensures { GivesBytes name.now offset into.old into.new result
             (seen_by held parts log read_faults write_faults self.old)
             (seen_by held parts log read_faults write_faults self.new) };

@@ -1,6 +1,6 @@
 //! A shelf that has one file under every name, and counts what is read of it.
 
-use outside::{Name, Seq, Shelf, ShelfFault};
+use outside::{Name, ReadResult, Seq, Shelf, ShelfFault};
 use std::alloc::Global;
 
 /// One file, and how many bytes of it were read.
@@ -44,13 +44,7 @@ impl Shelf for CountingShelf {
         Ok(self.bytes.len() as u64)
     }
 
-    fn read_at(
-        &mut self,
-        _alloc: Global,
-        _name: &str,
-        offset: u64,
-        into: &mut [u8],
-    ) -> Result<usize, ShelfFault> {
+    fn read_at(&mut self, _alloc: Global, _name: &str, offset: u64, into: &mut [u8]) -> ReadResult {
         let start = offset.min(self.bytes.len() as u64) as usize;
         let count = into.len().min(self.bytes.len() - start);
         for at in 0..count {

@@ -2,7 +2,7 @@
 
 use crate::text::{Text, string};
 use memory_devices::MemoryDepot;
-use outside::{Depot, DepotFault, Name, Seq, Shelf, ShelfFault};
+use outside::{Depot, DepotFault, Name, ReadResult, Seq, Shelf, ShelfFault};
 use std::alloc::Global;
 
 /// The bytes of a file from one place up to another, and how many of them were read.
@@ -125,13 +125,7 @@ impl Shelf for CountingDepot {
         self.depot.length(alloc, name)
     }
 
-    fn read_at(
-        &mut self,
-        alloc: Global,
-        name: &str,
-        offset: u64,
-        into: &mut [u8],
-    ) -> Result<usize, ShelfFault> {
+    fn read_at(&mut self, alloc: Global, name: &str, offset: u64, into: &mut [u8]) -> ReadResult {
         let n = self.depot.read_at(alloc, name, offset, into)?;
         count_all(&mut self.spans, name, offset, n as u64);
         Ok(n)

@@ -2,7 +2,7 @@
 //! command reads.
 
 use memory_devices::MemoryShelf;
-use outside::{Name, Seq, Shelf, ShelfFault};
+use outside::{Name, ReadResult, Seq, Shelf, ShelfFault};
 use std::alloc::Global;
 
 /// Files in memory. Where they are long, no name is missing, and each file is too long for every
@@ -37,13 +37,7 @@ impl Shelf for Inputs {
         self.files.length(alloc, name)
     }
 
-    fn read_at(
-        &mut self,
-        alloc: Global,
-        name: &str,
-        offset: u64,
-        into: &mut [u8],
-    ) -> Result<usize, ShelfFault> {
+    fn read_at(&mut self, alloc: Global, name: &str, offset: u64, into: &mut [u8]) -> ReadResult {
         self.files.read_at(alloc, name, offset, into)
     }
 }
