@@ -6,7 +6,7 @@ ghost use Rattle.csv_ingest.specs.Rows.{header_of};
 
 use csv::ByteRecord;
 use csv_row::{CsvFault, CsvKind, cell};
-use data_types::{FieldKind, Name, Seq};
+use data_types::{FieldKind, Name, Seq, text_of};
 use std::alloc::{AllocError, Global};
 use table_schema::{Field, Role, is_column_name};
 use values::Value;
