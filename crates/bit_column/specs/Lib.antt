@@ -4,4 +4,5 @@ pub mod Column
 pub mod Sections
 pub mod Postings
 pub mod Reading
+pub mod Faults
 pub mod SortedRuns

@@ -1,9 +1,10 @@
 -- What a call reads of a part of a file or of a range of ids, and when it is refused.
 use Rattle.std.specs.Prelude.{◌≡◌, ◌<◌, ℕ, ◌+◌, List, Result, IfOk, IfSome, IsErrOf, OnErr, OnOk}
+use Rattle.outside.specs.Files.{EndsBefore}
 use Rattle.outside.specs.Reads.{LogsOn, LogsUpTo}
 use Rattle.outside.specs.Seen.{OnlyReads, Seen}
 use Rattle.outside.specs.declared.place.Place.{Place}
-use Rattle.bit_column.specs.Sections.{EndsBefore, IsPart, Readable, end_byte, first_byte, section}
+use Rattle.bit_column.specs.Sections.{IsPart, Readable, end_byte, first_byte, section}
 use Rattle.bit_column.specs.declared.fault.ColumnFault.{ColumnFault}
 use Rattle.bit_column.specs.declared.fault.ColumnFault.TheVariants.{BadId, ReadFault}
 

@@ -25,10 +25,6 @@ IsPart held name from to bytes =
     IfSome held (λ files. (to ≤ length (bytes_of (Some files) name))
     × (bytes ≡ bytes_at files name from (to - from)))
 
--- where files are told, the one of this name ends before this offset
-abbrev pub EndsBefore : Option Files → List ℕ → ℕ → Type 0
-EndsBefore held name to = IfSome held (λ files. length (bytes_of (Some files) name) < to)
-
 -- the bytes have all bits of the ids between two indexes
 abbrev pub Reach : ℕ → ℕ → ℕ → List ℕ → Type 0
 Reach width from to bytes = from < to → to * width ≤ 8 * length bytes

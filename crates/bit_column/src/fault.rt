@@ -1,4 +1,5 @@
 //! Why ids are not read.
+use outside::ShelfFault;
 use std::alloc::AllocError;
 
 /// Why a range of ids is not read.
@@ -19,5 +20,19 @@ impl From<AllocError> for ColumnFault {
 
     fn from(_: AllocError) -> Self {
         ColumnFault::NoMemory
+    }
+}
+
+impl From<ShelfFault> for ColumnFault {
+    ghost use Rattle.bit_column.specs.Faults.{IsColumnFault};
+
+    ghost from_gives = { IsColumnFault };
+
+    fn from(fault: ShelfFault) -> Self {
+        match fault {
+            ShelfFault::Missing => ColumnFault::BadId,
+            ShelfFault::Failed => ColumnFault::ReadFault,
+            ShelfFault::NoMemory => ColumnFault::NoMemory,
+        }
     }
 }

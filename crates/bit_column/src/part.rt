@@ -1,14 +1,13 @@
 //! A part of a file is read.
-ghost use Rattle.std.specs.Prelude.{◌≡◌, ◌≤◌, ◌<◌, ◌+◌, ◌-◌, ◌^◌, ◌↔◌, IfOk, IsErrOf, length, take};
+ghost use Rattle.std.specs.Prelude.{◌≡◌, ◌≤◌, ◌<◌, ◌+◌, ◌-◌, IfOk, IsErrOf, length, take};
 ghost use Rattle.outside.specs.Files.{Lacks};
 ghost use Rattle.outside.specs.Reads.{Fills, LogsOn, LogsUpTo};
 ghost use Rattle.outside.specs.Seen.{OnlyReads, seen};
 ghost use Rattle.bit_column.specs.Reading.{ReadsPart};
-ghost use Rattle.bit_column.specs.Sections.{EndsBefore};
 
 use crate::ColumnFault;
 use crate::file_part::FilePart;
-use outside::{Shelf, ShelfFault, read_into};
+use outside::{Shelf, ShelfFault, past_all, read_into};
 use std::alloc::Global;
 
 /// Reads a part of a file into `into`, which has place for just its bytes. A file that is not there
@@ -26,11 +25,11 @@ pub fn read_part<S: Shelf>(
         (seen S.Shelf shelf.old) (seen S.Shelf shelf.new) }
 {
     if part.to > u64::MAX - part.offset {
-        return Err(past_all(alloc, shelf, part.name));
+        return Err(ColumnFault::from(past_all(alloc, shelf, part.name)));
     }
     let count = match read_into(alloc, shelf, part.name, part.offset + part.from, into) {
         Ok(count) => count,
-        Err(fault) => return Err(of_shelf(fault)),
+        Err(fault) => return Err(ColumnFault::from(fault)),
     };
     if count < into.len() {
         return Err(ColumnFault::BadId);
@@ -73,11 +72,11 @@ fn read_short<S: Shelf>(
         (seen S.Shelf shelf.old) (seen S.Shelf shelf.new) }
 {
     if part.to > u64::MAX - part.offset {
-        return Err(past_all(alloc, shelf, part.name));
+        return Err(ColumnFault::from(past_all(alloc, shelf, part.name)));
     }
     let n = match read_once(alloc, shelf, part.name, part.offset + part.from, into) {
         Ok(n) => n,
-        Err(fault) => return Err(of_shelf(fault)),
+        Err(fault) => return Err(ColumnFault::from(fault)),
     };
     if n == into.len() {
         return Ok(());
@@ -119,31 +118,5 @@ fn read_once<S: Shelf>(
     match shelf.read_at(alloc, name, offset, into) {
         Ok(n) => Ok(n),
         Err(fault) => Err(fault),
-    }
-}
-
-// What a shelf's fault is for a part of a file.
-fn of_shelf(fault: ShelfFault) -> ColumnFault
-    ensures missing { result ≡ ColumnFault.BadId ↔ (fault ≡ ShelfFault.Missing) }
-    ensures failed { result ≡ ColumnFault.ReadFault ↔ (fault ≡ ShelfFault.Failed) }
-{
-    match fault {
-        ShelfFault::Missing => ColumnFault::BadId,
-        ShelfFault::Failed => ColumnFault::ReadFault,
-        ShelfFault::NoMemory => ColumnFault::NoMemory,
-    }
-}
-
-// What comes of bytes past the greatest offset: no file has them, if the shelf says how long it
-// is.
-fn past_all<S: Shelf>(alloc: Global, shelf: &mut S, name: &str) -> ColumnFault
-    ensures only_reads { OnlyReads (result ≡ ColumnFault.ReadFault)
-        (seen S.Shelf shelf.old) (seen S.Shelf shelf.new) }
-    ensures log { S.log shelf.new ≡ S.log shelf.old }
-    ensures short { result ≡ ColumnFault.BadId → EndsBefore (S.held shelf.old) name.now (2 ^ 64) }
-{
-    match shelf.length(alloc, name) {
-        Ok(_) => ColumnFault::BadId,
-        Err(fault) => of_shelf(fault),
     }
 }

@@ -1,5 +1,5 @@
 -- Files by their names, where a device tells them.
-use Rattle.std.specs.Prelude.{◌≡◌, ◌≢◌, ℕ, List, [], length, take, drop, Option, Some, None, option_map, IfSome, IsSomeAnd, MatchOption, fold, unwrap_or}
+use Rattle.std.specs.Prelude.{◌≡◌, ◌≢◌, ◌<◌, ℕ, List, [], length, take, drop, Option, Some, None, option_map, IfSome, IsSomeAnd, MatchOption, fold, unwrap_or}
 use Rattle.std.specs.Option.{option_and_then}
 use Rattle.std.specs.Ordering.{nat_cmp}
 use Rattle.std.specs.declared.cmp.Ordering.{Ordering}
@@ -43,6 +43,10 @@ bytes_of told name = unwrap_or (option_and_then (λ files. map.get files name) t
 -- none
 abbrev pub bytes_at : Files → List ℕ → ℕ → ℕ → List ℕ
 bytes_at files name offset count = take count (drop offset (bytes_of (Some files) name))
+
+-- where files are told, the one of this name ends before this offset
+abbrev pub EndsBefore : Option Files → List ℕ → ℕ → Type 0
+EndsBefore told name to = IfSome told (λ files. length (bytes_of (Some files) name) < to)
 
 -- the told files with these bytes under this name
 abbrev pub with_file : List ℕ → List ℕ → Option Files → Option Files

@@ -15,7 +15,7 @@ pub use data_types::{Bytes, Name, NoMemory, Seq};
 pub use depot::{Depot, DepotFault};
 pub use laws::{reads_add_up, rises_compose};
 pub use place::Place;
-pub use reading::{read_bytes, read_into};
+pub use reading::{past_all, read_bytes, read_into};
 pub use shelf::{ReadResult, Shelf, ShelfFault};
 pub use sink::{Sink, SinkFault};
 pub use whole::{ReadAllFault, read_all};

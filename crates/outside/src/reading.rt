@@ -1,6 +1,6 @@
 //! Reading some bytes of a file.
 ghost use Rattle.std.specs.Prelude.{◌≡◌, ◌≤◌, ◌<◌, ◌+◌, ◌^◌, IfOk, IfSome, OnErr, IsErrOf, length, vec_len};
-ghost use Rattle.outside.specs.Files.{Has, Lacks, bytes_at};
+ghost use Rattle.outside.specs.Files.{EndsBefore, Has, Lacks, bytes_at};
 ghost use Rattle.outside.specs.Reads.{Fills, LogsFilled, LogsUpTo};
 ghost use Rattle.outside.specs.Seen.{OnlyReads, seen};
 
@@ -74,4 +74,18 @@ pub fn read_into<S: Shelf>(
         done += n;
     }
     Ok(done)
+}
+
+/// What comes of bytes past the greatest offset: no file has them, if the shelf says how long it
+/// is.
+pub fn past_all<S: Shelf>(alloc: Global, shelf: &mut S, name: &str) -> ShelfFault
+    ensures only_reads { OnlyReads (result ≡ ShelfFault.Failed)
+        (seen S.Shelf shelf.old) (seen S.Shelf shelf.new) }
+    ensures log { S.log shelf.new ≡ S.log shelf.old }
+    ensures short { result ≡ ShelfFault.Missing → EndsBefore (S.held shelf.old) name.now (2 ^ 64) }
+{
+    match shelf.length(alloc, name) {
+        Ok(_) => ShelfFault::Missing,
+        Err(fault) => fault,
+    }
 }

@@ -1,5 +1,5 @@
 //! Reading whole files.
-ghost use Rattle.std.specs.Prelude.{◌≡◌, ◌≤◌, ◌↔◌, ℕ, IfOk, IfSome, OnErr, IsErrOf, length};
+ghost use Rattle.std.specs.Prelude.{◌≡◌, ◌≤◌, ℕ, IfOk, IfSome, OnErr, IsErrOf, length};
 ghost use Rattle.outside.specs.Files.{Has, Lacks};
 ghost use Rattle.outside.specs.Reads.{LogsOn, LogsThrough};
 ghost use Rattle.outside.specs.Seen.{OnlyReads, seen};
@@ -20,17 +20,17 @@ pub enum ReadAllFault {
     NoMemory,
 }
 
-// What a shelf's fault is for a whole file.
-fn of_shelf(fault: ShelfFault) -> ReadAllFault
-    ensures missing { result ≡ ReadAllFault.Missing ↔ (fault ≡ ShelfFault.Missing) }
-    ensures failed { result ≡ ReadAllFault.Failed ↔ (fault ≡ ShelfFault.Failed) }
-    ensures memory { result ≡ ReadAllFault.NoMemory ↔ (fault ≡ ShelfFault.NoMemory) }
-    ensures too_long { ¬ (result ≡ ReadAllFault.TooLong) }
-{
-    match fault {
-        ShelfFault::Missing => ReadAllFault::Missing,
-        ShelfFault::Failed => ReadAllFault::Failed,
-        ShelfFault::NoMemory => ReadAllFault::NoMemory,
+impl From<ShelfFault> for ReadAllFault {
+    ghost use Rattle.outside.specs.Whole.{IsWholeFault};
+
+    ghost from_gives = { IsWholeFault };
+
+    fn from(fault: ShelfFault) -> Self {
+        match fault {
+            ShelfFault::Missing => ReadAllFault::Missing,
+            ShelfFault::Failed => ReadAllFault::Failed,
+            ShelfFault::NoMemory => ReadAllFault::NoMemory,
+        }
     }
 }
 
@@ -64,13 +64,13 @@ pub fn read_all<S: Shelf>(
 {
     let length = match shelf.length(alloc, name) {
         Ok(length) => length,
-        Err(fault) => return Err(of_shelf(fault)),
+        Err(fault) => return Err(ReadAllFault::from(fault)),
     };
     if length > limit {
         return Err(ReadAllFault::TooLong);
     }
     match read_bytes(alloc, shelf, name, 0, length) {
         Ok(bytes) => Ok(bytes),
-        Err(fault) => Err(of_shelf(fault)),
+        Err(fault) => Err(ReadAllFault::from(fault)),
     }
 }
