@@ -1,9 +1,11 @@
 -- The documents that bytes spell, and the documents of a section of a file.
-use Rattle.std.specs.Prelude.{◌≡◌, ℕ, zero, suc, ◌+◌, ◌-◌, ◌*◌, ◌^◌, ◌<◌, ◌≤◌, ◌⊎◌, List, [], ◌∷◌}
+use Rattle.std.specs.Prelude.{◌≡◌, ◌↔◌, ℕ, zero, suc, ◌+◌, ◌-◌, ◌*◌, ◌^◌, ◌<◌, ◌≤◌, ◌⊎◌, List, [], ◌∷◌}
 use Rattle.std.specs.Prelude.{◌++◌}
 use Rattle.std.specs.Prelude.{length, take, drop, Option, Some, IfSome, Result, IsErrOf}
 use Rattle.outside.specs.Files.{Files, bytes_at, bytes_of}
 use Rattle.outside.specs.declared.place.Place.{Place}
+use Rattle.outside.specs.declared.shelf.ShelfFault.{ShelfFault}
+use Rattle.outside.specs.declared.shelf.ShelfFault.TheVariants as shelf
 use Rattle.agg_laws.specs.declared.tree_shape.TreeShape.{TreeShape}
 use Rattle.agg_laws.specs.Rows.{kinds_of, RowStored}
 use Rattle.agg_laws.specs.Tree.{star}
@@ -66,9 +68,10 @@ IsPart held name from to bytes =
     IfSome held (λ files. (to ≤ length (bytes_of (Some files) name))
     × (bytes ≡ bytes_at files name from (to - from)))
 
--- where files are told, the one of this name ends before this offset
-abbrev pub EndsBefore : Option Files → List ℕ → ℕ → Type 0
-EndsBefore held name to = IfSome held (λ files. length (bytes_of (Some files) name) < to)
+-- what the fault of a shelf is for a part of a file: one that is missing has no bytes
+pub record IsDocsFault (fault : ShelfFault) (own : DocsFault) : Type 0 where
+  pub missing : (own ≡ BadDocs) ↔ (fault ≡ shelf.Missing)
+  pub failed : (own ≡ ReadFault) ↔ (fault ≡ shelf.Failed)
 
 -- documents of a shape can be read, where each dimension has so many ids
 pub record AreReadable (shape : TreeShape) (counts : List ℕ) : Type 0 where

@@ -31,7 +31,7 @@ impl From<AllocError> for NodesFault {
 }
 
 /// The number in four bytes.
-pub fn number(bytes: &[u8], at: usize) -> u32
+pub(crate) fn number(bytes: &[u8], at: usize) -> u32
     requires { at + 4 ≤ length bytes.now }
     ensures { result ≡ number_at at bytes.now }
 {

@@ -52,7 +52,12 @@ fn end_of(child: &Node, from: u32) -> u32
 }
 
 /// Whether the children of a node keep the rules on them.
-pub fn children_keep(shape: &TreeShape, counts: &[u32], node: &Node, subtrees: &[Node]) -> bool
+pub(crate) fn children_keep(
+    shape: &TreeShape,
+    counts: &[u32],
+    node: &Node,
+    subtrees: &[Node],
+) -> bool
     requires counts { node.now.level < length counts.now }
     requires levels { length counts.now ≤ 16 }
     ensures { IsTrue result ↔ KeepChildrenRules shape.now counts.now node.now.level node.now.start

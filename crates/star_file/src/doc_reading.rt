@@ -19,8 +19,17 @@ use star_table::StarTable;
 use state_columns::STAR;
 use std::alloc::Global;
 
+/// How many bytes a document takes.
+pub fn width_of(shape: &TreeShape) -> usize
+    requires { length shape.now.kinds ≤ 16 }
+    ensures value { result ≡ doc_width shape.now }
+    ensures bound { result ≤ 1404 }
+{
+    4 * shape.dims as usize + widths(shape.kinds.as_slice()) as usize
+}
+
 /// So many documents, of which each has the same number of bytes.
-pub fn docs_from(
+pub(crate) fn docs_from(
     alloc: Global,
     bytes: &[u8],
     shape: &TreeShape,
@@ -49,15 +58,6 @@ pub fn docs_from(
         table.append_parts(ids.as_slice(), states.as_slice());
     }
     Ok(table)
-}
-
-/// How many bytes a document takes.
-pub fn width_of(shape: &TreeShape) -> usize
-    requires { length shape.now.kinds ≤ 16 }
-    ensures value { result ≡ doc_width shape.now }
-    ensures bound { result ≤ 1404 }
-{
-    4 * shape.dims as usize + widths(shape.kinds.as_slice()) as usize
 }
 
 // Whether a number is an id of a dimension of so many, or the star.

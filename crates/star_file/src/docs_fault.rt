@@ -1,5 +1,6 @@
 //! Why documents are not read.
 
+use outside::ShelfFault;
 use std::alloc::{AllocError, AllocFailed};
 
 /// Why a range of documents is not read.
@@ -31,5 +32,19 @@ impl<T: Drop> From<AllocFailed<T>> for DocsFault {
 
     fn from(_: AllocFailed<T>) -> Self {
         DocsFault::NoMemory
+    }
+}
+
+impl From<ShelfFault> for DocsFault {
+    ghost use Rattle.star_file.specs.Reading.{IsDocsFault};
+
+    ghost from_gives = { IsDocsFault };
+
+    fn from(fault: ShelfFault) -> Self {
+        match fault {
+            ShelfFault::Missing => DocsFault::BadDocs,
+            ShelfFault::Failed => DocsFault::ReadFault,
+            ShelfFault::NoMemory => DocsFault::NoMemory,
+        }
     }
 }

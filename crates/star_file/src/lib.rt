@@ -19,7 +19,7 @@ pub use docs_fault::DocsFault;
 pub use laws::{docs_law, nodes_law};
 pub use outside::NoMemory;
 pub use reading::read_docs;
-pub use rules::few_bytes;
+pub use rules::{MOST_TREE_BYTES, few_bytes};
 pub use star_tree::Node;
 pub use tree::{Nodes, StarTree};
 pub use writing::{write_docs, write_nodes};

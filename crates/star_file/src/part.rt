@@ -1,16 +1,16 @@
 //! A part of a file is read.
-ghost use Rattle.std.specs.Prelude.{◌≡◌, ◌<◌, ◌+◌, ◌-◌, ◌^◌, ◌↔◌, IfOk, OnErr, IsErrOf};
-ghost use Rattle.std.specs.Prelude.{length};
+ghost use Rattle.std.specs.Prelude.{◌≡◌, ◌<◌, ◌+◌, ◌-◌, IfOk, OnErr, IsErrOf, length};
+ghost use Rattle.outside.specs.Files.{EndsBefore};
 ghost use Rattle.outside.specs.Reads.{LogsOn, LogsUpTo};
 ghost use Rattle.outside.specs.Seen.{OnlyReads, seen};
-ghost use Rattle.star_file.specs.Reading.{IsPart, EndsBefore};
+ghost use Rattle.star_file.specs.Reading.{IsPart};
 
 use crate::docs_fault::DocsFault;
-use outside::{Bytes, Shelf, ShelfFault, read_bytes};
+use outside::{Bytes, Shelf, past_all, read_bytes};
 use std::alloc::Global;
 
 /// The bytes of a file between two places after an offset. A file that is not there has no bytes.
-pub fn read_part<S: Shelf>(
+pub(crate) fn read_part<S: Shelf>(
     alloc: Global,
     shelf: &mut S,
     name: &str,
@@ -32,40 +32,14 @@ pub fn read_part<S: Shelf>(
         EndsBefore (S.held shelf.old) name.now (offset + to) }
 {
     if to > u64::MAX - offset {
-        return Err(past_all(alloc, shelf, name));
+        return Err(DocsFault::from(past_all(alloc, shelf, name)));
     }
     let bytes = match read_bytes(alloc, shelf, name, offset + from, to - from) {
         Ok(bytes) => bytes,
-        Err(fault) => return Err(of_shelf(fault)),
+        Err(fault) => return Err(DocsFault::from(fault)),
     };
     if (bytes.len() as u64) < to - from {
         return Err(DocsFault::BadDocs);
     }
     Ok(bytes)
-}
-
-/// What a shelf's fault is for a part of a file.
-fn of_shelf(fault: ShelfFault) -> DocsFault
-    ensures missing { result ≡ DocsFault.BadDocs ↔ (fault ≡ ShelfFault.Missing) }
-    ensures failed { result ≡ DocsFault.ReadFault ↔ (fault ≡ ShelfFault.Failed) }
-{
-    match fault {
-        ShelfFault::Missing => DocsFault::BadDocs,
-        ShelfFault::Failed => DocsFault::ReadFault,
-        ShelfFault::NoMemory => DocsFault::NoMemory,
-    }
-}
-
-/// What comes of bytes past the greatest offset: no file has them, if the shelf says how long it
-/// is.
-fn past_all<S: Shelf>(alloc: Global, shelf: &mut S, name: &str) -> DocsFault
-    ensures only_reads { OnlyReads (result ≡ DocsFault.ReadFault)
-        (seen S.Shelf shelf.old) (seen S.Shelf shelf.new) }
-    ensures log { S.log shelf.new ≡ S.log shelf.old }
-    ensures short { result ≡ DocsFault.BadDocs → EndsBefore (S.held shelf.old) name.now (2 ^ 64) }
-{
-    match shelf.length(alloc, name) {
-        Ok(_) => DocsFault::BadDocs,
-        Err(fault) => of_shelf(fault),
-    }
 }

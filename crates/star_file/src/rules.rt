@@ -3,14 +3,15 @@
 ghost use Rattle.std.specs.Prelude.{◌≡◌, ◌≤◌, ◌<◌, ◌+◌, ◌-◌, ◌*◌, ◌↔◌, ◌⊎◌, IsTrue, length, ℕ};
 ghost use Rattle.state_columns.specs.Region.{range};
 ghost use Rattle.star_tree.specs.NodeRules.{KeepChildrenRules, KeepsRules, IsRoot};
-ghost use Rattle.star_file.specs.Rules.{widths, IsCounted, KeepAll};
+ghost use Rattle.star_file.specs.Rules.{widths, most_bytes, IsCounted, KeepAll};
 
 use crate::children::children_keep;
 use agg_laws::{AggKind, TreeShape};
 use star_tree::Node;
 use state_columns::STAR;
 
-const MOST_BYTES: u64 = 134217728;
+/// The most bytes that the nodes and documents of a tree may take.
+pub const MOST_TREE_BYTES: u64 = 134_217_728;
 
 // As many nodes as a tree may have.
 const MOST_NODES: usize = 4793490;
@@ -27,8 +28,21 @@ struct CheckedTree<'a> {
     ghost counts_are: { length counts.now ≡ shape.now.dims },
 }
 
+/// Whether a tree takes no more bytes than one may.
+pub fn few_bytes(shape: &TreeShape, documents: u32, nodes: usize) -> bool
+    requires { length shape.now.kinds ≤ 16 }
+    ensures { IsTrue result ↔ (documents * (4 * shape.now.dims + widths shape.now.kinds) + 28 *
+        nodes ≤ most_bytes) }
+{
+    if nodes > MOST_NODES {
+        return false;
+    }
+    let width = 4 * shape.dims as u32 + widths(shape.kinds.as_slice());
+    documents as u64 * width as u64 + 28 * nodes as u64 <= MOST_TREE_BYTES
+}
+
 /// Whether the nodes of a tree of so many documents keep all rules.
-pub fn nodes_keep(shape: &TreeShape, counts: &[u32], documents: u32, nodes: &[Node]) -> bool
+pub(crate) fn nodes_keep(shape: &TreeShape, counts: &[u32], documents: u32, nodes: &[Node]) -> bool
     requires { IsCounted shape.now counts.now }
     ensures { IsTrue result ↔ KeepAll shape.now counts.now documents nodes.now }
 {
@@ -47,21 +61,8 @@ pub fn nodes_keep(shape: &TreeShape, counts: &[u32], documents: u32, nodes: &[No
     is_root(&nodes[0]) && each_keeps(&tree)
 }
 
-/// Whether a tree takes no more bytes than one may.
-pub fn few_bytes(shape: &TreeShape, documents: u32, nodes: usize) -> bool
-    requires { length shape.now.kinds ≤ 16 }
-    ensures { IsTrue result ↔ (documents * (4 * shape.now.dims + widths shape.now.kinds) + 28 *
-        nodes ≤ 134217728) }
-{
-    if nodes > MOST_NODES {
-        return false;
-    }
-    let width = 4 * shape.dims as u32 + widths(shape.kinds.as_slice());
-    documents as u64 * width as u64 + 28 * nodes as u64 <= MOST_BYTES
-}
-
 /// The bytes of states of some kinds.
-pub fn widths(kinds: &[AggKind]) -> u32
+pub(crate) fn widths(kinds: &[AggKind]) -> u32
     requires { length kinds.now ≤ 16 }
     ensures value { result ≡ widths kinds.now }
     ensures bound { result ≤ 384 }

@@ -8,14 +8,14 @@ use crate::NoMemory;
 use agg_laws::AggState;
 
 /// Appends a number of four bytes.
-pub fn push_word(word: u32, out: &mut Vec<u8>) -> Result<(), NoMemory>
+pub(crate) fn push_word(word: u32, out: &mut Vec<u8>) -> Result<(), NoMemory>
     ensures { Adds (words (word ∷ [])) out.old.items out.new.items result }
 {
     out.extend_from_slice(&word.to_be_bytes())
 }
 
 /// Appends numbers of four bytes.
-pub fn push_words(numbers: &[u32], out: &mut Vec<u8>) -> Result<(), NoMemory>
+pub(crate) fn push_words(numbers: &[u32], out: &mut Vec<u8>) -> Result<(), NoMemory>
     ensures { Adds (words numbers.now) out.old.items out.new.items result }
 {
     for i in 0..numbers.len() {
@@ -25,7 +25,7 @@ pub fn push_words(numbers: &[u32], out: &mut Vec<u8>) -> Result<(), NoMemory>
 }
 
 /// Appends a state.
-pub fn push_state(state: &AggState, out: &mut Vec<u8>) -> Result<(), NoMemory>
+pub(crate) fn push_state(state: &AggState, out: &mut Vec<u8>) -> Result<(), NoMemory>
     requires { IsStored state.now }
     ensures { Adds (spelling state.now) out.old.items out.new.items result }
 {
