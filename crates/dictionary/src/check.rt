@@ -1,12 +1,11 @@
 //! Bytes read as a dictionary.
 
-ghost use Rattle.std.specs.Prelude.{◌≡◌, ◌≢◌, ◌<◌, ◌≤◌, ◌*◌, ◌^◌, ◌++◌, ◌∷◌, [], List, ℕ, true, length, IfOk, IfErr, OnOk, MatchOption};
-ghost use Rattle.data_types.specs.Numbers.{is_in_range};
+ghost use Rattle.std.specs.Prelude.{◌≡◌, ◌≢◌, ◌<◌, ◌≤◌, ◌*◌, ◌^◌, ◌++◌, ◌∷◌, [], List, ℕ, length, IfOk, IfErr, OnOk, MatchOption};
 ghost use Rattle.value_ids.specs.Dictionary.{Distinct, IsDictionary, most_values};
-ghost use Rattle.dictionary.specs.Spelling.{spelling, counted, number_bytes};
+ghost use Rattle.dictionary.specs.Spelling.{spelling, counted};
 ghost use Rattle.dictionary.specs.Reading.{IsBody, NoBody, is_above_last, Left, IsNext, NoNext};
 
-use crate::{DictFault, Dictionary, MOST_VALUES};
+use crate::{DictFault, Dictionary, MOST_VALUES, is_in_range, number_of};
 use data_types::{FieldKind, Name};
 use std::alloc::Global;
 use values::{MOST_TEXT_BYTES, Value};
@@ -87,23 +86,6 @@ fn read_numbers(
         rest = following;
     }
     Ok(values)
-}
-
-// The number that eight bytes spell.
-fn number_of(bytes: &[u8; 8]) -> i64
-    ensures spelled { number_bytes (Value.Whole result) ≡ bytes.now }
-    ensures within { is_in_range FieldKind.Long result ≡ true }
-{
-    u64::from_be_bytes(*bytes).cast_signed()
-}
-
-pub(crate) fn is_in_range(kind: FieldKind, number: i64) -> bool
-    ensures { result ≡ is_in_range kind number }
-{
-    match kind {
-        FieldKind::Int => i64::from(i32::MIN) <= number && number <= i64::from(i32::MAX),
-        FieldKind::Long | FieldKind::Text => true,
-    }
 }
 
 fn is_above_last(values: &[Value], value: &Value) -> bool

@@ -9,7 +9,9 @@ mod laws;
 mod matching;
 mod number_index;
 mod spelling;
+mod whole_numbers;
 
 pub use dictionary::{Dictionary, MOST_VALUES};
 pub use fault::DictFault;
 pub use laws::{distinct_law, spells_one_law};
+pub use whole_numbers::{is_in_range, number_of};

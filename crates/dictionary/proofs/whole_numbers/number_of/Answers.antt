@@ -2,7 +2,7 @@ use Rattle.std.proofs.Common.{◌≡◌, ◌∙◌, ℤ}
 use Rattle.std.proofs.lemmas.Int.{to_z-of_z}
 use Rattle.std.specs.Int.{w64, cast_signed, cast_unsigned}
 use Rattle.dictionary.proofs.Numbers.{number_read, within_range, fits_from_mag}
-use Rattle.dictionary.proofs.check.number_of.Goals as goal
+use Rattle.dictionary.proofs.whole_numbers.number_of.Goals as goal
 
 pub returns : goal.returns
 returns c =
