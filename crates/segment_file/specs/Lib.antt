@@ -8,4 +8,5 @@ pub mod Trees
 pub mod Image
 pub mod Rules
 pub mod Reading
+pub mod Faults
 pub mod Laws

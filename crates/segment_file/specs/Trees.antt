@@ -57,6 +57,10 @@ abbrev pub star_of : List (List Value) → Option TreeSetting → List ℕ
 star_of rows None = []
 star_of rows (Some tree) = doc_bytes (written rows tree).1
 
+-- the most bytes that the nodes and documents of a tree may take
+abbrev pub tree_limit : ℕ
+tree_limit = most_bytes
+
 -- the tree of the rows takes no more bytes than one may
 pub record TreeFits (rows : List (List Value)) (tree : TreeSetting) : Type 0 where
   pub at_most : tree_bytes merged_rows (doc_width tree.shape) (nested rows tree) ≤ most_bytes

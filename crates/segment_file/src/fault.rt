@@ -1,5 +1,6 @@
 //! Why a head is not read.
 use crate::Part;
+use outside::ShelfFault;
 use std::alloc::AllocError;
 
 /// Why a head is not read.
@@ -20,5 +21,19 @@ impl From<AllocError> for HeadFault {
 
     fn from(_: AllocError) -> Self {
         HeadFault::NoMemory
+    }
+}
+
+impl From<ShelfFault> for HeadFault {
+    ghost use Rattle.segment_file.specs.Faults.{IsHeadFault};
+
+    ghost from_gives = { IsHeadFault };
+
+    fn from(fault: ShelfFault) -> Self {
+        match fault {
+            ShelfFault::Missing => HeadFault::NotASegment(Part::Head),
+            ShelfFault::Failed => HeadFault::ReadFault,
+            ShelfFault::NoMemory => HeadFault::NoMemory,
+        }
     }
 }

@@ -69,7 +69,7 @@ impl Front {
     }
 
     /// How many bytes the sections of the head have together.
-    pub fn head_size(&self, table: &Table) -> u64
+    pub(crate) fn head_size(&self, table: &Table) -> u64
         requires some { length table.now.schema.fields + length table.now.settings.trees
             < length self.now.sizes }
         requires short { sum self.now.sizes < 2 ^ 64 }

@@ -15,7 +15,7 @@ pub fn four_at(bytes: &[u8], at: usize) -> u32
 }
 
 /// The number that eight bytes spell.
-pub fn eight_at(bytes: &[u8], at: usize) -> u64
+pub(crate) fn eight_at(bytes: &[u8], at: usize) -> u64
     requires { at + 8 ≤ length bytes.now }
     ensures { result ≡ from_be_bytes w64 (take 8 (drop at bytes.now)) }
 {
@@ -33,7 +33,7 @@ pub fn eight_at(bytes: &[u8], at: usize) -> u64
 
 /// Appends a number of two bytes.
 #[tactic(auto, unfolding(crate::specs::Front::short))]
-pub fn push_two(number: u16, out: &mut Vec<u8>) -> Result<(), NoMemory>
+pub(crate) fn push_two(number: u16, out: &mut Vec<u8>) -> Result<(), NoMemory>
     ensures { OnOk result (out.new.items ≡ out.old.items ++ short number) }
 {
     out.extend_from_slice(&number.to_be_bytes())
@@ -41,7 +41,7 @@ pub fn push_two(number: u16, out: &mut Vec<u8>) -> Result<(), NoMemory>
 
 /// Appends a number of four bytes.
 #[tactic(auto, unfolding(dictionary::specs::Spelling::counted))]
-pub fn push_four(number: u32, out: &mut Vec<u8>) -> Result<(), NoMemory>
+pub(crate) fn push_four(number: u32, out: &mut Vec<u8>) -> Result<(), NoMemory>
     ensures { OnOk result (out.new.items ≡ out.old.items ++ counted number) }
 {
     out.extend_from_slice(&number.to_be_bytes())
@@ -49,7 +49,7 @@ pub fn push_four(number: u32, out: &mut Vec<u8>) -> Result<(), NoMemory>
 
 /// Appends a number of eight bytes.
 #[tactic(auto, unfolding(crate::specs::Front::long))]
-pub fn push_eight(number: u64, out: &mut Vec<u8>) -> Result<(), NoMemory>
+pub(crate) fn push_eight(number: u64, out: &mut Vec<u8>) -> Result<(), NoMemory>
     ensures { OnOk result (out.new.items ≡ out.old.items ++ long number) }
 {
     out.extend_from_slice(&number.to_be_bytes())

@@ -14,7 +14,8 @@ ghost use Rattle.segment_file.specs.declared.fault.HeadFault.TheVariants.{NotASe
 ghost use Rattle.segment_file.specs.declared.part.Part.{Part};
 ghost use Rattle.segment_file.specs.declared.part.Part.TheVariants as part;
 
-use crate::{Front, HeadFault, NoMemory, Part, file_length, front_size, read_exactly};
+use crate::reading::file_length;
+use crate::{Front, HeadFault, NoMemory, Part, front_size, read_exactly};
 use outside::Shelf;
 use std::alloc::Global;
 use table_schema::Table;

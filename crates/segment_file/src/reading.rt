@@ -1,5 +1,5 @@
 //! Bytes of a segment's file are read.
-ghost use Rattle.std.specs.Prelude.{◌≡◌, ◌<◌, ◌+◌, ◌^◌, ◌↔◌, IfOk, IfErr, IfSome, OnErr, IsErrOf, Some, length};
+ghost use Rattle.std.specs.Prelude.{◌≡◌, ◌<◌, ◌+◌, ◌^◌, IfOk, IfErr, IfSome, OnErr, IsErrOf, Some, length};
 ghost use Rattle.outside.specs.Files.{bytes_at, bytes_of};
 ghost use Rattle.outside.specs.Reads.{LogsThrough, LogsUpTo};
 ghost use Rattle.outside.specs.Seen.{OnlyReads, seen};
@@ -10,23 +10,6 @@ ghost use Rattle.segment_file.specs.declared.part.Part.TheVariants as part;
 use crate::{HeadFault, Part};
 use outside::{Bytes, Shelf, ShelfFault, read_bytes};
 use std::alloc::Global;
-
-/// How many bytes a file has; one that is missing has none.
-pub fn file_length<S: Shelf>(alloc: Global, shelf: &mut S, file: &str) -> Result<u64, HeadFault>
-    ensures length { IfOk result (λ n. IfSome (S.held shelf.old) (λ files.
-        n ≡ length (bytes_of (Some files) file.now))) }
-    ensures only_reads { OnlyReads (IsErrOf result HeadFault.ReadFault)
-        (seen S.Shelf shelf.old) (seen S.Shelf shelf.new) }
-    ensures log { S.log shelf.new ≡ S.log shelf.old }
-    ensures never { IfErr result (λ fault. (p : Part) → ¬ (fault ≡ NotASegment p)) }
-{
-    match shelf.length(alloc, file) {
-        Ok(length) => Ok(length),
-        Err(ShelfFault::Missing) => Ok(0),
-        Err(ShelfFault::Failed) => Err(HeadFault::ReadFault),
-        Err(ShelfFault::NoMemory) => Err(HeadFault::NoMemory),
-    }
-}
 
 /// So many bytes of a file from an offset on. Where the file ends before, its front says what it is
 /// not.
@@ -54,7 +37,7 @@ pub fn read_exactly<S: Shelf>(
 {
     let bytes = match read_bytes(alloc, shelf, file, offset, count) {
         Ok(bytes) => bytes,
-        Err(fault) => return Err(of_shelf(fault)),
+        Err(fault) => return Err(HeadFault::from(fault)),
     };
     if (bytes.len() as u64) < count {
         return Err(HeadFault::NotASegment(Part::Head));
@@ -62,15 +45,23 @@ pub fn read_exactly<S: Shelf>(
     Ok(bytes)
 }
 
-// What a shelf's fault is for a head: a file that is missing is an empty one.
-fn of_shelf(fault: ShelfFault) -> HeadFault
-    ensures missing { fault ≡ ShelfFault.Missing → result ≡ NotASegment part.Head }
-    ensures failed { result ≡ HeadFault.ReadFault ↔ (fault ≡ ShelfFault.Failed) }
-    ensures memory { result ≡ HeadFault.NoMemory ↔ (fault ≡ ShelfFault.NoMemory) }
+/// How many bytes a file has; one that is missing has none.
+pub(crate) fn file_length<S: Shelf>(
+    alloc: Global,
+    shelf: &mut S,
+    file: &str,
+) -> Result<u64, HeadFault>
+    ensures length { IfOk result (λ n. IfSome (S.held shelf.old) (λ files.
+        n ≡ length (bytes_of (Some files) file.now))) }
+    ensures only_reads { OnlyReads (IsErrOf result HeadFault.ReadFault)
+        (seen S.Shelf shelf.old) (seen S.Shelf shelf.new) }
+    ensures log { S.log shelf.new ≡ S.log shelf.old }
+    ensures never { IfErr result (λ fault. (p : Part) → ¬ (fault ≡ NotASegment p)) }
 {
-    match fault {
-        ShelfFault::Missing => HeadFault::NotASegment(Part::Head),
-        ShelfFault::Failed => HeadFault::ReadFault,
-        ShelfFault::NoMemory => HeadFault::NoMemory,
+    match shelf.length(alloc, file) {
+        Ok(length) => Ok(length),
+        Err(ShelfFault::Missing) => Ok(0),
+        Err(ShelfFault::Failed) => Err(HeadFault::ReadFault),
+        Err(ShelfFault::NoMemory) => Err(HeadFault::NoMemory),
     }
 }

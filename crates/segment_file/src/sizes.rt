@@ -10,23 +10,6 @@ use dictionary::Dictionary;
 use star_file::width_of;
 use table_schema::Table;
 
-/// How many bytes a section of the rows has, where its column has so many values.
-pub fn size_for(rows: u32, count: u32, part: Part) -> u64
-    requires rows { rows ≤ 1048576 }
-    requires count { count ≤ 1048576 }
-    ensures { result ≡ size_for rows count part }
-{
-    let rows = u64::from(rows);
-    let values = u64::from(count);
-    match part {
-        Part::Forward(_) => (rows * u64::from(width_for(count)) + 7) / 8,
-        Part::Sorted(_) => 8 * values,
-        Part::Inverted(_) => 4 * (values + 1 + rows),
-        Part::Range(_) => 4 * ((values + 15) / 16 + 1 + rows),
-        _ => 0,
-    }
-}
-
 /// Whether each of these sections is as long as the rows, the dictionaries and the documents say,
 /// or the first that is not.
 pub fn check_sizes(
@@ -54,6 +37,23 @@ pub fn check_sizes(
         }
     }
     Ok(())
+}
+
+// How many bytes a section of the rows has, where its column has so many values.
+fn size_for(rows: u32, count: u32, part: Part) -> u64
+    requires rows { rows ≤ 1048576 }
+    requires count { count ≤ 1048576 }
+    ensures { result ≡ size_for rows count part }
+{
+    let rows = u64::from(rows);
+    let values = u64::from(count);
+    match part {
+        Part::Forward(_) => (rows * u64::from(width_for(count)) + 7) / 8,
+        Part::Sorted(_) => 8 * values,
+        Part::Inverted(_) => 4 * (values + 1 + rows),
+        Part::Range(_) => 4 * ((values + 15) / 16 + 1 + rows),
+        _ => 0,
+    }
 }
 
 // How many bytes a section after the head has.

@@ -25,7 +25,7 @@ returns-clause-log g c =
 
 pub returns-in-Err-clause-only_reads : goal.returns-in-Err-clause-only_reads
 returns-in-Err-clause-only_reads g c =
-    shelf_handed c.in-Err.fault c.of_shelf.result (seen g.S.Shelf c.args.shelf.now) (seen g.S.Shelf c.read_bytes.new.shelf) c.of_shelf.ensures.failed.0 c.of_shelf.ensures.failed.1 c.in-Err.ensures.only_reads
+    shelf_handed c.in-Err.fault c.from.result (seen g.S.Shelf c.args.shelf.now) (seen g.S.Shelf c.read_bytes.new.shelf) c.from.ensures.failed.0 c.from.ensures.failed.1 c.in-Err.ensures.only_reads
 
 pub returns-then-len-count-clause-only_reads : goal.returns-then-len-count-clause-only_reads
 returns-then-len-count-clause-only_reads g c =
