@@ -1,5 +1,5 @@
 -- A head that is opened in steps has what the whole head has.
-use Rattle.std.proofs.Common.{◌≡◌, ◌≢◌, ◌∙◌, ◌<◌, ◌≤◌, ◌+◌, ◌^◌, ℕ, zero, suc, List, [], ◌∷◌, length, map, get_or, set, take, drop, sum, replicate, Option, Some, None, IfSome, MatchOption, true, false, refl, sym, ap, subst, arith, length-take}
+use Rattle.std.proofs.Common.{◌≡◌, ◌≢◌, ◌∙◌, ◌<◌, ◌≤◌, ◌+◌, ◌^◌, ℕ, zero, suc, List, [], ◌∷◌, length, map, get_or, set, take, drop, sum, replicate, Option, Some, None, IfSome, MatchOption, true, false, inl, inr, refl, sym, ap, subst, arith, length-take}
 use Rattle.std.specs.Prelude.{option_map, slice_get}
 use Rattle.std.proofs.lemmas.List.{get_or-map, get_or-replicate, get_or-take, length-map, length-set, length-append, length-replicate, take-take}
 use Rattle.std.proofs.lemmas.Bool.{false≢true}
@@ -29,6 +29,7 @@ use Rattle.segment_file.specs.declared.part.Part.TheVariants as parts
 use Rattle.segment_file.specs.declared.section.Section.{Section}
 use Rattle.segment_file.specs.Bounds.{AreBounds, bounds_of, bounded}
 use Rattle.segment_file.specs.Front.{Extent, Front, bounds_end, extents_from, extents_of, front_size}
+use Rattle.segment_head.specs.Calls.{FailsOpening}
 use Rattle.segment_head.specs.Heads.{HasCount, IsHead, IsHeadOf, IsLoaded, IsOpened, IsPartOf, IsPlaced, IsSlotOf, Loads, OfWhole, Seen, placed, with_dictionary}
 use Rattle.segment_file.specs.Rules.{KeepsRules, HasFront, IsFront, IsSpelled, dictionary_in, heads_in, nodes_in, section_bytes}
 use Rattle.segment_file.specs.Reading.{nodes_said, trees_said, IsFrontOf}
@@ -294,6 +295,29 @@ pub bounds_cut : (table : Table) (name file bytes : List ℕ) (held : Option Fil
 bounds_cut table name file bytes None front offset count P is within short = tt
 bounds_cut table name file bytes (Some files) front offset count P is within short =
     absurd (omega (arith, short, within, is.told.0, is.front_is.whole, sum_by-take-le (λ n. n) front.sizes 1))
+
+-- ---- what fails first
+
+-- a told file without a front fails there
+pub front_fails : (table : Table) (name file : List ℕ) (held : Option Files) (p : Part) → p ≡ parts.Head
+    → IfSome held (λ files. (front : Front) → ¬ HasFront table name (bytes_of (Some files) file) front)
+    → IfSome held (λ files. FailsOpening table name (bytes_of (Some files) file) p)
+front_fails table name file None p is none = tt
+front_fails table name file (Some files) p is none = inl (is, none)
+
+-- one that has a front, and no bounds, fails at these
+pub bounds_fail : (table : Table) (name file bytes : List ℕ) (held : Option Files) (front : Front) (p : Part) → IsFrontOf table name file held bytes front
+    → IfSome held (λ files. p ≡ parts.Bounds)
+    → IfSome held (λ files. (bounds : List Ends) → ¬ AreBounds (bounded front.rows table.schema.fields) (get_or (heads_in table name front (bytes_of (Some files) file)) 0 []) bounds)
+    → IfSome held (λ files. FailsOpening table name (bytes_of (Some files) file) p)
+bounds_fail table name file bytes None front p is own none = tt
+bounds_fail table name file bytes (Some files) front p is own none =
+    inr (front, own, has_front table name file bytes files front is, none)
+
+-- what holds, holds where files are told
+pub told_so : (held : Option Files) (Q : Type 0) → Q → IfSome held (λ files. Q)
+told_so None Q q = tt
+told_so (Some files) Q q = q
 
 -- ---- small steps
 

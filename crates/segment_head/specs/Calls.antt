@@ -1,16 +1,19 @@
 -- What the calls that read a head, or a part of one, ask, tell, are refused by and read.
-use Rattle.std.specs.Prelude.{◌≡◌, ◌≤◌, ◌<◌, ◌^◌, ℕ, List, length, Some, Result, IfErr, IfOk, IfSome, IsErrOf}
-use Rattle.outside.specs.Files.{bytes_of}
+use Rattle.std.specs.Prelude.{◌≡◌, ◌≤◌, ◌<◌, ◌^◌, ◌⊎◌, ℕ, List, [], length, Option, Some, Result, IfErr, IfOk, IfSome, IsErrOf, slice_index_or}
+use Rattle.outside.specs.Files.{Files, bytes_of}
 use Rattle.outside.specs.Seen as outside
 use Rattle.outside.specs.Seen.{OnlyReads}
 use Rattle.table_schema.specs.ValidTable.{IsValidTable}
 use Rattle.table_schema.specs.declared.table.Table.{Table}
+use Rattle.segment_file.specs.declared.bounds.Ends.{Ends}
+use Rattle.segment_file.specs.Bounds.{AreBounds, bounded}
 use Rattle.segment_file.specs.Front.{Front, file_end}
 use Rattle.segment_file.specs.Parts.{sections_of}
-use Rattle.segment_file.specs.Rules.{FailsAt, KeepsRules}
+use Rattle.segment_file.specs.Rules.{FailsAt, HasFront, KeepsRules, heads_in}
 use Rattle.segment_file.specs.declared.fault.HeadFault.{HeadFault}
 use Rattle.segment_file.specs.declared.fault.HeadFault.TheVariants.{NotASegment, ReadFault}
 use Rattle.segment_file.specs.declared.part.Part.{Part}
+use Rattle.segment_file.specs.declared.part.Part.TheVariants.{Bounds, Head}
 use Rattle.segment_head.specs.Heads.{AreIn, IsBare, IsHead, IsHeadOf, IsOpened, IsPartOf, LogsHead, LogsOpened, OfWhole, Seen}
 
 -- ---- what is asked
@@ -49,8 +52,30 @@ pub record ReadsHead (table : Table) (name file : List ℕ) (old new : outside.S
   pub only_reads : OnlyReads (IsErrOf result ReadFault) old new
   pub log : LogsHead table name file old.held old.log new.log
 
+-- these are the bounds that the bytes of a file with this front have
+abbrev pub HasBounds : Table → List ℕ → List ℕ → Front → List Ends → Type 0
+HasBounds table name bytes front bounds =
+    AreBounds (bounded front.rows table.schema.fields)
+    (slice_index_or (heads_in table name front bytes) 0 []) bounds
+
+-- the bytes of a file have a front and bounds
+abbrev pub HasOpening : Table → List ℕ → List ℕ → Type 0
+HasOpening table name bytes = (front : Front) × (bounds : List Ends)
+    × HasFront table name bytes front × HasBounds table name bytes front bounds
+
+-- the part is the first that is not there: the front, which is of the head, or else the bounds
+abbrev pub FailsOpening : Table → List ℕ → List ℕ → Part → Type 0
+FailsOpening table name bytes p =
+    ((p ≡ Head) × ((front : Front) → ¬ HasFront table name bytes front))
+    ⊎ ((front : Front) × (p ≡ Bounds) × HasFront table name bytes front
+    × ((bounds : List Ends) → ¬ HasBounds table name bytes front bounds))
+
+-- the part is the head or the bounds
+abbrev pub IsOpeningPart : Part → Type 0
+IsOpeningPart p = (p ≡ Head) ⊎ (p ≡ Bounds)
+
 -- the front and the bounds of a file were read, so that its head is open and nothing of it loaded;
--- or a rule fails
+-- or a rule fails: of what is looked at, the first
 pub record OpensHead (table : Table) (name file : List ℕ) (old new : outside.Seen)
     (result : Result Seen HeadFault) : Type 0 where
   pub of : IfOk result (IsHeadOf table)
@@ -62,6 +87,9 @@ pub record OpensHead (table : Table) (name file : List ℕ) (old new : outside.S
       → IsHead table name file (bytes_of (Some files) file) whole → IsPartOf whole head))
   pub refused : IfErr result (λ fault. (p : Part) → fault ≡ NotASegment p
       → IfSome old.held (λ files. ¬ KeepsRules table name (bytes_of (Some files) file)))
+  pub named : IfErr result (λ fault. (p : Part) → fault ≡ NotASegment p → IsOpeningPart p)
+  pub first : IfErr result (λ fault. (p : Part) → fault ≡ NotASegment p
+      → IfSome old.held (λ files. FailsOpening table name (bytes_of (Some files) file) p))
   pub only_reads : OnlyReads (IsErrOf result ReadFault) old new
   pub log : LogsOpened table name file old.held old.log new.log
 

@@ -1,20 +1,18 @@
 //! The bounds of columns are written, and read.
-ghost use Rattle.std.specs.Prelude.{◌≡◌, ◌≢◌, ◌<◌, ◌^◌, ◌++◌, List, true, length, IfOk, OnOk, MatchOption};
-ghost use Rattle.dictionary.specs.Spelling.{number_bytes};
-ghost use Rattle.data_types.specs.Numbers.{is_in_range};
+ghost use Rattle.std.specs.Prelude.{◌≡◌, ◌≢◌, ◌<◌, ◌^◌, ◌++◌, List, length, IfOk, OnOk, MatchOption};
 ghost use Rattle.segment_file.specs.Bounds.{AreBounds, IsBound, NoBound, bounds_bytes, bounds_of};
 ghost use Rattle.segment_file.specs.Front.{short};
 
 use crate::NoMemory;
 use data_types::{FieldKind, Name};
-use dictionary::Dictionary;
+use dictionary::{Dictionary, is_in_range, number_of};
 use segment_file::{Ends, push_ends};
 use std::alloc::Global;
 use table_schema::Field;
 use values::{MOST_TEXT_BYTES, Value};
 
 /// Appends the bounds of columns with these dictionaries; a column without values has none.
-pub fn push_bounds(dictionaries: &[Dictionary], out: &mut Vec<u8>) -> Result<(), NoMemory>
+pub(crate) fn push_bounds(dictionaries: &[Dictionary], out: &mut Vec<u8>) -> Result<(), NoMemory>
     ensures { OnOk result (out.new.items ≡
         out.old.items ++ bounds_bytes (bounds_of dictionaries.now)) }
 {
@@ -25,7 +23,7 @@ pub fn push_bounds(dictionaries: &[Dictionary], out: &mut Vec<u8>) -> Result<(),
 }
 
 /// The bounds of these fields that the bytes are, if they are.
-pub fn read_bounds(
+pub(crate) fn read_bounds(
     alloc: Global,
     fields: &[Field],
     bytes: &[u8],
@@ -86,23 +84,6 @@ fn read_number(kind: FieldKind, bytes: &[u8]) -> Option<(Value, &[u8])>
         Some((Value::Whole(number), rest))
     } else {
         None
-    }
-}
-
-// The number that eight bytes spell.
-fn number_of(bytes: &[u8; 8]) -> i64
-    ensures spelled { number_bytes (Value.Whole result) ≡ bytes.now }
-    ensures within { is_in_range FieldKind.Long result ≡ true }
-{
-    u64::from_be_bytes(*bytes).cast_signed()
-}
-
-fn is_in_range(kind: FieldKind, number: i64) -> bool
-    ensures { result ≡ is_in_range kind number }
-{
-    match kind {
-        FieldKind::Int => i64::from(i32::MIN) <= number && number <= i64::from(i32::MAX),
-        FieldKind::Long | FieldKind::Text => true,
     }
 }
 

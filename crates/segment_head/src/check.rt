@@ -93,7 +93,7 @@ fn sections_after(sections: &[Section], count: usize) -> &[Section]
 }
 
 /// Sections that begin at a place of a file, one after the other.
-pub fn place_sections(
+pub(crate) fn place_sections(
     alloc: Global,
     file: &str,
     parts: &[Part],

@@ -16,7 +16,7 @@ use std::alloc::Global;
 use table_schema::Table;
 
 /// The dictionary that the bytes are, of a column of that kind in a file of so many rows.
-pub fn check_dictionary(
+pub(crate) fn check_dictionary(
     alloc: Global,
     kind: FieldKind,
     rows: u32,
@@ -41,7 +41,7 @@ pub fn check_dictionary(
 }
 
 /// The bytes of a section of the front of a file, as many as there are.
-pub fn section_bytes<'a>(bytes: &'a [u8], section: &Section) -> &'a [u8]
+pub(crate) fn section_bytes<'a>(bytes: &'a [u8], section: &Section) -> &'a [u8]
     ensures { result.now ≡ bytes_of_section bytes.now section.now }
 {
     let from = section.place.offset.min(bytes.len() as u64) as usize;
@@ -51,7 +51,7 @@ pub fn section_bytes<'a>(bytes: &'a [u8], section: &Section) -> &'a [u8]
 }
 
 /// The dictionaries of all fields, or the number of the first field whose section is none.
-pub fn check_dictionaries(
+pub(crate) fn check_dictionaries(
     alloc: Global,
     table: &Table,
     rows: u32,
@@ -88,7 +88,7 @@ fn keep(dictionary: Dictionary, dictionaries: &mut Vec<Dictionary>) -> Result<()
 }
 
 /// What a fault of a dictionary is for the head.
-pub fn of_dictionary(fault: DictFault, column: u16) -> HeadFault
+pub(crate) fn of_dictionary(fault: DictFault, column: u16) -> HeadFault
     ensures bad { fault ≡ DictFault.BadDictionary →
         result ≡ NotASegment (part.Dictionary column) }
     ensures memory { fault ≡ DictFault.NoMemory → result ≡ HeadFault.NoMemory }

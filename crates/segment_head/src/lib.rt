@@ -13,9 +13,7 @@ mod stepwise;
 mod tree_reading;
 mod trees;
 
-pub use bounds::{push_bounds, read_bounds};
 pub use check::check_head;
-pub use dictionaries::check_dictionary;
 pub use fault::{EngineFault, engine_fault};
 pub use head::Head;
 pub use laws::head_tells_trees_law;

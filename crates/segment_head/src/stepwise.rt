@@ -6,16 +6,18 @@ ghost use Rattle.outside.specs.Seen.{OnlyReads, seen};
 ghost use Rattle.segment_file.specs.Bounds.{AreBounds, bounded};
 ghost use Rattle.segment_file.specs.Front.{bounds_end, extents_from, front_size};
 ghost use Rattle.segment_file.specs.Names.{IsSegmentOf};
-ghost use Rattle.segment_head.specs.Calls.{OpensHead};
+ghost use Rattle.segment_head.specs.Calls.{IsOpeningPart, OpensHead};
 ghost use Rattle.segment_head.specs.Heads.{placed};
 ghost use Rattle.segment_file.specs.Rules.{heads_in};
 ghost use Rattle.segment_file.specs.Reading.{IsFrontOf};
 ghost use Rattle.segment_file.specs.declared.bounds.Ends.{Ends};
 ghost use Rattle.segment_file.specs.declared.fault.HeadFault.TheVariants.{NotASegment};
 ghost use Rattle.segment_file.specs.declared.part.Part.{Part};
+ghost use Rattle.segment_file.specs.declared.part.Part.TheVariants as part;
 
+use crate::bounds::read_bounds;
 use crate::check::place_sections;
-use crate::{Head, NoMemory, read_bounds};
+use crate::{Head, NoMemory};
 use outside::Shelf;
 use segment_file::{Ends, FrontRead, HeadFault, Part, read_exactly, read_front, sections_of};
 use std::alloc::Global;
@@ -94,6 +96,8 @@ fn bounds_section<S: Shelf>(
         ¬ AreBounds (bounded read.now.front.rows table.now.schema.fields)
         (slice_index_or (heads_in table.now name.now read.now.front
         (bytes_of (Some files) file.now)) 0 []) bounds)) }
+    ensures part { IfErr result (λ fault. (p : Part) → fault ≡ NotASegment p →
+        IsOpeningPart p × IfSome (S.held shelf.old) (λ _. p ≡ part.Bounds)) }
     ensures only_reads { OnlyReads (IsErrOf result HeadFault.ReadFault)
         (seen S.Shelf shelf.old) (seen S.Shelf shelf.new) }
     ensures log { LogsUpTo file.now (front_size table.now name.now)

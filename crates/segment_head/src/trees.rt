@@ -19,7 +19,7 @@ use std::alloc::Global;
 use table_schema::Table;
 
 /// The nodes of all trees, or the number of the first tree whose section has none.
-pub fn check_trees(
+pub(crate) fn check_trees(
     alloc: Global,
     table: &Table,
     rows: u32,
@@ -80,7 +80,7 @@ fn counts_of(
 }
 
 /// What a fault of the nodes of a tree is for the head.
-pub fn of_nodes(fault: NodesFault, tree: u8) -> HeadFault
+pub(crate) fn of_nodes(fault: NodesFault, tree: u8) -> HeadFault
     ensures bad { fault ≡ NodesFault.BadNodes → result ≡ NotASegment (part.Nodes tree) }
     ensures memory { fault ≡ NodesFault.NoMemory → result ≡ HeadFault.NoMemory }
     ensures read { ¬ (result ≡ HeadFault.ReadFault) }

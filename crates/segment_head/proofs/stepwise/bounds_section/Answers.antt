@@ -1,4 +1,4 @@
-use Rattle.std.proofs.Common.{◌≡◌, ◌+◌, List, [], IfSome, Some, get_or, ap, arith}
+use Rattle.std.proofs.Common.{◌≡◌, ◌+◌, List, [], IfSome, Some, get_or, ap, arith, inl, inr}
 use Rattle.outside.specs.Files.{bytes_of}
 use Rattle.outside.specs.Seen.{seen}
 use Rattle.segment_file.specs.declared.bounds.Ends.{Ends}
@@ -9,7 +9,8 @@ use Rattle.segment_file.specs.Front.{bounds_end, front_size}
 use Rattle.segment_file.specs.Rules.{heads_in}
 use Rattle.segment_file.proofs.Faults.{growth_bad, growth_reads, other_fault, reads_ended, reads_handed, reads_other, reads_well}
 use Rattle.segment_file.proofs.Openings.{front_length, rest_through, rest_up}
-use Rattle.segment_head.proofs.Steps.{bounds_cut, bounds_within}
+use Rattle.segment_head.specs.Calls.{IsOpeningPart}
+use Rattle.segment_head.proofs.Steps.{bounds_cut, bounds_within, told_so}
 use Rattle.segment_head.proofs.stepwise.bounds_section.Goals as goal
 
 pub read_exactly-requires-clause-fits : goal.read_exactly-requires-clause-fits
@@ -116,3 +117,28 @@ returns-clause-only_reads g c =
     let old = seen g.S.Shelf c.args.shelf.now in
     let new = seen g.S.Shelf c.read_exactly.new.shelf in
     reads_other (fault.NotASegment parts.Bounds) old new (other_fault parts.Bounds) (reads_well c.in-Ok.bytes old new c.in-Ok.ensures.only_reads)
+
+pub returns-in-Err-clause-part : goal.returns-in-Err-clause-part
+returns-in-Err-clause-part g c = λ p fault_is.
+    let read = c.args.read.now in
+    let table = c.args.table.now in
+    let name = c.args.name.now in
+    let is = c.requires.front in
+    let size = get_or c.sizes.result.now 0 0 in
+    let start : c.len-start.result ≡ front_size table name = omega (arith, c.len-start.ensures, read.bytes.ok, front_length table name read.bytes.items is.size read.front is.front_is) in
+    let both = bounds_within table name read.bytes.items is.size read.front size is.front_is (ap (λ xs. get_or xs 0 0) c.sizes.ensures) in
+    let end : c.len-start.result + size ≡ bounds_end table name read.front = omega (arith, start, both.0) in
+    let short = c.in-Err.ensures.short p fault_is in
+    (inl short.0, bounds_cut table name c.args.file.now read.bytes.items (g.S.Shelf.held c.args.shelf.now) read.front c.len-start.result size (λ files. p ≡ parts.Bounds) is (omega (arith, end)) short.1)
+
+pub returns-in_err-bounds-clause-part : goal.returns-in_err-bounds-clause-part
+returns-in_err-bounds-clause-part g c =
+    growth_bad (λ p. IsOpeningPart p × IfSome (g.S.Shelf.held c.args.shelf.now) (λ files. p ≡ parts.Bounds)) c.from_residual.result c.from_residual.ensures
+
+pub returns-in-Some-clause-part : goal.returns-in-Some-clause-part
+returns-in-Some-clause-part g c = tt
+
+pub returns-clause-part : goal.returns-clause-part
+returns-clause-part g c = λ p is.
+    let same : p ≡ parts.Bounds = cc in
+    (inr same, told_so (g.S.Shelf.held c.args.shelf.now) (p ≡ parts.Bounds) same)

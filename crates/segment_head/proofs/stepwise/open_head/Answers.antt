@@ -1,4 +1,4 @@
-use Rattle.std.proofs.Common.{◌≡◌, ◌∙◌, List, [], length, map, get_or, replicate, Option, None, Some, IfSome, refl, ap, sym, subst, arith}
+use Rattle.std.proofs.Common.{◌≡◌, ◌∙◌, List, [], length, map, get_or, replicate, Option, None, Some, IfSome, inl, refl, ap, sym, subst, arith}
 use Rattle.std.proofs.lemmas.List.{length-replicate}
 use Rattle.std.proofs.lemmas.List.Elements.{All-map}
 use Rattle.outside.specs.Files.{bytes_of}
@@ -10,6 +10,8 @@ use Rattle.segment_file.specs.declared.section.Section.{Section}
 use Rattle.segment_file.specs.declared.trees.TreeNodes.{TreeNodes}
 use Rattle.segment_file.specs.Bounds.{AreBounds, bounded}
 use Rattle.segment_file.specs.Front.{Extent, bounds_end, extents_from, front_size}
+use Rattle.segment_file.specs.declared.part.Part.TheVariants as parts
+use Rattle.segment_head.specs.Calls.{FailsOpening, IsOpeningPart}
 use Rattle.segment_head.specs.Heads.{AreIn, IsBare, IsHead, IsHeadOf, IsOpened, IsPartOf, IsPlaced, Seen, placed}
 use Rattle.segment_file.specs.Rules.{KeepsRules, heads_in}
 use Rattle.segment_file.specs.Parts.{sections_of}
@@ -17,7 +19,7 @@ use Rattle.segment_file.specs.Reading.{IsFrontOf}
 use Rattle.segment_file.proofs.Faults.{growth_bad, growth_ok, growth_reads, reads_ended, reads_err, reads_handed, reads_well}
 use Rattle.segment_file.proofs.Openings.{front_length}
 use Rattle.segment_head.proofs.Openings.{head_of, frontless, logs_front, logs_still, logs_within}
-use Rattle.segment_head.proofs.Steps.{bounds_break_told, none_loaded, opened_told, part_told}
+use Rattle.segment_head.proofs.Steps.{bounds_break_told, bounds_fail, front_fails, none_loaded, opened_told, part_told}
 use Rattle.segment_head.proofs.stepwise.open_head.Goals as goal
 
 pub returns-in-Err-bounds_section : goal.returns-in-Err-bounds_section
@@ -37,6 +39,11 @@ returns-in-Err-bounds_section g c =
       refused = λ p is.
           let none = subst (λ h. IfSome h (λ files. (bounds : List Ends) → ¬ AreBounds (bounded read.front.rows table.schema.fields) (get_or (heads_in table name read.front (bytes_of (Some files) file)) 0 []) bounds)) c.in-Ok.ensures.only_reads.held (c.in-Err-bounds_section.ensures.refused p is) in
           bounds_break_told table name file read.bytes.items (g.S.Shelf.held c.args.shelf.now) read.front c.in-Ok.ensures.front none;
+      named = λ p is. (c.in-Err-bounds_section.ensures.part p is).0;
+      first = λ p is.
+          let none = subst (λ h. IfSome h (λ files. (bounds : List Ends) → ¬ AreBounds (bounded read.front.rows table.schema.fields) (get_or (heads_in table name read.front (bytes_of (Some files) file)) 0 []) bounds)) c.in-Ok.ensures.only_reads.held (c.in-Err-bounds_section.ensures.refused p is) in
+          let own = subst (λ h. IfSome h (λ files. p ≡ parts.Bounds)) c.in-Ok.ensures.only_reads.held (c.in-Err-bounds_section.ensures.part p is).1 in
+          bounds_fail table name file read.bytes.items (g.S.Shelf.held c.args.shelf.now) read.front p c.in-Ok.ensures.front own none;
       only_reads = reads_err c.in-Err-bounds_section.fault first between (seen g.S.Shelf c.bounds_section.new.shelf) (reads_well read first between c.in-Ok.ensures.only_reads) c.in-Err-bounds_section.ensures.only_reads;
       log = logs_within bounds_end table name file read.bytes.items (g.S.Shelf.held c.args.shelf.now) read.front (g.S.Shelf.log c.args.shelf.now) (g.S.Shelf.log c.read_front.new.shelf) (g.S.Shelf.log c.bounds_section.new.shelf) c.in-Ok.ensures.front c.in-Ok.ensures.log c.in-Err-bounds_section.ensures.log;
     }
@@ -63,6 +70,8 @@ returns-in_err-parts g c =
       opened = growth_ok (λ head. IfSome held (λ files. IsOpened table name file (bytes_of (Some files) file) head)) c.from_residual.result c.from_residual.ensures;
       part = growth_ok (λ head. IfSome held (λ files. (whole : Seen) → IsHead table name file (bytes_of (Some files) file) whole → IsPartOf whole head)) c.from_residual.result c.from_residual.ensures;
       refused = growth_bad (λ p. IfSome held (λ files. ¬ KeepsRules table name (bytes_of (Some files) file))) c.from_residual.result c.from_residual.ensures;
+      named = growth_bad IsOpeningPart c.from_residual.result c.from_residual.ensures;
+      first = growth_bad (λ p. IfSome held (λ files. FailsOpening table name (bytes_of (Some files) file) p)) c.from_residual.result c.from_residual.ensures;
       only_reads = growth_reads c.from_residual.result (seen g.S.Shelf c.args.shelf.now) (seen g.S.Shelf c.args.shelf.now) c.from_residual.ensures (reads_none (seen g.S.Shelf c.args.shelf.now));
       log = logs_still bounds_end table name file held (g.S.Shelf.log c.args.shelf.now);
     }
@@ -80,6 +89,8 @@ returns-in-Err g c =
       opened = tt;
       part = tt;
       refused = λ p is. frontless table name file held (c.in-Err.ensures.refused p is).1;
+      named = λ p is. inl (c.in-Err.ensures.refused p is).0;
+      first = λ p is. front_fails table name file held p (c.in-Err.ensures.refused p is).0 (c.in-Err.ensures.refused p is).1;
       only_reads = reads_handed c.in-Err.fault (seen g.S.Shelf c.args.shelf.now) (seen g.S.Shelf c.read_front.new.shelf) c.in-Err.ensures.only_reads;
       log = logs_front bounds_end table name file held (g.S.Shelf.log c.args.shelf.now) (g.S.Shelf.log c.read_front.new.shelf) c.in-Err.ensures.log_of_fault;
     }
@@ -101,6 +112,8 @@ returns-in_err-bare_head g c =
       opened = growth_ok (λ head. IfSome held (λ files. IsOpened table name file (bytes_of (Some files) file) head)) c.from_residual-in_err-bare_head.result c.from_residual-in_err-bare_head.ensures;
       part = growth_ok (λ head. IfSome held (λ files. (whole : Seen) → IsHead table name file (bytes_of (Some files) file) whole → IsPartOf whole head)) c.from_residual-in_err-bare_head.result c.from_residual-in_err-bare_head.ensures;
       refused = growth_bad (λ p. IfSome held (λ files. ¬ KeepsRules table name (bytes_of (Some files) file))) c.from_residual-in_err-bare_head.result c.from_residual-in_err-bare_head.ensures;
+      named = growth_bad IsOpeningPart c.from_residual-in_err-bare_head.result c.from_residual-in_err-bare_head.ensures;
+      first = growth_bad (λ p. IfSome held (λ files. FailsOpening table name (bytes_of (Some files) file) p)) c.from_residual-in_err-bare_head.result c.from_residual-in_err-bare_head.ensures;
       only_reads = growth_reads c.from_residual-in_err-bare_head.result old last c.from_residual-in_err-bare_head.ensures (reads_after ⊥ old between last (reads_well read old between c.in-Ok.ensures.only_reads) (reads_well c.in-Ok-bounds_section.bounds between last c.in-Ok-bounds_section.ensures.only_reads));
       log = logs_within bounds_end table name file read.bytes.items (g.S.Shelf.held c.args.shelf.now) read.front (g.S.Shelf.log c.args.shelf.now) (g.S.Shelf.log c.read_front.new.shelf) (g.S.Shelf.log c.bounds_section.new.shelf) c.in-Ok.ensures.front c.in-Ok.ensures.log c.in-Ok-bounds_section.ensures.log;
     }
@@ -141,6 +154,8 @@ returns g c =
       opened = opened;
       part = part_told table name file held head opened free bare;
       refused = tt;
+      named = tt;
+      first = tt;
       only_reads = reads_ended head old last (reads_after ⊥ old between last (reads_well read old between c.in-Ok.ensures.only_reads) (reads_well c.in-Ok-bounds_section.bounds between last c.in-Ok-bounds_section.ensures.only_reads));
       log = logs_within bounds_end table name file read.bytes.items (g.S.Shelf.held c.args.shelf.now) read.front (g.S.Shelf.log c.args.shelf.now) (g.S.Shelf.log c.read_front.new.shelf) (g.S.Shelf.log c.bounds_section.new.shelf) c.in-Ok.ensures.front c.in-Ok.ensures.log c.in-Ok-bounds_section.ensures.log;
     }
