@@ -4,7 +4,7 @@ ghost use Rattle.std.specs.Prelude.{◌≡◌, length};
 ghost use Rattle.std.specs.Int.{w64, w128, from_be_bytes, cast_signed};
 
 /// The number that eight bytes spell.
-pub fn read_u64(bytes: &[u8]) -> u64
+pub(crate) fn read_u64(bytes: &[u8]) -> u64
     requires { length bytes.now ≡ 8 }
     ensures { result ≡ from_be_bytes w64 bytes.now }
 {
@@ -15,7 +15,7 @@ pub fn read_u64(bytes: &[u8]) -> u64
 }
 
 /// The signed number that eight bytes spell.
-pub fn read_i64(bytes: &[u8]) -> i64
+pub(crate) fn read_i64(bytes: &[u8]) -> i64
     requires { length bytes.now ≡ 8 }
     ensures { result ≡ cast_signed w64 (from_be_bytes w64 bytes.now) }
 {
@@ -23,7 +23,7 @@ pub fn read_i64(bytes: &[u8]) -> i64
 }
 
 /// The signed number that sixteen bytes spell.
-pub fn read_i128(bytes: &[u8]) -> i128
+pub(crate) fn read_i128(bytes: &[u8]) -> i128
     requires { length bytes.now ≡ 16 }
     ensures { result ≡ cast_signed w128 (from_be_bytes w128 bytes.now) }
 {

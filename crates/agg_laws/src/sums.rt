@@ -10,7 +10,7 @@ use crate::numbers::read_i128;
 pub struct Sum;
 
 /// Whether a sum can come from so many values.
-pub fn sum_fits(sum: i128, count: u64) -> bool
+pub(crate) fn sum_fits(sum: i128, count: u64) -> bool
     requires { count ≤ most_stored }
     ensures { IsTrue result ↔ SumFits sum count }
 {

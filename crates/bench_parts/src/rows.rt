@@ -4,7 +4,7 @@
 ghost use Rattle.std.specs.Prelude.{IfOk, IfSome};
 ghost use Rattle.segment_build.specs.Fitting.{AreColumns};
 
-use csv_ingest::{number_blocks, read_columns};
+use csv_ingest::{CSV_LIMIT, number_blocks, read_columns};
 use dictionary::Dictionary;
 use host_devices::FolderShelf;
 use outside::read_all;
@@ -16,8 +16,6 @@ use table_schema::{Field, Schema};
 use values::Columns;
 
 const SCHEMA_LIMIT: u64 = 1_048_576;
-
-const CSV_LIMIT: u64 = 134_217_728;
 
 // The schema of a file, and the columns of a CSV file over it, unless one of the files is refused.
 fn read_files(rt: &HostRuntime, schema: &str, rows: &str) -> io::Result<Option<(Schema, Columns)>>

@@ -14,5 +14,4 @@ pub use answer::{Answer, Cell};
 pub use laws::order_law;
 pub use order::ordered;
 pub use rows::finish;
-pub use stretch::written_of;
 pub use text::answer_text;

@@ -11,7 +11,8 @@ ghost use Rattle.broker_merge.specs.Answer as spec;
 ghost use Rattle.broker_merge.specs.Answer.{NamesPlaces};
 
 use crate::answer::{Answer, Cell};
-use crate::{ordered, written_of};
+use crate::ordered;
+use crate::stretch::written_of;
 use agg_laws::AggState;
 use data_types::{Name, Seq};
 use group_table::GroupTable;

@@ -3,7 +3,7 @@
 ghost use Rattle.std.specs.Prelude.{◌≡◌, take, drop};
 
 /// Those after so many, and no more than so many.
-pub fn written_of(places: &[u32], offset: u64, limit: u64) -> &[u32]
+pub(crate) fn written_of(places: &[u32], offset: u64, limit: u64) -> &[u32]
     ensures { result.now ≡ take limit (drop offset places.now) }
 {
     let start = offset.min(places.len() as u64) as usize;

@@ -3,6 +3,7 @@
 use Rattle.std.specs.Prelude.{ℕ, Bool, true, false, ◌||◌, List, [], ◌∷◌, Option, Some, None}
 use Rattle.csv_ingest.specs.Blocks as csv
 use Rattle.segment_file.specs.Names.{file_of}
+use Rattle.segment_file.specs.Trees as trees
 use Rattle.table_store.specs.TableFile.{table_name, text_limit}
 use Rattle.command_words.specs.Command.{Build, Command, Create, Listing, Scan, Ask}
 use Rattle.command_words.specs.declared.about.About.{About}
@@ -18,7 +19,7 @@ csv_limit = csv.text_limit
 
 -- the most bytes that the nodes and documents of a star-tree may take
 abbrev pub tree_limit : ℕ
-tree_limit = 134217728
+tree_limit = trees.tree_limit
 
 -- which stored files are opened: none, that of the table, or that and those of segments
 pub data Opens : Type 0 where

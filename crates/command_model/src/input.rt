@@ -11,9 +11,6 @@ use command_words::{Counted, Fault, Note, Stop};
 use outside::{Bytes, ReadAllFault, Seq, Shelf, read_all};
 use std::alloc::{AllocError, Global};
 
-/// The most bytes that a CSV file may have.
-pub const CSV_LIMIT: u64 = 134_217_728;
-
 /// The bytes of an input file, which may have so many.
 pub fn read_input<I: Shelf>(
     alloc: Global,

@@ -8,7 +8,8 @@ mod part_name;
 mod rows;
 mod store;
 
-pub use input::{CSV_LIMIT, read_input};
+pub use csv_ingest::CSV_LIMIT;
+pub use input::read_input;
 pub use laws::may_write_law;
 pub use new_table::{NewTable, read_table};
 pub use part_name::segment_stop;

@@ -16,9 +16,9 @@ ghost use Rattle.command_words.specs.Notes.{csv_note};
 ghost use Rattle.command_model.specs.Profile.{csv_limit};
 ghost use Rattle.command_model.specs.Touched.{ReadsFront};
 
-use crate::input::{CSV_LIMIT, read_input};
+use crate::input::read_input;
 use command_words::{Counted, Fault, Note, Stop};
-use csv_ingest::{CsvFault, read_columns};
+use csv_ingest::{CSV_LIMIT, CsvFault, read_columns};
 use outside::Shelf;
 use std::alloc::Global;
 use table_schema::{Field, Table};

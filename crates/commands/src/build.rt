@@ -15,13 +15,10 @@ ghost use Rattle.command_model.specs.World.{devices};
 use command_model::{read_rows, table_with_place};
 use command_words::{Counted, Fault, Note, Stop};
 use outside::{Bytes, Depot, Seq, Shelf};
-use segment_build::{BuildFault, write_columns};
+use segment_build::{BuildFault, MOST_TREE_BYTES, write_columns};
 use std::alloc::{AllocError, Global};
 use table_schema::Table;
 use values::Columns;
-
-// The most bytes that the nodes and documents of a star-tree may take.
-const TREE_LIMIT: u64 = 134_217_728;
 
 /// The reply to `build`. Where the store has no place for the segment, the CSV file is not looked
 /// at.
@@ -89,7 +86,7 @@ fn publish<D: Depot>(
         Err(BuildFault::NoMemory) => Err(Stop::Fault(Fault::Memory)),
         Err(BuildFault::TooLarge(_)) => Err(Stop::Refused(Note::TooLarge(
             Counted::TreeBytes,
-            TREE_LIMIT,
+            MOST_TREE_BYTES,
         ))),
     }
 }

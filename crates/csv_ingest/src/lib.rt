@@ -2,9 +2,9 @@
 #![tactic(auto)]
 
 mod blocks;
-mod defaults;
 mod header;
 mod laws;
+mod limits;
 mod lines;
 mod numbers;
 mod records;
@@ -13,7 +13,7 @@ mod schema_rows;
 
 pub use blocks::{NumberBlocks, NumberHeader, number_blocks};
 pub use csv_row::{CsvFault, CsvKind};
-pub use defaults::defaults_fit;
 pub use laws::{defaults_law, rows_law, unicode_law};
+pub use limits::CSV_LIMIT;
 pub use numbers::{read_number_columns, read_number_rows};
 pub use schema_rows::{read_columns, read_rows};

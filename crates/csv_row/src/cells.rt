@@ -50,7 +50,7 @@ fn read_text(
 
 /// The number that some bytes spell, where the field takes numbers: such bytes are UTF-8.
 #[inline(always)]
-pub fn number_in(kind: FieldKind, bytes: &[u8]) -> Option<i64>
+pub(crate) fn number_in(kind: FieldKind, bytes: &[u8]) -> Option<i64>
     ensures found { IfSome result (λ number. value_in kind bytes.now ≡ Ok (Value.Whole number)) }
     ensures none { result ≡ None
         → (number : ℤ) → value_in kind bytes.now ≢ Ok (Value.Whole number) }
@@ -85,7 +85,7 @@ fn read_cell(
 }
 
 /// The value of a field in a record of that number, by its place in the header.
-pub fn read_field(
+pub(crate) fn read_field(
     alloc: Global,
     field: &Field,
     place: Option<usize>,

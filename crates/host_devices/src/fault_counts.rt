@@ -5,7 +5,10 @@ ghost use Rattle.host_devices.specs.Faults.{Counts};
 use outside::{DepotFault, ShelfFault};
 
 /// Counts a failed call that reads.
-pub fn count_read<T>(faults: &mut u64, answer: Result<T, ShelfFault>) -> Result<T, ShelfFault>
+pub(crate) fn count_read<T>(
+    faults: &mut u64,
+    answer: Result<T, ShelfFault>,
+) -> Result<T, ShelfFault>
     ensures answer { result ≡ answer }
     ensures counts { Counts (IsErrOf answer ShelfFault.Failed) faults.old faults.new }
 {
@@ -16,7 +19,10 @@ pub fn count_read<T>(faults: &mut u64, answer: Result<T, ShelfFault>) -> Result<
 }
 
 /// Counts a failed call that writes.
-pub fn count_write(faults: &mut u64, answer: Result<(), DepotFault>) -> Result<(), DepotFault>
+pub(crate) fn count_write(
+    faults: &mut u64,
+    answer: Result<(), DepotFault>,
+) -> Result<(), DepotFault>
     ensures answer { result ≡ answer }
     ensures counts { Counts (IsErrOf answer DepotFault.Failed) faults.old faults.new }
 {

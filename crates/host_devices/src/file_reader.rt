@@ -36,7 +36,7 @@ pub struct FileReader<F: Read + Drop> {
 impl<F: OpenFile + Read + Drop> FileReader<F> {
     /// Whether another length or another time of writing of the file is known than when it was
     /// opened.
-    pub fn was_written(&self) -> io::Result<bool> {
+    pub(crate) fn was_written(&self) -> io::Result<bool> {
         let now = FileStamp::of(&self.file.metadata()?);
         Ok(!now.is_as_written(&self.opened))
     }
@@ -72,7 +72,7 @@ impl<F: Read + Seek + Drop> FileReader<F> {
 
     /// Copies bytes from an offset on, as many as fit, if all of them were read ahead.
     #[inline(always)]
-    pub fn copy_ahead(&self, offset: u64, into: &mut [u8]) -> Option<usize>
+    pub(crate) fn copy_ahead(&self, offset: u64, into: &mut [u8]) -> Option<usize>
         ensures { IfSome result (λ n. n ≤ length into.old) }
     {
         let size = into.len();

@@ -32,7 +32,7 @@ impl FileStamp {
     }
 
     /// Whether the file has the same length as another, and was written last at the same time.
-    pub fn is_as_written(&self, other: &Self) -> bool {
+    pub(crate) fn is_as_written(&self, other: &Self) -> bool {
         self.length == other.length && self.written == other.written
     }
 }

@@ -2,9 +2,9 @@
 ghost use Rattle.std.specs.Prelude.{◌≡◌, ◌≤◌, None, IfOk, IsErrOf, length};
 ghost use Rattle.host_devices.specs.Faults.{Counts};
 
+use crate::fault_counts::{count_read, count_write};
 use crate::folder_lock::LockFile;
 use crate::folder_parts::{FolderParts, is_published_name};
-use crate::{count_read, count_write};
 use outside::{Depot, DepotFault, Name, ReadResult, Seq, Shelf, ShelfFault};
 use std::alloc::Global;
 use std::rt::Files;

@@ -63,7 +63,7 @@ impl<R: Files + AllocGlobal + Clone + Drop> FolderFiles<R> {
 
     /// Keeps the names that the folder gave. From now on each of them has a file, and always the
     /// same, or else a call fails.
-    pub fn keep_names(&mut self, alloc: Global, names: &[Name]) -> Result<(), AllocError> {
+    pub(crate) fn keep_names(&mut self, alloc: Global, names: &[Name]) -> Result<(), AllocError> {
         self.listed = ListedNames::of(alloc, names)?;
         Ok(())
     }
@@ -90,7 +90,7 @@ impl<R: Files + AllocGlobal + Clone + Drop> FolderFiles<R> {
 
     /// Reads bytes of a file from an offset on. Where its end is read, or nothing, the call fails
     /// if the file was written since it was opened.
-    pub fn read_unwritten(
+    pub(crate) fn read_unwritten(
         &mut self,
         alloc: Global,
         name: &str,
@@ -123,7 +123,7 @@ impl<R: Files + AllocGlobal + Clone + Drop> FolderFiles<R> {
     /// Copies bytes from an offset on, if the file that is kept open has this name and they were
     /// read ahead.
     #[inline(always)]
-    pub fn copy_ahead(&self, name: &str, offset: u64, into: &mut [u8]) -> Option<usize>
+    pub(crate) fn copy_ahead(&self, name: &str, offset: u64, into: &mut [u8]) -> Option<usize>
         ensures { IfSome result (λ n. n ≤ length into.old) }
     {
         if !self.is_kept(name) {
@@ -155,7 +155,7 @@ impl<R: Files + AllocGlobal + Clone + Drop> FolderFiles<R> {
     }
 
     /// Closes the file that is kept open, since another may now stand under its name.
-    pub fn forget(&mut self)
+    pub(crate) fn forget(&mut self)
         ensures { self.new.kept ≡ None }
     {
         self.ends = NameEnds::none();
@@ -227,7 +227,7 @@ impl<R: Files + AllocGlobal + Clone + Drop> FolderFiles<R> {
     /// unless something has the name, as a link to nothing, the name is kept, or its path is too
     /// long.
     #[cold]
-    pub fn none_of(&self, alloc: Global, name: &str) -> ShelfFault {
+    pub(crate) fn none_of(&self, alloc: Global, name: &str) -> ShelfFault {
         if self.listed.has(name) {
             return ShelfFault::Failed;
         }
@@ -242,13 +242,13 @@ impl<R: Files + AllocGlobal + Clone + Drop> FolderFiles<R> {
     }
 
     /// Whether the folder is there. Where it is not, a call that needs it fails.
-    pub fn is_there(&self) -> bool {
+    pub(crate) fn is_there(&self) -> bool {
         is_folder(&self.rt, self.folder.as_str())
     }
 }
 
 /// Whether nothing has the name that a path ends in, no link to nothing either.
-pub fn is_free<R: Files>(rt: &R, path: &str) -> bool {
+pub(crate) fn is_free<R: Files>(rt: &R, path: &str) -> bool {
     match fs::symlink_metadata(rt, path) {
         Ok(_) => false,
         Err(e) => e.kind() == ErrorKind::NotFound,
@@ -256,7 +256,7 @@ pub fn is_free<R: Files>(rt: &R, path: &str) -> bool {
 }
 
 /// The path of a name, which may be a path of its own: an absolute one stands for itself.
-pub fn path_of(alloc: Global, folder: &str, name: &str) -> Result<String, AllocError> {
+pub(crate) fn path_of(alloc: Global, folder: &str, name: &str) -> Result<String, AllocError> {
     let mut path = String::new(alloc);
     if !name.starts_with('/') {
         path.push_str(folder)?;
@@ -267,7 +267,7 @@ pub fn path_of(alloc: Global, folder: &str, name: &str) -> Result<String, AllocE
 }
 
 /// Whether an error of opening or removing a file says that nothing has its name, or can have it.
-pub fn names_nothing(e: &io::Error) -> bool {
+pub(crate) fn names_nothing(e: &io::Error) -> bool {
     matches!(
         e.kind(),
         ErrorKind::NotFound
@@ -298,7 +298,7 @@ fn open_plain<R: Files>(rt: &R, alloc: Global, path: &str) -> io::Result<FileRea
 }
 
 /// Refuses what is no plain file.
-pub fn require_plain(metadata: &Metadata) -> io::Result<()> {
+pub(crate) fn require_plain(metadata: &Metadata) -> io::Result<()> {
     if metadata.is_file() {
         Ok(())
     } else {

@@ -31,7 +31,7 @@ pub enum FolderLock<F: Drop> {
 }
 
 /// The lock of the folder at this path.
-pub fn lock_folder<R: Files>(rt: &R, folder: &str) -> FolderLock<R::File>
+pub(crate) fn lock_folder<R: Files>(rt: &R, folder: &str) -> FolderLock<R::File>
 where
     R::File: LockFile,
 {
@@ -45,7 +45,7 @@ where
 }
 
 /// Whether there is a folder at a path.
-pub fn is_folder<R: Files>(rt: &R, path: &str) -> bool {
+pub(crate) fn is_folder<R: Files>(rt: &R, path: &str) -> bool {
     match fs::metadata(rt, path) {
         Ok(metadata) => metadata.is_dir(),
         Err(_) => false,

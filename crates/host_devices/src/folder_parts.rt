@@ -53,7 +53,7 @@ impl<R: Files + AllocGlobal + Clone + Drop> FolderParts<R> {
     }
 
     /// Tries to lock the folder, once. The lock is kept to the end.
-    pub fn lock(&mut self)
+    pub(crate) fn lock(&mut self)
     where
         R::File: LockFile,
         ensures { IsHeld self.old.lock → self.new.lock ≡ self.old.lock }
@@ -286,7 +286,7 @@ fn is_file_name(name: &str) -> bool {
 }
 
 /// Whether a text can name a published file.
-pub fn is_published_name(name: &str) -> bool {
+pub(crate) fn is_published_name(name: &str) -> bool {
     is_file_name(name) && !name.ends_with(PART)
 }
 

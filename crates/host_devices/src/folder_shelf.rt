@@ -1,7 +1,7 @@
 //! Shelves over real folders.
 ghost use Rattle.std.specs.Prelude.{None};
 
-use crate::count_read;
+use crate::fault_counts::count_read;
 use crate::folder_files::FolderFiles;
 use outside::{Name, ReadResult, Seq, Shelf, ShelfFault};
 use std::alloc::Global;

@@ -16,7 +16,6 @@ mod listed_names;
 mod name_ends;
 mod stream_sink;
 
-pub use fault_counts::{count_read, count_write};
 pub use folder_depot::FolderDepot;
 pub use folder_lock::LockFile;
 pub use folder_shelf::FolderShelf;

@@ -57,7 +57,7 @@ impl ListedNames {
 
     /// Whether the file that is opened under a name is the one that was opened first, if the name
     /// is one of these.
-    pub fn admits(&mut self, name: &str, opened: FileStamp) -> bool {
+    pub(crate) fn admits(&mut self, name: &str, opened: FileStamp) -> bool {
         let Some(at) = self.place_of(name) else {
             return true;
         };
@@ -79,7 +79,7 @@ impl ListedNames {
     }
 
     /// The file of a name was taken away by who reads here.
-    pub fn leave_out(&mut self, name: &str) {
+    pub(crate) fn leave_out(&mut self, name: &str) {
         if let Some(at) = self.place_of(name) {
             drop(self.names.remove(at));
         }

@@ -23,7 +23,7 @@ use values::{NoMemory, Test};
 /// The documents in the buckets that overlap the ids of the values that satisfy a test, by the
 /// range index of a column: those that are sure, and those whose ids are to be checked. The latter
 /// are added to others. Of the section what it has of these buckets is read, and nothing else.
-pub fn docs_by_range<S: Shelf>(
+pub(crate) fn docs_by_range<S: Shelf>(
     alloc: Global,
     shelf: &mut S,
     head: &Head,
@@ -91,7 +91,7 @@ fn ends(ids: &IdSet) -> Option<(u32, u32)>
 }
 
 /// What the fault of an index is for a scan, by its section.
-pub fn of_list(fault: ListFault, part: Part) -> EngineFault
+pub(crate) fn of_list(fault: ListFault, part: Part) -> EngineFault
     ensures { result ≡ list_fault fault part }
 {
     match fault {
@@ -102,7 +102,7 @@ pub fn of_list(fault: ListFault, part: Part) -> EngineFault
 }
 
 /// The documents that are in both lists, or in the one that is there.
-pub fn in_both(
+pub(crate) fn in_both(
     alloc: Global,
     first: Option<DocList>,
     second: Option<DocList>,

@@ -42,7 +42,7 @@ impl FileMap {
     }
 
     /// These files; of two with one name the last.
-    pub fn from_files(alloc: Global, files: Seq<(Name, Bytes)>) -> Result<Self, NoMemory>
+    pub(crate) fn from_files(alloc: Global, files: Seq<(Name, Bytes)>) -> Result<Self, NoMemory>
         ensures { IfOk result (λ made. made ≡ files_of files) }
     {
         let mut made = FileMap::new(alloc);

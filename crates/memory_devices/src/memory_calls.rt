@@ -33,7 +33,7 @@ impl MemoryCalls {
     }
 
     /// Counts a call, and the fault where it is to fail.
-    pub fn fails_counted(&mut self, faults: &mut u64) -> bool
+    pub(crate) fn fails_counted(&mut self, faults: &mut u64) -> bool
         ensures listed { result ≡ is_listed self.old.failing self.old.made }
         ensures failing { self.new.failing ≡ self.old.failing }
         ensures made { self.new.made ≡ next self.old.made }

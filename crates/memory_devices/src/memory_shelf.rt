@@ -59,7 +59,7 @@ impl MemoryShelf {
     }
 
     /// Counts a call of another kind than those of a shelf, and its fault where it is to fail.
-    pub fn fails_counted(&mut self, faults: &mut u64) -> bool
+    pub(crate) fn fails_counted(&mut self, faults: &mut u64) -> bool
         ensures result { result ≡ fails self.old }
         ensures calls { self.new ≡ record self.old { calls = next self.old.calls } }
         ensures faults { CountsFault result faults.old faults.new }
@@ -87,7 +87,7 @@ impl MemoryShelf {
 }
 
 /// Copies the bytes from an offset on, as many as there are and fit, and says how many.
-pub fn copy_from(bytes: &[u8], offset: u64, into: &mut [u8]) -> usize
+pub(crate) fn copy_from(bytes: &[u8], offset: u64, into: &mut [u8]) -> usize
     ensures count { result ≡ min (length bytes.now - offset) (length into.old) }
     ensures bytes { into.new ≡ take result (drop offset bytes.now) ++ drop result into.old }
 {

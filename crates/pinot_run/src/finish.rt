@@ -11,7 +11,7 @@ use outside::{Bytes, Sink};
 use std::alloc::Global;
 
 /// The status of a fault.
-pub fn status_of_fault(fault: Fault) -> Status
+pub(crate) fn status_of_fault(fault: Fault) -> Status
     ensures { result ≡ status_of_fault fault }
 {
     match fault {
@@ -33,7 +33,7 @@ fn put_some<S: Sink>(bytes: &[u8], sink: &mut S) -> bool
 }
 
 /// Notes a fault, which stays what it is even where its line is not written whole.
-pub fn note_fault<N: Sink>(status: Status, notes: &mut N) -> Status
+pub(crate) fn note_fault<N: Sink>(status: Status, notes: &mut N) -> Status
     requires { is_fault status ≡ true }
     ensures status { result ≡ status }
     ensures noted { Noted status (heard N.Sink notes.old) (heard N.Sink notes.new) }
@@ -43,7 +43,7 @@ pub fn note_fault<N: Sink>(status: Status, notes: &mut N) -> Status
 }
 
 /// Gives the text of a reply.
-pub fn give_text<O: Sink, N: Sink>(text: &Bytes, out: &mut O, notes: &mut N) -> Status
+pub(crate) fn give_text<O: Sink, N: Sink>(text: &Bytes, out: &mut O, notes: &mut N) -> Status
     ensures status { (result ≡ Status.Done) ⊎ (result ≡ Status.WriteFault) }
     ensures done { result ≡ Status.Done →
         (O.written out.new ≡ appended text.now (O.written out.old))
@@ -62,7 +62,7 @@ pub fn give_text<O: Sink, N: Sink>(text: &Bytes, out: &mut O, notes: &mut N) -> 
 }
 
 /// Gives the note line of a refusal.
-pub fn give_note<N: Sink>(alloc: Global, note: &Note, notes: &mut N) -> Status
+pub(crate) fn give_note<N: Sink>(alloc: Global, note: &Note, notes: &mut N) -> Status
     ensures status { (result ≡ status_of note.now) ⊎ (result ≡ Status.WriteFault)
         ⊎ (result ≡ Status.NoMemory) }
     ensures done { result ≡ status_of note.now →

@@ -30,7 +30,7 @@ struct Shown {
 }
 
 /// The bound query of these parts, over fields that its condition names.
-pub fn assemble(
+pub(crate) fn assemble(
     alloc: Global,
     query: &Query,
     fields: Fields,

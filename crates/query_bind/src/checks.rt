@@ -18,7 +18,7 @@ use table_schema::{Fields, Table};
 const SUFFIX: &str = "_OFFLINE";
 
 /// Whether the query is of this table, or any will do.
-pub fn check_table(table: &Table, any_table: bool, query: &Query) -> Result<(), BindFault>
+pub(crate) fn check_table(table: &Table, any_table: bool, query: &Query) -> Result<(), BindFault>
     ensures { Passes (naming.table_finding table.now any_table query.now) result }
 {
     if any_table || is_table(table.settings.table.as_slice(), query.table.name.as_slice()) {
@@ -38,7 +38,7 @@ pub(crate) fn check_where(fields: Fields, condition: &Option<Cond>) -> Result<()
 }
 
 /// Whether an item of the select list is an aggregate.
-pub fn check_aggregate(query: &Query) -> Result<(), BindFault>
+pub(crate) fn check_aggregate(query: &Query) -> Result<(), BindFault>
     ensures { Passes (spec.aggregate_finding query.now) result }
 {
     if has_call(query.items.as_slice()) {
@@ -55,7 +55,7 @@ fn has_call(items: &[QueryItem]) -> bool
 }
 
 /// Whether each column of the select list and of ORDER BY is a group column.
-pub fn check_grouped(names: &QueryNames<'_>) -> Result<(), BindFault>
+pub(crate) fn check_grouped(names: &QueryNames<'_>) -> Result<(), BindFault>
     ensures { Passes (spec.grouped_finding names.now.query.now) result }
 {
     check_items(names, names.query.items.as_slice())?;

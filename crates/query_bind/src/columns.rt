@@ -11,7 +11,7 @@ use query_tokens::NameAt;
 use table_schema::{Field, Fields};
 
 /// The number of the field that a column is.
-pub fn column(fields: Fields, name: &NameAt) -> Result<u16, BindFault>
+pub(crate) fn column(fields: Fields, name: &NameAt) -> Result<u16, BindFault>
     ensures { Resolves (spec.column_finding fields.entry.all.now name.now)
         (field_number fields.entry.all.now name.now) result }
 {
@@ -22,7 +22,7 @@ pub fn column(fields: Fields, name: &NameAt) -> Result<u16, BindFault>
 }
 
 /// The type of the field that a column is.
-pub fn kind_of(fields: Fields, name: &NameAt) -> Result<FieldKind, BindFault>
+pub(crate) fn kind_of(fields: Fields, name: &NameAt) -> Result<FieldKind, BindFault>
     ensures ok { IfOk result (λ kind. spec.column_finding fields.entry.all.now name.now ≡ None) }
     ensures kind { IfOk result (λ kind. spec.kind_of fields.entry.all.now name.now ≡ Some kind) }
     ensures err { IfErr result (λ fault. spec.column_finding fields.entry.all.now name.now

@@ -14,7 +14,7 @@ use table_schema::Fields;
 use values::Value;
 
 /// The column of a test comes before its literals, and members of AND and OR as they are written.
-pub fn check_condition(fields: Fields, condition: &Cond) -> Result<(), BindFault>
+pub(crate) fn check_condition(fields: Fields, condition: &Cond) -> Result<(), BindFault>
     ensures { Passes (spec.condition_finding fields.entry.all.now condition.now) result }
 {
     match condition {

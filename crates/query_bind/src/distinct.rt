@@ -30,7 +30,7 @@ pub struct Lists {
 }
 
 /// The group columns and the aggregates of a query.
-pub fn without_repeats(alloc: Global, terms: &Terms) -> Result<Lists, BindFault>
+pub(crate) fn without_repeats(alloc: Global, terms: &Terms) -> Result<Lists, BindFault>
     ensures lists { Gives (limits.limits_finding terms.now) (spec.lists_of terms.now) result }
     ensures at_most { IfOk result (λ lists. (length lists.groups ≤ 8) × (length lists.aggs ≤ 16)) }
 {

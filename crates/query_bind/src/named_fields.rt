@@ -8,7 +8,7 @@ ghost use Rattle.table_schema.specs.ValidQuery.{fields_of};
 use table_schema::Wide;
 
 /// The field that is named where no other one is.
-pub fn only_field(wide: &Wide) -> Option<u16>
+pub(crate) fn only_field(wide: &Wide) -> Option<u16>
     ensures { result ≡ spec.only_field (fields_of wide.now) }
 {
     let Some(field) = first_field(wide) else {

@@ -6,7 +6,7 @@ ghost use Rattle.query_bind.specs.Conjuncts.{opposite_if};
 use values::CompareOp;
 
 /// The comparison, and where `negated` the one that holds where it does not.
-pub fn opposite_if(negated: bool, op: CompareOp) -> CompareOp
+pub(crate) fn opposite_if(negated: bool, op: CompareOp) -> CompareOp
     ensures { result ≡ opposite_if negated op }
 {
     if !negated {

@@ -177,7 +177,11 @@ pub(crate) fn keys_at<'q>(
 }
 
 /// What the terms of a query are, whose names and types are in order.
-pub fn resolve(alloc: Global, fields: Fields, names: &QueryNames<'_>) -> Result<Terms, BindFault>
+pub(crate) fn resolve(
+    alloc: Global,
+    fields: Fields,
+    names: &QueryNames<'_>,
+) -> Result<Terms, BindFault>
     ensures { Gives (naming.names_finding fields.entry.all.now names.now.query.now)
         (spec.terms_of fields.entry.all.now names.now.query.now) result }
 {

@@ -48,7 +48,7 @@ impl<'a> Tokens<'a> {
     }
 
     #[tactic(auto, using(query_tokens::proofs::Streams::steps))]
-    pub fn peek(&self) -> Kind
+    pub(crate) fn peek(&self) -> Kind
         ensures { result ≡ spec.kind self.now }
     {
         self.token.kind
@@ -98,7 +98,7 @@ impl<'a> Tokens<'a> {
         QueryFault::At(reason_of(self.peek()), self.place())
     }
 
-    pub fn too_deep(&self) -> QueryFault
+    pub(crate) fn too_deep(&self) -> QueryFault
         ensures { result ≡ QueryFault.At Reason.TooDeep (spec.place self.now) }
     {
         QueryFault::At(Reason::TooDeep, self.place())
@@ -106,7 +106,7 @@ impl<'a> Tokens<'a> {
 
     /// Whether the token is of this kind.
     #[tactic(auto, unfolding(crate::specs::Reading::sees))]
-    pub fn sees(&self, kind: Kind) -> bool
+    pub(crate) fn sees(&self, kind: Kind) -> bool
         ensures { result ≡ reading.sees kind self.now }
     {
         lex::same_kind(self.peek(), kind)
@@ -114,7 +114,7 @@ impl<'a> Tokens<'a> {
 
     /// Takes a token of this kind if it is there, and says whether it was.
     #[tactic(auto, unfolding(crate::specs::Reading::after))]
-    pub fn eat(&mut self, kind: Kind) -> bool
+    pub(crate) fn eat(&mut self, kind: Kind) -> bool
         ensures found { result ≡ reading.sees kind self.old }
         ensures after { self.new ≡ reading.after kind self.old }
     {

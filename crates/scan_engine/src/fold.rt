@@ -17,7 +17,7 @@ use table_schema::Agg;
 use values::NoMemory;
 
 /// The aggregates of the rows in these places.
-pub fn states_at(
+pub(crate) fn states_at(
     alloc: Global,
     aggs: &[Agg],
     block: NumberBlock,

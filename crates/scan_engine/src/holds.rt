@@ -13,7 +13,7 @@ use values::{Test, Value, holds_value};
 
 /// The numbers of a field, a row each, unless the rows end before it.
 #[inline(always)]
-pub fn numbers_of<'a>(table: NumberBlock<'a>, field: u16) -> Option<&'a [i64]>
+pub(crate) fn numbers_of<'a>(table: NumberBlock<'a>, field: u16) -> Option<&'a [i64]>
     ensures { MatchOption result
         (length table.entry.columns.now.columns ≤ field)
         (λ numbers. AreNumbersOf table.entry.columns.now field numbers.now) }
@@ -30,7 +30,7 @@ pub fn numbers_of<'a>(table: NumberBlock<'a>, field: u16) -> Option<&'a [i64]>
 
 /// The number of a field in a row; beyond the row's end it is 0.
 #[inline(always)]
-pub fn number_in(table: NumberBlock, at: usize, field: u16) -> i64
+pub(crate) fn number_in(table: NumberBlock, at: usize, field: u16) -> i64
     ensures { spec.cell (row_of table.entry.columns.now.columns at) field ≡ value.Whole result }
 {
     let Some(numbers) = numbers_of(table, field) else {
@@ -75,7 +75,7 @@ fn wide_holds(table: NumberBlock, at: usize, wide: &Wide) -> bool
 }
 
 /// Whether a row of a table of numbers satisfies a conjunct.
-pub fn conjunct_holds(table: NumberBlock, at: usize, conjunct: &Conjunct) -> bool
+pub(crate) fn conjunct_holds(table: NumberBlock, at: usize, conjunct: &Conjunct) -> bool
     ensures { result
         ≡ spec.conjunct_holds (row_of table.entry.columns.now.columns at) conjunct.now }
 {

@@ -13,7 +13,7 @@ use table_schema::BoundQuery;
 use values::NoMemory;
 
 /// The places of the rows that satisfy the filter of a query.
-pub fn selected_places(
+pub(crate) fn selected_places(
     alloc: Global,
     query: &BoundQuery,
     block: NumberBlock,

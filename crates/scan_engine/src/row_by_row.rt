@@ -15,7 +15,7 @@ use table_schema::{Agg, BoundQuery};
 use values::{NoMemory, Row, Value};
 
 /// Adds the rows in these places one by one.
-pub fn add_singly(
+pub(crate) fn add_singly(
     alloc: Global,
     query: &BoundQuery,
     block: NumberBlock,

@@ -13,7 +13,7 @@ use table_schema::BoundQuery;
 use values::Row;
 
 /// Adds the rows in these places.
-pub fn add_places(
+pub(crate) fn add_places(
     alloc: Global,
     query: &BoundQuery,
     block: NumberBlock,

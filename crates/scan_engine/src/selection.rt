@@ -14,7 +14,7 @@ use table_schema::Conjunct;
 use values::{CompareOp, Test, Value, op_holds};
 
 /// A mark for each row of a table of numbers, whether it satisfies all of these.
-pub fn mark_rows(
+pub(crate) fn mark_rows(
     alloc: Global,
     table: NumberBlock,
     conjuncts: &[Conjunct],

@@ -18,7 +18,7 @@ const MOST_DEFAULT_BYTES: usize = 64;
 const DEFAULT_KEY: &str = "defaultNullValue";
 
 /// The default of a field that the object at `base` describes.
-pub fn read_default(
+pub(crate) fn read_default(
     alloc: Global,
     base: &str,
     role: Role,

@@ -55,7 +55,7 @@ fn push_entries<'v>(
 }
 
 /// The places of the three lists, of which there is at least one.
-pub fn read_lists<'v>(alloc: Global, json: &'v Value) -> Result<Vec<Entry<'v>>, TextFault>
+pub(crate) fn read_lists<'v>(alloc: Global, json: &'v Value) -> Result<Vec<Entry<'v>>, TextFault>
     ensures ok { IfOk result (λ entries. spec.lists_finding (view json.now) ≡ None) }
     ensures entries { IfOk result
         (λ entries. map seen entries.items ≡ spec.all_entries (view json.now)) }

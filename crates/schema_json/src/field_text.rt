@@ -10,7 +10,9 @@ ghost use Rattle.json_keys.specs.Faults.{Gives, below, fault_if};
 ghost use Rattle.table_schema.specs.Firsts.{first_of};
 ghost use Rattle.table_schema.specs.Names.{is_among as is_among_names};
 
-use crate::{Entry, check_support, is_among, path_of, read_default, read_kind, read_name};
+use crate::defaults::read_default;
+use crate::parts::{check_support, read_kind, read_name};
+use crate::{Entry, is_among, path_of};
 use data_types::Name;
 use json_keys::{KeyKind, TextFault, check_object, fault_at, key_fault};
 use std::alloc::Global;

@@ -9,8 +9,7 @@ mod laws;
 mod parts;
 mod schema_text;
 
-pub use defaults::read_default;
-pub use entry::{Entry, path_of, read_lists};
+pub use entry::{Entry, path_of};
 pub use laws::schema_law;
-pub use parts::{check_support, is_among, read_kind, read_name};
+pub use parts::is_among;
 pub use schema_text::read_schema;

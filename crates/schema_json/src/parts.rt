@@ -16,20 +16,6 @@ use table_schema::{Field, Role, is_column_name};
 /// The least `maxLength` that is supported: the most bytes of a text value.
 const LEAST_MAX_LENGTH: i128 = 512;
 
-/// The name, which keeps the rule of column names.
-pub fn read_name<'v>(alloc: Global, base: &str, json: &'v Json) -> Result<&'v str, TextFault>
-    ensures ok { IfOk result (λ name. spec.name_finding base.now (view json.now) ≡ None) }
-    ensures name { IfOk result (λ name. name.now ≡ text_at (codes "name") (view json.now)) }
-    ensures err { IfErr result (Refuses (spec.name_finding base.now (view json.now))) }
-{
-    let name = required_text(alloc, base, "name", json)?;
-    if is_column_name(name.as_bytes()) {
-        Ok(name)
-    } else {
-        Err(key_fault(alloc, KeyKind::BadName, base, "name"))
-    }
-}
-
 /// Whether a field has that name.
 pub fn is_among(fields: &[Field], name: &str) -> bool
     ensures { result ≡ is_among_names (map (λ field. field.name) fields.now) name.now }
@@ -40,6 +26,20 @@ pub fn is_among(fields: &[Field], name: &str) -> bool
         }
     }
     false
+}
+
+/// The name, which keeps the rule of column names.
+pub(crate) fn read_name<'v>(alloc: Global, base: &str, json: &'v Json) -> Result<&'v str, TextFault>
+    ensures ok { IfOk result (λ name. spec.name_finding base.now (view json.now) ≡ None) }
+    ensures name { IfOk result (λ name. name.now ≡ text_at (codes "name") (view json.now)) }
+    ensures err { IfErr result (Refuses (spec.name_finding base.now (view json.now))) }
+{
+    let name = required_text(alloc, base, "name", json)?;
+    if is_column_name(name.as_bytes()) {
+        Ok(name)
+    } else {
+        Err(key_fault(alloc, KeyKind::BadName, base, "name"))
+    }
 }
 
 fn kind_named(name: &str) -> Option<FieldKind>
@@ -57,7 +57,12 @@ fn kind_named(name: &str) -> Option<FieldKind>
 }
 
 /// The type, for a metric one of numbers.
-pub fn read_kind(alloc: Global, base: &str, role: Role, json: &Json) -> Result<FieldKind, TextFault>
+pub(crate) fn read_kind(
+    alloc: Global,
+    base: &str,
+    role: Role,
+    json: &Json,
+) -> Result<FieldKind, TextFault>
     ensures { Gives (spec.type_finding base.now role (view json.now))
         (spec.kind_of (view json.now)) result }
 {
@@ -74,7 +79,7 @@ pub fn read_kind(alloc: Global, base: &str, role: Role, json: &Json) -> Result<F
 }
 
 /// The keys of what is not supported say nothing.
-pub fn check_support(alloc: Global, base: &str, json: &Json) -> Result<(), TextFault>
+pub(crate) fn check_support(alloc: Global, base: &str, json: &Json) -> Result<(), TextFault>
     ensures { Passes (spec.support_finding base.now (view json.now)) result }
 {
     check_not(alloc, false, base, "singleValueField", json)?;

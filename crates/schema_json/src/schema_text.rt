@@ -8,8 +8,9 @@ ghost use Rattle.schema_json.specs.Fields.{field_of};
 ghost use Rattle.json_keys.specs.Faults.{Gives, Passes};
 ghost use Rattle.table_schema.specs.Valid.{IsValidSchema};
 
+use crate::Entry;
+use crate::entry::read_lists;
 use crate::field_text::read_field;
-use crate::{Entry, read_lists};
 use data_types::Seq;
 use json_keys::{TextFault, check_not, check_object, check_unused, read_json, required_text};
 use serde_json::Value as Json;

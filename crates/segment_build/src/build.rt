@@ -9,8 +9,10 @@ ghost use Rattle.segment_build.specs.Arranging.{Orders};
 ghost use Rattle.segment_build.specs.Fitting.{AreOfTable};
 ghost use Rattle.segment_build.specs.Growing.{IsBuilt};
 
+use crate::order::row_order;
+use crate::sections::column_sections;
 use crate::trees::grow_trees;
-use crate::{BuildFault, RowOrder, column_sections, columns_of, file_of, row_order};
+use crate::{BuildFault, RowOrder, columns_of, file_of};
 use outside::{Bytes, Seq};
 use std::alloc::Global;
 use table_schema::Table;

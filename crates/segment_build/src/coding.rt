@@ -49,7 +49,7 @@ pub fn coded(
 }
 
 /// The same of the column of that number of a table's rows.
-pub fn coded_column(
+pub(crate) fn coded_column(
     alloc: Global,
     table: &Table,
     columns: &Columns,
@@ -67,7 +67,7 @@ pub fn coded_column(
 }
 
 /// The ids of that column's rows as they came.
-pub fn ids_as_given(
+pub(crate) fn ids_as_given(
     alloc: Global,
     table: &Table,
     columns: &Columns,

@@ -14,7 +14,7 @@ pub struct Indexes {
 }
 
 /// Those of one column.
-pub fn indexes_at(settings: &Settings, at: usize) -> Indexes
+pub(crate) fn indexes_at(settings: &Settings, at: usize) -> Indexes
     requires inverted { at < length settings.now.inverted }
     requires ranged { at < length settings.now.ranged }
     ensures sorted { result.sorted ≡ is_the_number at settings.now.sorted }

@@ -18,14 +18,14 @@ mod sections;
 mod trees;
 
 pub use build::{build_columns, build_image};
-pub use coding::{RowOrder, coded, ids_as_given};
+pub use coding::{RowOrder, coded};
 pub use columns::columns_of;
 pub use fault::BuildFault;
 pub use file::file_of;
 pub use grown::{Grown, push_tree};
-pub use indexes::{Indexes, indexes_at};
+pub use indexes::Indexes;
 pub use laws::{columns_fit_law, trees_fit_law};
 pub use numbers::pair_numbers;
-pub use order::row_order;
 pub use publish::{INCOMING, publish_file, write_columns, write_segment};
-pub use sections::{Sections, column_sections};
+pub use sections::Sections;
+pub use star_file::MOST_TREE_BYTES;

@@ -16,7 +16,7 @@ pub fn pair_numbers<'a>(
     columns: &'a Columns,
     pairs: &[Pair],
 ) -> Result<NumberColumns<'a>, NoMemory>
-    requires known { All (λ pair. IsKnown (length columns.now.columns) pair.column) pairs.now }
+    requires columns { All (λ pair. IsKnown (length columns.now.columns) pair.column) pairs.now }
     ensures { IfOk result (λ numbers. numbers
         ≡ map (λ pair. numbers_for columns.now pair.column) pairs.now) }
 {

@@ -14,7 +14,11 @@ use table_schema::Table;
 use values::{Column, Columns};
 
 /// The order of the rows of a table: the stable one of its sorted column, where it has one.
-pub fn row_order(alloc: Global, table: &Table, columns: &Columns) -> Result<RowOrder, NoMemory>
+pub(crate) fn row_order(
+    alloc: Global,
+    table: &Table,
+    columns: &Columns,
+) -> Result<RowOrder, NoMemory>
     requires rows { AreOfTable table.now columns.now }
     ensures { IfOk result (λ order. Orders table.now.settings.sorted (rows_of columns.now) order) }
 {

@@ -102,7 +102,7 @@ impl Sections {
     }
 
     /// All of them with those of the star-trees, in the order of the file.
-    pub fn into_list(self, alloc: Global, trees: Grown) -> Result<Vec<Bytes>, NoMemory>
+    pub(crate) fn into_list(self, alloc: Global, trees: Grown) -> Result<Vec<Bytes>, NoMemory>
         ensures { IfOk result (λ all. all.items
             ≡ in_order self trees.nodes.items trees.stars.items) }
     {
@@ -138,7 +138,7 @@ impl Sections {
 }
 
 /// The sections of the columns, by their kinds.
-pub fn column_sections(
+pub(crate) fn column_sections(
     alloc: Global,
     table: &Table,
     columns: &Columns,

@@ -15,7 +15,8 @@ ghost use Rattle.segment_build.specs.Fitting.{AreColumns, AreOfTable};
 ghost use Rattle.segment_build.specs.Growing.{IsBuilt, nodes_grown, stars_grown};
 ghost use Rattle.segment_build.specs.declared.fault.BuildFault.TheVariants.{NoMemory, TooLarge};
 
-use crate::{BuildFault, Grown, ids_as_given, pair_numbers, push_tree};
+use crate::coding::ids_as_given;
+use crate::{BuildFault, Grown, pair_numbers, push_tree};
 use outside::{NoMemory, Seq};
 use star_builder::{TreeFault, build_merged};
 use star_file::StarTree;
@@ -27,7 +28,11 @@ use values::Columns;
 
 /// The sections of all star-trees of the columns' rows in their order, or the number of the first
 /// tree that takes more bytes than one may. What is made for a tree is let go before the next.
-pub fn grow_trees(alloc: Global, table: &Table, columns: &Columns) -> Result<Grown, BuildFault>
+pub(crate) fn grow_trees(
+    alloc: Global,
+    table: &Table,
+    columns: &Columns,
+) -> Result<Grown, BuildFault>
     requires rows { AreOfTable table.now columns.now }
     ensures nodes { IfOk result (λ grown. grown.nodes.items ≡ nodes_grown
         (ordered table.now.settings.sorted (rows_of columns.now)) table.now.settings.trees) }
@@ -106,7 +111,7 @@ fn split_ids(
     split: &[u16],
 ) -> Result<Seq<Seq<u32>>, NoMemory>
     requires columns { AreColumns table.now.schema.fields columns.now }
-    requires known { All (λ column. column < length table.now.schema.fields) split.now }
+    requires fields { All (λ column. column < length table.now.schema.fields) split.now }
     ensures { IfOk result (λ ids. ids ≡ map (ids_of (rows_of columns.now)) split.now) }
 {
     let mut all = Vec::with_capacity(alloc, split.len())?;

@@ -12,7 +12,7 @@ use table_schema::{Conjunct, Settings};
 use value_ids::IdSet;
 
 /// A choice for each conjunct.
-pub fn choices(
+pub(crate) fn choices(
     alloc: Global,
     conjuncts: &[Conjunct],
     settings: &Settings,

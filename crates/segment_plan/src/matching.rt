@@ -10,9 +10,16 @@ use std::alloc::Global;
 use table_schema::Conjunct;
 use value_ids::IdSet;
 
+/// Whether some conjunct names the column alone.
+pub fn is_filtered(conjuncts: &[Conjunct], column: u16) -> bool
+    ensures { result ≡ spec.is_filtered conjuncts.now column }
+{
+    conjuncts.iter().any(|conjunct| is_on(conjunct, column))
+}
+
 /// How many values of the dictionary of a column satisfy each conjunct that names it alone. Bounds
 /// are looked up, and no value is tested.
-pub fn matched(
+pub(crate) fn matched(
     alloc: Global,
     conjuncts: &[Conjunct],
     column: u16,
@@ -26,13 +33,6 @@ pub fn matched(
         return Ok(dictionary.count());
     }
     Ok(count_shared(sets))
-}
-
-/// Whether some conjunct names the column alone.
-pub fn is_filtered(conjuncts: &[Conjunct], column: u16) -> bool
-    ensures { result ≡ spec.is_filtered conjuncts.now column }
-{
-    conjuncts.iter().any(|conjunct| is_on(conjunct, column))
 }
 
 // The conjunct names the column alone.

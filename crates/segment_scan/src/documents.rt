@@ -27,7 +27,7 @@ use std::alloc::Global;
 /// Adds those of the rows of documents that satisfy the conjuncts that are not served, by the
 /// columns that are named. Of the forward section of each the ids of the documents are read, and
 /// nothing else.
-pub fn scan_documents<S: Shelf>(
+pub(crate) fn scan_documents<S: Shelf>(
     alloc: Global,
     shelf: &mut S,
     answered: &Answered<'_>,

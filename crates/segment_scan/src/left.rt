@@ -27,7 +27,7 @@ use std::alloc::Global;
 /// a query, and answers how many rows the indexes leave. Of those that are not sure the ids are
 /// read of each column that is named beside the served conjuncts, and of the others those of each
 /// that is named beside the conjuncts of range indexes too, and nothing else.
-pub fn scan_left<S: Shelf>(
+pub(crate) fn scan_left<S: Shelf>(
     alloc: Global,
     shelf: &mut S,
     answered: &Answered<'_>,

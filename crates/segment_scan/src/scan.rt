@@ -22,10 +22,31 @@ use std::alloc::Global;
 use table_schema::BoundQuery;
 use values::NoMemory;
 
+/// The ids of the columns beside their dictionaries.
+pub(crate) fn coded_columns<'a>(
+    alloc: Global,
+    head: &'a Head,
+    ids: &'a [Option<Ids>],
+) -> Result<Vec<Option<Coded<'a>>>, NoMemory>
+    requires at_most { length ids.now ≤ 65535 }
+    requires loaded { (column : ℕ) → (list : List ℕ) → column < length ids.now
+        → get_or ids.now column None ≡ Some list → IsLoaded head.now column }
+    ensures count { IfOk result (λ columns. length columns.items ≡ length ids.now) }
+    ensures each { IfOk result (λ columns. (column : ℕ) → column < length ids.now
+        → IsCodedOf head.now column (get_or ids.now column None)
+        (get_or columns.items column None)) }
+{
+    let mut columns = Vec::with_capacity(alloc, ids.len())?;
+    for column in 0..ids.len() {
+        columns.push(coded_column(head, column as u16, &ids[column]))?;
+    }
+    Ok(columns)
+}
+
 /// Adds the rows of a segment that satisfy the filter of a query to its groups, by the columns that
 /// are named, and answers how many rows there are. The forward section of each of these is read
 /// once, and nothing else.
-pub fn scan_columns<S: Shelf>(
+pub(crate) fn scan_columns<S: Shelf>(
     alloc: Global,
     shelf: &mut S,
     head: &Head,
@@ -63,27 +84,6 @@ pub fn scan_columns<S: Shelf>(
         Err(TableFault::TooManyGroups) => Err(EngineFault::TooManyGroups),
         Err(TableFault::NoMemory) => Err(EngineFault::NoMemory),
     }
-}
-
-/// The ids of the columns beside their dictionaries.
-pub fn coded_columns<'a>(
-    alloc: Global,
-    head: &'a Head,
-    ids: &'a [Option<Ids>],
-) -> Result<Vec<Option<Coded<'a>>>, NoMemory>
-    requires at_most { length ids.now ≤ 65535 }
-    requires loaded { (column : ℕ) → (list : List ℕ) → column < length ids.now
-        → get_or ids.now column None ≡ Some list → IsLoaded head.now column }
-    ensures count { IfOk result (λ columns. length columns.items ≡ length ids.now) }
-    ensures each { IfOk result (λ columns. (column : ℕ) → column < length ids.now
-        → IsCodedOf head.now column (get_or ids.now column None)
-        (get_or columns.items column None)) }
-{
-    let mut columns = Vec::with_capacity(alloc, ids.len())?;
-    for column in 0..ids.len() {
-        columns.push(coded_column(head, column as u16, &ids[column]))?;
-    }
-    Ok(columns)
 }
 
 // The ids of a column beside its dictionary.

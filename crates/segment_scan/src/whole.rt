@@ -22,7 +22,7 @@ use table_schema::{BoundQuery, Table};
 /// Adds the rows of a segment that satisfy the filter of a query to its groups, and answers how
 /// many rows the segment has. The forward section of each column that the query names is read once,
 /// one column after the other, and nothing else.
-pub fn scan_whole<S: Shelf>(
+pub(crate) fn scan_whole<S: Shelf>(
     alloc: Global,
     shelf: &mut S,
     head: &Head,

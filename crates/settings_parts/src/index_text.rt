@@ -5,8 +5,9 @@ ghost use Rattle.std.specs.List.{slice_get};
 ghost use Rattle.serde_json.specs.Data.{null};
 ghost use Rattle.serde_json.specs.View.{view};
 ghost use Rattle.json_keys.specs.Keys.{items_at};
+ghost use Rattle.settings_parts.specs.IndexLists.{AreIndexLists};
 ghost use Rattle.settings_parts.specs.Indexes as spec;
-ghost use Rattle.settings_parts.specs.Trees.{trees_of, trees_finding};
+ghost use Rattle.settings_parts.specs.Trees.{trees_finding};
 ghost use Rattle.json_keys.specs.NamedColumns.{columns_finding};
 ghost use Rattle.table_schema.specs.Firsts.{first_of};
 ghost use Rattle.table_schema.specs.NeedIds as ids;
@@ -106,14 +107,7 @@ fn index_keys<'v>(alloc: Global, fields: Fields, json: &'v Json) -> Result<Index
     ensures ok { IfOk result (λ keys. spec.index_form fields.entry.all.now (view json.now) ≡ None) }
     ensures sorted { IfOk result
         (λ keys. keys.sorted ≡ spec.sorted_of fields.entry.all.now (view json.now)) }
-    ensures inverted { IfOk result
-        (λ keys. map view keys.inverted.now ≡ items_at spec.INVERTED_KEY (view json.now)) }
-    ensures ranged { IfOk result
-        (λ keys. map view keys.ranged.now ≡ items_at spec.RANGE_KEY (view json.now)) }
-    ensures raw { IfOk result
-        (λ keys. map view keys.raw.now ≡ items_at spec.RAW_KEY (view json.now)) }
-    ensures trees { IfOk result (λ keys. keys.trees
-        ≡ trees_of fields.entry.all.now (view json.now)) }
+    ensures lists { IfOk result (AreIndexLists fields.entry.all.now (view json.now)) }
     ensures err { IfErr result (Refuses (spec.index_form fields.entry.all.now (view json.now))) }
 {
     check_object(alloc, INDEX_KEY, json)?;
@@ -134,14 +128,7 @@ fn index_lists<'v>(
         ∷ columns_finding fields.entry.all.now spec.INDEX_KEY spec.RAW_KEY (view json.now)
         ∷ trees_finding fields.entry.all.now spec.INDEX_KEY (view json.now) ∷ []) ≡ None) }
     ensures sorted { IfOk result (λ keys. keys.sorted ≡ sorted) }
-    ensures inverted { IfOk result
-        (λ keys. map view keys.inverted.now ≡ items_at spec.INVERTED_KEY (view json.now)) }
-    ensures ranged { IfOk result
-        (λ keys. map view keys.ranged.now ≡ items_at spec.RANGE_KEY (view json.now)) }
-    ensures raw { IfOk result
-        (λ keys. map view keys.raw.now ≡ items_at spec.RAW_KEY (view json.now)) }
-    ensures trees { IfOk result (λ keys. keys.trees
-        ≡ trees_of fields.entry.all.now (view json.now)) }
+    ensures lists { IfOk result (AreIndexLists fields.entry.all.now (view json.now)) }
     ensures err { IfErr result (Refuses (first_of
         (columns_finding fields.entry.all.now spec.INDEX_KEY spec.INVERTED_KEY (view json.now)
         ∷ columns_finding fields.entry.all.now spec.INDEX_KEY spec.RANGE_KEY (view json.now)

@@ -9,7 +9,7 @@ use star_table::StarTable;
 use star_tree::Node;
 
 /// Nodes of level `level + 1`, one for each id that the documents of a range have in a dimension.
-pub fn push_groups(
+pub(crate) fn push_groups(
     docs: &StarTable,
     nodes: &mut Vec<Node>,
     start: u32,

@@ -17,7 +17,12 @@ use star_file::few_bytes;
 use star_table::StarTable;
 
 /// Adds the documents of a range with a dimension starred, merged, and answers how many they are.
-pub fn add_starred(docs: &mut StarTable, start: u32, end: u32, level: u8) -> Result<u32, NoMemory>
+pub(crate) fn add_starred(
+    docs: &mut StarTable,
+    start: u32,
+    end: u32,
+    level: u8,
+) -> Result<u32, NoMemory>
     requires { AreMergeable start end docs.old.docs }
     ensures docs { OnOk result (docs.new.docs ≡ docs.old.docs
         ++ merged_docs merged_rows (rekey (set_star level) (range start end docs.old.docs))) }
@@ -30,7 +35,12 @@ pub fn add_starred(docs: &mut StarTable, start: u32, end: u32, level: u8) -> Res
 }
 
 /// Adds the aggregated document of a range, whose documents have the same ids below the level.
-pub fn add_total(docs: &mut StarTable, start: u32, end: u32, level: u8) -> Result<(), NoMemory>
+pub(crate) fn add_total(
+    docs: &mut StarTable,
+    start: u32,
+    end: u32,
+    level: u8,
+) -> Result<(), NoMemory>
     requires range { AreMergeable start end docs.old.docs }
     requires level { level ≤ docs.old.dims }
     requires alike { AreAlike level (range start end docs.old.docs) }
@@ -44,7 +54,7 @@ pub fn add_total(docs: &mut StarTable, start: u32, end: u32, level: u8) -> Resul
 }
 
 /// How many documents there are, where they take no more bytes than a tree may.
-pub fn count_of(shape: &TreeShape, docs: &StarTable) -> u32
+pub(crate) fn count_of(shape: &TreeShape, docs: &StarTable) -> u32
     requires bounded { IsShape shape.now }
     requires small { (4 * shape.now.dims + widths shape.now.kinds) * length docs.now.docs
         ≤ most_bytes }
@@ -56,7 +66,7 @@ pub fn count_of(shape: &TreeShape, docs: &StarTable) -> u32
 }
 
 /// Whether documents and so many nodes take no more bytes than a tree may.
-pub fn they_fit(shape: &TreeShape, docs: &StarTable, nodes: usize) -> bool
+pub(crate) fn they_fit(shape: &TreeShape, docs: &StarTable, nodes: usize) -> bool
     requires { IsShape shape.now }
     ensures { IsTrue result ↔ ((4 * shape.now.dims + widths shape.now.kinds) * length docs.now.docs
         + 28 * nodes ≤ most_bytes) }

@@ -21,7 +21,12 @@ use state_columns::STAR;
 
 /// Visits a node: its children, their children and so on are made, and each gets its total.
 #[cycle(visit)]
-pub fn visit(tree: &mut Growing, shape: &TreeShape, at: usize, level: u8) -> Result<(), TreeFault>
+pub(crate) fn visit(
+    tree: &mut Growing,
+    shape: &TreeShape,
+    at: usize,
+    level: u8,
+) -> Result<(), TreeFault>
     requires { IsOpenAt shape.now level at tree.old }
     ensures { Becomes shape.now (visit_node shape.now level at (written tree.old))
         tree.old tree.new result }
@@ -187,7 +192,7 @@ fn close_split(
 ) -> Result<(), TreeFault>
     requires tree { IsOpenAt shape.now level at tree.old }
     requires some { 0 < children }
-    requires known { first + children ≤ vec_len tree.old.nodes }
+    requires within { first + children ≤ vec_len tree.old.nodes }
     ensures { Becomes shape.now (split_closed level at first children starred (written tree.old))
         tree.old tree.new result }
 {

@@ -9,7 +9,7 @@ ghost use Rattle.agg_laws.specs.States.{IsStored};
 use agg_laws::AggState;
 
 /// The least number of rows that a document with these states stands for.
-pub fn weight_of(states: &[AggState]) -> u32
+pub(crate) fn weight_of(states: &[AggState]) -> u32
     requires { RowStored states.now }
     ensures weight { result ≡ row_weight states.now }
     ensures bound { result ≤ most_stored }

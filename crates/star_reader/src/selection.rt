@@ -58,7 +58,7 @@ impl Selected {
 
     /// Takes those documents of a table that pass the tests of their dimensions from a level on,
     /// and answers whether they may all be selected.
-    pub fn take_passing(
+    pub(crate) fn take_passing(
         &mut self,
         task: &Task,
         table: &StarTable,

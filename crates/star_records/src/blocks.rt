@@ -53,7 +53,7 @@ pub(crate) fn numbers_at(
 ) -> Result<Seq<Seq<i64>>, NoMemory>
     requires below { All (λ column. All (λ word. row_in word
         < length column) words.now) columns.now }
-    requires known { AreZero zeros.now columns.now }
+    requires zeros { AreZero zeros.now columns.now }
     ensures { IfOk result (λ block. (d : ℤ) → block ≡ picked d words.now columns.now) }
 {
     let mut block = Vec::with_capacity(alloc, columns.len())?;

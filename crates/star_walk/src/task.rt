@@ -18,7 +18,7 @@ pub struct Task {
 
 impl Task {
     /// Whether ids of the dimension are tested.
-    pub fn is_tested(&self, dim: usize) -> bool
+    pub(crate) fn is_tested(&self, dim: usize) -> bool
         requires { dim < length self.now.matched }
         ensures { result ≡ is_tested self.now.matched dim }
     {
@@ -54,7 +54,7 @@ impl Task {
     }
 
     /// Whether no dimension from a level on is tested or grouped.
-    pub fn is_unconstrained(&self, level: usize) -> bool
+    pub(crate) fn is_unconstrained(&self, level: usize) -> bool
         requires each { HasEach self.now.matched self.now.grouped }
         requires level { level ≤ length self.now.matched }
         ensures { result ≡ are_unconstrained (task_of self.now.matched self.now.grouped)

@@ -174,7 +174,7 @@ impl StateColumn {
 
     /// Adds the state of one value, for which there is room.
     #[inline(always)]
-    pub fn push_one(&mut self, value: i64)
+    pub(crate) fn push_one(&mut self, value: i64)
         requires { 1 ≤ self.old.spare }
         ensures { self.new ≡ pushed self.old (state_of self.old.kind (value ∷ [])) }
     {
@@ -192,7 +192,7 @@ impl StateColumn {
 
     /// Adds a state that is there already once more. There is room for it.
     #[inline(always)]
-    pub fn push_copy(&mut self, from: usize)
+    pub(crate) fn push_copy(&mut self, from: usize)
         requires spare { 1 ≤ self.old.spare }
         requires from { from < length self.old.states }
         ensures { self.new ≡ pushed self.old (state_at self.old from) }

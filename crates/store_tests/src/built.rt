@@ -1,13 +1,19 @@
-//! The file that is made of a CSV text, compared to one.
-ghost use Rattle.table_schema.specs.ValidTable.{IsValidTable};
+//! The file that is made of a CSV text, by each call that makes one, compared to one.
+ghost use Rattle.segment_file.specs.Names.{IsSegmentName};
+ghost use Rattle.table_schema.specs.ValidTable.{AreRows, IsValidTable};
 
-use csv_ingest::read_columns;
-use segment_build::build_columns;
-use segment_file::is_segment_name;
+use csv_ingest::{CSV_LIMIT, read_columns};
+use memory_devices::MemoryDepot;
+use outside::{Seq, read_all};
+use segment_build::{build_columns, build_image, write_segment};
+use segment_file::{is_segment_name, segment_file_name};
 use std::alloc::{AllocError, Global};
 use table_schema::Table;
+use table_store::publish_segment;
+use values::Rows;
 
-/// Whether the file of the segment of these rows is this one.
+/// Whether the file of the segment of these rows is this one: made of columns, made of lists of
+/// values, written, and put in a store.
 pub fn compared(
     alloc: Global,
     table: &Table,
@@ -17,23 +23,56 @@ pub fn compared(
 ) -> Result<String, AllocError>
     requires valid { IsValidTable table.now }
 {
-    if !is_segment_name(name) || csv.len() > 134_217_728 {
+    if !is_segment_name(name) || csv.len() as u64 > CSV_LIMIT {
         return String::from_str(alloc, "not tried");
     }
     let columns = match read_columns(alloc, &table.schema, csv) {
         Ok(columns) => columns,
         Err(fault) => return format!(in alloc; "{fault:?}"),
     };
-    let _rows = columns.len();
-    match build_columns(alloc, table, name, &columns) {
-        Ok(made) => {
-            let found = if made.as_slice() == file {
-                "the same file"
-            } else {
-                "another file"
-            };
-            String::from_str(alloc, found)
+    let rows = columns.rows(alloc)?;
+    let of_columns = match build_columns(alloc, table, name, &columns) {
+        Ok(made) => made.as_slice() == file,
+        Err(_) => false,
+    };
+    let of_rows = match build_image(alloc, table, name, &rows) {
+        Ok(made) => made.as_slice() == file,
+        Err(_) => false,
+    };
+    let written = is_stored(alloc, table, name, &rows, file, false)?;
+    let published = is_stored(alloc, table, name, &rows, file, true)?;
+    if of_columns && of_rows && written && published {
+        String::from_str(alloc, "the same file")
+    } else {
+        format!(in alloc; "columns {of_columns}, rows {of_rows}, {written}, {published}")
+    }
+}
+
+// Whether the file of the segment of these rows is this one where it is written to a folder, or
+// published as one of a store's.
+fn is_stored(
+    alloc: Global,
+    table: &Table,
+    name: &str,
+    rows: &Rows,
+    file: &[u8],
+    in_store: bool,
+) -> Result<bool, AllocError>
+    requires valid { IsValidTable table.now }
+    requires name { IsSegmentName name.now }
+    requires rows { AreRows table.now.schema.fields rows.now }
+{
+    let mut depot = MemoryDepot::new(alloc, Seq::new(alloc), Seq::new(alloc))?;
+    if in_store {
+        if publish_segment(alloc, &mut depot, table, name, rows).is_err() {
+            return Ok(false);
         }
-        Err(fault) => format!(in alloc; "{fault:?}"),
+    } else if write_segment(alloc, &mut depot, table, name, rows).is_err() {
+        return Ok(false);
+    }
+    let stored = segment_file_name(alloc, name)?;
+    match read_all(alloc, &mut depot, stored.as_str(), CSV_LIMIT) {
+        Ok(bytes) => Ok(bytes.as_slice() == file),
+        Err(_) => Ok(false),
     }
 }

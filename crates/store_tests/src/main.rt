@@ -1,6 +1,6 @@
 //! Runs cases over the files of two small segments, which another program wrote: whether the same
-//! file is made of the rows, what its head costs, and what comes of it where it is cut or a byte of
-//! it is another one.
+//! file is made of the rows, by each call that makes it, what its head costs, and what comes of it
+//! where it is cut or a byte of it is another one.
 #![tactic(auto)]
 
 ghost use Rattle.std.specs.Prelude.{IfSome};

@@ -14,7 +14,7 @@ use table_schema::{BoundQuery, Schema, Settings, Table};
 
 /// A query by its text, its names and its types, over the columns of a CSV text. Any name stands
 /// for the table.
-pub fn bound_query(alloc: Global, sql: &str, schema: Schema) -> Result<BoundQuery, ScanFault>
+pub(crate) fn bound_query(alloc: Global, sql: &str, schema: Schema) -> Result<BoundQuery, ScanFault>
     requires { length schema.fields ≤ 64 }
     ensures reply { (rows : List (List Value)) → IfOk result (λ found.
         sql_reply (spec.bare_table schema) true sql.now rows

@@ -22,9 +22,21 @@ use values::Columns;
 // The most columns that a text of whole numbers may have.
 const MOST_COLUMNS: u32 = 64;
 
+/// Reads the rows that are left, and makes nothing of them.
+pub(crate) fn pass_over(alloc: Global, blocks: &mut NumberBlocks<'_>) -> Result<(), ScanFault>
+    requires { IsNumberBlocks blocks.old }
+    ensures ok { OnOk result ((whole : RowsOrFault) → Gives blocks.old whole →
+        (rows : List (List Value)) × (whole ≡ Ok rows)) }
+    ensures err { IfErr result (λ fault. (whole : RowsOrFault) → Gives blocks.old whole →
+        IsTextFault whole fault) }
+{
+    'rest: while let Some(_block) = next_rows(alloc, blocks)? {}
+    Ok(())
+}
+
 /// Adds the rows of a text that satisfy a query's filter to its groups, and says whether there is
 /// room for all of these. The text is read to its end.
-pub fn group_text(
+pub(crate) fn group_text(
     alloc: Global,
     blocks: &mut NumberBlocks<'_>,
     bound: &BoundQuery,
@@ -53,18 +65,6 @@ pub fn group_text(
     Ok(true)
 }
 
-/// Reads the rows that are left, and makes nothing of them.
-pub fn pass_over(alloc: Global, blocks: &mut NumberBlocks<'_>) -> Result<(), ScanFault>
-    requires { IsNumberBlocks blocks.old }
-    ensures ok { OnOk result ((whole : RowsOrFault) → Gives blocks.old whole →
-        (rows : List (List Value)) × (whole ≡ Ok rows)) }
-    ensures err { IfErr result (λ fault. (whole : RowsOrFault) → Gives blocks.old whole →
-        IsTextFault whole fault) }
-{
-    'rest: while let Some(_block) = next_rows(alloc, blocks)? {}
-    Ok(())
-}
-
 // The next rows of a text, if any are left.
 fn next_rows(alloc: Global, blocks: &mut NumberBlocks<'_>) -> Result<Option<Columns>, ScanFault>
     requires { IsNumberBlocks blocks.old }
@@ -86,7 +86,7 @@ fn next_rows(alloc: Global, blocks: &mut NumberBlocks<'_>) -> Result<Option<Colu
 }
 
 /// What a text without rows is refused for.
-pub fn csv_fault(fault: CsvFault) -> ScanFault
+pub(crate) fn csv_fault(fault: CsvFault) -> ScanFault
     ensures { result ≡ text_fault fault }
 {
     match fault {

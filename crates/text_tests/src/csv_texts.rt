@@ -1,15 +1,14 @@
 //! What comes of a CSV text: each value and a `;`, a line a row, or `Kind record column` of the
 //! first fault.
+ghost use Rattle.table_schema.specs.Valid.{IsValidSchema};
 
 use crate::schemas::show_fault;
 use crate::text::Text;
-use csv_ingest::{CsvFault, defaults_fit, read_number_rows, read_rows};
+use csv_ingest::{CSV_LIMIT, CsvFault, defaults_law, read_number_rows, read_rows};
 use schema_json::read_schema;
 use std::alloc::Global;
 use table_schema::Schema;
 use values::{Row, Rows};
-
-const MOST_BYTES: usize = 134_217_728;
 
 /// The schema of a text, a 64-bit number and a 32-bit number, with a default of each number.
 pub const FIELDS: &str =
@@ -55,7 +54,7 @@ fn show_csv_fault(fault: CsvFault, out: &Text) {
 
 /// Adds the rows of a text whose columns are all whole numbers.
 pub fn rows_of_numbers(alloc: Global, text: &[u8], out: &Text) {
-    if text.len() > MOST_BYTES {
+    if text.len() as u64 > CSV_LIMIT {
         out.add("too long");
         return;
     }
@@ -67,15 +66,14 @@ pub fn rows_of_numbers(alloc: Global, text: &[u8], out: &Text) {
     drop(table);
 }
 
-fn rows_over(alloc: Global, schema: &Schema, text: &[u8], out: &Text) {
-    if text.len() > MOST_BYTES {
+fn rows_over(alloc: Global, schema: &Schema, text: &[u8], out: &Text)
+    requires { IsValidSchema schema.now }
+{
+    if text.len() as u64 > CSV_LIMIT {
         out.add("too long");
         return;
     }
-    if !defaults_fit(schema) {
-        out.add("a default of another kind");
-        return;
-    }
+    defaults_law();
     let rows = read_rows(alloc, schema, text);
     match &rows {
         Ok(rows) => show_rows(rows, out),

@@ -154,8 +154,8 @@ visit-close_split-requires-clause-some t c =
     c.len-first.result) c.in_ok-starred.starred = sp.after h c.in_default.ensures.ok in
     sp.some
 
-pub visit-close_split-requires-clause-known : goal.visit-close_split-requires-clause-known
-visit-close_split-requires-clause-known t c =
+pub visit-close_split-requires-clause-within : goal.visit-close_split-requires-clause-within
+visit-close_split-requires-clause-within t c =
     let f : Written = written c.args.tree.now in
     let o : Written = written c.open_node.new.tree in
     let first_is : c.len-first.result ≡ length f.0 = search rules in

@@ -12,7 +12,7 @@ number_column-requires-clause-zero c marked =
     let i = c.loop-i.i in
     let lt : i < length columns = omega (arith, c.loop-i-test.true, c.len-i-end.ensures) in
     let at = c.at.ensures ∙ any_default columns i (numbers_of c.at.result) [] lt in
-    subst AllZero (sym at) (c.requires.known.zero i lt marked)
+    subst AllZero (sym at) (c.requires.zeros.zero i lt marked)
 
 pub loop-i-preserved : goal.loop-i-preserved
 loop-i-preserved c = λ d.
