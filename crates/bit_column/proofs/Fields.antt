@@ -70,7 +70,7 @@ pub bits-one : (at : ℕ) (xs : List ℕ) → at < length xs → bits 8 (get_or 
 bits-one at xs within = sym (ap (λ ds. bits_of 8 (take 1 ds)) (drop_more xs at 0 within) ∙ append-nil (bits 8 (get_or xs at 0)))
 
 -- four bytes after so many
-four_at : (xs : List ℕ) (at : ℕ) → at + 4 ≤ length xs → take 4 (drop at xs) ≡ get_or xs at 0 ∷ get_or xs (at + 1) 0 ∷ get_or xs (at + 2) 0 ∷ get_or xs (at + 3) 0 ∷ []
+pub four_at : (xs : List ℕ) (at : ℕ) → at + 4 ≤ length xs → take 4 (drop at xs) ≡ get_or xs at 0 ∷ get_or xs (at + 1) 0 ∷ get_or xs (at + 2) 0 ∷ get_or xs (at + 3) 0 ∷ []
 four_at xs at within =
     let second : at + 1 + 1 ≡ at + 2 = omega arith in
     let third : at + 2 + 1 ≡ at + 3 = omega arith in
@@ -89,6 +89,35 @@ bits-four n at xs within small is =
     let bytes : AreBytes ys = (small at, (small (at + 1), (small (at + 2), (small (at + 3), tt)))) in
     let horner : following 0 ys ≡ n = omega arith in
     sym (ap (bits_of 8) (four_at xs at within) ∙ bits-following 0 0 ys bytes ∙ ap (bits 32) horner)
+
+-- eight bytes after so many
+eight_at : (xs : List ℕ) (at : ℕ) → at + 8 ≤ length xs → take 8 (drop at xs) ≡ get_or xs at 0 ∷ get_or xs (at + 1) 0 ∷ get_or xs (at + 2) 0 ∷ get_or xs (at + 3) 0 ∷ get_or xs (at + 4) 0 ∷ get_or xs (at + 5) 0 ∷ get_or xs (at + 6) 0 ∷ get_or xs (at + 7) 0 ∷ []
+eight_at xs at within =
+    let e2 : at + 1 + 1 ≡ at + 2 = omega arith in
+    let e3 : at + 2 + 1 ≡ at + 3 = omega arith in
+    let e4 : at + 3 + 1 ≡ at + 4 = omega arith in
+    let e5 : at + 4 + 1 ≡ at + 5 = omega arith in
+    let e6 : at + 5 + 1 ≡ at + 6 = omega arith in
+    let e7 : at + 6 + 1 ≡ at + 7 = omega arith in
+    ap (take 8) (drop_more xs at 0 (omega (arith, within)) ∙ ap (λ r. get_or xs at 0 ∷ r)
+    (drop_more xs (at + 1) 0 (omega (arith, within)) ∙ ap (λ (k : ℕ). get_or xs (at + 1) 0 ∷ drop k xs) e2 ∙ ap (λ r. get_or xs (at + 1) 0 ∷ r)
+    (drop_more xs (at + 2) 0 (omega (arith, within)) ∙ ap (λ (k : ℕ). get_or xs (at + 2) 0 ∷ drop k xs) e3 ∙ ap (λ r. get_or xs (at + 2) 0 ∷ r)
+    (drop_more xs (at + 3) 0 (omega (arith, within)) ∙ ap (λ (k : ℕ). get_or xs (at + 3) 0 ∷ drop k xs) e4 ∙ ap (λ r. get_or xs (at + 3) 0 ∷ r)
+    (drop_more xs (at + 4) 0 (omega (arith, within)) ∙ ap (λ (k : ℕ). get_or xs (at + 4) 0 ∷ drop k xs) e5 ∙ ap (λ r. get_or xs (at + 4) 0 ∷ r)
+    (drop_more xs (at + 5) 0 (omega (arith, within)) ∙ ap (λ (k : ℕ). get_or xs (at + 5) 0 ∷ drop k xs) e6 ∙ ap (λ r. get_or xs (at + 5) 0 ∷ r)
+    (drop_more xs (at + 6) 0 (omega (arith, within)) ∙ ap (λ (k : ℕ). get_or xs (at + 6) 0 ∷ drop k xs) e7 ∙ ap (λ r. get_or xs (at + 6) 0 ∷ r)
+    (drop_more xs (at + 7) 0 (omega (arith, within))))))))))
+
+-- the number of eight bytes has their bits
+pub bits-eight_at : (n at : ℕ) (xs : List ℕ) → at + 8 ≤ length xs → ((i : ℕ) → get_or xs i 0 < 2 ^ 8)
+    → n ≡ get_or xs at 0 * 256 ^ 7 + get_or xs (at + 1) 0 * 256 ^ 6 + get_or xs (at + 2) 0 * 256 ^ 5 + get_or xs (at + 3) 0 * 256 ^ 4 + get_or xs (at + 4) 0 * 256 ^ 3 + get_or xs (at + 5) 0 * 256 ^ 2 + get_or xs (at + 6) 0 * 256 + get_or xs (at + 7) 0
+    → bits_of 8 (take 8 (drop at xs)) ≡ bits 64 n
+unfolding following AreBytes bits
+bits-eight_at n at xs within small is =
+    let ys : List ℕ = get_or xs at 0 ∷ get_or xs (at + 1) 0 ∷ get_or xs (at + 2) 0 ∷ get_or xs (at + 3) 0 ∷ get_or xs (at + 4) 0 ∷ get_or xs (at + 5) 0 ∷ get_or xs (at + 6) 0 ∷ get_or xs (at + 7) 0 ∷ [] in
+    let bytes : AreBytes ys = (small at, (small (at + 1), (small (at + 2), (small (at + 3), (small (at + 4), (small (at + 5), (small (at + 6), (small (at + 7), tt)))))))) in
+    let horner : following 0 ys ≡ n = omega arith in
+    ap (bits_of 8) (eight_at xs at within) ∙ bits-following 0 0 ys bytes ∙ ap (bits 64) horner
 
 -- the digits after a number's last one do not count
 pub field-front : (width first n : ℕ) (digits : List ℕ) → first + width ≤ n → field width first (take n digits) ≡ field width first digits

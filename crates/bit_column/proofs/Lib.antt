@@ -1,4 +1,5 @@
-pub mod UntakenLemmas
+pub mod LaneSteps
+pub mod WordSteps
 pub mod BitLemmas
 pub mod Fields
 pub mod Pushed

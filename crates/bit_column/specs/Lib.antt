@@ -1,4 +1,4 @@
-pub mod Untaken
+pub mod Unpacked
 pub mod Bits
 pub mod Column
 pub mod Sections

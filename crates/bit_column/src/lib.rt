@@ -6,13 +6,15 @@ mod bits;
 mod fault;
 mod file_part;
 mod id_range;
+mod lanes;
 mod laws;
 mod part;
 mod range;
 mod reading;
+mod testing;
 mod unpacking;
 mod width;
-mod window;
+mod words;
 mod writing;
 
 pub use fault::ColumnFault;

@@ -6,6 +6,7 @@ ghost use Rattle.bit_column.specs.declared.fault.ColumnFault.TheVariants.{BadId,
 
 use crate::bits::taken;
 use crate::unpacking::unpack;
+use crate::words::{number_in, word_at};
 use crate::{ColumnFault, Width};
 
 /// The id at an index of a section's bytes, which have all its bits.
@@ -31,6 +32,20 @@ fn field_at(bytes: &[u8], bit: usize, width: Width) -> u32
     let head = front(&bytes[bit / 8..]);
     let following = 8 * head.len() - bit % 8 - width.bits as usize;
     taken(window(head), following as u32, width)
+}
+
+/// The id that begins so many bits after a byte, from a word where the bytes have a whole one
+/// there.
+#[inline(always)]
+pub fn id_from(bytes: &[u8], byte: usize, bit: u32, width: Width) -> u32
+    requires bit { bit < 8 }
+    requires held { 8 * byte + bit + width.bits ≤ 8 * length bytes.now }
+    ensures { result ≡ field width.bits (8 * byte + bit) (bits_of 8 bytes.now) }
+{
+    if bytes.len() >= 8 && byte <= bytes.len() - 8 {
+        return number_in(word_at(bytes, byte), bit, width);
+    }
+    field_at(&bytes[byte..], bit as usize, width)
 }
 
 /// The id from a bit of the first byte on, which so many of the bytes have. Of two bytes or of one,

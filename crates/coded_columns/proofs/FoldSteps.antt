@@ -1,5 +1,5 @@
 -- Numbers that are added to the states in slots.
-use Rattle.std.proofs.Common.{◌≡◌, ◌∙◌, ◌<◌, ◌≤◌, ◌+◌, ◌++◌, ◌∷◌, ◌==◌, [], ℕ, ℤ, pos, Bool, true, false, cond, List, length, map, get_or, set, take, replicate, refl, ap, sym, subst, arith, inl, inr, append-nil, Option, Some, None, MatchOption, slice_get}
+use Rattle.std.proofs.Common.{◌≡◌, ◌∙◌, ◌<◌, ◌≤◌, ◌+◌, ◌++◌, ◌∷◌, ◌==◌, [], ℕ, ℤ, pos, Bool, true, false, cond, List, length, map, get_or, set, take, replicate, refl, ap, sym, subst, arith, inl, inr, append-nil, Option, Some, None, MatchOption, slice_get, count_by}
 use Rattle.std.specs.Option.{option_map_or}
 use Rattle.std.proofs.lemmas.Option.{get_or_from_slice_get, slice_get_within}
 use Rattle.table_schema.specs.Conditions.{cell}
@@ -7,11 +7,14 @@ use Rattle.std.proofs.lemmas.Bool.{cases_eq, cond-true, cond-false, eq-eqb, ne_e
 use Rattle.std.proofs.lemmas.List.{get_or-set_other, get_or-set_same, map-append, take_more, length-map, length-replicate, get_or-replicate}
 use Rattle.std.proofs.Math.ListN.{get_or-map, length-set}
 use Rattle.std.proofs.lemmas.List.Elements.{All-head, All-tail}
+use Rattle.std.proofs.lemmas.List.Sums.{sum_by-cons}
 use Rattle.values.specs.declared.value.Value.{Value}
 use Rattle.values.specs.declared.value.Value.TheVariants.{Whole}
 use Rattle.values.specs.Columns.{row_of}
 use Rattle.agg_laws.specs.declared.aggregate_kind.AggKind.{AggKind}
+use Rattle.agg_laws.specs.declared.aggregate_kind.AggKind.TheVariants as kinds
 use Rattle.agg_laws.specs.declared.states.AggState.{AggState}
+use Rattle.agg_laws.specs.declared.states.AggState.TheVariants.{Count}
 use Rattle.state_columns.specs.Columns.{Column, replaced, row_at, state_at}
 use Rattle.agg_laws.specs.Numbers.{AreWhole, IsWhole, most_values}
 use Rattle.agg_laws.specs.Rows.{RowFits}
@@ -121,15 +124,14 @@ fits_push : (vs : List AggState) (v : AggState) (n : ℕ) → RowFits vs n → F
 fits_push [] v n h k = (k, tt)
 fits_push (w ∷ vs) v n h k = (h.0, fits_push vs v n h.1 k)
 
-pub fits-push : (agg : Agg) (columns : List Column) (column : Column) (slot : ℕ) (slots : List ℕ) (rows : List (List Value)) (count : ℕ) → slot < count
-    → HoldsSlots agg.kind count slots (map (number_for agg) rows) column → AreWhole (map (number_for agg) rows) → RowFits (row_at columns slot) (length (in_slot slot slots rows))
+pub fits-push : (agg : Agg) (columns : List Column) (column : Column) (slot : ℕ) (slots : List ℕ) (rows : List (List Value)) (count : ℕ) → HoldsSlots agg.kind count slots (map (number_for agg) rows) column
+    → Fits (state_at column slot) (length (in_slot slot slots (map (number_for agg) rows))) → RowFits (row_at columns slot) (length (in_slot slot slots rows))
     → RowFits (row_at (columns ++ column ∷ []) slot) (length (in_slot slot slots rows))
-fits-push agg columns column slot slots rows count lt h whole so =
+fits-push agg columns column slot slots rows count h own so =
     let n : ℕ = length (in_slot slot slots rows) in
     let same : length (in_slot slot slots (map (number_for agg) rows)) ≡ n = ap length (in_slot-map (number_for agg) slot slots rows) ∙ length-map (in_slot slot slots rows) (number_for agg) in
     subst (λ (vs : List AggState). RowFits vs n) (sym (map-append (λ (c : Column). state_at c slot) columns (column ∷ [])))
-    (fits_push (row_at columns slot) (state_at column slot) n so
-    (subst (Fits (state_at column slot)) same (holds-fits agg.kind count slots (map (number_for agg) rows) column slot h lt whole)))
+    (fits_push (row_at columns slot) (state_at column slot) n so (subst (Fits (state_at column slot)) same own))
 
 -- columns of states of no value
 pub fresh-count : (count : ℕ) (kind : AggKind) (column : Column) → column.states ≡ replicate count (unit_of kind) → length column.states ≡ count
@@ -160,3 +162,35 @@ for-agg segment agg field (Some column) is of = record {
   each = λ at lt.
       ap (λ c. option_map_or (λ column. number_of (cell (row_of (table_of segment).columns at) column)) c (pos 0)) is ∙ ap number_of (of.each at lt);
 }
+
+-- ---- counts
+
+counted-one : (b : Bool) (x : ℤ) (n : ℕ) (xs : List ℤ) → length xs ≡ n → length (cond b (x ∷ xs) xs) ≡ cond b 1 0 + n
+counted-one true x n xs e = omega (arith, e)
+counted-one false x n xs e = omega (arith, e)
+
+-- as many numbers are in a slot as rows have it
+pub in_slot-count : (slot : ℕ) (slots : List ℕ) (numbers : List ℤ) → length numbers ≡ length slots → length (in_slot slot slots numbers) ≡ count_by (λ s. s == slot) slots
+in_slot-count slot [] numbers e = refl
+in_slot-count slot (s ∷ slots) [] e = absurd (omega (arith, e))
+in_slot-count slot (s ∷ slots) (x ∷ numbers) e =
+    counted-one (s == slot) x (count_by (λ s. s == slot) slots) (in_slot slot slots numbers) (in_slot-count slot slots numbers (omega (arith, e)))
+    ∙ sym (sum_by-cons (λ s. cond (s == slot) 1 0) s slots)
+
+pub counts-hold : (count : ℕ) (slots : List ℕ) (numbers : List ℤ) (counts : List ℕ) (column : Column) → column.kind ≡ kinds.Count → length column.states ≡ count
+    → ((slot : ℕ) → slot < count → state_at column slot ≡ Count (get_or counts slot 0)) → ((slot : ℕ) → get_or counts slot 0 ≡ count_by (λ s. s == slot) slots)
+    → length numbers ≡ length slots → HoldsSlots kinds.Count count slots numbers column
+counts-hold count slots numbers counts column kind_is count_is each are same = record {
+  kind_is = kind_is;
+  count_is = count_is;
+  each = λ slot lt. each slot lt ∙ ap Count (are slot ∙ sym (in_slot-count slot slots numbers same));
+}
+
+-- a count comes from the rows of its slot
+pub counts-fit : (count : ℕ) (slots : List ℕ) (numbers : List ℤ) (column : Column) (slot : ℕ) → HoldsSlots kinds.Count count slots numbers column → slot < count
+    → Fits (state_at column slot) (length (in_slot slot slots numbers))
+counts-fit count slots numbers column slot h lt =
+    subst (λ (v : AggState). Fits v (length (in_slot slot slots numbers))) (sym (h.each slot lt)) (omega arith)
+
+pub rows-many : {Y : Type 0} (f : List Value → Y) (segment : SegmentColumns) (places slots : List ℕ) → length slots ≡ length places → length (map f (rows_at (table_of segment).columns places)) ≡ length slots
+rows-many f segment places slots same = length-map (rows_at (table_of segment).columns places) f ∙ length-map places (row_of (table_of segment).columns) ∙ sym same

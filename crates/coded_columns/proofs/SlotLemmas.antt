@@ -181,7 +181,7 @@ module _ (columns : List Listed) (groups : List ℕ) (group : ℕ) (places : Lis
     firsts_have = st.firsts_have;
   }
 
-zeros : (n k : ℕ) → get_or {A = ℕ} (replicate n 0) k 0 ≡ 0
+pub zeros : (n k : ℕ) → get_or {A = ℕ} (replicate n 0) k 0 ≡ 0
 zeros zero k = refl
 zeros (suc n) zero = refl
 zeros (suc n) (suc k) = zeros n k

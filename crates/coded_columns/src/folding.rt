@@ -6,7 +6,7 @@ ghost use Rattle.values.specs.declared.value.Value.TheVariants as value;
 ghost use Rattle.state_columns.specs.Columns.{row_at, state_at};
 ghost use Rattle.agg_laws.specs.Numbers.{AreWhole, IsWhole};
 ghost use Rattle.agg_laws.specs.Rows.{RowFits};
-ghost use Rattle.agg_laws.specs.States.{state_of, unit_of};
+ghost use Rattle.agg_laws.specs.States.{Fits, state_of, unit_of};
 ghost use Rattle.value_ids.specs.Coding.{AreBelow};
 ghost use Rattle.group_table.specs.Groups.{number_for, number_of, states_of};
 ghost use Rattle.scan_engine.specs.Places.{rows_at};
@@ -14,6 +14,7 @@ ghost use Rattle.coded_columns.specs.Coded.{AreCoded, IsForAgg, IsUnnumbered, mo
 ghost use Rattle.coded_columns.specs.Slots.{HaveSlots, HoldsSlots, in_slot, number_at};
 
 use crate::coded::{Coded, SegmentColumns};
+use crate::counting::counted;
 use crate::ids::Ids;
 use agg_laws::AggKind;
 use dictionary::Dictionary;
@@ -69,9 +70,13 @@ fn fold_agg(
     requires below { AreBelow count slots.now }
     ensures states { IfOk result (HoldsSlots agg.now.kind count slots.now
         (map (number_for agg.now) (rows_at (table_of segment.now).columns places.now))) }
-    ensures whole { IfOk result (λ _. AreWhole
-        (map (number_for agg.now) (rows_at (table_of segment.now).columns places.now))) }
+    ensures fits { IfOk result (λ column. (slot : ℕ) → slot < count → Fits (state_at column slot)
+        (length (in_slot slot slots.now
+        (map (number_for agg.now) (rows_at (table_of segment.now).columns places.now))))) }
 {
+    if let AggKind::Count = agg.kind {
+        return counted(alloc, slots, count);
+    }
     let states = units(alloc, agg.kind, count)?;
     match column_for(segment, agg) {
         Some(column) => {

@@ -3,6 +3,7 @@
 #![tactic(auto)]
 
 mod coded;
+mod counting;
 mod folding;
 mod ids;
 mod placed_ids;

@@ -27,5 +27,5 @@ loop-agg-preserved c =
       states = λ slot lt. subst (λ (cs : List Column). row_at cs slot ≡ states_of (take (i + 1) aggs) (in_slot slot slots rows)) (sym is)
           (states-push aggs i _ columns column slot slots rows count c.loop-agg-test.true (search rules) lt h (c.loop-agg.invariant.states slot lt));
       fits = λ slot lt. subst (λ (cs : List Column). RowFits (row_at cs slot) (length (in_slot slot slots rows))) (sym is)
-          (fits-push _ columns column slot slots rows count lt h c.in_ok-fold_agg.ensures.whole (c.loop-agg.invariant.fits slot lt));
+          (fits-push _ columns column slot slots rows count h (c.in_ok-fold_agg.ensures.fits slot lt) (c.loop-agg.invariant.fits slot lt));
     }
