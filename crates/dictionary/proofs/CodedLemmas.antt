@@ -1,11 +1,9 @@
 -- A column by the places of its values among those that were seen, and by their ids.
-use Rattle.std.proofs.Common.{◌≡◌, ◌∙◌, ◌<◌, ◌+◌, ◌++◌, ◌∷◌, [], ℕ, pos, Bool, true, false, List, length, map, get_or, take, drop, slice_get, Some, refl, ap, ap₂, sym, subst, arith}
+use Rattle.std.proofs.Common.{◌≡◌, ◌∙◌, ◌<◌, ◌++◌, ◌∷◌, [], ℕ, pos, Bool, true, false, List, length, map, get_or, take, drop, refl, ap, ap₂, sym, subst, arith}
 use Rattle.std.specs.List.{All, Contains}
-use Rattle.std.proofs.lemmas.Bool.{false≢true}
-use Rattle.std.proofs.lemmas.List.{append-nil, get_or-map, get_or_default, length-drop, length-map, map-append, nil_from_length, take_all, take_more}
-use Rattle.std.proofs.lemmas.List.Elements.{All-cons, All-contains, All-contains_itself, All-head, All-nil, All-push, All-tail, All-weaker}
+use Rattle.std.proofs.lemmas.List.{append-nil, get_or-map, get_or_default, length-drop, length-map, nil_from_length, take_all}
+use Rattle.std.proofs.lemmas.List.Elements.{All-cons, All-contains, All-head, All-nil, All-tail}
 use Rattle.std.proofs.lemmas.Map.Views.{Contains-from_any, list_any-from_Contains}
-use Rattle.std.proofs.lemmas.Option.{get_or_from_slice_get}
 use Rattle.values.specs.declared.value.Value.{Value}
 use Rattle.values.specs.declared.value.Value.TheVariants.{Whole}
 use Rattle.values.specs.Order.Laws.{value_eq-equiv}
@@ -13,7 +11,7 @@ use Rattle.values.specs.Tests.{is_member}
 use Rattle.values.proofs.Bounds.{same_value}
 use Rattle.value_ids.specs.Coding.{AreAmong, AreBelow, Codes, Sees, renumbered, values_at}
 use Rattle.value_ids.specs.Dictionary.{distinct}
-use Rattle.value_ids.proofs.DistinctLemmas.{distinct_members, distinct_so}
+use Rattle.value_ids.proofs.DistinctLemmas.{distinct_so}
 
 -- ---- values of one form
 
@@ -62,26 +60,7 @@ sees_members column seen ids s q =
     (λ e. list_any-from_Contains value_eq-equiv q column (All-contains (Contains column) seen q s.among (Contains-from_any same_value q seen e)))
     (λ e. list_any-from_Contains value_eq-equiv q seen (All-contains (Contains seen) column q (subst (All (Contains seen)) s.codes.each (all_seen seen ids s.codes.below)) (Contains-from_any same_value q column e)))
 
--- each value that was seen is one of the distinct ones
-pub seen_among : (seen values : List Value) → values ≡ distinct seen → AreAmong values seen
-seen_among seen values is =
-    All-weaker (Contains seen) (Contains values)
-    (λ v c. subst (λ vs. Contains vs v) (sym is) (Contains-from_any same_value v (distinct seen) (distinct_members v seen ∙ list_any-from_Contains value_eq-equiv v seen c)))
-    seen (All-contains_itself seen)
-
-pub never_absent : (values : List Value) (x : Value) → Contains values x → is_member values x ≡ false → ⊥
-never_absent values x there none = false≢true (sym none ∙ list_any-from_Contains value_eq-equiv x values there)
-
 -- ---- ranks
-
--- one more rank
-pub rank_more : (values seen : List Value) (ranks ranks' : List ℕ) (i id : ℕ) (x d : Value) → i < length seen → x ≡ get_or seen i d → ranks' ≡ ranks ++ id ∷ [] → id < length values → slice_get values id ≡ Some x
-    → (values_at values ranks ≡ take i seen) × AreBelow (length values) ranks → (values_at values ranks' ≡ take (i + 1) seen) × AreBelow (length values) ranks'
-rank_more values seen ranks ranks' i id x d lt item is below at (each, all) = (
-  ap (values_at values) is ∙ map-append (λ k. get_or values k (Whole (pos 0))) ranks (id ∷ [])
-      ∙ ap₂ ◌++◌ each (ap (λ v. v ∷ []) (get_or_from_slice_get values id x (Whole (pos 0)) at ∙ item)) ∙ sym (take_more seen i d lt),
-  subst (AreBelow (length values)) (sym is) (All-push (λ k. k < length values) ranks id all below),
-)
 
 ranks_count : (values seen : List Value) (ranks : List ℕ) → Codes values ranks seen → length ranks ≡ length seen
 ranks_count values seen ranks r = sym (length-map ranks (λ id. get_or values id (Whole (pos 0)))) ∙ ap length r.each

@@ -1,7 +1,10 @@
 pub mod Bytes
 pub mod CodedLemmas
+pub mod KeyLemmas
 pub mod Numbers
 pub mod Progress
+pub mod RankLemmas
+pub mod RankedValues
 pub mod Spells
 pub mod Texts
 pub mod Written

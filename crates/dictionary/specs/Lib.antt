@@ -1,3 +1,6 @@
+pub mod Coded
+pub mod Keys
 pub mod Laws
+pub mod Ranking
 pub mod Reading
 pub mod Spelling

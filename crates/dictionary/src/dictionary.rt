@@ -7,12 +7,12 @@ ghost use Rattle.value_ids.specs.Coding.{Codes};
 ghost use Rattle.value_ids.specs.Dictionary.{Fits, Distinct, IsDictionary, distinct, most_values};
 ghost use Rattle.value_ids.specs.Ids.{has_id, matching, satisfies};
 
-use crate::coded::{Coded, code_column, ranks};
+use crate::coded::{Coded, code_column};
 use crate::matching::matching_ids;
 use data_types::{FieldKind, Seq};
 use std::alloc::Global;
 use std::marker::Model;
-use value_ids::{AscendingValues, IdSet, distinct_values, rank_places};
+use value_ids::{AscendingValues, IdSet, distinct_values};
 use values::{Column, NoMemory, Test, Value};
 
 /// The most values that a column has.
@@ -69,14 +69,7 @@ impl Dictionary {
         ensures valid { IfOk result (λ r. IsDictionary r.0) }
         ensures ids { IfOk result (λ r. Codes r.0.values r.1.items column.now.values) }
     {
-        let Coded {
-            values: seen,
-            mut ids,
-        } = code_column(alloc, column)?;
-        let values = distinct_values(alloc, &seen)?;
-        let ascending = AscendingValues { values: &values };
-        let ranks = ranks(alloc, ascending, &seen)?;
-        rank_places(&mut ids, &ranks);
+        let Coded { values, ids } = code_column(alloc, column)?;
         Ok((Dictionary { kind, values }, ids))
     }
 

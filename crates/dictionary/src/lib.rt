@@ -5,9 +5,12 @@ mod check;
 mod coded;
 mod dictionary;
 mod fault;
+mod keyed;
 mod laws;
 mod matching;
 mod number_index;
+mod number_range;
+mod ranking;
 mod spelling;
 mod whole_numbers;
 

@@ -1,13 +1,16 @@
-use Rattle.std.proofs.Common.{◌≡◌, ◌∙◌, List, ap, map, pos, subst, sym}
-use Rattle.values.specs.declared.value.Value.{Value}
+use Rattle.std.proofs.Common.{◌∙◌, ap, map, subst, Option}
+use Rattle.std.specs.List.Sorted.{IsStrictlySortedBy}
+use Rattle.std.specs.Option.{IfSome}
+use Rattle.std.specs.Ordering.{int_cmp}
 use Rattle.values.specs.declared.value.Value.TheVariants.{Whole}
-use Rattle.value_ids.specs.Coding.{Sees}
-use Rattle.dictionary.proofs.CodedLemmas.{sees_mapped}
+use Rattle.dictionary.specs.declared.number_index.CodedNumbers.{CodedNumbers}
+use Rattle.dictionary.specs.Coded.{SeesNumbers}
+use Rattle.dictionary.proofs.RankedValues.{number_ascending}
 use Rattle.dictionary.proofs.coded.coded_numbers.Goals as goal
 
-pub returns : goal.returns
-returns c =
-    let is : c.in_ok-values.values.items ≡ map Whole c.in_ok-coded.coded.seen.items = c.in_ok-values.ensures ∙ ap (map Whole) c.deref.ensures.value in
-    let all = c.in_ok-coded.ensures in
-    subst (λ (vs : List Value). Sees (map Whole c.args.numbers.now) vs c.in_ok-coded.coded.ids.items) (sym is)
-    (sees_mapped Whole (pos 0) c.args.numbers.now c.in_ok-coded.coded.seen.items c.in_ok-coded.coded.ids.items all.each all.below all.among)
+pub returns-in-Some : goal.returns-in-Some
+returns-in-Some c =
+    let sees = subst (λ (o : Option CodedNumbers). IfSome o (λ coded. SeesNumbers c.args.numbers.now coded.seen.items coded.ids.items)) c.in-Some.is c.in_ok-seen.ensures.sees in
+    let rise = subst (λ (o : Option CodedNumbers). IfSome o (λ coded. IsStrictlySortedBy int_cmp coded.seen.items)) c.in-Some.is c.in_ok-seen.ensures.rise in
+    number_ascending c.args.numbers.now c.in-Some.field-0.seen.items c.in-Some.field-0.ids.items c.in_ok-values.values.items sees rise
+    (c.in_ok-values.ensures ∙ ap (map Whole) c.deref.ensures.value)

@@ -1,21 +1,33 @@
-use Rattle.std.proofs.Common.{◌≡◌, ◌<◌, ◌∙◌, ◌++◌, ◌∷◌, [], ◌+◌, List, ℕ, length, map, take, slice_get, Some, ap, sym, arith}
-use Rattle.std.proofs.lemmas.List.{map-append, take_all, take_more}
+use Rattle.std.proofs.Common.{◌≡◌, ◌∙◌, ◌++◌, ◌∷◌, [], ℕ, List, get_or, map, take, ap, arith, subst, sym}
+use Rattle.std.proofs.lemmas.List.{map-append, take_all}
+use Rattle.std.proofs.lemmas.List.Elements.{All-push}
 use Rattle.std.proofs.lemmas.Option.{get_or_from_slice_get}
-use Rattle.values.specs.declared.value.Value.{Value}
+use Rattle.std.specs.List.{All}
+use Rattle.std.specs.Str.{IsUtf8}
 use Rattle.values.specs.declared.value.Value.TheVariants.{Text}
+use Rattle.value_ids.specs.Dictionary.{IsUnicode}
+use Rattle.dictionary.specs.Ranking.{at_places}
+use Rattle.dictionary.proofs.RankLemmas.{map_more}
 use Rattle.dictionary.proofs.coded.text_values.Goals as goal
 
--- one more text
-one-more : (texts : List (List ℕ)) (done : List Value) (at : ℕ) (t : List ℕ) → at < length texts → slice_get texts at ≡ Some t → done ≡ map Text (take at texts) → done ++ Text t ∷ [] ≡ map Text (take (at + 1) texts)
-one-more texts done at t lt got so_far =
-    ap (λ xs. xs ++ Text t ∷ []) so_far
-    ∙ sym (map-append Text (take at texts) (t ∷ []))
-    ∙ ap (map Text) (ap (λ x. take at texts ++ x ∷ []) (sym (get_or_from_slice_get texts at t [] got)) ∙ sym (take_more texts at [] lt))
+pub loop-place-preserved : goal.loop-place-preserved
+loop-place-preserved c =
+    let f = λ (id : ℕ). get_or c.args.texts.now id [] in
+    let i = c.loop-place.place-index in
+    let places = c.args.places.now in
+    let is : c.in_ok-from_text.field-0 ≡ f (get_or places i 0) = c.in_ok-from_text.ensures ∙ sym (get_or_from_slice_get c.args.texts.now (get_or places i 0) c.text-text.result.now [] c.text-text.ensures) in
+    record {
+      values =
+          c.in_ok-push.ensures.items ∙ ap (λ (t : List ℕ). c.loop-place.values.items ++ Text t ∷ []) is
+          ∙ ap (λ vs. vs ++ Text (f (get_or places i 0)) ∷ []) c.loop-place.invariant.values
+          ∙ sym (map-append Text (map f (take i places)) (f (get_or places i 0) ∷ [])) ∙ ap (map Text) (map_more f places i 0 c.loop-place-test.true);
+      unicode =
+          subst (All IsUnicode) (sym c.in_ok-push.ensures.items)
+          (All-push IsUnicode c.loop-place.values.items (Text c.in_ok-from_text.field-0) c.loop-place.invariant.unicode (subst IsUtf8 (sym c.in_ok-from_text.ensures) c.text-text.utf8));
+    }
 
-pub loop-at-preserved : goal.loop-at-preserved
-loop-at-preserved c =
-    c.in_ok-push.ensures.items ∙ ap (λ t. c.loop-at.values.items ++ Text t ∷ []) c.in_ok-from_text.ensures
-    ∙ one-more c.args.texts.now c.loop-at.values.items c.loop-at.at c.text.result.now (omega (arith, c.len-at-end.ensures)) c.text.ensures c.loop-at.invariant
+pub returns-clause-values : goal.returns-clause-values
+returns-clause-values c = c.loop-place.invariant.values ∙ ap (λ ps. map Text (at_places [] c.args.texts.now ps)) (take_all c.loop-place.place-index c.args.places.now (omega arith))
 
-pub returns : goal.returns
-returns c = c.loop-at.invariant ∙ ap (map Text) (take_all c.loop-at.at c.args.texts.now (omega (arith, c.len-at-end.ensures)))
+pub returns-clause-unicode : goal.returns-clause-unicode
+returns-clause-unicode c = c.loop-place.invariant.unicode

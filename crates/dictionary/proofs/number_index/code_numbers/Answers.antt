@@ -1,3 +1,5 @@
+use Rattle.std.proofs.Common.{◌∙◌, arith}
+use Rattle.std.proofs.lemmas.List.{take_all}
 use Rattle.value_ids.proofs.CodingLemmas.{among-more, below-one, reads-more}
 use Rattle.dictionary.proofs.number_index.code_numbers.Goals as goal
 
@@ -17,3 +19,8 @@ loop-number-preserved c =
       below-one numbers i seen new ids c.push.new.self.items c.in_ok-id.id lt at grows is below,
       among-more numbers i seen new ids c.push.new.self.items c.in_ok-id.id lt at grows is below among,
     )
+
+pub returns : goal.returns
+returns c =
+    let (so_far, below, among) = c.loop-number.invariant in
+    record { each = so_far ∙ take_all c.loop-number.number-index c.args.numbers.now (omega arith); below = below; among = among }
