@@ -1,4 +1,4 @@
-use Rattle.std.proofs.Common.{◌∙◌, ◌+◌, ◌*◌, nat_eq, get_or, ap, arith}
+use Rattle.std.proofs.Common.{◌∙◌, ◌+◌, ◌*◌, nat_eq, arith}
 use Rattle.std.specs.HashMap.{get}
 use Rattle.coded_columns.specs.Slots.{led_by, packed}
 use Rattle.coded_columns.proofs.RankSteps.{rank-step}

@@ -1,4 +1,4 @@
-use Rattle.std.proofs.Common.{◌∙◌, ◌+◌, ◌*◌, get_or, ap, arith}
+use Rattle.std.proofs.Common.{◌∙◌, ◌+◌, ◌*◌, get_or, arith}
 use Rattle.coded_columns.specs.Slots.{packed}
 use Rattle.coded_columns.proofs.RankSteps.{rank-step}
 use Rattle.coded_columns.proofs.ranking.refine_by_table.Goals as goal
