@@ -172,8 +172,9 @@ fn add_numbers(column: &mut StateColumn, slots: &[u32], places: &[u32], ids: &Id
         (map (number_at ids.now numbers.now) places.now) column.new }
     ensures whole { AreWhole (map (number_at ids.now numbers.now) places.now) }
 {
+    let slices = ids.slices();
     for k in 0..slots.len() {
-        let number = number_at(ids, numbers, places[k] as usize);
+        let number = number_at(slices, numbers, places[k] as usize);
         column.add_at(slots[k] as usize, number);
     }
 }

@@ -4,9 +4,10 @@ ghost use Rattle.std.specs.Prelude.{◌≡◌, IfOk, map};
 ghost use Rattle.values.specs.declared.value.Value.TheVariants as value;
 ghost use Rattle.agg_laws.specs.Numbers.{IsWhole};
 ghost use Rattle.group_table.specs.Groups.{number_of};
+ghost use Rattle.coded_columns.specs.Ids.{seen_ids};
 ghost use Rattle.coded_columns.specs.Slots.{number_at};
 
-use crate::ids::Ids;
+use crate::ids::IdSlices;
 use dictionary::Dictionary;
 use std::alloc::Global;
 use values::{NoMemory, Value};
@@ -25,8 +26,8 @@ pub fn numbers_in(alloc: Global, dictionary: &Dictionary) -> Result<Vec<i64>, No
 
 /// The number of a row, by its id; without one it is 0.
 #[inline(always)]
-pub fn number_at(ids: &Ids, numbers: &[i64], at: usize) -> i64
-    ensures value { result ≡ number_at ids.now numbers.now at }
+pub fn number_at(ids: IdSlices<'_>, numbers: &[i64], at: usize) -> i64
+    ensures value { result ≡ number_at (seen_ids ids.entry) numbers.now at }
     ensures whole { IsWhole result }
 {
     match numbers.get(ids.at_or_0(at) as usize) {

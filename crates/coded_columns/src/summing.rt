@@ -62,8 +62,9 @@ fn add_sums(slots: &[u32], places: &[u32], ids: &Ids, numbers: &[i64], sums: &mu
         (map (number_at ids.now numbers.now) places.now)) }
     ensures whole { AreWhole (map (number_at ids.now numbers.now) places.now) }
 {
+    let slices = ids.slices();
     for k in 0..slots.len() {
-        let number = number_at(ids, numbers, places[k] as usize);
+        let number = number_at(slices, numbers, places[k] as usize);
         add_one(sums, slots[k] as usize, number);
     }
 }

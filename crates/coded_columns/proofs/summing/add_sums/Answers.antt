@@ -26,7 +26,8 @@ loop-k-preserved c =
     let f = number_at c.args.ids.now c.args.numbers.now in
     let z : ℤ = to_z w64 (of_z w64 c.number_at-number.result) in
     let same : z ≡ c.number_at-number.result = to_z-of_z w64 c.number_at-number.result (record { sfits = c.number_at-number.type_inv }) in
-    let is : z ≡ f (get_or places k 0) = same ∙ c.number_at-number.ensures.value in
+    let value : c.number_at-number.result ≡ f (get_or places k 0) = c.number_at-number.ensures.value ∙ ap (λ (l : List ℕ). number_at l c.args.numbers.now (get_or places k 0)) c.slices-slices.ensures in
+    let is : z ≡ f (get_or places k 0) = same ∙ value in
     let in_slots : k < length slots = c.loop-k-test.true in
     let lt : k < length places = omega (arith, c.requires.slots.same, in_slots) in
     let lengths : length (take k slots) ≡ length (map f (take k places)) =
@@ -36,7 +37,7 @@ loop-k-preserved c =
           sum-next c.loop-k.sums c.add_one.new.sums (take k slots) (map f (take k places)) (get_or slots k 0) (f (get_or places k 0)) lengths
           (c.add_one.ensures.own ∙ ap (λ (w : ℤ). get_or c.loop-k.sums (get_or slots k 0) (pos 0) +ℤ w) is) c.add_one.ensures.others c.loop-k.invariant.sums slot
           ∙ (λ i. sum_of (in_slot slot (sym (take_more slots k 0 in_slots) i) (sym (map-next f places k lt) i)));
-      whole = subst (λ (l : List ℤ). AreWhole l) (sym (map-next f places k lt)) (whole-push (map f (take k places)) (f (get_or places k 0)) c.loop-k.invariant.whole (subst IsWhole c.number_at-number.ensures.value c.number_at-number.ensures.whole));
+      whole = subst (λ (l : List ℤ). AreWhole l) (sym (map-next f places k lt)) (whole-push (map f (take k places)) (f (get_or places k 0)) c.loop-k.invariant.whole (subst IsWhole value c.number_at-number.ensures.whole));
     }
 
 pub returns-clause-sums : goal.returns-clause-sums
