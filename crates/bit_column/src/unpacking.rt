@@ -17,6 +17,9 @@ const MOST_IN_LANE: u32 = 24;
 /// So many bytes are read for four ids.
 const LANE_BYTES: usize = 16;
 
+/// Fewer groups of eight than so many take less time one by one than the plans of vectors do.
+const FEW_GROUPS: usize = 8;
+
 /// The ids from a bit on, as many as there is place for, each of which is to be below the count.
 pub fn unpack(
     bytes: &[u8],
@@ -50,10 +53,10 @@ fn put_ids(bytes: &[u8], bit: u32, width: Width, ids: &mut [u32])
     if width.bits == 32 && bit == 0 {
         return put_words(bytes, ids);
     }
-    if width.bits > MOST_IN_LANE {
+    let groups = whole_groups(bytes, width, ids.len());
+    if width.bits > MOST_IN_LANE || groups < FEW_GROUPS {
         return put_rest(bytes, bit, 0, width, ids);
     }
-    let groups = whole_groups(bytes, width, ids.len());
     put_groups(bytes, bit, groups, width, ids);
     put_rest(bytes, bit, groups, width, ids);
 }

@@ -1,5 +1,5 @@
 -- The values of a segment's rows, column by column.
-use Rattle.std.proofs.Common.{◌≡◌, ◌∙◌, ◌<◌, ◌≤◌, ◌+◌, ◌∷◌, ◌&&◌, ◌||◌, [], ℕ, Bool, true, false, pos, zero, suc, Option, Some, None, List, length, map, get_or, set, replicate, slice_get, refl, ap, sym, subst, arith, inl, inr, cond, ◌++◌, append-nil}
+use Rattle.std.proofs.Common.{◌≡◌, ◌∙◌, ◌<◌, ◌≤◌, ◌+◌, ◌∷◌, ◌||◌, [], ℕ, Bool, true, false, pos, zero, suc, Option, Some, None, List, length, map, get_or, set, replicate, slice_get, refl, ap, sym, subst, arith, inl, inr, cond, ◌++◌, append-nil}
 use Rattle.std.proofs.lemmas.Bool.{cases_lt}
 use Rattle.std.proofs.lemmas.List.{get_or-set_other, get_or-set_same}
 use Rattle.std.proofs.lemmas.List.{length-map, length-replicate}

@@ -1,5 +1,5 @@
 -- Numbers that are added to the states in slots.
-use Rattle.std.proofs.Common.{◌≡◌, ◌∙◌, ◌<◌, ◌≤◌, ◌+◌, ◌++◌, ◌∷◌, ◌==◌, [], ℕ, ℤ, pos, Bool, true, false, cond, List, length, map, get_or, set, take, replicate, refl, ap, sym, subst, arith, inl, inr, append-nil, Option, Some, None, MatchOption, slice_get, count_by}
+use Rattle.std.proofs.Common.{◌≡◌, ◌≢◌, ◌∙◌, ◌<◌, ◌≤◌, ◌+◌, ◌+ℤ◌, ◌++◌, ◌∷◌, ◌==◌, [], ℕ, ℤ, pos, Bool, true, false, cond, List, length, map, get_or, set, take, replicate, refl, ap, sym, subst, arith, inl, inr, append-nil, Option, Some, None, MatchOption, slice_get, count_by}
 use Rattle.std.specs.Option.{option_map_or}
 use Rattle.std.proofs.lemmas.Option.{get_or_from_slice_get, slice_get_within}
 use Rattle.table_schema.specs.Conditions.{cell}
@@ -7,6 +7,7 @@ use Rattle.std.proofs.lemmas.Bool.{cases_eq, cond-true, cond-false, eq-eqb, ne_e
 use Rattle.std.proofs.lemmas.List.{get_or-set_other, get_or-set_same, map-append, take_more, length-map, length-replicate, get_or-replicate}
 use Rattle.std.proofs.Math.ListN.{get_or-map, length-set}
 use Rattle.std.proofs.lemmas.List.Elements.{All-head, All-tail}
+use Rattle.std.proofs.lemmas.Int.{ints}
 use Rattle.std.proofs.lemmas.List.Sums.{sum_by-cons}
 use Rattle.values.specs.declared.value.Value.{Value}
 use Rattle.values.specs.declared.value.Value.TheVariants.{Whole}
@@ -14,12 +15,13 @@ use Rattle.values.specs.Columns.{row_of}
 use Rattle.agg_laws.specs.declared.aggregate_kind.AggKind.{AggKind}
 use Rattle.agg_laws.specs.declared.aggregate_kind.AggKind.TheVariants as kinds
 use Rattle.agg_laws.specs.declared.states.AggState.{AggState}
-use Rattle.agg_laws.specs.declared.states.AggState.TheVariants.{Count}
+use Rattle.agg_laws.specs.declared.states.AggState.TheVariants.{Count, Sum}
 use Rattle.state_columns.specs.Columns.{Column, replaced, row_at, state_at}
-use Rattle.agg_laws.specs.Numbers.{AreWhole, IsWhole, most_values}
+use Rattle.agg_laws.specs.Numbers.{AreWhole, IsWhole, SumFits, most_values, sum_of}
 use Rattle.agg_laws.specs.Rows.{RowFits}
 use Rattle.agg_laws.specs.States.{Fits, merged, state_of, unit_of}
 use Rattle.agg_laws.specs.laws.States as states
+use Rattle.agg_laws.specs.laws.Sums as sums
 use Rattle.value_ids.specs.Coding.{AreBelow}
 use Rattle.group_table.specs.Groups.{number_for, number_of, states_of}
 use Rattle.scan_engine.specs.Places.{rows_at}
@@ -194,3 +196,38 @@ counts-fit count slots numbers column slot h lt =
 
 pub rows-many : {Y : Type 0} (f : List Value → Y) (segment : SegmentColumns) (places slots : List ℕ) → length slots ≡ length places → length (map f (rows_at (table_of segment).columns places)) ≡ length slots
 rows-many f segment places slots same = length-map (rows_at (table_of segment).columns places) f ∙ length-map places (row_of (table_of segment).columns) ∙ sym same
+
+-- ---- sums
+
+-- a sum in a slot is of no more numbers than there are
+pub sum-fits : (slot : ℕ) (slots : List ℕ) (numbers : List ℤ) (n : ℕ) → AreWhole numbers → length numbers ≤ n → SumFits (sum_of (in_slot slot slots numbers)) n
+sum-fits slot slots numbers n whole le =
+    let xs : List ℤ = in_slot slot slots numbers in
+    states.fits_more (Sum (sum_of xs)) (length xs) n (states.fits_of kinds.Sum xs (in_slot-whole slot slots numbers whole)) (omega (arith, le, in_slot-few slot slots numbers))
+
+-- one number more
+pub sum-next : (old new : List ℤ) (slots : List ℕ) (numbers : List ℤ) (at : ℕ) (x : ℤ) → length slots ≡ length numbers → get_or new at (pos 0) ≡ get_or old at (pos 0) +ℤ x
+    → ((other : ℕ) → other ≢ at → get_or new other (pos 0) ≡ get_or old other (pos 0)) → ((slot : ℕ) → get_or old slot (pos 0) ≡ sum_of (in_slot slot slots numbers))
+    → (slot : ℕ) → get_or new slot (pos 0) ≡ sum_of (in_slot slot (slots ++ at ∷ []) (numbers ++ x ∷ []))
+sum-next old new slots numbers at x same own others so_far slot =
+    let xs : List ℤ = in_slot slot slots numbers in
+    let last : List ℤ = cond (at == slot) (x ∷ []) [] in
+    let both : sum_of (in_slot slot (slots ++ at ∷ []) (numbers ++ x ∷ [])) ≡ sum_of xs +ℤ sum_of last = ap sum_of (in_slot-append slot slots (at ∷ []) numbers (x ∷ []) same) ∙ sums.of_both xs last in
+    elim (cases_eq slot at) [
+      | inl e ↦
+          let one : sum_of last ≡ x = ap sum_of (cond-true (at == slot) (x ∷ []) [] (eq-eqb at slot (sym e))) ∙ omega (arith, ints) in
+          let here : get_or new slot (pos 0) ≡ get_or old slot (pos 0) +ℤ x = ap (λ k. get_or new k (pos 0)) e ∙ own ∙ ap (λ k. get_or old k (pos 0) +ℤ x) (sym e) in
+          omega (arith, ints, here, so_far slot, both, one)
+      | inr ne ↦
+          let none : sum_of last ≡ pos 0 = ap sum_of (cond-false (at == slot) (x ∷ []) [] (ne_eqb at slot (λ e. ne (sym e)))) in
+          omega (arith, ints, others slot ne, so_far slot, both, none)
+    ]
+
+pub sums-hold : (count : ℕ) (slots : List ℕ) (numbers : List ℤ) (totals : List ℤ) (column : Column) → column.kind ≡ kinds.Sum → length column.states ≡ count
+    → ((slot : ℕ) → slot < count → state_at column slot ≡ Sum (get_or totals slot (pos 0))) → ((slot : ℕ) → get_or totals slot (pos 0) ≡ sum_of (in_slot slot slots numbers))
+    → HoldsSlots kinds.Sum count slots numbers column
+sums-hold count slots numbers totals column kind_is count_is each are = record {
+  kind_is = kind_is;
+  count_is = count_is;
+  each = λ slot lt. each slot lt ∙ ap Sum (are slot);
+}

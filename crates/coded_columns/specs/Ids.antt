@@ -2,11 +2,18 @@
 use Rattle.std.specs.Prelude.{◌<◌, ℕ, List}
 use Rattle.coded_columns.specs.declared.ids.IdRoom.{IdRoom}
 use Rattle.coded_columns.specs.declared.ids.IdRoom.TheVariants as room
+use Rattle.coded_columns.specs.declared.ids.IdSlices.{IdSlices}
+use Rattle.coded_columns.specs.declared.ids.IdSlices.TheVariants as slices
 
 -- the ids that were added
 abbrev pub ids_in : IdRoom → List ℕ
 ids_in (room.Narrow ids) = ids.items
 ids_in (room.Wide ids) = ids.items
+
+-- the ids where they lie
+abbrev pub seen_ids : IdSlices → List ℕ
+seen_ids (slices.Narrow ids) = ids.now
+seen_ids (slices.Wide ids) = ids.now
 
 -- an id below this takes two bytes
 abbrev pub most_narrow : ℕ

@@ -16,12 +16,14 @@ ghost use Rattle.coded_columns.specs.Slots.{HaveSlots, HoldsSlots, in_slot, numb
 use crate::coded::{Coded, SegmentColumns};
 use crate::counting::counted;
 use crate::ids::Ids;
+use crate::numbering::{number_at, numbers_in};
+use crate::slotted_rows::SlottedRows;
+use crate::summing::summed;
 use agg_laws::AggKind;
-use dictionary::Dictionary;
 use state_columns::{StateColumn, StateRow};
 use std::alloc::Global;
 use table_schema::Agg;
-use values::{NoMemory, Value};
+use values::NoMemory;
 
 /// For each aggregate its states, slot by slot.
 pub fn fold_slots(
@@ -77,18 +79,43 @@ fn fold_agg(
     if let AggKind::Count = agg.kind {
         return counted(alloc, slots, count);
     }
-    let states = units(alloc, agg.kind, count)?;
+    let rows = SlottedRows {
+        slots,
+        places,
+        count,
+    };
     match column_for(segment, agg) {
         Some(column) => {
             let numbers = numbers_in(alloc, column.dictionary)?;
-            let numbers = numbers.as_slice();
-            Ok(with_numbers(states, slots, places, column.ids, numbers))
+            let states = numbered(alloc, agg.kind, rows, column.ids, numbers.as_slice())?;
+            Ok(states)
         }
         None => {
             let none = Ids::none(alloc);
-            Ok(with_numbers(states, slots, places, &none, &[]))
+            let states = numbered(alloc, agg.kind, rows, &none, &[])?;
+            Ok(states)
         }
     }
+}
+
+// The states of one aggregate over the number of each row, by its id.
+fn numbered(
+    alloc: Global,
+    kind: AggKind,
+    rows: SlottedRows<'_>,
+    ids: &Ids,
+    numbers: &[i64],
+) -> Result<StateColumn, NoMemory>
+    ensures states { IfOk result (HoldsSlots kind rows.entry.count rows.entry.slots.now
+        (map (number_at ids.now numbers.now) rows.entry.places.now)) }
+    ensures whole { IfOk result (λ _. AreWhole
+        (map (number_at ids.now numbers.now) rows.entry.places.now)) }
+{
+    if let AggKind::Sum = kind {
+        return summed(alloc, rows, ids, numbers);
+    }
+    let states = units(alloc, kind, rows.count)?;
+    Ok(with_numbers(states, rows.slots, rows.places, ids, numbers))
 }
 
 // The states with the number of each row, by its id, in the row's slot.
@@ -122,28 +149,6 @@ fn column_for<'a>(segment: &SegmentColumns<'a>, agg: &Agg) -> Option<Coded<'a>>
     }
 }
 
-// The numbers that the values of a dictionary are.
-fn numbers_in(alloc: Global, dictionary: &Dictionary) -> Result<Vec<i64>, NoMemory>
-    ensures { IfOk result (λ numbers. numbers.items ≡ map number_of dictionary.now.values) }
-{
-    let count = dictionary.count();
-    let mut numbers = Vec::with_capacity(alloc, count as usize)?;
-    for id in 0..count {
-        numbers.push(number_of(dictionary.value_at(id)))?;
-    }
-    Ok(numbers)
-}
-
-// The number that a value is; a text counts as 0.
-fn number_of(value: &Value) -> i64
-    ensures { result ≡ number_of value.now }
-{
-    match value {
-        Value::Whole(number) => *number,
-        Value::Text(_) => 0,
-    }
-}
-
 // So many states of no value.
 fn units(alloc: Global, kind: AggKind, count: usize) -> Result<StateColumn, NoMemory>
     ensures kind { IfOk result (λ column. column.kind ≡ kind) }
@@ -167,20 +172,9 @@ fn add_numbers(column: &mut StateColumn, slots: &[u32], places: &[u32], ids: &Id
         (map (number_at ids.now numbers.now) places.now) column.new }
     ensures whole { AreWhole (map (number_at ids.now numbers.now) places.now) }
 {
+    let slices = ids.slices();
     for k in 0..slots.len() {
-        let number = number_at(ids, numbers, places[k] as usize);
+        let number = number_at(slices, numbers, places[k] as usize);
         column.add_at(slots[k] as usize, number);
-    }
-}
-
-// The number of a row, by its id; without one it is 0.
-#[inline(always)]
-fn number_at(ids: &Ids, numbers: &[i64], at: usize) -> i64
-    ensures value { result ≡ number_at ids.now numbers.now at }
-    ensures whole { IsWhole result }
-{
-    match numbers.get(ids.at_or_0(at) as usize) {
-        Some(number) => *number,
-        None => 0,
     }
 }

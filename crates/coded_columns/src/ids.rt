@@ -1,7 +1,7 @@
 //! The ids of the rows in a column, in as few bytes as they take.
 
 ghost use Rattle.std.specs.Prelude.{◌≡◌, ◌≤◌, ◌<◌, ◌+◌, ◌++◌, [], ℕ, All, IfOk, OnOk, get_or, length};
-ghost use Rattle.coded_columns.specs.Ids.{HasRoom, IsNarrow, ids_in, most_narrow};
+ghost use Rattle.coded_columns.specs.Ids.{HasRoom, IsNarrow, ids_in, most_narrow, seen_ids};
 
 use std::alloc::Global;
 use std::marker::Model;
@@ -69,17 +69,49 @@ impl Ids {
         Ok(own)
     }
 
-    /// The id of a row; 0 where there is none.
+    /// The ids where they lie, for a loop over many rows.
     #[inline(always)]
-    pub fn at_or_0(&self, row: usize) -> u32
-        ensures { result ≡ get_or self.now row 0 }
+    pub(crate) fn slices(&self) -> IdSlices<'_>
+        ensures { seen_ids result ≡ self.now }
     {
         match &self.room {
-            IdRoom::Narrow(ids) => match ids.get(row) {
+            IdRoom::Narrow(ids) => IdSlices::Narrow(ids.as_slice()),
+            IdRoom::Wide(ids) => IdSlices::Wide(ids.as_slice()),
+        }
+    }
+}
+
+/// The ids of the rows in a column where they lie.
+#[derive(Clone, Copy)]
+pub enum IdSlices<'a> {
+    Narrow(&'a [u16]),
+    Wide(&'a [u32]),
+}
+
+impl IdSlices<'_> {
+    /// The id of a row.
+    #[inline(always)]
+    pub fn at(self, row: usize) -> u32
+        requires { row < length (seen_ids self) }
+        ensures { result ≡ get_or (seen_ids self.entry) row 0 }
+    {
+        match self {
+            IdSlices::Narrow(ids) => u32::from(ids[row]),
+            IdSlices::Wide(ids) => ids[row],
+        }
+    }
+
+    /// The id of a row; 0 where there is none.
+    #[inline(always)]
+    pub fn at_or_0(self, row: usize) -> u32
+        ensures { result ≡ get_or (seen_ids self.entry) row 0 }
+    {
+        match self {
+            IdSlices::Narrow(ids) => match ids.get(row) {
                 Some(id) => u32::from(*id),
                 None => 0,
             },
-            IdRoom::Wide(ids) => match ids.get(row) {
+            IdSlices::Wide(ids) => match ids.get(row) {
                 Some(id) => *id,
                 None => 0,
             },

@@ -6,9 +6,12 @@ mod coded;
 mod counting;
 mod folding;
 mod ids;
+mod numbering;
 mod placed_ids;
 mod ranking;
 mod slots;
+mod slotted_rows;
+mod summing;
 
 pub use coded::{Coded, SegmentColumns};
 pub use folding::fold_slots;

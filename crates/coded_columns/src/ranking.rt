@@ -34,12 +34,10 @@ pub fn refine(
     }
     let mut map = HashMap::new(alloc);
     let mut firsts = Vec::new(alloc);
+    let ids = column.ids.slices();
     for k in 0..slots.len() {
-        let key = key_of(
-            slots[k],
-            column.width,
-            column.ids.at(column.places[k] as usize),
-        );
+        let id = ids.at(column.places[k] as usize);
+        let key = key_of(slots[k], column.width, id);
         slots[k] = slot_in_map(&mut map, &mut firsts, key as u64, k as u32)?;
     }
     Ok(firsts)
@@ -61,12 +59,10 @@ fn refine_by_table(
         column.entry.ids.now column.entry.places.now) (length slots.old) slots.new firsts.items) }
 {
     let mut firsts = Vec::new(alloc);
+    let ids = column.ids.slices();
     for k in 0..slots.len() {
-        let key = key_of(
-            slots[k],
-            column.width,
-            column.ids.at(column.places[k] as usize),
-        );
+        let id = ids.at(column.places[k] as usize);
+        let key = key_of(slots[k], column.width, id);
         slots[k] = slot_in_table(table, &mut firsts, key, k as u32)?;
     }
     Ok(firsts)

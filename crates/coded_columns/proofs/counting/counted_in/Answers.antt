@@ -1,4 +1,4 @@
-use Rattle.std.proofs.Common.{◌≡◌, ◌∙◌, ◌+◌, ◌==◌, ◌<◌, ℕ, List, ap, sym, count_by, get_or, length, arith}
+use Rattle.std.proofs.Common.{◌≡◌, ◌==◌, ℕ, List, count_by, get_or, length, arith}
 use Rattle.coded_columns.proofs.FoldSteps.{counts-hold}
 use Rattle.coded_columns.proofs.counting.counted_in.Goals as goal
 

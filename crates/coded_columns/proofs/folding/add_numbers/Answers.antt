@@ -42,8 +42,9 @@ loop-k-preserved c =
     let slot : ℕ = get_or slots k 0 in
     let z : ℤ = to_z w64 (of_z w64 c.number_at-number.result) in
     let same : z ≡ c.number_at-number.result = to_z-of_z w64 c.number_at-number.result (record { sfits = c.number_at-number.type_inv }) in
-    let is : z ≡ f (get_or places k 0) = same ∙ c.number_at-number.ensures.value in
-    let own : IsWhole (f (get_or places k 0)) = subst IsWhole c.number_at-number.ensures.value c.number_at-number.ensures.whole in
+    let value : c.number_at-number.result ≡ f (get_or places k 0) = c.number_at-number.ensures.value ∙ ap (λ (l : List ℕ). number_at l c.args.numbers.now (get_or places k 0)) c.slices-slices.ensures in
+    let is : z ≡ f (get_or places k 0) = same ∙ value in
+    let own : IsWhole (f (get_or places k 0)) = subst IsWhole value c.number_at-number.ensures.whole in
     let in_slots : k < length slots = c.loop-k-test.true in
     let lt : k < length places = omega (arith, c.requires.slots.same, in_slots) in
     let lengths : length (take k slots) ≡ length (map f (take k places)) =

@@ -1,4 +1,4 @@
-use Rattle.std.proofs.Common.{◌∙◌, ◌+◌, ◌*◌, get_or, ap, arith}
+use Rattle.std.proofs.Common.{◌≡◌, ◌∙◌, ℕ, List, ◌+◌, ◌*◌, get_or, arith, ap}
 use Rattle.coded_columns.specs.Slots.{packed}
 use Rattle.coded_columns.proofs.RankSteps.{rank-step}
 use Rattle.coded_columns.proofs.ranking.refine_by_table.Goals as goal
@@ -9,6 +9,7 @@ loop-k-preserved c =
     let places = c.args.column.places.now in
     let width = c.args.column.width in
     let k = c.loop-k.k in
+    let id_is : c.at-id.result ≡ get_or ids (get_or places k 0) 0 = c.at-id.ensures ∙ ap (λ (l : List ℕ). get_or l (get_or places k 0) 0) c.slices-ids.ensures in
     rank-step (packed c.args.slots.now width ids places) c.args.slots.now k (λ q. get_or c.loop-k.table q 0) (λ q. get_or c.slot_in_table.new.table q 0)
     c.loop-k.slots c.in_ok-slots.field-0 c.loop-k.firsts.items c.slot_in_table.new.firsts.items (omega arith) c.loop-k.invariant
-    c.key_of-key.result (c.key_of-key.ensures ∙ (λ i. c.loop-k.invariant.rest k (omega arith) i * width + c.at.ensures i)) c.in_ok-slots.ensures.slot
+    c.key_of-key.result (c.key_of-key.ensures ∙ (λ i. c.loop-k.invariant.rest k (omega arith) i * width + id_is i)) c.in_ok-slots.ensures.slot

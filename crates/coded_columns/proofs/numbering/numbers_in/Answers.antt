@@ -2,7 +2,7 @@ use Rattle.std.proofs.Common.{◌∙◌, ◌++◌, ◌∷◌, [], ℤ, List, ap,
 use Rattle.std.proofs.lemmas.Int.{to_z-of_z}
 use Rattle.group_table.specs.Groups.{number_of}
 use Rattle.coded_columns.proofs.FoldSteps.{values-next}
-use Rattle.coded_columns.proofs.folding.numbers_in.Goals as goal
+use Rattle.coded_columns.proofs.numbering.numbers_in.Goals as goal
 
 pub loop-id-preserved : goal.loop-id-preserved
 loop-id-preserved c =
