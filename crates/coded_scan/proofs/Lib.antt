@@ -1,3 +1,4 @@
 pub mod MergeSteps
 pub mod RowFilterLemmas
 pub mod AddSteps
+pub mod PlaceSteps

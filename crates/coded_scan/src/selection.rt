@@ -1,10 +1,11 @@
 //! The places of the rows of a block that conditions let through.
 
-ghost use Rattle.std.specs.Prelude.{◌≡◌, ◌+◌, ◌<◌, ◌≤◌, ◌++◌, ◌∷◌, [], ℕ, IfOk, OnOk, cond, get_or, false, true, length};
+ghost use Rattle.std.specs.Prelude.{◌≡◌, ◌+◌, ◌<◌, ◌≤◌, ◌++◌, ℕ, IfOk, OnOk, get_or, false, true, length};
 ghost use Rattle.scan_engine.specs.Selection.{Keeps};
 ghost use Rattle.coded_columns.specs.Coded.{most_rows};
 ghost use Rattle.coded_scan.specs.RowFilters.{AllCover, all_let, covers, lets, passing};
 
+use crate::marked_places::push_marked;
 use crate::marking::{keep_ids, keep_if, keep_marked, marks_of};
 use crate::row_filter::RowFilter;
 use std::alloc::Global;
@@ -83,33 +84,6 @@ fn push_all(block: Block, places: &mut Vec<u32>) -> Result<(), NoMemory>
     places.reserve(block.length)?;
     for at in 0..block.length {
         places.push((block.from + at) as u32)?;
-    }
-    Ok(())
-}
-
-// Adds the places of the rows of a block that are marked.
-fn push_marked(block: Block, marks: &[bool], places: &mut Vec<u32>) -> Result<(), NoMemory>
-    requires count { length marks.now ≡ block.length }
-    requires at_most { block.from + block.length ≤ most_rows }
-    ensures { (holds : ℕ → _) → ((at : ℕ) → at < block.length
-        → get_or marks.now at false ≡ holds (block.from + at))
-        → OnOk result (places.new.items ≡ places.old.items
-        ++ passing holds block.from block.length) }
-{
-    places.reserve(block.length)?;
-    for at in 0..block.length {
-        push_if(places, (block.from + at) as u32, marks[at])?;
-    }
-    Ok(())
-}
-
-// Adds a place where it is marked.
-#[inline(always)]
-fn push_if(places: &mut Vec<u32>, at: u32, mark: bool) -> Result<(), NoMemory>
-    ensures { OnOk result (places.new.items ≡ places.old.items ++ cond mark (at ∷ []) []) }
-{
-    if mark {
-        places.push(at)?;
     }
     Ok(())
 }
