@@ -26,7 +26,7 @@ use Rattle.sql_reply.specs.declared.fault.SqlFault.{SqlFault}
 use Rattle.segment_reads.specs.Logs.{LogsHeadsOf, LogsIn, LogsOf}
 use Rattle.segment_reads.specs.Reads.{LogsEach, LogsOne, ReadsPlanned}
 use Rattle.segment_head.specs.Stored.{HasNoImage}
-use Rattle.segment_opening.specs.Calls.{IsQueryOnHead}
+use Rattle.segment_opening.specs.Calls.{HasOpeningIn, IsQueryOnHead}
 use Rattle.query_executor.specs.Lines.{stats_line}
 use Rattle.query_executor.specs.Steps.{AddsStored, HasGroups, HasLines, IsStoredOverfull}
 use Rattle.query_executor.specs.declared.fault.ExecutorFault.{ExecutorFault}
@@ -81,6 +81,11 @@ pub record AddsSegment {A : Type 0} (query : BoundQuery) (table : Table) (name :
       (LogsOne (ReadsPlanned query table false) table old.held name old.log new.log)
 
 -- ---- the segments of a table
+
+-- the file of each segment has a front and bounds, where files are told
+abbrev pub HaveOpenings : Table → Option Files → List (List ℕ) → Type 0
+HaveOpenings table held names = (at : ℕ) → at < length names
+    → HasOpeningIn table held (get_or names at [])
 
 -- the groups of a query over the rows of all segments, and the lines of these where they are wanted
 pub record IsPassOver (query : BoundQuery) (table : Table) (held : Option Files)

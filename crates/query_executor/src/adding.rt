@@ -18,7 +18,7 @@ use std::alloc::Global;
 use table_schema::{BoundQuery, Table};
 
 /// Adds the rows of a segment whose dictionaries are loaded, as its plan says.
-pub fn add_planned<S: Shelf>(
+pub(crate) fn add_planned<S: Shelf>(
     alloc: Global,
     shelf: &mut S,
     table: &Table,

@@ -1,12 +1,12 @@
 //! The reply to a query over the segments of a table.
-ghost use Rattle.std.specs.Prelude.{◌≡◌, ◌≢◌, false, Ok, Err, IfOk, IfSome};
+ghost use Rattle.std.specs.Prelude.{◌≡◌, ◌≢◌, false, Ok, Err, IfOk, IfSome, OnOk};
 ghost use Rattle.outside.specs.Seen.{seen};
 ghost use Rattle.sql_reply.specs.Asked.{asked};
 ghost use Rattle.sql_reply.specs.SqlReply.{IsOfText};
 ghost use Rattle.sql_reply.specs.declared.fault.SqlFault.{SqlFault};
 ghost use Rattle.sql_reply.specs.declared.fault.SqlFault.TheVariants.{NoMemory};
 ghost use Rattle.query_executor.specs.Answers.{IsBoundReply, IsReply};
-ghost use Rattle.query_executor.specs.Passes.{AreSegmentsOf, IsQueryOver, PassReads, TextReads};
+ghost use Rattle.query_executor.specs.Passes.{AreSegmentsOf, HaveOpenings, IsQueryOver, PassReads, TextReads};
 ghost use Rattle.query_executor.specs.declared.fault.ExecutorFault.TheVariants.{Sql};
 
 use crate::ExecutorFault;
@@ -34,6 +34,7 @@ pub fn reply_to_query<S: Shelf>(
         IsReply table.now files names.now sql.now (Err fault)) }
     ensures of_text { (fault : SqlFault) → result ≡ Err (Sql fault) → IsOfText fault →
         asked table.now false sql.now ≡ Err fault }
+    ensures opens { OnOk result (HaveOpenings table.now (S.held shelf.old) names.now) }
     ensures passes { TextReads table.now names.now sql.now
         (seen S.Shelf shelf.old) (seen S.Shelf shelf.new) result }
 {
@@ -58,6 +59,7 @@ fn reply_to_bound<S: Shelf>(
     ensures refused { (fault : SqlFault) → result ≡ Err (Sql fault) → fault ≢ NoMemory →
         (¬ IsOfText fault) × IfSome (S.held shelf.old) (λ files.
         IsBoundReply table.now files names.now query.now (Err fault)) }
+    ensures opens { OnOk result (HaveOpenings table.now (S.held shelf.old) names.now) }
     ensures passes { PassReads query.now table.now names.now
         (seen S.Shelf shelf.old) (seen S.Shelf shelf.new) result }
 {

@@ -1,5 +1,5 @@
 //! What is said of the plans of the segments of a table for a query.
-ghost use Rattle.std.specs.Prelude.{◌≡◌, ◌≢◌, false, Ok, Err, IfOk, IfSome, length};
+ghost use Rattle.std.specs.Prelude.{◌≡◌, ◌≢◌, false, Ok, Err, IfOk, IfSome, OnOk, length};
 ghost use Rattle.outside.specs.Seen.{seen};
 ghost use Rattle.sql_reply.specs.Asked.{asked};
 ghost use Rattle.sql_reply.specs.SqlReply.{IsOfText};
@@ -7,7 +7,7 @@ ghost use Rattle.sql_reply.specs.declared.fault.SqlFault.{SqlFault};
 ghost use Rattle.sql_reply.specs.declared.fault.SqlFault.TheVariants.{NoMemory};
 ghost use Rattle.query_executor.specs.Explained.{IsExplained};
 ghost use Rattle.query_executor.specs.Lines.{plan_line};
-ghost use Rattle.query_executor.specs.Passes.{AreSegmentsOf, IsQueryOver, LooksAtHeads};
+ghost use Rattle.query_executor.specs.Passes.{AreSegmentsOf, HaveOpenings, IsQueryOver, LooksAtHeads};
 ghost use Rattle.query_executor.specs.Steps.{HasLines};
 ghost use Rattle.query_executor.specs.declared.fault.ExecutorFault.TheVariants.{Sql};
 
@@ -36,6 +36,7 @@ pub fn explain_query<S: Shelf>(
     ensures of_text { (fault : SqlFault) → result ≡ Err (Sql fault) → fault ≢ NoMemory →
         IsOfText fault × (seen S.Shelf shelf.new ≡ seen S.Shelf shelf.old)
         × (asked table.now false sql.now ≡ Err fault) }
+    ensures opens { OnOk result (HaveOpenings table.now (S.held shelf.old) names.now) }
     ensures looks { LooksAtHeads table.now names.now
         (seen S.Shelf shelf.old) (seen S.Shelf shelf.new) result }
 {
@@ -58,6 +59,7 @@ fn explain_bound<S: Shelf>(
         HasLines (plan_line query.now table.now) table.now (S.held shelf.old) names.now
         (length names.now) text) }
     ensures never_wrong { (fault : SqlFault) → result ≡ Err (Sql fault) → fault ≡ NoMemory }
+    ensures opens { OnOk result (HaveOpenings table.now (S.held shelf.old) names.now) }
     ensures looks { LooksAtHeads table.now names.now
         (seen S.Shelf shelf.old) (seen S.Shelf shelf.new) result }
 {

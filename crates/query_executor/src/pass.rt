@@ -6,8 +6,9 @@ ghost use Rattle.group_table.specs.Kept.{IsNew};
 ghost use Rattle.sql_reply.specs.Reply.{most_groups};
 ghost use Rattle.sql_reply.specs.declared.fault.SqlFault.{SqlFault};
 ghost use Rattle.sql_reply.specs.declared.fault.SqlFault.TheVariants.{NoMemory, TooManyGroups};
+ghost use Rattle.segment_opening.specs.Calls.{HasOpeningIn};
 ghost use Rattle.query_executor.specs.Lines.{line_by, stats_line, stats_text};
-ghost use Rattle.query_executor.specs.Passes.{AddsSegment, HasRoomFor, IsPassOver, IsQueryOf, IsQueryOver, PassReads};
+ghost use Rattle.query_executor.specs.Passes.{AddsSegment, HasRoomFor, HaveOpenings, IsPassOver, IsQueryOf, IsQueryOver, PassReads};
 ghost use Rattle.query_executor.specs.Steps.{AddsLine, HaveTooMany};
 ghost use Rattle.query_executor.specs.declared.fault.ExecutorFault.TheVariants.{Sql};
 
@@ -53,7 +54,7 @@ impl Pass {
 
 /// The groups of a query over the rows of the segments of these names, one after the other, and
 /// the line of each where that is wanted.
-pub fn pass_over<S: Shelf>(
+pub(crate) fn pass_over<S: Shelf>(
     alloc: Global,
     shelf: &mut S,
     table: &Table,
@@ -67,6 +68,7 @@ pub fn pass_over<S: Shelf>(
     ensures refused { (fault : SqlFault) → result ≡ Err (Sql fault) → fault ≢ NoMemory →
         (fault ≡ TooManyGroups most_groups)
         × HaveTooMany query.now table.now (S.held shelf.old) names.now most_groups }
+    ensures opens { OnOk result (HaveOpenings table.now (S.held shelf.old) names.now) }
     ensures passes { PassReads query.now table.now names.now
         (seen S.Shelf shelf.old) (seen S.Shelf shelf.new) result }
 {
@@ -98,6 +100,7 @@ fn pass_one<S: Shelf>(
         AddsLine (stats_line query.now table.now) table.now (S.held shelf.old) name.now
         pass.old.lines.items pass.new.lines.items) }
     ensures wants { pass.new.wants_lines ≡ pass.old.wants_lines }
+    ensures opens { OnOk result (HasOpeningIn table.now (S.held shelf.old) name.now) }
 {
     let done = match add_segment(alloc, shelf, table, name, query, &mut pass.groups) {
         Ok(done) => done,

@@ -5,7 +5,7 @@ ghost use Rattle.table_schema.specs.ValidTable.{IsValidTable};
 ghost use Rattle.segment_plan.specs.Explained.{IsDetailed, explained_by};
 ghost use Rattle.segment_plan.specs.Plan.{plan_of};
 ghost use Rattle.query_executor.specs.Lines.{line_by, plan_line};
-ghost use Rattle.segment_opening.specs.Calls.{LooksAtHead};
+ghost use Rattle.segment_opening.specs.Calls.{HasOpeningIn, LooksAtHead};
 ghost use Rattle.query_executor.specs.Passes.{IsQueryOf};
 ghost use Rattle.query_executor.specs.Steps.{AddsLine, IsPlannedIn};
 
@@ -18,7 +18,7 @@ use std::alloc::{AllocError, Global};
 use table_schema::{BoundQuery, Table};
 
 /// Adds the line of the segment of this name: its name, and what its plan for a query is.
-pub fn explain_segment<S: Shelf>(
+pub(crate) fn explain_segment<S: Shelf>(
     alloc: Global,
     shelf: &mut S,
     table: &Table,
@@ -30,6 +30,7 @@ pub fn explain_segment<S: Shelf>(
     ensures ok { OnOk result
         (AddsLine (plan_line query.now table.now) table.now (S.held shelf.old) name.now
         text.old.items text.new.items) }
+    ensures opens { OnOk result (HasOpeningIn table.now (S.held shelf.old) name.now) }
     ensures looks { LooksAtHead table.now name.now
         (seen S.Shelf shelf.old) (seen S.Shelf shelf.new) result }
 {
@@ -65,6 +66,7 @@ fn plan_segment<S: Shelf>(
     requires { IsQueryOf query.now table.now name.now }
     ensures planned { IfOk result (λ found. IsPlannedIn query.now table.now (S.held shelf.old)
         name.now found.head found.plan) }
+    ensures opens { OnOk result (HasOpeningIn table.now (S.held shelf.old) name.now) }
     ensures looks { LooksAtHead table.now name.now
         (seen S.Shelf shelf.old) (seen S.Shelf shelf.new) result }
 {

@@ -13,7 +13,7 @@ pub struct Scanned {
 }
 
 /// None of the rows of a segment with this plan is looked at.
-pub fn nothing(plan: SegmentPlan) -> Scanned
+pub(crate) fn nothing(plan: SegmentPlan) -> Scanned
     ensures plan { result.plan ≡ plan }
     ensures none { result.docs ≡ 0 }
 {

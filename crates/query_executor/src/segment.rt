@@ -1,7 +1,8 @@
 //! The rows of a segment are added to the groups of a query.
-ghost use Rattle.std.specs.Prelude.{IfOk};
+ghost use Rattle.std.specs.Prelude.{IfOk, OnOk};
 ghost use Rattle.outside.specs.Seen.{seen};
 ghost use Rattle.segment_reads.specs.Looked.{IsDoneIn};
+ghost use Rattle.segment_opening.specs.Calls.{HasOpeningIn};
 ghost use Rattle.query_executor.specs.Passes.{AddsSegment, HasRoomFor, IsQueryOf};
 
 use crate::adding::add_planned;
@@ -19,7 +20,7 @@ use table_schema::{BoundQuery, Table};
 /// Adds the rows of the segment of this name that satisfy the filter of a query to its groups, by a
 /// star-tree where one serves the query. Of a segment that its bounds exclude no more than the
 /// front and the bounds is read.
-pub fn add_segment<S: Shelf>(
+pub(crate) fn add_segment<S: Shelf>(
     alloc: Global,
     shelf: &mut S,
     table: &Table,
@@ -33,6 +34,7 @@ pub fn add_segment<S: Shelf>(
         (seen S.Shelf shelf.old) (seen S.Shelf shelf.new) result }
     ensures done { IfOk result (λ done. IsDoneIn query.now table.now (S.held shelf.old) name.now
         done.plan done.docs) }
+    ensures opens { OnOk result (HasOpeningIn table.now (S.held shelf.old) name.now) }
 {
     docs_bound_law();
     let mut head = match open_segment(alloc, shelf, table, name) {

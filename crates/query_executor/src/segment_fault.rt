@@ -7,7 +7,7 @@ use segment_head::EngineFault;
 use sql_reply::{MOST_GROUPS, SqlFault};
 
 /// What the fault of the scan of a segment, by its number, is for the query.
-pub fn fault_at(at: u32, fault: EngineFault) -> ExecutorFault
+pub(crate) fn fault_at(at: u32, fault: EngineFault) -> ExecutorFault
     ensures { result ≡ spec.fault_at at fault }
 {
     match fault {

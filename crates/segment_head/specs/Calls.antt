@@ -1,5 +1,5 @@
 -- What the calls that read a head, or a part of one, ask, tell, are refused by and read.
-use Rattle.std.specs.Prelude.{◌≡◌, ◌≤◌, ◌<◌, ◌^◌, ◌⊎◌, ℕ, List, [], length, Option, Some, Result, IfErr, IfOk, IfSome, IsErrOf, slice_index_or}
+use Rattle.std.specs.Prelude.{◌≡◌, ◌≤◌, ◌<◌, ◌^◌, ◌⊎◌, ℕ, List, [], length, Option, Some, Result, IfErr, IfOk, IfSome, IsErrOf, slice_get, slice_index_or}
 use Rattle.outside.specs.Files.{Files, bytes_of}
 use Rattle.outside.specs.Seen as outside
 use Rattle.outside.specs.Seen.{OnlyReads}
@@ -13,8 +13,8 @@ use Rattle.segment_file.specs.Rules.{FailsAt, HasFront, KeepsRules, heads_in}
 use Rattle.segment_file.specs.declared.fault.HeadFault.{HeadFault}
 use Rattle.segment_file.specs.declared.fault.HeadFault.TheVariants.{NotASegment, ReadFault}
 use Rattle.segment_file.specs.declared.part.Part.{Part}
-use Rattle.segment_file.specs.declared.part.Part.TheVariants.{Bounds, Head}
-use Rattle.segment_head.specs.Heads.{AreIn, IsBare, IsHead, IsHeadOf, IsOpened, IsPartOf, LogsHead, LogsOpened, OfWhole, Seen}
+use Rattle.segment_file.specs.declared.part.Part.TheVariants.{Bounds, Dictionary, Head, Nodes}
+use Rattle.segment_head.specs.Heads.{AreIn, IsBare, IsHead, IsHeadOf, IsOpened, IsPartOf, LogsHead, LogsOpened, OfWhole, Seen, split_of}
 
 -- ---- what is asked
 
@@ -102,3 +102,25 @@ pub record ReadsPart {A : Type 0} (P : A → Seen → Type 0) (table : Table) (h
   pub refused : IfErr result (λ fault. (p : Part) → fault ≡ NotASegment p
       → OfWhole table old.held head (λ _. ⊥))
   pub only_reads : OnlyReads (IsErrOf result ReadFault) old new
+
+-- ---- the part that is named where a part of a head is refused
+
+-- one of these
+abbrev pub Names : {A : Type 0} → (Part → Type 0) → Result A HeadFault → Type 0
+Names P result = IfErr result (λ fault. (p : Part) → fault ≡ NotASegment p → P p)
+
+-- where the number of values of this column is read: the head, where the file ends too early, or
+-- the column's dictionary
+abbrev pub IsCountPart : ℕ → Part → Type 0
+IsCountPart column p = (p ≡ Head) ⊎ (p ≡ Dictionary column)
+
+-- where this is read of the split dimensions of a tree: the same of one of them
+pub record IsSplitPart (split : List ℕ) (p : Part) : Type 0 where
+  pub level : ℕ
+  pub column : ℕ
+  pub at : slice_get split level ≡ Some column
+  pub own : IsCountPart column p
+
+-- where then the nodes of the tree are read: such a part, the head again, or the nodes
+abbrev pub IsNodesPart : Table → ℕ → Part → Type 0
+IsNodesPart table t p = IsSplitPart (split_of table t) p ⊎ ((p ≡ Head) ⊎ (p ≡ Nodes t))

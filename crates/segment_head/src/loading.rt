@@ -2,7 +2,7 @@
 ghost use Rattle.std.specs.Prelude.{◌≡◌, ◌≤◌, ◌<◌, ◌+◌, IfOk, IfSome, MatchOption, OnErr, None, Some, length, slice_get};
 ghost use Rattle.outside.specs.Reads.{LogsUpTo};
 ghost use Rattle.outside.specs.Seen.{seen};
-ghost use Rattle.segment_head.specs.Calls.{IsColumnOf, ReadsPart};
+ghost use Rattle.segment_head.specs.Calls.{IsColumnOf, IsCountPart, Names, ReadsPart};
 ghost use Rattle.segment_head.specs.Heads.{HasCount, IsHeadOf, IsLoaded, IsPartOf, Loads, dictionary_section, with_dictionary};
 
 use crate::Head;
@@ -62,6 +62,7 @@ impl Head {
             LogsUpTo s.place.file s.place.offset (s.place.offset + 4)
             (S.log shelf.old) (S.log shelf.new)) }
         ensures unchanged { IsLoaded self.now column → S.log shelf.new ≡ S.log shelf.old }
+        ensures part { Names (IsCountPart column) result }
     {
         match self.loaded(column) {
             Some(dictionary) => Ok(dictionary.count()),
@@ -81,6 +82,7 @@ impl Head {
         ensures reads { ReadsPart (HasCount column) table.now self.now
             (seen S.Shelf shelf.old) (seen S.Shelf shelf.new) result }
         ensures at_most { IfOk result (λ n. n ≤ self.now.rows) }
+        ensures part { Names (IsCountPart column) result }
         ensures log { IfSome (dictionary_section self.now column) (λ s.
             LogsUpTo s.place.file s.place.offset (s.place.offset + 4)
             (S.log shelf.old) (S.log shelf.new)) }

@@ -1,7 +1,7 @@
 //! The nodes of a tree of a head that is open are read.
 ghost use Rattle.std.specs.Prelude.{◌≡◌, ◌<◌, ◌≤◌, ◌+◌, ◌++◌, ◌∷◌, [], IfOk, IfSome, OnOk, Some, length, slice_get};
 ghost use Rattle.outside.specs.Seen.{seen};
-ghost use Rattle.segment_head.specs.Calls.{IsTreeOf, ReadsPart};
+ghost use Rattle.segment_head.specs.Calls.{IsNodesPart, IsSplitPart, IsTreeOf, Names, ReadsPart};
 ghost use Rattle.segment_head.specs.Heads.{AreKept, HaveCounts, LogsCounts, LogsTree, OfWhole, nodes_section, split_of};
 
 use crate::trees::of_nodes;
@@ -36,6 +36,7 @@ impl Head {
             (HaveCounts (split_of table.now tree) t.counts.items)) }
         ensures keeps { IfOk result (λ t. IfSome (slice_get table.now.settings.trees tree)
             (λ setting. AreKept setting.shape t.counts.items t.nodes)) }
+        ensures part { Names (IsNodesPart table.now tree) result }
         ensures log { LogsTree table.now self.now tree (S.log shelf.old) (S.log shelf.new) }
     {
         let counts = match self.split_counts(alloc, shelf, table, tree) {
@@ -68,6 +69,7 @@ impl Head {
             table.now self.now (seen S.Shelf shelf.old) (seen S.Shelf shelf.new) result }
         ensures each { IfOk result (λ counts. length counts.items
             ≡ length (split_of table.now tree)) }
+        ensures part { Names (IsSplitPart (split_of table.now tree)) result }
         ensures log { LogsCounts self.now (split_of table.now tree)
             (S.log shelf.old) (S.log shelf.new) }
     {

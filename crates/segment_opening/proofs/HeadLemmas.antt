@@ -11,6 +11,8 @@ use Rattle.value_ids.specs.Dictionary.{Distinct}
 use Rattle.segment_file.specs.declared.section.Section.{Section}
 use Rattle.segment_file.specs.Bounds.{bounds_of}
 use Rattle.segment_file.specs.Front.{extents_of}
+use Rattle.segment_head.specs.Calls.{HasOpening}
+use Rattle.segment_head.specs.Heads as heads
 use Rattle.segment_head.specs.Heads.{AreIn, IsHead, IsHeadOf, IsLoaded, IsPartOf, Loads, OfWhole, Seen, dictionary_section, placed}
 use Rattle.segment_file.specs.Rules.{KeepsRules, heads_in}
 use Rattle.segment_file.specs.Reading.{trees_said}
@@ -22,6 +24,7 @@ use Rattle.segment_file.specs.Parts.{columns_of, sections_of}
 use Rattle.segment_head.proofs.Composed.{made_count}
 use Rattle.segment_reads.specs.Logs.{DictionariesEnd, EndsBy, LogsThat}
 use Rattle.segment_head.specs.Stored.{HasNoImage}
+use Rattle.segment_opening.specs.Calls.{HasOpeningIn}
 use Rattle.segment_opening.specs.Opened.{Grows, IsHeadIn, IsSpreadIn}
 use Rattle.segment_reads.proofs.LogLemmas.{through_ends}
 use Rattle.std.specs.Prelude.{OnOk}
@@ -170,3 +173,10 @@ loaded_more names old new n unchanged before now k lt named = by (k == n) refl
         let same : k ≡ n = eqb-true k n is in
         subst (IsLoaded new) (sym same) (now (ap names (sym same) ∙ named))
     by false is = let other = not_same k n is in unchanged k (before k (omega (arith, lt, other)) named)
+
+-- a head that was opened is that of a file with a front and bounds
+pub has_opening : (table : Table) (name file : List ℕ) (held : Option Files) (head : Seen) → file ≡ file_of name
+    → IfSome held (λ files. heads.IsOpened table name file (bytes_of (Some files) file) head) → HasOpeningIn table held name
+has_opening table name file None head is opened = tt
+has_opening table name file (Some files) head is opened =
+    subst (λ f. HasOpening table name (bytes_of (Some files) f)) is (opened.front, head.bounds, opened.has, opened.bounds_are)

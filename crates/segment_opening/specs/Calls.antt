@@ -1,6 +1,6 @@
 -- What the calls that open a segment ask, give, are refused by and read.
-use Rattle.std.specs.Prelude.{◌≡◌, ◌≢◌, ℕ, List, Option, Result, Err, IfSome, IsErrOf, OnOk}
-use Rattle.outside.specs.Files.{Files}
+use Rattle.std.specs.Prelude.{◌≡◌, ◌≢◌, ℕ, List, Option, Some, Result, Err, IfSome, IsErrOf, OnOk}
+use Rattle.outside.specs.Files.{Files, bytes_of}
 use Rattle.outside.specs.Seen.{OnlyReads, Seen}
 use Rattle.table_schema.specs.ValidQuery.{IsValidQuery}
 use Rattle.table_schema.specs.ValidTable.{IsValidTable}
@@ -8,6 +8,7 @@ use Rattle.table_schema.specs.declared.query.BoundQuery.{BoundQuery}
 use Rattle.table_schema.specs.declared.table.Table.{Table}
 use Rattle.segment_file.specs.Names.{file_of}
 use Rattle.segment_file.specs.declared.part.Part.{Part}
+use Rattle.segment_head.specs.Calls.{FailsOpening, HasOpening, IsOpeningPart}
 use Rattle.segment_head.specs.Heads as heads
 use Rattle.segment_head.specs.Stored.{HasNoImage}
 use Rattle.segment_head.specs.declared.fault.EngineFault.{EngineFault}
@@ -25,6 +26,16 @@ pub record IsQueryOnHead (bound : BoundQuery) (table : Table) (head : heads.Seen
 
 -- ---- a head that is opened
 
+-- where files are told: the segment's file has a front and bounds
+abbrev pub HasOpeningIn : Table → Option Files → List ℕ → Type 0
+HasOpeningIn table held name =
+    IfSome held (λ files. HasOpening table name (bytes_of (Some files) (file_of name)))
+
+-- the part is the first that the segment's file lacks, of its front and its bounds
+abbrev pub IsUnopened : Table → Option Files → List ℕ → Part → Type 0
+IsUnopened table held name part = IsOpeningPart part
+    × IfSome held (λ files. FailsOpening table name (bytes_of (Some files) (file_of name)) part)
+
 -- the head of the segment of this name: where its sections are, and where files are told, that of
 -- the image that its file is
 pub record IsOpened (table : Table) (held : Option Files) (name : List ℕ) (head : heads.Seen)
@@ -34,6 +45,7 @@ pub record IsOpened (table : Table) (held : Option Files) (name : List ℕ) (hea
   pub image : IsHeadIn table held name head
   pub ends : IfSome held (λ files. EndsInHead table files name head)
   pub spread : IsSpreadIn table held name head
+  pub opening : HasOpeningIn table held name
 
 -- the head of the segment of this name alone was read, or it is refused
 pub record LooksAtHead {A : Type 0} (table : Table) (name : List ℕ) (old new : Seen)

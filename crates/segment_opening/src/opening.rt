@@ -1,8 +1,10 @@
 //! A segment of a table is opened.
-ghost use Rattle.std.specs.Prelude.{IfOk};
+ghost use Rattle.std.specs.Prelude.{◌≡◌, Err, IfOk};
 ghost use Rattle.outside.specs.Seen.{seen};
 ghost use Rattle.segment_file.specs.Names.{IsSegmentOf};
-ghost use Rattle.segment_opening.specs.Calls.{IsOpened, LooksAtHead};
+ghost use Rattle.segment_file.specs.declared.part.Part.{Part};
+ghost use Rattle.segment_head.specs.declared.fault.EngineFault.TheVariants.{NotASegment};
+ghost use Rattle.segment_opening.specs.Calls.{IsOpened, IsUnopened, LooksAtHead};
 
 use outside::Shelf;
 use segment_file::{image_keeps_law, segment_file_name};
@@ -19,6 +21,8 @@ pub fn open_segment<S: Shelf>(
 ) -> Result<Head, EngineFault>
     requires { IsSegmentOf table.now name.now }
     ensures opened { IfOk result (IsOpened table.now (S.held shelf.old) name.now) }
+    ensures first { (part : Part) → result ≡ Err (NotASegment part) →
+        IsUnopened table.now (S.held shelf.old) name.now part }
     ensures looks { LooksAtHead table.now name.now
         (seen S.Shelf shelf.old) (seen S.Shelf shelf.new) result }
 {

@@ -9,7 +9,7 @@ use std::alloc::{AllocError, Global};
 use table_schema::{BoundQuery, Table, TreeSetting};
 
 /// A mark for each of so many columns, whether the answer of a segment wants it.
-pub fn wanted_columns(
+pub(crate) fn wanted_columns(
     alloc: Global,
     query: &BoundQuery,
     by_tree: bool,
@@ -38,7 +38,7 @@ fn is_keyed(query: &BoundQuery, column: u16) -> bool
 
 /// A mark for each of so many columns, whether the plan of a segment wants it, or where this
 /// star-tree is picked what is said of its bound.
-pub fn detailed_columns(
+pub(crate) fn detailed_columns(
     alloc: Global,
     query: &BoundQuery,
     table: &Table,

@@ -1,7 +1,8 @@
 -- The answer of a segment from a star-tree of its file, by that from the tree.
-use Rattle.std.proofs.Common.{◌≡◌, ◌∙◌, ◌<◌, ◌≤◌, ◌+◌, ◌*◌, ℕ, List, [], ◌∷◌, length, map, Option, suc, Bool, true, false, Some, None, IfSome, inr, refl, sym, ap, subst, arith, drop, mul-le-mul_right, length-take}
+use Rattle.std.proofs.Common.{◌≡◌, ◌∙◌, ◌<◌, ◌≤◌, ◌+◌, ◌*◌, ℕ, List, [], ◌∷◌, length, map, Option, suc, Bool, true, false, Some, None, IfSome, inl, inr, refl, sym, ap, subst, arith, drop, mul-le-mul_right, length-take}
 use Rattle.std.specs.Prelude.{if◌then◌else◌, slice_get}
 use Rattle.std.specs.List.{AllByRecursion}
+use Rattle.std.proofs.lemmas.Option.{slice_get_within}
 use Rattle.outside.specs.Files.{Files, bytes_of}
 use Rattle.outside.specs.Reads.{Entry}
 use Rattle.outside.specs.declared.place.Place.{Place}
@@ -18,7 +19,9 @@ use Rattle.scan_engine.specs.Scanned as scan
 use Rattle.eligibility.specs.Rule.{is_eligible, picked, picked_from}
 use Rattle.star_file.specs.Reading.{doc_width, section}
 use Rattle.segment_file.specs.declared.trees.TreeNodes.{TreeNodes}
+use Rattle.segment_file.specs.declared.part.Part.{Part}
 use Rattle.segment_file.specs.declared.part.Part.TheVariants.{Star}
+use Rattle.segment_head.specs.Calls.{IsNodesPart}
 use Rattle.segment_head.specs.Heads.{AreKept, HaveCounts, IsHeadOf, LogsTree, OfWhole, Seen, place_in, split_of}
 use Rattle.segment_file.specs.Ordered.{ordered}
 use Rattle.segment_head.specs.Stored.{IsNoImage, IsOfImage}
@@ -41,7 +44,7 @@ use Rattle.star_reader.specs.Answers.{Answers, IsBad, IsOverfull, IsTree, asked_
 use Rattle.star_reader.specs.Asked.{AreAsked, IsTableFor}
 use Rattle.star_answer.specs.DocLaws.{WalkReadsDocs}
 use Rattle.segment_reads.specs.Docs.{docs_read}
-use Rattle.star_answer.specs.Segments.{AddsAnswer, AreDocsRead, IsAnswerOverfull, IsInside, LogsAnswer, LogsAnswerPartly, LogsDocs, stretches_in}
+use Rattle.star_answer.specs.Segments.{AddsAnswer, AreDocsRead, IsAnswerOverfull, IsBadTree, MayServe, IsInside, LogsAnswer, LogsAnswerPartly, LogsDocs, stretches_in}
 use Rattle.star_answer.specs.Served.{AsksFor, IsServed}
 use Rattle.star_answer.specs.Tasks.{AreColumnsOf, ArePairsOf, split_values}
 use Rattle.segment_plan.specs.Named.{AreGroupsLoaded}
@@ -49,19 +52,13 @@ use Rattle.star_answer.proofs.AnswerSteps.{PicksWithin, reads_many, reads_within
 use Rattle.star_answer.proofs.ImageSteps as image
 use Rattle.star_answer.proofs.ImageSteps.{Stands}
 
--- ---- the tree that is picked
-
-pub record IsPicked (query : BoundQuery) (trees : List TreeSetting) (t : ℕ) : Type 0 where
-  pub setting : TreeSetting
-  pub at : slice_get trees t ≡ Some setting
-  pub lt : t < length trees
-  pub eligible : is_eligible query setting ≡ true
+-- ---- the tree that is picked may serve the query
 
 -- it is among these trees, of which the first has the number n
 record IsAmong (query : BoundQuery) (n t : ℕ) (trees : List TreeSetting) : Type 0 where
   place : ℕ
   number : t ≡ n + place
-  there : IsPicked query trees place
+  there : MayServe query trees place
 
 one-more : (query : BoundQuery) (n t : ℕ) (tree : TreeSetting) (trees : List TreeSetting) (b : Bool)
     → is_eligible query tree ≡ b → (picked_from query (n + 1) trees ≡ Some t
@@ -73,19 +70,17 @@ one-more query n t tree trees true own later e =
     record {
       place = 0;
       number = omega (arith, same);
-      there = record { setting = tree; at = refl; lt = omega arith; eligible = own };
+      there = record { setting = tree; at = refl; eligible = own };
     }
 one-more query n t tree trees false own later e =
     let found = later e in
     let number = found.number in
-    let below = found.there.lt in
     record {
       place = suc found.place;
       number = omega (arith, number);
       there = record {
         setting = found.there.setting;
         at = found.there.at;
-        lt = omega (arith, below);
         eligible = found.there.eligible;
       };
     }
@@ -96,13 +91,20 @@ picked-at query n t [] is = absurd cc
 picked-at query n t (tree ∷ trees) is =
     one-more query n t tree trees (is_eligible query tree) refl (picked-at query (n + 1) t trees) is
 
-pub picked_there : (query : BoundQuery) (trees : List TreeSetting) (t : ℕ)
-    → picked query trees ≡ Some t → IsPicked query trees t
-picked_there query trees t is =
+pub picked_eligible : (query : BoundQuery) (trees : List TreeSetting) (t : ℕ)
+    → picked query trees ≡ Some t → MayServe query trees t
+picked_eligible query trees t is =
     let found = picked-at query 0 t trees is in
     let number = found.number in
     let same : found.place ≡ t = omega (arith, number) in
-    subst (IsPicked query trees) same found.there
+    subst (MayServe query trees) same found.there
+
+-- ---- a tree that may serve the query
+
+-- it is one of the trees
+pub eligible_there : (query : BoundQuery) (trees : List TreeSetting) (t : ℕ)
+    → MayServe query trees t → t < length trees
+eligible_there query trees t e = slice_get_within trees t e.setting e.at
 
 -- ---- the laws of answers
 
@@ -312,7 +314,7 @@ pub ready_so : (query : BoundQuery) (table : Table) (head : Seen) (t : ℕ) (set
     (part : TreePart) (task : Task) (asked : Asked) (said : TreeNodes) (counts : List ℕ)
     (place : Place) (columns : List GroupColumn) (pairs : List ℕ) (held : Option Files)
     → IsValidTable table → IsHeadOf table head → IsValidQuery table query
-    → picked query table.settings.trees ≡ Some t → AreLoaded query.conjuncts head
+    → MayServe query table.settings.trees t → AreLoaded query.conjuncts head
     → AreGroupsLoaded query.groups head → slice_get table.settings.trees t ≡ Some setting
     → OfWhole table held head (λ whole. slice_get whole.trees t ≡ Some (Some said))
     → OfWhole table held head (HaveCounts (split_of table t) counts)
@@ -325,9 +327,8 @@ pub ready_so : (query : BoundQuery) (table : Table) (head : Seen) (t : ℕ) (set
     → asked.columns.now ≡ columns → ArePairsOf query.aggs setting.pairs pairs
     → asked.pairs.now ≡ pairs → IsReady query table head t setting part task asked said held
 ready_so query table head t setting part task asked said counts place columns pairs held valid
-    of-table query-valid is-picked loaded groups-loaded at nodes counted kept shape-is counts-is
+    of-table query-valid eligible loaded groups-loaded at nodes counted kept shape-is counts-is
     nodes-are place-is placed each entries asks columns-are columns-is pairs-are pairs-is =
-    let there = picked_there query table.settings.trees t is-picked in
     let own : AreKept setting.shape counts said =
     subst (λ o. IfSome o (λ x. AreKept x.shape counts said)) at kept in
     record {
@@ -336,7 +337,7 @@ ready_so query table head t setting part task asked said counts place columns pa
         of_table = of-table;
         query_valid = query-valid;
         at = at;
-        lt = there.lt;
+        lt = eligible_there query table.settings.trees t eligible;
         loaded = loaded;
         groups_loaded = groups-loaded;
         shape_is = shape-is;
@@ -355,15 +356,14 @@ ready_so query table head t setting part task asked said counts place columns pa
           (sym counts-is) counted;
     }
 
--- the setting of the tree that is picked is eligible
-pub picked_eligible : (query : BoundQuery) (trees : List TreeSetting) (t : ℕ)
-    (setting : TreeSetting) → picked query trees ≡ Some t → slice_get trees t ≡ Some setting
+-- the setting of its number is eligible
+pub setting_eligible : (query : BoundQuery) (trees : List TreeSetting) (t : ℕ)
+    (setting : TreeSetting) → MayServe query trees t → slice_get trees t ≡ Some setting
     → is_eligible query setting ≡ true
-picked_eligible query trees t setting is at =
-    let there = picked_there query trees t is in
-    let same : Some there.setting ≡ Some setting = sym there.at ∙ at in
-    let that : there.setting ≡ setting = cc in
-    subst (λ x. is_eligible query x ≡ true) that there.eligible
+setting_eligible query trees t setting e at =
+    let same : Some e.setting ≡ Some setting = sym e.at ∙ at in
+    let that : e.setting ≡ setting = cc in
+    subst (λ x. is_eligible query x ≡ true) that e.eligible
 
 -- its setting is valid
 pub setting_valid : (table : Table) (t : ℕ) (setting : TreeSetting) → IsValidTable table
@@ -372,11 +372,18 @@ setting_valid table t setting valid at =
     valid_at table.schema.fields table.settings.trees t setting valid.settings.trees_valid at
 
 -- a head that is refused is of no image
-pub none_whole : (table : Table) (head : Seen) (held : Option Files)
+none_whole : (table : Table) (head : Seen) (held : Option Files)
     → OfWhole table held head (λ _. ⊥) → IsNoImage table held head
 none_whole table head None none = tt
 none_whole table head (Some files) none = λ rows of.
     image.of_whole table files rows head (λ _. ⊥) none of
+
+-- it is refused for a rule on the head
+pub bad_nodes_tree : (query : BoundQuery) (table : Table) (head : Seen) (held : Option Files)
+    (t : ℕ) (part : Part) → IsNodesPart table t part → OfWhole table held head (λ _. ⊥)
+    → IsBadTree query table held head t part
+bad_nodes_tree query table head held t part named none =
+    (inl (named, none), none_whole table head held none)
 
 module _ (query : BoundQuery) (table : Table) (head : Seen) (t : ℕ) (setting : TreeSetting)
     (part : TreePart) (task : Task) (asked : Asked) (said : TreeNodes) (held now : Option Files)
@@ -411,11 +418,46 @@ module _ (query : BoundQuery) (table : Table) (head : Seen) (t : ℕ) (setting :
       overfull query table head t setting part task asked said r.stands law law-over held r.nodes
       r.counts old of-query (subst (λ h. IsOverfull part task asked h old) same over)
 
-  pub ready_bad : NeverBad → IsBad part task asked rows now → IsNoImage table held head
+  pub ready_bad : NeverBad → IsBad part task asked rows now
+      → IsBadTree query table held head t (Star t)
   ready_bad never bad =
-      no_image query table head t setting part task asked said r.stands law never held r.nodes r.counts
-      (subst (λ h. IsBad part task asked head.rows h) same
-      (subst (λ n. IsBad part task asked n now) rows-are bad))
+      let own : IsBad part task asked head.rows held =
+      subst (λ h. IsBad part task asked head.rows h) same
+      (subst (λ n. IsBad part task asked n now) rows-are bad) in (
+        inr (record {
+          named = refl;
+          of = part;
+          task = task;
+          asked = asked;
+          asks = record {
+            setting = setting;
+            at = r.stands.at;
+            shape = r.stands.shape_is;
+            placed = r.stands.placed;
+            nodes = said_nodes held r.nodes;
+            asks = r.stands.asks;
+            columns = r.stands.columns;
+            pairs = r.stands.pairs;
+          };
+          bad = own;
+        }),
+        no_image query table head t setting part task asked said r.stands law never held r.nodes
+            r.counts own,
+      )
+    where
+      said_so : (o : Option (Option TreeNodes)) → o ≡ Some (Some said)
+          → IfSome o (λ loaded. IfSome loaded (λ tree. part.nodes.now ≡ tree.nodes))
+      said_so o is = subst
+          (λ x. IfSome x (λ loaded. IfSome loaded (λ tree. part.nodes.now ≡ tree.nodes)))
+          (sym is) r.stands.nodes_are
+
+      said_nodes : (h : Option Files)
+          → OfWhole table h head (λ whole. slice_get whole.trees t ≡ Some (Some said))
+          → OfWhole table h head (λ whole. IfSome (slice_get whole.trees t)
+          (λ loaded. IfSome loaded (λ tree. part.nodes.now ≡ tree.nodes)))
+      said_nodes None nodes = tt
+      said_nodes (Some files) nodes = λ name file whole is_head is_part.
+          said_so (slice_get whole.trees t) (nodes name file whole is_head is_part)
 
   pub ready_log : WalkReadsDocs → PicksWithin → (n : ℕ) (old between new : Option (List Entry))
       → n ≡ read_of (picks_of part task) → LogsTree table head t old between

@@ -21,7 +21,7 @@ use std::alloc::Global;
 /// Merges the states of the documents that a query reads of a star-tree, of those that pass their
 /// remaining tests, into the groups of their keys, and answers how many documents were read. Of the
 /// section of documents just these are read, each pick once, with one read for neighbours.
-pub fn answer_tree<S: Shelf>(
+pub(crate) fn answer_tree<S: Shelf>(
     alloc: Global,
     shelf: &mut S,
     tree: &TreePart<'_>,

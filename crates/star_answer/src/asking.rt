@@ -15,7 +15,7 @@ use std::alloc::Global;
 use table_schema::{Agg, BoundQuery, TreeSetting};
 
 /// The group columns of a query, in its order: which split dimension each is, and its values.
-pub fn group_columns<'a>(
+pub(crate) fn group_columns<'a>(
     alloc: Global,
     query: &BoundQuery,
     tree: &TreeSetting,
@@ -55,7 +55,7 @@ fn place_of(split: &[u16], column: u16) -> u8
 }
 
 /// For each aggregate of a query, the number of the pair of a tree that it is.
-pub fn pair_numbers(
+pub(crate) fn pair_numbers(
     alloc: Global,
     query: &BoundQuery,
     tree: &TreeSetting,

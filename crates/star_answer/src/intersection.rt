@@ -15,7 +15,7 @@ use value_ids::{IdSet, intersection_of};
 
 /// The ids of the values of a column that satisfy each conjunct that names it alone, or `None`
 /// where no conjunct does.
-pub fn matched_ids(
+pub(crate) fn matched_ids(
     alloc: Global,
     conjuncts: &[Conjunct],
     column: u16,

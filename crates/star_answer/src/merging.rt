@@ -20,7 +20,7 @@ use std::alloc::Global;
 use values::NoMemory;
 
 /// Merges documents that were selected into the groups of their keys.
-pub fn merge_documents(
+pub(crate) fn merge_documents(
     alloc: Global,
     columns: &[GroupColumn<'_>],
     selected: StarTable,

@@ -1,13 +1,14 @@
 //! A segment is answered from a star-tree of its file.
 
 ghost use Rattle.std.specs.Prelude.{◌≡◌, ◌<◌, Err, IfOk, IsErrOf, OnErr, OnOk, Some, length};
+ghost use Rattle.std.specs.FinMap as finite;
 ghost use Rattle.outside.specs.Seen.{OnlyReads, seen};
+ghost use Rattle.group_table.specs.Kept.{groups_in};
 ghost use Rattle.segment_file.specs.declared.part.Part.{Part};
 ghost use Rattle.segment_file.specs.declared.part.Part.TheVariants as parts;
 ghost use Rattle.segment_head.specs.Heads.{IsHeadOf, place_in};
-ghost use Rattle.segment_head.specs.Stored.{IsNoImage};
 ghost use Rattle.segment_head.specs.declared.fault.EngineFault.TheVariants.{NotASegment, ReadFault, TooManyGroups};
-ghost use Rattle.star_answer.specs.Segments.{AddsAnswer, AreDocsRead, IsAnswerOverfull, IsServable, LogsAnswer, LogsAnswerPartly};
+ghost use Rattle.star_answer.specs.Segments.{AddsAnswer, AreDocsRead, IsAnswerOverfull, IsBadTree, IsServable, LogsAnswer, LogsAnswerPartly};
 
 use crate::answer::answer_tree;
 use crate::asking::{group_columns, pair_numbers};
@@ -44,8 +45,10 @@ pub fn answer_segment<S: Shelf>(
         groups.old groups.new) }
     ensures full { result ≡ Err TooManyGroups →
         IsAnswerOverfull query.now table.now (S.held shelf.old) head.now groups.old }
+    ensures filled { result ≡ Err TooManyGroups →
+        finite.len (groups_in groups.new) ≡ groups.old.most }
     ensures bad { (part : Part) → result ≡ Err (NotASegment part) →
-        IsNoImage table.now (S.held shelf.old) head.now }
+        IsBadTree query.now table.now (S.held shelf.old) head.now tree part }
     ensures only_reads { OnlyReads (IsErrOf result ReadFault)
         (seen S.Shelf shelf.old) (seen S.Shelf shelf.new) }
     ensures log { IfOk result (λ count. LogsAnswer query.now table.now (S.held shelf.old) head.now

@@ -20,7 +20,7 @@ use value_ids::IdSet;
 
 /// For each split dimension of a tree: the ids of the values that satisfy all conjuncts on it,
 /// where there are such conjuncts, and whether the query groups by it.
-pub fn tree_task(
+pub(crate) fn tree_task(
     alloc: Global,
     query: &BoundQuery,
     tree: &TreeSetting,

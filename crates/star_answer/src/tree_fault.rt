@@ -11,7 +11,7 @@ use segment_head::EngineFault;
 use star_reader::AnswerFault;
 
 /// What a fault of the answer from a tree is for the segment.
-pub fn of_tree(fault: AnswerFault, tree: u8) -> EngineFault
+pub(crate) fn of_tree(fault: AnswerFault, tree: u8) -> EngineFault
     ensures bad { (part : Part) → result ≡ segments.NotASegment part → fault ≡ trees.BadDocs }
     ensures part { fault ≡ trees.BadDocs → result ≡ segments.NotASegment (parts.Star tree) }
     ensures full { result ≡ segments.TooManyGroups → fault ≡ trees.TooManyGroups }

@@ -27,6 +27,7 @@ use Rattle.query_executor.proofs.EndLemmas.{fault_if, fault_not, fault_ok, gives
 use Rattle.segment_reads.proofs.LogLemmas.{logs_none, reads_as}
 use Rattle.segment_head.specs.declared.fault.EngineFault.TheVariants as engine
 use Rattle.query_executor.proofs.PlanLemmas.{is_empty_so, is_pruned_so, picked_within, planned_as, scan_planned, scan_unpicked, tree_planned}
+use Rattle.star_answer.proofs.SegmentSteps.{picked_eligible}
 use Rattle.star_answer.proofs.TreeLogs.{answer_in_file, answer_partly}
 use Rattle.segment_scan.proofs.ScanLogs.{scan_in_file, scan_partly}
 use Rattle.query_executor.proofs.SegmentLemmas.{adds_answered, adds_none, adds_scanned, bad_answered, bad_scanned, overfull_answered, overfull_scanned, room}
@@ -76,7 +77,7 @@ answer_segment-requires g c =
       valid = c.requires.loaded.asked.valid;
       of_table = c.requires.loaded.asked.of_table;
       query_valid = c.requires.loaded.asked.query;
-      is_picked = tree_planned query table head tree planned;
+      eligible = picked_eligible query table.settings.trees tree (tree_planned query table head tree planned);
       loaded = c.requires.loaded.filtered;
       groups_loaded = c.requires.loaded.grouped;
       of_query = c.requires.room.of_query;
@@ -250,7 +251,7 @@ returns-in-Err-answer_segment g c =
             (c.in-Err-answer_segment.ensures.full (ap Err (own_fault _ fault engine.TooManyGroups e))) is;
         bad = λ part e.
             bad_answered query table name head a.held
-            (c.in-Err-answer_segment.ensures.bad part (ap Err (own_fault _ fault (engine.NotASegment part) e))) is;
+            (c.in-Err-answer_segment.ensures.bad part (ap Err (own_fault _ fault (engine.NotASegment part) e))).1 is;
         only_reads = reads_failed _ _ fault engine.ReadFault a b c.in-Err-answer_segment.ensures.only_reads;
         log = answer_partly table c.requires.loaded.asked.valid head c.requires.loaded.asked.of_table (file_of name) inside query a.held tree a.log b.log within c.in-Err-answer_segment.ensures.log_of_fault;
         reads = tt;

@@ -2,6 +2,8 @@ use Rattle.std.proofs.Common.{◌≡◌, ◌∙◌, ◌<◌, [], ℕ, List, IfSo
 use Rattle.std.specs.List.{Contains}
 use Rattle.outside.specs.Seen.{Seen, seen}
 use Rattle.segment_head.specs.declared.fault.EngineFault.TheVariants as engine
+use borrow.Author.Count.{below_more, below_none}
+use Rattle.segment_opening.specs.Calls.{HasOpeningIn}
 use Rattle.query_executor.specs.Lines.{plan_line}
 use Rattle.segment_reads.specs.Logs.{IsHeadRead}
 use Rattle.segment_head.specs.Stored.{HasNoImage}
@@ -17,6 +19,7 @@ use Rattle.query_executor.proofs.explain.explain_bound.Goals as goal
 pub names-init : goal.names-init
 names-init g c = record {
   so_far = subst (HasLines (plan_line c.args.query.now c.args.table.now) c.args.table.now (g.S.Shelf.held c.args.shelf.now) c.args.names.now 0) (sym c.new-text.ensures.items) (no_lines (plan_line c.args.query.now c.args.table.now) c.args.table.now c.args.names.now (g.S.Shelf.held c.args.shelf.now));
+  opens = below_none (λ k. HasOpeningIn c.args.table.now (g.S.Shelf.held c.args.shelf.now) (get_or c.args.names.now k []));
   reads = reads_none (seen g.S.Shelf c.args.shelf.now);
   log = entries_none (λ entry. (name : List ℕ) × Contains c.args.names.now name × IsHeadRead c.args.table.now (g.S.Shelf.held c.args.shelf.now) name entry) (g.S.Shelf.log c.args.shelf.now);
 }
@@ -37,6 +40,11 @@ names-preserved g c =
     (subst (λ held. AddsLine (plan_line query table) table held text c.names.text.items c.explain_segment.new.text.items) c.names.invariant.reads.held c.in-Ok.ensures.ok) in
     record {
       so_far = lines_more (plan_line query table) table names a.held c.names.at c.names.text.items c.explain_segment.new.text.items lt c.names.invariant.so_far added;
+      opens =
+          let own : HasOpeningIn table a.held (get_or names c.names.at []) =
+          subst (λ name. HasOpeningIn table a.held name) is
+          (subst (λ held. HasOpeningIn table held text) c.names.invariant.reads.held c.in-Ok.ensures.opens) in
+          below_more (λ k. HasOpeningIn table a.held (get_or names k [])) c.names.at c.names.invariant.opens own;
       reads = reads_then a b d c.names.invariant.reads (reads_as b d c.in-Ok.ensures.looks.only_reads (λ e. absurd e) (λ e. absurd cc));
       log = heads_more table names c.names.at text a.held b.held a.log b.log d.log lt is c.names.invariant.reads.held c.names.invariant.log c.in-Ok.ensures.looks.log;
     }
@@ -85,3 +93,9 @@ returns-clause-looks g c = record {
   only_reads = reads_as (seen g.S.Shelf c.args.shelf.now) (seen g.S.Shelf c.names.shelf) c.names.invariant.reads (λ e. absurd cc) (λ e. absurd e);
   log = c.names.invariant.log;
 }
+
+pub returns-clause-opens : goal.returns-clause-opens
+returns-clause-opens g c = λ at lt.
+    let names : List (List ℕ) = c.args.names.now in
+    let done : c.names.at ≡ length names = omega arith in
+    c.names.invariant.opens at (omega (arith, done, lt))

@@ -1,4 +1,6 @@
+use Rattle.std.proofs.Common.{◌<◌, ℕ, [], get_or}
 use Rattle.outside.specs.Seen.{OnlyReads, seen}
+use Rattle.segment_opening.specs.Calls.{HasOpeningIn}
 use Rattle.query_executor.specs.Lines.{plan_line}
 use Rattle.segment_reads.specs.Logs.{LogsHeadsOf}
 use Rattle.query_executor.specs.Steps.{HasLines}
@@ -7,6 +9,7 @@ use Rattle.query_executor.proofs.explain.explain_bound.Given as goal
 abbrev pub invariant-names : goal.invariant-names
 invariant-names g l = record {
   so_far : HasLines (plan_line l.query l.table) l.table (g.S.Shelf.held l.fn.shelf) l.names l.at l.text.items;
+  opens : (k : ℕ) → k < l.at → HasOpeningIn l.table (g.S.Shelf.held l.fn.shelf) (get_or l.names k []);
   reads : OnlyReads ⊥ (seen g.S.Shelf l.fn.shelf) (seen g.S.Shelf l.shelf);
   log : LogsHeadsOf l.table (g.S.Shelf.held l.fn.shelf) l.names (g.S.Shelf.log l.fn.shelf) (g.S.Shelf.log l.shelf);
 }

@@ -11,6 +11,8 @@ use Rattle.scan_engine.proofs.AddLemmas.{at_most_more}
 use Rattle.sql_reply.proofs.GroupLemmas.{none_fit}
 use Rattle.segment_reads.specs.Logs.{IsFileOf}
 use Rattle.segment_head.specs.Stored.{HasNoImage}
+use borrow.Author.Count.{below_more, below_none}
+use Rattle.segment_opening.specs.Calls.{HasOpeningIn}
 use Rattle.query_executor.specs.Lines.{stats_line}
 use Rattle.query_executor.specs.Steps.{AddsLine, AddsStored, HasGroups, HasLines, IsStoredOverfull, fault_at}
 use Rattle.query_executor.proofs.LineLemmas.{lines_more, no_lines}
@@ -37,6 +39,7 @@ names-init g c = record {
   so_far = no_groups c.args.query.now c.args.table.now c.args.names.now (g.S.Shelf.held c.args.shelf.now) c.in_ok-pass.pass.groups c.in_ok-pass.ensures.groups;
   wants = c.in_ok-pass.ensures.wants;
   lines = λ wanted. subst (HasLines (stats_line c.args.query.now c.args.table.now) c.args.table.now (g.S.Shelf.held c.args.shelf.now) c.args.names.now 0) (sym c.in_ok-pass.ensures.lines) (no_lines (stats_line c.args.query.now c.args.table.now) c.args.table.now c.args.names.now (g.S.Shelf.held c.args.shelf.now));
+  opens = below_none (λ k. HasOpeningIn c.args.table.now (g.S.Shelf.held c.args.shelf.now) (get_or c.args.names.now k []));
   reads = reads_none (seen g.S.Shelf c.args.shelf.now);
   log = logs_none (IsFileOf c.args.names.now) (g.S.Shelf.log c.args.shelf.now);
   files = none_before c.args.names.now (g.S.Shelf.log c.args.shelf.now);
@@ -84,6 +87,11 @@ names-preserved g c =
       lines = λ wanted. lines_more (stats_line query table) table names a.held c.names.at c.names.pass.lines.items c.pass_one.new.pass.lines.items lt (c.names.invariant.lines wanted)
           (subst (λ name. AddsLine (stats_line query table) table a.held name c.names.pass.lines.items c.pass_one.new.pass.lines.items) is
           (subst (λ held. AddsLine (stats_line query table) table held text c.names.pass.lines.items c.pass_one.new.pass.lines.items) c.names.invariant.reads.held (c.in-Ok.ensures.lines (c.names.invariant.wants ∙ wanted))));
+      opens =
+          let own : HasOpeningIn table a.held (get_or names c.names.at []) =
+          subst (λ name. HasOpeningIn table a.held name) is
+          (subst (λ held. HasOpeningIn table held text) c.names.invariant.reads.held c.in-Ok.ensures.opens) in
+          below_more (λ k. HasOpeningIn table a.held (get_or names k [])) c.names.at c.names.invariant.opens own;
       reads = reads_then a b d c.names.invariant.reads (reads_as b d c.in-Ok.ensures.adds.only_reads (λ e. absurd e) (λ e. absurd cc));
       log = logs_then (IsFileOf names) a.log b.log d.log c.names.invariant.log
           (logs_as (λ file. file ≡ file_of text) (IsFileOf names) b.log d.log (λ file e. (get_or names c.names.at [], among names c.names.at lt, e ∙ ap file_of is)) c.in-Ok.ensures.adds.log);
@@ -187,3 +195,9 @@ returns-clause-passes g c = record {
       subst (λ k. LogsEach (ReadsPlanned c.args.query.now c.args.table.now true) c.args.table.now (g.S.Shelf.held c.args.shelf.now) names k (g.S.Shelf.log c.args.shelf.now) (g.S.Shelf.log c.names.shelf)) done c.names.invariant.each;
   reads_of_fault = tt;
 }
+
+pub returns-clause-opens : goal.returns-clause-opens
+returns-clause-opens g c = λ at lt.
+    let names : List (List ℕ) = c.args.names.now in
+    let done : c.names.at ≡ length names = omega arith in
+    c.names.invariant.opens at (omega (arith, done, lt))

@@ -1,4 +1,4 @@
-use Rattle.std.proofs.Common.{◌≡◌, ◌*◌, true}
+use Rattle.std.proofs.Common.{◌≡◌, ◌*◌, ◌<◌, ℕ, [], get_or, true}
 use Rattle.outside.specs.Seen.{OnlyReads, seen}
 use Rattle.group_table.specs.Kept.{IsTableOf, groups_in}
 use Rattle.scan_engine.specs.Scanned.{HaveAtMost}
@@ -6,6 +6,7 @@ use Rattle.sql_reply.specs.Reply.{most_groups}
 use Rattle.segment_reads.specs.Logs.{LogsOf, LogsWhere}
 use Rattle.segment_reads.specs.Reads.{LogsEach, ReadsPlanned}
 use Rattle.segment_reads.proofs.GrownLemmas.{IsFileBefore}
+use Rattle.segment_opening.specs.Calls.{HasOpeningIn}
 use Rattle.query_executor.specs.Steps.{HasGroups, HasLines}
 use Rattle.query_executor.specs.Lines.{stats_line}
 use Rattle.query_executor.proofs.pass.pass_over.Given as goal
@@ -18,6 +19,7 @@ invariant-names g l = record {
   so_far : HasGroups l.query l.table (g.S.Shelf.held l.fn.shelf) l.names l.at l.pass.groups;
   wants : l.pass.wants_lines ≡ l.fn.wants_lines;
   lines : l.fn.wants_lines ≡ true → HasLines (stats_line l.query l.table) l.table (g.S.Shelf.held l.fn.shelf) l.names l.at l.pass.lines.items;
+  opens : (k : ℕ) → k < l.at → HasOpeningIn l.table (g.S.Shelf.held l.fn.shelf) (get_or l.names k []);
   reads : OnlyReads ⊥ (seen g.S.Shelf l.fn.shelf) (seen g.S.Shelf l.shelf);
   log : LogsOf l.names (g.S.Shelf.log l.fn.shelf) (g.S.Shelf.log l.shelf);
   files : LogsWhere (IsFileBefore l.names l.at) (g.S.Shelf.log l.fn.shelf) (g.S.Shelf.log l.shelf);

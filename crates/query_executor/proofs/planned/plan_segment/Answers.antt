@@ -4,8 +4,9 @@ use Rattle.eligibility.specs.Rule.{picked}
 use Rattle.segment_head.specs.declared.fault.EngineFault.TheVariants as engine
 use Rattle.segment_reads.specs.Logs.{IsHeadRead}
 use Rattle.segment_head.specs.Stored.{HasNoImage}
+use Rattle.segment_opening.specs.Calls.{HasOpeningIn}
 use Rattle.segment_opening.specs.Opened.{IsHeadIn}
-use Rattle.query_executor.proofs.EndLemmas.{fault_if, fault_not, gives_fault, memory_not_bad, memory_not_full, memory_not_read, no_fault, own_fault, reads_done, reads_failed, reads_lacking, reads_still}
+use Rattle.query_executor.proofs.EndLemmas.{fault_if, fault_not, fault_ok, gives_fault, memory_not_bad, memory_not_full, memory_not_read, no_fault, own_fault, reads_done, reads_failed, reads_lacking, reads_still}
 use Rattle.segment_opening.proofs.HeadLemmas.{image_grown}
 use Rattle.segment_reads.proofs.LogLemmas.{entries_then, loaded_log, reads_then}
 use Rattle.query_executor.proofs.PlanLemmas.{detailed, picked_is_within, pruned_planned}
@@ -30,6 +31,7 @@ returns-in-Err g c =
     let fault = c.in-Err.fault in
     record {
       planned = tt;
+      opens = tt;
       looks = record {
         bad = λ part is. c.in-Err.ensures.looks.bad part (ap Err (own_fault _ fault (engine.NotASegment part) is));
         never_full = λ is. c.in-Err.ensures.looks.never_full (ap Err (own_fault _ fault engine.TooManyGroups is));
@@ -46,6 +48,7 @@ returns-then-prune g c =
     let is = sym c.prune.ensures ∙ c.if-prune.true in
     record {
       planned = record { known = inl is; plan_is = pruned_planned c.args.query.now c.args.table.now head is; detailed = tt; image = c.in-Ok.ensures.opened.image };
+      opens = c.in-Ok.ensures.opened.opening;
       looks = record {
         bad = λ part e. absurd (no_fault _ _ (engine.NotASegment part) e);
         never_full = λ e. no_fault _ _ engine.TooManyGroups e;
@@ -66,6 +69,7 @@ returns-in-Err-load_detailed g c =
     let same = c.in-Ok.ensures.looks.only_reads.held in
     record {
       planned = tt;
+      opens = tt;
       looks = record {
         bad = λ part is.
             subst (λ held. IfSome held (λ files. HasNoImage table files name)) same
@@ -89,6 +93,7 @@ returns-in_err-plan g c =
     let is = gives_fault _ r engine.NoMemory c.from_residual.ensures.1 in
     record {
       planned = fault_if _ r engine.NoMemory _ is;
+      opens = fault_ok _ r engine.NoMemory (HasOpeningIn table a.held name) is;
       looks = record {
         bad = λ part e. absurd (fault_not _ r engine.NoMemory (engine.NotASegment part) (memory_not_bad part) is e);
         never_full = λ e. fault_not _ r engine.NoMemory engine.TooManyGroups memory_not_full is e;
@@ -117,6 +122,7 @@ returns g c =
             (c.pick-tree.ensures ∙ ap (picked query) c.as_slice.ensures) c.in-Ok-load_detailed.ensures.filtered c.in-Ok-load_detailed.ensures.factors c.in_ok-plan.ensures;
         image = image_grown table name a.held b.held head full c.in-Ok.ensures.looks.only_reads.held c.in-Ok-load_detailed.ensures.loads.grows c.in-Ok.ensures.opened.image;
       };
+      opens = c.in-Ok.ensures.opened.opening;
       looks = record {
         bad = λ part e. absurd (no_fault _ _ (engine.NotASegment part) e);
         never_full = λ e. no_fault _ _ engine.TooManyGroups e;

@@ -1,4 +1,4 @@
-use Rattle.std.proofs.Common.{◌≡◌, ◌∙◌, true, false, ℕ, List, Err, IfOk, IfSome, inl, is_some, refl, sym, ap, subst}
+use Rattle.std.proofs.Common.{◌≡◌, ◌∙◌, true, false, ℕ, List, Result, Ok, Err, IfOk, IfSome, inl, is_some, refl, sym, ap, subst}
 use Rattle.outside.specs.Seen.{Seen, seen}
 use Rattle.eligibility.specs.Rule.{picked}
 use Rattle.std.specs.Prelude.{OnOk}
@@ -20,6 +20,11 @@ use Rattle.segment_scan.proofs.SegmentLemmas.{ok_so}
 use Rattle.segment_reads.specs.Reads.{LogsOne, ReadsPlanned}
 use Rattle.query_executor.proofs.OneReads.{err_so, given_up, headed_one, heads_then, loaded_one, opened_one, quiet_one, spread_later}
 use Rattle.query_executor.proofs.segment.add_segment.Goals as goal
+
+-- what holds, holds of a call that ended well
+on_ok : {T E : Type 0} {P : Type 0} (r : Result T E) → P → OnOk r P
+on_ok (Ok t) p = p
+on_ok (Err e) p = tt
 
 pub open_segment-requires : goal.open_segment-requires
 open_segment-requires g c = record { valid = c.requires.of_table.valid; name = c.requires.of_table.name }
@@ -54,6 +59,7 @@ returns-in-Err g c =
         reads = tt;
         reads_of_fault = given_up c.args.query.now table name c.docs_bound_law.ensures.bound c.requires.of_table.valid a.held a.log b.log (opened_one c.args.query.now table name c.requires.of_table.valid c.requires.of_table.name a.held a.log b.log c.in-Err.ensures.looks.log);
       };
+      opens = tt;
       done = tt;
     }
 
@@ -78,6 +84,7 @@ returns-then-prune g c =
         reads = quiet_one query table name a.held c.nothing.result.plan c.nothing.result.docs a.log b.log done (inl c.nothing.ensures.plan) (opened_one query table name c.requires.of_table.valid c.requires.of_table.name a.held a.log b.log c.in-Ok.ensures.looks.log);
         reads_of_fault = tt;
       };
+      opens = c.in-Ok.ensures.opened.opening;
       done = done;
     }
 
@@ -108,6 +115,7 @@ returns-in-Err-load_wanted g c =
             (heads_then query table name a.held a.log b.log d.log opened loaded
             (opened_one query table name c.requires.of_table.valid c.requires.of_table.name a.held a.log b.log c.in-Ok.ensures.looks.log) (loaded_one query table name a.held head b.log d.log c.in-Ok.ensures.opened.placed c.in-Ok.ensures.opened.spread c.in-Err-load_wanted.ensures.loads.log));
       };
+      opens = tt;
       done = tt;
     }
 
@@ -146,6 +154,7 @@ returns g c =
         reads_of_fault = err_so c.add_planned.result (LogsOne (ReadsPlanned query table false) table d.held name d.log e.log) (LogsOne (ReadsPlanned query table false) table a.held name a.log e.log)
             (λ reads. headed_one query table name false a.held a.log d.log e.log first adds.log heads (subst (λ h. LogsOne (ReadsPlanned query table false) table h name d.log e.log) same reads)) adds.reads_of_fault;
       };
+      opens = on_ok c.add_planned.result c.in-Ok.ensures.opened.opening;
       done = subst (λ h. IfOk c.add_planned.result (λ done. IsDoneIn query table h name done.plan done.docs)) same
           (found_so c.add_planned.result (λ done. (name : List ℕ) → IsHeadIn table d.held name full → IsDoneIn query table d.held name done.plan done.docs) (λ done. IsDoneIn query table d.held name done.plan done.docs)
           (λ done is. is name later) c.add_planned.ensures.done);

@@ -2,8 +2,9 @@ use Rattle.std.proofs.Common.{◌∙◌, ◌++◌, ◌∷◌, ℕ, List, Err, If
 use Rattle.outside.specs.Seen.{Seen, seen}
 use Rattle.sql_reply.specs.declared.fault.SqlFault.TheVariants.{NoMemory}
 use Rattle.query_executor.specs.Answers.{IsBoundReply}
+use Rattle.query_executor.specs.Passes.{HaveOpenings}
 use Rattle.query_executor.specs.declared.fault.ExecutorFault.TheVariants.{Sql}
-use Rattle.query_executor.proofs.EndLemmas.{fault_if, gives_fault, memory_refused, no_fault, own_fault}
+use Rattle.query_executor.proofs.EndLemmas.{fault_if, fault_ok, gives_fault, memory_refused, no_fault, own_fault}
 use Rattle.query_executor.proofs.PassLemmas.{pass_done, pass_failed, pass_lacking}
 use Rattle.query_executor.proofs.ReplyLemmas.{all_answered, groups_no_text, too_many_refused}
 use Rattle.query_executor.proofs.StatedLemmas.{bound_stated}
@@ -29,6 +30,7 @@ returns-in-Err g c =
       refused = λ fault e real.
           let (most, over) = c.in-Err.ensures.refused fault (ap Err (own_fault _ own (Sql fault) e)) real in
           (groups_no_text fault 100000 most, subst (λ f. IfSome a.held (λ files. IsBoundReply table files names query (Err f))) (sym most) (too_many_refused query table names a.held over));
+      opens = tt;
       passes = pass_failed query table names _ _ own a b c.in-Err.ensures.passes;
     }
 
@@ -44,6 +46,7 @@ returns-in_err-reply g c =
     record {
       reply = fault_if _ r (Sql NoMemory) _ is;
       refused = λ fault e real. absurd (memory_refused _ r fault is e real);
+      opens = fault_ok _ r (Sql NoMemory) (HaveOpenings table a.held names) is;
       passes = pass_lacking query table names _ _ c.in-Ok.pass r a b is c.in-Ok.ensures.passes;
     }
 
@@ -59,6 +62,7 @@ returns-in_err-with_lines g c =
     record {
       reply = fault_if _ r (Sql NoMemory) _ is;
       refused = λ fault e real. absurd (memory_refused _ r fault is e real);
+      opens = fault_ok _ r (Sql NoMemory) (HaveOpenings table a.held names) is;
       passes = pass_lacking query table names _ _ c.in-Ok.pass r a b is c.in-Ok.ensures.passes;
     }
 
@@ -75,5 +79,6 @@ returns g c =
           (all_answered query table names a.held c.in-Ok.pass.groups text c.in-Ok.ensures.made.groups c.in_ok-reply.ensures) (c.in-Ok.ensures.made.lines refl)
           (c.in_ok-with_lines.ensures ∙ ap (λ l. text ++ (10 ∷ l)) c.as_slice.ensures.value);
       refused = λ fault e real. absurd (no_fault _ _ (Sql fault) e);
+      opens = c.in-Ok.ensures.opens;
       passes = pass_done query table names _ _ c.in-Ok.pass _ a b c.in-Ok.ensures.passes;
     }

@@ -1,11 +1,13 @@
-use Rattle.std.proofs.Common.{◌≡◌, ◌∙◌, Err, sym, ap, subst}
+use Rattle.std.proofs.Common.{◌≡◌, ◌∙◌, Err, IfSome, Some, sym, ap, subst}
+use Rattle.outside.specs.Files.{bytes_of}
 use Rattle.outside.specs.Seen.{seen}
+use Rattle.segment_head.specs.Calls.{FailsOpening}
 use Rattle.segment_head.specs.Heads.{AreIn}
 use Rattle.segment_file.specs.declared.fault.HeadFault.TheVariants as head
 use Rattle.segment_head.specs.declared.fault.EngineFault.TheVariants as engine
 use Rattle.segment_head.specs.Faults.{fault_of}
 use Rattle.segment_head.proofs.FaultLemmas.{bad_head, never_full, read_head}
-use Rattle.segment_opening.proofs.HeadLemmas.{broken_none, opened_image, opened_spread}
+use Rattle.segment_opening.proofs.HeadLemmas.{broken_none, has_opening, opened_image, opened_spread}
 use Rattle.segment_reads.proofs.LogLemmas.{opened_ends, opened_log, reads_as}
 use Rattle.segment_opening.proofs.opening.open_segment.Goals as goal
 
@@ -23,6 +25,7 @@ returns-in-Ok-clause-opened g c =
       image = opened_image c.image_keeps_law.ensures table c.requires.valid name c.requires.name held file head is c.in-Ok.ensures.part;
       ends = opened_ends table name file held head is c.in-Ok.ensures.opened;
       spread = opened_spread c.image_keeps_law.ensures table c.requires.valid name c.requires.name held file head is c.in-Ok.ensures.part;
+      opening = has_opening table name file held head is c.in-Ok.ensures.opened;
     }
 
 pub returns-in-Ok-clause-looks : goal.returns-in-Ok-clause-looks
@@ -45,3 +48,18 @@ returns-clause-looks g c = record {
       (λ e. let own : c.in-Err.fault ≡ head.ReadFault = cc in ap Err (c.engine_fault.ensures ∙ ap fault_of own));
   log = opened_log c.args.table.now c.args.name.now c.as_str.result.now (g.S.Shelf.held c.args.shelf.now) (g.S.Shelf.log c.args.shelf.now) (g.S.Shelf.log c.open_head.new.shelf) (c.as_str.ensures.value ∙ c.in_ok-file.ensures) c.in-Err.ensures.log;
 }
+
+pub returns-in-Ok-clause-first : goal.returns-in-Ok-clause-first
+returns-in-Ok-clause-first g c = λ part is. absurd cc
+
+pub returns-clause-first : goal.returns-clause-first
+returns-clause-first g c = λ part is.
+    let table = c.args.table.now in
+    let name = c.args.name.now in
+    let held = g.S.Shelf.held c.args.shelf.now in
+    let own : c.engine_fault.result ≡ engine.NotASegment part = cc in
+    let fault = bad_head c.in-Err.fault part (sym c.engine_fault.ensures ∙ own) in (
+      c.in-Err.ensures.named part fault,
+      subst (λ f. IfSome held (λ files. FailsOpening table name (bytes_of (Some files) f) part))
+          (c.as_str.ensures.value ∙ c.in_ok-file.ensures) (c.in-Err.ensures.first part fault),
+    )

@@ -6,7 +6,9 @@ use Rattle.scan_engine.specs.Scanned.{HaveAtMost}
 use Rattle.segment_head.specs.Heads.{Seen}
 use Rattle.segment_head.proofs.FaultLemmas.{bad_head}
 use Rattle.star_reader.specs.declared.asked.Asked.{Asked}
+use Rattle.segment_file.specs.declared.part.Part.TheVariants as parts
 use Rattle.segment_head.specs.declared.fault.EngineFault.TheVariants as segments
+use Rattle.star_answer.specs.Segments.{IsBadTree}
 use Rattle.star_answer.proofs.SegmentSteps as steps
 use Rattle.star_answer.proofs.segment.answer_segment.Goals as goal
 
@@ -14,37 +16,39 @@ pub read_tree-requires : goal.read_tree-requires
 read_tree-requires g c = record {
   valid = c.requires.valid;
   opened = c.requires.of_table;
-  tree = (steps.picked_there c.args.query.now c.args.table.now.settings.trees c.args.tree c.requires.is_picked).lt;
+  tree = steps.eligible_there c.args.query.now c.args.table.now.settings.trees c.args.tree c.requires.eligible;
 }
 
 pub returns-in-Err-clause-bad : goal.returns-in-Err-clause-bad
 returns-in-Err-clause-bad g c part is =
     let own : c.engine_fault.result ≡ segments.NotASegment part = cc in
-    steps.none_whole c.args.table.now c.args.head.now (g.S.Shelf.held c.args.shelf.now)
-    (c.in-Err.ensures.reads.refused part (bad_head c.in-Err.fault part (sym c.engine_fault.ensures ∙ own)))
+    let fault = bad_head c.in-Err.fault part (sym c.engine_fault.ensures ∙ own) in
+    steps.bad_nodes_tree c.args.query.now c.args.table.now c.args.head.now
+    (g.S.Shelf.held c.args.shelf.now) c.args.tree part
+    (c.in-Err.ensures.part part fault) (c.in-Err.ensures.reads.refused part fault)
 
 pub at-setting-requires : goal.at-setting-requires
 at-setting-requires g c =
-    (steps.picked_there c.args.query.now c.args.table.now.settings.trees c.args.tree c.requires.is_picked).lt
+    steps.eligible_there c.args.query.now c.args.table.now.settings.trees c.args.tree c.requires.eligible
 
 pub documents_of-requires-clause-tree : goal.documents_of-requires-clause-tree
 documents_of-requires-clause-tree g c =
-    (steps.picked_there c.args.query.now c.args.table.now.settings.trees c.args.tree c.requires.is_picked).lt
+    steps.eligible_there c.args.query.now c.args.table.now.settings.trees c.args.tree c.requires.eligible
 
 pub tree_task-requires-clause-eligible : goal.tree_task-requires-clause-eligible
 tree_task-requires-clause-eligible g c =
-    steps.picked_eligible c.args.query.now c.args.table.now.settings.trees c.args.tree
-    c.at-setting.result.now c.requires.is_picked c.at-setting.ensures
+    steps.setting_eligible c.args.query.now c.args.table.now.settings.trees c.args.tree
+    c.at-setting.result.now c.requires.eligible c.at-setting.ensures
 
 pub group_columns-requires-clause-eligible : goal.group_columns-requires-clause-eligible
 group_columns-requires-clause-eligible g c =
-    steps.picked_eligible c.args.query.now c.args.table.now.settings.trees c.args.tree
-    c.at-setting.result.now c.requires.is_picked c.at-setting.ensures
+    steps.setting_eligible c.args.query.now c.args.table.now.settings.trees c.args.tree
+    c.at-setting.result.now c.requires.eligible c.at-setting.ensures
 
 pub pair_numbers-requires-clause-eligible : goal.pair_numbers-requires-clause-eligible
 pair_numbers-requires-clause-eligible g c =
-    steps.picked_eligible c.args.query.now c.args.table.now.settings.trees c.args.tree
-    c.at-setting.result.now c.requires.is_picked c.at-setting.ensures
+    steps.setting_eligible c.args.query.now c.args.table.now.settings.trees c.args.tree
+    c.at-setting.result.now c.requires.eligible c.at-setting.ensures
 
 pub group_columns-requires-clause-at_most : goal.group_columns-requires-clause-at_most
 group_columns-requires-clause-at_most g c =
@@ -72,7 +76,7 @@ answer_tree-requires g c =
     let ready = steps.ready_so query table head t setting part task asked said
     c.in-Ok.opened.counts.items c.documents_of.result.now c.in_ok-columns.columns.items
     c.in_ok-pairs.pairs.items held c.requires.valid c.requires.of_table c.requires.query_valid
-    c.requires.is_picked c.requires.loaded c.requires.groups_loaded c.at-setting.ensures
+    c.requires.eligible c.requires.loaded c.requires.groups_loaded c.at-setting.ensures
     c.in-Ok.ensures.reads.told c.in-Ok.ensures.counts c.in-Ok.ensures.keeps c.of_file-part.ensures.shape
     c.of_file-part.ensures.counts c.of_file-part.ensures.nodes c.of_file-part.ensures.documents
     c.documents_of.ensures c.in_ok-task.ensures.each c.in_ok-task.ensures.entries
@@ -111,7 +115,7 @@ returns-in-Ok-answer_tree-clause-count g c =
     let ready = steps.ready_so query table head t setting part task asked said
     c.in-Ok.opened.counts.items c.documents_of.result.now c.in_ok-columns.columns.items
     c.in_ok-pairs.pairs.items held c.requires.valid c.requires.of_table c.requires.query_valid
-    c.requires.is_picked c.requires.loaded c.requires.groups_loaded c.at-setting.ensures
+    c.requires.eligible c.requires.loaded c.requires.groups_loaded c.at-setting.ensures
     c.in-Ok.ensures.reads.told c.in-Ok.ensures.counts c.in-Ok.ensures.keeps c.of_file-part.ensures.shape
     c.of_file-part.ensures.counts c.of_file-part.ensures.nodes c.of_file-part.ensures.documents
     c.documents_of.ensures c.in_ok-task.ensures.each c.in_ok-task.ensures.entries
@@ -138,7 +142,7 @@ returns-in-Ok-answer_tree-clause-ok g c =
     let ready = steps.ready_so query table head t setting part task asked said
     c.in-Ok.opened.counts.items c.documents_of.result.now c.in_ok-columns.columns.items
     c.in_ok-pairs.pairs.items held c.requires.valid c.requires.of_table c.requires.query_valid
-    c.requires.is_picked c.requires.loaded c.requires.groups_loaded c.at-setting.ensures
+    c.requires.eligible c.requires.loaded c.requires.groups_loaded c.at-setting.ensures
     c.in-Ok.ensures.reads.told c.in-Ok.ensures.counts c.in-Ok.ensures.keeps c.of_file-part.ensures.shape
     c.of_file-part.ensures.counts c.of_file-part.ensures.nodes c.of_file-part.ensures.documents
     c.documents_of.ensures c.in_ok-task.ensures.each c.in_ok-task.ensures.entries
@@ -165,7 +169,7 @@ returns-in-Ok-answer_tree-clause-log g c =
     let ready = steps.ready_so query table head t setting part task asked said
     c.in-Ok.opened.counts.items c.documents_of.result.now c.in_ok-columns.columns.items
     c.in_ok-pairs.pairs.items held c.requires.valid c.requires.of_table c.requires.query_valid
-    c.requires.is_picked c.requires.loaded c.requires.groups_loaded c.at-setting.ensures
+    c.requires.eligible c.requires.loaded c.requires.groups_loaded c.at-setting.ensures
     c.in-Ok.ensures.reads.told c.in-Ok.ensures.counts c.in-Ok.ensures.keeps c.of_file-part.ensures.shape
     c.of_file-part.ensures.counts c.of_file-part.ensures.nodes c.of_file-part.ensures.documents
     c.documents_of.ensures c.in_ok-task.ensures.each c.in_ok-task.ensures.entries
@@ -194,7 +198,7 @@ returns-clause-full g c is =
     let ready = steps.ready_so query table head t setting part task asked said
     c.in-Ok.opened.counts.items c.documents_of.result.now c.in_ok-columns.columns.items
     c.in_ok-pairs.pairs.items held c.requires.valid c.requires.of_table c.requires.query_valid
-    c.requires.is_picked c.requires.loaded c.requires.groups_loaded c.at-setting.ensures
+    c.requires.eligible c.requires.loaded c.requires.groups_loaded c.at-setting.ensures
     c.in-Ok.ensures.reads.told c.in-Ok.ensures.counts c.in-Ok.ensures.keeps c.of_file-part.ensures.shape
     c.of_file-part.ensures.counts c.of_file-part.ensures.nodes c.of_file-part.ensures.documents
     c.documents_of.ensures c.in_ok-task.ensures.each c.in_ok-task.ensures.entries
@@ -222,17 +226,26 @@ returns-clause-bad g c bad is =
     let ready = steps.ready_so query table head t setting part task asked said
     c.in-Ok.opened.counts.items c.documents_of.result.now c.in_ok-columns.columns.items
     c.in_ok-pairs.pairs.items held c.requires.valid c.requires.of_table c.requires.query_valid
-    c.requires.is_picked c.requires.loaded c.requires.groups_loaded c.at-setting.ensures
+    c.requires.eligible c.requires.loaded c.requires.groups_loaded c.at-setting.ensures
     c.in-Ok.ensures.reads.told c.in-Ok.ensures.counts c.in-Ok.ensures.keeps c.of_file-part.ensures.shape
     c.of_file-part.ensures.counts c.of_file-part.ensures.nodes c.of_file-part.ensures.documents
     c.documents_of.ensures c.in_ok-task.ensures.each c.in_ok-task.ensures.entries
     c.in_ok-task.ensures.asks c.in_ok-columns.ensures c.as_slice.ensures.value c.in_ok-pairs.ensures
     c.as_slice-2.ensures.value in
     let own : c.of_tree.result ≡ segments.NotASegment bad = cc in
-    steps.ready_bad query table head t setting part task asked said held now ready
+    let docs = c.of_tree.ensures.bad bad own in
+    let star : segments.NotASegment (parts.Star t) ≡ segments.NotASegment bad =
+    sym (c.of_tree.ensures.part docs) ∙ own in
+    let same : parts.Star t ≡ bad = cc in
+    subst (IsBadTree query table held head t) same
+    (steps.ready_bad query table head t setting part task asked said held now ready
     c.in-Ok.ensures.reads.only_reads.held c.head_tells_law.ensures c.rows.result c.rows.ensures
-    c.served_law.ensures.never_bad
-    (c.in-Err-answer_tree.ensures.bad (ap Err (c.of_tree.ensures.bad bad own)))
+    c.served_law.ensures.never_bad (c.in-Err-answer_tree.ensures.bad (ap Err docs)))
+
+pub returns-clause-filled : goal.returns-clause-filled
+returns-clause-filled g c is =
+    let own : c.of_tree.result ≡ segments.TooManyGroups = cc in
+    c.in-Err-answer_tree.ensures.filled (ap Err (c.of_tree.ensures.full own))
 
 pub returns-clause-log_of_fault : goal.returns-clause-log_of_fault
 returns-clause-log_of_fault g c =
@@ -250,7 +263,7 @@ returns-clause-log_of_fault g c =
     let ready = steps.ready_so query table head t setting part task asked said
     c.in-Ok.opened.counts.items c.documents_of.result.now c.in_ok-columns.columns.items
     c.in_ok-pairs.pairs.items held c.requires.valid c.requires.of_table c.requires.query_valid
-    c.requires.is_picked c.requires.loaded c.requires.groups_loaded c.at-setting.ensures
+    c.requires.eligible c.requires.loaded c.requires.groups_loaded c.at-setting.ensures
     c.in-Ok.ensures.reads.told c.in-Ok.ensures.counts c.in-Ok.ensures.keeps c.of_file-part.ensures.shape
     c.of_file-part.ensures.counts c.of_file-part.ensures.nodes c.of_file-part.ensures.documents
     c.documents_of.ensures c.in_ok-task.ensures.each c.in_ok-task.ensures.entries

@@ -13,3 +13,6 @@ returns-in-Some-clause-reads g c = record {
 
 pub returns-in-Some-clause-log : goal.returns-in-Some-clause-log
 returns-in-Some-clause-log g c = none_read _ (λ s. 4) (g.S.Shelf.log c.args.shelf.now)
+
+pub returns-in-Some-clause-part : goal.returns-in-Some-clause-part
+returns-in-Some-clause-part g c = tt

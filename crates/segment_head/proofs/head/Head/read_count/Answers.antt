@@ -1,4 +1,4 @@
-use Rattle.std.proofs.Common.{◌≡◌, ◌∙◌, ◌+◌, IfSome, Some, ◌<◌, take, length, ap, subst, arith}
+use Rattle.std.proofs.Common.{◌≡◌, ◌∙◌, ◌+◌, IfSome, Some, inl, inr, ◌<◌, take, length, ap, subst, arith}
 use Rattle.std.specs.Int.{w32, from_be_bytes}
 use Rattle.outside.specs.Files.{bytes_at, bytes_of}
 use Rattle.outside.specs.Reads.{LogsThrough, LogsUpTo}
@@ -111,3 +111,18 @@ returns-clause-log g c =
     let s = c.dictionary_section.result.now in
     if_some _ s _ c.dictionary_section.ensures
     (s.place.offset + 4, omega arith, subst (λ f. LogsThrough f s.place.offset (s.place.offset + 4) (g.S.Shelf.log c.args.shelf.now) (g.S.Shelf.log c.read_exactly.new.shelf)) c.as_str.ensures c.in-Ok.ensures.log)
+
+pub returns-then-place-lt4-clause-part : goal.returns-then-place-lt4-clause-part
+returns-then-place-lt4-clause-part g c = λ p is. (let same : p ≡ Dictionary c.args.column = cc in inr same)
+
+pub returns-then-count-self-clause-part : goal.returns-then-count-self-clause-part
+returns-then-count-self-clause-part g c = λ p is. (let same : p ≡ Dictionary c.args.column = cc in inr same)
+
+pub returns-then-self-gt0-clause-part : goal.returns-then-self-gt0-clause-part
+returns-then-self-gt0-clause-part g c = λ p is. (let same : p ≡ Dictionary c.args.column = cc in inr same)
+
+pub returns-in-Err-clause-part : goal.returns-in-Err-clause-part
+returns-in-Err-clause-part g c = λ p is. inl (c.in-Err.ensures.short p is).0
+
+pub returns-clause-part : goal.returns-clause-part
+returns-clause-part g c = tt

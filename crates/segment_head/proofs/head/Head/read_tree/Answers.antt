@@ -1,7 +1,8 @@
-use Rattle.std.proofs.Common.{◌≡◌, ◌∙◌, ◌<◌, ◌+◌, Some, Err, IfSome, length, sym, ap, subst, arith}
+use Rattle.std.proofs.Common.{◌≡◌, ◌∙◌, ◌<◌, ◌+◌, Some, Err, IfSome, inl, inr, length, sym, ap, subst, arith}
 use Rattle.outside.specs.Files.{bytes_at, bytes_of}
 use Rattle.outside.specs.Reads.{LogsThrough, LogsUpTo}
 use Rattle.segment_head.specs.Heads.{AreKept, HaveCounts, OfWhole, nodes_section}
+use Rattle.segment_file.specs.declared.part.Part.TheVariants.{Nodes}
 use Rattle.segment_file.specs.Reading.{nodes_said}
 use Rattle.outside.specs.Seen.{seen}
 use Rattle.outside.proofs.SeenLemmas.{reads_after}
@@ -181,3 +182,19 @@ returns-in-Err-clause-reads g c = record {
 
 pub returns-in-Ok-check_tree-clause-counts : goal.returns-in-Ok-check_tree-clause-counts
 returns-in-Ok-check_tree-clause-counts g c = c.in-Ok.ensures.reads.told
+
+pub returns-in-Err-clause-part : goal.returns-in-Err-clause-part
+returns-in-Err-clause-part g c = λ p is. inl (c.in-Err.ensures.part p is)
+
+pub returns-in-Err-read_exactly-clause-part : goal.returns-in-Err-read_exactly-clause-part
+returns-in-Err-read_exactly-clause-part g c = λ p is. inr (inl (c.in-Err-read_exactly.ensures.short p is).0)
+
+pub returns-in-Ok-check_tree-clause-part : goal.returns-in-Ok-check_tree-clause-part
+returns-in-Ok-check_tree-clause-part g c = tt
+
+pub returns-in-Err-check_tree-clause-part : goal.returns-in-Err-check_tree-clause-part
+returns-in-Err-check_tree-clause-part g c = λ p is.
+    let bad = bad_nodes c.in-Err-check_tree.fault c.of_nodes.result p c.of_nodes.ensures.memory is in
+    let own = c.of_nodes.ensures.bad bad in
+    let same : p ≡ Nodes c.args.tree = cc in
+    inr (inr same)

@@ -1,7 +1,9 @@
 use Rattle.std.proofs.Common.{◌≡◌, ◌∙◌, ◌<◌, ◌+◌, [], ◌∷◌, All, length, get_or, refl, sym, ap, subst, arith, length-append, take}
 use Rattle.std.proofs.lemmas.List.{take_all}
+use Rattle.std.proofs.lemmas.Option.{slice_get-get_or}
 use Rattle.outside.specs.Seen.{seen}
 use Rattle.outside.proofs.SeenLemmas.{reads_none}
+use Rattle.segment_head.specs.Calls.{IsSplitPart}
 use Rattle.segment_head.specs.Heads.{HasCount, HaveCounts, LogsCount, LogsCounts, OfWhole, split_of}
 use Rattle.segment_file.proofs.Faults.{growth_bad, growth_ok, growth_reads, reads_ended}
 use Rattle.segment_head.proofs.TreeChecks.{split_known}
@@ -118,5 +120,27 @@ returns g c =
         only_reads = reads_ended counts old last so_far.reads;
       };
       each = so_far.number ∙ ended ∙ ap length split_are;
+      part = tt;
       log = subst (λ xs. LogsCounts head xs old.log last.log) all so_far.log;
     }
+
+pub returns-in_err-counts-clause-part : goal.returns-in_err-counts-clause-part
+returns-in_err-counts-clause-part g c =
+    growth_bad (IsSplitPart (split_of c.args.table.now c.args.tree)) c.from_residual.result c.from_residual.ensures
+
+pub returns-in_err-keep-in-Ok-clause-part : goal.returns-in_err-keep-in-Ok-clause-part
+returns-in_err-keep-in-Ok-clause-part g c =
+    growth_bad (IsSplitPart (split_of c.args.table.now c.args.tree)) c.from_residual-in_err-keep-in-Ok.result c.from_residual-in_err-keep-in-Ok.ensures
+
+pub returns-in-Err-clause-part : goal.returns-in-Err-clause-part
+returns-in-Err-clause-part g c = λ p is.
+    let table = c.args.table.now in
+    let split = c.as_slice-split.result.now in
+    let i = c.loop-column.column-index in
+    let split_are : split ≡ split_of table c.args.tree = c.as_slice-split.ensures ∙ sym (split_is table c.args.tree c.at.result.now c.at.ensures) in
+    subst (λ xs. IsSplitPart xs p) split_are (record {
+      level = i;
+      column = get_or split i 0;
+      at = slice_get-get_or split i 0 c.loop-column-test.true;
+      own = c.in-Err.ensures.part p is;
+    })
