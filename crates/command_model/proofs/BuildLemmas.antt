@@ -17,7 +17,7 @@ use Rattle.segment_file.specs.Names.{IsSegmentName, file_of}
 use Rattle.table_store.specs.Segments.{HasRoom, IsFull, most_segments}
 use Rattle.segment_build.specs.Publishing.{incoming}
 use Rattle.table_store.specs.TableFile.{table_name}
-use Rattle.command_model.specs.Build.{BuildRefuses, HasPlace, PlaceRefuses, built_text, csv_rows, segment_rows}
+use Rattle.command_model.specs.Build.{BuildRefuses, HasPlace, IsLineOfPlace, PlaceRefuses, built_text, csv_rows, segment_rows}
 use Rattle.command_words.specs.Command.{Build}
 use Rattle.command_model.specs.Gives.{FindsPlace, IsTakenStop, LooksFor, Publishes, StopsPlace, StopsRows, StopsStore}
 use Rattle.command_model.specs.Profile.{NoFile, TableFile, csv_limit, place_refuses, rows_count, rows_refuse, segments_count, store_refuses}
@@ -60,14 +60,31 @@ line_first (note.BadSettings wrong path) e = absurd cc
 line_first note.TableExists e = absurd cc
 line_first note.NoTable e = refl
 line_first (note.NameTaken name) e = absurd cc
+line_first (note.NoSegment name) e = absurd cc
 line_first (note.BadCsv wrong row column) e = absurd cc
 line_first (note.TooLarge what limit) e = absurd cc
 line_first (note.BadQuery wrong place) e = absurd cc
 line_first (note.TooManyGroups most) e = absurd cc
 line_first (note.NotASegment name part) e = refl
 
+-- such a refusal tells nothing of the place
+tells_first : (name : List ℕ) (line : Note) → store_refuses line ≡ true → IsLineOfPlace name line
+tells_first name note.BadWords e = absurd cc
+tells_first name (note.NoInput file) e = absurd cc
+tells_first name (note.BadSchema wrong path) e = absurd cc
+tells_first name (note.BadSettings wrong path) e = absurd cc
+tells_first name note.TableExists e = absurd cc
+tells_first name note.NoTable e = tt
+tells_first name (note.NameTaken taken) e = absurd cc
+tells_first name (note.NoSegment taken) e = absurd cc
+tells_first name (note.BadCsv wrong row column) e = absurd cc
+tells_first name (note.TooLarge what limit) e = absurd cc
+tells_first name (note.BadQuery wrong place) e = absurd cc
+tells_first name (note.TooManyGroups most) e = absurd cc
+tells_first name (note.NotASegment of part) e = tt
+
 stops_place : (name : List ℕ) (held : Option Files) (why : Stop) → StopsStore TableRefuses held why → StopsPlace name held why
-stops_place name held (stop.Refused line) h = (line_first line h.0, told_each held (λ files. TableRefuses files line) (λ files. PlaceRefuses name files line) (λ files r. inl r) h.1)
+stops_place name held (stop.Refused line) h = (line_first line h.0, tells_first name line h.0, told_each held (λ files. TableRefuses files line) (λ files. PlaceRefuses name files line) (λ files r. inl r) h.1)
 stops_place name held (stop.Fault fault.Read) h = tt
 stops_place name held (stop.Fault fault.Write) h = h
 stops_place name held (stop.Fault fault.Memory) h = tt
@@ -96,22 +113,22 @@ module _ (name : List ℕ) (a b d : Seen) (table : Table) (first : LooksFor HasT
     stops = tt;
   }
 
-  refused : {F : Type 0} (line : Note) → OnlyReads F b d → ¬ F → place_refuses line ≡ true → IfSome a.held (λ files. PlaceRefuses name files line) → FindsPlace name a d (Err (stop.Refused line))
-  refused line reads fine may told = record { reads = reads_as a d (reads_both reads fine) (λ e. absurd cc) (λ e. absurd e); log = logged; found = tt; stops = (may, told) }
+  refused : {F : Type 0} (line : Note) → OnlyReads F b d → ¬ F → place_refuses line ≡ true → IsLineOfPlace name line → IfSome a.held (λ files. PlaceRefuses name files line) → FindsPlace name a d (Err (stop.Refused line))
+  refused line reads fine may tells told = record { reads = reads_as a d (reads_both reads fine) (λ e. absurd cc) (λ e. absurd e); log = logged; found = tt; stops = (may, tells, told) }
 
   memory : {F : Type 0} → OnlyReads F b d → ¬ F → FindsPlace name a d (Err (stop.Fault fault.Memory))
   memory reads fine = record { reads = reads_as a d (reads_both reads fine) (λ e. absurd cc) (λ e. absurd e); log = logged; found = tt; stops = tt }
 
   pub place_taken : {F : Type 0} (why : Stop) → OnlyReads F b d → ¬ F → Has b.held (file_of name) → IsTakenStop name why → FindsPlace name a d (Err why)
   place_taken why reads fine has (inl is) =
-      subst (λ w. FindsPlace name a d (Err w)) (sym is) (refused (note.NameTaken name) reads fine refl
+      subst (λ w. FindsPlace name a d (Err w)) (sym is) (refused (note.NameTaken name) reads fine refl refl
       (told_three a.held (λ files. HasTableFile files table) (λ files. Has (Some files) (file_of name)) (λ files. Has (Some files) (file_of name)) (λ files. PlaceRefuses name files (note.NameTaken name))
       (λ files is there same. inr (inl (record { table = table; table_is = is; there = there; line_is = refl }))) first.found (before (λ h. Has h (file_of name)) has) (before (λ h. Has h (file_of name)) has)))
   place_taken why reads fine has (inr is) = subst (λ w. FindsPlace name a d (Err w)) (sym is) (memory reads fine)
 
   pub place_full : {F : Type 0} → OnlyReads F b d → ¬ F → Lacks b.held (file_of name) → IfSome b.held IsFull → FindsPlace name a d (Err (stop.Refused (note.TooLarge counted.Segments most_segments)))
   place_full reads fine lacks full =
-      refused (note.TooLarge counted.Segments most_segments) reads fine refl
+      refused (note.TooLarge counted.Segments most_segments) reads fine refl refl
       (told_three a.held (λ files. HasTableFile files table) (λ files. Lacks (Some files) (file_of name)) IsFull (λ files. PlaceRefuses name files (note.TooLarge counted.Segments most_segments))
       (λ files is none many. inr (inr (record { table = table; table_is = is; free = none; full = many; line_is = refl }))) first.found (before (λ h. Lacks h (file_of name)) lacks) (before (λ h. IfSome h IsFull) full))
 
@@ -149,6 +166,7 @@ apart (note.BadSettings wrong path) e f = absurd cc
 apart note.TableExists e f = absurd cc
 apart note.NoTable e f = absurd cc
 apart (note.NameTaken name) e f = absurd cc
+apart (note.NoSegment name) e f = absurd cc
 apart (note.BadCsv wrong row column) e f = absurd cc
 apart (note.TooLarge what limit) e f = apart_counts what e f
 apart (note.BadQuery wrong place) e f = absurd cc
@@ -174,26 +192,31 @@ taken_there name taken files (inl h) = absurd h
 taken_there name taken files (inr (inl t)) = subst (λ n. Has (Some files) (file_of n)) (sym (same_taken taken name t.line_is)) t.there
 taken_there name taken files (inr (inr m)) = let e = m.line_is in absurd cc
 
+full_there : (name : List ℕ) (limit : ℕ) (files : Files) → PlaceRefuses name files (note.TooLarge counted.Segments limit) → IsFull files
+full_there name limit files (inl h) = absurd h
+full_there name limit files (inr (inl t)) = let e = t.line_is in absurd cc
+full_there name limit files (inr (inr m)) = m.full
+
 module _ (name csv : List ℕ) where
   abbrev Refusal : Option Files → Note → Files → Type 0
   Refusal stored line inputs = IfSome stored (λ files. BuildRefuses name csv inputs files line)
 
   -- the cause of a refusal of the store
-  place_caused : (inputs stored : Option Files) (line : Note) → place_refuses line ≡ true → IfSome stored (λ files. PlaceRefuses name files line) → Caused (Some (Build name csv)) inputs stored line
-  place_caused inputs stored note.BadWords e told = absurd cc
-  place_caused inputs stored (note.NoInput file) e told = absurd cc
-  place_caused inputs stored (note.BadSchema wrong path) e told = absurd cc
-  place_caused inputs stored (note.BadSettings wrong path) e told = absurd cc
-  place_caused inputs stored note.TableExists e told = absurd cc
-  place_caused inputs stored note.NoTable e told = told_each stored (λ files. PlaceRefuses name files note.NoTable) (λ files. Lacks (Some files) table_name) (lacks_table name) told
-  place_caused inputs stored (note.NameTaken taken) e told = told_each stored (λ files. PlaceRefuses name files (note.NameTaken taken)) (λ files. Has (Some files) (file_of taken)) (taken_there name taken) told
-  place_caused inputs stored (note.BadCsv wrong row column) e told = absurd cc
-  place_caused inputs stored (note.TooLarge what limit) e told =
-      told_all inputs (Refusal stored (note.TooLarge what limit))
-      (λ files. told_each stored (λ kept. PlaceRefuses name kept (note.TooLarge what limit)) (λ kept. BuildRefuses name csv files kept (note.TooLarge what limit)) (λ kept h. inl h) told)
-  place_caused inputs stored (note.BadQuery wrong place) e told = absurd cc
-  place_caused inputs stored (note.TooManyGroups most) e told = absurd cc
-  place_caused inputs stored (note.NotASegment of part) e told = told_each stored (λ files. PlaceRefuses name files (note.NotASegment of part)) (λ files. TableRefuses files (note.NotASegment of part)) (wrong_table name of part) told
+  place_caused : (inputs stored : Option Files) (line : Note) → place_refuses line ≡ true → IsLineOfPlace name line → IfSome stored (λ files. PlaceRefuses name files line) → Caused (Some (Build name csv)) inputs stored line
+  place_caused inputs stored note.BadWords e tells told = absurd cc
+  place_caused inputs stored (note.NoInput file) e tells told = absurd cc
+  place_caused inputs stored (note.BadSchema wrong path) e tells told = absurd cc
+  place_caused inputs stored (note.BadSettings wrong path) e tells told = absurd cc
+  place_caused inputs stored note.TableExists e tells told = absurd cc
+  place_caused inputs stored note.NoTable e tells told = told_each stored (λ files. PlaceRefuses name files note.NoTable) (λ files. Lacks (Some files) table_name) (lacks_table name) told
+  place_caused inputs stored (note.NameTaken taken) e tells told = (tells, told_each stored (λ files. PlaceRefuses name files (note.NameTaken taken)) (λ files. Has (Some files) (file_of taken)) (taken_there name taken) told)
+  place_caused inputs stored (note.NoSegment taken) e tells told = absurd cc
+  place_caused inputs stored (note.BadCsv wrong row column) e tells told = absurd cc
+  place_caused inputs stored (note.TooLarge counted.Segments limit) e tells told = (tells, told_each stored (λ files. PlaceRefuses name files (note.TooLarge counted.Segments limit)) IsFull (full_there name limit) told)
+  place_caused inputs stored (note.TooLarge what limit) e tells told = absurd cc
+  place_caused inputs stored (note.BadQuery wrong place) e tells told = absurd cc
+  place_caused inputs stored (note.TooManyGroups most) e tells told = absurd cc
+  place_caused inputs stored (note.NotASegment of part) e tells told = told_each stored (λ files. PlaceRefuses name files (note.NotASegment of part)) (λ files. TableRefuses files (note.NotASegment of part)) (wrong_table name of part) told
 
   module _ (table : Table) where
     abbrev Rows : Result (List (List Value)) Note → Files → Type 0
@@ -223,7 +246,9 @@ module _ (name csv : List ℕ) where
     rows_caused inputs stored note.TableExists e place told = absurd cc
     rows_caused inputs stored note.NoTable e place told = absurd cc
     rows_caused inputs stored (note.NameTaken taken) e place told = absurd cc
+    rows_caused inputs stored (note.NoSegment taken) e place told = absurd cc
     rows_caused inputs stored (note.BadCsv wrong row column) e place told = found_in (note.BadCsv wrong row column) inputs stored place told
+    rows_caused inputs stored (note.TooLarge counted.Segments limit) e place told = absurd cc
     rows_caused inputs stored (note.TooLarge what limit) e place told = found_in (note.TooLarge what limit) inputs stored place told
     rows_caused inputs stored (note.BadQuery wrong place') e place told = absurd cc
     rows_caused inputs stored (note.TooManyGroups most) e place told = absurd cc
@@ -235,7 +260,7 @@ not_read : (csv : List ℕ) (s : Seen) → ReadsFront csv csv_limit s s
 not_read csv s = no_front csv csv_limit s
 
 -- the store was looked at, and then written by way of the one part
-looked_written : (names : List (List ℕ)) (a b d : Seen) {F : Type 0} → OnlyReads F a b → LogsOpened TableFile a.log b.log → WritesThese NoFile names b d → WritesThese TableFile names a d
+pub looked_written : (names : List (List ℕ)) (a b d : Seen) {F : Type 0} → OnlyReads F a b → LogsOpened TableFile a.log b.log → WritesThese NoFile names b d → WritesThese TableFile names a d
 looked_written names a b d reads log writes = record {
   held = subst (λ h. SameButThese names h d.held) reads.held writes.held;
   parts = subst (λ h. SameButThese (incoming ∷ []) h d.parts) reads.parts writes.parts;
@@ -245,7 +270,7 @@ looked_written names a b d reads log writes = record {
 }
 
 -- and not written at all
-looked_alone : (names : List (List ℕ)) (a b : Seen) {F : Type 0} → OnlyReads F a b → LogsOpened TableFile a.log b.log → WritesThese TableFile names a b
+pub looked_alone : (names : List (List ℕ)) (a b : Seen) {F : Type 0} → OnlyReads F a b → LogsOpened TableFile a.log b.log → WritesThese TableFile names a b
 looked_alone names a b reads log = record {
   held = subst (λ h. SameButThese names a.held h) (sym reads.held) (names_same names a.held);
   parts = subst (λ h. SameButThese (incoming ∷ []) a.parts h) (sym reads.parts) (names_same (incoming ∷ []) a.parts);
@@ -256,7 +281,7 @@ looked_alone names a b reads log = record {
 
 -- ---- the clause of `build`
 
-refuses_so : (held now : Option Files) (R : Files → Type 0) → now ≡ held → IfSome held R → IfSome held (λ files. R files × (now ≡ Some files))
+pub refuses_so : (held now : Option Files) (R : Files → Type 0) → now ≡ held → IfSome held R → IfSome held (λ files. R files × (now ≡ Some files))
 refuses_so None now R same told = tt
 refuses_so (Some files) now R same told = (told, same)
 
@@ -282,14 +307,14 @@ pub ran_unplaced : (name csv : List ℕ) (named : IsSegmentName name) (i a b : S
 ran_unplaced name csv named i a b (stop.Refused line) place =
     let told = told_all i.held (λ inputs. IfSome a.held (λ files. Builds name csv inputs files (Refuses line) b.held))
     (λ inputs. refuses_so a.held b.held (λ files. BuildRefuses name csv inputs files line) place.reads.held
-    (told_each a.held (λ files. PlaceRefuses name files line) (λ files. BuildRefuses name csv inputs files line) (λ files h. inl h) place.stops.1)) in
+    (told_each a.held (λ files. PlaceRefuses name files line) (λ files. BuildRefuses name csv inputs files line) (λ files h. inl h) place.stops.2)) in
     record {
       reads = tt;
       touched = record { inputs = (i, not_read csv i, refl); depot = looked_alone (file_of name ∷ []) a b place.reads place.log };
       counted = none name csv named i i a b b refl place.reads (λ e. cc) refl refl;
       ended = acted name csv named i i a b (Refuses line) told (
         either_first (place_refuses line) (rows_refuse line) place.stops.0,
-        place_caused name csv i.held a.held line place.stops.0 place.stops.1,
+        place_caused name csv i.held a.held line place.stops.0 place.stops.1 place.stops.2,
         place.reads.held,
         λ e. refl,
       );

@@ -29,6 +29,7 @@ use Rattle.outside.specs.Seen.{Seen}
 use Rattle.command_model.specs.World.{Devices, SameButThese}
 use Rattle.command_words.specs.declared.fault.Fault.{Fault}
 use Rattle.command_words.specs.declared.fault.Fault.TheVariants as fault
+use Rattle.command_words.specs.declared.note.Counted.TheVariants as counted
 use Rattle.command_words.specs.declared.note.Note.{Note}
 use Rattle.command_words.specs.declared.note.Note.TheVariants as note
 use Rattle.command_words.specs.declared.stop.Stop.{Stop}
@@ -88,6 +89,7 @@ allowed_line (note.BadSettings wrong path) e = refl
 allowed_line note.TableExists e = absurd cc
 allowed_line note.NoTable e = absurd cc
 allowed_line (note.NameTaken name) e = absurd cc
+allowed_line (note.NoSegment name) e = absurd cc
 allowed_line (note.BadCsv wrong row column) e = absurd cc
 allowed_line (note.TooLarge what limit) e = e
 allowed_line (note.BadQuery wrong place) e = absurd cc
@@ -102,7 +104,9 @@ caused_line schema settings inputs stored (note.BadSettings wrong path) e told =
 caused_line schema settings inputs stored note.TableExists e told = absurd cc
 caused_line schema settings inputs stored note.NoTable e told = absurd cc
 caused_line schema settings inputs stored (note.NameTaken name) e told = absurd cc
+caused_line schema settings inputs stored (note.NoSegment name) e told = absurd cc
 caused_line schema settings inputs stored (note.BadCsv wrong row column) e told = absurd cc
+caused_line schema settings inputs stored (note.TooLarge counted.Segments limit) e told = absurd cc
 caused_line schema settings inputs stored (note.TooLarge what limit) e told = told
 caused_line schema settings inputs stored (note.BadQuery wrong place) e told = absurd cc
 caused_line schema settings inputs stored (note.TooManyGroups most) e told = absurd cc
@@ -118,6 +122,7 @@ looked_line schema settings old new (note.BadSettings wrong path) e alone = tt
 looked_line schema settings old new note.TableExists e alone = absurd cc
 looked_line schema settings old new note.NoTable e alone = tt
 looked_line schema settings old new (note.NameTaken name) e alone = tt
+looked_line schema settings old new (note.NoSegment name) e alone = tt
 looked_line schema settings old new (note.BadCsv wrong row column) e alone = tt
 looked_line schema settings old new (note.TooLarge what limit) e alone = tt
 looked_line schema settings old new (note.BadQuery wrong place) e alone = tt
@@ -218,6 +223,7 @@ module _ (schema settings : List ℕ) (inputs inputs_new depot looked depot_new 
   moved_looked note.TableExists is = subst (λ h. IfSome h (λ _. inputs_new ≡ inputs)) looks.held is
   moved_looked note.NoTable is = is
   moved_looked (note.NameTaken name) is = is
+  moved_looked (note.NoSegment name) is = is
   moved_looked (note.BadCsv wrong row column) is = is
   moved_looked (note.TooLarge what limit) is = is
   moved_looked (note.BadQuery wrong place) is = is

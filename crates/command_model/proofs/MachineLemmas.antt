@@ -42,21 +42,23 @@ use Rattle.table_store.specs.TableFile.{table_file, table_name}
 use Rattle.table_store.proofs.AcceptedLemmas.{one_table}
 use Rattle.table_store.proofs.KeyLemmas.{names_stand, segment_kept_so, segment_there}
 use Rattle.table_store.proofs.CountLemmas.{names_count}
+use Rattle.table_store.proofs.DropLemmas.{drop_stands}
 use Rattle.table_store.proofs.StandsLemmas.{create_stands, none_there, one_there, segment_stands, table_stands, table_there}
 use Rattle.command_model.specs.Build.{BuildRefuses, HasPlace, IsBuilt, new_rows, segment_rows, table_of as table_in, with_schema, with_settings as settled}
-use Rattle.command_words.specs.Command.{Build, Command, Create, Listing, Scan, Ask}
+use Rattle.command_words.specs.Command.{Build, Command, Create, Drop, Listing, Scan, Ask}
+use Rattle.command_model.specs.Drop.{DropRefuses, IsDropped, IsMissing}
 use Rattle.command_model.specs.Create.{Made, beside, json_bytes, json_in, new_table, read_by, schema_in, settings_in, table_of, with_settings}
 use Rattle.command_model.proofs.StoredLemmas.{table_segments}
 use Rattle.command_model.specs.Queried.{HasNoReply, HasReply, IsFaultOf, IsQueried, IsWrongImage, QueryRefuses, rows_in}
 use Rattle.command_words.specs.declared.about.About.{About}
 use Rattle.command_words.specs.declared.about.About.TheVariants.{Plans, Rows, RowsAndPlans}
-use Rattle.command_model.specs.Ran.{Builds, IsStepped, Lists, Over, Queries, TableIsThere, WhereStands, files_after}
+use Rattle.command_model.specs.Ran.{Builds, Drops, IsStepped, Lists, Over, Queries, TableIsThere, WhereStands, files_after}
 use Rattle.command_model.specs.Stored.{HasRows, HasTableFile, IsListed, IsWrongSegment, SegmentsRefuse, count_in, list_text}
 use Rattle.command_words.specs.declared.note.Counted.TheVariants as counted
 use Rattle.command_words.specs.declared.note.Note.{Note}
 use Rattle.command_words.specs.declared.note.Note.TheVariants as note
 use Rattle.command_words.specs.declared.note.Note.TheVariants.{BadSchema, BadSettings}
-use Rattle.command_model.specs.Step.{After, Answer, Refuses, Replies, built, create_answer, created, has_table, list_answer, query_answer, rows_answer, sql_answered, step_of, with_rows, with_table}
+use Rattle.command_model.specs.Step.{After, Answer, Refuses, Replies, built, create_answer, created, dropped, has_table, list_answer, query_answer, rows_answer, sql_answered, step_of, with_rows, with_table, without_segment}
 
 -- ---- the texts that were made are accepted
 
@@ -143,6 +145,7 @@ none_refused stored stands (note.BadSettings wrong path) h = absurd h
 none_refused stored stands note.TableExists h = absurd h
 none_refused stored stands note.NoTable h = refl
 none_refused stored stands (note.NameTaken name) h = absurd h
+none_refused stored stands (note.NoSegment name) h = absurd h
 none_refused stored stands (note.BadCsv wrong row column) h = absurd h
 none_refused stored stands (note.TooLarge what limit) h = absurd h
 none_refused stored stands (note.BadQuery wrong place) h = absurd h
@@ -170,6 +173,7 @@ module _ (stored : Files) (texts : state.Texts) (segments : Segments) (stands : 
   some_refused note.TableExists h = absurd h
   some_refused note.NoTable h = one_there stored texts segments stands h
   some_refused (note.NameTaken name) h = absurd h
+  some_refused (note.NoSegment name) h = absurd h
   some_refused (note.BadCsv wrong row column) h = absurd h
   some_refused (note.TooLarge what limit) h = absurd h
   some_refused (note.BadQuery wrong place) h = absurd h
@@ -306,6 +310,32 @@ build_step stored name csv inputs (Refuses line) new NoTable stands (why, same) 
 build_step stored name csv inputs (Replies text) new (HasTable texts segments) stands b = built_step stored texts segments stands name csv inputs text new b
 build_step stored name csv inputs (Refuses line) new (HasTable texts segments) stands (why, same) = refused_step stored texts segments stands name csv inputs line new why same
 
+-- ---- `drop`
+
+module _ (stored : Files) (texts : state.Texts) (segments : Segments) (stands : Stands stored (HasTable texts segments)) (name : List ℕ) where
+  -- what is left by whether there is a segment of the name
+  by_name : (there : Bool) (answer : Answer) (new : Option Files) → is_some (map.get segments name) ≡ there → IsStepped (without_segment there texts segments name) answer new → IsStepped (dropped (HasTable texts segments) name) answer new
+  by_name there answer new is stepped = subst (λ b. IsStepped (without_segment b texts segments name) answer new) (sym is) stepped
+
+  dropped_step : (text : List ℕ) (new : Option Files) → IsDropped stored name text new → IsStepped (dropped (HasTable texts segments) name) (Replies text) new
+  dropped_step text new d =
+      let (bytes, got) = d.there in
+      by_name true (Replies text) new (some_mapped (segment_file stands.table name) (map.get segments name) bytes (sym (segment_there stored texts segments stands name) ∙ got))
+      (record { answers = ap Replies d.text_is; stands = stays (map.remove stored (file_of name)) (HasTable texts (map.remove segments name)) new (drop_stands stored texts segments name stands) d.leaves })
+
+  missing_step : (line : Note) (new : Option Files) → IsMissing stored name line → new ≡ Some stored → IsStepped (dropped (HasTable texts segments) name) (Refuses line) new
+  missing_step line new m same =
+      by_name false (Refuses line) new (ap is_some (none_mapped (segment_file stands.table name) (map.get segments name) (sym (segment_there stored texts segments stands name) ∙ m.none)))
+      (record { answers = ap Refuses m.line_is; stands = stays stored (HasTable texts segments) new stands same })
+
+drop_step : (stored : Files) (name : List ℕ) (answer : Answer) (new : Option Files) (before : State) → Stands stored before → Drops name stored answer new → IsStepped (dropped before name) answer new
+drop_step stored name (Replies text) new NoTable stands d = let (bytes, got, is) = d.table_is in none_there stored stands (bytes, got)
+drop_step stored name (Refuses line) new NoTable stands (inl h, same) = record { answers = none_refused stored stands line (table_segments stored line h); stands = stays stored NoTable new stands same }
+drop_step stored name (Refuses line) new NoTable stands (inr m, same) = let (bytes, got, is) = m.table_is in none_there stored stands (bytes, got)
+drop_step stored name (Replies text) new (HasTable texts segments) stands d = dropped_step stored texts segments stands name text new d
+drop_step stored name (Refuses line) new (HasTable texts segments) stands (inl h, same) = some_refused stored texts segments stands line (table_segments stored line h)
+drop_step stored name (Refuses line) new (HasTable texts segments) stands (inr m, same) = missing_step stored texts segments stands name line new m same
+
 -- ---- a query's text
 
 none_asked : (stored : Files) → Stands stored NoTable → (about : About) (sql : List ℕ) (line : Note) → QueryRefuses about sql stored line → Refuses line ≡ query_answer about NoTable sql
@@ -408,6 +438,7 @@ over_step (Some (Scan file sql)) inputs stored answer new before stands (answers
 over_step (Some (Create schema settings)) inputs stored answer new before stands over =
     by_table (new_table schema settings inputs) stored answer new before over.there (accepted schema settings inputs) stands over.known over.answers over.leaves
 over_step (Some (Build name csv)) inputs stored answer new before stands builds = build_step stored name csv inputs answer new before stands builds
+over_step (Some (Drop name)) inputs stored answer new before stands drops = drop_step stored name answer new before stands drops
 over_step (Some Listing) inputs stored answer new before stands (lists, same) = record { answers = list_step stored answer before stands lists; stands = stays stored before new stands same }
 over_step (Some (Ask about sql)) inputs stored answer new before stands (queries, same) = record { answers = query_step stored about sql answer before stands queries; stands = stays stored before new stands same }
 

@@ -100,6 +100,7 @@ table_segments files (note.BadSettings wrong path) h = absurd h
 table_segments files note.TableExists h = absurd h
 table_segments files note.NoTable h = h
 table_segments files (note.NameTaken name) h = absurd h
+table_segments files (note.NoSegment name) h = absurd h
 table_segments files (note.BadCsv wrong row column) h = absurd h
 table_segments files (note.TooLarge what limit) h = absurd h
 table_segments files (note.BadQuery wrong place) h = absurd h
@@ -168,6 +169,7 @@ module _ (old new : Seen) (log : LogsOpened TableFile old.log new.log) where
   no_table store.NoTable s is none other reads only =
       subst Looks (sym is) (record { reads = reads_as old new reads (λ e. absurd cc) (λ e. absurd cc); log = log; found = tt; stops = (refl, none refl) })
   no_table store.NameTaken s is none other reads only = absurd is
+  no_table store.NoSegment s is none other reads only = absurd is
   no_table store.TooManySegments s is none other reads only = absurd is
   no_table store.TooLarge s is none other reads only = absurd is
   no_table (store.NotASegment p) s (inl is) none other reads only =

@@ -3,7 +3,7 @@ use Rattle.std.proofs.Common.{◌≡◌, Option, None, Some, refl, ap, false}
 use Rattle.outside.specs.Files.{Files}
 use Rattle.outside.specs.Seen.{Seen}
 use Rattle.table_store.specs.State.{State}
-use Rattle.command_words.specs.Command.{Ask, Build, Command, Create, Listing, Scan, command_of, writes}
+use Rattle.command_words.specs.Command.{Ask, Build, Command, Create, Drop, Listing, Scan, command_of, writes}
 use Rattle.command_model.specs.Profile.{profile}
 use Rattle.command_model.specs.Step.{step_of}
 use Rattle.command_model.specs.Touched.{Keeps}
@@ -15,6 +15,7 @@ step_leaves state None inputs quiet = refl
 step_leaves state (Some (Scan file sql)) inputs quiet = refl
 step_leaves state (Some (Create schema settings)) inputs quiet = cc
 step_leaves state (Some (Build name csv)) inputs quiet = cc
+step_leaves state (Some (Drop name)) inputs quiet = cc
 step_leaves state (Some Listing) inputs quiet = refl
 step_leaves state (Some (Ask about sql)) inputs quiet = refl
 
@@ -27,6 +28,7 @@ keeps_depot None old new quiet kept = record { held = ap (λ s. s.held) kept; pa
 keeps_depot (Some (Scan file sql)) old new quiet kept = record { held = ap (λ s. s.held) kept; parts = ap (λ s. s.parts) kept; writes = ap (λ s. s.write_faults) kept }
 keeps_depot (Some (Create schema settings)) old new quiet kept = cc
 keeps_depot (Some (Build name csv)) old new quiet kept = cc
+keeps_depot (Some (Drop name)) old new quiet kept = cc
 keeps_depot (Some Listing) old new quiet kept = record { held = kept.held; parts = kept.parts; writes = kept.writes }
 keeps_depot (Some (Ask about sql)) old new quiet kept = record { held = kept.held; parts = kept.parts; writes = kept.writes }
 

@@ -2,7 +2,7 @@
 use Rattle.std.specs.Prelude.{◌≡◌, ◌⊎◌, ℕ, nat_le, nat_lt, is_some, List, ◌++◌, length, codes, Option, Some, None, Result, Ok, Err, if◌then◌else◌}
 use Rattle.std.specs.Fmt.{decimal}
 use Rattle.std.specs.FinMap as map
-use Rattle.outside.specs.Files.{Files, Has, Lacks, with_file}
+use Rattle.outside.specs.Files.{Files, with_file}
 use Rattle.values.specs.declared.value.Value.{Value}
 use Rattle.schema_json.specs.Schemas.{schema_read}
 use Rattle.json_keys.specs.declared.fault.TextFault.{TextFault}
@@ -17,7 +17,7 @@ use Rattle.csv_row.specs.declared.fault.CsvFault.{CsvFault}
 use Rattle.segment_build.specs.Growing.{trees_fit}
 use Rattle.segment_file.specs.Image.{CanHold, image}
 use Rattle.segment_file.specs.Names.{IsSegmentName, file_of}
-use Rattle.table_store.specs.Segments.{HasRoom, IsFull, most_segments}
+use Rattle.table_store.specs.Segments.{HasRoom, HasSegment, IsFull, LacksSegment, most_segments}
 use Rattle.table_store.specs.State.{Segments, Texts}
 use Rattle.command_words.specs.Notes.{csv_note}
 use Rattle.command_model.specs.Profile.{csv_limit, tree_limit}
@@ -84,23 +84,29 @@ built_text name rows = codes "built " ++ name ++ codes ", " ++ decimal (length r
 -- the table of a store has no segment of this name, and room for one more
 pub record HasPlace (files : Files) (name : List ℕ) (table : Table) : Type 0 where
   pub table_is : HasTableFile files table
-  pub free : Lacks (Some files) (file_of name)
+  pub free : LacksSegment (Some files) name
   pub room : HasRoom files
 
 -- there is a table, and a segment of this name
 pub record IsTaken (files : Files) (name : List ℕ) (line : Note) : Type 0 where
   pub table : Table
   pub table_is : HasTableFile files table
-  pub there : Has (Some files) (file_of name)
+  pub there : HasSegment (Some files) name
   pub line_is : line ≡ note.NameTaken name
 
 -- there is a table, and no segment of this name, but as many as there may be
 pub record AreMany (files : Files) (name : List ℕ) (line : Note) : Type 0 where
   pub table : Table
   pub table_is : HasTableFile files table
-  pub free : Lacks (Some files) (file_of name)
+  pub free : LacksSegment (Some files) name
   pub full : IsFull files
   pub line_is : line ≡ note.TooLarge counted.Segments most_segments
+
+-- what a refusal of the place for a segment of this name tells: that name, or the most segments
+abbrev pub IsLineOfPlace : List ℕ → Note → Type 0
+IsLineOfPlace name (note.NameTaken taken) = taken ≡ name
+IsLineOfPlace name (note.TooLarge counted.Segments limit) = limit ≡ most_segments
+IsLineOfPlace name other = Unit {0}
 
 -- the CSV file has no rows for a segment of the table
 pub record LacksRows (inputs files : Files) (name csv : List ℕ) (line : Note) : Type 0 where

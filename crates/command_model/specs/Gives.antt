@@ -2,16 +2,18 @@
 use Rattle.std.specs.Prelude.{◌≡◌, ◌⊎◌, ◌++◌, ◌<◌, true, false, ℕ, List, [], codes, get_or, length, Option, Result, Ok, Err, IsErrAnd, IfSome, IfErr, IfOk}
 use Rattle.std.specs.FinMap as finite
 use Rattle.outside.specs.Counts.{Rose}
-use Rattle.outside.specs.Files.{Files, Has, Lacks, with_file}
+use Rattle.outside.specs.Files.{Files, Has, Lacks, with_file, without_file}
 use Rattle.outside.specs.Whole.{IsTooLong}
 use Rattle.values.specs.declared.value.Value.{Value}
 use Rattle.csv_ingest.specs.Blocks.{RowsOrFault}
 use Rattle.csv_row.specs.declared.fault.CsvFault.{CsvFault}
 use Rattle.table_schema.specs.declared.table.Table.{Table}
+use Rattle.table_store.specs.Segments.{HasSegment, LacksSegment}
 use Rattle.table_store.specs.State as state
 use Rattle.table_store.specs.TableFile.{table_file, table_name}
 use Rattle.command_model.specs.Consulted.{HasRead, ReadsAbout, ReadsStored}
-use Rattle.command_model.specs.Build.{HasPlace, PlaceRefuses, built_text, csv_rows}
+use Rattle.command_model.specs.Build.{HasPlace, PlaceRefuses, IsLineOfPlace, built_text, csv_rows}
+use Rattle.command_model.specs.Drop.{dropped_text}
 use Rattle.command_model.specs.Profile.{Opens, StoreFiles, TableFile, place_refuses, query_refuses, rows_refuse, store_refuses, texts_refuse, tree_limit}
 use Rattle.command_model.specs.Queried.{IsQueried, QueryRefuses}
 use Rattle.command_model.specs.Stored.{part_text}
@@ -181,10 +183,10 @@ pub record AnswersQuery (about : About) (sql : List ℕ) (old new : Seen)
 
 -- ---- a segment is built
 
--- a look for a place for a segment ends: the files refuse it so, or a look failed, or memory ran
--- out
+-- a look for a place for a segment of this name ends: the files refuse it so, or a look failed, or
+-- memory ran out
 abbrev pub StopsPlace : List ℕ → Option Files → Stop → Type 0
-StopsPlace name held (stop.Refused line) = (place_refuses line ≡ true)
+StopsPlace name held (stop.Refused line) = (place_refuses line ≡ true) × IsLineOfPlace name line
     × IfSome held (λ files. PlaceRefuses name files line)
 StopsPlace name held (stop.Fault fault.Read) = Unit {0}
 StopsPlace name held (stop.Fault fault.Write) = ⊥
@@ -223,3 +225,22 @@ Publishes table name rows old new (Err (stop.Fault fault.Read)) = ⊥
 Publishes table name rows old new (Err (stop.Fault fault.Write)) = (new.held ≡ old.held)
     × Rose old.write_faults new.write_faults
 Publishes table name rows old new (Err (stop.Fault fault.Memory)) = new.held ≡ old.held
+
+-- ---- a segment is dropped
+
+-- there is no segment of a name, or memory ran out
+abbrev pub IsMissingStop : List ℕ → Stop → Type 0
+IsMissingStop name s = (s ≡ stop.Refused (note.NoSegment name)) ⊎ (s ≡ stop.Fault fault.Memory)
+
+-- the file of the segment of this name was taken away, or there is none, or a device failed, or
+-- memory ran out
+abbrev pub Removes : List ℕ → Seen → Seen → Result (List ℕ) Stop → Type 0
+Removes name old new (Ok text) = HasSegment old.held name
+    × (new.held ≡ without_file (file_of name) old.held) × (text ≡ dropped_text name)
+Removes name old new (Err (stop.Refused line)) = (line ≡ note.NoSegment name)
+    × LacksSegment old.held name × (new.held ≡ old.held)
+Removes name old new (Err (stop.Fault fault.Read)) = (new.held ≡ old.held)
+    × Rose old.read_faults new.read_faults
+Removes name old new (Err (stop.Fault fault.Write)) = (new.held ≡ old.held)
+    × Rose old.write_faults new.write_faults
+Removes name old new (Err (stop.Fault fault.Memory)) = new.held ≡ old.held

@@ -2,6 +2,7 @@ pub mod Writing
 pub mod Build
 pub mod Consulted
 pub mod Create
+pub mod Drop
 pub mod Gives
 pub mod Places
 pub mod Profile

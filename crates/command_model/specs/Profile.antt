@@ -5,7 +5,7 @@ use Rattle.csv_ingest.specs.Blocks as csv
 use Rattle.segment_file.specs.Names.{file_of}
 use Rattle.segment_file.specs.Trees as trees
 use Rattle.table_store.specs.TableFile.{table_name, text_limit}
-use Rattle.command_words.specs.Command.{Build, Command, Create, Listing, Scan, Ask}
+use Rattle.command_words.specs.Command.{Build, Command, Create, Drop, Listing, Scan, Ask}
 use Rattle.command_words.specs.declared.about.About.{About}
 use Rattle.command_words.specs.declared.about.About.TheVariants.{Plans, Rows, RowsAndPlans}
 use Rattle.command_words.specs.declared.note.Counted.{Counted}
@@ -118,6 +118,11 @@ place_refuses other = false
 abbrev pub build_refuses : Note → Bool
 build_refuses line = place_refuses line || rows_refuse line
 
+-- the refusals of `drop`
+abbrev pub drop_refuses : Note → Bool
+drop_refuses (note.NoSegment name) = true
+drop_refuses other = store_refuses other
+
 -- the limit that the text of a query has
 abbrev pub sql_counts : Counted → Bool
 sql_counts counted.SqlBytes = true
@@ -162,6 +167,13 @@ profile (Some (Build name csv)) =
       store = Writes TableFile (file_of name ∷ []);
       replies = true;
       refuses = build_refuses;
+    }
+profile (Some (Drop name)) =
+    record {
+      files = [];
+      store = Writes TableFile (file_of name ∷ []);
+      replies = true;
+      refuses = drop_refuses;
     }
 profile (Some Listing) = record {
   files = [];

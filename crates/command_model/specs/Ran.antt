@@ -5,12 +5,13 @@ use Rattle.outside.specs.Counts.{Rose}
 use Rattle.outside.specs.Files.{Files, Has, Lacks, with_file}
 use Rattle.table_store.specs.State.{State}
 use Rattle.table_store.specs.Stands.{Stands}
+use Rattle.table_store.specs.Segments.{HasSegment, IsFull, LacksSegment, most_segments}
 use Rattle.table_store.specs.TableFile.{table_file, table_name, text_limit}
-use Rattle.segment_file.specs.Names.{file_of}
 use Rattle.command_model.specs.Build.{BuildRefuses, IsBuilt}
-use Rattle.command_words.specs.Command.{Build, Command, Create, Listing, Scan, Ask}
+use Rattle.command_words.specs.Command.{Build, Command, Create, Drop, Listing, Scan, Ask}
 use Rattle.command_model.specs.Consulted.{AtMostRead, Consulted}
 use Rattle.command_model.specs.Create.{Made, new_table}
+use Rattle.command_model.specs.Drop.{DropRefuses, IsDropped}
 use Rattle.command_model.specs.Profile.{may_read, place_refuses, profile}
 use Rattle.command_model.specs.Queried.{IsQueried, IsWrongImage, QueryRefuses}
 use Rattle.command_model.specs.Step.{After, Answer, Refuses, Replies, create_answer, scan_answer, step_of}
@@ -20,6 +21,7 @@ use Rattle.command_model.specs.World.{Devices}
 use Rattle.command_words.specs.declared.about.About.{About}
 use Rattle.command_words.specs.declared.fault.Fault.{Fault}
 use Rattle.command_words.specs.declared.fault.Fault.TheVariants as fault
+use Rattle.command_words.specs.declared.note.Counted.TheVariants as counted
 use Rattle.command_words.specs.declared.note.Note.{Note}
 use Rattle.command_words.specs.declared.note.Note.TheVariants as note
 use Rattle.command_words.specs.declared.stop.Stop.{Stop}
@@ -73,6 +75,11 @@ Builds name csv inputs files (Replies text) new = IsBuilt inputs files name csv 
 Builds name csv inputs files (Refuses line) new = BuildRefuses name csv inputs files line
     × (new ≡ Some files)
 
+-- what `drop` does over any published files: a segment's file is taken away from them, or none
+abbrev pub Drops : List ℕ → Files → Answer → Option Files → Type 0
+Drops name files (Replies text) new = IsDropped files name text new
+Drops name files (Refuses line) new = DropRefuses name files line × (new ≡ Some files)
+
 -- what a command does over any store
 abbrev pub Over : Option Command → Files → Option Files → Answer → Option Files → Type 0
 Over None inputs old answer new = (answer ≡ Refuses note.BadWords) × (new ≡ old)
@@ -82,6 +89,7 @@ Over (Some (Create schema settings)) inputs old answer new = Creates
     (new_table schema settings inputs) old answer new
 Over (Some (Build name csv)) inputs old answer new = IfSome old
     (λ files. Builds name csv inputs files answer new)
+Over (Some (Drop name)) inputs old answer new = IfSome old (λ files. Drops name files answer new)
 Over (Some Listing) inputs old answer new = IfSome old (λ files. Lists files answer) × (new ≡ old)
 Over (Some (Ask about sql)) inputs old answer new = IfSome old
     (λ files. Queries about sql files answer) × (new ≡ old)
@@ -98,6 +106,7 @@ Finds (Some (Create schema settings)) inputs stored line = new_table schema sett
     ≡ Err line
 Finds (Some (Build name csv)) inputs stored line = IfSome stored
     (λ files. BuildRefuses name csv inputs files line)
+Finds (Some (Drop name)) inputs stored line = ⊥
 Finds (Some Listing) inputs stored line = ⊥
 Finds (Some (Ask about sql)) inputs stored line = IfSome stored
     (λ files. QueryRefuses about sql files line)
@@ -111,11 +120,22 @@ IsWrong (Some (Ask about sql)) files name part = IsWrongTable files name part
     ⊎ IsWrongImage files name part
 IsWrong command files name part = IsWrongTable files name part
 
+-- a name is the one of the segment that a command makes or drops
+abbrev pub IsNameIn : Option Command → List ℕ → Type 0
+IsNameIn (Some (Build name csv)) other = other ≡ name
+IsNameIn (Some (Drop name)) other = other ≡ name
+IsNameIn command other = ⊥
+
 -- what is told of the devices where a command is refused so: of the store, or of the bytes of files
 abbrev pub Caused : Option Command → Option Files → Option Files → Note → Type 0
 Caused command inputs stored note.TableExists = Has stored table_name
 Caused command inputs stored note.NoTable = Lacks stored table_name
-Caused command inputs stored (note.NameTaken name) = Has stored (file_of name)
+Caused command inputs stored (note.NameTaken name) = IsNameIn command name
+    × HasSegment stored name
+Caused command inputs stored (note.NoSegment name) = IsNameIn command name
+    × LacksSegment stored name
+Caused command inputs stored (note.TooLarge counted.Segments limit) = (limit ≡ most_segments)
+    × IfSome stored IsFull
 Caused command inputs stored (note.NoInput file) = Lacks inputs file
 Caused command inputs stored (note.NotASegment name part) = IfSome stored
     (λ files. IsWrong command files name part)

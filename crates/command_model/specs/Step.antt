@@ -1,5 +1,5 @@
 -- What one command answers where no device fails and there is memory.
-use Rattle.std.specs.Prelude.{ℕ, Bool, true, false, nat_lt, List, [], ◌++◌, length, codes, Option, Some, None, Result, Ok, Err, if◌then◌else◌}
+use Rattle.std.specs.Prelude.{ℕ, Bool, true, false, nat_lt, List, [], ◌++◌, length, codes, is_some, Option, Some, None, Result, Ok, Err, if◌then◌else◌}
 use Rattle.std.specs.FinMap as map
 use Rattle.outside.specs.Files.{Files}
 use Rattle.values.specs.declared.value.Value.{Value}
@@ -8,8 +8,9 @@ use Rattle.table_store.specs.Stands.{segment_of}
 use Rattle.table_store.specs.State.{Segments, State, Texts, NoTable, HasTable}
 use Rattle.table_store.specs.TableFile.{table_name}
 use Rattle.command_model.specs.Build.{built_text, new_rows, table_of}
-use Rattle.command_words.specs.Command.{Build, Command, Create, Listing, Scan, Ask, command_of}
+use Rattle.command_words.specs.Command.{Build, Command, Create, Drop, Listing, Scan, Ask, command_of}
 use Rattle.command_model.specs.Create.{Made, new_table}
+use Rattle.command_model.specs.Drop.{dropped_text}
 use Rattle.sql_reply.specs.SqlReply.{SqlReply}
 use Rattle.text_scan.specs.TextReply.{TextReply, text_reply}
 use Rattle.command_model.specs.Stored.{listed}
@@ -128,6 +129,23 @@ built NoTable name csv inputs = record { answer = Refuses note.NoTable; state = 
 built (HasTable texts segments) name csv inputs = with_table texts segments name csv inputs
     (table_of texts)
 
+-- what `drop` leaves of a table, by whether there is a segment of the name
+abbrev pub without_segment : Bool → Texts → Segments → List ℕ → After
+without_segment true texts segments name = record {
+  answer = Replies (dropped_text name);
+  state = HasTable texts (map.remove segments name);
+}
+without_segment false texts segments name = record {
+  answer = Refuses (note.NoSegment name);
+  state = HasTable texts segments;
+}
+
+-- what `drop` leaves
+abbrev pub dropped : State → List ℕ → After
+dropped NoTable name = record { answer = Refuses note.NoTable; state = NoTable }
+dropped (HasTable texts segments) name = without_segment (is_some (map.get segments name)) texts
+    segments name
+
 -- what a command does to a store, over these input files
 abbrev pub step_of : State → Option Command → Files → After
 step_of state None inputs = record { answer = Refuses note.BadWords; state = state }
@@ -142,6 +160,7 @@ step_of state (Some (Create schema settings)) inputs =
       state = created state (new_table schema settings inputs);
     }
 step_of state (Some (Build name csv)) inputs = built state name csv inputs
+step_of state (Some (Drop name)) inputs = dropped state name
 step_of state (Some Listing) inputs = record { answer = list_answer state; state = state }
 step_of state (Some (Ask about sql)) inputs = record {
   answer = query_answer about state sql;

@@ -11,11 +11,16 @@ pub record Devices : Type 0 where
   pub inputs : Seen
   pub depot : Seen
 
--- all that a command can reach
-pub record World : Type 0 where
+-- all that a command can reach, and what is kept beside it from one command to the next
+pub record Stage (K : Type 0) : Type 0 where
   pub devices : Devices
   pub out : Heard
   pub notes : Heard
+  pub kept : K
+
+-- where nothing is kept beside the store
+abbrev pub World : Type 0
+World = Stage (Unit {0})
 
 -- the devices, through the members of their traits
 abbrev pub devices : {A B : Type 0} → shelf.Ghosts A → shelf.Ghosts B → A → B → Devices
@@ -28,6 +33,7 @@ world I D O N inputs depot out notes = record {
   devices = devices I D inputs depot;
   out = heard O out;
   notes = heard N notes;
+  kept = tt;
 }
 
 -- a name is none of these

@@ -69,6 +69,7 @@ fn no_place(alloc: Global, name: &str, fault: StoreFault) -> Stop
         StoreFault::NoMemory => Stop::Fault(Fault::Memory),
         StoreFault::TableExists
         | StoreFault::NoTable
+        | StoreFault::NoSegment
         | StoreFault::TooLarge
         | StoreFault::NotASegment(_)
         | StoreFault::WriteFault => unreachable!(),
@@ -100,6 +101,7 @@ fn stop_of(alloc: Global, fault: StoreFault) -> Stop
         StoreFault::NoMemory => Stop::Fault(Fault::Memory),
         StoreFault::TableExists
         | StoreFault::NameTaken
+        | StoreFault::NoSegment
         | StoreFault::TooManySegments
         | StoreFault::TooLarge
         | StoreFault::WriteFault => unreachable!(),

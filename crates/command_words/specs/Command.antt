@@ -10,6 +10,7 @@ pub data Command : Type 0 where
   Scan : (file sql : List ℕ) → Command
   Create : (schema settings : List ℕ) → Command
   Build : (name csv : List ℕ) → Command
+  Drop : (name : List ℕ) → Command
   Listing : Command
   Ask : (about : About) (sql : List ℕ) → Command
 
@@ -20,6 +21,7 @@ command_of (verb ∷ first ∷ []) =
     if bytes_eq verb (codes "query") then Some (Ask Rows first)
     else if bytes_eq verb (codes "explain") then Some (Ask Plans first)
     else if bytes_eq verb (codes "stats") then Some (Ask RowsAndPlans first)
+    else if bytes_eq verb (codes "drop") && is_segment_name first then Some (Drop first)
     else None
 command_of (verb ∷ first ∷ second ∷ []) =
     if bytes_eq verb (codes "scan") then Some (Scan first second)
@@ -32,6 +34,7 @@ command_of words = None
 abbrev pub writes : Option Command → Bool
 writes (Some (Create schema settings)) = true
 writes (Some (Build name csv)) = true
+writes (Some (Drop name)) = true
 writes (Some (Scan file sql)) = false
 writes (Some Listing) = false
 writes (Some (Ask about sql)) = false

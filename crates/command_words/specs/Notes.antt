@@ -16,7 +16,7 @@ use Rattle.command_words.specs.declared.bad_query.QueryReason.TheVariants as rea
 use Rattle.command_words.specs.declared.note.Counted.{Counted}
 use Rattle.command_words.specs.declared.note.Counted.TheVariants as counted
 use Rattle.command_words.specs.declared.note.Note.{Note}
-use Rattle.command_words.specs.declared.note.Note.TheVariants.{BadCsv, BadQuery, BadSchema, BadSettings, BadWords, NameTaken, NoInput, NoTable, TableExists, TooLarge, TooManyGroups, NotASegment}
+use Rattle.command_words.specs.declared.note.Note.TheVariants.{BadCsv, BadQuery, BadSchema, BadSettings, BadWords, NameTaken, NoInput, NoSegment, NoTable, TableExists, TooLarge, TooManyGroups, NotASegment}
 use Rattle.command_words.specs.declared.fault.Fault.{Fault}
 use Rattle.command_words.specs.declared.fault.Fault.TheVariants as fault
 use Rattle.command_words.specs.declared.status.Status.{Status}
@@ -58,6 +58,7 @@ status_of (BadSettings wrong path) = status.BadSettings
 status_of TableExists = status.TableExists
 status_of NoTable = status.NoTable
 status_of (NameTaken name) = status.NameTaken
+status_of (NoSegment name) = status.NoSegment
 status_of (BadCsv wrong row column) = status.BadCsv
 status_of (TooLarge what limit) = status.TooLarge
 status_of (BadQuery wrong place) = status.BadQuery
@@ -94,6 +95,7 @@ note_text (BadSettings wrong path) = codes "bad settings: " ++ key_text wrong ++
 note_text TableExists = codes "table exists\n"
 note_text NoTable = codes "no table\n"
 note_text (NameTaken name) = codes "name taken: " ++ name ++ codes "\n"
+note_text (NoSegment name) = codes "no segment: " ++ name ++ codes "\n"
 note_text (BadCsv wrong row column) = codes "bad csv: " ++ kind_text wrong ++ codes ", record "
     ++ decimal row ++ codes ", column " ++ decimal column ++ codes "\n"
 note_text (TooLarge what limit) = codes "too large: " ++ counted_text what ++ codes ", limit "

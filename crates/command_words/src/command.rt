@@ -15,6 +15,8 @@ pub enum Command<'a> {
     Create(&'a str, &'a str),
     /// A segment from a CSV file: its name and the file's.
     Build(&'a str, &'a str),
+    /// A segment that is to go: its name.
+    Drop(&'a str),
     /// The segments.
     List,
     /// A query's text, and what it is asked for over the segments.
@@ -41,6 +43,9 @@ pub fn read_command(words: &[String]) -> Option<Command<'_>>
         if verb.as_str().as_bytes() == b"stats".as_slice() {
             return Some(Command::Ask(About::RowsAndPlans, first.as_str()));
         }
+        if verb.as_str().as_bytes() == b"drop".as_slice() && is_segment_name(first.as_str()) {
+            return Some(Command::Drop(first.as_str()));
+        }
     }
     if let [verb, first, second] = words {
         if verb.as_str().as_bytes() == b"scan".as_slice() {
@@ -62,7 +67,7 @@ pub fn may_write(words: &[String]) -> bool
     ensures { result ≡ may_write (map string_bytes words.now) }
 {
     match read_command(words) {
-        Some(Command::Create(_, _) | Command::Build(_, _)) => true,
+        Some(Command::Create(_, _) | Command::Build(_, _) | Command::Drop(_)) => true,
         Some(Command::Scan(_, _) | Command::List | Command::Ask(_, _)) | None => false,
     }
 }

@@ -23,6 +23,7 @@ pub fn status_of(note: &Note) -> Status
         Note::TableExists => Status::TableExists,
         Note::NoTable => Status::NoTable,
         Note::NameTaken(_) => Status::NameTaken,
+        Note::NoSegment(_) => Status::NoSegment,
         Note::BadCsv(_, _, _) => Status::BadCsv,
         Note::TooLarge(_, _) => Status::TooLarge,
         Note::BadQuery(_, _) => Status::BadQuery,
@@ -125,6 +126,16 @@ fn name_line(alloc: Global, name: &[u8]) -> Result<Vec<u8>, AllocError>
     Ok(line)
 }
 
+// The line of a name that no segment has.
+fn missing_line(alloc: Global, name: &[u8]) -> Result<Vec<u8>, AllocError>
+    ensures { IfOk result (λ line. line.items ≡ spec.note_text (Note.NoSegment name.now)) }
+{
+    let mut line = b"no segment: ".to_vec(alloc)?;
+    line.extend_from_slice(name)?;
+    line.push(b'\n')?;
+    Ok(line)
+}
+
 // The line of a file that is not there.
 fn file_line(alloc: Global, file: &[u8]) -> Result<Vec<u8>, AllocError>
     ensures { IfOk result (λ line. line.items ≡ spec.note_text (Note.NoInput file.now)) }
@@ -157,6 +168,7 @@ pub fn note_line(alloc: Global, note: &Note) -> Result<Vec<u8>, AllocError>
         Note::TableExists => b"table exists\n".to_vec(alloc),
         Note::NoTable => b"no table\n".to_vec(alloc),
         Note::NameTaken(name) => name_line(alloc, name.as_slice()),
+        Note::NoSegment(name) => missing_line(alloc, name.as_slice()),
         Note::BadCsv(kind, row, column) => csv_line(alloc, *kind, *row, *column),
         Note::TooLarge(what, limit) => limit_line(alloc, *what, *limit),
         Note::BadQuery(reason, place) => query_line(alloc, *reason, *place),

@@ -60,6 +60,7 @@ caused_line inputs stored (note.BadSettings wrong path) e h = absurd cc
 caused_line inputs stored note.TableExists e h = absurd cc
 caused_line inputs stored note.NoTable e h = h
 caused_line inputs stored (note.NameTaken name) e h = absurd cc
+caused_line inputs stored (note.NoSegment name) e h = absurd cc
 caused_line inputs stored (note.BadCsv wrong row column) e h = absurd cc
 caused_line inputs stored (note.TooLarge what limit) e h = absurd cc
 caused_line inputs stored (note.BadQuery wrong place) e h = absurd cc

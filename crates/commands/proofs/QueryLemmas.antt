@@ -34,6 +34,7 @@ use Rattle.command_model.specs.World.{Devices}
 use Rattle.command_words.specs.declared.about.About.{About}
 use Rattle.command_words.specs.declared.about.About.TheVariants.{Plans}
 use Rattle.command_words.specs.declared.fault.Fault.TheVariants as fault
+use Rattle.command_words.specs.declared.note.Counted.TheVariants as counted
 use Rattle.command_words.specs.declared.note.Note.{Note}
 use Rattle.command_words.specs.declared.note.Note.TheVariants as note
 use Rattle.command_words.specs.declared.stop.Stop.{Stop}
@@ -53,6 +54,7 @@ table_query about sql files (note.BadSettings wrong path) h = absurd h
 table_query about sql files note.TableExists h = absurd h
 table_query about sql files note.NoTable h = h
 table_query about sql files (note.NameTaken name) h = absurd h
+table_query about sql files (note.NoSegment name) h = absurd h
 table_query about sql files (note.BadCsv wrong row column) h = absurd h
 table_query about sql files (note.TooLarge what limit) h = absurd h
 table_query about sql files (note.BadQuery wrong place) h = absurd h
@@ -210,7 +212,9 @@ caused_query inputs stored about sql (note.BadSettings wrong path) e h = absurd 
 caused_query inputs stored about sql note.TableExists e h = absurd cc
 caused_query inputs stored about sql note.NoTable e h = h
 caused_query inputs stored about sql (note.NameTaken name) e h = absurd cc
+caused_query inputs stored about sql (note.NoSegment name) e h = absurd cc
 caused_query inputs stored about sql (note.BadCsv wrong row column) e h = absurd cc
+caused_query inputs stored about sql (note.TooLarge counted.Segments limit) e h = absurd cc
 caused_query inputs stored about sql (note.TooLarge what limit) e h = told_all inputs (λ files. Finds (Some (Ask about sql)) files stored (note.TooLarge what limit)) (λ files. h)
 caused_query inputs stored about sql (note.BadQuery wrong place) e h = told_all inputs (λ files. Finds (Some (Ask about sql)) files stored (note.BadQuery wrong place)) (λ files. h)
 caused_query inputs stored about sql (note.TooManyGroups most) e h = told_all inputs (λ files. Finds (Some (Ask about sql)) files stored (note.TooManyGroups most)) (λ files. h)

@@ -68,6 +68,7 @@ fn make<D: Depot>(alloc: Global, new: &NewTable, depot: &mut D) -> Result<Bytes,
         Err(
             StoreFault::NoTable
             | StoreFault::NameTaken
+            | StoreFault::NoSegment
             | StoreFault::TooManySegments
             | StoreFault::TooLarge
             | StoreFault::NotASegment(_),

@@ -3,6 +3,7 @@
 
 pub mod build;
 pub mod create;
+pub mod drop;
 pub mod list;
 pub mod query;
 pub mod scan;

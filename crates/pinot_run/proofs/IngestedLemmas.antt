@@ -16,9 +16,10 @@ use Rattle.query_executor.specs.Stated.{stated_by}
 use Rattle.table_store.specs.Accepted.{IsAccepted}
 use Rattle.table_store.specs.Stands.{segment_of}
 use Rattle.table_store.specs.State.{HasTable, NoTable, Segment, Segments, State, Texts}
+use Rattle.table_store.proofs.DropLemmas.{got_left, got_none}
 use Rattle.table_store.proofs.FilesLemmas.{other_name}
 use Rattle.table_store.proofs.NameLemmas.{is_name}
-use Rattle.command_words.specs.Command.{Ask, Build, Command, Create, Listing, Scan, command_of}
+use Rattle.command_words.specs.Command.{Ask, Build, Command, Create, Drop, Listing, Scan, command_of}
 use Rattle.command_words.specs.declared.about.About.TheVariants.{Rows, RowsAndPlans}
 use Rattle.command_words.specs.declared.note.Note.{Note}
 use Rattle.command_words.specs.declared.status.Status.{Status}
@@ -26,7 +27,7 @@ use Rattle.command_words.specs.declared.status.Status.TheVariants as status
 use Rattle.command_model.specs.Build.{new_rows, table_of}
 use Rattle.command_model.specs.Create.{Made, new_table}
 use Rattle.command_model.specs.Queried.{all_rows, each_rows, rows_in}
-use Rattle.command_model.specs.Step.{After, Replies, created, rows_answer, sql_answered, step_of, text_of, with_rows, with_table}
+use Rattle.command_model.specs.Step.{After, Replies, created, rows_answer, sql_answered, step_of, text_of, with_rows, with_table, without_segment}
 use Rattle.command_model.specs.World.{World}
 use Rattle.command_model.proofs.MachineLemmas.{read_as}
 use Rattle.pinot_run.specs.Calls.{Call}
@@ -85,8 +86,18 @@ record MakesSegment (command : Option Command) (files : Files) (from to : State)
   rows_are : new_rows table segments name csv files ≡ Ok rows
   to_is : to ≡ HasTable texts (map.insert segments name (segment_of table rows))
 
+-- a segment is dropped
+record LosesSegment (command : Option Command) (from to : State) : Type 0 where
+  name : List ℕ
+  texts : Texts
+  segments : Segments
+  command_is : command ≡ Some (Drop name)
+  was_there : is_some (map.get segments name) ≡ true
+  from_is : from ≡ HasTable texts segments
+  to_is : to ≡ HasTable texts (map.remove segments name)
+
 abbrev Changes : Option Command → Files → State → State → Type 0
-Changes command files from to = (to ≡ from) ⊎ MakesTable from to ⊎ MakesSegment command files from to
+Changes command files from to = (to ≡ from) ⊎ MakesTable from to ⊎ MakesSegment command files from to ⊎ LosesSegment command from to
 
 created_changes : (command : Option Command) (files : Files) (from : State) (made : Made) → Changes command files from (created from made)
 created_changes command files (HasTable texts segments) made = inl refl
@@ -98,11 +109,16 @@ module _ (name csv : List ℕ) (files : Files) (texts : Texts) (segments : Segme
       → Changes (Some (Build name csv)) files (HasTable texts segments) (with_rows texts segments name table r).state
   rows_change table is (Err line) e = inl refl
   rows_change table is (Ok rows) e =
-      inr (inr (record { name = name; csv = csv; texts = texts; segments = segments; table = table; rows = rows; command_is = refl; from_is = refl; table_is = is; rows_are = e; to_is = refl }))
+      inr (inr (inl (record { name = name; csv = csv; texts = texts; segments = segments; table = table; rows = rows; command_is = refl; from_is = refl; table_is = is; rows_are = e; to_is = refl })))
 
   table_changes : (t : Option Table) → table_of texts ≡ t → Changes (Some (Build name csv)) files (HasTable texts segments) (with_table texts segments name csv files t).state
   table_changes None is = inl refl
   table_changes (Some table) is = rows_change table is (new_rows table segments name csv files) refl
+
+dropped_changes : (name : List ℕ) (files : Files) (texts : Texts) (segments : Segments) (there : Bool) → is_some (map.get segments name) ≡ there
+    → Changes (Some (Drop name)) files (HasTable texts segments) (without_segment there texts segments name).state
+dropped_changes name files texts segments true is = inr (inr (inr (record { name = name; texts = texts; segments = segments; command_is = refl; was_there = is; from_is = refl; to_is = refl })))
+dropped_changes name files texts segments false is = inl refl
 
 changes : (from : State) (command : Option Command) (files : Files) → Changes command files from (step_of from command files).state
 changes from None files = inl refl
@@ -110,6 +126,8 @@ changes from (Some (Scan file sql)) files = inl refl
 changes from (Some (Create schema settings)) files = created_changes (Some (Create schema settings)) files from (new_table schema settings files)
 changes NoTable (Some (Build name csv)) files = inl refl
 changes (HasTable texts segments) (Some (Build name csv)) files = table_changes name csv files texts segments (table_of texts) refl
+changes NoTable (Some (Drop name)) files = inl refl
+changes (HasTable texts segments) (Some (Drop name)) files = dropped_changes name files texts segments (is_some (map.get segments name)) refl
 changes from (Some Listing) files = inl refl
 changes from (Some (Ask about sql)) files = inl refl
 
@@ -155,6 +173,7 @@ segments_in other (HasTable texts segments) = segments
 
 abbrev the_name : List ℕ → Option Command → List ℕ
 the_name other (Some (Build name csv)) = name
+the_name other (Some (Drop name)) = name
 the_name other command = other
 
 abbrev the_csv : List ℕ → Option Command → List ℕ
@@ -176,6 +195,13 @@ segment_or other (Some segment) = segment
 none_some : (segment : Segment) → None ≢ Some segment
 none_some segment e = absurd cc
 
+build_drop : {A : Type 0} (name csv gone : List ℕ) → Some (Build name csv) ≡ Some (Drop gone) → A
+build_drop name csv gone e = absurd cc
+
+none_there : (o : Option Segment) → is_some o ≡ true → o ≢ None
+none_there None there e = absurd cc
+none_there (Some segment) there e = absurd cc
+
 free_by : (o : Option Segment) (line : Note) (rest : Result (List (List Value)) Note) (rows : List (List Value)) → (if is_some o then Err line else rest) ≡ Ok rows → o ≡ None
 free_by None line rest rows e = refl
 free_by (Some segment) line rest rows e = absurd cc
@@ -196,7 +222,8 @@ none_before (move ∷ earlier) name rows (to_is, leads, reach) ing = elim (moves
         | inr (unless, before) ↦ none_before earlier name rows (subst (Reaches earlier) none reach) before
       ]
   | inr (inl made) ↦ no_table made.texts map.empty (sym to_is ∙ made.to_is)
-  | inr (inr built) ↦ no_table built.texts (map.insert built.segments built.name (segment_of built.table built.rows)) (sym to_is ∙ built.to_is)
+  | inr (inr (inl built)) ↦ no_table built.texts (map.insert built.segments built.name (segment_of built.table built.rows)) (sym to_is ∙ built.to_is)
+  | inr (inr (inr gone)) ↦ no_table gone.texts (map.remove gone.segments gone.name) (sym to_is ∙ gone.to_is)
 ]
 
 -- a call that makes a segment
@@ -234,7 +261,7 @@ module _ (move : Move) (earlier : List Move) (texts : Texts) (segments : Segment
   kept other = ap (λ m. map.get m name) now ∙ got_other built.segments built.name (segment_of table built.rows) name other
 
   on_it : IsOn built.name (command_of move.call.words)
-  on_it = (built.csv, built.command_is)
+  on_it = inl (built.csv, built.command_is)
 
   own_rows : (rows : List (List Value)) → Ingests move name rows → (name ≡ built.name) × (rows ≡ built.rows)
   own_rows rows i =
@@ -281,7 +308,55 @@ module _ (move : Move) (earlier : List Move) (texts : Texts) (segments : Segment
           (built.rows, inl (subst (λ n. Ingests move n built.rows) (sym same) ingests), its)
       | inr other ↦
           let (rows, more, is) = before.came segment (sym (kept other) ∙ got) in
-          let apart : IsOn name (command_of move.call.words) → move.to ≡ move.from = λ (csv, is_on). absurd (other (ap (the_name name) (sym is_on ∙ built.command_is))) in
+          let apart : IsOn name (command_of move.call.words) → move.to ≡ move.from = λ on. elim on [
+            | inl (csv, is_on) ↦ absurd (other (ap (the_name name) (sym is_on ∙ built.command_is)))
+            | inr is_on ↦ build_drop built.name built.csv name (sym built.command_is ∙ is_on)
+          ] in
+          (rows, inr (apart, more), is)
+    ];
+  }
+
+-- a call that drops a segment
+module _ (move : Move) (earlier : List Move) (texts : Texts) (segments : Segments) (table : Table) (name : List ℕ)
+    (to_is : move.to ≡ HasTable texts segments) (gone : LosesSegment (command_of move.call.words) move.from move.to) where
+  left_one : HasTable texts segments ≡ HasTable gone.texts (map.remove gone.segments gone.name)
+  left_one = sym to_is ∙ gone.to_is
+
+  left : segments ≡ map.remove gone.segments gone.name
+  left = ap (segments_in segments) left_one
+
+  came_from : move.from ≡ HasTable texts gone.segments
+  came_from = gone.from_is ∙ ap (λ t. HasTable t gone.segments) (sym (ap (texts_in texts) left_one))
+
+  none_left : map.get segments gone.name ≡ None
+  none_left = ap (λ m. map.get m gone.name) left ∙ got_none gone.segments gone.name
+
+  lost : move.to ≢ move.from
+  lost e =
+      let both : HasTable texts segments ≡ HasTable texts gone.segments = sym to_is ∙ e ∙ came_from in
+      let same : segments ≡ gone.segments = ap (segments_in segments) both in
+      none_there (map.get gone.segments gone.name) gone.was_there (ap (λ m. map.get m gone.name) (sym same) ∙ none_left)
+
+  others : name ≢ gone.name → map.get segments name ≡ map.get gone.segments name
+  others other = ap (λ m. map.get m name) left ∙ got_left gone.segments gone.name name other
+
+  after_dropped : IsOfMoves earlier table gone.segments name → IsOfMoves (move ∷ earlier) table segments name
+  after_dropped before = record {
+    there = λ rows ing. elim ing [
+      | inl i ↦ build_drop name i.csv gone.name (sym i.built ∙ gone.command_is)
+      | inr (unless, more) ↦ elim (is_name name gone.name) [
+        | inl same ↦ absurd (lost (unless (inr (gone.command_is ∙ ap (λ n. Some (Drop n)) (sym same)))))
+        | inr other ↦ others other ∙ before.there rows more
+      ]
+    ];
+    came = λ segment got. elim (is_name name gone.name) [
+      | inl same ↦ absurd (none_some segment (sym (ap (map.get segments) same ∙ none_left) ∙ got))
+      | inr other ↦
+          let (rows, more, is) = before.came segment (sym (others other) ∙ got) in
+          let apart : IsOn name (command_of move.call.words) → move.to ≡ move.from = λ on. elim on [
+            | inl (csv, is_on) ↦ build_drop name csv gone.name (sym is_on ∙ gone.command_is)
+            | inr is_on ↦ absurd (other (ap (the_name name) (sym is_on ∙ gone.command_is)))
+          ] in
           (rows, inr (apart, more), is)
     ];
   }
@@ -304,6 +379,8 @@ ingested (move ∷ earlier) texts segments table (to_is, leads, reach) accepted 
         ];
         came = λ segment got. absurd (none_some segment (sym (map.get-empty name_order name) ∙ ap (λ m. map.get m name) (sym none) ∙ got));
       }
-  | inr (inr built) ↦ after_built move earlier texts segments table name to_is accepted built
+  | inr (inr (inl built)) ↦ after_built move earlier texts segments table name to_is accepted built
       (ingested earlier texts built.segments table (subst (Reaches earlier) (from_so move earlier texts segments table name to_is accepted built) reach) accepted name)
+  | inr (inr (inr gone)) ↦ after_dropped move earlier texts segments table name to_is gone
+      (ingested earlier texts gone.segments table (subst (Reaches earlier) (came_from move earlier texts segments table name to_is gone) reach) accepted name)
 ]

@@ -56,7 +56,7 @@ pub record GaveNote (line : Note) (ended : Status) (notes notes_new : Heard) : T
   pub noted : Noted ended notes notes_new
 
 abbrev pub after : Devices → Heard → Heard → World
-after new out notes = record { devices = new; out = out; notes = notes }
+after new out notes = record { devices = new; out = out; notes = notes; kept = tt }
 
 abbrev Completes : Option Command → World → Status → Type 0
 Completes command old ended =
@@ -134,6 +134,7 @@ module _ (command : Option Command) (old : World) (new : Devices) where
   line_left note.TableExists now is = is
   line_left note.NoTable now is = is
   line_left (note.NameTaken name) now is = is
+  line_left (note.NoSegment name) now is = is
   line_left (note.BadCsv wrong row column) now is = is
   line_left (note.TooLarge what limit) now is = is
   line_left (note.BadQuery wrong place) now is = is
@@ -169,7 +170,7 @@ module _ (command : Option Command) (old : World) (new : Devices) where
   line_memory : (line : Note) (notes : Heard) → Ran command old.devices new (Err (stop.Refused line)) → GaveNote line status.NoMemory old.notes notes → Promise command old status.NoMemory (after new old.out notes)
   line_memory line notes ran gave = record {
     step = λ fine. never fine;
-    leaves = record { stored = ran.ended.allowed.2; out = refl };
+    leaves = record { kept = refl; stored = ran.ended.allowed.2; out = refl };
     complete = λ quiet. memory_completes;
     notes = gave.noted;
     counted = fine_counted status.NoMemory old.out notes ran.counted (λ other. refl) (le_refl _);
@@ -189,7 +190,7 @@ module _ (command : Option Command) (old : World) (new : Devices) where
   pub fault_promise : (why : Fault) (notes : Heard) → Ran command old.devices new (Err (stop.Fault why)) → Noted (status_of_fault why) old.notes notes → Promise command old (status_of_fault why) (after new old.out notes)
   fault_promise fault.Read notes ran noted = record {
     step = λ fine. never fine;
-    leaves = (ran.ended.cause.0, ran.ended.cause.1, record { stored = ran.ended.kept; out = refl });
+    leaves = (ran.ended.cause.0, ran.ended.cause.1, record { kept = refl; stored = ran.ended.kept; out = refl });
     complete = λ quiet. absurd (elim ran.ended.cause.1 [ inl rose ↦ quiet.inputs rose | inr rose ↦ quiet.depot_reads rose ]);
     notes = noted;
     counted = record { inputs = λ other. absurd (other refl); depot_reads = λ other. absurd (other refl); depot_writes = λ other. ran.counted; out = λ other. refl; out_later = le_refl _ };
@@ -198,7 +199,7 @@ module _ (command : Option Command) (old : World) (new : Devices) where
   }
   fault_promise fault.Write notes ran noted = record {
     step = λ fine. never fine;
-    leaves = inl (ran.ended.cause, record { stored = ran.ended.kept; out = refl });
+    leaves = inl (ran.ended.cause, record { kept = refl; stored = ran.ended.kept; out = refl });
     complete = λ quiet. absurd (quiet.depot_writes ran.ended.cause);
     notes = noted;
     counted = record { inputs = λ other. ran.counted.0; depot_reads = λ other. ran.counted.1; depot_writes = λ other. absurd (other refl); out = λ other. refl; out_later = le_refl _ };
@@ -207,7 +208,7 @@ module _ (command : Option Command) (old : World) (new : Devices) where
   }
   fault_promise fault.Memory notes ran noted = record {
     step = λ fine. never fine;
-    leaves = record { stored = ran.ended.kept; out = refl };
+    leaves = record { kept = refl; stored = ran.ended.kept; out = refl };
     complete = λ quiet. memory_completes;
     notes = noted;
     counted = fine_counted status.NoMemory old.out notes ran.counted (λ other. refl) (le_refl _);

@@ -38,7 +38,7 @@ use Rattle.table_store.proofs.AcceptedLemmas.{accepted_valid}
 use Rattle.table_store.proofs.KeyLemmas.{keys_stand}
 use Rattle.table_store.proofs.NameLemmas.{is_name, tied_name}
 use Rattle.table_store.proofs.StandsLemmas.{table_there}
-use Rattle.command_words.specs.Command.{Ask, Build, Command, Create, Listing, Scan}
+use Rattle.command_words.specs.Command.{Ask, Build, Command, Create, Drop, Listing, Scan}
 use Rattle.command_model.specs.Consulted.{Consulted, IsFileAmong, ReadsAbout, ReadsAsked, ReadsEach, ReadsHeads, ReadsStored}
 use Rattle.pinot_run.specs.Laws.{IsLiveFile, ReadsFor, ReadsSegment, ReadsState, SegmentsRead, is_done}
 use Rattle.command_words.specs.Notes.{status_of}
@@ -94,6 +94,7 @@ not_done (note.BadSettings wrong path) e = absurd cc
 not_done note.TableExists e = absurd cc
 not_done note.NoTable e = absurd cc
 not_done (note.NameTaken name) e = absurd cc
+not_done (note.NoSegment name) e = absurd cc
 not_done (note.BadCsv wrong row column) e = absurd cc
 not_done (note.TooLarge what limit) e = absurd cc
 not_done (note.BadQuery wrong place) e = absurd cc
@@ -236,6 +237,7 @@ module _ (stored : Files) (texts : state.Texts) (segments : Segments) (stands : 
   read_so (Some (Create schema settings)) old new ended p told =
       table_state old.devices.depot.log new.devices.depot.log (Some (Create schema settings)) (is_done ended) (λ name rows entries h. h) (unread old.devices.depot.log new.devices.depot.log p.touched.depot.log)
   read_so (Some (Build name csv)) old new ended p told = table_state old.devices.depot.log new.devices.depot.log (Some (Build name csv)) (is_done ended) (λ name rows entries h. h) p.touched.depot.log
+  read_so (Some (Drop name)) old new ended p told = table_state old.devices.depot.log new.devices.depot.log (Some (Drop name)) (is_done ended) (λ name rows entries h. h) p.touched.depot.log
   read_so (Some Listing) old new ended p told =
       none_read old.devices.depot.log new.devices.depot.log (Some Listing) (is_done ended) (λ name rows entries h. h) (at_table ReadsHeads old.devices.depot.held old.devices.depot.log new.devices.depot.log told p.reads)
   read_so (Some (Ask about sql)) old new ended p told = about_state old.devices.depot.log new.devices.depot.log about sql (is_done ended) (asked_state about sql old new ended p told)

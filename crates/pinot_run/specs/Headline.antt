@@ -11,7 +11,7 @@ use Rattle.sql_reply.specs.SqlReply.{sql_reply}
 use Rattle.table_store.specs.Accepted.{IsAccepted}
 use Rattle.table_store.specs.Stands.{Stands, segment_of}
 use Rattle.table_store.specs.State.{HasTable, NoTable, Segment, Segments, State, Texts}
-use Rattle.command_words.specs.Command.{Ask, Build, Command, command_of}
+use Rattle.command_words.specs.Command.{Ask, Build, Command, Drop, command_of}
 use Rattle.command_words.specs.declared.about.About.TheVariants.{Rows, RowsAndPlans}
 use Rattle.command_words.specs.declared.status.Status.{Status}
 use Rattle.command_words.specs.declared.status.Status.TheVariants as status
@@ -145,9 +145,10 @@ pub record Ingests (move : Move) (name : List ℕ) (rows : List (List Value)) : 
   pub accepted : IsAccepted texts table
   pub rows_are : new_rows table segments name csv move.files ≡ Ok rows
 
--- whether a command is on the segment of a name
+-- whether a command is on the segment of a name: it makes it or drops it
 abbrev pub IsOn : List ℕ → Option Command → Type 0
-IsOn name command = (csv : List ℕ) × (command ≡ Some (Build name csv))
+IsOn name command = ((csv : List ℕ) × (command ≡ Some (Build name csv)))
+    ⊎ (command ≡ Some (Drop name))
 
 -- of the moves on a name that took effect the last is a `build`, of these rows
 abbrev pub IsIngested : List Move → List ℕ → List (List Value) → Type 0

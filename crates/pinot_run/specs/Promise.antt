@@ -10,15 +10,16 @@ use Rattle.command_model.specs.Ran.{Acted, IsStepped, WhereStands}
 use Rattle.command_model.specs.Step.{After, Answer, line_of, status_after, step_of, text_of}
 use Rattle.command_model.specs.Touched.{Touched}
 use Rattle.outside.specs.Seen.{Heard}
-use Rattle.command_model.specs.World.{World}
+use Rattle.command_model.specs.World.{Stage, World}
 use Rattle.command_words.specs.declared.status.Status.{Status}
 use Rattle.command_words.specs.declared.status.Status.TheVariants as status
 
 -- an answer was given whole
-pub record IsGiven (answer : Answer) (ended : Status) (old new : World) : Type 0 where
-  pub ended_so : ended ≡ status_after answer
-  pub out : new.out.written ≡ appended (text_of answer) old.out.written
-  pub notes : new.notes.written ≡ appended (line_of answer) old.notes.written
+pub record IsGiven {K : Type 0} (answer : Answer) (ended : Status) (old new : Stage K) : Type 0
+  where
+    pub ended_so : ended ≡ status_after answer
+    pub out : new.out.written ≡ appended (text_of answer) old.out.written
+    pub notes : new.notes.written ≡ appended (line_of answer) old.notes.written
 
 -- the note line of a status: that of an answer, or that of a fault
 abbrev pub IsLineOf : Status → List ℕ → Type 0
@@ -34,13 +35,14 @@ pub record Noted (ended : Status) (old new : Heard) : Type 0 where
   pub later : old.faults ≤ new.faults
   pub unchanged : is_fault ended ≡ false → new.faults ≡ old.faults
 
--- nothing was done to the store, and nothing given
-pub record IsUndone (old new : World) : Type 0 where
+-- nothing was done to the store nor to what is kept beside it, and nothing given
+pub record IsUndone {K : Type 0} (old new : Stage K) : Type 0 where
+  pub kept : new.kept ≡ old.kept
   pub stored : new.devices.depot.held ≡ old.devices.depot.held
   pub out : new.out.written ≡ old.out.written
 
 -- the command did what it does, and a stream took a first part of what was given
-pub record IsCut (command : Option Command) (old new : World) : Type 0 where
+pub record IsCut {K : Type 0} (command : Option Command) (old new : Stage K) : Type 0 where
   pub answer : Answer
   pub acted : Acted command old.devices new.devices answer
   pub failed : Rose old.out.faults new.out.faults ⊎ Rose old.notes.faults new.notes.faults
@@ -49,14 +51,14 @@ pub record IsCut (command : Option Command) (old new : World) : Type 0 where
       ≡ appended (text_of answer) old.out.written
 
 -- an answer that was given whole
-pub record IsAnswered (command : Option Command) (old : World) (ended : Status) (new : World)
-    : Type 0 where
+pub record IsAnswered {K : Type 0} (command : Option Command) (old : Stage K) (ended : Status)
+    (new : Stage K) : Type 0 where
   pub answer : Answer
   pub acted : Acted command old.devices new.devices answer
   pub given : IsGiven answer ended old new
 
 -- what is left after each status, with its cause
-abbrev pub Leaves : Option Command → World → Status → World → Type 0
+abbrev pub Leaves : {K : Type 0} → Option Command → Stage K → Status → Stage K → Type 0
 Leaves command old status.ReadFault new =
     (may_read (profile command) ≡ true)
     × (Rose old.devices.inputs.read_faults new.devices.inputs.read_faults

@@ -14,6 +14,7 @@ use crate::finish::{give_note, give_text, note_fault, status_of_fault};
 use command_words::{Command, Note, Status, Stop, read_command};
 use commands::build::build;
 use commands::create::create;
+use commands::drop::drop_named;
 use commands::list::list;
 use commands::query::ask;
 use commands::scan::scan;
@@ -93,6 +94,7 @@ fn reply_to<I: Shelf, D: Depot>(
         Some(Command::Scan(file, sql)) => scan(alloc, file, sql, inputs),
         Some(Command::Create(schema, settings)) => create(alloc, schema, settings, inputs, depot),
         Some(Command::Build(name, csv)) => build(alloc, name, csv, inputs, depot),
+        Some(Command::Drop(name)) => drop_named(alloc, name, depot),
         Some(Command::List) => list(alloc, depot),
         Some(Command::Ask(about, sql)) => ask(alloc, about, sql, depot),
         None => Err(Stop::Refused(Note::BadWords)),

@@ -5,6 +5,7 @@ pub mod NameLemmas
 pub mod AcceptedLemmas
 pub mod CountLemmas
 pub mod SegmentLemmas
+pub mod DropLemmas
 mod OpenLemmas
 pub mod StandsLemmas
 pub mod KeyLemmas

@@ -23,7 +23,7 @@ use Rattle.table_store.proofs.FilesLemmas.{other_name}
 use Rattle.table_store.proofs.NameLemmas.{is_name, stem_back}
 
 -- the table's file is no segment's
-not_table : (name : List ℕ) → file_of name ≢ table_name
+pub not_table : (name : List ℕ) → file_of name ≢ table_name
 not_table name e =
     let one : length name + 0 ≡ 1 = omega (arith, ap length e, length-append name (codes ".seg")) in
     let dot : get_or (name ++ codes ".seg") (length name + 0) 0 ≡ 46 = get_or-append-add name (codes ".seg") 0 0 in

@@ -1,7 +1,7 @@
 -- What calls on a store tell of its files, and leave of its depot.
 use Rattle.std.specs.Prelude.{◌≡◌, ◌≤◌, ℕ, List, Option, Result, IfSome, IsErrOf, OnOk}
 use Rattle.outside.specs.Counts.{Rose}
-use Rattle.outside.specs.Files.{Files, Has, Lacks, SameBut, with_file, without_file}
+use Rattle.outside.specs.Files.{Files, SameBut, with_file, without_file}
 use Rattle.outside.specs.Seen.{OnlyReads, Seen}
 use Rattle.values.specs.declared.value.Value.{Value}
 use Rattle.table_schema.specs.declared.table.Table.{Table}
@@ -9,7 +9,7 @@ use Rattle.segment_build.specs.Growing.{TreesFit}
 use Rattle.segment_build.specs.Publishing.{incoming}
 use Rattle.segment_file.specs.Image.{image}
 use Rattle.segment_file.specs.Names.{file_of}
-use Rattle.table_store.specs.Segments.{HasRoom, IsFull}
+use Rattle.table_store.specs.Segments.{HasRoom, HasSegment, IsFull, LacksSegment}
 use Rattle.table_store.specs.declared.fault.StoreFault.{StoreFault}
 use Rattle.table_store.specs.declared.fault.StoreFault.TheVariants.{NameTaken, TooManySegments}
 
@@ -17,10 +17,10 @@ use Rattle.table_store.specs.declared.fault.StoreFault.TheVariants.{NameTaken, T
 -- fewer than the most, or why there is no place
 pub record TellsPlace {A : Type 0} (held : Option Files) (name : List ℕ)
     (result : Result A StoreFault) : Type 0 where
-  pub free : OnOk result (Lacks held (file_of name))
+  pub free : OnOk result (LacksSegment held name)
   pub room : OnOk result (IfSome held HasRoom)
-  pub taken : IsErrOf result NameTaken → Has held (file_of name)
-  pub many : IsErrOf result TooManySegments → Lacks held (file_of name) × IfSome held IsFull
+  pub taken : IsErrOf result NameTaken → HasSegment held name
+  pub many : IsErrOf result TooManySegments → LacksSegment held name × IfSome held IsFull
 
 -- the file of a segment of these rows is published under its name, the part that it was written as
 -- is gone, and no star-tree of the rows is too large
@@ -34,6 +34,18 @@ pub record IsPublished (table : Table) (name : List ℕ) (rows : List (List Valu
 pub record ReadsNoByte (Fails : Type 0) (old new : Seen) : Type 0 where
   pub reads : OnlyReads Fails old new
   pub log : new.log ≡ old.log
+
+-- what a call that looks at names and lengths of files, and then takes a file away, leaves of the
+-- rest of a depot; each count of faults rose just where the call failed so
+pub record OnlyRemoves (FailsToRead FailsToWrite : Type 0) (old new : Seen) : Type 0 where
+  pub parts : new.parts ≡ old.parts
+  pub log : new.log ≡ old.log
+  pub reads_later : old.read_faults ≤ new.read_faults
+  pub read_failed : FailsToRead → Rose old.read_faults new.read_faults
+  pub reads_still : ¬ FailsToRead → new.read_faults ≡ old.read_faults
+  pub writes_later : old.write_faults ≤ new.write_faults
+  pub write_failed : FailsToWrite → Rose old.write_faults new.write_faults
+  pub writes_still : ¬ FailsToWrite → new.write_faults ≡ old.write_faults
 
 -- what a call that looks at names and lengths of files, and then writes the part that files are
 -- published by, leaves of the rest of a depot; each count of faults rose just where the call failed

@@ -1,5 +1,5 @@
 -- Which files a store's state is kept in.
-use Rattle.std.specs.Prelude.{◌≡◌, ◌≤◌, ◌<◌, ℕ, Bool, false, List, length, Option, Some, None, option_map, if◌then◌else◌}
+use Rattle.std.specs.Prelude.{◌≡◌, ◌≤◌, ◌<◌, ℕ, List, length, Option, Some, None, option_map, if◌then◌else◌}
 use Rattle.std.specs.FinMap as map
 use Rattle.std.specs.Ordering.{eq_by_cmp}
 use Rattle.outside.specs.Files.{Files, OfFile, name_order}
@@ -10,16 +10,8 @@ use Rattle.segment_file.specs.Names.{IsSegmentName, file_of}
 use Rattle.segment_file.specs.Ordered.{ordered}
 use Rattle.table_store.specs.State.{Segment, Segments, State, NoTable, HasTable, Texts}
 use Rattle.table_store.specs.Accepted.{IsAccepted, IsTableFile}
-use Rattle.table_store.specs.Segments.{AreNames, most_segments, stem}
+use Rattle.table_store.specs.Segments.{AreNames, live_file, most_segments, stem}
 use Rattle.table_store.specs.TableFile.{table_file, table_name}
-
--- whether a published file stands for nothing, whatever its bytes: none does so far
-abbrev pub is_idle : Files → List ℕ → Bool
-is_idle files name = false
-
--- the bytes of a file that stands for something
-abbrev pub live_file : Files → List ℕ → Option (List ℕ)
-live_file files name = if is_idle files name then None else map.get files name
 
 -- ---- the segments of a table
 
@@ -105,6 +97,12 @@ SegmentStands =
     → map.get segments name ≡ None
     → Stands (map.insert files (file_of name) (image 1 read name rows))
     (HasTable texts (map.insert segments name (segment_of read rows)))
+
+-- the store without the file of a segment stands for the state without the segment
+abbrev pub DropStands : Type 0
+DropStands = (files : Files) (texts : Texts) (segments : Segments) (name : List ℕ)
+    → Stands files (HasTable texts segments)
+    → Stands (map.remove files (file_of name)) (HasTable texts (map.remove segments name))
 
 -- files that stand for a state have as many names of segments as it has segments
 abbrev pub NamesCount : Type 0

@@ -11,6 +11,8 @@ pub enum StoreFault {
     NoTable,
     /// There is a segment of the name.
     NameTaken,
+    /// There is no segment of the name.
+    NoSegment,
     /// There are as many segments as there may be.
     TooManySegments,
     /// A star-tree of the rows takes more bytes than one may.

@@ -1,5 +1,5 @@
 //! Laws of the files that a state is kept in.
-ghost use Rattle.table_store.specs.Stands.{CreateStands, EmptyStands, NamesCount, NamesStand, SegmentStands, StandsForOne, TableStands};
+ghost use Rattle.table_store.specs.Stands.{CreateStands, DropStands, EmptyStands, NamesCount, NamesStand, SegmentStands, StandsForOne, TableStands};
 
 /// Files stand for at most one state.
 pub fn one_state_law()
@@ -26,6 +26,12 @@ pub fn table_stands_law()
 /// name makes a store that stands for the state with them.
 pub fn segment_stands_law()
     ensures { SegmentStands }
+{}
+
+/// Where a store stands for a table, the store without the file of a segment stands for the state
+/// without the segment.
+pub fn drop_stands_law()
+    ensures { DropStands }
 {}
 
 /// Files that stand for a state have as many names of segments as it has segments.

@@ -1,9 +1,11 @@
 //! The table of a store: its file, which is made of two texts, and why a call on a store is
 //! refused. The segments of a store by their names, and whether there is a place for one more. The
-//! state that the files of a store stand for: its table is opened, and segments are put in.
+//! state that the files of a store stand for: its table is opened, and segments are put in and
+//! dropped.
 #![tactic(auto)]
 
 mod create;
+mod dropping;
 mod fault;
 mod laws;
 mod open;
@@ -12,10 +14,11 @@ mod segments;
 mod table_file;
 
 pub use create::{create_table, has_table};
+pub use dropping::drop_segment;
 pub use fault::StoreFault;
 pub use laws::{
-    create_stands_law, empty_stands_law, names_count_law, names_stand_law, one_state_law,
-    segment_stands_law, table_stands_law,
+    create_stands_law, drop_stands_law, empty_stands_law, names_count_law, names_stand_law,
+    one_state_law, segment_stands_law, table_stands_law,
 };
 pub use open::open_table;
 pub use publishing::publish_segment;

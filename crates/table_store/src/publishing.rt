@@ -1,13 +1,12 @@
 //! Segments are put in a store.
 
 ghost use Rattle.std.specs.Prelude.{◌≡◌, ◌⊎◌, false, IfSome, OnErr, OnOk, IsErrOf};
-ghost use Rattle.outside.specs.Files.{Lacks};
 ghost use Rattle.outside.specs.Seen.{seen};
 ghost use Rattle.table_schema.specs.ValidTable.{AreRows, IsValidTable};
 ghost use Rattle.segment_build.specs.Growing.{trees_fit};
-ghost use Rattle.segment_file.specs.Names.{IsSegmentName, file_of};
+ghost use Rattle.segment_file.specs.Names.{IsSegmentName};
 ghost use Rattle.table_store.specs.Calls.{IsPublished, OnlyPublishes, TellsPlace};
-ghost use Rattle.table_store.specs.Segments.{HasRoom};
+ghost use Rattle.table_store.specs.Segments.{HasRoom, LacksSegment};
 
 use crate::{StoreFault, find_room};
 use outside::Depot;
@@ -33,7 +32,7 @@ pub fn publish_segment<D: Depot>(
     ensures kept { OnErr result (D.held depot.new ≡ D.held depot.old) }
     ensures place { TellsPlace (D.held depot.old) name.now result }
     ensures too_large { IsErrOf result StoreFault.TooLarge →
-        Lacks (D.held depot.old) (file_of name.now) × IfSome (D.held depot.old) HasRoom
+        LacksSegment (D.held depot.old) name.now × IfSome (D.held depot.old) HasRoom
         × (trees_fit table.now rows.now ≡ false) }
     ensures only { OnErr result
         (IsErrOf result StoreFault.NameTaken ⊎ IsErrOf result StoreFault.TooManySegments

@@ -3,11 +3,11 @@
 ghost use Rattle.std.specs.Prelude.{◌≡◌, ◌⊎◌, ◌≤◌, ◌++◌, ℕ, List, take, length, true, false, Ok, IfOk, IfSome, OnErr, OnOk, IsErrOf};
 ghost use Rattle.std.specs.List.{All};
 ghost use Rattle.std.specs.List.Sorted.{IsPermutation, IsSorted};
-ghost use Rattle.outside.specs.Files.{Has, Lacks, name_order};
+ghost use Rattle.outside.specs.Files.{name_order};
 ghost use Rattle.outside.specs.Seen.{seen};
-ghost use Rattle.segment_file.specs.Names.{IsSegmentName, file_of};
+ghost use Rattle.segment_file.specs.Names.{IsSegmentName};
 ghost use Rattle.table_store.specs.Calls.{ReadsNoByte, TellsPlace};
-ghost use Rattle.table_store.specs.Segments.{AreFirstNames, most_segments, name_in, names_among};
+ghost use Rattle.table_store.specs.Segments.{AreFirstNames, HasSegment, LacksSegment, most_segments, name_in, names_among};
 
 use crate::StoreFault;
 use outside::{Depot, Name, NoMemory, Seq, ShelfFault};
@@ -19,8 +19,8 @@ pub const MOST_SEGMENTS: usize = 512;
 
 /// Whether there is a segment of this name: its file is looked for, and no other.
 pub fn holds_segment<D: Depot>(alloc: Global, depot: &mut D, name: &str) -> Result<bool, StoreFault>
-    ensures yes { result ≡ Ok true → Has (D.held depot.old) (file_of name.now) }
-    ensures no { result ≡ Ok false → Lacks (D.held depot.old) (file_of name.now) }
+    ensures yes { result ≡ Ok true → HasSegment (D.held depot.old) name.now }
+    ensures no { result ≡ Ok false → LacksSegment (D.held depot.old) name.now }
     ensures only { OnErr result
         (IsErrOf result StoreFault.ReadFault ⊎ IsErrOf result StoreFault.NoMemory) }
     ensures looks { ReadsNoByte (IsErrOf result StoreFault.ReadFault)

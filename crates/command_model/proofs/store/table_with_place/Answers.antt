@@ -37,6 +37,7 @@ place_failed name a b d table store.ReadFault why first log reads taken many is 
 place_failed name a b d table store.NoMemory why first log reads taken many is = subst (λ w. FindsPlace name a d (Err w)) (sym is) (place_unknown name a b d table first log reads (λ f. cc))
 place_failed name a b d table store.TableExists why first log reads taken many is = absurd is
 place_failed name a b d table store.NoTable why first log reads taken many is = absurd is
+place_failed name a b d table store.NoSegment why first log reads taken many is = absurd is
 place_failed name a b d table store.TooLarge why first log reads taken many is = absurd is
 place_failed name a b d table (store.NotASegment part) why first log reads taken many is = absurd is
 place_failed name a b d table store.WriteFault why first log reads taken many is = absurd is

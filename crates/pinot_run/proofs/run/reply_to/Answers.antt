@@ -23,6 +23,11 @@ returns-in-Some-Build g c =
     subst (λ command. Ran command (devices g.I.Shelf g.D.Shelf c.args.inputs.now c.args.depot.now) (devices g.I.Shelf g.D.Shelf c.build.new.inputs c.build.new.depot) c.build.result)
     (ap (λ command. Some (command_view command)) (sym c.in-Some-Build.field-0-is) ∙ c.in-Some-Build.ensures.spelled) c.build.ensures
 
+pub returns-in-Some-Drop : goal.returns-in-Some-Drop
+returns-in-Some-Drop g c =
+    subst (λ command. Ran command (devices g.I.Shelf g.D.Shelf c.args.inputs.now c.args.depot.now) (devices g.I.Shelf g.D.Shelf c.args.inputs.now c.drop_named.new.depot) c.drop_named.result)
+    (ap (λ command. Some (command_view command)) (sym c.in-Some-Drop.field-0-is) ∙ c.in-Some-Drop.ensures.spelled) (c.drop_named.ensures (seen g.I.Shelf c.args.inputs.now))
+
 pub returns-in-Some-Ask : goal.returns-in-Some-Ask
 returns-in-Some-Ask g c =
     subst (λ command. Ran command (devices g.I.Shelf g.D.Shelf c.args.inputs.now c.args.depot.now) (devices g.I.Shelf g.D.Shelf c.args.inputs.now c.ask.new.depot) c.ask.result)
