@@ -1,5 +1,6 @@
 pub mod Writing
 pub mod Build
+pub mod Columns
 pub mod Consulted
 pub mod Create
 pub mod Drop

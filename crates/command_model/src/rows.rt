@@ -8,9 +8,9 @@ ghost use Rattle.values.specs.Columns.{rows_of};
 ghost use Rattle.csv_row.specs.Row.{csv_limits};
 ghost use Rattle.csv_ingest.specs.Rows.{records_of, rows_in};
 ghost use Rattle.csv_ingest.specs.Unicode.{IsUnicode};
-ghost use Rattle.value_ids.specs.Dictionary as dictionary;
-ghost use Rattle.table_schema.specs.ValidTable.{AreRows, IsValidTable};
+ghost use Rattle.table_schema.specs.ValidTable.{IsValidTable};
 ghost use Rattle.command_model.specs.Build.{csv_rows};
+ghost use Rattle.command_model.specs.Columns.{MakesColumns};
 ghost use Rattle.command_model.specs.Gives.{StopsRows, StopsText};
 ghost use Rattle.command_words.specs.Notes.{csv_note};
 ghost use Rattle.command_model.specs.Profile.{csv_limit};
@@ -34,12 +34,7 @@ pub fn read_rows<I: Shelf>(
     requires valid { IsValidTable table.now }
     ensures rows { IfOk result (λ columns. IfSome (I.held inputs.old) (λ files.
         csv_rows table.now.schema.fields csv.now (map.get files csv.now) ≡ Ok (rows_of columns))) }
-    ensures width { IfOk result (λ columns.
-        length columns.columns ≡ length table.now.schema.fields) }
-    ensures fit { IfOk result (λ columns.
-        AreRows table.now.schema.fields (rows_of columns)) }
-    ensures unicode { IfOk result (λ columns.
-        All (λ row. All dictionary.IsUnicode row) (rows_of columns)) }
+    ensures made { MakesColumns table.now.schema.fields result }
     ensures stops { IfErr result (StopsRows table.now.schema.fields csv.now (I.held inputs.old)
         (Rose (I.read_faults inputs.old) (I.read_faults inputs.new))) }
     ensures unchanged { ¬ IsErrOf result (Stop.Fault Fault.Read) →
@@ -57,12 +52,7 @@ fn columns_of(alloc: Global, table: &Table, text: &[u8]) -> Result<Columns, Stop
     requires short { length text.now ≤ csv_limit }
     ensures rows { IfOk result (λ columns.
         rows_in csv_limits table.now.schema.fields (records_of text.now) ≡ Ok (rows_of columns)) }
-    ensures width { IfOk result (λ columns.
-        length columns.columns ≡ length table.now.schema.fields) }
-    ensures fit { IfOk result (λ columns.
-        AreRows table.now.schema.fields (rows_of columns)) }
-    ensures unicode { IfOk result (λ columns.
-        All (λ row. All dictionary.IsUnicode row) (rows_of columns)) }
+    ensures made { MakesColumns table.now.schema.fields result }
     ensures stops { IfErr result
         (StopsText (rows_in csv_limits table.now.schema.fields (records_of text.now))) }
 {

@@ -14,20 +14,16 @@ use Rattle.command_model.proofs.rows.columns_of.Goals as goal
 pub read_columns-requires-clause-defaults : goal.read_columns-requires-clause-defaults
 read_columns-requires-clause-defaults c = valid-defaults c.args.table.now.schema c.requires.valid.schema
 
-pub returns-in-Ok-clause-width : goal.returns-in-Ok-clause-width
-returns-in-Ok-clause-width c =
+pub returns-in-Ok-clause-made : goal.returns-in-Ok-clause-made
+returns-in-Ok-clause-made c =
     let fields = c.args.table.now.schema.fields in
     let columns = c.in-Ok.columns.columns in
-    sym (length-map columns (λ x. x.are_texts)) ∙ ap length c.in-Ok.ensures.sorts ∙ length-map fields (λ f. is_text_kind f.kind)
-
-pub returns-in-Ok-clause-fit : goal.returns-in-Ok-clause-fit
-returns-in-Ok-clause-fit c = c.in-Ok.ensures.valid c.requires.valid.schema
-
-pub returns-in-Ok-clause-unicode : goal.returns-in-Ok-clause-unicode
-returns-in-Ok-clause-unicode c =
-    let fields = c.args.table.now.schema.fields in
     let defaults : All (λ (field : Field). IsUnicode field.default) fields = subst (All (λ (field : Field). IsUnicode field.default)) c.as_slice.ensures c.look_at_defaults.ensures in
-    rows_unicode fields (records_of c.args.text.now) (rows_of c.in-Ok.columns) defaults c.in-Ok.ensures.ok
+    record
+      { width = sym (length-map columns (λ x. x.are_texts)) ∙ ap length c.in-Ok.ensures.sorts ∙ length-map fields (λ f. is_text_kind f.kind)
+      ; fit = c.in-Ok.ensures.valid c.requires.valid.schema
+      ; unicode = rows_unicode fields (records_of c.args.text.now) (rows_of c.in-Ok.columns) defaults c.in-Ok.ensures.ok
+      }
 
 pub stop_of-requires : goal.stop_of-requires
 stop_of-requires c = λ same. any_columns c.args.table.now.schema.fields (records_of c.args.text.now) c.in-Err.fault (c.in-Err.ensures.err (λ e. cc)) same

@@ -22,5 +22,5 @@ returns g c = λ first place.
     let d = seen g.D.Shelf c.publish.new.depot in
     let rows = c.in_ok-columns.ensures in
     let made = c.publish.ensures in
-    ran_published c.args.name.now c.args.csv.now c.requires.name i j first b c.args.table.now place rows.reads d (rows_of c.in_ok-columns.columns) (rows.unchanged (λ e. cc)) made.reads_still made.writes rows.rows rows.fit rows.unicode
+    ran_published c.args.name.now c.args.csv.now c.requires.name i j first b c.args.table.now place rows.reads d (rows_of c.in_ok-columns.columns) (rows.unchanged (λ e. cc)) made.reads_still made.writes rows.rows rows.made.fit rows.made.unicode
     c.publish.result made.writes_still made.publishes
