@@ -84,10 +84,8 @@ fn rows_over(alloc: Global, schema: &Schema, text: &[u8], out: &Text)
 
 /// Adds the rows of a text over the fields of a schema.
 pub fn rows_of_fields(alloc: Global, schema: &str, text: &[u8], out: &Text) {
-    let schema = read_schema(alloc, schema.as_bytes());
-    match &schema {
-        Ok(schema) => rows_over(alloc, schema, text, out),
-        Err(fault) => show_fault(fault, out),
+    match read_schema(alloc, schema.as_bytes()) {
+        Ok(schema) => rows_over(alloc, &schema, text, out),
+        Err(fault) => show_fault(&fault, out),
     }
-    drop(schema);
 }

@@ -20,7 +20,7 @@ pair_numbers-requires c =
     let table = c.args.table.now in
     let n = length c.args.columns.now.columns in
     record {
-      known = subst (All (λ (p : Agg). IsKnown n p.column)) (sym c.as_slice-2.ensures) (pairs_known table.schema.fields n c.args.tree.now.pairs c.requires.rows.columns.width c.requires.tree.pairs_fit);
+      columns = subst (All (λ (p : Agg). IsKnown n p.column)) (sym c.as_slice-2.ensures) (pairs_known table.schema.fields n c.args.tree.now.pairs c.requires.rows.columns.width c.requires.tree.pairs_fit);
     }
 
 pub project_merged-requires-clause-columns : goal.project_merged-requires-clause-columns
