@@ -19,11 +19,11 @@ returns-in-Ok-clause-made c =
     let fields = c.args.table.now.schema.fields in
     let columns = c.in-Ok.columns.columns in
     let defaults : All (λ (field : Field). IsUnicode field.default) fields = subst (All (λ (field : Field). IsUnicode field.default)) c.as_slice.ensures c.look_at_defaults.ensures in
-    record
-      { width = sym (length-map columns (λ x. x.are_texts)) ∙ ap length c.in-Ok.ensures.sorts ∙ length-map fields (λ f. is_text_kind f.kind)
-      ; fit = c.in-Ok.ensures.valid c.requires.valid.schema
-      ; unicode = rows_unicode fields (records_of c.args.text.now) (rows_of c.in-Ok.columns) defaults c.in-Ok.ensures.ok
-      }
+    record {
+      width = sym (length-map columns (λ x. x.are_texts)) ∙ ap length c.in-Ok.ensures.sorts ∙ length-map fields (λ f. is_text_kind f.kind);
+      fit = c.in-Ok.ensures.valid c.requires.valid.schema;
+      unicode = rows_unicode fields (records_of c.args.text.now) (rows_of c.in-Ok.columns) defaults c.in-Ok.ensures.ok;
+    }
 
 pub stop_of-requires : goal.stop_of-requires
 stop_of-requires c = λ same. any_columns c.args.table.now.schema.fields (records_of c.args.text.now) c.in-Err.fault (c.in-Err.ensures.err (λ e. cc)) same
