@@ -26,14 +26,38 @@ pub struct TextIndex {
     crowded: BTreeMap<String, u32>,
 }
 
-/// Any number will do: it is only where the search for a text begins.
+/// Any number will do: it is only where the search for a text begins. Eight bytes are taken a step,
+/// and the last eight once more.
 #[inline(always)]
 pub fn hash_of(bytes: &[u8]) -> u64 {
-    let mut hash: u64 = 0;
-    for byte in bytes {
-        hash = (hash ^ u64::from(*byte)).wrapping_mul(0x9E37_79B9_7F4A_7C15);
+    let mut hash = bytes.len() as u64;
+    let mut rest = bytes;
+    while let Some((word, following)) = rest.split_first_chunk::<8>() {
+        hash = mixed(hash, u64::from_be_bytes(*word));
+        rest = following;
     }
-    hash >> 32
+    let last = match bytes.last_chunk::<8>() {
+        Some(word) => u64::from_be_bytes(*word),
+        None => few_bytes(bytes),
+    };
+    mixed(mixed(hash, last), 0) >> 32
+}
+
+// A hash and one word more, of which each bit has a part in the upper half.
+#[inline(always)]
+fn mixed(hash: u64, word: u64) -> u64 {
+    let spread = (hash ^ word).wrapping_mul(0x9E37_79B9_7F4A_7C15);
+    spread ^ (spread >> 32)
+}
+
+// Some bytes, fewer than eight as a rule, in one word.
+#[inline(always)]
+fn few_bytes(bytes: &[u8]) -> u64 {
+    let mut word: u64 = 0;
+    for byte in bytes {
+        word = (word << 8) | u64::from(*byte);
+    }
+    word
 }
 
 /// The text of some bytes, if they are UTF-8.
