@@ -11,7 +11,7 @@ use Rattle.std.specs.declared.cmp.Ordering.TheVariants.{Less, Equal, Greater}
 use Rattle.std.proofs.lemmas.Cmp.{nat_list_cmp_total}
 use Rattle.outside.specs.Files.{Files, SameBut, bytes_of, name_order, with_file, without_file}
 
-same_name : (x y : List ℕ) → name_order x y ≡ Equal → x ≡ y
+pub same_name : (x y : List ℕ) → name_order x y ≡ Equal → x ≡ y
 same_name = map.slice_cmp-IsAntisymmetric map.nat_cmp-IsAntisymmetric
 
 other_name : (q name : List ℕ) → q ≢ name → eq_by_cmp name_order q name ≡ false
@@ -24,7 +24,7 @@ get_put files name bytes = map.get-insert nat_list_cmp_total files name bytes na
 pub get_other : (files : Files) (name bytes q : List ℕ) → q ≢ name → map.get (map.insert files name bytes) q ≡ map.get files q
 get_other files name bytes q ne = map.get-insert nat_list_cmp_total files name bytes q ∙ ap (λ b. cond b (Some bytes) (map.get files q)) (other_name q name ne)
 
-again : {A : Type 0} (b : Bool) (x y z : A) → cond b x (cond b y z) ≡ cond b x z
+pub again : {A : Type 0} (b : Bool) (x y z : A) → cond b x (cond b y z) ≡ cond b x z
 again true x y z = refl
 again false x y z = refl
 
@@ -109,7 +109,7 @@ after_publish (Err e) name parts now gone unknown = unknown
 pub same_but_new : (name bytes : List ℕ) (told now : Option Files) → now ≡ with_file name bytes told → SameBut name told now
 same_but_new name bytes told now is = same_but_put name bytes told now (subst (λ t. SameBut name t now) is (same_but name now))
 
-same_but_then : (name : List ℕ) (first between last : Option Files) → SameBut name first between → SameBut name between last → SameBut name first last
+pub same_but_then : (name : List ℕ) (first between last : Option Files) → SameBut name first between → SameBut name between last → SameBut name first last
 same_but_then name None between last a b = subst (λ t. SameBut name t last) a b
 same_but_then name (Some files) None last a b = absurd a
 same_but_then name (Some files) (Some new) None a b = b

@@ -12,3 +12,4 @@ pub mod Sizes
 pub mod Built
 pub mod FilesLemmas
 pub mod Growing
+pub mod PieceLemmas

@@ -11,7 +11,6 @@ use Rattle.segment_file.specs.Image.{section_of, sections_of_rows}
 use Rattle.segment_file.specs.Trees.{nodes_of, star_of}
 use Rattle.segment_file.specs.Parts.{columns_of, head_sections, marked, raw_sections, tail_sections, trees_of}
 use Rattle.table_schema.specs.ValidTable.{IsValidTable}
-use Rattle.bit_column.specs.Postings.{inverted, ranged}
 use Rattle.std.specs.Prelude.{slice_get}
 use Rattle.segment_build.specs.Growing.{nodes_grown, stars_grown}
 use Rattle.segment_build.specs.Sections.{in_order, made_of}

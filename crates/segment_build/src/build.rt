@@ -1,5 +1,6 @@
 //! The file of a segment is made.
-ghost use Rattle.std.specs.Prelude.{◌≡◌, ◌<◌, length, Err, IfOk};
+ghost use Rattle.std.specs.Prelude.{◌≡◌, ◌<◌, ◌++◌, length, Err, IfOk};
+ghost use Rattle.std.specs.List.{concat};
 ghost use Rattle.table_schema.specs.ValidTable.{AreRows, IsValidTable};
 ghost use Rattle.values.specs.Columns.{rows_of};
 ghost use Rattle.segment_file.specs.Image.{image, sections_of_rows};
@@ -9,20 +10,17 @@ ghost use Rattle.segment_build.specs.Arranging.{Orders};
 ghost use Rattle.segment_build.specs.Fitting.{AreOfTable};
 ghost use Rattle.segment_build.specs.Growing.{IsBuilt};
 
+use crate::file::{MadeFile, front_of, push_all};
 use crate::order::row_order;
 use crate::sections::column_sections;
 use crate::trees::grow_trees;
-use crate::{BuildFault, RowOrder, columns_of, file_of};
+use crate::{BuildFault, RowOrder, columns_of};
 use outside::{Bytes, Seq};
 use std::alloc::Global;
 use table_schema::Table;
 use values::{Columns, Rows};
 
 /// The file of a segment of these rows, which are kept column by column.
-///
-/// They are put in the stable order of the sorted column, where there is one. One column after the
-/// other is taken, and its dictionary and ids are let go before the next; then one star-tree after
-/// the other is built. There is no file where a tree takes more bytes than one may.
 pub fn build_columns(
     alloc: Global,
     table: &Table,
@@ -37,13 +35,44 @@ pub fn build_columns(
         (rows_of columns.now)) }
     ensures built { IsBuilt table.now (rows_of columns.now) result }
 {
+    let made = match make_file(alloc, table, name, columns) {
+        Ok(made) => made,
+        Err(fault) => return Err(fault),
+    };
+    let MadeFile {
+        front: mut file,
+        sections,
+    } = made;
+    push_all(&sections, &mut file)?;
+    Ok(Seq::from_vec(file))
+}
+
+/// The same, as its front and its sections.
+///
+/// The rows are put in the stable order of the sorted column, where there is one. One column after
+/// the other is taken, and its dictionary and ids are let go before the next; then one star-tree
+/// after the other is built. There is no file where a tree takes more bytes than one may.
+pub(crate) fn make_file(
+    alloc: Global,
+    table: &Table,
+    name: &str,
+    columns: &Columns,
+) -> Result<MadeFile, BuildFault>
+    requires valid { IsValidTable table.now }
+    requires name { IsSegmentName name.now }
+    requires width { length columns.now.columns ≡ length table.now.schema.fields }
+    requires rows { AreRows table.now.schema.fields (rows_of columns.now) }
+    ensures image { IfOk result (λ made. made.front.items ++ concat made.sections.items
+        ≡ image 1 table.now name.now (rows_of columns.now)) }
+    ensures built { IsBuilt table.now (rows_of columns.now) result }
+{
     let rows = columns.len() as u32;
     let sections = match sections_of_columns(alloc, table, columns) {
         Ok(sections) => sections,
         Err(fault) => return Err(fault),
     };
-    let file = file_of(alloc, table, name, rows, &sections)?;
-    Ok(Seq::from_vec(file))
+    let front = front_of(alloc, table, name, rows, &sections)?;
+    Ok(MadeFile { front, sections })
 }
 
 /// The file of a segment of these rows.

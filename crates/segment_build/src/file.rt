@@ -11,8 +11,15 @@ use segment_file::{Front, sections_of};
 use std::alloc::Global;
 use table_schema::Table;
 
-/// The file of these sections.
-pub fn file_of(
+/// A segment's file as it is made: its front, and its sections in their order.
+#[derive(Drop)]
+pub(crate) struct MadeFile {
+    pub front: Vec<u8>,
+    pub sections: Vec<Bytes>,
+}
+
+/// The front of the file of these sections.
+pub(crate) fn front_of(
     alloc: Global,
     table: &Table,
     name: &str,
@@ -24,19 +31,16 @@ pub fn file_of(
     requires each { length sections.now ≡ length (sections_of table.now) }
     requires short { file_end table.now name.now
         (record { format = 1; rows = rows; sizes = map length sections.now }) < 2 ^ 64 }
-    ensures { IfOk result (λ file. file.items ≡ front_bytes table.now name.now
-        (record { format = 1; rows = rows; sizes = map length sections.now })
-        ++ concat sections.now) }
+    ensures { IfOk result (λ front. front.items ≡ front_bytes table.now name.now
+        (record { format = 1; rows = rows; sizes = map length sections.now })) }
 {
     let parts = sections_of(alloc, table)?;
     let front = Front::new(rows, sizes_of(alloc, sections)?);
-    let mut file = front.write(alloc, table, name, &parts)?;
-    push_all(sections, &mut file)?;
-    Ok(file)
+    front.write(alloc, table, name, &parts)
 }
 
 // Appends sections. Memory is taken once.
-fn push_all(sections: &[Bytes], file: &mut Vec<u8>) -> Result<(), NoMemory>
+pub(crate) fn push_all(sections: &[Bytes], file: &mut Vec<u8>) -> Result<(), NoMemory>
     ensures { OnOk result (file.new.items ≡ file.old.items ++ concat sections.now) }
 {
     file.reserve(total(sections))?;

@@ -1,5 +1,6 @@
 //! A segment's file is published.
-ghost use Rattle.std.specs.Prelude.{◌≡◌, ℕ, length, IfErr, OnOk, OnErr, IsErrOf};
+ghost use Rattle.std.specs.Prelude.{◌≡◌, ◌++◌, ℕ, length, IfErr, OnOk, OnErr, IsErrOf};
+ghost use Rattle.std.specs.List.{concat};
 ghost use Rattle.outside.specs.Files.{with_file, without_file};
 ghost use Rattle.outside.specs.Seen.{OnlyWrites, seen};
 ghost use Rattle.table_schema.specs.ValidTable.{AreRows, IsValidTable};
@@ -9,7 +10,10 @@ ghost use Rattle.segment_file.specs.Names.{IsSegmentName, file_of};
 ghost use Rattle.segment_build.specs.Publishing.{incoming};
 ghost use Rattle.segment_build.specs.Growing.{IsTooLarge, TreesFit};
 
-use crate::{BuildFault, build_columns, columns_of};
+use crate::build::make_file;
+use crate::file::MadeFile;
+use crate::pieces::{append_bytes, append_made};
+use crate::{BuildFault, columns_of};
 use outside::{Depot, DepotFault};
 use segment_file::segment_file_name;
 use std::alloc::Global;
@@ -42,11 +46,11 @@ pub fn write_columns<D: Depot>(
         IsTooLarge table.now (rows_of columns.now) tree) }
 {
     let file = segment_file_name(alloc, name)?;
-    let bytes = match build_columns(alloc, table, name, columns) {
-        Ok(bytes) => bytes,
+    let made = match make_file(alloc, table, name, columns) {
+        Ok(made) => made,
         Err(fault) => return Err(fault),
     };
-    match publish_file(alloc, depot, file.as_str(), bytes.as_slice()) {
+    match publish_made(alloc, depot, file.as_str(), made) {
         Ok(()) => Ok(()),
         Err(DepotFault::Failed) => Err(BuildFault::WriteFault),
         Err(DepotFault::NoMemory) => Err(BuildFault::NoMemory),
@@ -95,6 +99,26 @@ pub fn publish_file<D: Depot>(
     ensures never_missing { ¬ IsErrOf result DepotFault.Missing }
 {
     depot.begin(alloc, INCOMING)?;
-    depot.append(alloc, INCOMING, bytes)?;
+    append_bytes(alloc, depot, bytes)?;
+    depot.publish(alloc, INCOMING, name)
+}
+
+// Puts a segment's file under a name, a section after the other, in the same way.
+fn publish_made<D: Depot>(
+    alloc: Global,
+    depot: &mut D,
+    name: &str,
+    made: MadeFile,
+) -> Result<(), DepotFault>
+    ensures published { OnOk result (D.held depot.new ≡ with_file name.now
+        (made.front.items ++ concat made.sections.items) (D.held depot.old)) }
+    ensures kept { OnErr result (D.held depot.new ≡ D.held depot.old) }
+    ensures gone { OnOk result (D.parts depot.new ≡ without_file incoming (D.parts depot.old)) }
+    ensures only_writes { OnlyWrites (IsErrOf result DepotFault.Failed) incoming
+        (seen D.Shelf depot.old) (seen D.Shelf depot.new) }
+    ensures never_missing { ¬ IsErrOf result DepotFault.Missing }
+{
+    depot.begin(alloc, INCOMING)?;
+    append_made(alloc, depot, made)?;
     depot.publish(alloc, INCOMING, name)
 }

@@ -2,6 +2,7 @@
 ghost use Rattle.segment_file.specs.Names.{IsSegmentName};
 ghost use Rattle.table_schema.specs.ValidTable.{AreRows, IsValidTable};
 
+use crate::appends::appends;
 use csv_ingest::{CSV_LIMIT, read_columns};
 use memory_devices::MemoryDepot;
 use outside::{Seq, read_all};
@@ -42,7 +43,8 @@ pub fn compared(
     let written = is_stored(alloc, table, name, &rows, file, false)?;
     let published = is_stored(alloc, table, name, &rows, file, true)?;
     if of_columns && of_rows && written && published {
-        String::from_str(alloc, "the same file")
+        let given = appends(alloc, table, name, &columns)?;
+        format!(in alloc; "the same file, {given}")
     } else {
         format!(in alloc; "columns {of_columns}, rows {of_rows}, {written}, {published}")
     }
@@ -74,5 +76,21 @@ fn is_stored(
     match read_all(alloc, &mut depot, stored.as_str(), CSV_LIMIT) {
         Ok(bytes) => Ok(bytes.as_slice() == file),
         Err(_) => Ok(false),
+    }
+}
+
+/// How the file of so many rows is given to a depot: the number of each, from 1 on, and what is
+/// left of it by 7 and by 11.
+pub fn generated(alloc: Global, table: &Table, rows: u32) -> Result<String, AllocError>
+    requires valid { IsValidTable table.now }
+{
+    let mut text = String::from_str(alloc, "a,b,m\n")?;
+    for row in 0..rows {
+        let line = format!(in alloc; "{},{},{row}\n", row % 7, row % 11)?;
+        text.push_str(line.as_str())?;
+    }
+    match read_columns(alloc, &table.schema, text.as_bytes()) {
+        Ok(columns) => appends(alloc, table, "g", &columns),
+        Err(fault) => format!(in alloc; "{fault:?}"),
     }
 }

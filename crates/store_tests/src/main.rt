@@ -6,10 +6,12 @@
 ghost use Rattle.std.specs.Prelude.{IfSome};
 ghost use Rattle.table_schema.specs.ValidTable.{IsValidTable};
 
+mod appends;
 mod built;
 mod cases;
 mod counting;
 mod heads;
+mod noting;
 
 use cases::run_cases;
 use counting::CountingShelf;
@@ -76,7 +78,19 @@ fn run_with_tree(rt: &HostRuntime) -> io::Result<()> {
     }
 }
 
+// How the file of many rows is written.
+fn run_generated(rt: &HostRuntime) -> io::Result<()> {
+    let schema = fs::read(rt, "g.schema.json")?;
+    let settings = fs::read(rt, "g.settings.json")?;
+    let Some(table) = table_of(rt.alloc(), schema.as_slice(), settings.as_slice()) else {
+        return println!(rt; "no table of g");
+    };
+    let given = built::generated(rt.alloc(), &table, 100_000)?;
+    println!(rt; "generated: {given}")
+}
+
 fn main(rt: HostRuntime) -> io::Result<()> {
     run_stored(&rt)?;
-    run_with_tree(&rt)
+    run_with_tree(&rt)?;
+    run_generated(&rt)
 }
