@@ -10,8 +10,7 @@ use Rattle.csv.specs.declared.parser.State.{State}
 use Rattle.csv.specs.declared.parser.State.TheVariants as st
 use Rattle.csv_ingest.specs.Lines.{AtLineEnd, IsHeaderEnd, is_bare}
 use Rattle.csv_ingest.specs.Reading.{TextReader, records_left}
-use Rattle.csv_ingest.proofs.LineLemmas.{and-left, and-right, parts}
-use Rattle.csv_ingest.proofs.LineRows.{after-return, passed}
+use Rattle.csv_ingest.proofs.MarkedLines.{after-return, and-left, and-right, parts, passed}
 
 bare-byte : (b : ℕ) → is_bare b ≡ true → ((b == 34) ≡ false) × ((b == 13) ≡ false) × ((b == 10) ≡ false) × ((b == 0xEF) ≡ false)
 bare-byte b bare = (grind (arith, nat_tests), grind (arith, nat_tests), grind (arith, nat_tests), grind (arith, nat_tests))

@@ -3,11 +3,13 @@ mod CountLemmas
 mod HeaderLemmas
 mod HeaderLine
 mod LineBlocks
-mod LineLemmas
-mod LineRows
 mod MarkLemmas
+mod MarkedLines
 mod NumberLemmas
 mod NumberTextLemmas
+mod PartLines
+mod PartRows
+mod PlaceLemmas
 mod ReadingLemmas
 mod SchemaLemmas
 mod StepLemmas

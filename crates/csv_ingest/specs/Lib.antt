@@ -2,6 +2,8 @@ pub mod Blocks
 pub mod Lines
 pub mod Names
 pub mod NumberBlocks
+pub mod Parts
+pub mod Places
 pub mod Reading
 pub mod Rows
 pub mod Unicode

@@ -25,7 +25,7 @@ use std::alloc::{AllocError, Global};
 use table_schema::{Field, Schema};
 use values::Columns;
 
-// How many rows a block has.
+// How many records are read together.
 const BLOCK_ROWS: usize = 4_096;
 
 // The most columns that a text of whole numbers may have.
@@ -359,13 +359,13 @@ impl<'a> NumberBlocks<'a> {
         ensures err { IfErr result (λ fault. fault ≢ CsvFault.NoMemory → (whole : RowsOrFault)
             → Gives self.old whole → whole ≡ Err fault) }
     {
-        let room = self.left.min(BLOCK_ROWS);
-        if room == 0 {
+        if self.left == 0 {
             return Ok(None);
         }
-        if let Some(columns) = self.next_lines(alloc, room)? {
+        if let Some(columns) = self.next_lines(alloc, self.left)? {
             return Ok(Some(columns));
         }
+        let room = self.left.min(BLOCK_ROWS);
         match self.next_records(alloc, room) {
             Ok(columns) => Ok(Some(columns)),
             Err(fault) => Err(fault),

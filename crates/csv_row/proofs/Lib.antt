@@ -2,4 +2,4 @@ pub mod CellLemmas
 pub mod ColumnLemmas
 mod Fields
 pub mod InOrder
-mod RowLemmas
+pub mod RowLemmas

@@ -29,7 +29,7 @@ abbrev pub OfSorts : List Field → List Listed → Type 0
 OfSorts fields columns = map (λ c. c.are_texts) columns ≡ map (λ f. is_text_kind f.kind) fields
 
 -- the column has one more value at its end, which is what was given
-pub record Pushes (given : Result Value CsvFault) (old new : Listed) : Type 0 where
+pub record Pushes {E : Type 0} (given : Result Value E) (old new : Listed) : Type 0 where
   pub value : Value
   pub given_is : given ≡ Ok value
   pub new_is : new ≡ pushed old value

@@ -9,3 +9,4 @@ mod row;
 pub use cells::cell;
 pub use fault::{CsvFault, CsvKind};
 pub use layout::Layout;
+pub use row::push_value;

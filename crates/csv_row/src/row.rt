@@ -3,8 +3,8 @@ ghost use Rattle.std.specs.Prelude.{◌≡◌, ◌≢◌, length, OnOk, IfOk, If
 ghost use Rattle.std.specs.Str.{is_utf8};
 ghost use Rattle.csv.specs.Records.{fields_of};
 ghost use Rattle.values.specs.declared.value.Value.TheVariants as value;
-ghost use Rattle.csv_row.specs.Row.{csv_limits, row_at, value_at, value_in, values_of};
-ghost use Rattle.csv_row.specs.Columns.{DefaultFits, HasPlace, OfSorts, PushesCell, PushesOr, PushesRow, is_text_kind};
+ghost use Rattle.csv_row.specs.Row.{cell_value, csv_limits, row_at, value_at, value_in, values_of};
+ghost use Rattle.csv_row.specs.Columns.{DefaultFits, HasPlace, OfSorts, Pushes, PushesCell, PushesOr, PushesRow, is_text_kind};
 ghost use Rattle.csv_row.specs.Layouts.{IsLayout, header_of};
 
 use crate::cells::{cell, number_in, read_field};
@@ -15,6 +15,22 @@ use data_types::FieldKind;
 use std::alloc::{AllocError, Global};
 use table_schema::Field;
 use values::{Column, MOST_TEXT_BYTES};
+
+/// Adds the value of a field in a cell to its column, if the cell has one: the number or the short
+/// text that the bytes are, or the field's default where there are none.
+#[inline(always)]
+pub fn push_value(column: &mut Column, field: &Field, bytes: &[u8]) -> Result<bool, AllocError>
+    requires sort { column.old.are_texts ≡ is_text_kind field.now.kind }
+    requires default { DefaultFits field.now }
+    ensures { IfOk result (λ done. done ≡ true
+        → Pushes (cell_value field.now bytes.now) column.old column.new) }
+{
+    if bytes.is_empty() {
+        column.push(&field.default)?;
+        return Ok(true);
+    }
+    push_cell(column, field.kind, bytes)
+}
 
 // Whether some bytes are few enough for a text.
 #[inline(always)]
