@@ -78,8 +78,8 @@ pub record HoldsAgg (segment : SegmentColumns) (key : ℕ → ℕ) (size : ℕ) 
   pub kind : kind_in own.states ≡ agg.kind
   pub size_is : size_in own.states ≡ size
   pub whole : AreWhole own.numbers.items
-  pub numbers : (agg.kind ≡ kinds.Count) ⊎ ((at : ℕ) → at < segment.count → number_in segment agg own at
-      ≡ number_for agg (row_of (table_of segment).columns at))
+  pub numbers : (agg.kind ≡ kinds.Count) ⊎ ((at : ℕ) → at < segment.count
+      → number_in segment agg own at ≡ number_for agg (row_of (table_of segment).columns at))
   pub states : (k : ℕ) → k < size → state_in own.states k
       ≡ state_of agg.kind (in_slot k (map key places) (map (number_in segment agg own) places))
 

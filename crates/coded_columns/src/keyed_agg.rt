@@ -34,7 +34,8 @@ impl KeyedAgg {
         size: usize,
     ) -> Result<KeyedAgg, NoMemory>
         requires { AreCoded segment.now }
-        ensures { IfOk result (λ own. (key : ℕ → ℕ) → HoldsAgg segment.now key size [] agg.now own) }
+        ensures { IfOk result (λ own. (key : ℕ → ℕ)
+            → HoldsAgg segment.now key size [] agg.now own) }
     {
         let states = KeyStates::units(alloc, agg.kind, size)?;
         let numbers = Vec::new(alloc);

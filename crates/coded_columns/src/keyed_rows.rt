@@ -81,7 +81,8 @@ impl KeyedRows {
     /// The states of a key.
     pub fn states_at(&self, alloc: Global, key: usize) -> Result<StateRow, NoMemory>
         requires { All (λ own. key < size_in own.states) self.now.aggs.items }
-        ensures { IfOk result (λ row. row ≡ map (λ own. state_in own.states key) self.now.aggs.items) }
+        ensures { IfOk result (λ row. row
+            ≡ map (λ own. state_in own.states key) self.now.aggs.items) }
     {
         let mut row = StateRow::new(alloc);
         for own in self.aggs.as_slice() {
