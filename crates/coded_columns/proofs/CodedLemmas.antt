@@ -1,5 +1,5 @@
 -- The values of a segment's rows, column by column.
-use Rattle.std.proofs.Common.{◌≡◌, ◌∙◌, ◌<◌, ◌≤◌, ◌+◌, ◌∷◌, ◌||◌, [], ℕ, Bool, true, false, pos, zero, suc, Option, Some, None, List, length, map, get_or, set, replicate, slice_get, refl, ap, sym, subst, arith, inl, inr, cond, ◌++◌, append-nil}
+use Rattle.std.proofs.Common.{◌≡◌, ◌∙◌, ◌<◌, ◌≤◌, ◌+◌, ◌∷◌, ◌||◌, [], ℕ, Bool, true, false, pos, zero, suc, Option, Some, None, List, length, map, get_or, set, replicate, slice_get, refl, ap, sym, subst, arith, inl, inr, cond, ◌++◌, append-nil, MatchOption}
 use Rattle.std.proofs.lemmas.Bool.{cases_lt}
 use Rattle.std.proofs.lemmas.List.{get_or-set_other, get_or-set_same}
 use Rattle.std.proofs.lemmas.List.{length-map, length-replicate}
@@ -16,7 +16,7 @@ use Rattle.value_ids.specs.Ids.{has_id, satisfies}
 use Rattle.table_schema.specs.Conditions.{cell}
 use Rattle.coded_columns.specs.declared.coded.Coded.{Coded}
 use Rattle.coded_columns.specs.declared.coded.SegmentColumns.{SegmentColumns}
-use Rattle.coded_columns.specs.Coded.{Widens, AreCoded, IsCoded, IsOfField, IsUnread, listed, table_of, values_of}
+use Rattle.coded_columns.specs.Coded.{Widens, AreCoded, IsCoded, IsOfField, IsUnread, column_of, listed, table_of, values_of}
 
 length-values : (count : ℕ) (column : Option Coded) → IsCoded count column → length (values_of count column) ≡ count
 length-values count None h = length-replicate count (Whole (pos 0))
@@ -32,46 +32,40 @@ counts segment coded = all-counts segment.count segment.columns.now coded.each
 
 -- ---- a field
 
--- the value of a row in a field, by the column there
-abbrev pub value_of : ℕ → Option (Option Coded) → ℕ → Value
-value_of count None at = Whole (pos 0)
-value_of count (Some column) at = get_or (values_of count column) at (Whole (pos 0))
-
-by-field : (count : ℕ) (columns : List (Option Coded)) (field at : ℕ) → cell (row_of (map (listed count) columns) at) field ≡ value_of count (slice_get columns field) at
-by-field count [] field at = refl
-by-field count (c ∷ cs) zero at = refl
-by-field count (c ∷ cs) (suc field) at = by-field count cs field at
-
 pub zeros : (n at : ℕ) → get_or (replicate n (Whole (pos 0))) at (Whole (pos 0)) ≡ Whole (pos 0)
 zeros zero at = refl
 zeros (suc n) zero = refl
 zeros (suc n) (suc at) = zeros n at
-
-pub unread-beyond : (segment : SegmentColumns) (field : ℕ) → slice_get segment.columns.now field ≡ None → IsUnread segment field
-unread-beyond segment field got at = by-field segment.count segment.columns.now field at ∙ ap (λ c. value_of segment.count c at) got
-
-pub unread-none : (segment : SegmentColumns) (field : ℕ) → slice_get segment.columns.now field ≡ Some None → IsUnread segment field
-unread-none segment field got at = by-field segment.count segment.columns.now field at ∙ ap (λ c. value_of segment.count c at) got ∙ zeros segment.count at
-
-all-at : (count : ℕ) (columns : List (Option Coded)) (field : ℕ) (column : Option Coded) → All (IsCoded count) columns → slice_get columns field ≡ Some column → IsCoded count column
-all-at count [] field column all got = absurd cc
-all-at count (c ∷ cs) zero column all got = let same : c ≡ column = cc in subst (IsCoded count) same (All-head (IsCoded count) c cs all)
-all-at count (c ∷ cs) (suc field) column all got = all-at count cs field column (All-tail (IsCoded count) c cs all) got
 
 pub get_or-ids : (values : List Value) (ids : List ℕ) (at : ℕ) → at < length ids → get_or (values_at values ids) at (Whole (pos 0)) ≡ get_or values (get_or ids at 0) (Whole (pos 0))
 get_or-ids values [] at lt = absurd (omega (arith, lt))
 get_or-ids values (id ∷ ids) zero lt = refl
 get_or-ids values (id ∷ ids) (suc at) lt = get_or-ids values ids at (omega (arith, lt))
 
-pub of-field : (segment : SegmentColumns) (field : ℕ) (column : Coded) → AreCoded segment → slice_get segment.columns.now field ≡ Some (Some column) → IsOfField segment field column
-of-field segment field column coded got =
-    let own = all-at segment.count segment.columns.now field (Some column) coded.each got in
-    record {
-      count = own.0;
-      below = own.1;
-      each = λ at lt. by-field segment.count segment.columns.now field at ∙ ap (λ c. value_of segment.count c at) got
-          ∙ get_or-ids column.dictionary.now.values column.ids.now at (omega (arith, lt, own.0));
-    }
+-- the value of a row in a field, by the column of the field
+of-column : (count : ℕ) (columns : List (Option Coded)) (field at : ℕ) → cell (row_of (map (listed count) columns) at) field ≡ get_or (values_of count (get_or columns field None)) at (Whole (pos 0))
+of-column count [] field at = sym (zeros count at)
+of-column count (c ∷ cs) zero at = refl
+of-column count (c ∷ cs) (suc field) at = of-column count cs field at
+
+coded-at : (count : ℕ) (columns : List (Option Coded)) (field : ℕ) → All (IsCoded count) columns → IsCoded count (get_or columns field None)
+coded-at count [] field all = tt
+coded-at count (c ∷ cs) zero all = All-head (IsCoded count) c cs all
+coded-at count (c ∷ cs) (suc field) all = coded-at count cs field (All-tail (IsCoded count) c cs all)
+
+looked-by : (segment : SegmentColumns) (field : ℕ) (column : Option Coded) → column_of segment field ≡ column → IsCoded segment.count column → MatchOption column (IsUnread segment field) (IsOfField segment field)
+looked-by segment field None is coded = λ at.
+    of-column segment.count segment.columns.now field at ∙ ap (λ c. get_or (values_of segment.count c) at (Whole (pos 0))) is ∙ zeros segment.count at
+looked-by segment field (Some column) is coded = record {
+  count = coded.0;
+  below = coded.1;
+  each = λ at lt. of-column segment.count segment.columns.now field at ∙ ap (λ c. get_or (values_of segment.count c) at (Whole (pos 0))) is
+      ∙ get_or-ids column.dictionary.now.values column.ids.now at (omega (arith, lt, coded.0));
+}
+
+-- the column of a field has its values
+pub looked : (segment : SegmentColumns) (field : ℕ) → AreCoded segment → MatchOption (column_of segment field) (IsUnread segment field) (IsOfField segment field)
+looked segment field coded = looked-by segment field (column_of segment field) refl (coded-at segment.count segment.columns.now field coded.each)
 
 -- ---- marks that are added
 

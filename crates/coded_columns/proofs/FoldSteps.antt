@@ -1,5 +1,5 @@
 -- Numbers that are added to the states in slots.
-use Rattle.std.proofs.Common.{◌≡◌, ◌≢◌, ◌∙◌, ◌<◌, ◌≤◌, ◌+◌, ◌+ℤ◌, ◌++◌, ◌∷◌, ◌==◌, [], ℕ, ℤ, pos, Bool, true, false, cond, List, length, map, get_or, set, take, replicate, refl, ap, sym, subst, arith, inl, inr, append-nil, Option, Some, None, MatchOption, slice_get, count_by}
+use Rattle.std.proofs.Common.{◌≡◌, ◌≢◌, ◌∙◌, ◌<◌, ◌≤◌, ◌+◌, ◌+ℤ◌, ◌++◌, ◌∷◌, ◌==◌, [], ℕ, ℤ, pos, Bool, true, false, cond, List, length, map, get_or, set, take, replicate, refl, ap, sym, subst, arith, inl, inr, append-nil, append_assoc, Option, Some, None, MatchOption, slice_get, count_by}
 use Rattle.std.specs.Option.{option_map_or}
 use Rattle.std.proofs.lemmas.Option.{get_or_from_slice_get, slice_get_within}
 use Rattle.table_schema.specs.Conditions.{cell}
@@ -29,8 +29,8 @@ use Rattle.table_schema.specs.declared.query.Agg.{Agg}
 use Rattle.coded_columns.specs.declared.coded.Coded.{Coded}
 use Rattle.coded_columns.specs.declared.coded.SegmentColumns.{SegmentColumns}
 use Rattle.coded_columns.specs.Coded.{IsForAgg, IsOfField, IsUnnumbered, IsUnread, table_of}
-use Rattle.coded_columns.specs.Slots.{HoldsSlots, in_slot, number_at}
-use Rattle.coded_columns.proofs.SlotLemmas.{in_slot-append, in_slot-few, in_slot-map}
+use Rattle.coded_columns.specs.Slots.{HoldsSlots, MoreStates, in_slot, number_at}
+use Rattle.coded_columns.proofs.SlotLemmas.{in_slot-append, in_slot-map}
 
 whole_more : (b : Bool) (x : ℤ) (ns : List ℤ) → IsWhole x → AreWhole ns → AreWhole (cond b (x ∷ ns) ns)
 whole_more true x ns own rest = (own, rest)
@@ -48,45 +48,78 @@ holds-fits kind count slots numbers column slot h lt whole =
     subst (λ (v : AggState). Fits v (length (in_slot slot slots numbers))) (sym (h.each slot lt))
     (states.fits_of kind (in_slot slot slots numbers) (in_slot-whole slot slots numbers whole))
 
-pub one-fits : (kind : AggKind) (count : ℕ) (slots : List ℕ) (numbers : List ℤ) (column : Column) (slot : ℕ) (x : ℤ) → HoldsSlots kind count slots numbers column → slot < count → AreWhole numbers → IsWhole x
-    → length numbers + 1 ≤ most_values → Fits (merged (state_at column slot) (state_of column.kind (x ∷ []))) most_values
-one-fits kind count slots numbers column slot x h lt whole own at_most =
-    states.fits_more _ (length (in_slot slot slots numbers) + 1) most_values
-    (states.fits_both (state_at column slot) (state_of column.kind (x ∷ [])) (length (in_slot slot slots numbers)) 1 (holds-fits kind count slots numbers column slot h lt whole) (states.fits_of column.kind (x ∷ []) (own, tt)))
-    (omega (arith, at_most, in_slot-few slot slots numbers))
+-- a state fits the rows so far, and one more
+pub one-fits : (column : Column) (slot n : ℕ) (x : ℤ) → Fits (state_at column slot) n → IsWhole x → n + 1 ≤ most_values → Fits (merged (state_at column slot) (state_of column.kind (x ∷ []))) most_values
+one-fits column slot n x h own le =
+    states.fits_more _ (n + 1) most_values
+    (states.fits_both (state_at column slot) (state_of column.kind (x ∷ [])) n 1 h (states.fits_of column.kind (x ∷ []) (own, tt))) le
 
 -- one number more
-pub holds-more : (kind : AggKind) (count : ℕ) (slots : List ℕ) (numbers : List ℤ) (column : Column) (slot : ℕ) (x : ℤ) → HoldsSlots kind count slots numbers column → slot < count → length slots ≡ length numbers
-    → HoldsSlots kind count (slots ++ slot ∷ []) (numbers ++ x ∷ []) (replaced slot column (merged (state_at column slot) (state_of column.kind (x ∷ []))))
-holds-more kind count slots numbers column slot x h lt same =
+pub more-next : (slots : List ℕ) (numbers : List ℤ) (old column : Column) (slot : ℕ) (x : ℤ) → MoreStates slots numbers old column → slot < length old.states → length slots ≡ length numbers
+    → MoreStates (slots ++ slot ∷ []) (numbers ++ x ∷ []) old (replaced slot column (merged (state_at column slot) (state_of column.kind (x ∷ []))))
+more-next slots numbers old column slot x m lt same =
     let v : AggState = merged (state_at column slot) (state_of column.kind (x ∷ [])) in
     let unit : AggState = unit_of column.kind in
-    let within : slot < length column.states = omega (arith, lt, h.count_is) in
+    let kind : AggKind = old.kind in
+    let within : slot < length column.states = omega (arith, lt, m.count_is) in
     record {
-      kind_is = h.kind_is;
-      count_is = length-set column.states slot v ∙ h.count_is;
-      each = λ s s_lt.
+      kind_is = m.kind_is;
+      count_is = length-set column.states slot v ∙ m.count_is;
+      each = λ before are s s_lt.
           let xs : List ℤ = in_slot s slots numbers in
           let both : in_slot s (slots ++ slot ∷ []) (numbers ++ x ∷ []) ≡ xs ++ cond (slot == s) (x ∷ []) [] = in_slot-append s slots (slot ∷ []) numbers (x ∷ []) same in
+          let so : state_at column s ≡ state_of kind (before s ++ xs) = m.each before are s s_lt in
           elim (cases_eq s slot) [
             | inl e ↦
                 ap (λ i. get_or (set column.states slot v) i unit) e ∙ get_or-set_same column.states slot v unit within
                 ∙ ap (λ i. merged (state_at column i) (state_of column.kind (x ∷ []))) (sym e)
-                ∙ (λ i. merged (h.each s s_lt i) (state_of (h.kind_is i) (x ∷ [])))
-                ∙ sym (states.of_both kind xs (x ∷ []))
-                ∙ ap (λ (ys : List ℤ). state_of kind (xs ++ ys)) (sym (cond-true (slot == s) (x ∷ []) [] (eq-eqb slot s (sym e))))
-                ∙ ap (state_of kind) (sym both)
+                ∙ (λ i. merged (so i) (state_of (m.kind_is i) (x ∷ [])))
+                ∙ sym (states.of_both kind (before s ++ xs) (x ∷ []))
+                ∙ ap (state_of kind) (append_assoc (before s) xs (x ∷ []))
+                ∙ ap (λ (ys : List ℤ). state_of kind (before s ++ (xs ++ ys))) (sym (cond-true (slot == s) (x ∷ []) [] (eq-eqb slot s (sym e))))
+                ∙ ap (λ (ys : List ℤ). state_of kind (before s ++ ys)) (sym both)
             | inr ne ↦
-                get_or-set_other column.states slot s v unit ne ∙ h.each s s_lt
-                ∙ ap (state_of kind) (sym (append-nil xs) ∙ ap (λ (ys : List ℤ). xs ++ ys) (sym (cond-false (slot == s) (x ∷ []) [] (ne_eqb slot s (λ e. ne (sym e))))) ∙ sym both)
+                get_or-set_other column.states slot s v unit ne ∙ so
+                ∙ ap (λ (ys : List ℤ). state_of kind (before s ++ ys)) (sym (append-nil xs) ∙ ap (λ (ys : List ℤ). xs ++ ys) (sym (cond-false (slot == s) (x ∷ []) [] (ne_eqb slot s (λ e. ne (sym e))))) ∙ sym both)
           ];
     }
 
-pub holds-none : (kind : AggKind) (count : ℕ) (column : Column) → column.kind ≡ kind → column.states ≡ replicate count (unit_of kind) → HoldsSlots kind count [] [] column
-holds-none kind count column kind_is is = record {
-  kind_is = kind_is;
-  count_is = ap length is ∙ length-replicate count (unit_of kind);
-  each = λ s lt. (λ i. get_or (is i) s (unit_of (kind_is i))) ∙ get_or-replicate count s (unit_of kind) (unit_of kind) lt ∙ sym (states.of_none kind);
+pub more-none : (column : Column) → MoreStates [] [] column column
+more-none column = record {
+  kind_is = refl;
+  count_is = refl;
+  each = λ before are s lt. are s lt ∙ ap (state_of column.kind) (sym (append-nil (before s)));
+}
+
+-- each state fits one row more
+pub fits-next : (column : Column) (slot n : ℕ) (x : ℤ) → slot < length column.states → IsWhole x → ((s : ℕ) → s < length column.states → Fits (state_at column s) n)
+    → (s : ℕ) → s < length column.states → Fits (state_at (replaced slot column (merged (state_at column slot) (state_of column.kind (x ∷ [])))) s) (n + 1)
+fits-next column slot n x lt own h s s_lt =
+    let v : AggState = merged (state_at column slot) (state_of column.kind (x ∷ [])) in
+    let unit : AggState = unit_of column.kind in
+    elim (cases_eq s slot) [
+      | inl e ↦
+          subst (λ (w : AggState). Fits w (n + 1)) (sym (ap (λ i. get_or (set column.states slot v) i unit) e ∙ get_or-set_same column.states slot v unit lt))
+          (states.fits_both (state_at column slot) (state_of column.kind (x ∷ [])) n 1 (h slot lt) (states.fits_of column.kind (x ∷ []) (own, tt)))
+      | inr ne ↦
+          subst (λ (w : AggState). Fits w (n + 1)) (sym (get_or-set_other column.states slot s v unit ne))
+          (states.fits_more (state_at column s) n (n + 1) (h s s_lt) (omega arith))
+    ]
+
+-- states of no number are those of the first numbers
+pub unit-at : (kind : AggKind) (count : ℕ) (column : Column) → column.kind ≡ kind → column.states ≡ replicate count (unit_of kind) → (slot : ℕ) → slot < count → state_at column slot ≡ state_of kind []
+unit-at kind count column kind_is is slot lt =
+    (λ i. get_or (is i) slot (unit_of (kind_is i))) ∙ get_or-replicate count slot (unit_of kind) (unit_of kind) lt ∙ sym (states.of_none kind)
+
+pub units-fit : (kind : AggKind) (count n : ℕ) (column : Column) → column.kind ≡ kind → column.states ≡ replicate count (unit_of kind) → (slot : ℕ) → slot < count → Fits (state_at column slot) n
+units-fit kind count n column kind_is is slot lt =
+    subst (λ (v : AggState). Fits v n) (sym (unit-at kind count column kind_is is slot lt)) (states.fits_more (state_of kind []) 0 n (states.fits_of kind [] tt) (omega arith))
+
+pub holds-fresh : (slots : List ℕ) (numbers : List ℤ) (old new : Column) → old.states ≡ replicate (length old.states) (unit_of old.kind) → MoreStates slots numbers old new → HoldsSlots old.kind (length old.states) slots numbers new
+holds-fresh slots numbers old new is m = record {
+  kind_is = m.kind_is;
+  count_is = m.count_is;
+  each = λ slot lt. m.each (λ s. []) (λ s s_lt. unit-at old.kind (length old.states) old refl is s s_lt) slot lt;
 }
 
 pub whole-push : (xs : List ℤ) (x : ℤ) → AreWhole xs → IsWhole x → AreWhole (xs ++ x ∷ [])
@@ -106,6 +139,12 @@ numbers-for segment agg column numbers (at ∷ places) of is below =
     let here : get_or numbers id (pos 0) ≡ number_for agg (row_of (table_of segment).columns at) =
     ap (λ (ns : List ℤ). get_or ns id (pos 0)) is ∙ get_or-map number_of values id (Whole (pos 0)) ∙ sym (of.each at (All-head (λ p. p < segment.count) at places below)) in
     λ i. here i ∷ numbers-for segment agg column numbers places of is (All-tail (λ p. p < segment.count) at places below) i
+
+-- the number of a row, by its id
+pub numbers-by-ids : (segment : SegmentColumns) (agg : Agg) (column : Coded) (ids : List ℕ) (numbers : List ℤ) → IsForAgg segment agg column → column.ids.now ≡ ids → numbers ≡ map number_of column.dictionary.now.values
+    → (at : ℕ) → at < segment.count → number_at ids numbers at ≡ number_for agg (row_of (table_of segment).columns at)
+numbers-by-ids segment agg column ids numbers of same is at lt =
+    (λ i. number_at (sym same i) (is i) at) ∙ get_or-map number_of column.dictionary.now.values (get_or column.ids.now at 0) (Whole (pos 0)) ∙ sym (of.each at lt)
 
 pub numbers-none : (segment : SegmentColumns) (agg : Agg) (places : List ℕ) → IsUnnumbered segment agg → map (number_at [] []) places ≡ map (number_for agg) (rows_at (table_of segment).columns places)
 numbers-none segment agg [] none = refl
@@ -199,17 +238,11 @@ rows-many f segment places slots same = length-map (rows_at (table_of segment).c
 
 -- ---- sums
 
--- a sum in a slot is of no more numbers than there are
-pub sum-fits : (slot : ℕ) (slots : List ℕ) (numbers : List ℤ) (n : ℕ) → AreWhole numbers → length numbers ≤ n → SumFits (sum_of (in_slot slot slots numbers)) n
-sum-fits slot slots numbers n whole le =
-    let xs : List ℤ = in_slot slot slots numbers in
-    states.fits_more (Sum (sum_of xs)) (length xs) n (states.fits_of kinds.Sum xs (in_slot-whole slot slots numbers whole)) (omega (arith, le, in_slot-few slot slots numbers))
-
 -- one number more
-pub sum-next : (old new : List ℤ) (slots : List ℕ) (numbers : List ℤ) (at : ℕ) (x : ℤ) → length slots ≡ length numbers → get_or new at (pos 0) ≡ get_or old at (pos 0) +ℤ x
-    → ((other : ℕ) → other ≢ at → get_or new other (pos 0) ≡ get_or old other (pos 0)) → ((slot : ℕ) → get_or old slot (pos 0) ≡ sum_of (in_slot slot slots numbers))
-    → (slot : ℕ) → get_or new slot (pos 0) ≡ sum_of (in_slot slot (slots ++ at ∷ []) (numbers ++ x ∷ []))
-sum-next old new slots numbers at x same own others so_far slot =
+pub sum-next : (first old new : List ℤ) (slots : List ℕ) (numbers : List ℤ) (at : ℕ) (x : ℤ) → length slots ≡ length numbers → get_or new at (pos 0) ≡ get_or old at (pos 0) +ℤ x
+    → ((other : ℕ) → other ≢ at → get_or new other (pos 0) ≡ get_or old other (pos 0)) → ((slot : ℕ) → get_or old slot (pos 0) ≡ get_or first slot (pos 0) +ℤ sum_of (in_slot slot slots numbers))
+    → (slot : ℕ) → get_or new slot (pos 0) ≡ get_or first slot (pos 0) +ℤ sum_of (in_slot slot (slots ++ at ∷ []) (numbers ++ x ∷ []))
+sum-next first old new slots numbers at x same own others so_far slot =
     let xs : List ℤ = in_slot slot slots numbers in
     let last : List ℤ = cond (at == slot) (x ∷ []) [] in
     let both : sum_of (in_slot slot (slots ++ at ∷ []) (numbers ++ x ∷ [])) ≡ sum_of xs +ℤ sum_of last = ap sum_of (in_slot-append slot slots (at ∷ []) numbers (x ∷ []) same) ∙ sums.of_both xs last in
@@ -221,6 +254,20 @@ sum-next old new slots numbers at x same own others so_far slot =
       | inr ne ↦
           let none : sum_of last ≡ pos 0 = ap sum_of (cond-false (at == slot) (x ∷ []) [] (ne_eqb at slot (λ e. ne (sym e)))) in
           omega (arith, ints, others slot ne, so_far slot, both, none)
+    ]
+
+-- each sum fits one row more
+pub sums-fit : (old new : List ℤ) (at n : ℕ) (x : ℤ) → IsWhole x → get_or new at (pos 0) ≡ get_or old at (pos 0) +ℤ x
+    → ((other : ℕ) → other ≢ at → get_or new other (pos 0) ≡ get_or old other (pos 0)) → ((slot : ℕ) → slot < length old → SumFits (get_or old slot (pos 0)) n) → at < length old
+    → (slot : ℕ) → slot < length old → SumFits (get_or new slot (pos 0)) (n + 1)
+sums-fit old new at n x whole own others h lt slot s_lt =
+    elim (cases_eq slot at) [
+      | inl e ↦
+          subst (λ (s : ℤ). SumFits s (n + 1)) (sym (ap (λ k. get_or new k (pos 0)) e ∙ own))
+          (sums.fits_both (get_or old at (pos 0)) x n 1 (h at lt) (let w = whole in (omega (arith, ints), omega (arith, ints))))
+      | inr ne ↦
+          subst (λ (s : ℤ). SumFits s (n + 1)) (sym (others slot ne))
+          (sums.fits_more (get_or old slot (pos 0)) n (n + 1) (h slot s_lt) (omega arith))
     ]
 
 pub sums-hold : (count : ℕ) (slots : List ℕ) (numbers : List ℤ) (totals : List ℤ) (column : Column) → column.kind ≡ kinds.Sum → length column.states ≡ count

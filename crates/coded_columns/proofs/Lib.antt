@@ -2,3 +2,5 @@ pub mod CodedLemmas
 pub mod RankSteps
 pub mod SlotLemmas
 pub mod FoldSteps
+pub mod KeySteps
+pub mod KeyedSteps

@@ -146,7 +146,7 @@ unpacked a b w i j i_lt j_lt is =
     let one : a ≡ b = same-part a b w i j i_lt j_lt is in
     (one, omega (arith, ap (λ x. x * w) one, is))
 
-key-more : (groups : List ℕ) (group : ℕ) (row other : List Value) → key_of groups row ≡ key_of groups other → get_or row group (Whole (pos 0)) ≡ get_or other group (Whole (pos 0)) → key_of (groups ++ group ∷ []) row ≡ key_of (groups ++ group ∷ []) other
+pub key-more : (groups : List ℕ) (group : ℕ) (row other : List Value) → key_of groups row ≡ key_of groups other → get_or row group (Whole (pos 0)) ≡ get_or other group (Whole (pos 0)) → key_of (groups ++ group ∷ []) row ≡ key_of (groups ++ group ∷ []) other
 key-more groups group row other same here =
     map-append (cell row) groups (group ∷ []) ∙ (λ i. same i ++ here i ∷ []) ∙ sym (map-append (cell other) groups (group ∷ []))
 

@@ -39,6 +39,10 @@ table_of segment = record {
   count = segment.count;
 }
 
+-- the column of a field, if it is looked at
+abbrev pub column_of : SegmentColumns → ℕ → Option Coded
+column_of segment field = get_or segment.columns.now field None
+
 -- an id for each row, and a value for each id
 abbrev pub IsCoded : ℕ → Option Coded → Type 0
 IsCoded count None = Unit {0}

@@ -99,3 +99,12 @@ pub record HoldsSlots (kind : AggKind) (count : ℕ) (slots : List ℕ) (numbers
   pub count_is : length column.states ≡ count
   pub each : (slot : ℕ) → slot < count → state_at column slot
       ≡ state_of kind (in_slot slot slots numbers)
+
+-- to the state in each slot come the numbers that have it
+pub record MoreStates (slots : List ℕ) (numbers : List ℤ) (old new : Column) : Type 0 where
+  pub kind_is : new.kind ≡ old.kind
+  pub count_is : length new.states ≡ length old.states
+  pub each : (before : ℕ → List ℤ) → ((slot : ℕ) → slot < length old.states
+      → state_at old slot ≡ state_of old.kind (before slot))
+      → (slot : ℕ) → slot < length old.states → state_at new slot
+      ≡ state_of old.kind (before slot ++ in_slot slot slots numbers)

@@ -36,8 +36,8 @@ fn counted_in(alloc: Global, slots: &[u32], counts: &mut [u32]) -> Result<StateC
     Ok(column)
 }
 
-// Adds to the count of each slot how many of the rows have it.
-fn count_slots(slots: &[u32], counts: &mut [u32])
+/// Adds to the count of each slot how many of the rows have it.
+pub fn count_slots(slots: &[u32], counts: &mut [u32])
     requires below { AreBelow (length counts.old) slots.now }
     requires fits { (slot : ℕ) → get_or counts.old slot 0 + length slots.now < 2 ^ 32 }
     ensures { (slot : ℕ) → get_or counts.new slot 0

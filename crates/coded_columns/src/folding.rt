@@ -1,6 +1,6 @@
 //! The aggregates of rows in slots, column by column.
 
-ghost use Rattle.std.specs.Prelude.{◌≡◌, ◌≤◌, ◌<◌, ℕ, [], IfOk, MatchOption, get_or, length, map, pos, replicate};
+ghost use Rattle.std.specs.Prelude.{◌≡◌, ◌≤◌, ◌<◌, ◌-◌, ℕ, [], IfOk, MatchOption, get_or, length, map, pos, replicate};
 ghost use Rattle.std.specs.List.{All};
 ghost use Rattle.values.specs.declared.value.Value.TheVariants as value;
 ghost use Rattle.state_columns.specs.Columns.{row_at, state_at};
@@ -11,11 +11,13 @@ ghost use Rattle.value_ids.specs.Coding.{AreBelow};
 ghost use Rattle.group_table.specs.Groups.{number_for, number_of, states_of};
 ghost use Rattle.scan_engine.specs.Places.{rows_at};
 ghost use Rattle.coded_columns.specs.Coded.{AreCoded, IsForAgg, IsUnnumbered, most_rows, table_of};
-ghost use Rattle.coded_columns.specs.Slots.{HaveSlots, HoldsSlots, in_slot, number_at};
+ghost use Rattle.coded_columns.specs.Slots.{HaveSlots, HoldsSlots, MoreStates, in_slot, number_at};
+ghost use Rattle.coded_columns.specs.Ids.{seen_ids};
+ghost use Rattle.coded_columns.specs.Keyed.{column_ids, ids_for};
 
 use crate::coded::{Coded, SegmentColumns};
 use crate::counting::counted;
-use crate::ids::Ids;
+use crate::ids::{IdSlices, Ids};
 use crate::numbering::{number_at, numbers_in};
 use crate::slotted_rows::SlottedRows;
 use crate::summing::summed;
@@ -134,23 +136,25 @@ fn with_numbers(
     ensures whole { AreWhole (map (number_at ids.now numbers.now) places.now) }
 {
     let mut column = states;
-    add_numbers(&mut column, slots, places, ids, numbers);
+    add_numbers(&mut column, slots, places, ids.slices(), numbers);
     column
 }
 
-// The column of an aggregate, if its numbers are of one that is looked at.
-fn column_for<'a>(segment: &SegmentColumns<'a>, agg: &Agg) -> Option<Coded<'a>>
+/// The column of an aggregate, if its numbers are of one that is looked at.
+pub fn column_for<'a>(segment: &SegmentColumns<'a>, agg: &Agg) -> Option<Coded<'a>>
     requires { AreCoded segment.now }
-    ensures { MatchOption result (IsUnnumbered segment.now agg.now) (IsForAgg segment.now agg.now) }
+    ensures values { MatchOption result (IsUnnumbered segment.now agg.now)
+        (IsForAgg segment.now agg.now) }
+    ensures ids { column_ids result ≡ ids_for segment.now agg.now }
 {
     match agg.column {
-        Some(column) => segment.column(column),
+        Some(column) => segment.at(column),
         None => None,
     }
 }
 
-// So many states of no value.
-fn units(alloc: Global, kind: AggKind, count: usize) -> Result<StateColumn, NoMemory>
+/// So many states of no value.
+pub fn units(alloc: Global, kind: AggKind, count: usize) -> Result<StateColumn, NoMemory>
     ensures kind { IfOk result (λ column. column.kind ≡ kind) }
     ensures states { IfOk result (λ column. column.states ≡ replicate count (unit_of kind)) }
 {
@@ -162,19 +166,24 @@ fn units(alloc: Global, kind: AggKind, count: usize) -> Result<StateColumn, NoMe
     Ok(column)
 }
 
-// Adds the number of each row, by its id, to the state in the row's slot.
-fn add_numbers(column: &mut StateColumn, slots: &[u32], places: &[u32], ids: &Ids, numbers: &[i64])
+/// Adds the number of each row, by its id, to the state in the row's slot.
+pub fn add_numbers(
+    column: &mut StateColumn,
+    slots: &[u32],
+    places: &[u32],
+    ids: IdSlices<'_>,
+    numbers: &[i64],
+)
     requires slots { HaveSlots slots.now places.now }
     requires below { AreBelow (length column.old.states) slots.now }
-    requires empty { column.old.states
-        ≡ replicate (length column.old.states) (unit_of column.old.kind) }
-    ensures states { HoldsSlots column.old.kind (length column.old.states) slots.now
-        (map (number_at ids.now numbers.now) places.now) column.new }
-    ensures whole { AreWhole (map (number_at ids.now numbers.now) places.now) }
+    requires fits { (slot : ℕ) → slot < length column.old.states
+        → Fits (state_at column.old slot) (most_rows - length places.now) }
+    ensures states { MoreStates slots.now
+        (map (number_at (seen_ids ids.entry) numbers.now) places.now) column.old column.new }
+    ensures whole { AreWhole (map (number_at (seen_ids ids.entry) numbers.now) places.now) }
 {
-    let slices = ids.slices();
     for k in 0..slots.len() {
-        let number = number_at(slices, numbers, places[k] as usize);
+        let number = number_at(ids, numbers, places[k] as usize);
         column.add_at(slots[k] as usize, number);
     }
 }

@@ -2,7 +2,7 @@
 
 ghost use Rattle.std.specs.Prelude.{◌≡◌, IfOk, map};
 ghost use Rattle.values.specs.declared.value.Value.TheVariants as value;
-ghost use Rattle.agg_laws.specs.Numbers.{IsWhole};
+ghost use Rattle.agg_laws.specs.Numbers.{AreWhole, IsWhole};
 ghost use Rattle.group_table.specs.Groups.{number_of};
 ghost use Rattle.coded_columns.specs.Ids.{seen_ids};
 ghost use Rattle.coded_columns.specs.Slots.{number_at};
@@ -14,7 +14,8 @@ use values::{NoMemory, Value};
 
 /// The numbers that the values of a dictionary are.
 pub fn numbers_in(alloc: Global, dictionary: &Dictionary) -> Result<Vec<i64>, NoMemory>
-    ensures { IfOk result (λ numbers. numbers.items ≡ map number_of dictionary.now.values) }
+    ensures are { IfOk result (λ numbers. numbers.items ≡ map number_of dictionary.now.values) }
+    ensures whole { IfOk result (λ numbers. AreWhole numbers.items) }
 {
     let count = dictionary.count();
     let mut numbers = Vec::with_capacity(alloc, count as usize)?;
@@ -38,7 +39,8 @@ pub fn number_at(ids: IdSlices<'_>, numbers: &[i64], at: usize) -> i64
 
 // The number that a value is; a text counts as 0.
 fn number_of(value: &Value) -> i64
-    ensures { result ≡ number_of value.now }
+    ensures value { result ≡ number_of value.now }
+    ensures whole { IsWhole result }
 {
     match value {
         Value::Whole(number) => *number,

@@ -1,14 +1,15 @@
 //! The sums of the numbers of rows in slots.
 
-ghost use Rattle.std.specs.Prelude.{◌≡◌, ◌≢◌, ◌≤◌, ◌<◌, ◌+ℤ◌, ℕ, IfOk, get_or, length, map, pos};
+ghost use Rattle.std.specs.Prelude.{◌≡◌, ◌≢◌, ◌≤◌, ◌<◌, ◌-◌, ◌+ℤ◌, ℕ, IfOk, get_or, length, map, pos};
 ghost use Rattle.agg_laws.specs.Numbers.{AreWhole, SumFits, sum_of};
 ghost use Rattle.agg_laws.specs.declared.states.AggState.TheVariants.{Sum};
 ghost use Rattle.state_columns.specs.Columns.{state_at};
 ghost use Rattle.value_ids.specs.Coding.{AreBelow};
 ghost use Rattle.coded_columns.specs.Coded.{most_rows};
+ghost use Rattle.coded_columns.specs.Ids.{seen_ids};
 ghost use Rattle.coded_columns.specs.Slots.{HaveSlots, HoldsSlots, in_slot, number_at};
 
-use crate::ids::Ids;
+use crate::ids::{IdSlices, Ids};
 use crate::numbering::number_at;
 use crate::slotted_rows::SlottedRows;
 use agg_laws::{AggKind, AggState};
@@ -48,23 +49,30 @@ fn summed_in(
         (map (number_at ids.now numbers.now) places.now)) }
     ensures whole { IfOk result (λ _. AreWhole (map (number_at ids.now numbers.now) places.now)) }
 {
-    add_sums(slots, places, ids, numbers, sums);
+    add_sums(slots, places, ids.slices(), numbers, sums);
     let column = states_of_sums(alloc, sums)?;
     Ok(column)
 }
 
-// Adds the number of each row, by its id, to the sum of the row's slot.
-fn add_sums(slots: &[u32], places: &[u32], ids: &Ids, numbers: &[i64], sums: &mut [i128])
+/// Adds the number of each row, by its id, to the sum of the row's slot.
+pub fn add_sums(
+    slots: &[u32],
+    places: &[u32],
+    ids: IdSlices<'_>,
+    numbers: &[i64],
+    sums: &mut [i128],
+)
     requires slots { HaveSlots slots.now places.now }
     requires below { AreBelow (length sums.old) slots.now }
-    requires empty { (slot : ℕ) → get_or sums.old slot (pos 0) ≡ pos 0 }
-    ensures sums { (slot : ℕ) → get_or sums.new slot (pos 0) ≡ sum_of (in_slot slot slots.now
-        (map (number_at ids.now numbers.now) places.now)) }
-    ensures whole { AreWhole (map (number_at ids.now numbers.now) places.now) }
+    requires fits { (slot : ℕ) → slot < length sums.old
+        → SumFits (get_or sums.old slot (pos 0)) (most_rows - length places.now) }
+    ensures sums { (slot : ℕ) → get_or sums.new slot (pos 0) ≡ get_or sums.old slot (pos 0)
+        +ℤ sum_of (in_slot slot slots.now
+        (map (number_at (seen_ids ids.entry) numbers.now) places.now)) }
+    ensures whole { AreWhole (map (number_at (seen_ids ids.entry) numbers.now) places.now) }
 {
-    let slices = ids.slices();
     for k in 0..slots.len() {
-        let number = number_at(slices, numbers, places[k] as usize);
+        let number = number_at(ids, numbers, places[k] as usize);
         add_one(sums, slots[k] as usize, number);
     }
 }

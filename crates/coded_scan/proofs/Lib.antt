@@ -2,3 +2,4 @@ pub mod MergeSteps
 pub mod RowFilterLemmas
 pub mod AddSteps
 pub mod PlaceSteps
+pub mod KeyedMerges

@@ -1,2 +1,3 @@
 pub mod RowFilters
 pub mod SlotStates
+pub mod Passed

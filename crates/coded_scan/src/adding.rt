@@ -14,6 +14,7 @@ ghost use Rattle.scan_engine.specs.Places.{rows_at};
 
 use crate::coded_filter::row_filters_of;
 use crate::filtered_rows::FilteredRows;
+use crate::keyed_scan::add_filtered;
 use crate::merging::merge_slots;
 use crate::row_filter::RowFilter;
 use crate::selection::{Block, push_block};
@@ -24,7 +25,7 @@ use std::alloc::Global;
 use table_schema::BoundQuery;
 
 /// Rows are looked at in blocks of so many.
-const BLOCK: usize = 4096;
+pub const BLOCK: usize = 4096;
 
 /// Rows are added to the groups once there are so many places, or so many for each group that there
 /// is by then: a group is merged once for these rows, and a place takes little beside a group.
@@ -51,11 +52,11 @@ pub fn add_coded(
         (selected (rest_of query.now choices.now) (rows_of (table_of segment.now))) table.old }
 {
     let row_filters = row_filters_of(alloc, segment, query.conjuncts.as_slice(), choices)?;
-    add_blocks(alloc, query, segment, row_filters.as_slice(), table)
+    add_filtered(alloc, query, segment, row_filters.as_slice(), table)
 }
 
-// Adds the rows of a segment that conditions let through.
-fn add_blocks<'a, 'i>(
+/// Adds the rows of a segment that conditions let through.
+pub fn add_blocks<'a, 'i>(
     alloc: Global,
     query: &BoundQuery,
     segment: &'a SegmentColumns<'i>,
@@ -91,8 +92,8 @@ fn add_blocks<'a, 'i>(
     add_some(alloc, query, segment, places.as_slice(), table)
 }
 
-// The block that begins with a row.
-fn block_from(from: usize, count: usize) -> Block
+/// The block that begins with a row.
+pub fn block_from(from: usize, count: usize) -> Block
     requires { from ≤ count }
     ensures from { result.from ≡ from }
     ensures within { from + result.length ≤ count }

@@ -7,6 +7,7 @@
 mod adding;
 mod coded_filter;
 mod filtered_rows;
+mod keyed_scan;
 mod marked_places;
 mod marking;
 mod merging;

@@ -61,8 +61,8 @@ pub fn merge_slots(
     Ok(())
 }
 
-// The key of a row, in place of the values of another.
-fn key_at(
+/// The key of a row, in place of the values of another.
+pub fn key_at(
     alloc: Global,
     segment: &SegmentColumns<'_>,
     columns: &[u16],

@@ -17,7 +17,7 @@ returns-in_ok-states-in-Some c =
     let numbers = c.as_slice.result.now in
     let ns = map (number_at column.ids.now numbers) places in
     let ms = map (number_for agg) (rows_at (table_of segment).columns places) in
-    let same : ns ≡ ms = numbers-for segment agg column numbers places c.in-Some.ensures (c.as_slice.ensures.value ∙ c.in_ok-numbers-in-Some.ensures) c.requires.rows in
+    let same : ns ≡ ms = numbers-for segment agg column numbers places c.in-Some.ensures.values (c.as_slice.ensures.value ∙ c.in_ok-numbers-in-Some.ensures.are) c.requires.rows in
     let whole : AreWhole ms = subst (λ (l : List ℤ). AreWhole l) same c.in_ok-states-in-Some.ensures.whole in
     let holds : HoldsSlots agg.kind c.args.count slots ms c.in_ok-states-in-Some.states = subst (λ (l : List ℤ). HoldsSlots agg.kind c.args.count slots l c.in_ok-states-in-Some.states) same c.in_ok-states-in-Some.ensures.states in
     record {
@@ -33,7 +33,7 @@ returns-in_ok-states-in-None c =
     let slots : List ℕ = c.args.slots.now in
     let ms = map (number_for agg) (rows_at (table_of segment).columns places) in
     let empty : c.none-none.result ≡ [] = c.none-none.ensures in
-    let same : map (number_at c.none-none.result []) places ≡ ms = ap (λ (l : List ℕ). map (number_at l []) places) empty ∙ numbers-none segment agg places c.in-None.ensures in
+    let same : map (number_at c.none-none.result []) places ≡ ms = ap (λ (l : List ℕ). map (number_at l []) places) empty ∙ numbers-none segment agg places c.in-None.ensures.values in
     let whole : AreWhole ms = subst (λ (l : List ℤ). AreWhole l) same c.in_ok-states-in-None.ensures.whole in
     let holds : HoldsSlots agg.kind c.args.count slots ms c.in_ok-states-in-None.states = subst (λ (l : List ℤ). HoldsSlots agg.kind c.args.count slots l c.in_ok-states-in-None.states) same c.in_ok-states-in-None.ensures.states in
     record {

@@ -29,7 +29,7 @@ returns-clause-ok c =
     let many : length (rows_of b) ≡ b.count = length-rows b.count b.columns (counts c.args.segment.now c.requires.coded) in
     let rows : rows_at b.columns (passing holds 0 b.count) ≡ selected rest (rows_of b) =
     passing-rows c.args.segment.now rest holds c.requires.coded same b.count (omega arith) ∙ ap (selected rest) (take_all b.count (rows_of b) (omega (arith, many))) in
-    IfOk-weaker c.add_blocks.result _ _ (λ u a. subst (λ (l : List (List Value)). AddsRows q b.count l c.args.table.now c.add_blocks.new.table) rows a) c.add_blocks.ensures.ok
+    IfOk-weaker c.add_filtered.result _ _ (λ u a. subst (λ (l : List (List Value)). AddsRows q b.count l c.args.table.now c.add_filtered.new.table) rows a) c.add_filtered.ensures.ok
 
 pub returns-clause-full : goal.returns-clause-full
 returns-clause-full c = λ bad.
@@ -43,4 +43,4 @@ returns-clause-full c = λ bad.
     let many : length (rows_of b) ≡ b.count = length-rows b.count b.columns (counts c.args.segment.now c.requires.coded) in
     let rows : rows_at b.columns (passing holds 0 b.count) ≡ selected rest (rows_of b) =
     passing-rows c.args.segment.now rest holds c.requires.coded same b.count (omega arith) ∙ ap (selected rest) (take_all b.count (rows_of b) (omega (arith, many))) in
-    subst (λ (l : List (List Value)). IsOverfull q l c.args.table.now) rows (c.add_blocks.ensures.full bad)
+    subst (λ (l : List (List Value)). IsOverfull q l c.args.table.now) rows (c.add_filtered.ensures.full bad)

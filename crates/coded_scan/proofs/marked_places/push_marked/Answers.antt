@@ -1,4 +1,4 @@
-use Rattle.std.proofs.Common.{◌≡◌, ◌∙◌, ◌<◌, ◌≤◌, ◌+◌, ◌++◌, ℕ, Bool, List, false, get_or, length, take, ap, sym, arith, rules}
+use Rattle.std.proofs.Common.{◌≡◌, ◌∙◌, ◌+◌, ◌++◌, ℕ, List, length, take, ap, arith, rules}
 use Rattle.coded_scan.specs.RowFilters.{passing}
 use Rattle.coded_scan.proofs.PlaceSteps.{front_of, kept}
 use Rattle.coded_scan.proofs.marked_places.push_marked.Goals as goal

@@ -1,4 +1,4 @@
-use Rattle.std.proofs.Common.{◌≡◌, ◌∙◌, ◌<◌, ◌+◌, ◌-◌, ℕ, Bool, List, false, get_or, length, take, drop, sym, arith, rules, length-take, length-drop}
+use Rattle.std.proofs.Common.{◌≡◌, ◌∙◌, ◌<◌, ◌+◌, ◌-◌, ℕ, Bool, List, false, length, take, drop, sym, arith, rules, length-take, length-drop}
 use Rattle.std.proofs.lemmas.Simd.{get_or-chunk}
 use Rattle.coded_scan.proofs.PlaceSteps.{passing-skip}
 use Rattle.coded_scan.proofs.marked_places.put_stretch.Goals as goal

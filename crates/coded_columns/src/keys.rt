@@ -1,0 +1,129 @@
+//! The keys of rows: the ids of a row in the group columns as one number.
+
+ghost use Rattle.std.specs.Prelude.{◌≡◌, ◌≤◌, ◌<◌, ◌+◌, ◌*◌, ◌++◌, ◌∷◌, [], ℕ, List, OnOk, get_or, length, map, take};
+ghost use Rattle.std.specs.Option.{IfSome};
+ghost use Rattle.value_ids.specs.Coding.{AreBelow};
+ghost use Rattle.coded_columns.specs.Coded.{AreCoded, column_of, most_rows};
+ghost use Rattle.coded_columns.specs.Keys.{AreKeys, key_at, packed_with};
+
+use crate::coded::SegmentColumns;
+use crate::ids::Ids;
+use values::NoMemory;
+
+/// There are at most so many keys, and one for so many rows: what is kept by keys is then less than
+/// what a scan of the rows reads.
+const MOST_KEYS: usize = 1_048_576;
+
+const ROWS_A_KEY: usize = 8;
+
+/// How many keys the ids in some group columns can make, unless these may be too many.
+pub fn key_count(segment: &SegmentColumns<'_>, groups: &[u16]) -> Option<usize>
+    requires { AreCoded segment.now }
+    ensures { IfSome result (AreKeys segment.now groups.now) }
+{
+    let most = MOST_KEYS.min(segment.count / ROWS_A_KEY);
+    let mut size = 1;
+    for group in groups {
+        size = count_with(segment, *group, size);
+        if size > most {
+            return None;
+        }
+    }
+    Some(size)
+}
+
+// How many keys there are with one group column more.
+fn count_with(segment: &SegmentColumns<'_>, group: u16, size: usize) -> usize
+    requires coded { AreCoded segment.now }
+    requires few { size ≤ most_rows }
+    ensures { (groups : List ℕ) → AreKeys segment.now groups size → result ≤ most_rows
+        → AreKeys segment.now (groups ++ group ∷ []) result }
+{
+    match segment.at(group) {
+        Some(column) => times(size, column.dictionary.count()),
+        None => size,
+    }
+}
+
+// So many times as many.
+fn times(size: usize, width: u32) -> usize
+    requires { size ≤ most_rows }
+    ensures { result ≡ size * width }
+{
+    size * width as usize
+}
+
+/// The keys of the rows in these places, in place of others.
+pub fn pack_keys(
+    segment: &SegmentColumns<'_>,
+    groups: &[u16],
+    places: &[u32],
+    keys: &mut Vec<u32>,
+) -> Result<(), NoMemory>
+    requires coded { AreCoded segment.now }
+    requires rows { AreBelow segment.now.count places.now }
+    requires few { (i k : ℕ) → k < length places.now
+        → key_at segment.now (take i groups.now) (get_or places.now k 0) < most_rows }
+    ensures { OnOk result (keys.new.items ≡ map (key_at segment.now groups.now) places.now) }
+{
+    keys.clear();
+    keys.resize(places.len(), 0)?;
+    add_columns(segment, groups, places, keys);
+    Ok(())
+}
+
+// Packs the ids of rows in each group column after their keys, which are 0 yet.
+fn add_columns(segment: &SegmentColumns<'_>, groups: &[u16], places: &[u32], keys: &mut [u32])
+    requires coded { AreCoded segment.now }
+    requires rows { AreBelow segment.now.count places.now }
+    requires same { length keys.old ≡ length places.now }
+    requires empty { (k : ℕ) → get_or keys.old k 0 ≡ 0 }
+    requires few { (i k : ℕ) → k < length places.now
+        → key_at segment.now (take i groups.now) (get_or places.now k 0) < most_rows }
+    ensures { keys.new ≡ map (key_at segment.now groups.now) places.now }
+{
+    for at in 0..groups.len() {
+        add_column(segment, groups[at], places, keys);
+    }
+}
+
+// Packs the ids of rows in one group column more after their keys, if it is looked at.
+fn add_column(segment: &SegmentColumns<'_>, group: u16, places: &[u32], keys: &mut [u32])
+    requires coded { AreCoded segment.now }
+    requires rows { AreBelow segment.now.count places.now }
+    requires same { length keys.old ≡ length places.now }
+    requires fits { (k : ℕ) → k < length places.now → packed_with (column_of segment.now group)
+        (get_or keys.old k 0) (get_or places.now k 0) < most_rows }
+    ensures { (k : ℕ) → k < length places.now → get_or keys.new k 0
+        ≡ packed_with (column_of segment.now group) (get_or keys.old k 0) (get_or places.now k 0) }
+{
+    match segment.at(group) {
+        Some(column) => add_ids(keys, column.dictionary.count(), column.ids, places),
+        None => {}
+    }
+}
+
+// Packs the ids of rows in one column more after their keys.
+fn add_ids(keys: &mut [u32], width: u32, ids: &Ids, places: &[u32])
+    requires same { length keys.old ≡ length places.now }
+    requires rows { AreBelow (length ids.now) places.now }
+    requires fits { (k : ℕ) → k < length places.now
+        → get_or keys.old k 0 * width + get_or ids.now (get_or places.now k 0) 0 < most_rows }
+    ensures { (k : ℕ) → k < length places.now → get_or keys.new k 0
+        ≡ get_or keys.old k 0 * width + get_or ids.now (get_or places.now k 0) 0 }
+{
+    let slices = ids.slices();
+    for k in 0..places.len() {
+        let id = slices.at(places[k] as usize);
+        keys[k] = with_id(keys[k], width, id);
+    }
+}
+
+// A key with one id after it.
+#[inline(always)]
+fn with_id(key: u32, width: u32, id: u32) -> u32
+    requires { key * width + id < most_rows }
+    ensures { result ≡ key * width + id }
+{
+    (key as usize * width as usize + id as usize) as u32
+}
