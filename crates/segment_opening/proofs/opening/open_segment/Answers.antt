@@ -14,7 +14,7 @@ returns-in-Ok-clause-opened g c =
     let segment = c.args.segment.now in
     let held = g.S.Shelf.held c.args.shelf.now in
     let head = c.in-Ok.head in
-    let opens = opens_as table segment c.as_str-name.result.now c.as_str-file.result.now (seen g.S.Shelf c.args.shelf.now) (seen g.S.Shelf c.open_head.new.shelf) (Ok head) c.as_str-name.ensures.value c.as_str-file.ensures.value c.in-Ok.ensures in
+    let opens = opens_as table segment c.as_str-name.result.now c.as_str-file.result.now (seen g.S.Shelf c.args.shelf.now) (seen g.S.Shelf c.open_head.new.shelf) (Ok head) c.as_str-name.ensures c.as_str-file.ensures c.in-Ok.ensures in
     record {
       of = opens.of;
       placed = opens.placed;
@@ -27,7 +27,7 @@ returns-in-Ok-clause-opened g c =
 pub returns-in-Ok-clause-looks : goal.returns-in-Ok-clause-looks
 returns-in-Ok-clause-looks g c =
     let segment = c.args.segment.now in
-    let opens = opens_as c.args.table.now segment c.as_str-name.result.now c.as_str-file.result.now (seen g.S.Shelf c.args.shelf.now) (seen g.S.Shelf c.open_head.new.shelf) (Ok c.in-Ok.head) c.as_str-name.ensures.value c.as_str-file.ensures.value c.in-Ok.ensures in
+    let opens = opens_as c.args.table.now segment c.as_str-name.result.now c.as_str-file.result.now (seen g.S.Shelf c.args.shelf.now) (seen g.S.Shelf c.open_head.new.shelf) (Ok c.in-Ok.head) c.as_str-name.ensures c.as_str-file.ensures c.in-Ok.ensures in
     record {
       bad = λ part is. absurd cc;
       never_full = λ is. cc;
@@ -35,10 +35,10 @@ returns-in-Ok-clause-looks g c =
       log = opened_log c.args.table.now segment (g.S.Shelf.held c.args.shelf.now) (g.S.Shelf.log c.args.shelf.now) (g.S.Shelf.log c.open_head.new.shelf) opens.log;
     }
 
-pub returns-clause-looks : goal.returns-clause-looks
-returns-clause-looks g c =
+pub returns-in-Err-clause-looks : goal.returns-in-Err-clause-looks
+returns-in-Err-clause-looks g c =
     let segment = c.args.segment.now in
-    let opens = opens_as c.args.table.now segment c.as_str-name.result.now c.as_str-file.result.now (seen g.S.Shelf c.args.shelf.now) (seen g.S.Shelf c.open_head.new.shelf) (Err c.in-Err.fault) c.as_str-name.ensures.value c.as_str-file.ensures.value c.in-Err.ensures in
+    let opens = opens_as c.args.table.now segment c.as_str-name.result.now c.as_str-file.result.now (seen g.S.Shelf c.args.shelf.now) (seen g.S.Shelf c.open_head.new.shelf) (Err c.in-Err.fault) c.as_str-name.ensures c.as_str-file.ensures c.in-Err.ensures in
     record {
       bad = λ part is.
           let own : c.engine_fault.result ≡ engine.NotASegment part = cc in
@@ -54,9 +54,9 @@ returns-clause-looks g c =
 pub returns-in-Ok-clause-first : goal.returns-in-Ok-clause-first
 returns-in-Ok-clause-first g c = λ part is. absurd cc
 
-pub returns-clause-first : goal.returns-clause-first
-returns-clause-first g c = λ part is.
+pub returns-in-Err-clause-first : goal.returns-in-Err-clause-first
+returns-in-Err-clause-first g c = λ part is.
     let own : c.engine_fault.result ≡ engine.NotASegment part = cc in
     let fault = bad_head c.in-Err.fault part (sym c.engine_fault.ensures ∙ own) in
-    let opens = opens_as c.args.table.now c.args.segment.now c.as_str-name.result.now c.as_str-file.result.now (seen g.S.Shelf c.args.shelf.now) (seen g.S.Shelf c.open_head.new.shelf) (Err c.in-Err.fault) c.as_str-name.ensures.value c.as_str-file.ensures.value c.in-Err.ensures in
+    let opens = opens_as c.args.table.now c.args.segment.now c.as_str-name.result.now c.as_str-file.result.now (seen g.S.Shelf c.args.shelf.now) (seen g.S.Shelf c.open_head.new.shelf) (Err c.in-Err.fault) c.as_str-name.ensures c.as_str-file.ensures c.in-Err.ensures in
     (opens.named part fault, opens.first part fault)
