@@ -1,5 +1,5 @@
 -- What the calls that open a segment ask, give, are refused by and read.
-use Rattle.std.specs.Prelude.{◌≡◌, ◌≢◌, ℕ, List, Option, Some, Result, Err, IfSome, IsErrOf, OnOk}
+use Rattle.std.specs.Prelude.{◌≡◌, ◌≢◌, ◌<◌, ◌⊎◌, ℕ, List, length, Option, Some, Result, Err, IfSome, IsErrOf, OnOk}
 use Rattle.outside.specs.Files.{Files, bytes_of}
 use Rattle.outside.specs.Seen.{OnlyReads, Seen}
 use Rattle.table_schema.specs.ValidQuery.{IsValidQuery}
@@ -8,7 +8,7 @@ use Rattle.table_schema.specs.declared.query.BoundQuery.{BoundQuery}
 use Rattle.table_schema.specs.declared.table.Table.{Table}
 use Rattle.segment_file.specs.Names.{file_of}
 use Rattle.segment_file.specs.declared.part.Part.{Part}
-use Rattle.segment_head.specs.Calls.{FailsOpening, HasOpening, IsOpeningPart}
+use Rattle.segment_head.specs.Calls.{FailsLoading, FailsOpening, HasOpening, IsOpeningPart}
 use Rattle.segment_head.specs.Heads as heads
 use Rattle.segment_head.specs.Stored.{HasNoImage}
 use Rattle.segment_head.specs.declared.fault.EngineFault.{EngineFault}
@@ -36,8 +36,8 @@ abbrev pub IsUnopened : Table → Option Files → List ℕ → Part → Type 0
 IsUnopened table held name part = IsOpeningPart part
     × IfSome held (λ files. FailsOpening table name (bytes_of (Some files) (file_of name)) part)
 
--- the head of the segment of this name: where its sections are, and where files are told, that of
--- the image that its file is
+-- the head of the segment of this name: where its sections are, and where files are told, what its
+-- file says, and that of the image that it is
 pub record IsOpened (table : Table) (held : Option Files) (name : List ℕ) (head : heads.Seen)
     : Type 0 where
   pub of : heads.IsHeadOf table head
@@ -46,12 +46,30 @@ pub record IsOpened (table : Table) (held : Option Files) (name : List ℕ) (hea
   pub ends : IfSome held (λ files. EndsInHead table files name head)
   pub spread : IsSpreadIn table held name head
   pub opening : HasOpeningIn table held name
+  pub said : IfSome held (λ files. heads.IsOpened table name (file_of name)
+      (bytes_of (Some files) (file_of name)) head)
+
+-- the dictionary of some column of an open head is not loaded for this part
+abbrev pub FailsColumn : Table → Option Files → heads.Seen → Part → Type 0
+FailsColumn table held head part = (column : ℕ) × (column < length table.schema.fields)
+    × FailsLoading table held head column part
+
+-- the part fails in the head of the segment's file: it is the first that is not there, of the front
+-- and the bounds; or a dictionary of the open head is not loaded for it
+abbrev pub FailsInHead : Table → Option Files → List ℕ → Part → Type 0
+FailsInHead table held name part = IsUnopened table held name part
+    ⊎ ((head : heads.Seen) × IsOpened table held name head × FailsColumn table held head part)
+
+-- it does, and the file is the image of no rows
+abbrev pub IsBadHead : Table → Option Files → List ℕ → Part → Type 0
+IsBadHead table held name part = FailsInHead table held name part
+    × IfSome held (λ files. HasNoImage table files name)
 
 -- the head of the segment of this name alone was read, or it is refused
 pub record LooksAtHead {A : Type 0} (table : Table) (name : List ℕ) (old new : Seen)
     (result : Result A EngineFault) : Type 0 where
   pub bad : (part : Part) → result ≡ Err (engine.NotASegment part)
-      → IfSome old.held (λ files. HasNoImage table files name)
+      → IsBadHead table old.held name part
   pub never_full : result ≢ Err engine.TooManyGroups
   pub only_reads : OnlyReads (IsErrOf result engine.ReadFault) old new
   pub log : LogsHeadOf table old.held name old.log new.log
@@ -65,6 +83,8 @@ pub record LoadsMore {A : Type 0} (table : Table) (result : Result A EngineFault
   pub bad : (part : Part) → result ≡ Err (engine.NotASegment part) → (name : List ℕ)
       → IsHeadIn table old.held name head
       → IfSome old.held (λ files. HasNoImage table files name)
+  pub named : (part : Part) → result ≡ Err (engine.NotASegment part)
+      → FailsColumn table old.held head part
   pub never_full : result ≢ Err engine.TooManyGroups
   pub only_reads : OnlyReads (IsErrOf result engine.ReadFault) old new
   pub log : (file : List ℕ) (end : ℕ) → heads.AreIn file head.sections
