@@ -1,22 +1,25 @@
 -- The head of a segment's file, and dictionaries that are loaded into it.
-use Rattle.std.proofs.Common.{◌≡◌, ◌≢◌, ◌∙◌, ◌≤◌, ◌<◌, ◌+◌, ◌==◌, ℕ, zero, suc, Bool, true, false, List, [], ◌∷◌, length, map, get_or, slice_get, Option, Some, None, IfSome, refl, sym, ap, subst, arith, ◌-◌, Result, Ok, Err}
+use Rattle.std.proofs.Common.{◌≡◌, ◌≢◌, ◌∙◌, ◌≤◌, ◌<◌, ◌+◌, ◌==◌, ◌⊎◌, ℕ, zero, suc, Bool, true, false, List, [], ◌∷◌, length, map, get_or, slice_get, slice_index_or, Option, Some, None, IfSome, refl, sym, ap, subst, arith, ◌-◌, Result, Ok, Err}
 use Rattle.std.proofs.lemmas.Bool.{eq-eqb, eqb-true, false≢true}
 use Rattle.std.proofs.lemmas.Option.{get_or_from_slice_get}
-use Rattle.outside.specs.Files.{Files, bytes_of}
+use Rattle.outside.specs.Files.{EndsBefore, Files, bytes_at, bytes_of}
 use Rattle.outside.specs.Reads.{Entry, LogsUpTo}
 use Rattle.values.specs.declared.value.Value.{Value}
 use Rattle.table_schema.specs.declared.table.Table.{Table}
 use Rattle.table_schema.specs.ValidTable.{IsValidTable}
 use Rattle.value_ids.specs.Dictionary.{Distinct}
 use Rattle.segment_file.specs.declared.section.Section.{Section}
-use Rattle.segment_file.specs.Bounds.{bounds_of}
-use Rattle.segment_file.specs.Front.{extents_of}
+use Rattle.segment_file.specs.declared.part.Part.{Part}
+use Rattle.segment_file.specs.declared.part.Part.TheVariants.{Dictionary, Head}
+use Rattle.segment_file.specs.Bounds.{AreBounds, bounded, bounds_of}
+use Rattle.segment_file.specs.Columns.{kind_at}
+use Rattle.segment_file.specs.Front.{extents_of, head_end}
 use Rattle.outside.specs.Seen as outside
 use Rattle.segment_file.specs.declared.fault.HeadFault.{HeadFault}
 use Rattle.segment_head.specs.Calls.{OpensHead}
 use Rattle.segment_head.specs.Heads as heads
 use Rattle.segment_head.specs.Heads.{AreIn, IsHead, IsHeadOf, IsLoaded, IsPartOf, Loads, OfWhole, Seen, dictionary_section, placed}
-use Rattle.segment_file.specs.Rules.{KeepsRules, heads_in}
+use Rattle.segment_file.specs.Rules.{IsSpelled, KeepsRules, heads_in}
 use Rattle.segment_file.specs.Reading.{trees_said}
 use Rattle.segment_file.specs.Image.{CanHold, dictionary_of, front_of, image}
 use Rattle.segment_file.specs.Laws.{ImageKeeps}
@@ -24,12 +27,12 @@ use Rattle.segment_file.specs.Names.{IsSegmentName}
 use Rattle.segment_file.specs.Ordered.{ordered}
 use Rattle.segment_file.specs.Parts.{columns_of, sections_of}
 use Rattle.segment_head.proofs.Composed.{made_count}
-use Rattle.segment_reads.specs.Logs.{DictionariesEnd, EndsBy, LogsThat}
+use Rattle.segment_reads.specs.Logs.{DictionariesEnd, EndsBy, EndsInHead, LogsThat}
 use Rattle.segment_head.specs.Stored.{HasNoImage}
 use Rattle.segment_head.specs.declared.stored.Stored.{Stored}
-use Rattle.segment_opening.specs.Calls.{HasOpeningIn}
+use Rattle.segment_opening.specs.Calls.{FailsColumn, HasOpeningIn, IsOpened}
 use Rattle.segment_opening.specs.Opened.{Grows, IsHeadIn, IsSpreadIn}
-use Rattle.segment_reads.proofs.LogLemmas.{through_ends}
+use Rattle.segment_reads.proofs.LogLemmas.{ends_still, through_ends}
 use Rattle.std.specs.Prelude.{OnOk}
 use Rattle.segment_head.proofs.SectionLemmas.{if_some, rows_few, section_at}
 
@@ -116,18 +119,22 @@ still_image table (Some files) old new part segment was = λ rows has.
 pub grows_one : (table : Table) (held : Option Files) (column : ℕ) (old new : Seen) → IsHeadOf table new → Loads column old new → OfWhole table held old (λ whole. IsPartOf whole new) → Grows table held old new
 grows_one table held column old new of loads part = record {
   of_table = of;
+  rows_same = loads.rows_same;
   sections_same = loads.sections_same;
+  bounds_same = loads.bounds_same;
   loaded = still_loaded column old new loads;
   image = still_image table held old new part;
 }
 
 pub grows_none : (table : Table) (held : Option Files) (head : Seen) → IsHeadOf table head → Grows table held head head
-grows_none table held head of = record { of_table = of; sections_same = refl; loaded = λ column is. is; image = λ segment is. is }
+grows_none table held head of = record { of_table = of; rows_same = refl; sections_same = refl; bounds_same = refl; loaded = λ column is. is; image = λ segment is. is }
 
 pub grows_then : (table : Table) (held : Option Files) (a b c : Seen) → Grows table held a b → Grows table held b c → Grows table held a c
 grows_then table held a b c m n = record {
   of_table = n.of_table;
+  rows_same = n.rows_same ∙ m.rows_same;
   sections_same = n.sections_same ∙ m.sections_same;
+  bounds_same = n.bounds_same ∙ m.bounds_same;
   loaded = λ column is. n.loaded column (m.loaded column is);
   image = λ segment is. n.image segment (m.image segment is);
 }
@@ -186,3 +193,48 @@ pub opens_as : (table : Table) (segment : Stored) (name file : List ℕ) (a b : 
     → OpensHead table name file a b result → OpensHead table segment.name segment.file a b result
 opens_as table segment name file a b result is_name is_file opens =
     subst (λ f. OpensHead table segment.name f a b result) is_file (subst (λ n. OpensHead table n file a b result) is_name opens)
+
+-- ---- an open head, where more of it is loaded
+
+ends_later : (table : Table) (held : Option Files) (segment : Stored) (old new : Seen) → new.sections ≡ old.sections → IfSome held (λ files. EndsInHead table files segment old) → IfSome held (λ files. EndsInHead table files segment new)
+ends_later table None segment old new same ends = tt
+ends_later table (Some files) segment old new same ends = record { front = ends.front; has = ends.has; end = ends_still table old new (head_end table segment.name ends.front) same ends.end }
+
+pub spread_later : (table : Table) (held : Option Files) (segment : Stored) (old new : Seen) → new.sections ≡ old.sections → IsSpreadIn table held segment old → IsSpreadIn table held segment new
+spread_later table None segment old new same spread = tt
+spread_later table (Some files) segment old new same spread = λ rows has. same ∙ spread rows has
+
+said_later : (table : Table) (held : Option Files) (segment : Stored) (old new : Seen) → Grows table held old new → IfSome held (λ files. heads.IsOpened table segment.name segment.file (bytes_of (Some files) segment.file) old)
+    → IfSome held (λ files. heads.IsOpened table segment.name segment.file (bytes_of (Some files) segment.file) new)
+said_later table None segment old new grows said = tt
+said_later table (Some files) segment old new grows said = record {
+  front = said.front;
+  has = said.has;
+  rows_are = grows.rows_same ∙ said.rows_are;
+  sections_are = grows.sections_same ∙ said.sections_are;
+  bounds_are = subst (AreBounds (bounded said.front.rows table.schema.fields) (slice_index_or (heads_in table segment.name said.front (bytes_of (Some files) segment.file)) 0 [])) (sym grows.bounds_same) said.bounds_are;
+}
+
+-- it is still that of the segment's file
+pub opened_later : (table : Table) (held : Option Files) (segment : Stored) (old new : Seen) → Grows table held old new → IsOpened table held segment old → IsOpened table held segment new
+opened_later table held segment old new grows o = record {
+  of = grows.of_table;
+  placed = subst (AreIn segment.file) (sym grows.sections_same) o.placed;
+  image = grows.image segment o.image;
+  ends = ends_later table held segment old new grows.sections_same o.ends;
+  spread = spread_later table held segment old new grows.sections_same o.spread;
+  opening = o.opening;
+  said = said_later table held segment old new grows o.said;
+}
+
+-- a dictionary that is not loaded later would not have been before
+pub fails_before : (table : Table) (held : Option Files) (old new : Seen) (part : Part) → new.rows ≡ old.rows → new.sections ≡ old.sections → FailsColumn table held new part → FailsColumn table held old part
+fails_before table held old new part rows sections (column, lt, f) = (
+  column,
+  lt,
+  record {
+    own = f.own;
+    at = subst (λ l. slice_get l (column + 1) ≡ Some f.own) sections f.at;
+    fails = subst (λ n. ((part ≡ Head) × EndsBefore held f.own.place.file (f.own.place.offset + f.own.place.length)) ⊎ ((part ≡ Dictionary column) × IfSome held (λ files. (d : Distinct) → ¬ IsSpelled (kind_at table column) n (bytes_at files f.own.place.file f.own.place.offset f.own.place.length) d))) rows f.fails;
+  },
+)

@@ -26,6 +26,8 @@ IsSpreadIn table held segment head = IfSome held (λ files. (rows : List (List V
 -- a head before and after more dictionaries were loaded
 pub record Grows (table : Table) (held : Option Files) (old new : Seen) : Type 0 where
   pub of_table : IsHeadOf table new
+  pub rows_same : new.rows ≡ old.rows
   pub sections_same : new.sections ≡ old.sections
+  pub bounds_same : new.bounds ≡ old.bounds
   pub loaded : (column : ℕ) → IsLoaded old column → IsLoaded new column
   pub image : (segment : Stored) → IsHeadIn table held segment old → IsHeadIn table held segment new

@@ -1,4 +1,4 @@
-use Rattle.std.proofs.Common.{◌≡◌, ◌∙◌, Ok, Err, sym, ap}
+use Rattle.std.proofs.Common.{◌≡◌, ◌∙◌, inl, Ok, Err, sym, ap}
 use Rattle.outside.specs.Seen.{seen}
 use Rattle.segment_file.specs.declared.fault.HeadFault.TheVariants as head
 use Rattle.segment_head.specs.declared.fault.EngineFault.TheVariants as engine
@@ -22,6 +22,7 @@ returns-in-Ok-clause-opened g c =
       ends = opened_ends table segment held head opens.opened;
       spread = opened_spread c.image_keeps_law.ensures table c.requires.valid segment c.requires.name held head opens.part;
       opening = has_opening table segment held head opens.opened;
+      said = opens.opened;
     }
 
 pub returns-in-Ok-clause-looks : goal.returns-in-Ok-clause-looks
@@ -42,8 +43,10 @@ returns-in-Err-clause-looks g c =
     record {
       bad = λ part is.
           let own : c.engine_fault.result ≡ engine.NotASegment part = cc in
-          broken_none c.image_keeps_law.ensures c.args.table.now c.requires.valid segment c.requires.name (g.S.Shelf.held c.args.shelf.now)
-          (opens.refused part (bad_head c.in-Err.fault part (sym c.engine_fault.ensures ∙ own)));
+          let fault = bad_head c.in-Err.fault part (sym c.engine_fault.ensures ∙ own) in (
+            inl (opens.named part fault, opens.first part fault),
+            broken_none c.image_keeps_law.ensures c.args.table.now c.requires.valid segment c.requires.name (g.S.Shelf.held c.args.shelf.now) (opens.refused part fault),
+          );
       never_full = λ is. let own : c.engine_fault.result ≡ engine.TooManyGroups = cc in never_full c.in-Err.fault (sym c.engine_fault.ensures ∙ own);
       only_reads = reads_as (seen g.S.Shelf c.args.shelf.now) (seen g.S.Shelf c.open_head.new.shelf) opens.only_reads
           (λ e. let own : c.engine_fault.result ≡ engine.ReadFault = cc in ap Err (read_head c.in-Err.fault (sym c.engine_fault.ensures ∙ own)))
